@@ -1,0 +1,5 @@
+use Rattle.mime.proofs.Viability.{accepted_is_viable}
+use Rattle.mime.proofs.laws.accepted_is_viable.Goals as goal
+
+pub returns : goal.returns
+returns c = accepted_is_viable

@@ -1,0 +1,5 @@
+use Rattle.mime.proofs.Viability.{empty_is_viable}
+use Rattle.mime.proofs.laws.empty_is_viable.Goals as goal
+
+pub returns : goal.returns
+returns c = empty_is_viable

@@ -1,0 +1,5 @@
+use Rattle.mime.proofs.Borders.{front_ends_between_characters}
+use Rattle.mime.proofs.laws.front_ends_between_characters.Goals as goal
+
+pub returns : goal.returns
+returns c = front_ends_between_characters

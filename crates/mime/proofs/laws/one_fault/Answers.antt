@@ -1,0 +1,5 @@
+use Rattle.mime.proofs.Faults.{one_fault}
+use Rattle.mime.proofs.laws.one_fault.Goals as goal
+
+pub returns : goal.returns
+returns c = one_fault

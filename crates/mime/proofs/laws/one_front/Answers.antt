@@ -1,0 +1,5 @@
+use Rattle.mime.proofs.Faults.{one_front}
+use Rattle.mime.proofs.laws.one_front.Goals as goal
+
+pub returns : goal.returns
+returns c = one_front

@@ -1,0 +1,5 @@
+use Rattle.mime.proofs.Readings.{one_reading}
+use Rattle.mime.proofs.laws.one_reading.Goals as goal
+
+pub returns : goal.returns
+returns c = one_reading

@@ -1,0 +1,5 @@
+use Rattle.mime.proofs.Readings.{one_tree}
+use Rattle.mime.proofs.laws.one_tree.Goals as goal
+
+pub returns : goal.returns
+returns c = one_tree

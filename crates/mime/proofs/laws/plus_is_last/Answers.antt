@@ -1,0 +1,5 @@
+use Rattle.mime.proofs.Pluses.{plus_is_last}
+use Rattle.mime.proofs.laws.plus_is_last.Goals as goal
+
+pub returns : goal.returns
+returns c = plus_is_last

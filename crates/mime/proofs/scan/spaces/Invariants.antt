@@ -1,0 +1,10 @@
+use Rattle.std.proofs.Common.{length}
+use Rattle.mime.specs.Scanning.{is_space}
+use Rattle.mime.proofs.Passing.{Passing}
+use Rattle.mime.proofs.scan.spaces.Given as goal
+
+abbrev pub invariant-loop-byte : goal.invariant-loop-byte
+invariant-loop-byte l = Passing is_space l.initial.reader l.reader
+
+abbrev pub decreases-loop-byte : goal.decreases-loop-byte
+decreases-loop-byte l = length l.reader.left

@@ -1,0 +1,12 @@
+-- The pairs so far are lowered, and the list that is left stands behind them.
+use Rattle.std.proofs.Common.{◌-◌}
+use Rattle.std.specs.Str.{IsUtf8}
+use Rattle.mime.specs.Pairs.{lowered_within}
+use Rattle.mime.proofs.RangeLaws.{IsLoweredTo}
+use Rattle.mime.proofs.value.kept.lower_pairs.Given as goal
+
+abbrev pub invariant-loop : goal.invariant-loop
+invariant-loop l = record {
+  utf8 : IsUtf8 l.left;
+  lowered : IsLoweredTo l.bytes l.left (l.count - l.counter) (lowered_within l.count l.list);
+}

@@ -1,0 +1,14 @@
+-- The bytes so far are spaces, and the list may be cut behind them.
+use Rattle.std.proofs.Common.{◌≡◌, ◌+◌, ◌-◌, length, drop}
+use Rattle.std.specs.Str.{IsCharBoundary}
+use Rattle.mime.specs.Pairs.{gap_of as spaces_before}
+use Rattle.mime.proofs.value.pairs.gap_of.Given as goal
+
+abbrev pub invariant-loop-gap : goal.invariant-loop-gap
+invariant-loop-gap l = record {
+  passed : l.gap + spaces_before (drop l.gap l.list) ≡ spaces_before l.list;
+  border : IsCharBoundary l.list l.gap;
+}
+
+abbrev pub decreases-loop-gap : goal.decreases-loop-gap
+decreases-loop-gap l = length l.bytes - l.gap

@@ -1,0 +1,10 @@
+-- The first place from here on is the first from where the search began.
+use Rattle.std.proofs.Common.{◌≡◌, ◌-◌, length}
+use Rattle.mime.specs.Pairs.{place_from as place_of}
+use Rattle.mime.proofs.value.pairs.place_from.Given as goal
+
+abbrev pub invariant-loop-place : goal.invariant-loop-place
+invariant-loop-place l = place_of l.place l.byte l.text ≡ place_of l.from l.byte l.text
+
+abbrev pub decreases-loop-place : goal.decreases-loop-place
+decreases-loop-place l = length l.text - l.place

@@ -1,0 +1,109 @@
+-- Private. Trees that were begun: where a text that may still be accepted can end, and how each
+-- further byte changes the place.
+use Rattle.std.specs.Prelude.{ℕ, suc, List, [], ◌∷◌, ◌++◌, Option, Some, None, if◌then◌else◌, ◌==◌}
+use Rattle.std.specs.Option.{option_and_then, option_map}
+use Rattle.mime.specs.Bytes.{is_token_byte, is_quoted_byte, slash_byte, semicolon_byte, equals_byte, quote_byte, space_byte}
+use Rattle.mime.specs.Grammar.{Parameter, plain, quoted, Parameters, blank, final, more, no_list, listed, SyntaxTree, is_inner_byte}
+
+-- where in a parameter list, counted from the last semicolon
+pub data ListPlace : Type 0 where
+  in_spaces : (n : ℕ) → ListPlace
+  in_name : (n : ℕ) (name : List ℕ) → ListPlace
+  in_value : (n : ℕ) (name value : List ℕ) → ListPlace
+  in_quotes : (n : ℕ) (name content : List ℕ) → ListPlace
+  behind_quotes : (n : ℕ) (name content : List ℕ) (m : ℕ) → ListPlace
+
+-- a begun parameter list: the parameters that a semicolon closed, the last one first, each with
+-- the spaces before it, and the place behind them
+pub record BegunList : Type 0 where
+  pub closed : List (ℕ × Parameter)
+  pub place : ListPlace
+
+-- behind a semicolon that no parameter follows yet
+abbrev pub begun_list : BegunList
+begun_list = record { closed = []; place = in_spaces 0 }
+
+pub data Begun : Type 0 where
+  in_type : (top : List ℕ) → Begun
+  in_subtype : (top sub : List ℕ) → Begun
+  in_list : (top sub : List ℕ) → BegunList → Begun
+
+-- the same parameters, at another place
+abbrev pub at_place : List (ℕ × Parameter) → ListPlace → Option BegunList
+at_place closed place = Some (record { closed = closed; place = place })
+
+-- a semicolon closes a parameter
+abbrev pub close : List (ℕ × Parameter) → ℕ → Parameter → Option BegunList
+close closed n parameter = at_place ((n, parameter) ∷ closed) (in_spaces 0)
+
+-- one more byte at a place of a list, or none where nothing accepted goes on so
+abbrev pub grow_place : List (ℕ × Parameter) → ListPlace → ℕ → Option BegunList
+grow_place closed (in_spaces n) b =
+    if b == space_byte then at_place closed (in_spaces (suc n))
+    else (if is_token_byte b then at_place closed (in_name n (b ∷ [])) else None)
+grow_place closed (in_name n name) b =
+    if is_token_byte b then at_place closed (in_name n (name ++ (b ∷ [])))
+    else (if b == equals_byte then at_place closed (in_value n name []) else None)
+grow_place closed (in_value n name []) b =
+    if is_token_byte b then at_place closed (in_value n name (b ∷ []))
+    else (if b == quote_byte then at_place closed (in_quotes n name []) else None)
+grow_place closed (in_value n name (v ∷ value)) b =
+    if is_token_byte b then at_place closed (in_value n name (v ∷ value ++ (b ∷ [])))
+    else (if b == semicolon_byte then close closed n (plain name (v ∷ value)) else None)
+grow_place closed (in_quotes n name []) b =
+    if is_quoted_byte b then at_place closed (in_quotes n name (b ∷ [])) else None
+grow_place closed (in_quotes n name (c ∷ content)) b =
+    if is_inner_byte b then at_place closed (in_quotes n name (c ∷ content ++ (b ∷ [])))
+    else (if b == quote_byte then at_place closed (behind_quotes n name (c ∷ content) 0) else None)
+grow_place closed (behind_quotes n name content m) b =
+    if b == space_byte then at_place closed (behind_quotes n name content (suc m))
+    else (if b == semicolon_byte then close closed n (quoted name content m) else None)
+
+abbrev pub grow_list : BegunList → ℕ → Option BegunList
+grow_list list b = grow_place list.closed list.place b
+
+-- one more byte
+abbrev pub grow : Begun → ℕ → Option Begun
+grow (in_type []) b = if is_token_byte b then Some (in_type (b ∷ [])) else None
+grow (in_type (t ∷ top)) b =
+    if is_token_byte b then Some (in_type (t ∷ top ++ (b ∷ [])))
+    else (if b == slash_byte then Some (in_subtype (t ∷ top) []) else None)
+grow (in_subtype top []) b = if is_token_byte b then Some (in_subtype top (b ∷ [])) else None
+grow (in_subtype top (s ∷ sub)) b =
+    if is_token_byte b then Some (in_subtype top (s ∷ sub ++ (b ∷ [])))
+    else (if b == semicolon_byte then Some (in_list top (s ∷ sub) begun_list) else None)
+grow (in_list top sub list) b = option_map (in_list top sub) (grow_list list b)
+
+-- a list and a text walked on, byte by byte
+abbrev pub walk_list : BegunList → List ℕ → Option BegunList
+walk_list list [] = Some list
+walk_list list (b ∷ bytes) = option_and_then (λ next. walk_list next bytes) (grow_list list b)
+
+abbrev pub walk_from : Begun → List ℕ → Option Begun
+walk_from begun [] = Some begun
+walk_from begun (b ∷ bytes) = option_and_then (λ next. walk_from next bytes) (grow begun b)
+
+abbrev pub walk : List ℕ → Option Begun
+walk text = walk_from (in_type []) text
+
+-- the list that the closed parameters and what follows them make
+abbrev pub with_closed : List (ℕ × Parameter) → Parameters → Parameters
+with_closed [] rest = rest
+with_closed ((n, parameter) ∷ closed) rest = with_closed closed (more n parameter rest)
+
+-- what a list is that ends at a place, if it may
+abbrev pub ended : ListPlace → Option Parameters
+ended (in_spaces n) = Some (blank n)
+ended (in_name n name) = None
+ended (in_value n name value) = Some (final n (plain name value))
+ended (in_quotes n name content) = None
+ended (behind_quotes n name content m) = Some (final n (quoted name content m))
+
+abbrev pub ended_list : BegunList → Option Parameters
+ended_list list = option_map (with_closed list.closed) (ended list.place)
+
+-- the tree of a text that ends here, if it may
+abbrev pub tree_of : Begun → Option SyntaxTree
+tree_of (in_type top) = None
+tree_of (in_subtype top sub) = Some (record { top = top; sub = sub; tail = no_list })
+tree_of (in_list top sub list) = option_map (λ rest. record { top = top; sub = sub; tail = listed rest }) (ended_list list)

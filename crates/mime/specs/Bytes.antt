@@ -1,0 +1,31 @@
+-- Which bytes stand where in a media type (RFC 7231, 3.1.1.1, with the token of RFC 7230, 3.2.6).
+use Rattle.std.specs.Prelude.{ℕ, Bool, ◌&&◌, ◌||◌, not, ◌==◌, nat_le, codes}
+use Rattle.std.specs.List.{list_any}
+use Rattle.std.specs.Char.{is_ascii_alphanumeric}
+
+-- tchar: a letter, a digit, or one of fifteen marks
+unfoldable pub is_token_byte : ℕ → Bool
+is_token_byte b = is_ascii_alphanumeric b || list_any (λ mark. mark == b) (codes "!#$%&'*+-.^_`|~")
+
+-- what a quoted value may hold: every byte but the controls, so no tab, and the quote too
+unfoldable pub is_quoted_byte : ℕ → Bool
+is_quoted_byte b = nat_le 32 b && (nat_le b 255 && not (b == 127))
+
+-- the bytes that part a text
+abbrev pub slash_byte : ℕ
+slash_byte = 47
+
+abbrev pub plus_byte : ℕ
+plus_byte = 43
+
+abbrev pub semicolon_byte : ℕ
+semicolon_byte = 59
+
+abbrev pub equals_byte : ℕ
+equals_byte = 61
+
+abbrev pub quote_byte : ℕ
+quote_byte = 34
+
+abbrev pub space_byte : ℕ
+space_byte = 32

@@ -1,0 +1,21 @@
+-- What a fault prints.
+use Rattle.std.specs.Prelude.{ℕ, true, List, ◌++◌, codes}
+use Rattle.std.specs.Fmt.{digits, decimal}
+use Rattle.mime.specs.declared.scan.ParseError.{ParseError}
+use Rattle.mime.specs.declared.scan.ParseError.TheVariants.{MissingSlash, MissingEqual, MissingQuote, InvalidToken, NoMemory}
+
+-- a byte in capital hexadecimal without leading zeros, and its place in decimal
+abbrev pub token_text : ℕ → ℕ → List ℕ
+token_text pos byte =
+    codes "an invalid token was encountered, " ++ (digits 16 true byte ++ (codes " at position " ++ decimal pos))
+
+abbrev pub fault_text : ParseError → List ℕ
+fault_text MissingSlash = codes "a slash (/) was missing between the type and subtype"
+fault_text MissingEqual = codes "an equals sign (=) was missing between a parameter and its value"
+fault_text MissingQuote = codes "a quote (\") was missing from a parameter value"
+fault_text (InvalidToken pos byte) = token_text pos byte
+fault_text NoMemory = codes "memory ran out"
+
+-- what the error of a refused text prints
+abbrev pub error_text : ParseError → List ℕ
+error_text fault = codes "mime parse error: " ++ fault_text fault

@@ -1,0 +1,69 @@
+-- The laws: what follows from the definitions alone.
+use Rattle.std.specs.Prelude.{◌≡◌, ◌≢◌, ℕ, ◌+◌, ◌<◌, ◌≤◌, ◌⊎◌, List, [], ◌++◌, slice_get, Some, MatchOption}
+use Rattle.std.specs.Str.{IsUtf8, IsCharBoundary}
+use Rattle.mime.specs.Bytes.{plus_byte}
+use Rattle.mime.specs.Grammar.{SyntaxTree, text_of, IsWellFormed}
+use Rattle.mime.specs.Values.{MediaType, Reads, IsAccepted, IsRefused}
+use Rattle.mime.specs.Refusals.{IsViable, IsFront, slash_completion, equals_completion, quote_completion, IsFault}
+use Rattle.mime.specs.declared.scan.ParseError.{ParseError}
+
+-- A text is spelled by at most one well-formed tree.
+abbrev pub OneTree : Type 0
+OneTree = (first second : SyntaxTree) → IsWellFormed first → IsWellFormed second → text_of first ≡ text_of second → first ≡ second
+
+-- A text is read as at most one value.
+abbrev pub OneReading : Type 0
+OneReading = (text : List ℕ) (first second : MediaType) → Reads text first → Reads text second → first ≡ second
+
+-- The empty text is viable.
+abbrev pub EmptyIsViable : Type 0
+EmptyIsViable = IsViable []
+
+-- What a viable text begins with is viable.
+abbrev pub FrontOfViableIsViable : Type 0
+FrontOfViableIsViable = (front more : List ℕ) → IsViable (front ++ more) → IsViable front
+
+-- An accepted text is viable.
+abbrev pub AcceptedIsViable : Type 0
+AcceptedIsViable = (text : List ℕ) → IsAccepted text → IsViable text
+
+-- one of the three completions that faults name
+abbrev pub IsCompletion : List ℕ → Type 0
+IsCompletion more = (more ≡ slash_completion) ⊎ ((more ≡ equals_completion) ⊎ (more ≡ quote_completion))
+
+-- Exactly one completion makes a viable refused text an accepted one.
+abbrev pub OneCompletion : Type 0
+OneCompletion =
+    (text : List ℕ) → IsViable text → IsRefused text
+    → (more : List ℕ) × IsCompletion more × IsAccepted (text ++ more)
+    × ((other : List ℕ) → IsCompletion other → IsAccepted (text ++ other) → other ≡ more)
+
+-- Nothing makes a text that isn't viable an accepted one.
+abbrev pub NoCompletion : Type 0
+NoCompletion = (text more : List ℕ) → ¬ (IsViable text) → IsRefused (text ++ more)
+
+-- A refused text has exactly one fault.
+abbrev pub OneFault : Type 0
+OneFault =
+    (text : List ℕ) → IsRefused text
+    → (fault : ParseError) × IsFault text fault × ((other : ParseError) → IsFault text other → other ≡ fault)
+
+-- A text has exactly one longest viable front.
+abbrev pub OneFront : Type 0
+OneFront = (text : List ℕ) → (count : ℕ) × IsFront text count × ((other : ℕ) → IsFront text other → other ≡ count)
+
+-- The longest viable front of a text of valid UTF-8 ends between characters.
+abbrev pub FrontEndsBetweenCharacters : Type 0
+FrontEndsBetweenCharacters = (text : List ℕ) (count : ℕ) → IsUtf8 text → IsFront text count → IsCharBoundary text count
+
+-- no plus stands in the text from a place on
+abbrev pub HasNoPlusFrom : List ℕ → ℕ → Type 0
+HasNoPlusFrom text from = (place : ℕ) → from ≤ place → slice_get text place ≢ Some plus_byte
+
+-- The plus of a value is the last one of its essence behind the subtype's first byte, if there is one.
+abbrev pub PlusIsLast : Type 0
+PlusIsLast =
+    (text : List ℕ) (value : MediaType) → Reads text value
+    → MatchOption value.plus (HasNoPlusFrom value.essence (value.slash + 2))
+    (λ place. (value.slash + 1 < place) × (slice_get value.essence place ≡ Some plus_byte)
+    × HasNoPlusFrom value.essence (place + 1))

@@ -1,0 +1,17 @@
+-- the trusted pages, in reading order
+pub mod Bytes
+pub mod Grammar
+pub mod Values
+pub mod Refusals
+pub mod Faults
+pub mod Names
+pub mod Items
+pub mod Views
+pub mod Laws
+-- private
+pub mod Begun
+pub mod Remaining
+pub mod Scanning
+pub mod Pairs
+pub mod Storage
+pub mod Stored

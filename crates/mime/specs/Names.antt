@@ -1,0 +1,20 @@
+-- Names: a text with a flag that says whether it ignores case, how names compare, and the constants.
+use Rattle.std.specs.Prelude.{◌≡◌, ℕ, Bool, true, false, List, [], ◌∷◌, codes}
+use Rattle.mime.specs.Values.{lowered}
+
+-- a name is a text: without regard to ASCII case where it ignores case, else byte for byte
+abbrev pub NameIs : List ℕ → Bool → List ℕ → Type 0
+NameIs name true text = lowered name ≡ lowered text
+NameIs name false text = name ≡ text
+
+-- the texts of the constants, in their order; each ignores case
+abbrev pub name_table : List (List ℕ)
+name_table =
+    codes "*" ∷ codes "text" ∷ codes "image" ∷ codes "audio" ∷ codes "video"
+    ∷ codes "application" ∷ codes "multipart" ∷ codes "message" ∷ codes "model" ∷ codes "font"
+    ∷ codes "plain" ∷ codes "html" ∷ codes "xml" ∷ codes "javascript" ∷ codes "css" ∷ codes "csv"
+    ∷ codes "event-stream" ∷ codes "vcard" ∷ codes "json" ∷ codes "x-www-form-urlencoded"
+    ∷ codes "msgpack" ∷ codes "octet-stream" ∷ codes "pdf" ∷ codes "woff" ∷ codes "woff2"
+    ∷ codes "form-data" ∷ codes "bmp" ∷ codes "gif" ∷ codes "jpeg" ∷ codes "png" ∷ codes "svg"
+    ∷ codes "basic" ∷ codes "mpeg" ∷ codes "mp4" ∷ codes "ogg"
+    ∷ codes "charset" ∷ codes "boundary" ∷ codes "utf-8" ∷ []

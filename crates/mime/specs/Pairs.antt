@@ -1,0 +1,73 @@
+-- Private. The pairs of a parameter list's text, cut one by one from the left.
+use Rattle.std.specs.Prelude.{ℕ, zero, suc, ◌+◌, ◌-◌, List, [], ◌∷◌, ◌++◌, length, take, drop, if◌then◌else◌, ◌==◌}
+use Rattle.std.specs.List.{prefix_len, position_or_len}
+use Rattle.mime.specs.Bytes.{semicolon_byte, equals_byte, quote_byte, space_byte}
+use Rattle.mime.specs.Values.{lowered, lowered_value}
+
+-- the first place of a byte from a place on, or the text's end
+abbrev pub place_from : ℕ → ℕ → List ℕ → ℕ
+place_from from byte text = from + position_or_len (λ b. b == byte) (drop from text)
+
+-- what stands before that place, and what stands behind it
+abbrev pub before_byte : ℕ → ℕ → List ℕ → List ℕ
+before_byte from byte text = take (place_from from byte text) text
+
+abbrev pub behind_byte : ℕ → ℕ → List ℕ → List ℕ
+behind_byte from byte text = drop (place_from from byte text + 1) text
+
+-- the first pair of a list: its name, how many bytes stand before its value, its value without
+-- quotes, and the list behind its semicolon
+pub record PairCut : Type 0 where
+  pub name : List ℕ
+  pub head : ℕ
+  pub value : List ℕ
+  pub rest : List ℕ
+
+-- behind the equals sign: a quoted value, of which the first byte may be a quote, or a plain one.
+-- What stands before it is counted as what it leaves of the whole length, so it lies within the list
+abbrev pub cut_value : ℕ → List ℕ → List ℕ → PairCut
+cut_value whole name [] = record { name = name; head = whole; value = []; rest = [] }
+cut_value whole name (b ∷ bytes) =
+    if b == quote_byte
+    then record {
+      name = name;
+      head = whole - length bytes;
+      value = before_byte 1 quote_byte bytes;
+      rest = behind_byte 0 semicolon_byte (behind_byte 1 quote_byte bytes);
+    }
+    else record {
+      name = name;
+      head = whole - length (b ∷ bytes);
+      value = before_byte 0 semicolon_byte (b ∷ bytes);
+      rest = behind_byte 0 semicolon_byte (b ∷ bytes);
+    }
+
+-- the spaces before the first name, and the list without them
+abbrev pub gap_of : List ℕ → ℕ
+gap_of list = prefix_len (λ b. b == space_byte) list
+
+abbrev pub without_gap : List ℕ → List ℕ
+without_gap list = drop (gap_of list) list
+
+unfoldable pub cut_of : List ℕ → PairCut
+cut_of list =
+    let body = without_gap list in
+    cut_value (length list) (before_byte 0 equals_byte body) (behind_byte 0 equals_byte body)
+
+-- the first so many pairs
+abbrev pub pairs_within : ℕ → List ℕ → List (List ℕ × List ℕ)
+pairs_within zero list = []
+pairs_within (suc count) list = ((cut_of list).name, (cut_of list).value) ∷ pairs_within count (cut_of list).rest
+
+-- the list with all before its first value lowered, and that value too under `charset`
+abbrev pub lowered_first : List ℕ → List ℕ
+lowered_first list =
+    let cut = cut_of list in
+    lowered (take cut.head list) ++ (lowered_value cut.name cut.value ++ drop (cut.head + length cut.value) list)
+
+-- the list with its first so many pairs lowered so
+abbrev pub lowered_within : ℕ → List ℕ → List ℕ
+lowered_within zero list = list
+lowered_within (suc count) list =
+    let rest = (cut_of list).rest in
+    take (length list - length rest) (lowered_first list) ++ lowered_within count rest

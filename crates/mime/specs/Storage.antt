@@ -1,0 +1,62 @@
+-- Private. How a value is stored: its kept text with the places of its parts.
+use Rattle.std.specs.Prelude.{◌≡◌, ℕ, zero, suc, ◌+◌, List, [], ◌∷◌, ◌++◌, length, take, drop, Option, Some, None, unwrap_or, IsTrue}
+use Rattle.mime.specs.Grammar.{Tail, no_list, listed, blank, final, more, SyntaxTree, text_of, IsWellFormed}
+use Rattle.mime.specs.Values.{MediaType, lowered, is_charset, lowered_tree}
+use Rattle.mime.specs.Pairs.{pairs_within, lowered_within}
+use Rattle.mime.specs.Scanning.{places_of}
+use Rattle.mime.specs.declared.scan.Places.{Places}
+
+-- the pairs behind the semicolon
+abbrev pub pairs_behind : ℕ → Option ℕ → List ℕ → List (List ℕ × List ℕ)
+pairs_behind count None text = []
+pairs_behind count (Some semicolon) text = pairs_within count (drop (semicolon + 1) text)
+
+-- the value that a kept text and its places give
+abbrev pub media_of : List ℕ → Places → MediaType
+media_of text places = record {
+  essence = take (unwrap_or places.semicolon (length text)) text;
+  slash = places.slash;
+  plus = places.plus;
+  pairs = pairs_behind places.pairs places.semicolon text;
+  kept = text;
+}
+
+-- a list that is kept holds a parameter
+abbrev pub HoldsParameter : Tail → Type 0
+HoldsParameter no_list = Unit {0}
+HoldsParameter (listed (blank n)) = ⊥
+HoldsParameter (listed (final n parameter)) = Unit {0}
+HoldsParameter (listed (more n parameter rest)) = Unit {0}
+
+-- a text as it is kept: that of a well-formed tree which is its own lowering, without an empty list
+pub record IsStored (text : List ℕ) (places : Places) : Type 0 where
+  pub tree : SyntaxTree
+  pub well_formed : IsWellFormed tree
+  pub low : lowered_tree tree ≡ tree
+  pub kept : HoldsParameter tree.tail
+  pub spelled : text_of tree ≡ text
+  pub placed : places_of tree ≡ places
+
+-- the places in the kept text: no semicolon where there is no pair
+abbrev pub kept_semicolon : ℕ → Option ℕ → Option ℕ
+kept_semicolon zero semicolon = None
+kept_semicolon (suc pairs) semicolon = semicolon
+
+abbrev pub kept_places : Places → Places
+kept_places places = record places { semicolon = kept_semicolon places.pairs places.semicolon }
+
+-- the kept text of an accepted text with these places
+abbrev pub lowered_text : ℕ → Option ℕ → List ℕ → List ℕ
+lowered_text zero None text = lowered text
+lowered_text zero (Some semicolon) text = lowered (take semicolon text)
+lowered_text (suc pairs) None text = lowered text
+lowered_text (suc pairs) (Some semicolon) text =
+    lowered (take (semicolon + 1) text) ++ lowered_within (suc pairs) (drop (semicolon + 1) text)
+
+-- a pair as it is kept: its name is small, and its value is where the name is `charset`
+abbrev pub IsLowPair : List ℕ × List ℕ → Type 0
+IsLowPair pair = (lowered pair.0 ≡ pair.0) × (IsTrue (is_charset pair.0) → lowered pair.1 ≡ pair.1)
+
+abbrev pub AreLowPairs : List (List ℕ × List ℕ) → Type 0
+AreLowPairs [] = Unit {0}
+AreLowPairs (pair ∷ pairs) = IsLowPair pair × AreLowPairs pairs

@@ -1,0 +1,13 @@
+-- Private. The text that a value keeps.
+use Rattle.std.specs.Prelude.{ℕ, List, Bool, true, false}
+use Rattle.mime.specs.declared.value.Text.{Text}
+use Rattle.mime.specs.declared.value.Text.TheVariants.{Fixed, Owned}
+use Rattle.std.specs.Prelude.{string_bytes}
+
+abbrev pub bytes_of : Text → List ℕ
+bytes_of (Fixed text) = text.now
+bytes_of (Owned text) = string_bytes text
+
+abbrev pub is_fixed : Text → Bool
+is_fixed (Fixed text) = true
+is_fixed (Owned text) = false

@@ -1,0 +1,114 @@
+-- What a text is read as: the value of a tree, and the parts that callers see.
+use Rattle.std.specs.Prelude.{◌≡◌, ℕ, ◌+◌, Bool, List, [], ◌∷◌, ◌++◌, length, take, drop, slice_range, Option, Some, None, unwrap_or, if◌then◌else◌, ◌==◌, codes}
+use Rattle.std.specs.Str.{str_to_ascii_lowercase, bytes_eq}
+use Rattle.std.specs.Option.{option_or, option_map}
+use Rattle.mime.specs.Bytes.{slash_byte, plus_byte}
+use Rattle.mime.specs.Grammar.{Parameter, plain, quoted, Parameters, blank, final, more, Tail, no_list, listed, SyntaxTree, text_of, IsWellFormed}
+
+-- the text with its ASCII capitals made small
+abbrev pub lowered : List ℕ → List ℕ
+lowered text = str_to_ascii_lowercase text
+
+-- whether a parameter's name is `charset`, in any case
+abbrev pub is_charset : List ℕ → Bool
+is_charset name = bytes_eq (lowered name) (codes "charset")
+
+-- a value is lowered exactly under `charset`
+abbrev pub lowered_value : List ℕ → List ℕ → List ℕ
+lowered_value name value = if is_charset name then lowered value else value
+
+abbrev pub lowered_parameter : Parameter → Parameter
+lowered_parameter (plain name value) = plain (lowered name) (lowered_value name value)
+lowered_parameter (quoted name content n) = quoted (lowered name) (lowered_value name content) n
+
+abbrev pub lowered_list : Parameters → Parameters
+lowered_list (blank n) = blank n
+lowered_list (final n parameter) = final n (lowered_parameter parameter)
+lowered_list (more n parameter rest) = more n (lowered_parameter parameter) (lowered_list rest)
+
+abbrev pub lowered_tail : Tail → Tail
+lowered_tail no_list = no_list
+lowered_tail (listed parameters) = listed (lowered_list parameters)
+
+-- the tree with all lowered that ignores case
+abbrev pub lowered_tree : SyntaxTree → SyntaxTree
+lowered_tree tree = record { top = lowered tree.top; sub = lowered tree.sub; tail = lowered_tail tree.tail }
+
+-- name and content of a parameter, without its quotes
+abbrev pub pair_of : Parameter → List ℕ × List ℕ
+pair_of (plain name value) = (name, value)
+pair_of (quoted name content n) = (name, content)
+
+abbrev pub pairs_of_list : Parameters → List (List ℕ × List ℕ)
+pairs_of_list (blank n) = []
+pairs_of_list (final n parameter) = pair_of parameter ∷ []
+pairs_of_list (more n parameter rest) = pair_of parameter ∷ pairs_of_list rest
+
+abbrev pub pairs_of_tail : Tail → List (List ℕ × List ℕ)
+pairs_of_tail no_list = []
+pairs_of_tail (listed parameters) = pairs_of_list parameters
+
+-- the last place of a plus in bytes of which the first stands at a place
+abbrev pub last_plus : ℕ → List ℕ → Option ℕ
+last_plus at [] = None
+last_plus at (b ∷ bytes) = option_or (last_plus (at + 1) bytes) (if b == plus_byte then Some at else None)
+
+-- what a media type is: its essence with the places of the slash and of the suffix's plus, its
+-- parameters as pairs of name and value, and its kept text, which is what printing gives
+pub record MediaType : Type 0 where
+  pub essence : List ℕ
+  pub slash : ℕ
+  pub plus : Option ℕ
+  pub pairs : List (List ℕ × List ℕ)
+  pub kept : List ℕ
+
+-- type, slash and subtype
+abbrev pub essence_of : SyntaxTree → List ℕ
+essence_of tree = tree.top ++ (slash_byte ∷ tree.sub)
+
+-- the whole text where there is a parameter, else the essence
+abbrev pub kept_text : List (List ℕ × List ℕ) → SyntaxTree → List ℕ
+kept_text [] tree = essence_of tree
+kept_text (pair ∷ pairs) tree = text_of tree
+
+-- the value of a tree; a plus that is the subtype's first byte begins no suffix
+abbrev pub value_of : SyntaxTree → MediaType
+value_of tree =
+    let low = lowered_tree tree in
+    let pairs = pairs_of_tail low.tail in
+    record {
+      essence = essence_of low;
+      slash = length tree.top;
+      plus = last_plus (length tree.top + 2) (drop 1 low.sub);
+      pairs = pairs;
+      kept = kept_text pairs low;
+    }
+
+-- the text is read as the value
+pub record Reads (text : List ℕ) (value : MediaType) : Type 0 where
+  pub tree : SyntaxTree
+  pub well_formed : IsWellFormed tree
+  pub spelled : text_of tree ≡ text
+  pub valued : value_of tree ≡ value
+
+-- the text is read as some value
+abbrev pub IsAccepted : List ℕ → Type 0
+IsAccepted text = (value : MediaType) × Reads text value
+
+abbrev pub IsRefused : List ℕ → Type 0
+IsRefused text = ¬ (IsAccepted text)
+
+-- the parts of a value: the type, the subtype without its suffix, and the suffix
+abbrev pub type_of : MediaType → List ℕ
+type_of value = take value.slash value.essence
+
+abbrev pub subtype_of : MediaType → List ℕ
+subtype_of value = slice_range value.essence (value.slash + 1) (unwrap_or value.plus (length value.essence))
+
+abbrev pub suffix_of : MediaType → Option (List ℕ)
+suffix_of value = option_map (λ place. drop (place + 1) value.essence) value.plus
+
+-- a value as its owner has it; a fixed one is cloned without memory
+pub record Kept : Type 0 where
+  pub media : MediaType
+  pub fixed : Bool

@@ -1,0 +1,37 @@
+//! The classes of bytes (RFC 7231, 3.1.1.1; RFC 7230, 3.2.6).
+
+ghost use Rattle.std.specs.Prelude.{◌≡◌};
+ghost use Rattle.mime.specs.Bytes.{is_token_byte};
+ghost use Rattle.mime.specs.Bytes.{is_quoted_byte as is_quoted};
+
+const T: bool = true;
+
+const F: bool = false;
+
+/// Whether each byte may stand in a token.
+static TOKEN: [bool; 256] = [
+    F, F, F, F, F, F, F, F, F, F, F, F, F, F, F, F, F, F, F, F, F, F, F, F, F, F, F, F, F, F, F, F,
+    F, T, F, T, T, T, T, T, F, F, T, T, F, T, T, F, T, T, T, T, T, T, T, T, T, T, F, F, F, F, F, F,
+    F, T, T, T, T, T, T, T, T, T, T, T, T, T, T, T, T, T, T, T, T, T, T, T, T, T, T, F, F, F, T, T,
+    T, T, T, T, T, T, T, T, T, T, T, T, T, T, T, T, T, T, T, T, T, T, T, T, T, T, T, F, T, F, T, F,
+    F, F, F, F, F, F, F, F, F, F, F, F, F, F, F, F, F, F, F, F, F, F, F, F, F, F, F, F, F, F, F, F,
+    F, F, F, F, F, F, F, F, F, F, F, F, F, F, F, F, F, F, F, F, F, F, F, F, F, F, F, F, F, F, F, F,
+    F, F, F, F, F, F, F, F, F, F, F, F, F, F, F, F, F, F, F, F, F, F, F, F, F, F, F, F, F, F, F, F,
+    F, F, F, F, F, F, F, F, F, F, F, F, F, F, F, F, F, F, F, F, F, F, F, F, F, F, F, F, F, F, F, F,
+];
+
+/// Whether a byte may stand in a token: a type, a subtype, a parameter's name, an unquoted value.
+#[inline(always)]
+pub fn is_token(b: u8) -> bool
+    ensures { result ≡ is_token_byte b }
+{
+    TOKEN[b as usize]
+}
+
+/// Whether a byte may stand in a quoted value: any byte but the controls, 127 and the tab.
+#[inline(always)]
+pub fn is_quoted_byte(b: u8) -> bool
+    ensures { result ≡ is_quoted b }
+{
+    b >= 32 && b != 127
+}

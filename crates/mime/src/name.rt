@@ -1,0 +1,109 @@
+//! Names: the parts of media types, how they compare, and the keys that look parameters up.
+
+ghost use Rattle.std.specs.Prelude.{◌≡◌, ◌↔◌, IsTrue, List, ℕ, Bool, Some};
+ghost use Rattle.std.specs.Fmt.{debug_str};
+ghost use Rattle.mime.specs.Names.{NameIs};
+ghost use Rattle.mime.specs.Values.{lowered};
+
+pub(crate) mod constants;
+
+use std::fmt;
+
+/// A part of a media type: a type, a subtype, a suffix, a parameter's name or its value.
+///
+/// Two names are equal if their texts and their flags are; they are ordered by the bytes of the
+/// text and then by the flag, `false` first. To compare with a text, see [`name_eq_str`].
+#[derive(Clone, Copy, PartialEq, Eq, PartialOrd, Ord, Hash)]
+pub struct Name<'a> {
+    /// The part's text. Where this crate gives a name that ignores case, it has no ASCII capital.
+    pub text: &'a str,
+    /// Whether ASCII case doesn't count where the name is compared with a text.
+    pub ignores_case: bool,
+}
+
+impl<'a> Name<'a> {
+    /// The name's text, which outlives the `Name`: `TEXT.as_str()` is `"text"`.
+    pub fn as_str(&self) -> &'a str
+        ensures { result.now ≡ self.now.text.now }
+    {
+        self.text
+    }
+}
+
+/// Prints the text, padded to a width where one is given.
+impl fmt::Display for Name<'_> {
+    ghost output = { λ name. Some name.text.now };
+
+    fn fmt<W: fmt::Write>(&self, f: &mut fmt::Formatter<W>) -> fmt::Result {
+        fmt::Display::fmt(self.text, f)
+    }
+}
+
+/// Prints the text in quotes, with escapes, as a `str` does.
+impl fmt::Debug for Name<'_> {
+    ghost debug_output = { λ name. debug_str name.text.now };
+
+    fn fmt<W: fmt::Write>(&self, f: &mut fmt::Formatter<W>) -> fmt::Result {
+        fmt::Debug::fmt(self.text, f)
+    }
+}
+
+/// Whether two byte strings are the same but for the case of ASCII letters.
+#[inline]
+pub(crate) fn eq_ignoring_case(a: &[u8], b: &[u8]) -> bool
+    ensures { IsTrue result ↔ (lowered a.now ≡ lowered b.now) }
+{
+    if a.len() != b.len() {
+        return false;
+    }
+    let mut differs = false;
+    for (x, y) in a.iter().zip(b) {
+        differs |= x.to_ascii_lowercase() != y.to_ascii_lowercase();
+    }
+    !differs
+}
+
+/// Whether a name is the text `s`: without regard to ASCII case where the name ignores it, else
+/// byte for byte. `name_eq_str(&TEXT, "Text")` is true.
+#[inline]
+pub fn name_eq_str(name: &Name<'_>, s: &str) -> bool
+    ensures { IsTrue result ↔ NameIs name.now.text.now name.now.ignores_case s.now }
+{
+    if name.ignores_case {
+        eq_ignoring_case(name.text.as_bytes(), s.as_bytes())
+    } else {
+        name.text == s
+    }
+}
+
+/// A key that looks a parameter up by its name, with [`Mime::get_param`](crate::Mime::get_param).
+pub trait ParamKey: Drop {
+    /// The names that the key accepts, by text and flag.
+    ghost Accepts: { Self → List ℕ → Bool → Type 0 };
+
+    /// Whether the key accepts a parameter's name.
+    fn accepts(&self, name: Name<'_>) -> bool
+        ensures { IsTrue result ↔ Accepts self.now name.entry.text.now name.entry.ignores_case };
+}
+
+/// The key that accepts the names which are this text, as [`name_eq_str`] compares them:
+/// `TextKey("Charset")` accepts `charset`.
+#[derive(Clone, Copy)]
+pub struct TextKey<'k>(pub &'k str);
+
+impl ParamKey for TextKey<'_> {
+    ghost Accepts = { λ key name ignores_case. NameIs name ignores_case key.0.now };
+
+    fn accepts(&self, name: Name<'_>) -> bool {
+        name_eq_str(&name, self.0)
+    }
+}
+
+/// A name as a key accepts the names that are equal to it, in text and flag.
+impl ParamKey for Name<'_> {
+    ghost Accepts = { λ key name ignores_case. (name ≡ key.text.now) × (ignores_case ≡ key.ignores_case) };
+
+    fn accepts(&self, name: Name<'_>) -> bool {
+        name == *self
+    }
+}

@@ -1,0 +1,215 @@
+//! One pass over a text: where its parts are, or why it is refused.
+
+ghost use Rattle.std.specs.Prelude.{◌≡◌, ◌+◌, ◌-◌, ◌<◌, ◌≤◌, ◌^◌, length};
+ghost use Rattle.mime.specs.Bytes.{is_token_byte};
+ghost use Rattle.mime.specs.Grammar.{is_inner_byte};
+ghost use Rattle.mime.specs.Scanning.{is_space, Passes, PassesContent, PassesSubtype, ScansList, Scans};
+
+mod fault;
+mod reader;
+
+use crate::bytes::{is_quoted_byte, is_token};
+pub use crate::scan::fault::FromStrError;
+pub(crate) use crate::scan::reader::ByteReader;
+
+/// Why a text isn't read as a media type.
+#[derive(Clone, Copy, PartialEq, Eq, Debug)]
+pub enum ParseError {
+    /// The text ends in its type: a `/` and a subtype are missing.
+    MissingSlash,
+    /// The text ends in a parameter's name: a `=` and a value are missing.
+    MissingEqual,
+    /// The text ends in a quoted value: its closing `"` is missing.
+    MissingQuote,
+    /// No media type begins with the bytes up to and with this one.
+    InvalidToken {
+        /// The place of the byte, in bytes from 0.
+        pos: usize,
+        /// The byte, which begins a character.
+        byte: u8,
+    },
+    /// The text is a media type, and there was no memory to keep it.
+    NoMemory,
+}
+
+/// Where the parts of an accepted text are, in bytes from 0.
+#[derive(Clone, Copy, PartialEq, Debug)]
+pub(crate) struct Places {
+    pub(crate) slash: usize,
+    pub(crate) plus: Option<usize>,
+    pub(crate) semicolon: Option<usize>,
+    pub(crate) pairs: usize,
+}
+
+/// What one pass over a text finds.
+#[derive(Clone, Copy, PartialEq, Debug)]
+pub(crate) enum Verdict {
+    /// It is accepted.
+    Accepted(Places),
+    /// It ends too early.
+    Unfinished(ParseError),
+    /// This byte, the last that was taken, can't stand there; what stands before it may be accepted.
+    Stopped(u8, Option<Places>),
+}
+
+/// Passes the bytes of a token, and gives the byte that ends it.
+#[inline(always)]
+fn token(reader: &mut ByteReader<'_>) -> Option<u8>
+    ensures { Passes is_token_byte reader.old reader.new result }
+{
+    while let Some(byte) = reader.next() {
+        if !is_token(byte) {
+            return Some(byte);
+        }
+    }
+    None
+}
+
+/// Passes spaces, and gives the byte that ends them.
+#[inline(always)]
+fn spaces(reader: &mut ByteReader<'_>) -> Option<u8>
+    ensures { Passes is_space reader.old reader.new result }
+{
+    while let Some(byte) = reader.next() {
+        if byte != b' ' {
+            return Some(byte);
+        }
+    }
+    None
+}
+
+/// Passes the bytes of an open quoted value, and gives the byte that ends them: a quote closes it.
+#[inline(always)]
+fn inner(reader: &mut ByteReader<'_>) -> Option<u8>
+    ensures { Passes is_inner_byte reader.old reader.new result }
+{
+    while let Some(byte) = reader.next() {
+        if !is_quoted_byte(byte) || byte == b'"' {
+            return Some(byte);
+        }
+    }
+    None
+}
+
+/// Passes what stands between the quotes of a value, and gives the byte that ends it. Its first
+/// byte may be a quote.
+#[inline(always)]
+fn content(reader: &mut ByteReader<'_>) -> Option<u8>
+    ensures { PassesContent reader.old reader.new result }
+{
+    let first = reader.next()?;
+    if !is_quoted_byte(first) {
+        return Some(first);
+    }
+    inner(reader)
+}
+
+/// Passes what follows a subtype's first byte. Gives the place of its last plus, counted from
+/// `from`, the reader's count where the text began, and the byte that ends it.
+#[inline(always)]
+fn subtype(reader: &mut ByteReader<'_>, from: u128) -> (Option<usize>, Option<u8>)
+    requires begun { from < reader.old.count }
+    requires fits { reader.old.count + length reader.old.left < from + 2 ^ 64 }
+    ensures { PassesSubtype (reader.old.count - from) reader.old reader.new result }
+{
+    // 0 where there is none yet: the type stands there.
+    let mut plus = 0;
+    let stop = loop {
+        let Some(byte) = reader.next() else {
+            break None;
+        };
+        if !is_token(byte) {
+            break Some(byte);
+        }
+        if byte == b'+' {
+            plus = (reader.count() - from - 1) as usize;
+        }
+    };
+    (if plus == 0 { None } else { Some(plus) }, stop)
+}
+
+/// Reads a parameter list, behind its semicolon, of a text that has these places before it.
+#[inline(always)]
+fn parameters(reader: &mut ByteReader<'_>, head: Places) -> Verdict
+    requires { head.pairs + length reader.old.left < 2 ^ 64 }
+    ensures { ScansList head reader.old reader.new result }
+{
+    let mut places = head;
+    loop {
+        let Some(first) = spaces(reader) else {
+            return Verdict::Accepted(places);
+        };
+        if !is_token(first) {
+            return Verdict::Stopped(first, Some(places));
+        }
+        match token(reader) {
+            None => return Verdict::Unfinished(ParseError::MissingEqual),
+            Some(b'=') => {}
+            Some(byte) => return Verdict::Stopped(byte, None),
+        }
+        places.pairs += 1;
+        let Some(first) = reader.next() else {
+            return Verdict::Accepted(places);
+        };
+        let stop = if first == b'"' {
+            match content(reader) {
+                None => return Verdict::Unfinished(ParseError::MissingQuote),
+                Some(b'"') => {}
+                Some(byte) => return Verdict::Stopped(byte, None),
+            }
+            spaces(reader)
+        } else if is_token(first) {
+            token(reader)
+        } else {
+            return Verdict::Stopped(first, Some(places));
+        };
+        match stop {
+            None => return Verdict::Accepted(places),
+            Some(b';') => {}
+            Some(byte) => return Verdict::Stopped(byte, Some(places)),
+        }
+    }
+}
+
+/// Reads a text to its end, or to the first byte that no media type has there.
+#[inline(always)]
+pub(crate) fn scan(reader: &mut ByteReader<'_>) -> Verdict
+    ensures { Scans reader.old reader.new result }
+{
+    let from = reader.count();
+    let Some(first) = reader.next() else {
+        return Verdict::Unfinished(ParseError::MissingSlash);
+    };
+    if !is_token(first) {
+        return Verdict::Stopped(first, None);
+    }
+    match token(reader) {
+        None => return Verdict::Unfinished(ParseError::MissingSlash),
+        Some(b'/') => {}
+        Some(byte) => return Verdict::Stopped(byte, None),
+    }
+    let mut places = Places {
+        slash: (reader.count() - from - 1) as usize,
+        plus: None,
+        semicolon: None,
+        pairs: 0,
+    };
+    let Some(first) = reader.next() else {
+        return Verdict::Accepted(places);
+    };
+    if !is_token(first) {
+        return Verdict::Stopped(first, Some(places));
+    }
+    let (plus, stop) = subtype(reader, from);
+    places.plus = plus;
+    match stop {
+        None => return Verdict::Accepted(places),
+        Some(b';') => {}
+        Some(byte) => return Verdict::Stopped(byte, Some(places)),
+    }
+    places.semicolon = Some((reader.count() - from - 1) as usize);
+    parameters(reader, places)
+}
+
+#[cfg(test)]
+mod tests;

@@ -1,0 +1,220 @@
+//! Media types: reading, their parts, their parameters, printing.
+
+ghost use Rattle.std.specs.Prelude.{◌≡◌, ◌≢◌, true, IfOk, IfErr, IsOk, IfSome, codes, option_map};
+ghost use Rattle.std.specs.List.{AllByRecursion};
+ghost use Rattle.mime.specs.Values.{Reads, IsAccepted, lowered, type_of, subtype_of, suffix_of};
+ghost use Rattle.mime.specs.Refusals.{Explains};
+ghost use Rattle.mime.specs.Items.{items_of, IsLowItem, IsFirstAccepted};
+ghost use Rattle.mime.specs.Views.{name_seen};
+ghost use Rattle.mime.specs.Scanning.{HasPlaces};
+ghost use Rattle.mime.specs.Storage.{kept_places as kept_places_of};
+ghost use Rattle.mime.specs.Stored.{bytes_of};
+
+mod kept;
+mod pairs;
+mod params;
+
+use crate::name::{Name, ParamKey};
+use crate::scan::{ByteReader, FromStrError, ParseError, Places, Verdict, scan};
+use crate::value::kept::lowered_text;
+pub use crate::value::params::Params;
+use std::alloc::Global;
+use std::marker::Model;
+
+/// The text of a media type as it is kept.
+#[derive(Drop)]
+enum Text {
+    Fixed(&'static str),
+    Owned(String),
+}
+
+impl Text {
+    #[inline(always)]
+    fn as_str(&self) -> &str
+        ensures { result.now ≡ bytes_of self.now }
+    {
+        match self {
+            Text::Fixed(text) => text,
+            Text::Owned(text) => text.as_str(),
+        }
+    }
+}
+
+/// A media type, such as `text/plain; charset=utf-8` (RFC 7231, 3.1.1.1).
+///
+/// Its text is kept as it was read, but for ASCII capitals, which are made small in the type, the
+/// subtype, the parameters' names and the value of `charset`, and but for a parameter list without
+/// a parameter, which is cut off.
+#[derive(Drop)]
+pub struct Mime {
+    text: Text,
+    places: Places,
+}
+
+impl Model for Mime {
+    ghost use Rattle.mime.specs.Values.{Kept};
+
+    ghost Value = { Kept };
+
+    ghost use Rattle.mime.specs.Stored.{bytes_of, is_fixed};
+    ghost use Rattle.mime.specs.Storage.{media_of, IsStored};
+
+    ghost view = { λ mime. record { media = media_of (bytes_of mime.text) mime.places; fixed = is_fixed mime.text } };
+
+    ghost invariant = { λ mime. IsStored (bytes_of mime.text) mime.places };
+}
+
+impl Mime {
+    /// Reads a media type from the whole of `s`.
+    ///
+    /// # Errors
+    /// The one fault of a text that isn't a media type, told without asking for memory: what is
+    /// missing at its end, or else the place (in bytes, from 0) of the byte at which no media type
+    /// goes on. [`ParseError::NoMemory`] only for a media type, and never for `*/*`.
+    pub fn from_str(alloc: Global, s: &str) -> Result<Mime, FromStrError>
+        // What is read has the value that the text is read as.
+        ensures read { IfOk result (λ mime. Reads s.now mime.media) }
+        // An error is the fault of a refused text, or want of memory for an accepted one.
+        ensures explained { IfErr result (λ error. Explains s.now error) }
+        // So an accepted text is read, or memory is wanting.
+        ensures accepted { IsAccepted s.now → IfErr result (λ error. error ≡ ParseError.NoMemory) }
+        // `*/*` is always read, and fixed.
+        ensures star { s.now ≡ codes "*/*" → IfOk result (λ mime. mime.fixed ≡ true) × IsOk result }
+    {
+        let mut reader = ByteReader::new(s, 0);
+        match scan(&mut reader) {
+            Verdict::Accepted(places) => Mime::of_accepted(alloc, s, places),
+            Verdict::Unfinished(fault) => Err(FromStrError::new(fault)),
+            Verdict::Stopped(byte, _) => {
+                let pos = (reader.count() - 1) as usize;
+                Err(FromStrError::new(ParseError::InvalidToken { pos, byte }))
+            }
+        }
+    }
+
+    /// The media type of an accepted text.
+    fn of_accepted(alloc: Global, s: &str, places: Places) -> Result<Mime, FromStrError>
+        requires { HasPlaces s.now places }
+        ensures read { IfOk result (λ mime. Reads s.now mime.media) }
+        ensures memory { IfErr result (λ error. (error ≡ ParseError.NoMemory) × (s.now ≢ codes "*/*")) }
+        ensures star { s.now ≡ codes "*/*" → IfOk result (λ mime. mime.fixed ≡ true) }
+    {
+        if s == "*/*" {
+            return Ok(Mime {
+                text: Text::Fixed("*/*"),
+                places,
+            });
+        }
+        match lowered_text(alloc, s, places) {
+            Ok(text) => Ok(Mime {
+                text: Text::Owned(text),
+                places: kept_places(places),
+            }),
+            Err(_) => Err(FromStrError::new(ParseError::NoMemory)),
+        }
+    }
+
+    /// The type: `text` in `text/plain`.
+    pub fn type_(&self) -> Name<'_>
+        ensures text { result.text.now ≡ type_of self.now.media }
+        ensures flag { result.ignores_case ≡ true }
+        ensures low { lowered result.text.now ≡ result.text.now }
+    {
+        Name {
+            text: &self.text.as_str()[..self.places.slash],
+            ignores_case: true,
+        }
+    }
+
+    /// The subtype, without its suffix: `svg` in `image/svg+xml`. It may be empty.
+    pub fn subtype(&self) -> Name<'_>
+        ensures text { result.text.now ≡ subtype_of self.now.media }
+        ensures flag { result.ignores_case ≡ true }
+        ensures low { lowered result.text.now ≡ result.text.now }
+    {
+        let essence = self.essence_str();
+        let end = self.places.plus.unwrap_or(essence.len());
+        Name {
+            text: &essence[self.places.slash + 1..end],
+            ignores_case: true,
+        }
+    }
+
+    /// The suffix, behind the subtype's last `+` that isn't its first byte: `xml` in
+    /// `image/svg+xml`. It may be empty.
+    pub fn suffix(&self) -> Option<Name<'_>>
+        ensures text { option_map (λ name. name.text.now) result ≡ suffix_of self.now.media }
+        ensures flag { IfSome result (λ name. name.ignores_case ≡ true) }
+        ensures low { IfSome result (λ name. lowered name.text.now ≡ name.text.now) }
+    {
+        let plus = self.places.plus?;
+        Some(Name {
+            text: &self.essence_str()[plus + 1..],
+            ignores_case: true,
+        })
+    }
+
+    /// The essence, type and subtype with its suffix: `image/svg+xml`.
+    pub fn essence_str(&self) -> &str
+        ensures { result.now ≡ self.now.media.essence }
+    {
+        let text = self.text.as_str();
+        match self.places.semicolon {
+            None => text,
+            Some(semicolon) => &text[..semicolon],
+        }
+    }
+
+    /// The kept text, which is what Display prints. Read again, it gives an equal media type with
+    /// the same text.
+    pub fn as_str(&self) -> &str
+        ensures text { result.now ≡ self.now.media.kept }
+        ensures reads { Reads result.now self.now.media }
+    {
+        self.text.as_str()
+    }
+
+    /// The parameters, in the text's order.
+    pub fn params(&self) -> Params<'_>
+        ensures items { result ≡ items_of self.now.media.pairs }
+        ensures low { AllByRecursion IsLowItem result }
+    {
+        match self.places.semicolon {
+            None => Params::new("", 0),
+            Some(semicolon) => Params::new(&self.text.as_str()[semicolon + 1..], self.places.pairs),
+        }
+    }
+
+    /// The value of the first parameter whose name the key accepts: `TextKey("P")` finds `1` in
+    /// `a/b;p=1;P=2`.
+    pub fn get_param<K: ParamKey>(&self, key: K) -> Option<Name<'_>>
+        ensures found { IsFirstAccepted (K.Accepts key) (items_of self.now.media.pairs) (option_map name_seen result) }
+        ensures low { IfSome result (λ name. name.ignores_case ≡ true → lowered name.text.now ≡ name.text.now) }
+    {
+        for (name, value) in self.params() {
+            if key.accepts(name) {
+                return Some(value);
+            }
+        }
+        None
+    }
+}
+
+/// The places in the kept text.
+#[inline(always)]
+fn kept_places(places: Places) -> Places
+    ensures { result ≡ kept_places_of places }
+{
+    let semicolon = if places.pairs == 0 {
+        None
+    } else {
+        places.semicolon
+    };
+    Places {
+        semicolon,
+        ..places
+    }
+}
+
+#[cfg(test)]
+mod tests;

@@ -1,0 +1,104 @@
+//! The kept text of an accepted text, by one request for memory.
+
+ghost use Rattle.std.specs.Prelude.{◌≡◌, ◌+◌, ◌++◌, ◌≤◌, ◌↔◌, IsFalse, IfOk, take, drop, length, slice_get, slice_range, string_bytes};
+ghost use Rattle.mime.specs.Bytes.{semicolon_byte};
+ghost use Rattle.mime.specs.Values.{lowered, is_charset};
+ghost use Rattle.mime.specs.Pairs.{cut_of, lowered_first, lowered_within};
+ghost use Rattle.mime.specs.Scanning.{HasPlaces};
+ghost use Rattle.mime.specs.Storage.{lowered_text as kept_text};
+
+use crate::name::eq_ignoring_case;
+use crate::scan::Places;
+use crate::value::pairs::cut;
+use std::alloc::{AllocError, Global};
+
+/// Whether a text has an ASCII capital.
+#[inline]
+fn has_capital(text: &str) -> bool
+    ensures { IsFalse result ↔ (lowered text.now ≡ text.now) }
+{
+    let mut found = false;
+    for byte in text.as_bytes() {
+        found |= byte.is_ascii_uppercase();
+    }
+    found
+}
+
+/// Whether a parameter's name is `charset`, in any case.
+#[inline]
+fn names_charset(name: &str) -> bool
+    ensures { result ≡ is_charset name.now }
+{
+    eq_ignoring_case(name.as_bytes(), b"charset")
+}
+
+/// Makes the capitals small between two places.
+#[inline]
+fn lower_range(bytes: &mut [u8], from: usize, to: usize)
+    requires order { from ≤ to }
+    requires within { to ≤ length bytes.old }
+    ensures { bytes.new ≡ take from bytes.old ++ (lowered (slice_range bytes.old from to) ++ drop to bytes.old) }
+{
+    bytes[from..to].make_ascii_lowercase();
+}
+
+/// Lowers the first pair of a list, whose bytes these are, and gives the list behind it.
+#[inline]
+fn lower_first<'a>(bytes: &mut [u8], list: &'a str) -> &'a str
+    requires { bytes.old ≡ list.now }
+    ensures lowered { bytes.new ≡ lowered_first list.entry.now }
+    ensures rest { result.now ≡ (cut_of list.entry.now).rest }
+{
+    let pair = cut(list);
+    lower_range(bytes, 0, pair.head);
+    if names_charset(pair.name) {
+        lower_range(bytes, pair.head, pair.head + pair.value.len());
+    }
+    pair.rest
+}
+
+/// Lowers the first so many pairs of a list, whose bytes these are.
+#[inline]
+fn lower_pairs(bytes: &mut [u8], list: &str, count: usize)
+    requires { bytes.old ≡ list.now }
+    ensures { bytes.new ≡ lowered_within count list.now }
+{
+    let mut left = list;
+    for _ in 0..count {
+        let from = bytes.len() - left.len();
+        left = lower_first(&mut bytes[from..], left);
+    }
+}
+
+/// Lowers a text with pairs, whose bytes these are: all up to its semicolon, and then its pairs.
+#[inline]
+fn lower_text(bytes: &mut [u8], text: &str, semicolon: usize, pairs: usize)
+    requires same { bytes.old ≡ text.now }
+    requires parted { slice_get text.now semicolon ≡ Some semicolon_byte }
+    ensures { bytes.new ≡ lowered (take (semicolon + 1) text.now) ++ lowered_within pairs (drop (semicolon + 1) text.now) }
+{
+    let list = semicolon + 1;
+    lower_range(bytes, 0, list);
+    lower_pairs(&mut bytes[list..], &text[list..], pairs);
+}
+
+/// The kept text of an accepted text: only what ignores case is lowered, and an empty list is cut
+/// off.
+#[inline]
+pub(crate) fn lowered_text(alloc: Global, text: &str, places: Places) -> Result<String, AllocError>
+    requires { HasPlaces text.now places }
+    ensures { IfOk result (λ kept. string_bytes kept ≡ kept_text places.pairs places.semicolon text.now) }
+{
+    let Some(semicolon) = places.semicolon else {
+        return text.to_ascii_lowercase(alloc);
+    };
+    if places.pairs == 0 {
+        return text[..semicolon].to_ascii_lowercase(alloc);
+    }
+    if !has_capital(text) {
+        return String::from_str(alloc, text);
+    }
+    let mut bytes = Vec::from_slice(alloc, text.as_bytes())?;
+    lower_text(&mut bytes, text, semicolon, places.pairs);
+    Ok(unsafe { String::from_utf8_unchecked(bytes) })
+}

@@ -1,0 +1,108 @@
+//! The pairs of a parameter list, cut one by one from the left.
+
+ghost use Rattle.std.specs.Prelude.{◌≡◌, ◌<◌, ◌≤◌, length};
+ghost use Rattle.std.specs.Str.{IsCharBoundary};
+ghost use Rattle.mime.specs.Pairs.{before_byte, behind_byte, cut_of};
+ghost use Rattle.mime.specs.Pairs.{gap_of as spaces_before, place_from as place_of, cut_value as pair_of};
+
+/// The first pair of a list, and the list behind its semicolon.
+#[derive(Clone, Copy)]
+pub(crate) struct Pair<'a> {
+    pub(crate) name: &'a str,
+    /// How many bytes stand before the value.
+    pub(crate) head: usize,
+    /// The value without its quotes.
+    pub(crate) value: &'a str,
+    pub(crate) rest: &'a str,
+}
+
+/// The first place of a byte from a place on, or the end.
+#[inline]
+fn place_from(text: &[u8], from: usize, byte: u8) -> usize
+    ensures { result ≡ place_of from byte text.now }
+{
+    let mut place = from;
+    while place < text.len() {
+        if text[place] == byte {
+            return place;
+        }
+        place += 1;
+    }
+    place
+}
+
+/// What stands before that place, and what stands behind it.
+#[inline]
+fn split_from<'a>(text: &'a str, from: usize, byte: u8) -> (&'a str, &'a str)
+    requires { byte < 128 }
+    ensures before { result.0.now ≡ before_byte from byte text.entry.now }
+    ensures behind { result.1.now ≡ behind_byte from byte text.entry.now }
+{
+    let place = place_from(text.as_bytes(), from, byte);
+    if place < text.len() {
+        (&text[..place], &text[place + 1..])
+    } else {
+        (text, "")
+    }
+}
+
+/// How many spaces begin the list.
+#[inline]
+fn gap_of(list: &str) -> usize
+    ensures gap { result ≡ spaces_before list.now }
+    ensures border { IsCharBoundary list.now result }
+{
+    let bytes = list.as_bytes();
+    let mut gap = 0;
+    while gap < bytes.len() {
+        if bytes[gap] != b' ' {
+            return gap;
+        }
+        gap += 1;
+    }
+    gap
+}
+
+/// The pair of a name, from what stands behind its equals sign in a list of so many bytes: a quoted
+/// value or a plain one.
+#[inline]
+fn cut_value<'a>(whole: usize, name: &'a str, text: &'a str) -> Pair<'a>
+    requires { length text.now ≤ whole }
+    ensures name { result.name.now ≡ (pair_of whole name.entry.now text.entry.now).name }
+    ensures head { result.head ≡ (pair_of whole name.entry.now text.entry.now).head }
+    ensures value { result.value.now ≡ (pair_of whole name.entry.now text.entry.now).value }
+    ensures rest { result.rest.now ≡ (pair_of whole name.entry.now text.entry.now).rest }
+{
+    if !text.is_empty() && text.as_bytes()[0] == b'"' {
+        let content = &text[1..];
+        let (value, others) = split_from(content, 1, b'"');
+        let (_, rest) = split_from(others, 0, b';');
+        return Pair {
+            name,
+            head: whole - content.len(),
+            value,
+            rest,
+        };
+    }
+    let (value, rest) = split_from(text, 0, b';');
+    Pair {
+        name,
+        head: whole - text.len(),
+        value,
+        rest,
+    }
+}
+
+/// The first pair of a list.
+#[tactic(auto, unfolding(crate::specs::Pairs::cut_of))]
+#[inline]
+pub(crate) fn cut<'a>(list: &'a str) -> Pair<'a>
+    ensures name { result.name.now ≡ (cut_of list.entry.now).name }
+    ensures head { result.head ≡ (cut_of list.entry.now).head }
+    ensures value { result.value.now ≡ (cut_of list.entry.now).value }
+    ensures rest { result.rest.now ≡ (cut_of list.entry.now).rest }
+{
+    let gap = gap_of(list);
+    let (name, behind) = split_from(&list[gap..], 0, b'=');
+    cut_value(list.len(), name, behind)
+}

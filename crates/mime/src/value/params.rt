@@ -1,0 +1,82 @@
+//! The parameters of a media type, one by one.
+
+ghost use Rattle.std.specs.Prelude.{◌≡◌, length, IfSome, Some};
+ghost use Rattle.std.specs.Iterator.{YieldsFirstBy, item_count, UpTo, at_most};
+ghost use Rattle.std.specs.Iterator.SizeHint.{IsWithinCount};
+ghost use Rattle.mime.specs.Items.{items_of};
+ghost use Rattle.mime.specs.Pairs.{pairs_within};
+ghost use Rattle.mime.specs.Views.{item_seen};
+
+use crate::name::Name;
+use crate::value::pairs::cut;
+use std::fmt;
+use std::marker::Model;
+
+/// The parameters of a media type that are still to come, in the text's order: an iterator over
+/// pairs of a name and a value. A value ignores case exactly if its name is `charset`.
+#[derive(Drop)]
+pub struct Params<'a> {
+    list: &'a str,
+    left: usize,
+}
+
+impl<'a> Model for Params<'a> {
+    ghost use Rattle.std.specs.Prelude.{List};
+    ghost use Rattle.mime.specs.Items.{Item, items_of};
+    ghost use Rattle.mime.specs.Pairs.{pairs_within};
+
+    ghost Value = { List Item };
+
+    ghost view = { λ params. items_of (pairs_within params.left params.list.now) };
+}
+
+impl<'a> Params<'a> {
+    /// The first `left` parameters of a list.
+    pub(crate) fn new(list: &'a str, left: usize) -> Params<'a>
+        ensures { result ≡ items_of (pairs_within left list.now) }
+    {
+        Params { list, left }
+    }
+}
+
+impl<'a> Iterator for Params<'a> {
+    type Item = (Name<'a>, Name<'a>);
+
+    ghost next_gives = { YieldsFirstBy item_seen (λ params. params) };
+
+    ghost remaining = { item_count (λ params. params) };
+
+    fn next(&mut self) -> Option<(Name<'a>, Name<'a>)> {
+        if self.left == 0 {
+            return None;
+        }
+        let pair = cut(self.list);
+        self.left -= 1;
+        self.list = pair.rest;
+        let name = Name {
+            text: pair.name,
+            ignores_case: true,
+        };
+        let value = Name {
+            text: pair.value,
+            ignores_case: pair.name == "charset",
+        };
+        Some((name, value))
+    }
+
+    fn size_hint(&self) -> (usize, Option<usize>)
+        ensures lower { IsWithinCount result.0 (at_most (length self.now)) }
+        ensures upper { IfSome result.1 (UpTo (at_most (length self.now))) }
+        // Both bounds are the number of parameters left.
+        ensures exact { result ≡ (length self.now, Some (length self.now)) }
+    {
+        (self.left, Some(self.left))
+    }
+}
+
+/// Prints `Params`.
+impl fmt::Debug for Params<'_> {
+    fn fmt<W: fmt::Write>(&self, f: &mut fmt::Formatter<W>) -> fmt::Result {
+        f.write_str("Params")
+    }
+}
