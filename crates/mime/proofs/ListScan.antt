@@ -19,10 +19,6 @@ pub record ListTo (old now : Remaining) (stop : Option ℕ) (list : BegunList) :
   pub given : Given old now run stop
   pub walked : walk_list begun_list run ≡ Some list
 
--- nothing was walked yet
-pub list_none : (now : Remaining) → ListTo now now None begun_list
-list_none now = record { run = []; given = given_none now; walked = refl }
-
 -- a run more
 pub list_run : (old mid new : Remaining) (stop : Option ℕ) (list next : BegunList) (run : List ℕ)
     → ListTo old mid None list → Given mid new run stop → walk_list list run ≡ Some next → ListTo old new stop next
@@ -59,14 +55,6 @@ pub record Turn (head places : Places) (old now : Remaining) : Type 0 where
   pub walked : ListTo old now None (record { closed = closed; place = in_spaces 0 })
   pub placed : places ≡ record head { pairs = head.pairs + length closed }
   pub room : length closed + length now.left ≤ length old.left
-
-pub turn_none : (head : Places) (now : Remaining) → Turn head head now now
-turn_none head now = record {
-  closed = [];
-  walked = list_none now;
-  placed = ap (λ n. record head { pairs = n }) (omega arith);
-  room = omega arith;
-}
 
 -- behind the spaces before a parameter
 spaces_walked : (head places : Places) (old mid new : Remaining) (stop : Option ℕ)
@@ -195,15 +183,17 @@ scans_value_stop head places old mid r2 new b m g f ne =
       told = ap (λ places. Stopped b (Some places)) (placed_pair head places m.closed m.placed);
     }
 
--- the bytes of the quoted class that close a value or are no byte of a token
+-- a quote may not stand in a token
 quote_is_no_token : is_token_byte quote_byte ≡ false
 unfolding is_token_byte
 quote_is_no_token = refl
 
+-- nor may a semicolon
 semicolon_is_no_token : is_token_byte semicolon_byte ≡ false
 unfolding is_token_byte
 semicolon_is_no_token = refl
 
+-- a quote may stand in a quoted value, as its first byte
 quote_is_quoted : is_quoted_byte quote_byte ≡ true
 unfolding is_quoted_byte
 quote_is_quoted = refl

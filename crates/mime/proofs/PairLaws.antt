@@ -170,20 +170,6 @@ lowered_within-parts count list lies =
     (ap (take (length list - length cut.rest)) (lowered_first-parts list lies ∙ regrouped (lowered lies.front) value lies.middle cut.rest)
     ∙ take_at (lowered lies.front ++ (value ++ lies.middle)) cut.rest (length list - length cut.rest) long)
 
--- and so it does with its first so many pairs lowered
-pub length-lowered_within : (count : ℕ) (list : List ℕ) → length (lowered_within count list) ≡ length list
-length-lowered_within zero list = refl
-length-lowered_within (suc count) list =
-    let lies = cut_of-lies list in
-    ap length (lowered_within-parts count list lies)
-    ∙ simp (
-      length-append,
-      length-lowered,
-      length-lowered_value (cut_of list).name (cut_of list).value,
-      length-lowered_within count (cut_of list).rest,
-    )
-    (omega (arith, length_parts list (cut_of list) lies))
-
 -- the parts of a text without capitals have none
 low_parts : (front back : List ℕ) → lowered (front ++ back) ≡ front ++ back → (lowered front ≡ front) × (lowered back ≡ back)
 low_parts [] back low = (refl, low)
@@ -200,13 +186,6 @@ low_cut list cut lies low =
     let whole = low_parts lies.front (cut.value ++ (lies.middle ++ cut.rest)) (subst (λ x. lowered x ≡ x) lies.parts low) in
     let behind = low_parts cut.value (lies.middle ++ cut.rest) whole.1 in
     (whole.0, lowered_value-either (λ x. x ≡ cut.value) cut.name cut.value refl behind.0, (low_parts lies.middle cut.rest behind.1).1)
-
--- a list without capitals stays
-pub lowered_first-low : (list : List ℕ) → lowered list ≡ list → lowered_first list ≡ list
-lowered_first-low list low =
-    let lies = cut_of-lies list in
-    let same = low_cut list (cut_of list) lies low in
-    lowered_first-parts list lies ∙ rw (same.0, same.1) (sym lies.parts)
 
 -- and so it does with its first so many pairs lowered
 pub lowered_within-low : (count : ℕ) (list : List ℕ) → lowered list ≡ list → lowered_within count list ≡ list

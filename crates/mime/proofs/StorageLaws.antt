@@ -15,7 +15,7 @@ use Rattle.mime.specs.Storage.{media_of, HoldsParameter, IsStored, lowered_text,
 use Rattle.mime.specs.declared.scan.Places.{Places}
 use Rattle.mime.proofs.LoweringLaws.{lowered-lowered, length-lowered, lowered-append, lowered-take, lowered-drop, lowered_value-lowered, lowered_tree-lowered_tree, AreTokenBytes-lowered, IsToken-lowered, IsWellFormed-lowered_tree, places_of-lowered_tree}
 use Rattle.mime.proofs.Utf8Laws.{IsLoweredInPart, IsLoweredInPart-append, IsLoweredInPart-lowered, IsUtf8-lowered, IsUtf8-lowered_in_part}
-use Rattle.mime.proofs.PairLaws.{bytes_of_token, pairs_within-text_of_list, lowered_within-text_of_list, lowered_within-low, length-lowered_within, lowered_within-in_part}
+use Rattle.mime.proofs.PairLaws.{bytes_of_token, pairs_within-text_of_list, lowered_within-text_of_list, lowered_within-low, lowered_within-in_part}
 
 -- a tree by its parts
 abbrev tree_with : List ℕ → List ℕ → Tail → SyntaxTree
@@ -391,41 +391,6 @@ stored-plus_within text places p stored is =
     at_tree (λ t q. q.plus ≡ Some p → p < unwrap_or q.semicolon (length t)) stored.tree text places stored.spelled stored.placed
     (λ got. rw (essence_end stored.tree) (slice_get_within (essence_of stored.tree) p plus_byte (plus_of-places stored.tree p got).there)) is
 
--- the semicolon stands in the text
-pub stored-semicolon_within : (text : List ℕ) (places : Places) (s : ℕ) → IsStored text places → places.semicolon ≡ Some s
-    → s < length text
-stored-semicolon_within text places s stored is = slice_get_within text s semicolon_byte (stored-semicolon text places s stored is)
-
--- and behind the slash
-pub stored-semicolon_above : (text : List ℕ) (places : Places) (s : ℕ) → IsStored text places → places.semicolon ≡ Some s
-    → places.slash < s
-stored-semicolon_above text places s stored is =
-    subst (λ o. places.slash < unwrap_or o (length text)) is (stored-slash_within text places stored)
-
--- without a semicolon there is no pair
-no_pairs-tail : (at : ℕ) (tail : Tail) → semicolon_of at tail ≡ None → length (pairs_of_tail tail) ≡ 0
-no_pairs-tail at no_list is = refl
-no_pairs-tail at (listed list) is = absurd cc
-
--- a stored text without a semicolon has no pair
-pub stored-no_pairs : (text : List ℕ) (places : Places) → IsStored text places → places.semicolon ≡ None → places.pairs ≡ 0
-stored-no_pairs text places stored is =
-    at_tree (λ t q. q.semicolon ≡ None → q.pairs ≡ 0) stored.tree text places stored.spelled stored.placed
-    (no_pairs-tail (length stored.tree.top + 1 + length stored.tree.sub) stored.tree.tail) is
-
--- a list that holds a parameter has a pair
-pairs-tail : (at s : ℕ) (tail : Tail) → HoldsParameter tail → semicolon_of at tail ≡ Some s → 0 < length (pairs_of_tail tail)
-pairs-tail at s no_list holds is = absurd cc
-pairs-tail at s (listed (blank n)) holds is = absurd holds
-pairs-tail at s (listed (final n p)) holds is = omega arith
-pairs-tail at s (listed (more n p rest)) holds is = omega arith
-
--- a stored text with a semicolon has a pair
-pub stored-pairs : (text : List ℕ) (places : Places) (s : ℕ) → IsStored text places → places.semicolon ≡ Some s → 0 < places.pairs
-stored-pairs text places s stored is =
-    at_tree (λ t q. q.semicolon ≡ Some s → 0 < q.pairs) stored.tree text places stored.spelled stored.placed
-    (pairs-tail (length stored.tree.top + 1 + length stored.tree.sub) s stored.tree.tail stored.kept) is
-
 -- the essence of a lowered tree is small
 low_essence-tree : (tree : SyntaxTree) → lowered (essence_of (lowered_tree tree)) ≡ essence_of (lowered_tree tree)
 low_essence-tree tree =
@@ -445,28 +410,6 @@ low_take n text low = lowered-take n text ∙ ap (take n) low
 -- and what stands behind it
 low_drop : (n : ℕ) (text : List ℕ) → lowered text ≡ text → lowered (drop n text) ≡ drop n text
 low_drop n text low = lowered-drop n text ∙ ap (drop n) low
-
--- so the type is small
-pub stored-low_type : (text : List ℕ) (places : Places) → IsStored text places
-    → lowered (type_of (media_of text places)) ≡ type_of (media_of text places)
-stored-low_type text places stored = low_take places.slash (media_of text places).essence (stored-low_essence text places stored)
-
--- so is the subtype
-pub stored-low_subtype : (text : List ℕ) (places : Places) → IsStored text places
-    → lowered (subtype_of (media_of text places)) ≡ subtype_of (media_of text places)
-stored-low_subtype text places stored =
-    low_take _ (drop (places.slash + 1) (media_of text places).essence)
-    (low_drop (places.slash + 1) (media_of text places).essence (stored-low_essence text places stored))
-
--- so is the suffix
-pub stored-low_suffix : (text : List ℕ) (places : Places) → IsStored text places
-    → IfSome (suffix_of (media_of text places)) (λ suffix. lowered suffix ≡ suffix)
-stored-low_suffix text places stored = go places.plus
-  where
-    go : (plus : Option ℕ)
-        → IfSome (option_map (λ place. drop (place + 1) (media_of text places).essence) plus) (λ suffix. lowered suffix ≡ suffix)
-    go None = tt
-    go (Some place) = low_drop (place + 1) (media_of text places).essence (stored-low_essence text places stored)
 
 -- a lowered value under `charset` is small
 low_value : (name value : List ℕ) → IsTrue (is_charset (lowered name)) → lowered (lowered_value name value) ≡ lowered_value name value
@@ -514,37 +457,6 @@ pub slice_get-semicolon : (text : List ℕ) (places : Places) (s : ℕ) → HasP
 slice_get-semicolon text places s has is =
     at_tree (λ t q. q.semicolon ≡ Some s → slice_get t s ≡ Some semicolon_byte) has.tree text places has.spelled has.placed
     (λ got. (semicolon_of-places has.tree s got).there) is
-
--- an accepted text with a pair has its semicolon
-pub has_places-semicolon : (text : List ℕ) (places : Places) → HasPlaces text places → 0 < places.pairs
-    → (s : ℕ) × (places.semicolon ≡ Some s) × (s < length text)
-has_places-semicolon text places has pairs =
-    at_tree (λ t q. 0 < q.pairs → (s : ℕ) × (q.semicolon ≡ Some s) × (s < length t)) has.tree text places has.spelled has.placed
-    (go has.tree.top has.tree.sub has.tree.tail) pairs
-  where
-    go : (top sub : List ℕ) (tail : Tail) → 0 < length (pairs_of_tail tail)
-        → (s : ℕ) × (semicolon_of (length top + 1 + length sub) tail ≡ Some s)
-        × (s < length (top ++ (slash_byte ∷ (sub ++ text_of_tail tail))))
-    go top sub no_list some = absurd (omega arith)
-    go top sub (listed list) some = (
-      length top + 1 + length sub,
-      refl,
-      slice_get_within _ (length top + 1 + length sub) semicolon_byte
-          (semicolon_of-parts top sub (listed list) (length top + 1 + length sub) refl).there,
-    )
-
--- a text with a pair keeps its length
-pub length-lowered_text : (text : List ℕ) (places : Places) → 0 < places.pairs
-    → length (lowered_text places.pairs places.semicolon text) ≡ length text
-length-lowered_text text places pairs = go places.pairs places.semicolon pairs
-  where
-    go : (count : ℕ) (semicolon : Option ℕ) → 0 < count → length (lowered_text count semicolon text) ≡ length text
-    go zero semicolon pairs = absurd (omega arith)
-    go (suc count) None pairs = length-lowered text
-    go (suc count) (Some s) pairs =
-        length-append (lowered (take (s + 1) text)) (lowered_within (suc count) (drop (s + 1) text))
-        ∙ rw (length-lowered (take (s + 1) text), length-lowered_within (suc count) (drop (s + 1) text))
-        (sym (length-append (take (s + 1) text) (drop (s + 1) text)) ∙ ap length (take-append-drop (s + 1) text))
 
 -- the kept text of a text in UTF-8 is in UTF-8
 pub IsUtf8-lowered_text : (text : List ℕ) (places : Places) → HasPlaces text places → IsUtf8 text

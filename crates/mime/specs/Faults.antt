@@ -1,4 +1,4 @@
--- What a fault prints.
+-- How a refusal is printed.
 use Rattle.std.specs.Prelude.{ℕ, true, List, ◌++◌, codes}
 use Rattle.std.specs.Fmt.{digits, decimal}
 use Rattle.mime.specs.declared.scan.ParseError.{ParseError}
@@ -9,6 +9,7 @@ abbrev pub token_text : ℕ → ℕ → List ℕ
 token_text pos byte =
     codes "an invalid token was encountered, " ++ (digits 16 true byte ++ (codes " at position " ++ decimal pos))
 
+-- what a fault prints
 abbrev pub fault_text : ParseError → List ℕ
 fault_text MissingSlash = codes "a slash (/) was missing between the type and subtype"
 fault_text MissingEqual = codes "an equals sign (=) was missing between a parameter and its value"

@@ -1,6 +1,6 @@
 //! One pass over a text: where its parts are, or why it is refused.
 
-ghost use Rattle.std.specs.Prelude.{◌≡◌, ◌+◌, ◌-◌, ◌<◌, ◌≤◌, ◌^◌, length};
+ghost use Rattle.std.specs.Prelude.{◌+◌, ◌-◌, ◌<◌, ◌^◌, length};
 ghost use Rattle.mime.specs.Bytes.{is_token_byte};
 ghost use Rattle.mime.specs.Grammar.{is_inner_byte};
 ghost use Rattle.mime.specs.Scanning.{is_space, Passes, PassesContent, PassesSubtype, ScansList, Scans};

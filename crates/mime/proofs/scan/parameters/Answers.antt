@@ -26,7 +26,7 @@ named : (c : In-Some-eq61)
     → Named c.args.head c.loop-first.places c.args.reader.now c.loop-first.reader c.token.new.reader
 named c =
     named_from _ _ _ _ _ _ _ _ c.loop-first.invariant c.in-Some.ensures (sym c.is_token.ensures ∙ c.if-not-is_token.false)
-      c.in-Some-eq61.ensures c.in-Some-eq61.field-0-test
+    c.in-Some-eq61.ensures c.in-Some-eq61.field-0-test
 
 pub returns-in_default-next : goal.returns-in_default-next
 returns-in_default-next c =

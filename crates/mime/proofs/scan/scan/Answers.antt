@@ -18,13 +18,13 @@ returns-in-None c =
 pub returns-in-Some-token : goal.returns-in-Some-token
 returns-in-Some-token c =
     scans_type_stop _ _ _ _ _ c.in-Some.ensures (sym c.is_token.ensures ∙ c.if-not-is_token.false) c.in-Some-token.ensures
-      c.in-Some-token.byte-test.1
+    c.in-Some-token.byte-test.1
 
 -- behind the slash
 slashed : (c : After-count) → Slashed (c.count.result - c.count-from.result - 1) c.args.reader.now c.token.new.reader
 slashed c =
     slashed_from _ _ _ _ _ _ c.in-Some.ensures (sym c.is_token.ensures ∙ c.if-not-is_token.false) c.in-Some-eq47.ensures
-      c.in-Some-eq47.field-0-test (omega (arith, c.count.ensures.count, c.count-from.ensures.count))
+    c.in-Some-eq47.field-0-test (omega (arith, c.count.ensures.count, c.count-from.ensures.count))
 
 pub overflow_cast-places : goal.overflow_cast-places
 overflow_cast-places c =
@@ -37,7 +37,7 @@ returns-in_default-next c =
 pub returns-then-not-is_token-2 : goal.returns-then-not-is_token-2
 returns-then-not-is_token-2 c =
     scans_slash_stop _ _ _ _ _ (slashed (goal.at.returns-then-not-is_token-2 c).After-count) c.in-Some-next.ensures
-      (sym c.is_token-2.ensures ∙ c.if-not-is_token-2.true)
+    (sym c.is_token-2.ensures ∙ c.if-not-is_token-2.true)
 
 pub subtype-plus-requires-clause-fits : goal.subtype-plus-requires-clause-fits
 subtype-plus-requires-clause-fits c =
@@ -46,10 +46,10 @@ subtype-plus-requires-clause-fits c =
 -- behind the subtype
 subtyped : (c : After-subtype-plus) → Slashed (c.count.result - c.count-from.result - 1) c.args.reader.now c.token.new.reader
     → Subtyped (c.count.result - c.count-from.result - 1) c.subtype-plus.result.0 c.args.reader.now c.subtype-plus.new.reader
-      c.subtype-plus.result.1
+    c.subtype-plus.result.1
 subtyped c s =
     subtyped_from _ _ _ _ _ _ _ _ s c.in-Some-next.ensures (sym c.is_token-2.ensures ∙ c.if-not-is_token-2.false)
-      c.count-from.ensures.count c.subtype-plus.ensures
+    c.count-from.ensures.count c.subtype-plus.ensures
 
 pub returns-in-None-stop : goal.returns-in-None-stop
 returns-in-None-stop c =
@@ -60,7 +60,7 @@ pub returns-in-Some-stop : goal.returns-in-Some-stop
 returns-in-Some-stop c =
     let here = goal.at.returns-in-Some-stop c in
     scans_subtype_stop _ _ _ _ _ _ (subtyped here.After-subtype-plus (slashed here.After-count)) c.in-Some-stop.is
-      (rw c.in-Some-stop.is at c.in-Some-stop.byte-test.1)
+    (rw c.in-Some-stop.is at c.in-Some-stop.byte-test.1)
 
 -- a place behind the subtype, and all that is left there, fit
 pub overflow_cast-places-2 : goal.overflow_cast-places-2
@@ -75,7 +75,7 @@ pub returns : goal.returns
 returns c =
     let here = goal.at.returns c in
     let place : c.count-2.result - c.count-from.result - 1 ≡ c.subtype-plus.new.reader.count - c.args.reader.now.count - 1 =
-        omega (arith, c.count-2.ensures.count, c.count-from.ensures.count)
+    omega (arith, c.count-2.ensures.count, c.count-from.ensures.count)
     in
     scans_list _ _ _ _ _ _ _ _ _ (subtyped here.After-subtype-plus (slashed here.After-count)) c.in-Some-eq59.is
-      (rw c.in-Some-eq59.field-0-is at c.in-Some-eq59.field-0-test) place c.parameters.ensures
+    (rw c.in-Some-eq59.field-0-is at c.in-Some-eq59.field-0-test) place c.parameters.ensures
