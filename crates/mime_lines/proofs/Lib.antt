@@ -1,0 +1,3 @@
+mod StandardFacts
+mod LineCuts
+mod Rows

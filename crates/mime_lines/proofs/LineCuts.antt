@@ -1,0 +1,41 @@
+-- How lines are cut off one by one.
+use Rattle.std.proofs.Common.{suc, min, ◌-◌, ◌≡◌, ℕ, ◌+◌, ◌<◌, ◌≤◌, Bool, true, false, cond, not, List, [], ◌∷◌, length, take, drop, refl, ap, ◌∙◌, arith, nat_eq, Option, Some, None}
+use Rattle.std.specs.Option.{unwrap_or}
+use Rattle.std.specs.List.{position_or_len, onto_first}
+use Rattle.std.proofs.lemmas.List.Sums.{prefix_len-le-length}
+use Rattle.mime_lines.specs.Report.{lines_of}
+use Rattle.std.proofs.lemmas.Bool.Decides.{nat_tests}
+use Rattle.std.proofs.lemmas.Grind.{common_steps}
+use lib.Dec.{ltb}
+
+-- a number within a bound, or the bound
+unwrap_or-within : (n bound : ℕ) → n ≤ bound → unwrap_or (cond (ltb n bound) (Some n) None) bound ≡ n
+unwrap_or-within n bound h = grind (arith, nat_tests)
+
+-- a place that is found, or the length
+pub unwrap_or-position : (p : ℕ → Bool) (xs : List ℕ) (r : Option ℕ) → r ≡ cond (ltb (position_or_len p xs) (length xs)) (Some (position_or_len p xs)) None → unwrap_or r (length xs) ≡ position_or_len p xs
+unwrap_or-position p xs r e = ap (λ found. unwrap_or found (length xs)) e ∙ unwrap_or-within (position_or_len p xs) (length xs) (prefix_len-le-length (λ x. not (p x)) xs)
+
+-- taking one more from one more
+front-shift : (n b : ℕ) (xs : List ℕ) → (b ∷ take n xs) ∷ lines_of (drop (n + 1) xs) ≡ take (1 + n) (b ∷ xs) ∷ lines_of (drop (1 + n + 1) (b ∷ xs))
+front-shift n b xs =
+    let s : 1 + n ≡ suc n = omega arith in
+    let t : 1 + n + 1 ≡ suc (n + 1) = omega arith in
+    let p : take (1 + n) (b ∷ xs) ≡ b ∷ take n xs = ap (λ k. take k (b ∷ xs)) s in
+    let q : drop (1 + n + 1) (b ∷ xs) ≡ drop (n + 1) xs = ap (λ k. drop k (b ∷ xs)) t in
+    cc
+
+-- one more byte in front of bytes whose first line is known
+front-lines : (is_end : Bool) (n b : ℕ) (bytes : List ℕ) → (0 < length bytes → lines_of bytes ≡ take n bytes ∷ lines_of (drop (n + 1) bytes)) → (length bytes ≡ 0 → n ≡ 0) → cond is_end ([] ∷ lines_of bytes) (onto_first b (lines_of bytes)) ≡ take (cond (not is_end) (1 + n) 0) (b ∷ bytes) ∷ lines_of (drop (cond (not is_end) (1 + n) 0 + 1) (b ∷ bytes))
+front-lines true n b bytes cut none = refl
+front-lines false n b [] cut none = rw (none refl) refl
+front-lines false n b (c ∷ bytes) cut none = ap (onto_first b) (cut (omega arith)) ∙ front-shift n b (c ∷ bytes)
+
+-- the first line, and the lines behind its end
+pub lines_of-first : (bytes : List ℕ) → 0 < length bytes → lines_of bytes ≡ take (position_or_len (λ b. nat_eq b 10) bytes) bytes ∷ lines_of (drop (position_or_len (λ b. nat_eq b 10) bytes + 1) bytes)
+lines_of-first [] h = absurd (omega arith)
+lines_of-first (b ∷ bytes) h = front-lines (nat_eq b 10) (position_or_len (λ b. nat_eq b 10) bytes) b bytes (lines_of-first bytes) (λ e. omega (arith, prefix_len-le-length (λ b. not (nat_eq b 10)) bytes))
+
+-- what stands behind a place that may be the end
+pub drop-behind : (n : ℕ) (xs : List ℕ) → drop (n + 1) xs ≡ take (length xs - min (n + 1) (length xs)) (drop (min (n + 1) (length xs)) xs)
+drop-behind n xs = grind (arith, common_steps)

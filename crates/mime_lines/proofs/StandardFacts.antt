@@ -1,0 +1,36 @@
+-- Worked examples of lines and rows, by computation, so that a wrong definition doesn't check.
+use Rattle.std.proofs.Common.{◌≡◌, [], ◌∷◌, refl, codes}
+use Rattle.std.specs.Prelude.{Some}
+use Rattle.mime_lines.specs.Report.{lines_of, row, value_rows}
+
+-- no bytes have no line
+no_lines : lines_of [] ≡ []
+no_lines = refl
+
+-- byte 10 alone ends one empty line
+one_empty_line : lines_of (10 ∷ []) ≡ [] ∷ []
+one_empty_line = refl
+
+-- the last line may lack its end
+last_line_without_end : lines_of (codes "a/b\n\nc") ≡ codes "a/b" ∷ [] ∷ codes "c" ∷ []
+last_line_without_end = refl
+
+-- byte 13 belongs to its line
+line_with_return : lines_of (codes "a\r\nb\n") ≡ codes "a\r" ∷ codes "b" ∷ []
+line_with_return = refl
+
+-- an empty subtype leaves a space at the end of its row
+empty_row : row (codes "subtype ") [] ≡ codes "subtype \n"
+empty_row = refl
+
+-- the rows of a value with a suffix and a parameter
+rows_of_value :
+    value_rows (record {
+      essence = codes "text/html+xml";
+      slash = 4;
+      plus = Some 9;
+      pairs = (codes "q", codes "1") ∷ [];
+      kept = codes "text/html+xml;q=1";
+    })
+    ≡ codes "ok text/html+xml;q=1\ntype text\nsubtype html\nsuffix xml\nparam q=1\n"
+rows_of_value = refl

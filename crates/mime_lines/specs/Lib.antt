@@ -1,0 +1,2 @@
+-- the trusted page
+pub mod Report

@@ -1,0 +1,101 @@
+//! What the program reads from and writes to: a source, a sink, and a device that is either.
+
+ghost use Rattle.std.specs.Prelude.{◌≡◌, List, ℕ, Bool, true, Option, OnOk, OnErr};
+ghost use Rattle.std.specs.Io.{ReadsAtMost};
+ghost use Rattle.std.specs.Io.KnownBytes.{ReadConsumes, Appends, Keeps};
+
+use std::io::{Read, Write};
+
+/// A read, a write or a flush failed.
+#[derive(Clone, Copy, PartialEq, Eq, Debug)]
+pub struct Failed;
+
+/// What can be read from.
+pub trait Source {
+    /// The bytes that are left to read, where they are told.
+    ghost left: { Self → Option (List ℕ) };
+    /// The mark "has failed".
+    ghost has_failed: { Self → Bool };
+
+    /// Puts bytes at the front of a buffer, and gives their number: 0 for a buffer that isn't
+    /// empty is the end.
+    fn read(&mut self, buf: &mut [u8]) -> Result<usize, Failed>
+        ensures bound { ReadsAtMost result buf.new }
+        ensures bytes { ReadConsumes (left self.old) (left self.new) result buf.new }
+        // A failure sets the mark, and nothing else changes it.
+        ensures failed { OnErr result (has_failed self.new ≡ true) }
+        ensures unfailed { OnOk result (has_failed self.new ≡ has_failed self.old) };
+}
+
+/// What can be written to.
+pub trait Sink {
+    /// The bytes that it holds, where they are told.
+    ghost held: { Self → Option (List ℕ) };
+    /// The mark "has failed".
+    ghost has_failed: { Self → Bool };
+
+    /// Writes all of the bytes. How many were written before a failure isn't told.
+    fn write_all(&mut self, bytes: &[u8]) -> Result<(), Failed>
+        ensures bytes { OnOk result (Appends (held self.old) (held self.new) bytes.now) }
+        // A failure sets the mark, and nothing else changes it.
+        ensures failed { OnErr result (has_failed self.new ≡ true) }
+        ensures unfailed { OnOk result (has_failed self.new ≡ has_failed self.old) };
+
+    /// Passes on what was written.
+    fn flush(&mut self) -> Result<(), Failed>
+        ensures bytes { Keeps (held self.old) (held self.new) }
+        // A failure sets the mark, and nothing else changes it.
+        ensures failed { OnErr result (has_failed self.new ≡ true) }
+        ensures unfailed { OnOk result (has_failed self.new ≡ has_failed self.old) };
+}
+
+/// A reader as a source, a writer as a sink. Each call is handed to the inner call of its name.
+#[derive(Drop)]
+pub struct Device<T> {
+    /// The reader or writer.
+    pub inner: T,
+    /// Whether a call has failed.
+    pub failed: bool,
+}
+
+impl<T: Read> Source for Device<T> {
+    ghost left = { λ device. T.remaining device.inner };
+
+    ghost has_failed = { λ device. device.failed };
+
+    fn read(&mut self, buf: &mut [u8]) -> Result<usize, Failed> {
+        match self.inner.read(buf) {
+            Ok(count) => Ok(count),
+            Err(_) => {
+                self.failed = true;
+                Err(Failed)
+            }
+        }
+    }
+}
+
+impl<T: Write> Sink for Device<T> {
+    ghost held = { λ device. T.contents device.inner };
+
+    ghost has_failed = { λ device. device.failed };
+
+    fn write_all(&mut self, bytes: &[u8]) -> Result<(), Failed> {
+        match self.inner.write_all(bytes) {
+            Ok(()) => Ok(()),
+            Err(_) => {
+                self.failed = true;
+                Err(Failed)
+            }
+        }
+    }
+
+    fn flush(&mut self) -> Result<(), Failed> {
+        match self.inner.flush() {
+            Ok(()) => Ok(()),
+            Err(_) => {
+                self.failed = true;
+                Err(Failed)
+            }
+        }
+    }
+}

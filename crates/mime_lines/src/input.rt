@@ -1,0 +1,71 @@
+//! What the program takes in: all bytes of a source up to a limit, and their lines.
+
+ghost use Rattle.std.specs.Prelude.{◌≡◌, ◌≢◌, ℕ, ◌<◌, ◌≤◌, ◌∷◌, ◌==◌, length, true, OnOk, IfOk, IfErr, IfSome};
+ghost use Rattle.std.specs.List.{position_or_len};
+ghost use Rattle.std.specs.Io.KnownBytes.{Consumes, IsAtEnd};
+ghost use Rattle.mime_lines.specs.Report.{lines_of};
+
+use crate::device::Source;
+use crate::error::RunError;
+use std::alloc::Global;
+
+/// How many bytes of input are taken at most.
+const LIMIT: usize = 1_048_576;
+
+/// How many bytes are asked for at a time.
+const BLOCK: usize = 8192;
+
+/// Reads a source to its end, and no further than one byte past the limit.
+pub(crate) fn read_to_limit<S: Source>(alloc: Global, source: &mut S) -> Result<Vec<u8>, RunError>
+    // What was left is read to its end, within the limit.
+    ensures bytes { IfOk result (λ input. Consumes (S.left source.old) (S.left source.new) input.items) }
+    ensures end { OnOk result (IsAtEnd (S.left source.new)) }
+    ensures limit { IfOk result (λ input. length input.items ≤ 1048576) }
+    // The source fails exactly where the answer is `Read`.
+    ensures read { result ≡ Err RunError.Read → S.has_failed source.new ≡ true }
+    ensures unfailed { result ≢ Err RunError.Read → S.has_failed source.new ≡ S.has_failed source.old }
+    // Too much was given where the answer is `TooLong`; it is never `Write`.
+    ensures too_long { result ≡ Err RunError.TooLong → IfSome (S.left source.old) (λ bytes. 1048576 < length bytes) }
+    ensures no_write { result ≢ Err RunError.Write }
+{
+    let mut input = Vec::new(alloc);
+    let mut block = [0u8; BLOCK];
+    loop {
+        let room = (LIMIT + 1 - input.len()).min(BLOCK);
+        let count = match source.read(&mut block[..room]) {
+            Ok(count) => count,
+            Err(_) => return Err(RunError::Read),
+        };
+        if count == 0 {
+            return Ok(input);
+        }
+        if count > LIMIT - input.len() {
+            return Err(RunError::TooLong);
+        }
+        if input.extend_from_slice(&block[..count]).is_err() {
+            return Err(RunError::NoMemory);
+        }
+    }
+}
+
+/// How many bytes stand before the first end of a line, or before the end of the input.
+fn line_len(input: &[u8]) -> usize
+    ensures line { result ≡ position_or_len (λ byte. byte == 10) input.now }
+    ensures within { result ≤ length input.now }
+{
+    input
+        .iter()
+        .position(|byte| *byte == b'\n')
+        .unwrap_or(input.len())
+}
+
+/// The first line of an input that isn't empty, and what stands behind its end.
+pub(crate) fn first_line(input: &[u8]) -> (&[u8], &[u8])
+    requires { 0 < length input.now }
+    ensures lines { lines_of input.now ≡ result.0.now ∷ lines_of result.1.now }
+    ensures shorter { length result.1.now < length input.now }
+{
+    let end = line_len(input);
+    let next = (end + 1).min(input.len());
+    (&input[..end], &input[next..])
+}

@@ -1,0 +1,75 @@
+//! The report on an input, line by line.
+
+ghost use Rattle.std.specs.Prelude.{◌≡◌, ℕ, List, ◌++◌, OnOk, IfOk, string_bytes};
+ghost use Rattle.mime_lines.specs.Report.{row, param_rows, value_rows, ReportsLine, IsReportOf};
+
+use crate::input::first_line;
+use mime::{Mime, ParseError};
+use std::alloc::{AllocError, Global};
+
+/// The report on an input.
+pub(crate) fn report_of(alloc: Global, input: &[u8]) -> Result<String, AllocError>
+    ensures { IfOk result (λ report. IsReportOf input.now (string_bytes report)) }
+{
+    let mut report = String::new(alloc);
+    let mut rest = input;
+    while !rest.is_empty() {
+        let (line, more) = first_line(rest);
+        push_line(alloc, &mut report, line)?;
+        rest = more;
+    }
+    Ok(report)
+}
+
+/// Adds the report on a line.
+fn push_line(alloc: Global, report: &mut String, line: &[u8]) -> Result<(), AllocError>
+    ensures { OnOk result ((rows : List ℕ) × ReportsLine line.now rows × (string_bytes report.new ≡ string_bytes report.old ++ rows)) }
+{
+    let Ok(text) = str::from_utf8(line) else {
+        return push_row(report, "not text", "");
+    };
+    match Mime::from_str(alloc, text) {
+        Ok(mime) => push_value(report, &mime),
+        Err(error) => match error.fault() {
+            ParseError::NoMemory => Err(AllocError),
+            _ => {
+                let shown = format!(in alloc; "{error}")?;
+                push_row(report, "bad ", shown.as_str())
+            }
+        },
+    }
+}
+
+/// Adds the rows of a media type.
+fn push_value(report: &mut String, mime: &Mime) -> Result<(), AllocError>
+    ensures { OnOk result (string_bytes report.new ≡ string_bytes report.old ++ value_rows mime.now.media) }
+{
+    push_row(report, "ok ", mime.as_str())?;
+    push_row(report, "type ", mime.type_().as_str())?;
+    push_row(report, "subtype ", mime.subtype().as_str())?;
+    if let Some(suffix) = mime.suffix() {
+        push_row(report, "suffix ", suffix.as_str())?;
+    }
+    push_params(report, mime)
+}
+
+/// Adds a row for each parameter.
+fn push_params(report: &mut String, mime: &Mime) -> Result<(), AllocError>
+    ensures { OnOk result (string_bytes report.new ≡ string_bytes report.old ++ param_rows mime.now.media.pairs) }
+{
+    for (name, value) in mime.params() {
+        report.push_str("param ")?;
+        report.push_str(name.as_str())?;
+        push_row(report, "=", value.as_str())?;
+    }
+    Ok(())
+}
+
+/// Adds a row.
+fn push_row(report: &mut String, label: &str, text: &str) -> Result<(), AllocError>
+    ensures { OnOk result (string_bytes report.new ≡ string_bytes report.old ++ row label.now text.now) }
+{
+    report.push_str(label)?;
+    report.push_str(text)?;
+    report.push_str("\n")
+}
