@@ -10,7 +10,7 @@ use Rattle.mime.specs.declared.scan.Places.{Places}
 use Rattle.mime.specs.declared.scan.Verdict.TheVariants.{Accepted, Unfinished, Stopped}
 use Rattle.mime.specs.declared.scan.ParseError.TheVariants.{MissingEqual, MissingQuote}
 use Rattle.mime.specs.Scanning.{is_space, Given, GivesFirst, Passes, PassesContent, IsBegunContent, continues_content, ScansList, places_of_list}
-use Rattle.mime.proofs.Passing.{given_then, given_whole, given_none, given_less, given_at_most}
+use Rattle.mime.proofs.Passing.{given_then, given_whole, given_less, given_at_most}
 use Rattle.mime.proofs.Walks.{walk_list-append_some, walk_list-spaces, walk_list-name, walk_list-value, walk_list-quotes, walk_list-behind_quotes}
 
 -- a list was walked to a place, with the byte behind it, if any

@@ -1,5 +1,5 @@
 -- Where the parts of a stored text begin and end, as places of characters; and the one text that is never copied.
-use Rattle.std.proofs.Common.{◌≡◌, ℕ, zero, suc, ◌+◌, ◌<◌, ◌≤◌, true, List, [], ◌∷◌, length, take, drop, get_or, Option, Some, None, refl, sym, ap, ◌∙◌, subst, arith, length-take, lit<}
+use Rattle.std.proofs.Common.{◌≡◌, ℕ, zero, suc, ◌+◌, ◌<◌, ◌≤◌, true, List, [], ◌∷◌, length, take, drop, Option, Some, None, refl, sym, ap, ◌∙◌, subst, arith, length-take, lit<}
 use Rattle.std.specs.Prelude.{◌≢◌, Result, Ok, Err, IfErr, unwrap_or, slice_get, IsUtf8, codes}
 use Rattle.std.specs.List.{AllByRecursion}
 use Rattle.std.specs.Str.{IsCharBoundary, bytes_eq}
@@ -11,7 +11,7 @@ use Rattle.mime.specs.Values.{lowered, value_of, IsAccepted, IsRefused}
 use Rattle.mime.specs.Refusals.{IsFault, Explains}
 use Rattle.mime.specs.declared.scan.ParseError.{ParseError}
 use Rattle.mime.specs.declared.scan.ParseError.TheVariants.{MissingSlash, MissingEqual, MissingQuote, InvalidToken, NoMemory}
-use Rattle.mime.specs.Grammar.{SyntaxTree, no_list, IsWellFormed, text_of}
+use Rattle.mime.specs.Grammar.{SyntaxTree, no_list, IsWellFormed}
 use Rattle.mime.specs.Scanning.{HasPlaces, places_of}
 use Rattle.mime.specs.Items.{item_of, items_of, IsLowItem}
 use Rattle.mime.specs.Pairs.{cut_of, pairs_within}

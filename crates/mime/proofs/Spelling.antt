@@ -8,7 +8,7 @@ use Rattle.std.specs.List.{list_all}
 use Rattle.std.specs.Option.{option_and_then, option_map}
 use Rattle.mime.specs.Bytes.{is_token_byte, is_quoted_byte, slash_byte, semicolon_byte, equals_byte, quote_byte, space_byte}
 use Rattle.mime.specs.Grammar.{Parameter, plain, quoted, Parameters, blank, final, more, listed, spaces, text_of_parameter, text_of_list, text_of, AreTokenBytes, IsToken, is_inner_byte, IsContent, IsInnerParameter, AreParameters, IsWellFormed}
-use Rattle.mime.specs.Begun.{Begun, in_type, in_subtype, in_list, BegunList, ListPlace, in_spaces, in_name, in_value, in_quotes, behind_quotes, grow, grow_place, grow_list, walk, walk_from, with_closed, ended, ended_list, tree_of}
+use Rattle.mime.specs.Begun.{Begun, in_type, in_subtype, in_list, BegunList, ListPlace, in_spaces, in_name, in_value, in_quotes, behind_quotes, grow, grow_place, grow_list, walk_from, with_closed, ended, ended_list, tree_of}
 
 -- ---- begun trees: their texts, and that each part is in its class
 

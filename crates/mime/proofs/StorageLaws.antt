@@ -1,14 +1,14 @@
 -- What an accepted text is kept as, and what a kept text gives.
 use Rattle.std.proofs.Common.{◌≡◌, ℕ, zero, suc, ◌+◌, ◌<◌, ◌≤◌, Bool, true, false, cond, List, [], ◌∷◌, ◌++◌, length, take, drop, Option, Some, None, refl, sym, ap, ◌∙◌, subst, arith, append-nil, append_assoc, length-append}
-use Rattle.std.specs.Prelude.{slice_get, unwrap_or, IfSome, IsUtf8, IsTrue, ◌==◌}
-use Rattle.std.specs.Option.{option_or, option_map}
+use Rattle.std.specs.Prelude.{slice_get, unwrap_or, IsUtf8, IsTrue, ◌==◌}
+use Rattle.std.specs.Option.{option_or}
 use Rattle.std.proofs.lemmas.Bool.{cond-true, eqb-true}
 use Rattle.std.proofs.lemmas.List.{take_at, drop_at, take_all, take-append-drop, length-take-le}
 use Rattle.std.proofs.lemmas.Option.{slice_get_within, get_or_from_slice_get}
 use Rattle.std.proofs.lemmas.Str.{IsUtf8-take, IsCharBoundary-before_ascii}
 use Rattle.mime.specs.Bytes.{slash_byte, plus_byte, semicolon_byte}
 use Rattle.mime.specs.Grammar.{Parameter, plain, quoted, Parameters, blank, final, more, Tail, no_list, listed, SyntaxTree, text_of, text_of_tail, text_of_list, IsToken, AreTokenBytes, AreParameters, AreSubtypeAndTail, IsWellFormed}
-use Rattle.mime.specs.Values.{MediaType, Reads, value_of, essence_of, kept_text, type_of, subtype_of, suffix_of, lowered, is_charset, lowered_value, lowered_parameter, lowered_list, lowered_tail, lowered_tree, last_plus, pair_of, pairs_of_list, pairs_of_tail}
+use Rattle.mime.specs.Values.{MediaType, Reads, value_of, essence_of, kept_text, lowered, is_charset, lowered_value, lowered_parameter, lowered_list, lowered_tail, lowered_tree, last_plus, pair_of, pairs_of_list, pairs_of_tail}
 use Rattle.mime.specs.Pairs.{pairs_within, lowered_within}
 use Rattle.mime.specs.Scanning.{HasPlaces, places_of, semicolon_of}
 use Rattle.mime.specs.Storage.{media_of, HoldsParameter, IsStored, lowered_text, kept_places, IsLowPair, AreLowPairs}

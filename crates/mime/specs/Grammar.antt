@@ -1,6 +1,6 @@
 -- What the text of a media type is: its trees, the text of each, and which are well formed
 -- (RFC 7231, 3.1.1.1, with the departures that docs/DIFFERENCES.md lists).
-use Rattle.std.specs.Prelude.{◌≡◌, ℕ, List, [], ◌∷◌, ◌++◌, replicate, ◌==◌, ◌&&◌, not, Bool, IsTrue}
+use Rattle.std.specs.Prelude.{ℕ, List, [], ◌∷◌, ◌++◌, replicate, ◌==◌, ◌&&◌, not, Bool, IsTrue}
 use Rattle.std.specs.List.{list_all}
 use Rattle.mime.specs.Bytes.{is_token_byte, is_quoted_byte, slash_byte, semicolon_byte, equals_byte, quote_byte, space_byte}
 

@@ -69,11 +69,7 @@ pub(crate) fn eq_ignoring_case(a: &[u8], b: &[u8]) -> bool
 pub fn name_eq_str(name: &Name<'_>, s: &str) -> bool
     ensures { IsTrue result ↔ NameIs name.now.text.now name.now.ignores_case s.now }
 {
-    if name.ignores_case {
-        eq_ignoring_case(name.text.as_bytes(), s.as_bytes())
-    } else {
-        name.text == s
-    }
+    name.text == s || name.ignores_case && eq_ignoring_case(name.text.as_bytes(), s.as_bytes())
 }
 
 /// A key that looks a parameter up by its name, with [`Mime::get_param`](crate::Mime::get_param).

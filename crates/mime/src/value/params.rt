@@ -46,6 +46,7 @@ impl<'a> Iterator for Params<'a> {
 
     ghost remaining = { item_count (λ params. params) };
 
+    #[inline(always)]
     fn next(&mut self) -> Option<(Name<'a>, Name<'a>)> {
         if self.left == 0 {
             return None;

@@ -1,6 +1,4 @@
 -- The kept text reads as the value.
-use Rattle.std.proofs.Common.{◌≡◌, subst, sym}
-use Rattle.mime.specs.Values.{Reads}
 use Rattle.mime.proofs.StorageLaws.{reads-from_stored}
 use Rattle.mime.proofs.value.Mime.as_str.Goals as goal
 

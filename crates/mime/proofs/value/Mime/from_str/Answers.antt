@@ -1,5 +1,5 @@
 -- The scanner's verdict is what the call answers.
-use Rattle.std.proofs.Common.{◌≡◌, List, ℕ, [], ◌∷◌, subst}
+use Rattle.std.proofs.Common.{subst}
 use Rattle.mime.specs.Values.{IsRefused}
 use Rattle.mime.specs.Refusals.{IsFault}
 use Rattle.mime.specs.Scanning.{HasPlaces}

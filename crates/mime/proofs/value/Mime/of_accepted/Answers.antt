@@ -1,5 +1,5 @@
 -- An accepted text is stored, and reads as the value of what is stored.
-use Rattle.std.proofs.Common.{◌≡◌, ◌∙◌, ℕ, List, ◌∷◌, [], subst, sym}
+use Rattle.std.proofs.Common.{◌≡◌, ◌∙◌, ◌∷◌, [], subst, sym}
 use Rattle.std.specs.Cmp.Lexicographic.{same_text}
 use Rattle.mime.specs.Scanning.{HasPlaces}
 use Rattle.mime.specs.Values.{Reads}

@@ -1,6 +1,5 @@
 -- The list begins behind the semicolon, and its items are small.
-use Rattle.std.proofs.Common.{◌≡◌, ◌∙◌, ap, drop, ◌+◌, subst, sym, lit<}
-use Rattle.mime.specs.Stored.{bytes_of}
+use Rattle.std.proofs.Common.{◌∙◌, ap, drop, ◌+◌, subst, lit<}
 use Rattle.std.specs.Str.{IsUtf8}
 use Rattle.mime.proofs.StorageLaws.{stored-semicolon}
 use Rattle.mime.proofs.PartLaws.{boundary_behind, stored-low_items}

@@ -1,5 +1,5 @@
 -- The subtype lies between characters of the essence, and is small.
-use Rattle.std.proofs.Common.{◌≡◌, refl, ap, sym, ◌∙◌, subst}
+use Rattle.std.proofs.Common.{refl, ap, sym, ◌∙◌, subst}
 use Rattle.std.specs.Str.{IsCharBoundary}
 use Rattle.mime.proofs.PartLaws.{stored-subtype_start, stored-subtype_end, stored-low_range}
 use Rattle.mime.proofs.value.Mime.subtype.Goals as goal

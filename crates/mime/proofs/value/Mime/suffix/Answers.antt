@@ -1,5 +1,5 @@
 -- The suffix begins at a character of the essence, and is small.
-use Rattle.std.proofs.Common.{◌≡◌, ap, sym, ◌∙◌, arith}
+use Rattle.std.proofs.Common.{ap, sym, ◌∙◌, arith}
 use Rattle.mime.proofs.PartLaws.{stored-suffix_start, stored-low_drop}
 use Rattle.mime.proofs.value.Mime.suffix.Goals as goal
 

@@ -1,5 +1,5 @@
 -- As many items are left as the count says.
-use Rattle.std.proofs.Common.{◌≡◌, ℕ, length, Some, ap, sym, ◌∙◌, arith}
+use Rattle.std.proofs.Common.{◌≡◌, length, Some, ap, sym, ◌∙◌, arith}
 use Rattle.mime.proofs.PartLaws.{length-items_of}
 use Rattle.mime.proofs.value.params.ParamsIterator.size_hint.Goals as goal
 

@@ -1,0 +1,8 @@
+//! Tests of the crate `mime` with all memory taken: what asks for none succeeds, and what asks is
+//! refused.
+#![tactic(auto)]
+
+#[cfg(test)]
+mod refused;
+#[cfg(test)]
+mod taken;

@@ -1,0 +1,142 @@
+//! The one fault of each refused text, and its printed form.
+
+use mime::{Mime, ParseError};
+use std::alloc::Global;
+use std::process::Abort;
+use std::test::Fail;
+
+const SLASH: &str = "a slash (/) was missing between the type and subtype";
+
+const EQUAL: &str = "an equals sign (=) was missing between a parameter and its value";
+
+const QUOTE: &str = "a quote (\") was missing from a parameter value";
+
+/// A text is refused with this fault, which prints so.
+fn check_fault(
+    rt: &impl Abort,
+    alloc: Global,
+    text: &str,
+    expected: ParseError,
+    words: &str,
+) -> Result<(), Fail> {
+    let Err(error) = Mime::from_str(alloc, text) else {
+        panic!(rt; "{text:?} is accepted");
+    };
+    assert_eq!(rt; *error.fault(), expected, "{text:?}");
+    let printed = format!(in alloc; "{}", error.fault())?;
+    assert_eq!(rt; printed.as_str(), words, "{text:?}");
+    let sentence = format!(in alloc; "mime parse error: {words}")?;
+    assert_eq!(rt;
+        error.to_string(alloc)?.as_str(),
+        sentence.as_str(),
+        "{text:?}"
+    );
+    // A width is ignored.
+    assert_eq!(rt;
+        format!(in alloc; "{error:99}")?.as_str(),
+        sentence.as_str(),
+        "{text:?}"
+    );
+    assert_eq!(rt;
+        format!(in alloc; "{:>99}", error.fault())?.as_str(),
+        words,
+        "{text:?}"
+    );
+    Ok(())
+}
+
+#[test]
+fn what_is_missing_at_the_end(rt: HostRuntime) -> Result<(), Fail> {
+    const CASES: [(&str, ParseError, &str); 7] = [
+        ("", ParseError::MissingSlash, SLASH),
+        ("text", ParseError::MissingSlash, SLASH),
+        ("a/b;p", ParseError::MissingEqual, EQUAL),
+        ("a/b;p=x;   charset", ParseError::MissingEqual, EQUAL),
+        ("a/b;p=\"\"", ParseError::MissingQuote, QUOTE),
+        ("a/b;p=\"", ParseError::MissingQuote, QUOTE),
+        ("a/b;p=\"x, c/d; q=é", ParseError::MissingQuote, QUOTE),
+    ];
+    for (text, expected, words) in CASES {
+        check_fault(&rt, rt.alloc(), text, expected, words)?;
+    }
+    let mut long = String::from_str(rt.alloc(), "a/b;p=\"")?;
+    for _ in 0..100_000 {
+        long.push(',')?;
+    }
+    check_fault(
+        &rt,
+        rt.alloc(),
+        long.as_str(),
+        ParseError::MissingQuote,
+        QUOTE,
+    )
+}
+
+#[test]
+fn the_byte_where_no_media_type_goes_on(rt: HostRuntime) -> Result<(), Fail> {
+    const CASES: [(&str, usize, u8, &str); 32] = [
+        // An empty subtype or value, and spaces, in the wrong place.
+        ("a b", 1, 0x20, "20 at position 1"),
+        ("no slash", 2, 0x20, "20 at position 2"),
+        ("f o o / bar", 1, 0x20, "20 at position 1"),
+        ("/b", 0, 0x2F, "2F at position 0"),
+        ("a//", 2, 0x2F, "2F at position 2"),
+        ("text/;", 5, 0x3B, "3B at position 5"),
+        ("a/b ;p=x", 3, 0x20, "20 at position 3"),
+        ("a/b;;", 4, 0x3B, "3B at position 4"),
+        ("a/b;=x", 4, 0x3D, "3D at position 4"),
+        ("a/b;p ", 5, 0x20, "20 at position 5"),
+        ("a/b;p=;", 6, 0x3B, "3B at position 6"),
+        ("a/b;p=x ;q=y", 7, 0x20, "20 at position 7"),
+        ("a/b;p= x", 6, 0x20, "20 at position 6"),
+        // Quotes.
+        ("\"", 0, 0x22, "22 at position 0"),
+        ("a/b;p=x\"", 7, 0x22, "22 at position 7"),
+        ("a/b;p=\"\"\"\"", 9, 0x22, "22 at position 9"),
+        ("a/b;p=\"x\"junk", 9, 0x6A, "6A at position 9"),
+        ("a/b;p=\"x\" junk", 10, 0x6A, "6A at position 10"),
+        // Controls, and the byte 127.
+        ("a/b;p=\"é\t\"", 9, 0x9, "9 at position 9"),
+        ("a/b;p=\"x\u{7F}\"", 8, 0x7F, "7F at position 8"),
+        ("text/plain;\r\ncharset=utf-8", 11, 0xD, "D at position 11"),
+        ("text/plain; charset=\r\nutf-8", 20, 0xD, "D at position 20"),
+        (
+            "text/plain; charset=\"\r\nutf-8\"",
+            21,
+            0xD,
+            "D at position 21",
+        ),
+        ("text\n/plain", 4, 0xA, "A at position 4"),
+        ("text\r/plain", 4, 0xD, "D at position 4"),
+        ("text/\r\nplain", 5, 0xD, "D at position 5"),
+        // The first byte of a character past ASCII, wherever a quoted value isn't open.
+        ("é/b", 0, 0xC3, "C3 at position 0"),
+        ("a/é", 2, 0xC3, "C3 at position 2"),
+        ("a/b;é=x", 4, 0xC3, "C3 at position 4"),
+        ("a/b;p=é", 6, 0xC3, "C3 at position 6"),
+        ("a/b;p=\"x\"é", 9, 0xC3, "C3 at position 9"),
+        ("a/b;p=\"é\"😀", 10, 0xF0, "F0 at position 10"),
+    ];
+    for (text, pos, byte, place) in CASES {
+        let expected = ParseError::InvalidToken { pos, byte };
+        let words = format!(in rt.alloc(); "an invalid token was encountered, {place}")?;
+        check_fault(&rt, rt.alloc(), text, expected, words.as_str())?;
+    }
+    Ok(())
+}
+
+#[test]
+fn controls_end_a_quoted_value(rt: HostRuntime) -> Result<(), Fail> {
+    for byte in 0..32u8 {
+        let mut text = String::from_str(rt.alloc(), "a/b;p=\"")?;
+        text.push(byte as char)?;
+        let expected = ParseError::InvalidToken { pos: 7, byte };
+        let high = if byte < 16 { "" } else { "1" };
+        let low = byte % 16;
+        let words = format!(in rt.alloc();
+            "an invalid token was encountered, {high}{low:X} at position 7"
+        )?;
+        check_fault(&rt, rt.alloc(), text.as_str(), expected, words.as_str())?;
+    }
+    Ok(())
+}

@@ -1,0 +1,187 @@
+//! Names: the constants, and how names compare, are hashed and are printed.
+
+ghost use Rattle.std.specs.Prelude.{◌+◌, ◌*◌, ◌%◌, ◌^◌, fold};
+
+use mime::{
+    APPLICATION, AUDIO, BASIC, BMP, BOUNDARY, CHARSET, CSS, CSV, EVENT_STREAM, FONT, FORM_DATA,
+    GIF, HTML, IMAGE, JAVASCRIPT, JPEG, JSON, MESSAGE, MODEL, MP4, MPEG, MSGPACK, MULTIPART, Mime,
+    Name, OCTET_STREAM, OGG, PDF, PLAIN, PNG, STAR, SVG, TEXT, TextKey, UTF_8, VCARD, VIDEO, WOFF,
+    WOFF2, WWW_FORM_URLENCODED, XML, name_eq_str,
+};
+use std::cmp::Ordering;
+use std::hash::{Hash, Hasher};
+use std::process::Abort;
+use std::test::Fail;
+
+fn has_capital(text: &str) -> bool {
+    for byte in text.as_bytes() {
+        if byte.is_ascii_uppercase() {
+            return true;
+        }
+    }
+    false
+}
+
+fn check_constant(rt: &impl Abort, name: Name<'_>, text: &str) {
+    assert!(rt; name.as_str() == text, "{text}");
+    assert!(rt; !has_capital(name.as_str()), "{text}");
+    assert!(rt; name.ignores_case, "{text}");
+}
+
+#[test]
+fn constants_have_their_texts(rt: HostRuntime) {
+    const CASES: [(Name<'static>, &str); 38] = [
+        (STAR, "*"),
+        (TEXT, "text"),
+        (IMAGE, "image"),
+        (AUDIO, "audio"),
+        (VIDEO, "video"),
+        (APPLICATION, "application"),
+        (MULTIPART, "multipart"),
+        (MESSAGE, "message"),
+        (MODEL, "model"),
+        (FONT, "font"),
+        (PLAIN, "plain"),
+        (HTML, "html"),
+        (XML, "xml"),
+        (JAVASCRIPT, "javascript"),
+        (CSS, "css"),
+        (CSV, "csv"),
+        (EVENT_STREAM, "event-stream"),
+        (VCARD, "vcard"),
+        (JSON, "json"),
+        (WWW_FORM_URLENCODED, "x-www-form-urlencoded"),
+        (MSGPACK, "msgpack"),
+        (OCTET_STREAM, "octet-stream"),
+        (PDF, "pdf"),
+        (WOFF, "woff"),
+        (WOFF2, "woff2"),
+        (FORM_DATA, "form-data"),
+        (BMP, "bmp"),
+        (GIF, "gif"),
+        (JPEG, "jpeg"),
+        (PNG, "png"),
+        (SVG, "svg"),
+        (BASIC, "basic"),
+        (MPEG, "mpeg"),
+        (MP4, "mp4"),
+        (OGG, "ogg"),
+        (CHARSET, "charset"),
+        (BOUNDARY, "boundary"),
+        (UTF_8, "utf-8"),
+    ];
+    for (name, text) in CASES {
+        check_constant(&rt, name, text);
+    }
+}
+
+/// A name that minds case.
+const fn exact(text: &'static str) -> Name<'static> {
+    Name {
+        text,
+        ignores_case: false,
+    }
+}
+
+#[test]
+fn names_compare(rt: HostRuntime) -> Result<(), Fail> {
+    let against_texts = [
+        (TEXT, "text", true),
+        (TEXT, "TEXT", true),
+        (TEXT, "tex", false),
+        (TEXT, "texts", false),
+        (UTF_8, "UTF-8", true),
+        // Of two bytes that differ by 32 only letters are the same.
+        (UTF_8, "utf\r8", false),
+        (exact("ABC"), "ABC", true),
+        (exact("ABC"), "abc", false),
+        (exact(""), "", true),
+    ];
+    for (name, text, expected) in against_texts {
+        assert_eq!(rt; name_eq_str(&name, text), expected, "{name} against {text}");
+    }
+    // By the bytes of the text, and then by the flag, false first.
+    let ordered = [
+        exact(""),
+        exact("TEXT"),
+        exact("tex"),
+        exact("text"),
+        TEXT,
+        exact("texts"),
+        XML,
+    ];
+    for (i, first) in ordered.iter().enumerate() {
+        for (j, second) in ordered.iter().enumerate() {
+            assert_eq!(rt; first == second, i == j, "{first:?} and {second:?}");
+            assert_eq!(rt; first.cmp(second), i.cmp(&j), "{first:?} and {second:?}");
+        }
+    }
+    assert_eq!(rt; exact("text").partial_cmp(&TEXT), Some(Ordering::Less));
+    // A value that was read: `p` minds case.
+    let mime = Mime::from_str(rt.alloc(), "a/b;p=ABC")?;
+    let Some(value) = mime.get_param(TextKey("p")) else {
+        panic!(rt; "no p");
+    };
+    assert!(rt; value == value && value == exact("ABC"));
+    assert!(rt; name_eq_str(&value, "ABC") && !name_eq_str(&value, "abc"));
+    Ok(())
+}
+
+/// A hasher whose state is a function of the bytes that it is fed.
+#[derive(Drop)]
+struct Digits(u64);
+
+impl Hasher for Digits {
+    ghost write = { λ state bytes. record { 0 = fold (λ sum byte. (sum * 257 + byte) % 2 ^ 64) state.0 bytes } };
+
+    ghost finish = { λ state. state.0 };
+
+    fn finish(&self) -> u64 {
+        self.0
+    }
+
+    fn write(&mut self, bytes: &[u8]) {
+        for byte in bytes {
+            self.0 = self.0.wrapping_mul(257).wrapping_add(*byte as u64);
+        }
+    }
+}
+
+fn hash_of(name: Name<'_>) -> u64 {
+    let mut state = Digits(1);
+    name.hash(&mut state);
+    state.finish()
+}
+
+#[test]
+fn names_feed_a_hasher(rt: HostRuntime) -> Result<(), Fail> {
+    let (text, html, xml) = (hash_of(TEXT), hash_of(HTML), hash_of(XML));
+    assert!(rt; text != html && html != xml && xml != text);
+    assert!(rt; hash_of(exact("text")) != text, "the flag counts");
+    let mime = Mime::from_str(rt.alloc(), "TEXT/html")?;
+    assert_eq!(rt;
+        (hash_of(mime.type_()), hash_of(mime.subtype())),
+        (text, html)
+    );
+    Ok(())
+}
+
+#[test]
+fn names_are_printed(rt: HostRuntime) -> Result<(), Fail> {
+    let alloc = rt.alloc();
+    let quoted = exact("\"é\\");
+    let cases = [
+        (format!(in alloc; "{TEXT}")?, "text"),
+        (format!(in alloc; "{TEXT:>6}")?, "  text"),
+        (format!(in alloc; "{TEXT:<6}|")?, "text  |"),
+        (format!(in alloc; "{TEXT:*^8}")?, "**text**"),
+        (format!(in alloc; "{TEXT:2}")?, "text"),
+        (format!(in alloc; "{TEXT:?}")?, "\"text\""),
+        (format!(in alloc; "{quoted}")?, "\"é\\"),
+        (format!(in alloc; "{quoted:?}")?, "\"\\\"é\\\\\""),
+    ];
+    for (printed, expected) in &cases {
+        assert_eq!(rt; printed.as_str(), *expected);
+    }
+    Ok(())
+}

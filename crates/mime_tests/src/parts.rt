@@ -1,0 +1,117 @@
+//! The classes of bytes, and the parts of texts without a parameter.
+
+use crate::described::line_of;
+use mime::{
+    APPLICATION, EVENT_STREAM, HTML, IMAGE, Mime, Name, OCTET_STREAM, PLAIN, STAR, SVG, TEXT, XML,
+    is_quoted_byte, is_token,
+};
+use std::test::Fail;
+
+/// The bytes of a token (RFC 7230, 3.2.6), from the first to the last of each run.
+const TOKEN_RUNS: [(u8, u8); 9] = [
+    (0x21, 0x21),
+    (0x23, 0x27),
+    (0x2A, 0x2B),
+    (0x2D, 0x2E),
+    (0x30, 0x39),
+    (0x41, 0x5A),
+    (0x5E, 0x7A),
+    (0x7C, 0x7C),
+    (0x7E, 0x7E),
+];
+
+/// The bytes of a quoted value.
+const QUOTED_RUNS: [(u8, u8); 2] = [(0x20, 0x7E), (0x80, 0xFF)];
+
+fn is_within(runs: &[(u8, u8)], byte: u8) -> bool {
+    for (first, last) in runs {
+        if *first <= byte && byte <= *last {
+            return true;
+        }
+    }
+    false
+}
+
+#[test]
+fn classes_of_all_bytes(rt: HostRuntime) {
+    let mut tokens = 0u32;
+    let mut quoted = 0u32;
+    for byte in 0..=255u8 {
+        assert_eq!(rt;
+            is_token(byte),
+            is_within(&TOKEN_RUNS, byte),
+            "token byte {byte}"
+        );
+        assert_eq!(rt;
+            is_quoted_byte(byte),
+            is_within(&QUOTED_RUNS, byte),
+            "quoted byte {byte}"
+        );
+        tokens = tokens.wrapping_add(is_token(byte) as u32);
+        quoted = quoted.wrapping_add(is_quoted_byte(byte) as u32);
+    }
+    assert_eq!(rt; (tokens, quoted), (77, 223));
+}
+
+#[test]
+fn accepted_texts_have_their_parts(rt: HostRuntime) -> Result<(), Fail> {
+    const CASES: [(&str, &str); 13] = [
+        ("*/*", "*/* | * | * | - | */*"),
+        ("image/*", "image/* | image | * | - | image/*"),
+        ("text/plain", "text/plain | text | plain | - | text/plain"),
+        ("TEXT/Plain", "text/plain | text | plain | - | text/plain"),
+        // A subtype may be empty where the text ends behind it.
+        ("text/", "text/ | text |  | - | text/"),
+        // The last plus that isn't the subtype's first byte begins the suffix, which may be empty.
+        ("a/+xml", "a/+xml | a | +xml | - | a/+xml"),
+        ("a/b+", "a/b+ | a | b |  | a/b+"),
+        ("a/b+c+d", "a/b+c+d | a | b+c | d | a/b+c+d"),
+        ("a/++", "a/++ | a | + |  | a/++"),
+        ("a+b/c", "a+b/c | a+b | c | - | a+b/c"),
+        (
+            "IMAGE/SVG+XML",
+            "image/svg+xml | image | svg | xml | image/svg+xml",
+        ),
+        // A list without a parameter is cut off.
+        (
+            "text/event-stream;",
+            "text/event-stream | text | event-stream | - | text/event-stream",
+        ),
+        (
+            "text/event-stream;       ",
+            "text/event-stream | text | event-stream | - | text/event-stream",
+        ),
+    ];
+    for (text, expected) in CASES {
+        let line = line_of(rt.alloc(), &Mime::from_str(rt.alloc(), text))?;
+        assert_eq!(rt; line.as_str(), expected, "{text}");
+    }
+    Ok(())
+}
+
+#[test]
+fn parts_equal_their_constants(rt: HostRuntime) -> Result<(), Fail> {
+    const CASES: [(&str, Name<'static>, Name<'static>, Option<Name<'static>>); 9] = [
+        ("text/plain", TEXT, PLAIN, None),
+        ("TEXT/PLAIN", TEXT, PLAIN, None),
+        ("text/plain; charset=utf-8", TEXT, PLAIN, None),
+        ("text/html+xml", TEXT, HTML, Some(XML)),
+        ("image/svg+xml", IMAGE, SVG, Some(XML)),
+        ("Image/Svg+Xml; charset=utf-8", IMAGE, SVG, Some(XML)),
+        ("text/event-stream; ", TEXT, EVENT_STREAM, None),
+        (
+            "application/octet-stream;a=b",
+            APPLICATION,
+            OCTET_STREAM,
+            None,
+        ),
+        ("*/*", STAR, STAR, None),
+    ];
+    for (text, top, sub, suffix) in CASES {
+        let mime = Mime::from_str(rt.alloc(), text)?;
+        assert!(rt; mime.type_() == top, "type of {text}");
+        assert!(rt; mime.subtype() == sub, "subtype of {text}");
+        assert!(rt; mime.suffix() == suffix, "suffix of {text}");
+    }
+    Ok(())
+}

@@ -1,0 +1,83 @@
+//! All texts of at most 7 bytes over seven bytes that matter: each verdict agrees with those on the
+//! text completed, and on its front.
+
+use mime::{Mime, ParseError};
+use std::alloc::Global;
+use std::process::Abort;
+use std::test::Fail;
+
+const ALPHABET: [u8; 7] = *b"a/;=\" ,";
+
+/// How many texts over the alphabet have 0, 1, .. and 7 bytes.
+const COUNTS: [u32; 8] = [1, 7, 49, 343, 2_401, 16_807, 117_649, 823_543];
+
+/// The fault of some bytes, or none if they are accepted.
+fn fault_of(rt: &impl Abort, alloc: Global, bytes: &[u8]) -> Result<Option<ParseError>, Fail> {
+    let text = str::from_utf8(bytes)?;
+    let fault = Mime::from_str(alloc, text)
+        .err()
+        .map(|error| *error.fault());
+    assert!(rt; fault != Some(ParseError::NoMemory), "{text:?}");
+    Ok(fault)
+}
+
+/// Whether the text is accepted with the completion behind it. The buffer is left as it was.
+fn is_completed(
+    rt: &impl Abort,
+    alloc: Global,
+    text: &mut Vec<u8>,
+    completion: &[u8],
+) -> Result<bool, Fail> {
+    let len = text.len();
+    text.extend_from_slice(completion)?;
+    let fault = fault_of(rt, alloc, text.as_slice())?;
+    text.truncate(len);
+    Ok(fault.is_none())
+}
+
+fn check(rt: &impl Abort, alloc: Global, text: &mut Vec<u8>) -> Result<(), Fail> {
+    let Some(fault) = fault_of(rt, alloc, text.as_slice())? else {
+        return Ok(());
+    };
+    let completed = [
+        is_completed(rt, alloc, text, b"x/")?,
+        is_completed(rt, alloc, text, b"=")?,
+        is_completed(rt, alloc, text, b"x\"")?,
+    ];
+    let expected = match fault {
+        ParseError::MissingSlash => [true, false, false],
+        ParseError::MissingEqual => [false, true, false],
+        ParseError::MissingQuote => [false, false, true],
+        _ => [false, false, false],
+    };
+    assert!(rt; completed == expected, "{text:?}");
+    if let ParseError::InvalidToken { pos, byte } = fault {
+        assert!(rt; pos < text.len() && text[pos] == byte, "{text:?}");
+        // The bytes up to and with this one have the same fault, those before it another or none.
+        let dead = fault_of(rt, alloc, &text[..pos + 1])?;
+        assert!(rt; dead == Some(fault), "{text:?}");
+        let front = fault_of(rt, alloc, &text[..pos])?;
+        assert!(rt;
+            !matches!(front, Some(ParseError::InvalidToken { .. })),
+            "{text:?}"
+        );
+    }
+    Ok(())
+}
+
+#[test]
+fn verdicts_agree_on_all_short_texts(rt: HostRuntime) -> Result<(), Fail> {
+    let mut text = Vec::with_capacity(rt.alloc(), 16)?;
+    for (len, count) in COUNTS.iter().enumerate() {
+        for number in 0..*count {
+            text.clear();
+            let mut rest = number;
+            for _ in 0..len {
+                text.push(ALPHABET[rest as usize % 7])?;
+                rest /= 7;
+            }
+            check(&rt, rt.alloc(), &mut text)?;
+        }
+    }
+    Ok(())
+}
