@@ -1,8 +1,10 @@
-//! The laws of the definitions, as calls: each does nothing and ensures its law. The last gives the
-//! constants, and ensures what they are.
+//! The laws of the definitions, as calls: each does nothing and ensures its law. The last ones
+//! give the constants, and show what the traits of names do.
 
-ghost use Rattle.std.specs.Prelude.{◌≡◌, IsTrue, map};
+ghost use Rattle.std.specs.Prelude.{◌≡◌, ◌↔◌, IsTrue, map};
+ghost use Rattle.std.specs.Cmp.Lexicographic.{slice_cmp};
 ghost use Rattle.std.specs.List.{list_all};
+ghost use Rattle.std.specs.Ordering.{ordering_then, bool_cmp, nat_cmp};
 ghost use Rattle.mime.specs.Values.{lowered};
 ghost use Rattle.mime.specs.Names.{name_table};
 ghost use Rattle.mime.specs.Views.{name_text};
@@ -15,6 +17,8 @@ use crate::name::constants::{
     OCTET_STREAM, OGG, PDF, PLAIN, PNG, STAR, SVG, TEXT, UTF_8, VCARD, VIDEO, WOFF, WOFF2,
     WWW_FORM_URLENCODED, XML,
 };
+use std::cmp::Ordering;
+use std::hash::{Hash, Hasher};
 
 /// A text is spelled by at most one well-formed tree.
 pub fn one_tree()
@@ -118,4 +122,34 @@ pub fn name_constants() -> [Name<'static>; 38]
         BOUNDARY,
         UTF_8,
     ]
+}
+
+/// Names are ordered by the bytes of their texts, and then by their flags, `false` first.
+pub fn name_order(first: &Name<'_>, second: &Name<'_>) -> Ordering
+    ensures { result ≡ ordering_then (slice_cmp nat_cmp first.now.text.now second.now.text.now) (bool_cmp first.now.ignores_case second.now.ignores_case) }
+{
+    first.cmp(second)
+}
+
+/// Names are equal if their texts and their flags are.
+pub fn name_equality(first: &Name<'_>, second: &Name<'_>) -> bool
+    ensures { IsTrue result ↔ ((first.now.text.now ≡ second.now.text.now) × (first.now.ignores_case ≡ second.now.ignores_case)) }
+{
+    first == second
+}
+
+/// Equal names feed a hasher the same.
+pub fn equal_names_hash_alike<H: Hasher>(
+    first: &Name<'_>,
+    second: &Name<'_>,
+    one: &mut H,
+    other: &mut H,
+)
+    requires text { first.now.text.now ≡ second.now.text.now }
+    requires flag { first.now.ignores_case ≡ second.now.ignores_case }
+    requires state { one.old ≡ other.old }
+    ensures { one.new ≡ other.new }
+{
+    first.hash(one);
+    second.hash(other);
 }
