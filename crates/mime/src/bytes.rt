@@ -20,7 +20,8 @@ static TOKEN: [bool; 256] = [
     F, F, F, F, F, F, F, F, F, F, F, F, F, F, F, F, F, F, F, F, F, F, F, F, F, F, F, F, F, F, F, F,
 ];
 
-/// Whether a byte may stand in a token: a type, a subtype, a parameter's name, an unquoted value.
+/// Whether a byte may stand in a token: a type, a subtype, a parameter's name, an unquoted value
+/// (tchar of RFC 7230, 3.2.6). `is_token(b'+')` is true, `is_token(b' ')` is false.
 #[inline(always)]
 pub fn is_token(b: u8) -> bool
     ensures { result ≡ is_token_byte b }
@@ -28,7 +29,8 @@ pub fn is_token(b: u8) -> bool
     TOKEN[b as usize]
 }
 
-/// Whether a byte may stand in a quoted value: any byte but the controls, 127 and the tab.
+/// Whether a byte may stand in a quoted value: any byte but those below 32, so no tab, and 127.
+/// `is_quoted_byte(b'"')` is true, since a quote may begin a value. RFC 7230, 3.2.6, allows the tab.
 #[inline(always)]
 pub fn is_quoted_byte(b: u8) -> bool
     ensures { result ≡ is_quoted b }

@@ -22,7 +22,8 @@ pub struct Name<'a> {
 }
 
 impl<'a> Name<'a> {
-    /// The name's text, which outlives the `Name`: `TEXT.as_str()` is `"text"`.
+    /// The name's text, which lives as long as what the name was lent from, and so longer than the
+    /// `Name`: `TEXT.as_str()` is `"text"`.
     pub fn as_str(&self) -> &'a str
         ensures { result.now ≡ self.now.text.now }
     {
@@ -64,7 +65,7 @@ pub(crate) fn eq_ignoring_case(a: &[u8], b: &[u8]) -> bool
 }
 
 /// Whether a name is the text `s`: without regard to ASCII case where the name ignores it, else
-/// byte for byte. `name_eq_str(&TEXT, "Text")` is true.
+/// byte for byte. `name_eq_str(&TEXT, "Text")` is true; the boundary `ABC` isn't `abc`.
 #[inline]
 pub fn name_eq_str(name: &Name<'_>, s: &str) -> bool
     ensures { IsTrue result ↔ NameIs name.now.text.now name.now.ignores_case s.now }
@@ -77,7 +78,7 @@ pub trait ParamKey: Drop {
     /// The names that the key accepts, by text and flag.
     ghost Accepts: { Self → List ℕ → Bool → Type 0 };
 
-    /// Whether the key accepts a parameter's name.
+    /// Whether the key accepts a parameter's name, which is given in small letters with its flag set.
     fn accepts(&self, name: Name<'_>) -> bool
         ensures { IsTrue result ↔ Accepts self.now name.entry.text.now name.entry.ignores_case };
 }

@@ -65,12 +65,17 @@ impl Model for Mime {
 }
 
 impl Mime {
-    /// Reads a media type from the whole of `s`.
+    /// Reads a media type from the whole of `s` (RFC 7231, 3.1.1.1, with the departures that
+    /// docs/DIFFERENCES.md lists). It asks for memory once, for the kept text, and for `*/*` never.
+    ///
+    /// `TEXT/PLAIN; CHARSET=UTF-8; FOO=BAR` is kept as `text/plain; charset=utf-8; foo=BAR`, and
+    /// `text/plain; ` as `text/plain`.
     ///
     /// # Errors
     /// The one fault of a text that isn't a media type, told without asking for memory: what is
-    /// missing at its end, or else the place (in bytes, from 0) of the byte at which no media type
-    /// goes on. [`ParseError::NoMemory`] only for a media type, and never for `*/*`.
+    /// missing at its end, as `MissingEqual` for `a/b;p`, or else the place (in bytes, from 0) of
+    /// the byte at which no media type goes on, as 5 for `text/;`. [`ParseError::NoMemory`] comes
+    /// only for a media type, and never for `*/*`.
     pub fn from_str(alloc: Global, s: &str) -> Result<Mime, FromStrError>
         // What is read has the value that the text is read as.
         ensures read { IfOk result (λ mime. Reads s.now mime.media) }
@@ -114,7 +119,7 @@ impl Mime {
         }
     }
 
-    /// The type: `text` in `text/plain`.
+    /// The type, in small letters: `text` in `Text/Plain` (RFC 7231, 3.1.1.1).
     pub fn type_(&self) -> Name<'_>
         ensures text { result.text.now ≡ type_of self.now.media }
         ensures flag { result.ignores_case ≡ true }
@@ -126,7 +131,8 @@ impl Mime {
         }
     }
 
-    /// The subtype, without its suffix: `svg` in `image/svg+xml`. It may be empty.
+    /// The subtype without its suffix, in small letters: `svg` in `image/svg+xml`, `b+c` in
+    /// `a/b+c+d`, and nothing in `text/` (RFC 6838, 4.2.8).
     pub fn subtype(&self) -> Name<'_>
         ensures text { result.text.now ≡ subtype_of self.now.media }
         ensures flag { result.ignores_case ≡ true }
@@ -140,8 +146,8 @@ impl Mime {
         }
     }
 
-    /// The suffix, behind the subtype's last `+` that isn't its first byte: `xml` in
-    /// `image/svg+xml`. It may be empty.
+    /// The suffix, behind the subtype's last `+` that isn't its first byte, in small letters:
+    /// `xml` in `image/svg+xml`, nothing in `a/b+`, and none in `a/+xml` (RFC 6838, 4.2.8).
     pub fn suffix(&self) -> Option<Name<'_>>
         ensures text { option_map (λ name. name.text.now) result ≡ suffix_of self.now.media }
         ensures flag { IfSome result (λ name. name.ignores_case ≡ true) }
@@ -154,7 +160,8 @@ impl Mime {
         })
     }
 
-    /// The essence, type and subtype with its suffix: `image/svg+xml`.
+    /// The essence, type and subtype with its suffix, in small letters: `image/svg+xml` for
+    /// `Image/SVG+XML; q=1`.
     pub fn essence_str(&self) -> &str
         ensures { result.now ≡ self.now.media.essence }
     {
@@ -165,8 +172,9 @@ impl Mime {
         }
     }
 
-    /// The kept text, which is what Display prints. Read again, it gives an equal media type with
-    /// the same text.
+    /// The kept text: with a parameter the whole text that was read, with its type, subtype,
+    /// parameters' names and charset in small letters, and else the essence. `a/b;P=X; ` gives
+    /// `a/b;p=X; `. Read again, it has the same value and the same text.
     pub fn as_str(&self) -> &str
         ensures text { result.now ≡ self.now.media.kept }
         ensures reads { Reads result.now self.now.media }
@@ -174,7 +182,8 @@ impl Mime {
         self.text.as_str()
     }
 
-    /// The parameters, in the text's order.
+    /// The parameters, in the text's order and with duplicates, as pairs of a name and a value
+    /// without its quotes (RFC 7231, 3.1.1.1): `p` with `1` and `p` with `;` for `a/b;p=1;P=";"`.
     pub fn params(&self) -> Params<'_>
         ensures items { result ≡ items_of self.now.media.pairs }
         ensures low { AllByRecursion IsLowItem result }
@@ -185,8 +194,9 @@ impl Mime {
         }
     }
 
-    /// The value of the first parameter whose name the key accepts: `TextKey("P")` finds `1` in
-    /// `a/b;p=1;P=2`.
+    /// The value of the first parameter whose name the key accepts, or none if it accepts none:
+    /// `TextKey("P")` finds `1` in `a/b;p=1;P=2`, and `CHARSET` finds `utf-8` in
+    /// `text/html; Charset="UTF-8"`. It asks for no memory.
     pub fn get_param<K: ParamKey>(&self, key: K) -> Option<Name<'_>>
         ensures found { IsFirstAccepted (K.Accepts key) (items_of self.now.media.pairs) (option_map name_seen result) }
         ensures low { IfSome result (λ name. name.ignores_case ≡ true → lowered name.text.now ≡ name.text.now) }

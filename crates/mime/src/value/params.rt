@@ -13,7 +13,8 @@ use std::fmt;
 use std::marker::Model;
 
 /// The parameters of a media type that are still to come, in the text's order: an iterator over
-/// pairs of a name and a value. A value ignores case exactly if its name is `charset`.
+/// pairs of a name and a value. A name ignores case; a value does exactly if its name is `charset`.
+/// The size hint is the number left, twice. It walks the kept text, and asks for no memory.
 #[derive(Drop)]
 pub struct Params<'a> {
     list: &'a str,
