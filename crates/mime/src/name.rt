@@ -1,6 +1,6 @@
 //! Names: the parts of media types, how they compare, and the keys that look parameters up.
 
-ghost use Rattle.std.specs.Prelude.{◌≡◌, ◌↔◌, IsTrue, List, ℕ, Bool, Some};
+ghost use Rattle.std.specs.Prelude.{◌≡◌, ◌↔◌, ◌<◌, ◌≤◌, length, IsTrue, List, ℕ, Bool, Some};
 ghost use Rattle.std.specs.Fmt.{debug_str};
 ghost use Rattle.mime.specs.Names.{NameIs};
 ghost use Rattle.mime.specs.Values.{lowered};
@@ -49,9 +49,10 @@ impl fmt::Debug for Name<'_> {
     }
 }
 
-/// Whether two byte strings are the same but for the case of ASCII letters.
-#[inline]
-pub(crate) fn eq_ignoring_case(a: &[u8], b: &[u8]) -> bool
+/// Whether two byte strings are the same but for the case of ASCII letters, in one loop without an
+/// early end.
+#[inline(always)]
+fn alike(a: &[u8], b: &[u8]) -> bool
     ensures { IsTrue result ↔ (lowered a.now ≡ lowered b.now) }
 {
     if a.len() != b.len() {
@@ -62,6 +63,43 @@ pub(crate) fn eq_ignoring_case(a: &[u8], b: &[u8]) -> bool
         differs |= x.to_ascii_lowercase() != y.to_ascii_lowercase();
     }
     !differs
+}
+
+/// The same of two byte strings of one length, in blocks of so many bytes. The last block may lap
+/// over the one before.
+#[inline(always)]
+fn alike_in_blocks(a: &[u8], b: &[u8], block: usize) -> bool
+    requires same_length { length a.now ≡ length b.now }
+    requires some { 0 < block }
+    requires room { block ≤ length a.now }
+    ensures { IsTrue result ↔ (lowered a.now ≡ lowered b.now) }
+{
+    let last = a.len() - block;
+    let mut same = alike(&a[last..], &b[last..]);
+    let mut from = 0;
+    while from < last {
+        same &= alike(&a[from..from + block], &b[from..from + block]);
+        from += block;
+    }
+    same
+}
+
+/// Whether two byte strings are the same but for the case of ASCII letters. A block of known length
+/// is one step of the processor, where a loop over what is left would go byte by byte.
+#[inline]
+pub(crate) fn eq_ignoring_case(a: &[u8], b: &[u8]) -> bool
+    ensures { IsTrue result ↔ (lowered a.now ≡ lowered b.now) }
+{
+    if a.len() != b.len() {
+        return false;
+    }
+    if a.len() >= 16 {
+        return alike_in_blocks(a, b, 16);
+    }
+    if a.len() >= 8 {
+        return alike_in_blocks(a, b, 8);
+    }
+    alike(a, b)
 }
 
 /// Whether a name is the text `s`: without regard to ASCII case where the name ignores it, else

@@ -7,7 +7,7 @@ use Rattle.std.proofs.lemmas.Bool.Decides.{nat_tests}
 use Rattle.std.proofs.lemmas.List.{map_more, same_from_push, length_push}
 use Rattle.std.proofs.lemmas.Slice.Zip.{zip_turn}
 use Rattle.mime.specs.Values.{lowered}
-use Rattle.mime.proofs.name.eq_ignoring_case.Goals as goal
+use Rattle.mime.proofs.name.alike.Goals as goal
 
 -- the answer so far, with one more pair of bytes
 paired : (differs : Bool) (x y : ℕ) (P Q : Type 0) → Decides (not differs) P → (P → x ≡ y → Q) → (Q → P × (x ≡ y))

@@ -3,7 +3,7 @@ use Rattle.std.proofs.Common.{◌≡◌, length, take}
 use Rattle.std.specs.Bool.{Decides}
 use Rattle.std.specs.Prelude.{not}
 use Rattle.mime.specs.Values.{lowered}
-use Rattle.mime.proofs.name.eq_ignoring_case.Given as goal
+use Rattle.mime.proofs.name.alike.Given as goal
 
 abbrev pub invariant-loop-x : goal.invariant-loop-x
 invariant-loop-x l =
