@@ -17,6 +17,7 @@ is_charset name = bytes_eq (lowered name) (codes "charset")
 abbrev pub lowered_value : List ℕ → List ℕ → List ℕ
 lowered_value name value = if is_charset name then lowered value else value
 
+-- a parameter, a list and a tail with all lowered that ignores case
 abbrev pub lowered_parameter : Parameter → Parameter
 lowered_parameter (plain name value) = plain (lowered name) (lowered_value name value)
 lowered_parameter (quoted name content n) = quoted (lowered name) (lowered_value name content) n
@@ -39,6 +40,7 @@ abbrev pub pair_of : Parameter → List ℕ × List ℕ
 pair_of (plain name value) = (name, value)
 pair_of (quoted name content n) = (name, content)
 
+-- the pairs of a list and of a tail, in the text's order
 abbrev pub pairs_of_list : Parameters → List (List ℕ × List ℕ)
 pairs_of_list (blank n) = []
 pairs_of_list (final n parameter) = pair_of parameter ∷ []
@@ -95,6 +97,7 @@ pub record Reads (text : List ℕ) (value : MediaType) : Type 0 where
 abbrev pub IsAccepted : List ℕ → Type 0
 IsAccepted text = (value : MediaType) × Reads text value
 
+-- the text is read as none
 abbrev pub IsRefused : List ℕ → Type 0
 IsRefused text = ¬ (IsAccepted text)
 
