@@ -11,6 +11,7 @@ pub mod ListScan
 pub mod TextScan
 pub mod BorderLaws
 pub mod LoweringLaws
+pub mod BlockLaws
 pub mod Utf8Laws
 pub mod PairLaws
 pub mod RangeLaws

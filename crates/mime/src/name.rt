@@ -1,6 +1,7 @@
 //! Names: the parts of media types, how they compare, and the keys that look parameters up.
 
-ghost use Rattle.std.specs.Prelude.{◌≡◌, ◌↔◌, ◌<◌, ◌≤◌, length, IsTrue, List, ℕ, Bool, Some};
+ghost use Rattle.std.specs.Prelude.{◌≡◌, ◌↔◌, ◌<◌, ◌≤◌, ◌+◌, length, IsTrue, List, ℕ, Bool, Some};
+ghost use Rattle.std.specs.Char.{to_ascii_lowercase};
 ghost use Rattle.std.specs.Fmt.{debug_str};
 ghost use Rattle.mime.specs.Names.{NameIs};
 ghost use Rattle.mime.specs.Values.{lowered};
@@ -49,57 +50,88 @@ impl fmt::Debug for Name<'_> {
     }
 }
 
-/// Whether two byte strings are the same but for the case of ASCII letters, in one loop without an
-/// early end.
+/// The bits in which two bytes differ, apart from the one that tells a capital from its small letter
+/// where the first is an ASCII letter: none where the bytes are the same but for case.
 #[inline(always)]
-fn alike(a: &[u8], b: &[u8]) -> bool
-    ensures { IsTrue result ↔ (lowered a.now ≡ lowered b.now) }
+fn differing_bits(x: u8, y: u8) -> u8
+    ensures { (result ≡ 0) ↔ (to_ascii_lowercase x ≡ to_ascii_lowercase y) }
 {
-    if a.len() != b.len() {
-        return false;
-    }
-    let mut differs = false;
-    for (x, y) in a.iter().zip(b) {
-        differs |= x.to_ascii_lowercase() != y.to_ascii_lowercase();
-    }
-    !differs
+    let case = if (x | 0x20).is_ascii_lowercase() {
+        0x20
+    } else {
+        0
+    };
+    (x ^ y) & !case
 }
 
-/// The same of two byte strings of one length, in blocks of so many bytes. The last block may lap
-/// over the one before.
+/// The bits in which the bytes of two byte strings of one length differ, as of two bytes, all
+/// together. One loop without an early end: over a length that is known, one step of the processor.
 #[inline(always)]
-fn alike_in_blocks(a: &[u8], b: &[u8], block: usize) -> bool
+fn all_differing_bits(a: &[u8], b: &[u8]) -> u8
     requires same_length { length a.now ≡ length b.now }
-    requires some { 0 < block }
+    ensures { (result ≡ 0) ↔ (lowered a.now ≡ lowered b.now) }
+{
+    let mut differing = 0;
+    for (x, y) in a.iter().zip(b) {
+        differing |= differing_bits(*x, *y);
+    }
+    differing
+}
+
+/// Whether two byte strings of one length are the same but for the case of ASCII letters, told by
+/// the first so many bytes and the last, which lap over each other or meet.
+#[inline(always)]
+fn ends_alike(a: &[u8], b: &[u8], block: usize) -> bool
+    requires same_length { length a.now ≡ length b.now }
     requires room { block ≤ length a.now }
+    requires reach { length a.now ≤ block + block }
     ensures { IsTrue result ↔ (lowered a.now ≡ lowered b.now) }
 {
     let last = a.len() - block;
-    let mut same = alike(&a[last..], &b[last..]);
-    let mut from = 0;
-    while from < last {
-        same &= alike(&a[from..from + block], &b[from..from + block]);
-        from += block;
-    }
-    same
+    all_differing_bits(&a[..block], &b[..block]) == 0
+        && all_differing_bits(&a[last..], &b[last..]) == 0
 }
 
-/// Whether two byte strings are the same but for the case of ASCII letters. A block of known length
-/// is one step of the processor, where a loop over what is left would go byte by byte.
-#[inline]
+/// The same of longer ones, in blocks of 16 bytes, up to the first block that differs. The last may
+/// lap over the one before.
+#[inline(always)]
+fn blocks_alike(a: &[u8], b: &[u8]) -> bool
+    requires same_length { length a.now ≡ length b.now }
+    requires room { 16 ≤ length a.now }
+    ensures { IsTrue result ↔ (lowered a.now ≡ lowered b.now) }
+{
+    let last = a.len() - 16;
+    let mut from = 0;
+    while from < last {
+        if all_differing_bits(&a[from..from + 16], &b[from..from + 16]) != 0 {
+            return false;
+        }
+        from += 16;
+    }
+    all_differing_bits(&a[last..], &b[last..]) == 0
+}
+
+/// Whether two byte strings are the same but for the case of ASCII letters.
+#[inline(never)]
 pub(crate) fn eq_ignoring_case(a: &[u8], b: &[u8]) -> bool
     ensures { IsTrue result ↔ (lowered a.now ≡ lowered b.now) }
 {
     if a.len() != b.len() {
         return false;
     }
+    if a.len() > 32 {
+        return blocks_alike(a, b);
+    }
     if a.len() >= 16 {
-        return alike_in_blocks(a, b, 16);
+        return ends_alike(a, b, 16);
     }
     if a.len() >= 8 {
-        return alike_in_blocks(a, b, 8);
+        return ends_alike(a, b, 8);
     }
-    alike(a, b)
+    if a.len() >= 4 {
+        return ends_alike(a, b, 4);
+    }
+    all_differing_bits(a, b) == 0
 }
 
 /// Whether a name is the text `s`: without regard to ASCII case where the name ignores it, else
