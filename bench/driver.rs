@@ -2,7 +2,8 @@
 //!
 //! `driver list` prints the names of the counts; `driver take COUNT`, under callgrind, makes the
 //! calls of one and has their instructions written down; `driver table FOLDER` reads what callgrind
-//! wrote there, takes times, and prints the table.
+//! wrote there, takes times, and prints the table; `driver time WORD` takes only the times of the
+//! operations whose label has the word, and takes them longer.
 
 extern crate mime;
 
@@ -508,6 +509,27 @@ fn time(case: &Case, side: Side, text: &str) -> f64 {
     some.as_nanos() as f64 / times as f64
 }
 
+/// Prints the times of the operations whose label has the word: on each side the best of 400 calls,
+/// in turn with the other's.
+fn times(word: &str) {
+    for case in cases().iter().filter(|case| case.label.contains(word)) {
+        let text = case.text.written();
+        let times = (1_000_000 / text.len()).clamp(1, 20_000);
+        let mut best = [f64::MAX; 2];
+        for _ in 0..400 {
+            for (best, (side, _)) in best.iter_mut().zip(SIDES) {
+                let start = Instant::now();
+                case.run(side, &text, times);
+                *best = best.min(start.elapsed().as_nanos() as f64 / times as f64);
+            }
+        }
+        println!(
+            "{}: {:.2} ns here, {:.2} there",
+            case.label, best[0], best[1]
+        );
+    }
+}
+
 /// A number with its digits in groups of three.
 fn grouped(number: u64) -> String {
     let digits = number.to_string();
@@ -615,6 +637,9 @@ fn main() {
         ["list"] => list(),
         ["take", count] => take(count),
         ["table", folder] => table(folder),
-        _ => eprintln!("usage: driver list, driver take COUNT, or driver table FOLDER"),
+        ["time", word] => times(word),
+        _ => eprintln!(
+            "usage: driver list, driver take COUNT, driver table FOLDER, or driver time WORD"
+        ),
     }
 }

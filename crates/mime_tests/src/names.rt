@@ -127,6 +127,36 @@ fn names_compare(rt: HostRuntime) -> Result<(), Fail> {
     Ok(())
 }
 
+/// Two texts of each length up to 40 bytes, of which one has each ASCII byte at each place.
+#[test]
+fn case_is_ignored_as_std_ignores_it(rt: HostRuntime) {
+    let text = *b"AZ@[`{azMimeMIMEmime0123456789-+.!#$%^_'";
+    for place in 0..text.len() {
+        for byte in 0..128 {
+            let mut other = text;
+            other[place] = byte;
+            for length in place..=text.len() {
+                let texts = (
+                    str::from_utf8(&text[..length]),
+                    str::from_utf8(&other[..length]),
+                );
+                let (Ok(text), Ok(other)) = texts else {
+                    panic!(rt; "no text");
+                };
+                let name = Name {
+                    text,
+                    ignores_case: true,
+                };
+                assert_eq!(rt;
+                    name_eq_str(&name, other),
+                    text.eq_ignore_ascii_case(other),
+                    "{text} and {other:?}"
+                );
+            }
+        }
+    }
+}
+
 /// A hasher whose state is a function of the bytes that it is fed.
 #[derive(Drop)]
 struct Digits(u64);
