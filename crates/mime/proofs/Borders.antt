@@ -9,9 +9,9 @@ use Rattle.std.specs.Prelude.{IsTrue, IsFalse, MatchOption, if◌then◌else◌,
 use Rattle.std.specs.Str.{IsUtf8, IsCharBoundary}
 use Rattle.std.specs.Option.{option_and_then, option_map}
 use Rattle.mime.specs.Bytes.{is_token_byte, is_quoted_byte, slash_byte, semicolon_byte, equals_byte, quote_byte, space_byte}
-use Rattle.mime.specs.Grammar.{Parameter, is_inner_byte}
+use Rattle.mime.specs.Grammar.{Parameter, is_inner_byte, is_space}
 use Rattle.mime.specs.Refusals.{IsFront}
-use Rattle.mime.specs.Begun.{Begun, in_type, in_subtype, in_list, BegunList, ListPlace, in_spaces, in_name, in_value, in_quotes, behind_quotes, grow, grow_place, grow_list, walk, walk_from}
+use Rattle.mime.proofs.Begun.{Begun, in_type, in_subtype, in_list, BegunList, ListPlace, in_spaces, in_name, in_value, in_quotes, behind_quotes, grow, grow_place, grow_list, walk, walk_from}
 use Rattle.mime.specs.Laws.{FrontEndsBetweenCharacters}
 use Rattle.mime.proofs.Viability.{front-from_walk, whole_front-from_walk, front_unique, stop-from_walk}
 
@@ -50,8 +50,12 @@ high_token b high = false_from_ne_true (is_token_byte b) (λ token. absurd (omeg
 high_mark : (b mark : ℕ) → mark < 128 → 128 ≤ b → IsFalse (b == mark)
 high_mark b mark low high = false_from_ne_true (b == mark) (λ same. absurd (omega (arith, eqb-true b mark same)))
 
+-- nor a space
+high_space : (b : ℕ) → 128 ≤ b → IsFalse (is_space b)
+high_space b high = grind (arith, nat_tests)
+
 -- what an open quoted value doesn't take
-EndsAtBorder-in_quotes : (top sub : List ℕ) (closed : List (ℕ × Parameter)) (n : ℕ) (name content : List ℕ)
+EndsAtBorder-in_quotes : (top sub : List ℕ) (closed : List (List ℕ × Parameter)) (n : List ℕ) (name content : List ℕ)
     → EndsAtBorder (in_list top sub (record { closed = closed; place = in_quotes n name content }))
 EndsAtBorder-in_quotes top sub closed n name [] b dead high =
     unquoted_byte-ge b (untaken (is_quoted_byte b) dead) high
@@ -68,17 +72,17 @@ EndsAtBorder-in_quotes top sub closed n name (c ∷ content) b dead high =
     untaken : (test other : Bool)
         → option_map (in_list top sub)
         (if test then Some (record { closed = closed; place = in_quotes n name (c ∷ content ++ (b ∷ [])) })
-        else (if other then Some (record { closed = closed; place = behind_quotes n name (c ∷ content) 0 }) else None))
+        else (if other then Some (record { closed = closed; place = behind_quotes n name (c ∷ content) [] }) else None))
         ≡ None
         → IsFalse test
     untaken true other dead = absurd (none-some _ (sym dead))
     untaken false other dead = refl
 
 -- a byte past ASCII leads to an open quoted value or nowhere
-grow_place-high : (top sub : List ℕ) (closed : List (ℕ × Parameter)) (place : ListPlace) (b : ℕ) → 128 ≤ b
+grow_place-high : (top sub : List ℕ) (closed : List (List ℕ × Parameter)) (place : ListPlace) (b : ℕ) → 128 ≤ b
     → MatchOption (grow_place closed place b) (Unit {0}) (λ next. EndsAtBorder (in_list top sub next))
 grow_place-high top sub closed (in_spaces n) b high =
-    neither _ _ _ _ _ (high_mark b space_byte (omega arith) high) (high_token b high)
+    neither _ _ _ _ _ (high_space b high) (high_token b high)
 grow_place-high top sub closed (in_name n name) b high =
     neither _ _ _ _ _ (high_token b high) (high_mark b equals_byte (omega arith) high)
 grow_place-high top sub closed (in_value n name []) b high =
@@ -93,7 +97,7 @@ grow_place-high top sub closed (in_quotes n name (c ∷ content)) b high =
     (λ passes. EndsAtBorder-in_quotes top sub closed n name (c ∷ content ++ (b ∷ [])))
     (λ fails. neither _ false _ None _ refl (high_mark b quote_byte (omega arith) high))
 grow_place-high top sub closed (behind_quotes n name content m) b high =
-    neither _ _ _ _ _ (high_mark b space_byte (omega arith) high) (high_mark b semicolon_byte (omega arith) high)
+    neither _ _ _ _ _ (high_space b high) (high_mark b semicolon_byte (omega arith) high)
 
 -- the same from any begun tree
 grow-high : (begun : Begun) (b : ℕ) → 128 ≤ b → MatchOption (grow begun b) (Unit {0}) EndsAtBorder

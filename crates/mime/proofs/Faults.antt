@@ -8,13 +8,13 @@ use Rattle.mime.specs.Bytes.{is_token_byte, is_quoted_byte}
 use Rattle.mime.specs.Grammar.{Parameter, SyntaxTree}
 use Rattle.mime.specs.Values.{IsAccepted, IsRefused}
 use Rattle.mime.specs.Refusals.{IsFront, slash_completion, equals_completion, quote_completion, LacksOnly, IsDeadAt, IsFault}
-use Rattle.mime.specs.Begun.{Begun, in_type, in_subtype, in_list, ListPlace, in_spaces, in_name, in_value, in_quotes, behind_quotes, walk, walk_from, tree_of}
+use Rattle.mime.proofs.Begun.{Begun, in_type, in_subtype, in_list, ListPlace, in_spaces, in_name, in_value, in_quotes, behind_quotes, walk, walk_from, tree_of}
 use Rattle.mime.specs.Laws.{IsCompletion, OneCompletion, OneFault, OneFront}
 use Rattle.mime.specs.declared.scan.ParseError.{ParseError}
 use Rattle.mime.specs.declared.scan.ParseError.TheVariants.{MissingSlash, MissingEqual, MissingQuote, InvalidToken, NoMemory}
 use Rattle.mime.proofs.Walks.{walk-append}
 use Rattle.mime.proofs.Readings.{walk-accepted}
-use Rattle.mime.proofs.Viability.{accepted-from_complete, Completes, accepted-from_completes, Completes-in_type, Completes-in_name, Completes-in_quotes, not_viable-from_walk, walk-from_viable, whole_front-from_walk, front-from_walk, front_unique, dead-from_walk, stop-from_walk}
+use Rattle.mime.proofs.Viability.{accepted-from_complete, Completes, accepted-from_completes, Completes-in_type, Completes-in_name, Completes-in_quotes, not_viable-from_walk, walk-from_viable, whole_front-from_walk, front-from_walk, front_unique, dead-from_walk, refused-from_dead, stop-from_walk}
 
 -- whether a continuation leads from a begun tree to a complete one
 abbrev completes : Begun → List ℕ → Bool
@@ -58,7 +58,7 @@ only-in_type (t ∷ top) = record {
 }
 
 -- a begun name lacks an equals sign alone
-only-in_name : (top sub : List ℕ) (closed : List (ℕ × Parameter)) (n : ℕ) (name : List ℕ)
+only-in_name : (top sub : List ℕ) (closed : List (List ℕ × Parameter)) (n : List ℕ) (name : List ℕ)
     → IsOnly (in_list top sub (record { closed = closed; place = in_name n name })) equals_completion MissingEqual
 unfolding is_token_byte
 only-in_name top sub closed n name = record {
@@ -71,7 +71,7 @@ only-in_name top sub closed n name = record {
 }
 
 -- an open quoted value lacks a quote alone
-only-in_quotes : (top sub : List ℕ) (closed : List (ℕ × Parameter)) (n : ℕ) (name content : List ℕ)
+only-in_quotes : (top sub : List ℕ) (closed : List (List ℕ × Parameter)) (n : List ℕ) (name content : List ℕ)
     → IsOnly (in_list top sub (record { closed = closed; place = in_quotes n name content })) quote_completion MissingQuote
 unfolding is_quoted_byte
 only-in_quotes top sub closed n name [] = record {
@@ -153,12 +153,7 @@ one_fault text refused = reached (walk text) refl
         same own fault only accepted MissingQuote is =
             (only.quote (completes-from_accepted text quote_completion begun walked is.1)).1
         same own fault only accepted (InvalidToken pos byte) is =
-            absurd (⊎_elim
-            (λ own_is. is.no_slash (subst (λ more. IsAccepted (text ++ more)) own_is accepted))
-            (⊎_elim
-            (λ own_is. is.no_equals (subst (λ more. IsAccepted (text ++ more)) own_is accepted))
-            (λ own_is. is.no_quote (subst (λ more. IsAccepted (text ++ more)) own_is accepted)))
-            only.known)
+            absurd (refused-from_dead text pos byte is own accepted)
         same own fault only accepted NoMemory is = absurd is
     reached None stopped =
         let stop = stop-from_walk (in_type []) text stopped in

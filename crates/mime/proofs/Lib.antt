@@ -1,3 +1,5 @@
+pub mod Begun
+pub mod Verdicts
 pub mod Walks
 pub mod Spelling
 pub mod Readings

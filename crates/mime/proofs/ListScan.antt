@@ -3,13 +3,14 @@ use Rattle.std.proofs.Common.{◌≡◌, ◌≢◌, ℕ, ◌+◌, ◌<◌, ◌�
 use Rattle.std.specs.Prelude.{IsFalse}
 use Rattle.std.proofs.lemmas.Bool.{true≢false}
 use Rattle.mime.specs.Bytes.{is_token_byte, is_quoted_byte, equals_byte, quote_byte, semicolon_byte}
-use Rattle.mime.specs.Grammar.{Parameter, plain, quoted, final}
-use Rattle.mime.specs.Begun.{ListPlace, in_spaces, in_name, in_value, in_quotes, behind_quotes, BegunList, begun_list, grow_list, grow_place, walk_list, ended, close}
+use Rattle.mime.specs.Grammar.{is_space, Parameter, plain, quoted, final}
+use Rattle.mime.proofs.Begun.{ListPlace, in_spaces, in_name, in_value, in_quotes, behind_quotes, BegunList, begun_list, grow_list, grow_place, walk_list, ended, close}
 use Rattle.mime.specs.Remaining.{Remaining}
 use Rattle.mime.specs.declared.scan.Places.{Places}
 use Rattle.mime.specs.declared.scan.Verdict.TheVariants.{Accepted, Unfinished, Stopped}
 use Rattle.mime.specs.declared.scan.ParseError.TheVariants.{MissingEqual, MissingQuote}
-use Rattle.mime.specs.Scanning.{is_space, Given, GivesFirst, Passes, PassesContent, IsBegunContent, continues_content, ScansList, places_of_list}
+use Rattle.mime.specs.Scanning.{Given, GivesFirst, Passes, PassesContent, IsBegunContent, continues_content}
+use Rattle.mime.proofs.Verdicts.{ListVerdict, places_of_list}
 use Rattle.mime.proofs.Passing.{given_then, given_whole, given_less, given_at_most}
 use Rattle.mime.proofs.Walks.{walk_list-append_some, walk_list-spaces, walk_list-name, walk_list-value, walk_list-quotes, walk_list-behind_quotes}
 
@@ -43,7 +44,7 @@ pub list_first : (old mid new : Remaining) (first : Option ℕ) (list : BegunLis
 list_first old mid new first list w g = list_run old mid new first list list [] w g.0 refl
 
 -- the bytes between quotes are walked
-pub walk_list-content : (closed : List (ℕ × Parameter)) (n : ℕ) (name run : List ℕ) → IsBegunContent run
+pub walk_list-content : (closed : List (List ℕ × Parameter)) (n : List ℕ) (name run : List ℕ) → IsBegunContent run
     → walk_list (record { closed = closed; place = in_quotes n name [] }) run
     ≡ Some (record { closed = closed; place = in_quotes n name run })
 walk_list-content closed n name [] all = refl
@@ -51,26 +52,26 @@ walk_list-content closed n name (c ∷ run) all = rw all.0 (walk_list-quotes clo
 
 -- the loop before a parameter: some are closed, and each took a byte of those that were left
 pub record Turn (head places : Places) (old now : Remaining) : Type 0 where
-  pub closed : List (ℕ × Parameter)
-  pub walked : ListTo old now None (record { closed = closed; place = in_spaces 0 })
+  pub closed : List (List ℕ × Parameter)
+  pub walked : ListTo old now None (record { closed = closed; place = in_spaces [] })
   pub placed : places ≡ record head { pairs = head.pairs + length closed }
   pub room : length closed + length now.left ≤ length old.left
 
 -- behind the spaces before a parameter
 spaces_walked : (head places : Places) (old mid new : Remaining) (stop : Option ℕ)
     → (t : Turn head places old mid) → (p : Passes is_space mid new stop)
-    → ListTo old new stop (record { closed = t.closed; place = in_spaces (0 + length p.run) })
+    → ListTo old new stop (record { closed = t.closed; place = in_spaces p.run })
 spaces_walked head places old mid new stop t p =
-    list_run old mid new stop _ _ p.run t.walked p.given (walk_list-spaces t.closed 0 p.run p.of_class)
+    list_run old mid new stop _ _ p.run t.walked p.given (walk_list-spaces t.closed [] p.run p.of_class)
 
 -- the text ends behind them
 pub scans_spaces_end : (head places : Places) (old mid new : Remaining)
-    → Turn head places old mid → Passes is_space mid new None → ScansList head old new (Accepted places)
+    → Turn head places old mid → Passes is_space mid new None → ListVerdict head old new (Accepted places)
 scans_spaces_end head places old mid new t p =
     let w = spaces_walked head places old mid new None t p in
     record {
       stop = None;
-      begun = record { closed = t.closed; place = in_spaces (0 + length p.run) };
+      begun = record { closed = t.closed; place = in_spaces p.run };
       walks = record { run = w.run; given = w.given; walked = w.walked; stopped = p.stopped };
       told = ap Accepted (t.placed ∙ ap (λ n. record head { pairs = n }) (omega arith));
     }
@@ -78,12 +79,12 @@ scans_spaces_end head places old mid new t p =
 -- no name begins behind them
 pub scans_spaces_stop : (head places : Places) (old mid new : Remaining) (b : ℕ)
     → Turn head places old mid → Passes is_space mid new (Some b) → is_token_byte b ≡ false
-    → ScansList head old new (Stopped b (Some places))
+    → ListVerdict head old new (Stopped b (Some places))
 scans_spaces_stop head places old mid new b t p f =
     let w = spaces_walked head places old mid new (Some b) t p in
     record {
       stop = Some b;
-      begun = record { closed = t.closed; place = in_spaces (0 + length p.run) };
+      begun = record { closed = t.closed; place = in_spaces p.run };
       walks = record { run = w.run; given = w.given; walked = w.walked; stopped = rw (p.stopped, f) };
       told = ap (λ places. Stopped b (Some places)) (t.placed ∙ ap (λ n. record head { pairs = n }) (omega arith));
     }
@@ -92,21 +93,21 @@ scans_spaces_stop head places old mid new b t p f =
 name_walked : (head places : Places) (old mid r1 new : Remaining) (b : ℕ) (stop : Option ℕ)
     → (t : Turn head places old mid) → (p : Passes is_space mid r1 (Some b)) → is_token_byte b ≡ true
     → (q : Passes is_token_byte r1 new stop)
-    → ListTo old new stop (record { closed = t.closed; place = in_name (0 + length p.run) (b ∷ [] ++ q.run) })
+    → ListTo old new stop (record { closed = t.closed; place = in_name p.run (b ∷ [] ++ q.run) })
 name_walked head places old mid r1 new b stop t p f q =
-    let w = list_byte old r1 b _ (record { closed = t.closed; place = in_name (0 + length p.run) (b ∷ []) })
+    let w = list_byte old r1 b _ (record { closed = t.closed; place = in_name p.run (b ∷ []) })
     (spaces_walked head places old mid r1 (Some b) t p) (rw (p.stopped, f))
-    in list_run old r1 new stop _ _ q.run w q.given (walk_list-name t.closed (0 + length p.run) b [] q.run q.of_class)
+    in list_run old r1 new stop _ _ q.run w q.given (walk_list-name t.closed p.run b [] q.run q.of_class)
 
 -- the text ends in a name
 pub scans_name_end : (head places : Places) (old mid r1 new : Remaining) (b : ℕ)
     → Turn head places old mid → Passes is_space mid r1 (Some b) → is_token_byte b ≡ true
-    → Passes is_token_byte r1 new None → ScansList head old new (Unfinished MissingEqual)
+    → Passes is_token_byte r1 new None → ListVerdict head old new (Unfinished MissingEqual)
 scans_name_end head places old mid r1 new b t p f q =
     let w = name_walked head places old mid r1 new b None t p f q in
     record {
       stop = None;
-      begun = record { closed = t.closed; place = in_name (0 + length p.run) (b ∷ [] ++ q.run) };
+      begun = record { closed = t.closed; place = in_name p.run (b ∷ [] ++ q.run) };
       walks = record { run = w.run; given = w.given; walked = w.walked; stopped = q.stopped };
       told = refl;
     }
@@ -114,20 +115,20 @@ scans_name_end head places old mid r1 new b t p f q =
 -- a byte that isn't the equals sign stands behind a name
 pub scans_name_stop : (head places : Places) (old mid r1 new : Remaining) (b c : ℕ)
     → Turn head places old mid → Passes is_space mid r1 (Some b) → is_token_byte b ≡ true
-    → Passes is_token_byte r1 new (Some c) → c ≢ equals_byte → ScansList head old new (Stopped c None)
+    → Passes is_token_byte r1 new (Some c) → c ≢ equals_byte → ListVerdict head old new (Stopped c None)
 scans_name_stop head places old mid r1 new b c t p f q ne =
     let w = name_walked head places old mid r1 new b (Some c) t p f q in
     record {
       stop = Some c;
-      begun = record { closed = t.closed; place = in_name (0 + length p.run) (b ∷ [] ++ q.run) };
+      begun = record { closed = t.closed; place = in_name p.run (b ∷ [] ++ q.run) };
       walks = record { run = w.run; given = w.given; walked = w.walked; stopped = rw (q.stopped, ne_eqb c equals_byte ne) };
       told = refl;
     }
 
 -- behind the equals sign of a parameter that began at `mid`; the places don't count it yet
 pub record Named (head places : Places) (old mid now : Remaining) : Type 0 where
-  pub closed : List (ℕ × Parameter)
-  pub spaces : ℕ
+  pub closed : List (List ℕ × Parameter)
+  pub spaces : List ℕ
   pub name : List ℕ
   pub walked : ListTo old now None (record { closed = closed; place = in_value spaces name [] })
   pub placed : places ≡ record head { pairs = head.pairs + length closed }
@@ -139,7 +140,7 @@ pub named_from : (head places : Places) (old mid r1 new : Remaining) (b c : ℕ)
     → Passes is_token_byte r1 new (Some c) → c ≡ equals_byte → Named head places old mid new
 named_from head places old mid r1 new b c t p f q e = record {
   closed = t.closed;
-  spaces = 0 + length p.run;
+  spaces = p.run;
   name = b ∷ [] ++ q.run;
   walked =
       list_byte old new c _ _ (name_walked head places old mid r1 new b (Some c) t p f q)
@@ -154,13 +155,13 @@ abbrev pub with_pair : Places → Places
 with_pair places = record places { pairs = places.pairs + 1 }
 
 -- the counted pair is that of the parameter
-placed_pair : (head places : Places) (closed : List (ℕ × Parameter)) → places ≡ record head { pairs = head.pairs + length closed }
+placed_pair : (head places : Places) (closed : List (List ℕ × Parameter)) → places ≡ record head { pairs = head.pairs + length closed }
     → with_pair places ≡ record head { pairs = head.pairs + (length closed + 1) }
 placed_pair head places closed e = ap with_pair e ∙ ap (λ n. record head { pairs = n }) (omega arith)
 
 -- the text ends behind the equals sign
 pub scans_value_end : (head places : Places) (old mid r2 new : Remaining)
-    → Named head places old mid r2 → GivesFirst r2 new None → ScansList head old new (Accepted (with_pair places))
+    → Named head places old mid r2 → GivesFirst r2 new None → ListVerdict head old new (Accepted (with_pair places))
 scans_value_end head places old mid r2 new m g =
     let w = list_first old r2 new None _ m.walked g in
     record {
@@ -173,7 +174,7 @@ scans_value_end head places old mid r2 new m g =
 -- no value begins there
 pub scans_value_stop : (head places : Places) (old mid r2 new : Remaining) (b : ℕ)
     → Named head places old mid r2 → GivesFirst r2 new (Some b) → is_token_byte b ≡ false → b ≢ quote_byte
-    → ScansList head old new (Stopped b (Some (with_pair places)))
+    → ListVerdict head old new (Stopped b (Some (with_pair places)))
 scans_value_stop head places old mid r2 new b m g f ne =
     let w = list_first old r2 new (Some b) _ m.walked g in
     record {
@@ -210,7 +211,7 @@ quotes_walked head places old mid r2 r3 new b stop m g e q =
 -- the text ends there
 pub scans_quotes_end : (head places : Places) (old mid r2 r3 new : Remaining) (b : ℕ)
     → Named head places old mid r2 → GivesFirst r2 r3 (Some b) → b ≡ quote_byte → PassesContent r3 new None
-    → ScansList head old new (Unfinished MissingQuote)
+    → ListVerdict head old new (Unfinished MissingQuote)
 scans_quotes_end head places old mid r2 r3 new b m g e q =
     let w = quotes_walked head places old mid r2 r3 new b None m g e q in
     record {
@@ -221,14 +222,14 @@ scans_quotes_end head places old mid r2 r3 new b m g e q =
     }
 
 -- a byte that can't follow between quotes and isn't the closing quote stops the list
-grow_place-quotes : (closed : List (ℕ × Parameter)) (n : ℕ) (name content : List ℕ) (b : ℕ)
+grow_place-quotes : (closed : List (List ℕ × Parameter)) (n : List ℕ) (name content : List ℕ) (b : ℕ)
     → continues_content content b ≡ false → b ≢ quote_byte → grow_place closed (in_quotes n name content) b ≡ None
 grow_place-quotes closed n name [] b f ne = rw f
 grow_place-quotes closed n name (c ∷ content) b f ne = rw (f, ne_eqb b quote_byte ne)
 
 pub scans_quotes_stop : (head places : Places) (old mid r2 r3 new : Remaining) (b c : ℕ)
     → Named head places old mid r2 → GivesFirst r2 r3 (Some b) → b ≡ quote_byte → PassesContent r3 new (Some c)
-    → c ≢ quote_byte → ScansList head old new (Stopped c None)
+    → c ≢ quote_byte → ListVerdict head old new (Stopped c None)
 scans_quotes_stop head places old mid r2 r3 new b c m g e q ne =
     let w = quotes_walked head places old mid r2 r3 new b (Some c) m g e q in
     record {
@@ -244,16 +245,16 @@ scans_quotes_stop head places old mid r2 r3 new b c m g e q ne =
     }
 
 -- a quote that can't follow the content closes it
-grow_place-closing : (closed : List (ℕ × Parameter)) (n : ℕ) (name content : List ℕ)
+grow_place-closing : (closed : List (List ℕ × Parameter)) (n : List ℕ) (name content : List ℕ)
     → continues_content content quote_byte ≡ false
-    → grow_place closed (in_quotes n name content) quote_byte ≡ Some (record { closed = closed; place = behind_quotes n name content 0 })
+    → grow_place closed (in_quotes n name content) quote_byte ≡ Some (record { closed = closed; place = behind_quotes n name content [] })
 grow_place-closing closed n name [] f = absurd (true≢false (sym quote_is_quoted ∙ f))
 grow_place-closing closed n name (c ∷ content) f = rw f
 
 -- behind the value of a parameter that began at `mid`: the text may end here, or a semicolon close it
 pub record Valued (head places : Places) (old mid now : Remaining) (stop : Option ℕ) : Type 0 where
-  pub closed : List (ℕ × Parameter)
-  pub spaces : ℕ
+  pub closed : List (List ℕ × Parameter)
+  pub spaces : List ℕ
   pub parameter : Parameter
   pub place : ListPlace
   pub walked : ListTo old now stop (record { closed = closed; place = place })
@@ -265,14 +266,14 @@ pub record Valued (head places : Places) (old mid now : Remaining) (stop : Optio
   pub less : length now.left < length mid.left
 
 -- the byte behind a token, or the end
-behind_token : (closed : List (ℕ × Parameter)) (n : ℕ) (name : List ℕ) (v : ℕ) (value : List ℕ) (left : List ℕ) (stop : Option ℕ)
+behind_token : (closed : List (List ℕ × Parameter)) (n : List ℕ) (name : List ℕ) (v : ℕ) (value : List ℕ) (left : List ℕ) (stop : Option ℕ)
     → MatchOption stop (left ≡ []) (λ b. IsFalse (is_token_byte b))
     → MatchOption stop (left ≡ []) (λ b. b ≢ semicolon_byte → grow_place closed (in_value n name (v ∷ value)) b ≡ None)
 behind_token closed n name v value left None s = s
 behind_token closed n name v value left (Some b) s = λ ne. rw (s, ne_eqb b semicolon_byte ne)
 
 -- the byte behind the spaces that follow a quoted value, or the end
-behind_spaces : (closed : List (ℕ × Parameter)) (n : ℕ) (name content : List ℕ) (m : ℕ) (left : List ℕ) (stop : Option ℕ)
+behind_spaces : (closed : List (List ℕ × Parameter)) (n : List ℕ) (name content : List ℕ) (m : List ℕ) (left : List ℕ) (stop : Option ℕ)
     → MatchOption stop (left ≡ []) (λ b. IsFalse (is_space b))
     → MatchOption stop (left ≡ []) (λ b. b ≢ semicolon_byte → grow_place closed (behind_quotes n name content m) b ≡ None)
 behind_spaces closed n name content m left None s = s
@@ -304,18 +305,18 @@ pub valued_quotes : (head places : Places) (old mid r2 r3 r4 new : Remaining) (b
     → Named head places old mid r2 → GivesFirst r2 r3 (Some b) → b ≡ quote_byte → PassesContent r3 r4 (Some c)
     → c ≡ quote_byte → Passes is_space r4 new stop → Valued head (with_pair places) old mid new stop
 valued_quotes head places old mid r2 r3 r4 new b c stop m g e q h p =
-    let w = list_byte old r4 c _ (record { closed = m.closed; place = behind_quotes m.spaces m.name q.run 0 })
+    let w = list_byte old r4 c _ (record { closed = m.closed; place = behind_quotes m.spaces m.name q.run [] })
     (quotes_walked head places old mid r2 r3 r4 b (Some c) m g e q)
     (rw h (grow_place-closing m.closed m.spaces m.name q.run (rw h at q.stopped)))
     in record {
       closed = m.closed;
       spaces = m.spaces;
-      parameter = quoted m.name q.run (0 + length p.run);
-      place = behind_quotes m.spaces m.name q.run (0 + length p.run);
-      walked = list_run old r4 new stop _ _ p.run w p.given (walk_list-behind_quotes m.closed m.spaces m.name q.run 0 p.run p.of_class);
+      parameter = quoted m.name q.run p.run;
+      place = behind_quotes m.spaces m.name q.run p.run;
+      walked = list_run old r4 new stop _ _ p.run w p.given (walk_list-behind_quotes m.closed m.spaces m.name q.run [] p.run p.of_class);
       ending = refl;
       closing = refl;
-      stopped = behind_spaces m.closed m.spaces m.name q.run (0 + length p.run) new.left stop p.stopped;
+      stopped = behind_spaces m.closed m.spaces m.name q.run p.run new.left stop p.stopped;
       placed = placed_pair head places m.closed m.placed;
       room = m.room;
       less =
@@ -323,14 +324,14 @@ valued_quotes head places old mid r2 r3 r4 new b c stop m g e q h p =
     }
 
 -- the pairs of a list that ends behind a value
-places_of_list-valued : (head : Places) (closed : List (ℕ × Parameter)) (place : ListPlace) (n : ℕ) (parameter : Parameter)
+places_of_list-valued : (head : Places) (closed : List (List ℕ × Parameter)) (place : ListPlace) (n : List ℕ) (parameter : Parameter)
     → ended place ≡ Some (final n parameter)
     → places_of_list head (record { closed = closed; place = place }) ≡ Some (record head { pairs = head.pairs + (length closed + 1) })
 places_of_list-valued head closed place n parameter e = rw e
 
 -- the text ends behind a value
 pub scans_valued_end : (head places : Places) (old mid new : Remaining) (stop : Option ℕ)
-    → Valued head places old mid new stop → stop ≡ None → ScansList head old new (Accepted places)
+    → Valued head places old mid new stop → stop ≡ None → ListVerdict head old new (Accepted places)
 scans_valued_end head places old mid new stop valued e =
     let v = rw e at valued in
     record {
@@ -342,7 +343,7 @@ scans_valued_end head places old mid new stop valued e =
 
 -- a byte that isn't a semicolon stands behind a value
 pub scans_valued_stop : (head places : Places) (old mid new : Remaining) (stop : Option ℕ) (b : ℕ)
-    → Valued head places old mid new stop → stop ≡ Some b → b ≢ semicolon_byte → ScansList head old new (Stopped b (Some places))
+    → Valued head places old mid new stop → stop ≡ Some b → b ≢ semicolon_byte → ListVerdict head old new (Stopped b (Some places))
 scans_valued_stop head places old mid new stop b valued e ne =
     let v = rw e at valued in
     record {

@@ -81,20 +81,20 @@ IsInnerParameter-lowered : (p : Parameter) → IsInnerParameter p → IsInnerPar
 IsInnerParameter-lowered (plain name value) well =
     (IsToken-lowered name well.0, lowered_value-either IsToken name value well.1 (IsToken-lowered value well.1))
 IsInnerParameter-lowered (quoted name content n) well =
-    (IsToken-lowered name well.0, lowered_value-either IsContent name content well.1 (IsContent-lowered content well.1))
+    (IsToken-lowered name well.0, lowered_value-either IsContent name content well.1 (IsContent-lowered content well.1), well.2)
 
 -- so does one at the end of the text
 IsFinalParameter-lowered : (p : Parameter) → IsFinalParameter p → IsFinalParameter (lowered_parameter p)
 IsFinalParameter-lowered (plain name value) well =
     (IsToken-lowered name well.0, lowered_value-either AreTokenBytes name value well.1 (AreTokenBytes-lowered value well.1))
 IsFinalParameter-lowered (quoted name content n) well =
-    (IsToken-lowered name well.0, lowered_value-either IsContent name content well.1 (IsContent-lowered content well.1))
+    (IsToken-lowered name well.0, lowered_value-either IsContent name content well.1 (IsContent-lowered content well.1), well.2)
 
 -- so does a parameter list
 AreParameters-lowered : (list : Parameters) → AreParameters list → AreParameters (lowered_list list)
-AreParameters-lowered (blank n) well = tt
-AreParameters-lowered (final n p) well = IsFinalParameter-lowered p well
-AreParameters-lowered (more n p rest) well = (IsInnerParameter-lowered p well.0, AreParameters-lowered rest well.1)
+AreParameters-lowered (blank n) well = well
+AreParameters-lowered (final n p) well = (well.0, IsFinalParameter-lowered p well.1)
+AreParameters-lowered (more n p rest) well = (well.0, IsInnerParameter-lowered p well.1, AreParameters-lowered rest well.2)
 
 -- so does a subtype with what follows it
 AreSubtypeAndTail-lowered : (sub : List ℕ) (tail : Tail) → AreSubtypeAndTail sub tail → AreSubtypeAndTail (lowered sub) (lowered_tail tail)

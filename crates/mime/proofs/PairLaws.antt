@@ -2,11 +2,12 @@
 use Rattle.std.proofs.Common.{◌≡◌, ℕ, zero, suc, ◌+◌, ◌-◌, ◌≤◌, Bool, true, false, cond, List, [], ◌∷◌, ◌++◌, length, take, drop, refl, sym, ap, ◌∙◌, subst, arith, append-nil, append_assoc, length-append}
 use Rattle.std.specs.Prelude.{◌==◌, not}
 use Rattle.std.specs.List.{list_all, prefix_len}
+use Rattle.std.specs.Char.{to_ascii_lowercase}
 use Rattle.std.proofs.lemmas.Bool.{not-true, and_parts, and_from, cond-true, cond-false}
 use Rattle.std.proofs.lemmas.Bool.Decides.{nat_tests}
-use Rattle.std.proofs.lemmas.List.{take_at, drop_at, take_all, drop_all, drop-drop, take-append-drop, length-replicate}
+use Rattle.std.proofs.lemmas.List.{take_at, drop_at, take_all, drop_all, drop-drop, take-append-drop}
 use Rattle.mime.specs.Bytes.{is_token_byte, is_quoted_byte, semicolon_byte, equals_byte, quote_byte, space_byte}
-use Rattle.mime.specs.Grammar.{Parameter, plain, quoted, Parameters, blank, final, more, text_of_list, text_of_parameter, spaces, AreTokenBytes, IsToken, IsContent, is_inner_byte, AreParameters, IsInnerParameter, IsFinalParameter}
+use Rattle.mime.specs.Grammar.{Parameter, plain, quoted, Parameters, blank, final, more, text_of_list, text_of_parameter, is_space, AreSpaces, AreTokenBytes, IsToken, IsContent, is_inner_byte, AreParameters, IsInnerParameter, IsFinalParameter}
 use Rattle.mime.specs.Values.{lowered, lowered_value, lowered_parameter, lowered_list, pair_of, pairs_of_list}
 use Rattle.mime.specs.Pairs.{PairCut, place_from, before_byte, behind_byte, cut_value, gap_of, without_gap, cut_of, pairs_within, lowered_first, lowered_within}
 use Rattle.mime.proofs.LoweringLaws.{length-lowered, lowered-append, lowered_value-either}
@@ -294,15 +295,10 @@ are_other-token : (byte : ℕ) → is_token_byte byte ≡ false → (bytes : Lis
     → list_all (is_other byte) bytes ≡ true
 are_other-token byte out bytes all = list_all-wider is_token_byte (is_other byte) (is_other-token byte out) bytes all
 
--- nor among spaces
-are_other-spaces : (byte n : ℕ) → is_other byte space_byte ≡ true → list_all (is_other byte) (spaces n) ≡ true
-are_other-spaces byte zero other = refl
-are_other-spaces byte (suc n) other = and_from (is_other byte space_byte) (list_all (is_other byte) (spaces n)) other (are_other-spaces byte n other)
-
--- spaces are spaces
-are_spaces : (n : ℕ) → list_all (λ b. b == space_byte) (spaces n) ≡ true
-are_spaces zero = refl
-are_spaces (suc n) = are_spaces n
+-- no byte that isn't a space is among spaces
+are_other-spaces : (byte : ℕ) → is_space byte ≡ false → (bytes : List ℕ) → AreSpaces bytes → list_all (is_other byte) bytes ≡ true
+are_other-spaces byte out bytes all =
+    list_all-wider is_space (is_other byte) (λ b member. grind (arith, nat_tests, ap is_space {x = b} {y = byte})) bytes all
 
 -- a token is bytes of tokens
 pub bytes_of_token : (bytes : List ℕ) → IsToken bytes → AreTokenBytes bytes
@@ -324,10 +320,10 @@ quote-out : is_token_byte quote_byte ≡ false
 unfolding is_token_byte
 quote-out = refl
 
--- nor is a space
-space-out : is_token_byte space_byte ≡ false
+-- a token byte is no space
+token-not_space : (b : ℕ) → is_token_byte b ≡ true → is_space b ≡ false
 unfolding is_token_byte
-space-out = refl
+token-not_space b token = grind (arith, nat_tests)
 
 -- a plain value is cut up to the semicolon or the end
 cut_value-plain : (whole : ℕ) (name value follow rest : List ℕ) → AreTokenBytes value → IsFollow follow rest
@@ -355,39 +351,38 @@ place_to_quote c content behind all =
     )
 
 -- a quoted value is cut up to its closing quote
-cut_value-quoted : (whole : ℕ) (name content : List ℕ) (n : ℕ) (follow rest : List ℕ) → IsContent content → IsFollow follow rest
-    → cut_value whole name (quote_byte ∷ (content ++ (quote_byte ∷ (spaces n ++ follow))))
-    ≡ record { name = name; head = whole - length (content ++ (quote_byte ∷ (spaces n ++ follow))); value = content; rest = rest }
-cut_value-quoted whole name [] n follow rest is follows = absurd is
-cut_value-quoted whole name (c ∷ content) n follow rest is follows =
-    let bytes : List ℕ = c ∷ (content ++ (quote_byte ∷ (spaces n ++ follow))) in
-    let place = place_to_quote c content (spaces n ++ follow) is.1 in
+cut_value-quoted : (whole : ℕ) (name content : List ℕ) (n : List ℕ) (follow rest : List ℕ) → IsContent content → AreSpaces n → IsFollow follow rest
+    → cut_value whole name (quote_byte ∷ (content ++ (quote_byte ∷ (n ++ follow))))
+    ≡ record { name = name; head = whole - length (content ++ (quote_byte ∷ (n ++ follow))); value = content; rest = rest }
+cut_value-quoted whole name [] n follow rest is white follows = absurd is
+cut_value-quoted whole name (c ∷ content) n follow rest is white follows =
+    let bytes : List ℕ = c ∷ (content ++ (quote_byte ∷ (n ++ follow))) in
+    let place = place_to_quote c content (n ++ follow) is.1 in
     let value : before_byte 1 quote_byte bytes ≡ c ∷ content =
-    take_at (c ∷ content) (quote_byte ∷ (spaces n ++ follow)) (place_from 1 quote_byte bytes) (sym place) in
-    let after : behind_byte 1 quote_byte bytes ≡ spaces n ++ follow =
-    drop_past (c ∷ content) (spaces n ++ follow) quote_byte (place_from 1 quote_byte bytes) (sym place) in
+    take_at (c ∷ content) (quote_byte ∷ (n ++ follow)) (place_from 1 quote_byte bytes) (sym place) in
+    let after : behind_byte 1 quote_byte bytes ≡ n ++ follow =
+    drop_past (c ∷ content) (n ++ follow) quote_byte (place_from 1 quote_byte bytes) (sym place) in
     let behind : behind_byte 0 semicolon_byte (behind_byte 1 quote_byte bytes) ≡ rest =
-    ap (behind_byte 0 semicolon_byte) after ∙ behind_follow (spaces n) follow rest (are_other-spaces semicolon_byte n refl) follows in
+    ap (behind_byte 0 semicolon_byte) after ∙ behind_follow n follow rest (are_other-spaces semicolon_byte refl n white) follows in
     cc
 
 -- the spaces before a name are cut off
-without_gap-token : (n : ℕ) (name behind : List ℕ) → IsToken name
-    → without_gap (spaces n ++ (name ++ behind)) ≡ name ++ behind
-without_gap-token n [] behind is = absurd is
-without_gap-token n (b ∷ name) behind is =
+without_gap-token : (n name behind : List ℕ) → AreSpaces n → IsToken name
+    → without_gap (n ++ (name ++ behind)) ≡ name ++ behind
+without_gap-token n [] behind white is = absurd is
+without_gap-token n (b ∷ name) behind white is =
     let first = and_parts (is_token_byte b) (list_all is_token_byte name) is in
-    let other = not-true (b == space_byte) (is_other-token space_byte space-out b first.0) in
-    drop_at (spaces n) (b ∷ name ++ behind) (gap_of (spaces n ++ (b ∷ name ++ behind)))
-    (sym (run_to (λ x. x == space_byte) (spaces n) b (name ++ behind) (are_spaces n) other))
+    drop_at n (b ∷ name ++ behind) (gap_of (n ++ (b ∷ name ++ behind)))
+    (sym (run_to is_space n b (name ++ behind) white (token-not_space b first.0)))
 
 -- a name is cut from the spaces before it up to the equals sign
-cut_of-named : (n : ℕ) (name behind : List ℕ) → IsToken name
-    → cut_of (spaces n ++ (name ++ (equals_byte ∷ behind)))
-    ≡ cut_value (length (spaces n ++ (name ++ (equals_byte ∷ behind)))) name behind
+cut_of-named : (n name behind : List ℕ) → AreSpaces n → IsToken name
+    → cut_of (n ++ (name ++ (equals_byte ∷ behind)))
+    ≡ cut_value (length (n ++ (name ++ (equals_byte ∷ behind)))) name behind
 unfolding cut_of
-cut_of-named n name behind is =
+cut_of-named n name behind white is =
     let others = are_other-token equals_byte equals-out name (bytes_of_token name is) in
-    rw (without_gap-token n name (equals_byte ∷ behind) is, before_to equals_byte name behind others, behind_to equals_byte name behind others)
+    rw (without_gap-token n name (equals_byte ∷ behind) white is, before_to equals_byte name behind others, behind_to equals_byte name behind others)
 
 -- what stands before the value of a parameter, and what stands behind it
 abbrev pub head_of : Parameter → List ℕ
@@ -397,38 +392,37 @@ head_of (quoted name content n) = name ++ (equals_byte ∷ quote_byte ∷ [])
 -- and what stands behind it
 abbrev pub end_of : Parameter → List ℕ
 end_of (plain name value) = []
-end_of (quoted name content n) = quote_byte ∷ spaces n
+end_of (quoted name content n) = quote_byte ∷ n
 
 -- the place of a value, counted from the end
-head_counted : (n : ℕ) (name opening behind : List ℕ)
-    → length (spaces n ++ (name ++ (opening ++ behind))) - length behind ≡ n + length (name ++ opening)
+head_counted : (n name opening behind : List ℕ)
+    → length (n ++ (name ++ (opening ++ behind))) - length behind ≡ length n + length (name ++ opening)
 head_counted n name opening behind =
     omega (
       arith,
-      length-append (spaces n) (name ++ (opening ++ behind)),
+      length-append n (name ++ (opening ++ behind)),
       length-append name (opening ++ behind),
       length-append opening behind,
       length-append name opening,
-      length-replicate n space_byte,
     )
 
 -- the first pair cut from the text of a parameter and what follows it
-pub cut_of-parameter : (n : ℕ) (p : Parameter) (follow rest : List ℕ) → IsFinalParameter p → IsFollow follow rest
-    → cut_of (spaces n ++ (text_of_parameter p ++ follow))
-    ≡ record { name = (pair_of p).0; head = n + length (head_of p); value = (pair_of p).1; rest = rest }
-cut_of-parameter n (plain name value) follow rest well follows =
-    ap (λ x. cut_of (spaces n ++ x)) (append_assoc name (equals_byte ∷ value) follow)
-    ∙ cut_of-named n name (value ++ follow) well.0
-    ∙ cut_value-plain (length (spaces n ++ (name ++ (equals_byte ∷ (value ++ follow))))) name value follow rest well.1 follows
+pub cut_of-parameter : (n : List ℕ) (p : Parameter) (follow rest : List ℕ) → AreSpaces n → IsFinalParameter p → IsFollow follow rest
+    → cut_of (n ++ (text_of_parameter p ++ follow))
+    ≡ record { name = (pair_of p).0; head = length n + length (head_of p); value = (pair_of p).1; rest = rest }
+cut_of-parameter n (plain name value) follow rest white well follows =
+    ap (λ x. cut_of (n ++ x)) (append_assoc name (equals_byte ∷ value) follow)
+    ∙ cut_of-named n name (value ++ follow) white well.0
+    ∙ cut_value-plain (length (n ++ (name ++ (equals_byte ∷ (value ++ follow))))) name value follow rest well.1 follows
     ∙ ap (λ h. record { name = name; head = h; value = value; rest = rest }) (head_counted n name (equals_byte ∷ []) (value ++ follow))
-cut_of-parameter n (quoted name content m) follow rest well follows =
-    ap (λ x. cut_of (spaces n ++ x)) (append_assoc name (equals_byte ∷ quote_byte ∷ (content ++ (quote_byte ∷ spaces m))) follow
-    ∙ ap (λ x. name ++ (equals_byte ∷ quote_byte ∷ x)) (append_assoc content (quote_byte ∷ spaces m) follow))
-    ∙ cut_of-named n name (quote_byte ∷ (content ++ (quote_byte ∷ (spaces m ++ follow)))) well.0
-    ∙ cut_value-quoted (length (spaces n ++ (name ++ (equals_byte ∷ quote_byte ∷ (content ++ (quote_byte ∷ (spaces m ++ follow)))))))
-    name content m follow rest well.1 follows
+cut_of-parameter n (quoted name content m) follow rest white well follows =
+    ap (λ x. cut_of (n ++ x)) (append_assoc name (equals_byte ∷ quote_byte ∷ (content ++ (quote_byte ∷ m))) follow
+    ∙ ap (λ x. name ++ (equals_byte ∷ quote_byte ∷ x)) (append_assoc content (quote_byte ∷ m) follow))
+    ∙ cut_of-named n name (quote_byte ∷ (content ++ (quote_byte ∷ (m ++ follow)))) white well.0
+    ∙ cut_value-quoted (length (n ++ (name ++ (equals_byte ∷ quote_byte ∷ (content ++ (quote_byte ∷ (m ++ follow)))))))
+    name content m follow rest well.1 well.2 follows
     ∙ ap (λ h. record { name = name; head = h; value = content; rest = rest })
-    (head_counted n name (equals_byte ∷ quote_byte ∷ []) (content ++ (quote_byte ∷ (spaces m ++ follow))))
+    (head_counted n name (equals_byte ∷ quote_byte ∷ []) (content ++ (quote_byte ∷ (m ++ follow))))
 
 -- a parameter that a semicolon follows may end a text too
 IsFinalParameter-inner : (p : Parameter) → IsInnerParameter p → IsFinalParameter p
@@ -439,14 +433,14 @@ IsFinalParameter-inner (quoted name content n) well = well
 pub pairs_within-text_of_list : (list : Parameters) → AreParameters list
     → pairs_within (length (pairs_of_list list)) (text_of_list list) ≡ pairs_of_list list
 pairs_within-text_of_list (blank n) well = refl
-pairs_within-text_of_list (final n p) well =
-    ap (λ x. ((cut_of (spaces n ++ x)).name, (cut_of (spaces n ++ x)).value) ∷ []) (sym (append-nil (text_of_parameter p)))
-    ∙ ap (λ (cut : PairCut). (cut.name, cut.value) ∷ []) (cut_of-parameter n p [] [] well nothing)
-pairs_within-text_of_list (more n p rest) well =
+pairs_within-text_of_list (final n p) (white, well) =
+    ap (λ x. ((cut_of (n ++ x)).name, (cut_of (n ++ x)).value) ∷ []) (sym (append-nil (text_of_parameter p)))
+    ∙ ap (λ (cut : PairCut). (cut.name, cut.value) ∷ []) (cut_of-parameter n p [] [] white well nothing)
+pairs_within-text_of_list (more n p rest) (white, well, others) =
     ap (λ (cut : PairCut). (cut.name, cut.value) ∷ pairs_within (length (pairs_of_list rest)) cut.rest)
-    (cut_of-parameter n p (semicolon_byte ∷ text_of_list rest) (text_of_list rest) (IsFinalParameter-inner p well.0)
+    (cut_of-parameter n p (semicolon_byte ∷ text_of_list rest) (text_of_list rest) white (IsFinalParameter-inner p well)
     (semicolon (text_of_list rest)))
-    ∙ ap (λ pairs. pair_of p ∷ pairs) (pairs_within-text_of_list rest well.1)
+    ∙ ap (λ pairs. pair_of p ∷ pairs) (pairs_within-text_of_list rest others)
 
 -- what the first cut and the lowering of the rest give together
 lowered_within-cut : (count : ℕ) (list front middle name value rest : List ℕ)
@@ -469,9 +463,12 @@ text_of_parameter-parts (plain name value) behind = simp append_assoc
 text_of_parameter-parts (quoted name content n) behind = simp append_assoc
 
 -- spaces are small
-lowered-spaces : (n : ℕ) → lowered (spaces n) ≡ spaces n
-lowered-spaces zero = refl
-lowered-spaces (suc n) = ap (λ x. space_byte ∷ x) (lowered-spaces n)
+lowered-spaces : (bytes : List ℕ) → AreSpaces bytes → lowered bytes ≡ bytes
+lowered-spaces [] white = refl
+lowered-spaces (b ∷ bytes) white =
+    let parts = and_parts (is_space b) (list_all is_space bytes) white in
+    let same : to_ascii_lowercase b ≡ b = grind (arith, nat_tests, parts.0) in
+    cc (same, lowered-spaces bytes parts.1)
 
 -- what stands before a lowered value
 lowered-head_of : (p : Parameter) → lowered (head_of p) ≡ head_of (lowered_parameter p)
@@ -489,19 +486,19 @@ end_of-lowered (plain name value) = refl
 end_of-lowered (quoted name content n) = refl
 
 -- the text of a list, its first parameter apart, lowered pair by pair
-lowered_within-parameter : (count n : ℕ) (p : Parameter) (between rest : List ℕ) → IsFinalParameter p → IsFollow (between ++ rest) rest
-    → lowered_within (suc count) (spaces n ++ (text_of_parameter p ++ (between ++ rest)))
-    ≡ spaces n ++ (text_of_parameter (lowered_parameter p) ++ (between ++ lowered_within count rest))
-lowered_within-parameter count n p between rest well follows =
-    lowered_within-cut count (spaces n ++ (text_of_parameter p ++ (between ++ rest))) (spaces n ++ head_of p) (end_of p ++ between)
+lowered_within-parameter : (count : ℕ) (n : List ℕ) (p : Parameter) (between rest : List ℕ) → AreSpaces n → IsFinalParameter p → IsFollow (between ++ rest) rest
+    → lowered_within (suc count) (n ++ (text_of_parameter p ++ (between ++ rest)))
+    ≡ n ++ (text_of_parameter (lowered_parameter p) ++ (between ++ lowered_within count rest))
+lowered_within-parameter count n p between rest white well follows =
+    lowered_within-cut count (n ++ (text_of_parameter p ++ (between ++ rest))) (n ++ head_of p) (end_of p ++ between)
     (pair_of p).0 (pair_of p).1 rest
-    (cut_of-parameter n p (between ++ rest) rest well follows
+    (cut_of-parameter n p (between ++ rest) rest white well follows
     ∙ ap (λ h. record { name = (pair_of p).0; head = h; value = (pair_of p).1; rest = rest })
-    (omega (arith, length-append (spaces n) (head_of p), length-replicate n space_byte)))
-    (ap (λ x. spaces n ++ x) (text_of_parameter-parts p (between ++ rest)) ∙ simp append_assoc)
+    (omega (arith, length-append n (head_of p))))
+    (ap (λ x. n ++ x) (text_of_parameter-parts p (between ++ rest)) ∙ simp append_assoc)
     ∙ rw (
-      lowered-append (spaces n) (head_of p),
-      lowered-spaces n,
+      lowered-append n (head_of p),
+      lowered-spaces n white,
       lowered-head_of p,
       pair_of-lowered p,
       end_of-lowered p,
@@ -512,11 +509,11 @@ lowered_within-parameter count n p between rest well follows =
 pub lowered_within-text_of_list : (list : Parameters) → AreParameters list
     → lowered_within (length (pairs_of_list list)) (text_of_list list) ≡ text_of_list (lowered_list list)
 lowered_within-text_of_list (blank n) well = refl
-lowered_within-text_of_list (final n p) well =
-    ap (λ x. lowered_within 1 (spaces n ++ x)) (sym (append-nil (text_of_parameter p)))
-    ∙ lowered_within-parameter 0 n p [] [] well nothing
-    ∙ ap (λ x. spaces n ++ x) (append-nil (text_of_parameter (lowered_parameter p)))
-lowered_within-text_of_list (more n p rest) well =
+lowered_within-text_of_list (final n p) (white, well) =
+    ap (λ x. lowered_within 1 (n ++ x)) (sym (append-nil (text_of_parameter p)))
+    ∙ lowered_within-parameter 0 n p [] [] white well nothing
+    ∙ ap (λ x. n ++ x) (append-nil (text_of_parameter (lowered_parameter p)))
+lowered_within-text_of_list (more n p rest) (white, well, others) =
     lowered_within-parameter (length (pairs_of_list rest)) n p (semicolon_byte ∷ []) (text_of_list rest)
-    (IsFinalParameter-inner p well.0) (semicolon (text_of_list rest))
-    ∙ ap (λ x. spaces n ++ (text_of_parameter (lowered_parameter p) ++ (semicolon_byte ∷ x))) (lowered_within-text_of_list rest well.1)
+    white (IsFinalParameter-inner p well) (semicolon (text_of_list rest))
+    ∙ ap (λ x. n ++ (text_of_parameter (lowered_parameter p) ++ (semicolon_byte ∷ x))) (lowered_within-text_of_list rest others)

@@ -18,6 +18,7 @@ use Rattle.mime.specs.Pairs.{cut_of, pairs_within}
 use Rattle.mime.specs.Storage.{IsStored, media_of, IsLowPair, AreLowPairs, pairs_behind}
 use Rattle.mime.specs.declared.scan.Places.{Places}
 use Rattle.mime.proofs.Readings.{one_tree}
+use Rattle.mime.proofs.Viability.{refused-at_dead}
 use Rattle.mime.proofs.LoweringLaws.{lowered-take, lowered-drop}
 use Rattle.mime.proofs.StorageLaws.{stored-low_pairs, stored-slash, stored-slash_within, stored-plus, stored-plus_above, stored-plus_within, stored-length_essence, stored-low_essence}
 
@@ -148,7 +149,7 @@ pub refused-from_fault : (text : List ℕ) (fault : ParseError) → IsFault text
 refused-from_fault text MissingSlash fault = fault.0
 refused-from_fault text MissingEqual fault = fault.0
 refused-from_fault text MissingQuote fault = fault.0
-refused-from_fault text (InvalidToken pos byte) fault = fault.refused
+refused-from_fault text (InvalidToken pos byte) fault = refused-at_dead text pos byte fault
 refused-from_fault text NoMemory fault = elim fault [ ]
 
 -- `*/*` is accepted

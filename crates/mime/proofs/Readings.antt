@@ -1,16 +1,15 @@
 -- What a walk says of its text: which tree spells it, and that no other does.
 use Rattle.std.proofs.Common.{◌≡◌, ℕ, zero, suc, List, [], ◌∷◌, ◌++◌, Some, None, refl, sym, ap, ◌∙◌, arith, append-nil}
-use Rattle.std.proofs.lemmas.List.{length-replicate}
+use Rattle.std.proofs.lemmas.Bool.Decides.{nat_tests}
 use Rattle.std.proofs.lemmas.Bool.{and_parts, cond-true, cond-false, eqb-true, false_from_ne_true, both_ways}
 use Rattle.std.proofs.lemmas.Option.{same_Some, none-some, MatchOption-at_some}
 use Rattle.std.specs.Prelude.{IsTrue, IsFalse, ◌==◌}
 use Rattle.std.specs.List.{list_all}
 use Rattle.std.specs.Option.{option_and_then, option_map}
 use Rattle.mime.specs.Bytes.{is_token_byte, is_quoted_byte, slash_byte, semicolon_byte, equals_byte, quote_byte, space_byte}
-use Rattle.mime.specs.Grammar.{Parameter, plain, quoted, Parameters, blank, final, more, Tail, no_list, listed, SyntaxTree, spaces, text_of_parameter, text_of_list, text_of, AreTokenBytes, IsToken, IsContent, IsInnerParameter, IsFinalParameter, AreParameters, AreSubtypeAndTail, IsWellFormed}
+use Rattle.mime.specs.Grammar.{Parameter, plain, quoted, Parameters, blank, final, more, Tail, no_list, listed, SyntaxTree, is_space, AreSpaces, text_of_parameter, text_of_list, text_of, AreTokenBytes, IsToken, IsContent, IsInnerParameter, IsFinalParameter, AreParameters, AreSubtypeAndTail, IsWellFormed}
 use Rattle.mime.specs.Values.{MediaType, value_of, Reads, IsAccepted, IsRefused}
-use Rattle.mime.specs.Scanning.{is_space}
-use Rattle.mime.specs.Begun.{Begun, in_type, in_subtype, in_list, BegunList, ListPlace, in_spaces, in_name, in_value, in_quotes, behind_quotes, begun_list, grow, grow_place, walk, walk_from, walk_list, with_closed, ended_list, tree_of}
+use Rattle.mime.proofs.Begun.{Begun, in_type, in_subtype, in_list, BegunList, ListPlace, in_spaces, in_name, in_value, in_quotes, behind_quotes, begun_list, grow, grow_place, walk, walk_from, walk_list, with_closed, ended_list, tree_of}
 use Rattle.mime.proofs.Walks.{walk_from-step, walk_list-step, walk_from-append_some, walk_list-append_some, walk_from-in_list, walk-type, walk_from-subtype, walk_list-spaces, walk_list-name, walk_list-value, walk_list-quotes, walk_list-behind_quotes}
 use Rattle.mime.proofs.Spelling.{text_of_begun, walk_from-lengthens, tree_of-spelled}
 
@@ -32,18 +31,18 @@ token_byte-not b mark none token =
     (λ same. both_ways (is_token_byte mark) none (sym (ap is_token_byte (eqb-true b mark same)) ∙ token))
 
 -- the place that a parameter at the end of a list leads to
-abbrev place_of : ℕ → Parameter → ListPlace
+abbrev place_of : List ℕ → Parameter → ListPlace
 place_of n (plain name value) = in_value n name value
 place_of n (quoted name content m) = behind_quotes n name content m
 
 -- the begun list that a list behind closed parameters leads to
-abbrev begun_of : List (ℕ × Parameter) → Parameters → BegunList
+abbrev begun_of : List (List ℕ × Parameter) → Parameters → BegunList
 begun_of closed (blank n) = record { closed = closed; place = in_spaces n }
 begun_of closed (final n parameter) = record { closed = closed; place = place_of n parameter }
 begun_of closed (more n parameter rest) = begun_of ((n, parameter) ∷ closed) rest
 
 -- the list that a list leads to is that list
-ended_list-begun_of : (closed : List (ℕ × Parameter)) (list : Parameters)
+ended_list-begun_of : (closed : List (List ℕ × Parameter)) (list : Parameters)
     → ended_list (begun_of closed list) ≡ Some (with_closed closed list)
 ended_list-begun_of closed (blank n) = refl
 ended_list-begun_of closed (final n (plain name value)) = refl
@@ -51,21 +50,21 @@ ended_list-begun_of closed (final n (quoted name content m)) = refl
 ended_list-begun_of closed (more n parameter rest) = ended_list-begun_of ((n, parameter) ∷ closed) rest
 
 -- an equals sign ends a name
-grow_place-equals : (closed : List (ℕ × Parameter)) (n : ℕ) (name : List ℕ)
+grow_place-equals : (closed : List (List ℕ × Parameter)) (n : List ℕ) (name : List ℕ)
     → grow_place closed (in_name n name) equals_byte ≡ Some (record { closed = closed; place = in_value n name [] })
 unfolding is_token_byte
 grow_place-equals closed n name = refl
 
 -- a quote before the first byte of a value opens it
-grow_place-opened : (closed : List (ℕ × Parameter)) (n : ℕ) (name : List ℕ)
+grow_place-opened : (closed : List (List ℕ × Parameter)) (n : List ℕ) (name : List ℕ)
     → grow_place closed (in_value n name []) quote_byte ≡ Some (record { closed = closed; place = in_quotes n name [] })
 unfolding is_token_byte
 grow_place-opened closed n name = refl
 
 -- a quote behind content closes it
-grow_place-unquoted : (closed : List (ℕ × Parameter)) (n : ℕ) (name : List ℕ) (c : ℕ) (content : List ℕ)
+grow_place-unquoted : (closed : List (List ℕ × Parameter)) (n : List ℕ) (name : List ℕ) (c : ℕ) (content : List ℕ)
     → grow_place closed (in_quotes n name (c ∷ content)) quote_byte
-    ≡ Some (record { closed = closed; place = behind_quotes n name (c ∷ content) 0 })
+    ≡ Some (record { closed = closed; place = behind_quotes n name (c ∷ content) [] })
 unfolding is_quoted_byte
 grow_place-unquoted closed n name c content = refl
 
@@ -75,38 +74,31 @@ unfolding is_token_byte
 grow-slash t top = refl
 
 -- a semicolon ends a subtype
-grow-semicolon : (top sub : List ℕ) → IsToken sub → grow (in_subtype top sub) semicolon_byte ≡ Some (in_list top sub begun_list)
+pub grow-semicolon : (top sub : List ℕ) → IsToken sub → grow (in_subtype top sub) semicolon_byte ≡ Some (in_list top sub begun_list)
 unfolding is_token_byte
 grow-semicolon top [] token = absurd token
 grow-semicolon top (s ∷ sub) token = refl
 
--- a space is no token byte
-token_byte-not_space : IsFalse (is_token_byte space_byte)
+-- a token byte is no space
+token_byte-not_space : (b : ℕ) → IsTrue (is_token_byte b) → IsFalse (is_space b)
 unfolding is_token_byte
-token_byte-not_space = refl
-
--- spaces are a run of spaces
-list_all-spaces : (n : ℕ) → IsTrue (list_all is_space (spaces n))
-list_all-spaces zero = refl
-list_all-spaces (suc n) = list_all-spaces n
+token_byte-not_space b token = grind (arith, nat_tests)
 
 -- spaces behind a semicolon
-walk_list-leading : (closed : List (ℕ × Parameter)) (n : ℕ)
-    → walk_list (record { closed = closed; place = in_spaces 0 }) (spaces n)
+walk_list-leading : (closed : List (List ℕ × Parameter)) (n : List ℕ) → AreSpaces n
+    → walk_list (record { closed = closed; place = in_spaces [] }) n
     ≡ Some (record { closed = closed; place = in_spaces n })
-walk_list-leading closed n =
-    walk_list-spaces closed 0 (spaces n) (list_all-spaces n)
-    ∙ ap (λ k. Some (record { closed = closed; place = in_spaces k })) (omega (arith, length-replicate n space_byte))
+walk_list-leading closed n fine = walk_list-spaces closed [] n fine
 
 -- a name and what follows it behind spaces
-walk_list-named : (closed : List (ℕ × Parameter)) (n : ℕ) (name rest : List ℕ) → IsToken name
+walk_list-named : (closed : List (List ℕ × Parameter)) (n : List ℕ) (name rest : List ℕ) → IsToken name
     → walk_list (record { closed = closed; place = in_spaces n }) (name ++ (equals_byte ∷ rest))
     ≡ walk_list (record { closed = closed; place = in_value n name [] }) rest
 walk_list-named closed n [] rest token = absurd token
 walk_list-named closed n (b ∷ name) rest token =
     let parts = and_parts (is_token_byte b) (list_all is_token_byte name) token in
     let begins : grow_place closed (in_spaces n) b ≡ Some (record { closed = closed; place = in_name n (b ∷ []) }) =
-    cond-false (b == space_byte) _ _ (token_byte-not b space_byte token_byte-not_space parts.0)
+    cond-false (is_space b) _ _ (token_byte-not_space b parts.0)
     ∙ cond-true (is_token_byte b) _ _ parts.0 in
     walk_list-step (record { closed = closed; place = in_spaces n })
     (record { closed = closed; place = in_name n (b ∷ []) }) b (name ++ (equals_byte ∷ rest)) begins
@@ -117,7 +109,7 @@ walk_list-named closed n (b ∷ name) rest token =
     (record { closed = closed; place = in_value n (b ∷ name) [] }) equals_byte rest (grow_place-equals closed n (b ∷ name))
 
 -- a plain value
-walk_list-plain : (closed : List (ℕ × Parameter)) (n : ℕ) (name value : List ℕ) → AreTokenBytes value
+walk_list-plain : (closed : List (List ℕ × Parameter)) (n : List ℕ) (name value : List ℕ) → AreTokenBytes value
     → walk_list (record { closed = closed; place = in_value n name [] }) value
     ≡ Some (record { closed = closed; place = in_value n name value })
 walk_list-plain closed n name [] tokens = refl
@@ -128,41 +120,39 @@ walk_list-plain closed n name (v ∷ value) tokens =
     ∙ walk_list-value closed n name v [] value parts.1
 
 -- a quoted value with the spaces behind it
-walk_list-quoted : (closed : List (ℕ × Parameter)) (n : ℕ) (name content : List ℕ) (m : ℕ) → IsContent content
-    → walk_list (record { closed = closed; place = in_value n name [] }) (quote_byte ∷ (content ++ (quote_byte ∷ spaces m)))
+walk_list-quoted : (closed : List (List ℕ × Parameter)) (n : List ℕ) (name content : List ℕ) (m : List ℕ) → IsContent content → AreSpaces m
+    → walk_list (record { closed = closed; place = in_value n name [] }) (quote_byte ∷ (content ++ (quote_byte ∷ m)))
     ≡ Some (record { closed = closed; place = behind_quotes n name content m })
-walk_list-quoted closed n name [] m fine = absurd fine
-walk_list-quoted closed n name (c ∷ content) m fine =
+walk_list-quoted closed n name [] m fine white = absurd fine
+walk_list-quoted closed n name (c ∷ content) m fine white =
     walk_list-step (record { closed = closed; place = in_value n name [] })
-    (record { closed = closed; place = in_quotes n name [] }) quote_byte (c ∷ (content ++ (quote_byte ∷ spaces m)))
+    (record { closed = closed; place = in_quotes n name [] }) quote_byte (c ∷ (content ++ (quote_byte ∷ m)))
     (grow_place-opened closed n name)
     ∙ walk_list-step (record { closed = closed; place = in_quotes n name [] })
-    (record { closed = closed; place = in_quotes n name (c ∷ []) }) c (content ++ (quote_byte ∷ spaces m))
+    (record { closed = closed; place = in_quotes n name (c ∷ []) }) c (content ++ (quote_byte ∷ m))
     (cond-true (is_quoted_byte c) _ _ fine.0)
     ∙ walk_list-append_some (record { closed = closed; place = in_quotes n name (c ∷ []) })
-    (record { closed = closed; place = in_quotes n name (c ∷ content) }) content (quote_byte ∷ spaces m)
+    (record { closed = closed; place = in_quotes n name (c ∷ content) }) content (quote_byte ∷ m)
     (walk_list-quotes closed n name c [] content fine.1)
     ∙ walk_list-step (record { closed = closed; place = in_quotes n name (c ∷ content) })
-    (record { closed = closed; place = behind_quotes n name (c ∷ content) 0 }) quote_byte (spaces m)
+    (record { closed = closed; place = behind_quotes n name (c ∷ content) [] }) quote_byte m
     (grow_place-unquoted closed n name c content)
-    ∙ walk_list-behind_quotes closed n name (c ∷ content) 0 (spaces m) (list_all-spaces m)
-    ∙ ap (λ k. Some (record { closed = closed; place = behind_quotes n name (c ∷ content) k }))
-    (omega (arith, length-replicate m space_byte))
+    ∙ walk_list-behind_quotes closed n name (c ∷ content) [] m white
 
 -- a parameter at the end of a list
-walk_list-parameter : (closed : List (ℕ × Parameter)) (n : ℕ) (parameter : Parameter) → IsFinalParameter parameter
+walk_list-parameter : (closed : List (List ℕ × Parameter)) (n : List ℕ) (parameter : Parameter) → IsFinalParameter parameter
     → walk_list (record { closed = closed; place = in_spaces n }) (text_of_parameter parameter)
     ≡ Some (record { closed = closed; place = place_of n parameter })
 walk_list-parameter closed n (plain name value) fine =
     walk_list-named closed n name value fine.0 ∙ walk_list-plain closed n name value fine.1
 walk_list-parameter closed n (quoted name content m) fine =
-    walk_list-named closed n name (quote_byte ∷ (content ++ (quote_byte ∷ spaces m))) fine.0
-    ∙ walk_list-quoted closed n name content m fine.1
+    walk_list-named closed n name (quote_byte ∷ (content ++ (quote_byte ∷ m))) fine.0
+    ∙ walk_list-quoted closed n name content m fine.1 fine.2
 
 -- a semicolon behind a whole parameter
-grow_place-closed : (closed : List (ℕ × Parameter)) (n : ℕ) (parameter : Parameter) → IsInnerParameter parameter
+grow_place-closed : (closed : List (List ℕ × Parameter)) (n : List ℕ) (parameter : Parameter) → IsInnerParameter parameter
     → grow_place closed (place_of n parameter) semicolon_byte
-    ≡ Some (record { closed = (n, parameter) ∷ closed; place = in_spaces 0 })
+    ≡ Some (record { closed = (n, parameter) ∷ closed; place = in_spaces [] })
 unfolding is_token_byte
 grow_place-closed closed n (plain name []) fine = absurd fine.1
 grow_place-closed closed n (plain name (v ∷ value)) fine = refl
@@ -175,25 +165,25 @@ IsFinalParameter-from_inner (plain name (v ∷ value)) fine = fine
 IsFinalParameter-from_inner (quoted name content m) fine = fine
 
 -- the text of a list
-walk_list-text : (closed : List (ℕ × Parameter)) (list : Parameters) → AreParameters list
-    → walk_list (record { closed = closed; place = in_spaces 0 }) (text_of_list list) ≡ Some (begun_of closed list)
-walk_list-text closed (blank n) fine = walk_list-leading closed n
+walk_list-text : (closed : List (List ℕ × Parameter)) (list : Parameters) → AreParameters list
+    → walk_list (record { closed = closed; place = in_spaces [] }) (text_of_list list) ≡ Some (begun_of closed list)
+walk_list-text closed (blank n) fine = walk_list-leading closed n fine
 walk_list-text closed (final n parameter) fine =
-    walk_list-append_some (record { closed = closed; place = in_spaces 0 }) (record { closed = closed; place = in_spaces n })
-    (spaces n) (text_of_parameter parameter) (walk_list-leading closed n)
-    ∙ walk_list-parameter closed n parameter fine
+    walk_list-append_some (record { closed = closed; place = in_spaces [] }) (record { closed = closed; place = in_spaces n })
+    n (text_of_parameter parameter) (walk_list-leading closed n fine.0)
+    ∙ walk_list-parameter closed n parameter fine.1
 walk_list-text closed (more n parameter rest) fine =
-    walk_list-append_some (record { closed = closed; place = in_spaces 0 }) (record { closed = closed; place = in_spaces n })
-    (spaces n) (text_of_parameter parameter ++ (semicolon_byte ∷ text_of_list rest)) (walk_list-leading closed n)
+    walk_list-append_some (record { closed = closed; place = in_spaces [] }) (record { closed = closed; place = in_spaces n })
+    n (text_of_parameter parameter ++ (semicolon_byte ∷ text_of_list rest)) (walk_list-leading closed n fine.0)
     ∙ walk_list-append_some (record { closed = closed; place = in_spaces n })
     (record { closed = closed; place = place_of n parameter }) (text_of_parameter parameter)
     (semicolon_byte ∷ text_of_list rest)
-    (walk_list-parameter closed n parameter (IsFinalParameter-from_inner parameter fine.0))
-    ∙ ap (option_and_then (λ next. walk_list next (text_of_list rest))) (grow_place-closed closed n parameter fine.0)
-    ∙ walk_list-text ((n, parameter) ∷ closed) rest fine.1
+    (walk_list-parameter closed n parameter (IsFinalParameter-from_inner parameter fine.1))
+    ∙ ap (option_and_then (λ next. walk_list next (text_of_list rest))) (grow_place-closed closed n parameter fine.1)
+    ∙ walk_list-text ((n, parameter) ∷ closed) rest fine.2
 
 -- type and slash
-walk-slash : (top rest : List ℕ) → IsToken top → walk (top ++ (slash_byte ∷ rest)) ≡ walk_from (in_subtype top []) rest
+pub walk-slash : (top rest : List ℕ) → IsToken top → walk (top ++ (slash_byte ∷ rest)) ≡ walk_from (in_subtype top []) rest
 walk-slash [] rest token = absurd token
 walk-slash (t ∷ top) rest token =
     let parts = and_parts (is_token_byte t) (list_all is_token_byte top) token in
@@ -201,7 +191,7 @@ walk-slash (t ∷ top) rest token =
     ∙ walk_from-step (in_type (t ∷ top)) (in_subtype (t ∷ top) []) slash_byte rest (grow-slash t top)
 
 -- subtype
-walk_from-sub : (top sub : List ℕ) → AreTokenBytes sub → walk_from (in_subtype top []) sub ≡ Some (in_subtype top sub)
+pub walk_from-sub : (top sub : List ℕ) → AreTokenBytes sub → walk_from (in_subtype top []) sub ≡ Some (in_subtype top sub)
 walk_from-sub top [] tokens = refl
 walk_from-sub top (s ∷ sub) tokens =
     let parts = and_parts (is_token_byte s) (list_all is_token_byte sub) tokens in
@@ -209,7 +199,7 @@ walk_from-sub top (s ∷ sub) tokens =
     ∙ walk_from-subtype top s [] sub parts.1
 
 -- a token is token bytes
-AreTokenBytes-from_token : (bytes : List ℕ) → IsToken bytes → AreTokenBytes bytes
+pub AreTokenBytes-from_token : (bytes : List ℕ) → IsToken bytes → AreTokenBytes bytes
 AreTokenBytes-from_token [] token = absurd token
 AreTokenBytes-from_token (b ∷ bytes) token = token
 

@@ -7,24 +7,24 @@ use Rattle.std.specs.Prelude.{IsTrue, IsFalse, MatchOption, if◌then◌else◌,
 use Rattle.std.specs.List.{list_all}
 use Rattle.std.specs.Option.{option_and_then, option_map}
 use Rattle.mime.specs.Bytes.{is_token_byte, is_quoted_byte, slash_byte, semicolon_byte, equals_byte, quote_byte, space_byte}
-use Rattle.mime.specs.Grammar.{Parameter, plain, quoted, Parameters, blank, final, more, listed, spaces, text_of_parameter, text_of_list, text_of, AreTokenBytes, IsToken, is_inner_byte, IsContent, IsInnerParameter, AreParameters, IsWellFormed}
-use Rattle.mime.specs.Begun.{Begun, in_type, in_subtype, in_list, BegunList, ListPlace, in_spaces, in_name, in_value, in_quotes, behind_quotes, grow, grow_place, grow_list, walk_from, with_closed, ended, ended_list, tree_of}
+use Rattle.mime.specs.Grammar.{Parameter, plain, quoted, Parameters, blank, final, more, listed, is_space, AreSpaces, text_of_parameter, text_of_list, text_of, AreTokenBytes, IsToken, is_inner_byte, IsContent, IsInnerParameter, AreParameters, IsWellFormed}
+use Rattle.mime.proofs.Begun.{Begun, in_type, in_subtype, in_list, BegunList, ListPlace, in_spaces, in_name, in_value, in_quotes, behind_quotes, grow, grow_place, grow_list, walk_from, with_closed, ended, ended_list, tree_of}
 
 -- ---- begun trees: their texts, and that each part is in its class
 
 -- the text of the parameters that a semicolon closed
-abbrev pub text_of_closed : List (ℕ × Parameter) → List ℕ
+abbrev pub text_of_closed : List (List ℕ × Parameter) → List ℕ
 text_of_closed [] = []
 text_of_closed (item ∷ closed) =
-    text_of_closed closed ++ (spaces item.0 ++ (text_of_parameter item.1 ++ (semicolon_byte ∷ [])))
+    text_of_closed closed ++ (item.0 ++ (text_of_parameter item.1 ++ (semicolon_byte ∷ [])))
 
 -- the text behind the last semicolon
 abbrev pub text_of_place : ListPlace → List ℕ
-text_of_place (in_spaces n) = spaces n
-text_of_place (in_name n name) = spaces n ++ name
-text_of_place (in_value n name value) = spaces n ++ (name ++ (equals_byte ∷ value))
-text_of_place (in_quotes n name content) = spaces n ++ (name ++ (equals_byte ∷ quote_byte ∷ content))
-text_of_place (behind_quotes n name content m) = spaces n ++ text_of_parameter (quoted name content m)
+text_of_place (in_spaces n) = n
+text_of_place (in_name n name) = n ++ name
+text_of_place (in_value n name value) = n ++ (name ++ (equals_byte ∷ value))
+text_of_place (in_quotes n name content) = n ++ (name ++ (equals_byte ∷ quote_byte ∷ content))
+text_of_place (behind_quotes n name content m) = n ++ text_of_parameter (quoted name content m)
 
 -- the text behind the subtype's semicolon
 abbrev pub text_of_begun_list : BegunList → List ℕ
@@ -37,9 +37,9 @@ text_of_begun (in_subtype top sub) = top ++ (slash_byte ∷ sub)
 text_of_begun (in_list top sub list) = top ++ (slash_byte ∷ (sub ++ (semicolon_byte ∷ text_of_begun_list list)))
 
 -- the parameters that a semicolon closed are well formed
-abbrev pub AreClosed : List (ℕ × Parameter) → Type 0
+abbrev pub AreClosed : List (List ℕ × Parameter) → Type 0
 AreClosed [] = Unit {0}
-AreClosed (item ∷ closed) = IsInnerParameter item.1 × AreClosed closed
+AreClosed (item ∷ closed) = AreSpaces item.0 × IsInnerParameter item.1 × AreClosed closed
 
 -- what stands behind an opening quote so far
 abbrev pub IsBegunContent : List ℕ → Type 0
@@ -48,11 +48,11 @@ IsBegunContent (c ∷ content) = IsContent (c ∷ content)
 
 -- what stands behind the last semicolon is well formed so far
 abbrev pub IsPlace : ListPlace → Type 0
-IsPlace (in_spaces n) = Unit {0}
-IsPlace (in_name n name) = IsToken name
-IsPlace (in_value n name value) = IsToken name × AreTokenBytes value
-IsPlace (in_quotes n name content) = IsToken name × IsBegunContent content
-IsPlace (behind_quotes n name content m) = IsToken name × IsContent content
+IsPlace (in_spaces n) = AreSpaces n
+IsPlace (in_name n name) = AreSpaces n × IsToken name
+IsPlace (in_value n name value) = AreSpaces n × IsToken name × AreTokenBytes value
+IsPlace (in_quotes n name content) = AreSpaces n × IsToken name × IsBegunContent content
+IsPlace (behind_quotes n name content m) = AreSpaces n × IsToken name × IsContent content × AreSpaces m
 
 -- a begun list that is well formed so far
 abbrev pub IsBegunList : BegunList → Type 0
@@ -76,11 +76,6 @@ list_all-push class xs b all passes =
 IsToken-push : (name : List ℕ) (b : ℕ) → IsToken name → IsTrue (is_token_byte b) → IsToken (name ++ (b ∷ []))
 IsToken-push [] b token passes = absurd token
 IsToken-push (c ∷ name) b token passes = list_all-push is_token_byte (c ∷ name) b token passes
-
--- one more space
-spaces-push : (n b : ℕ) → IsTrue (b == space_byte) → spaces (suc n) ≡ spaces n ++ (b ∷ [])
-spaces-push zero b passes = ap (λ x. x ∷ []) (sym (eqb-true b space_byte passes))
-spaces-push (suc n) b passes = ap (λ t. space_byte ∷ t) (spaces-push n b passes)
 
 -- what one more byte makes of a begun list
 record Lengthens (text : List ℕ) (b : ℕ) (next : BegunList) : Type 0 where
@@ -133,90 +128,88 @@ regroup_more : (u v w x : List ℕ)
 regroup_more u v w x = simp (append_assoc, cons-append)
 
 -- each way on from a place lengthens the text by its byte
-grow_place-lengthens : (closed : List (ℕ × Parameter)) (place : ListPlace) (b : ℕ) → AreClosed closed → IsPlace place
+grow_place-lengthens : (closed : List (List ℕ × Parameter)) (place : ListPlace) (b : ℕ) → AreClosed closed → IsPlace place
     → MatchOption (grow_place closed place b) (Unit {0}) (Lengthens (text_of_closed closed ++ text_of_place place) b)
 grow_place-lengthens closed (in_spaces n) b before here =
-    choice _ (b == space_byte) _ _
+    choice _ (is_space b) _ _
     (λ passes. record {
-      well_formed = (before, tt);
-      spelled = ap (λ t. text_of_closed closed ++ t) (spaces-push n b passes) ∙ regroup_2 (text_of_closed closed) (spaces n) b;
+      well_formed = (before, list_all-push is_space n b here passes);
+      spelled = regroup_2 (text_of_closed closed) n b;
     })
     (λ fails. choice _ (is_token_byte b) _ _
     (λ passes. record {
-      well_formed = (before, and_from (is_token_byte b) true passes refl);
-      spelled = regroup_2 (text_of_closed closed) (spaces n) b;
+      well_formed = (before, (here, and_from (is_token_byte b) true passes refl));
+      spelled = regroup_2 (text_of_closed closed) n b;
     })
     (λ fails. tt))
 grow_place-lengthens closed (in_name n name) b before here =
     choice _ (is_token_byte b) _ _
     (λ passes. record {
-      well_formed = (before, IsToken-push name b here passes);
-      spelled = regroup_3 (text_of_closed closed) (spaces n) name b;
+      well_formed = (before, (here.0, IsToken-push name b here.1 passes));
+      spelled = regroup_3 (text_of_closed closed) n name b;
     })
     (λ fails. choice _ (b == equals_byte) _ _
     (λ passes. record {
-      well_formed = (before, (here, refl));
-      spelled = regroup_3 (text_of_closed closed) (spaces n) name equals_byte ∙ same_end _ b equals_byte passes;
+      well_formed = (before, (here.0, here.1, refl));
+      spelled = regroup_3 (text_of_closed closed) n name equals_byte ∙ same_end _ b equals_byte passes;
     })
     (λ fails. tt))
 grow_place-lengthens closed (in_value n name []) b before here =
     choice _ (is_token_byte b) _ _
     (λ passes. record {
-      well_formed = (before, (here.0, and_from (is_token_byte b) true passes refl));
-      spelled = regroup_4 (text_of_closed closed) (spaces n) name (equals_byte ∷ []) b;
+      well_formed = (before, (here.0, here.1, and_from (is_token_byte b) true passes refl));
+      spelled = regroup_4 (text_of_closed closed) n name (equals_byte ∷ []) b;
     })
     (λ fails. choice _ (b == quote_byte) _ _
     (λ passes. record {
-      well_formed = (before, (here.0, tt));
-      spelled = regroup_4 (text_of_closed closed) (spaces n) name (equals_byte ∷ []) quote_byte
+      well_formed = (before, (here.0, here.1, tt));
+      spelled = regroup_4 (text_of_closed closed) n name (equals_byte ∷ []) quote_byte
           ∙ same_end _ b quote_byte passes;
     })
     (λ fails. tt))
 grow_place-lengthens closed (in_value n name (v ∷ value)) b before here =
     choice _ (is_token_byte b) _ _
     (λ passes. record {
-      well_formed = (before, (here.0, list_all-push is_token_byte (v ∷ value) b here.1 passes));
-      spelled = regroup_4 (text_of_closed closed) (spaces n) name (equals_byte ∷ v ∷ value) b;
+      well_formed = (before, (here.0, here.1, list_all-push is_token_byte (v ∷ value) b here.2 passes));
+      spelled = regroup_4 (text_of_closed closed) n name (equals_byte ∷ v ∷ value) b;
     })
     (λ fails. choice _ (b == semicolon_byte) _ _
     (λ passes. record {
-      well_formed = ((here, before), tt);
-      spelled = append-nil _ ∙ regroup_3 (text_of_closed closed) (spaces n) (name ++ (equals_byte ∷ v ∷ value)) semicolon_byte
+      well_formed = ((here.0, (here.1, here.2), before), refl);
+      spelled = append-nil _ ∙ regroup_3 (text_of_closed closed) n (name ++ (equals_byte ∷ v ∷ value)) semicolon_byte
           ∙ same_end _ b semicolon_byte passes;
     })
     (λ fails. tt))
 grow_place-lengthens closed (in_quotes n name []) b before here =
     choice _ (is_quoted_byte b) _ _
     (λ passes. record {
-      well_formed = (before, (here.0, (passes, refl)));
-      spelled = regroup_4 (text_of_closed closed) (spaces n) name (equals_byte ∷ quote_byte ∷ []) b;
+      well_formed = (before, (here.0, here.1, (passes, refl)));
+      spelled = regroup_4 (text_of_closed closed) n name (equals_byte ∷ quote_byte ∷ []) b;
     })
     (λ fails. tt)
 grow_place-lengthens closed (in_quotes n name (c ∷ content)) b before here =
     choice _ (is_inner_byte b) _ _
     (λ passes. record {
-      well_formed = (before, (here.0, (here.1.0, list_all-push is_inner_byte content b here.1.1 passes)));
-      spelled = regroup_4 (text_of_closed closed) (spaces n) name (equals_byte ∷ quote_byte ∷ c ∷ content) b;
+      well_formed = (before, (here.0, here.1, (here.2.0, list_all-push is_inner_byte content b here.2.1 passes)));
+      spelled = regroup_4 (text_of_closed closed) n name (equals_byte ∷ quote_byte ∷ c ∷ content) b;
     })
     (λ fails. choice _ (b == quote_byte) _ _
     (λ passes. record {
-      well_formed = (before, here);
-      spelled = regroup_4 (text_of_closed closed) (spaces n) name (equals_byte ∷ quote_byte ∷ c ∷ content) quote_byte
+      well_formed = (before, (here.0, here.1, here.2, refl));
+      spelled = regroup_4 (text_of_closed closed) n name (equals_byte ∷ quote_byte ∷ c ∷ content) quote_byte
           ∙ same_end _ b quote_byte passes;
     })
     (λ fails. tt))
 grow_place-lengthens closed (behind_quotes n name content m) b before here =
-    choice _ (b == space_byte) _ _
+    choice _ (is_space b) _ _
     (λ passes. record {
-      well_formed = (before, here);
-      spelled = ap (λ t. text_of_closed closed ++ (spaces n ++ (name ++ (equals_byte ∷ quote_byte ∷ (content ++ (quote_byte ∷ t))))))
-          (spaces-push m b passes)
-          ∙ regroup_quoted (text_of_closed closed) (spaces n) name content (spaces m) b;
+      well_formed = (before, (here.0, here.1, here.2, list_all-push is_space m b here.3 passes));
+      spelled = regroup_quoted (text_of_closed closed) n name content m b;
     })
     (λ fails. choice _ (b == semicolon_byte) _ _
     (λ passes. record {
-      well_formed = ((here, before), tt);
-      spelled = append-nil _ ∙ regroup_3 (text_of_closed closed) (spaces n) (text_of_parameter (quoted name content m)) semicolon_byte
+      well_formed = ((here.0, (here.1, here.2, here.3), before), refl);
+      spelled = append-nil _ ∙ regroup_3 (text_of_closed closed) n (text_of_parameter (quoted name content m)) semicolon_byte
           ∙ same_end _ b semicolon_byte passes;
     })
     (λ fails. tt))
@@ -253,7 +246,7 @@ grow-lengthens (in_subtype top (s ∷ sub)) b here =
     })
     (λ fails. choice _ (b == semicolon_byte) _ _
     (λ passes. record {
-      well_formed = (here.0, (here.1, (tt, tt)));
+      well_formed = (here.0, (here.1, (tt, refl)));
       spelled = regroup_2 top (slash_byte ∷ s ∷ sub) semicolon_byte ∙ same_end _ b semicolon_byte passes;
     })
     (λ fails. tt))
@@ -289,19 +282,19 @@ walk_from-lengthens begun (b ∷ bytes) last here walked =
         (after.0, after.1 ∙ ap (λ t. t ++ bytes) longer.spelled ∙ append_assoc (text_of_begun begun) (b ∷ []) bytes)
 
 -- the list that closed parameters and the rest make
-text_of_list-with_closed : (closed : List (ℕ × Parameter)) (rest : Parameters)
+text_of_list-with_closed : (closed : List (List ℕ × Parameter)) (rest : Parameters)
     → text_of_list (with_closed closed rest) ≡ text_of_closed closed ++ text_of_list rest
 text_of_list-with_closed [] rest = refl
 text_of_list-with_closed (item ∷ closed) rest =
     text_of_list-with_closed closed (more item.0 item.1 rest)
-    ∙ regroup_more (text_of_closed closed) (spaces item.0) (text_of_parameter item.1) (text_of_list rest)
+    ∙ regroup_more (text_of_closed closed) (item.0) (text_of_parameter item.1) (text_of_list rest)
 
 -- that list is well formed if its parts are
-AreParameters-with_closed : (closed : List (ℕ × Parameter)) (rest : Parameters) → AreClosed closed → AreParameters rest
+AreParameters-with_closed : (closed : List (List ℕ × Parameter)) (rest : Parameters) → AreClosed closed → AreParameters rest
     → AreParameters (with_closed closed rest)
 AreParameters-with_closed [] rest before here = here
 AreParameters-with_closed (item ∷ closed) rest before here =
-    AreParameters-with_closed closed (more item.0 item.1 rest) before.1 (before.0, here)
+    AreParameters-with_closed closed (more item.0 item.1 rest) before.2 (before.0, before.1, here)
 
 -- a list that ends at a place
 record Ends (list : BegunList) (whole : Parameters) : Type 0 where
@@ -316,17 +309,17 @@ ended_list-spelled list here = at list.place here.1
         → MatchOption (option_map (with_closed list.closed) (ended place)) (Unit {0})
         (Ends (record { closed = list.closed; place = place }))
     at (in_spaces n) fine = record {
-      well_formed = AreParameters-with_closed list.closed (blank n) here.0 tt;
+      well_formed = AreParameters-with_closed list.closed (blank n) here.0 fine;
       spelled = text_of_list-with_closed list.closed (blank n);
     }
     at (in_name n name) fine = tt
     at (in_value n name value) fine = record {
-      well_formed = AreParameters-with_closed list.closed (final n (plain name value)) here.0 fine;
+      well_formed = AreParameters-with_closed list.closed (final n (plain name value)) here.0 (fine.0, (fine.1, fine.2));
       spelled = text_of_list-with_closed list.closed (final n (plain name value));
     }
     at (in_quotes n name content) fine = tt
     at (behind_quotes n name content m) fine = record {
-      well_formed = AreParameters-with_closed list.closed (final n (quoted name content m)) here.0 fine;
+      well_formed = AreParameters-with_closed list.closed (final n (quoted name content m)) here.0 (fine.0, (fine.1, fine.2, fine.3));
       spelled = text_of_list-with_closed list.closed (final n (quoted name content m));
     }
 

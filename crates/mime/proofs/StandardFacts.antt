@@ -86,9 +86,9 @@ lowered_parts = record {
   tree = record {
     top = codes "TEXT";
     sub = codes "PLAIN";
-    tail = listed (more 1 (plain (codes "CHARSET") (codes "UTF-8")) (final 1 (plain (codes "FOO") (codes "BAR"))));
+    tail = listed (more (codes " ") (plain (codes "CHARSET") (codes "UTF-8")) (final (codes " ") (plain (codes "FOO") (codes "BAR"))));
   };
-  well_formed = (refl, (refl, ((refl, refl), (refl, refl))));
+  well_formed = (refl, (refl, (refl, (refl, refl), (refl, (refl, refl)))));
   spelled = refl;
   valued = refl;
 }
@@ -103,8 +103,8 @@ blank_list : Reads (codes "text/event-stream;       ") (record {
 })
 unfolding is_token_byte
 blank_list = record {
-  tree = record { top = codes "text"; sub = codes "event-stream"; tail = listed (blank 7) };
-  well_formed = (refl, (refl, tt));
+  tree = record { top = codes "text"; sub = codes "event-stream"; tail = listed (blank (codes "       ")) };
+  well_formed = (refl, (refl, refl));
   spelled = refl;
   valued = refl;
 }
@@ -122,9 +122,9 @@ kept_end = record {
   tree = record {
     top = codes "a";
     sub = codes "b";
-    tail = listed (more 0 (plain (codes "p") (codes "x")) (blank 1));
+    tail = listed (more [] (plain (codes "p") (codes "x")) (blank (codes " ")));
   };
-  well_formed = (refl, (refl, ((refl, refl), tt)));
+  well_formed = (refl, (refl, (refl, (refl, refl), refl)));
   spelled = refl;
   valued = refl;
 }
@@ -139,8 +139,8 @@ empty_value : Reads (codes "a/b;p=") (record {
 })
 unfolding is_token_byte
 empty_value = record {
-  tree = record { top = codes "a"; sub = codes "b"; tail = listed (final 0 (plain (codes "p") [])) };
-  well_formed = (refl, (refl, (refl, refl)));
+  tree = record { top = codes "a"; sub = codes "b"; tail = listed (final [] (plain (codes "p") [])) };
+  well_formed = (refl, (refl, (refl, (refl, refl))));
   spelled = refl;
   valued = refl;
 }
@@ -155,8 +155,8 @@ quote_first : Reads (codes "a/b;p=\"\"x\"") (record {
 })
 unfolding is_token_byte is_quoted_byte
 quote_first = record {
-  tree = record { top = codes "a"; sub = codes "b"; tail = listed (final 0 (quoted (codes "p") (codes "\"x") 0)) };
-  well_formed = (refl, (refl, (refl, (refl, refl))));
+  tree = record { top = codes "a"; sub = codes "b"; tail = listed (final [] (quoted (codes "p") (codes "\"x") [])) };
+  well_formed = (refl, (refl, (refl, (refl, (refl, refl), refl))));
   spelled = refl;
   valued = refl;
 }
@@ -174,9 +174,9 @@ quoted_bytes = record {
   tree = record {
     top = codes "a";
     sub = codes "b";
-    tail = listed (final 0 (quoted (codes "p") (195 ∷ 169 ∷ codes ";,") 0));
+    tail = listed (final [] (quoted (codes "p") (195 ∷ 169 ∷ codes ";,") []));
   };
-  well_formed = (refl, (refl, (refl, (refl, refl))));
+  well_formed = (refl, (refl, (refl, (refl, (refl, refl), refl))));
   spelled = refl;
   valued = refl;
 }
@@ -194,9 +194,9 @@ spaces_behind = record {
   tree = record {
     top = codes "A";
     sub = codes "B";
-    tail = listed (more 1 (quoted (codes "P") (codes "x") 1) (final 0 (plain (codes "p") (codes "2"))));
+    tail = listed (more (codes " ") (quoted (codes "P") (codes "x") (codes " ")) (final [] (plain (codes "p") (codes "2"))));
   };
-  well_formed = (refl, (refl, ((refl, (refl, refl)), (refl, refl))));
+  well_formed = (refl, (refl, (refl, (refl, (refl, refl), refl), (refl, (refl, refl)))));
   spelled = refl;
   valued = refl;
 }
@@ -215,12 +215,12 @@ no_slash = slash_fault-from_walk (codes "invalid") (codes "invalid") refl
 -- a parameter's name alone
 no_equals : IsFault (codes "a/b;p") MissingEqual
 unfolding is_token_byte
-no_equals = equal_fault-from_walk (codes "a/b;p") (codes "a") (codes "b") [] 0 (codes "p") refl
+no_equals = equal_fault-from_walk (codes "a/b;p") (codes "a") (codes "b") [] [] (codes "p") refl
 
 -- the second quote is content
 no_quote : IsFault (codes "a/b;p=\"\"") MissingQuote
 unfolding is_token_byte is_quoted_byte
-no_quote = quote_fault-from_walk (codes "a/b;p=\"\"") (codes "a") (codes "b") [] 0 (codes "p") (codes "\"") refl
+no_quote = quote_fault-from_walk (codes "a/b;p=\"\"") (codes "a") (codes "b") [] [] (codes "p") (codes "\"") refl
 
 -- no space stands in a type
 space_in_type : IsFault (codes "a b") (InvalidToken 1 32)

@@ -1,6 +1,6 @@
 -- A text as the scanner passes it: each part leads on from the place where the last one ended, and
 -- the verdict is that of the place where it stops.
-use Rattle.std.proofs.Common.{◌≡◌, ◌≢◌, ℕ, ◌+◌, ◌-◌, true, false, List, [], ◌∷◌, ◌++◌, length, drop, Option, Some, None, MatchOption, refl, sym, ap, ◌∙◌, arith, ne_eqb, eq-eqb, append-nil}
+use Rattle.std.proofs.Common.{◌≡◌, ◌≢◌, ℕ, ◌+◌, ◌-◌, true, false, List, [], ◌∷◌, ◌++◌, length, drop, Option, Some, None, MatchOption, refl, sym, ap, ◌∙◌, subst, arith, ne_eqb, eq-eqb, append-nil}
 use Rattle.std.specs.Prelude.{IsFalse}
 use Rattle.std.specs.Option.{option_map, option_to_list}
 use Rattle.std.proofs.lemmas.List.{take_at}
@@ -9,16 +9,18 @@ use Rattle.mime.specs.Bytes.{is_token_byte, slash_byte, semicolon_byte}
 use Rattle.mime.specs.Grammar.{Parameter, plain, quoted, Parameters, blank, final, more, SyntaxTree}
 use Rattle.mime.specs.Values.{last_plus, pairs_of_list, IsRefused}
 use Rattle.mime.specs.Refusals.{IsFault}
-use Rattle.mime.specs.Begun.{ListPlace, in_spaces, in_name, in_value, in_quotes, behind_quotes, Begun, in_type, in_subtype, in_list, BegunList, begun_list, grow, grow_list, walk, walk_from, with_closed, tree_of}
+use Rattle.mime.proofs.Begun.{ListPlace, in_spaces, in_name, in_value, in_quotes, behind_quotes, Begun, in_type, in_subtype, in_list, BegunList, begun_list, grow, grow_list, walk, walk_from, with_closed, tree_of}
 use Rattle.mime.specs.Remaining.{Remaining}
 use Rattle.mime.specs.declared.scan.Places.{Places}
 use Rattle.mime.specs.declared.scan.Verdict.{Verdict}
 use Rattle.mime.specs.declared.scan.Verdict.TheVariants.{Accepted, Unfinished, Stopped}
 use Rattle.mime.specs.declared.scan.ParseError.TheVariants.{MissingSlash}
-use Rattle.mime.specs.Scanning.{Given, GivesFirst, Passes, PassesSubtype, places_of, HasPlaces, lacking, lacking_list, places_of_list, verdict_at, ScansList, Scans}
+use Rattle.mime.specs.Scanning.{Given, GivesFirst, Passes, PassesSubtype, places_of, HasPlaces, head_text, head_places, ScansList, Scans}
+use Rattle.mime.proofs.Verdicts.{lacking, lacking_list, places_of_list, verdict_at, ListVerdict}
+use Rattle.mime.proofs.Spelling.{walk_from-lengthens}
 use Rattle.mime.proofs.Passing.{given_then, given_whole}
-use Rattle.mime.proofs.Walks.{walk_from-append_some, walk_from-in_list, walk-type, walk_from-subtype}
-use Rattle.mime.proofs.Readings.{accepted-from_walk, refused-from_walk}
+use Rattle.mime.proofs.Walks.{walk_from-step, walk_from-append_some, walk_from-in_list, walk-type, walk_from-subtype}
+use Rattle.mime.proofs.Readings.{accepted-from_walk, refused-from_walk, walk-slash, walk_from-sub, grow-semicolon, AreTokenBytes-from_token}
 use Rattle.mime.proofs.Viability.{slash_fault-from_walk, equal_fault-from_walk, quote_fault-from_walk, dead-from_walk}
 
 -- ---- the verdict of a place
@@ -35,7 +37,7 @@ lacking-fault text (in_type top) w e = slash_fault-from_walk text top w
 lacking-fault text (in_subtype top sub) w e = absurd (none-some _ (sym e))
 lacking-fault text (in_list top sub list) w e = at_place list.place list.closed w e
   where
-    at_place : (place : ListPlace) (closed : List (ℕ × Parameter))
+    at_place : (place : ListPlace) (closed : List (List ℕ × Parameter))
         → walk text ≡ Some (in_list top sub (record { closed = closed; place = place }))
         → tree_of (in_list top sub (record { closed = closed; place = place })) ≡ None → IsFault text (lacking_list place)
     at_place (in_spaces n) closed w e = absurd (none-some _ (sym e))
@@ -241,40 +243,31 @@ scans_subtype_stop slash plus old new stop b subtyped e ne =
     ∙ ap (λ plus. Stopped b (Some (essence_places (length s.top) plus))) s.plussed)
 
 -- closed parameters each count
-length-with_closed : (closed : List (ℕ × Parameter)) (rest : Parameters)
+length-with_closed : (closed : List (List ℕ × Parameter)) (rest : Parameters)
     → length (pairs_of_list (with_closed closed rest)) ≡ length closed + length (pairs_of_list rest)
 length-with_closed [] rest = omega arith
 length-with_closed ((n, parameter) ∷ closed) rest =
     length-with_closed closed (more n parameter rest) ∙ omega arith
 
--- the places of a text with a list
-abbrev list_places : List ℕ → List ℕ → Places
-list_places top sub = record {
-  slash = length top;
-  plus = last_plus (length top + 2) (drop 1 sub);
-  semicolon = Some (length top + 1 + length sub);
-  pairs = 0;
-}
-
 -- the places of a text that ends in a list are those of its tree
 places_of_list-tree : (top sub : List ℕ) (list : BegunList)
-    → places_of_list (list_places top sub) list ≡ option_map places_of (tree_of (in_list top sub list))
+    → places_of_list (head_places top sub) list ≡ option_map places_of (tree_of (in_list top sub list))
 places_of_list-tree top sub list = at_place list.place list.closed
   where
-    counted : (closed : List (ℕ × Parameter)) (rest : Parameters)
+    counted : (closed : List (List ℕ × Parameter)) (rest : Parameters)
         → 0 + (length closed + length (pairs_of_list rest)) ≡ length (pairs_of_list (with_closed closed rest))
     counted closed rest = omega (arith, length-with_closed closed rest)
 
-    at_place : (place : ListPlace) (closed : List (ℕ × Parameter))
-        → places_of_list (list_places top sub) (record { closed = closed; place = place })
+    at_place : (place : ListPlace) (closed : List (List ℕ × Parameter))
+        → places_of_list (head_places top sub) (record { closed = closed; place = place })
         ≡ option_map places_of (tree_of (in_list top sub (record { closed = closed; place = place })))
-    at_place (in_spaces n) closed = ap (λ n. Some (record (list_places top sub) { pairs = n })) (counted closed (blank n))
+    at_place (in_spaces n) closed = ap (λ n. Some (record (head_places top sub) { pairs = n })) (counted closed (blank n))
     at_place (in_name n name) closed = refl
     at_place (in_value n name value) closed =
-        ap (λ n. Some (record (list_places top sub) { pairs = n })) (counted closed (final n (plain name value)))
+        ap (λ n. Some (record (head_places top sub) { pairs = n })) (counted closed (final n (plain name value)))
     at_place (in_quotes n name content) closed = refl
     at_place (behind_quotes n name content m) closed =
-        ap (λ n. Some (record (list_places top sub) { pairs = n })) (counted closed (final n (quoted name content m)))
+        ap (λ n. Some (record (head_places top sub) { pairs = n })) (counted closed (final n (quoted name content m)))
 
 -- a byte that stops a list stops the text
 stopped_in_list : (top sub left : List ℕ) (list : BegunList) (stop : Option ℕ)
@@ -285,7 +278,7 @@ stopped_in_list top sub left list (Some b) s = rw s
 
 -- a list was read behind its semicolon
 scans_in_list : (top sub : List ℕ) (head : Places) (old mid new : Remaining) (verdict : Verdict)
-    → TextTo old mid None (in_list top sub begun_list) → head ≡ list_places top sub → ScansList head mid new verdict
+    → TextTo old mid None (in_list top sub begun_list) → head ≡ head_places top sub → ListVerdict head mid new verdict
     → Scans old new verdict
 scans_in_list top sub head old mid new verdict t e l =
     scans_from old new l.stop (in_list top sub l.begun) verdict
@@ -296,15 +289,33 @@ scans_in_list top sub head old mid new verdict t e l =
     ∙ ap (λ o. verdict_at l.stop o (lacking_list l.begun.place))
     (ap (λ h. places_of_list h l.begun) e ∙ places_of_list-tree top sub l.begun))
 
+-- the verdict on a list is the answer on each text that the list ends
+pub scans_list_from : (head : Places) (old new : Remaining) (verdict : Verdict) → ListVerdict head old new verdict
+    → ScansList head old new verdict
+scans_list_from head old new verdict l = λ start top sub top_token sub_token e g.
+    scans_in_list top sub head start old new verdict
+    (record {
+      run = head_text top sub;
+      given = g;
+      walked =
+          walk-slash top (sub ++ (semicolon_byte ∷ [])) top_token
+          ∙ walk_from-append_some (in_subtype top []) (in_subtype top sub) sub (semicolon_byte ∷ [])
+          (walk_from-sub top sub (AreTokenBytes-from_token sub sub_token))
+          ∙ walk_from-step (in_subtype top sub) (in_list top sub begun_list) semicolon_byte [] (grow-semicolon top sub sub_token);
+    })
+    e l
+
 -- the text has a list
 pub scans_list : (slash : ℕ) (plus : Option ℕ) (at : ℕ) (old mid new : Remaining) (stop : Option ℕ) (b : ℕ) (verdict : Verdict)
     → Subtyped slash plus old mid stop → stop ≡ Some b → b ≡ semicolon_byte → at ≡ mid.count - old.count - 1
     → ScansList (record { slash = slash; plus = plus; semicolon = Some at; pairs = 0 }) mid new verdict → Scans old new verdict
 scans_list slash plus at old mid new stop b verdict subtyped e semicolon p l =
     let s = rw e at subtyped in
-    scans_in_list s.top (s.first ∷ s.others) _ old mid new verdict
-    (text_byte old mid b _ _ s.walked (rw (s.stopped, eq-eqb b semicolon_byte semicolon)))
+    let sub = s.first ∷ s.others in
+    let walked : TextTo old mid None (in_list s.top sub begun_list) = text_byte old mid b _ _ s.walked (rw (s.stopped, eq-eqb b semicolon_byte semicolon)) in
+    let found = walk_from-lengthens (in_type []) walked.run (in_list s.top sub begun_list) refl walked.walked in
+    l old s.top sub found.0.0 found.0.1.0
     (ap (λ slash. record { slash = slash; plus = plus; semicolon = Some at; pairs = 0 }) s.slashed
     ∙ ap (λ plus. record { slash = length s.top; plus = plus; semicolon = Some at; pairs = 0 }) s.plussed
-    ∙ ap (λ at. record (list_places s.top (s.first ∷ s.others)) { semicolon = Some at }) (omega (arith, s.counted)))
-    l
+    ∙ ap (λ at. record (head_places s.top sub) { semicolon = Some at }) (omega (arith, s.counted)))
+    (subst (λ run. Given old mid run None) (sym found.1) walked.given)

@@ -2,14 +2,14 @@
 use Rattle.std.proofs.Common.{◌≡◌, ℕ, suc, ◌+◌, ◌-◌, List, [], ◌∷◌, ◌++◌, length, take, Option, Some, None, refl, sym, ap, ◌∙◌, subst, arith, append_assoc, append-nil, length-append, ⊎_elim}
 use Rattle.std.proofs.Math.Seq.{take-append_seam, take-append-add, take-length}
 use Rattle.std.proofs.lemmas.Bool.{cases_order}
-use Rattle.std.proofs.lemmas.Option.{none-some}
+use Rattle.std.proofs.lemmas.Option.{none-some, slice_get_within}
 use Rattle.std.specs.Prelude.{slice_get}
 use Rattle.std.specs.Option.{option_and_then}
 use Rattle.mime.specs.Bytes.{is_token_byte, is_quoted_byte}
 use Rattle.mime.specs.Grammar.{Parameter, SyntaxTree}
 use Rattle.mime.specs.Values.{value_of, IsAccepted, IsRefused}
-use Rattle.mime.specs.Refusals.{IsViable, IsFront, slash_completion, equals_completion, quote_completion, IsFault}
-use Rattle.mime.specs.Begun.{Begun, in_type, in_subtype, in_list, ListPlace, in_spaces, in_name, in_value, in_quotes, behind_quotes, grow, walk, walk_from, tree_of}
+use Rattle.mime.specs.Refusals.{IsViable, IsFront, slash_completion, equals_completion, quote_completion, IsDeadAt, IsFault}
+use Rattle.mime.proofs.Begun.{Begun, in_type, in_subtype, in_list, ListPlace, in_spaces, in_name, in_value, in_quotes, behind_quotes, grow, walk, walk_from, tree_of}
 use Rattle.mime.specs.Laws.{EmptyIsViable, FrontOfViableIsViable, AcceptedIsViable}
 use Rattle.mime.specs.declared.scan.ParseError.TheVariants.{MissingSlash, MissingEqual, MissingQuote, InvalidToken}
 use Rattle.mime.proofs.Walks.{walk_from-step, walk_from-append, walk-append}
@@ -44,13 +44,13 @@ Completes-in_type [] = record { last = _; tree = _; goes = refl; complete = refl
 Completes-in_type (t ∷ top) = record { last = _; tree = _; goes = refl; complete = refl }
 
 -- a begun name by an equals sign
-pub Completes-in_name : (top sub : List ℕ) (closed : List (ℕ × Parameter)) (n : ℕ) (name : List ℕ)
+pub Completes-in_name : (top sub : List ℕ) (closed : List (List ℕ × Parameter)) (n : List ℕ) (name : List ℕ)
     → Completes (in_list top sub (record { closed = closed; place = in_name n name })) equals_completion
 unfolding is_token_byte
 Completes-in_name top sub closed n name = record { last = _; tree = _; goes = refl; complete = refl }
 
 -- an open quoted value by a quote
-pub Completes-in_quotes : (top sub : List ℕ) (closed : List (ℕ × Parameter)) (n : ℕ) (name content : List ℕ)
+pub Completes-in_quotes : (top sub : List ℕ) (closed : List (List ℕ × Parameter)) (n : List ℕ) (name content : List ℕ)
     → Completes (in_list top sub (record { closed = closed; place = in_quotes n name content })) quote_completion
 unfolding is_quoted_byte
 Completes-in_quotes top sub closed n name [] = record { last = _; tree = _; goes = refl; complete = refl }
@@ -152,7 +152,7 @@ slash_fault-from_walk text top walked = (
 )
 
 -- the text ends in a parameter's name
-pub equal_fault-from_walk : (text top sub : List ℕ) (closed : List (ℕ × Parameter)) (n : ℕ) (name : List ℕ)
+pub equal_fault-from_walk : (text top sub : List ℕ) (closed : List (List ℕ × Parameter)) (n : List ℕ) (name : List ℕ)
     → walk text ≡ Some (in_list top sub (record { closed = closed; place = in_name n name })) → IsFault text MissingEqual
 equal_fault-from_walk text top sub closed n name walked = (
   refused-from_walk text (in_list top sub (record { closed = closed; place = in_name n name })) walked refl,
@@ -161,7 +161,7 @@ equal_fault-from_walk text top sub closed n name walked = (
 )
 
 -- the text ends in an open quoted value
-pub quote_fault-from_walk : (text top sub : List ℕ) (closed : List (ℕ × Parameter)) (n : ℕ) (name content : List ℕ)
+pub quote_fault-from_walk : (text top sub : List ℕ) (closed : List (List ℕ × Parameter)) (n : List ℕ) (name content : List ℕ)
     → walk text ≡ Some (in_list top sub (record { closed = closed; place = in_quotes n name content }))
     → IsFault text MissingQuote
 quote_fault-from_walk text top sub closed n name content walked = (
@@ -180,18 +180,19 @@ slice_get-seam (x ∷ front) rest b = slice_get-seam front rest b
 pub dead-from_walk : (front rest : List ℕ) (b : ℕ) (begun : Begun) → walk front ≡ Some begun → grow begun b ≡ None
     → IsFault (front ++ (b ∷ rest)) (InvalidToken (length front) b)
 dead-from_walk front rest b begun walked dead = record {
-  refused = stopped-from_walk (front ++ (b ∷ rest)) (walk-dead front rest b begun walked dead);
-  no_slash = refused_with slash_completion;
-  no_equals = refused_with equals_completion;
-  no_quote = refused_with quote_completion;
   front = front-from_walk front rest b begun walked dead;
   there = slice_get-seam front rest b;
 }
-  where
-    refused_with : (more : List ℕ) → IsRefused ((front ++ (b ∷ rest)) ++ more)
-    refused_with more =
-        stopped-from_walk ((front ++ (b ∷ rest)) ++ more)
-        (ap walk (append_assoc front (b ∷ rest) more) ∙ walk-dead front (rest ++ more) b begun walked dead)
+-- nothing behind the byte at fault makes the text an accepted one
+pub refused-from_dead : (text : List ℕ) (pos byte : ℕ) → IsDeadAt text pos byte → (more : List ℕ) → IsRefused (text ++ more)
+refused-from_dead text pos byte dead more accepted =
+    dead.front.longest (length text) (slice_get_within text pos byte dead.there) (omega arith)
+    (subst IsViable (sym (take-length text)) (more, accepted))
+
+-- nor is the text itself accepted
+pub refused-at_dead : (text : List ℕ) (pos byte : ℕ) → IsDeadAt text pos byte → IsRefused text
+refused-at_dead text pos byte dead accepted =
+    refused-from_dead text pos byte dead [] (subst IsAccepted (sym (append-nil text)) accepted)
 
 -- where a walk stops
 pub record Stop (start : Begun) (text : List ℕ) : Type 0 where

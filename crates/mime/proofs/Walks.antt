@@ -1,13 +1,12 @@
 -- What a walk over a joined text or over a run of one class comes to.
-use Rattle.std.proofs.Common.{◌≡◌, ℕ, suc, ◌+◌, Bool, List, [], ◌∷◌, ◌++◌, length, Some, None, refl, sym, ap, ◌∙◌, arith, append_assoc, append-nil}
+use Rattle.std.proofs.Common.{◌≡◌, ℕ, Bool, List, [], ◌∷◌, ◌++◌, Some, None, refl, sym, ap, ◌∙◌, append_assoc, append-nil}
 use Rattle.std.proofs.lemmas.Bool.{and_parts, cond-true}
 use Rattle.std.specs.Prelude.{IsTrue}
 use Rattle.std.specs.List.{list_all}
 use Rattle.std.specs.Option.{option_and_then, option_map}
 use Rattle.mime.specs.Bytes.{is_token_byte}
-use Rattle.mime.specs.Grammar.{Parameter, is_inner_byte}
-use Rattle.mime.specs.Scanning.{is_space}
-use Rattle.mime.specs.Begun.{Begun, in_type, in_subtype, in_list, BegunList, in_spaces, in_name, in_value, in_quotes, behind_quotes, grow, grow_list, walk, walk_from, walk_list}
+use Rattle.mime.specs.Grammar.{Parameter, is_inner_byte, is_space}
+use Rattle.mime.proofs.Begun.{Begun, in_type, in_subtype, in_list, BegunList, in_spaces, in_name, in_value, in_quotes, behind_quotes, grow, grow_list, walk, walk_from, walk_list}
 
 -- a walk takes a step and goes on
 pub walk_from-step : (begun next : Begun) (b : ℕ) (bytes : List ℕ) → grow begun b ≡ Some next
@@ -84,17 +83,6 @@ walk_list-run class place step taken (b ∷ run) all =
     ∙ walk_list-run class place step (taken ++ (b ∷ [])) run parts.1
     ∙ ap (λ t. Some (place t)) (append_assoc taken (b ∷ []) run)
 
--- a place that counts spaces takes a run of them
-walk_list-count : (place : ℕ → BegunList)
-    → ((n b : ℕ) → IsTrue (is_space b) → grow_list (place n) b ≡ Some (place (suc n)))
-    → (n : ℕ) (run : List ℕ) → IsTrue (list_all is_space run) → walk_list (place n) run ≡ Some (place (n + length run))
-walk_list-count place step n [] all = ap (λ k. Some (place k)) (omega arith)
-walk_list-count place step n (b ∷ run) all =
-    let parts = and_parts (is_space b) (list_all is_space run) all in
-    ap (option_and_then (λ next. walk_list next run)) (step n b parts.0)
-    ∙ walk_list-count place step (suc n) run parts.1
-    ∙ ap (λ k. Some (place k)) (omega arith)
-
 -- token bytes go on in the type
 pub walk_from-type : (t : ℕ) (top run : List ℕ) → IsTrue (list_all is_token_byte run)
     → walk_from (in_type (t ∷ top)) run ≡ Some (in_type (t ∷ top ++ run))
@@ -115,14 +103,14 @@ walk_from-subtype top s sub run all =
     walk_from-run is_token_byte (λ taken. in_subtype top (s ∷ taken)) (λ taken b yes. cond-true _ _ _ yes) sub run all
 
 -- spaces go on behind a semicolon
-pub walk_list-spaces : (closed : List (ℕ × Parameter)) (n : ℕ) (run : List ℕ) → IsTrue (list_all is_space run)
+pub walk_list-spaces : (closed : List (List ℕ × Parameter)) (n : List ℕ) (run : List ℕ) → IsTrue (list_all is_space run)
     → walk_list (record { closed = closed; place = in_spaces n }) run
-    ≡ Some (record { closed = closed; place = in_spaces (n + length run) })
+    ≡ Some (record { closed = closed; place = in_spaces (n ++ run) })
 walk_list-spaces closed n run all =
-    walk_list-count (λ k. record { closed = closed; place = in_spaces k }) (λ k b yes. cond-true _ _ _ yes) n run all
+    walk_list-run is_space (λ k. record { closed = closed; place = in_spaces k }) (λ k b yes. cond-true _ _ _ yes) n run all
 
 -- token bytes go on in a parameter's name
-pub walk_list-name : (closed : List (ℕ × Parameter)) (n b : ℕ) (name run : List ℕ) → IsTrue (list_all is_token_byte run)
+pub walk_list-name : (closed : List (List ℕ × Parameter)) (n : List ℕ) (b : ℕ) (name run : List ℕ) → IsTrue (list_all is_token_byte run)
     → walk_list (record { closed = closed; place = in_name n (b ∷ name) }) run
     ≡ Some (record { closed = closed; place = in_name n (b ∷ name ++ run) })
 walk_list-name closed n b name run all =
@@ -130,7 +118,7 @@ walk_list-name closed n b name run all =
     (λ taken c yes. cond-true _ _ _ yes) name run all
 
 -- token bytes go on in a plain value
-pub walk_list-value : (closed : List (ℕ × Parameter)) (n : ℕ) (name : List ℕ) (v : ℕ) (value run : List ℕ)
+pub walk_list-value : (closed : List (List ℕ × Parameter)) (n : List ℕ) (name : List ℕ) (v : ℕ) (value run : List ℕ)
     → IsTrue (list_all is_token_byte run)
     → walk_list (record { closed = closed; place = in_value n name (v ∷ value) }) run
     ≡ Some (record { closed = closed; place = in_value n name (v ∷ value ++ run) })
@@ -139,7 +127,7 @@ walk_list-value closed n name v value run all =
     (λ taken b yes. cond-true _ _ _ yes) value run all
 
 -- inner bytes go on in a quoted value
-pub walk_list-quotes : (closed : List (ℕ × Parameter)) (n : ℕ) (name : List ℕ) (c : ℕ) (content run : List ℕ)
+pub walk_list-quotes : (closed : List (List ℕ × Parameter)) (n : List ℕ) (name : List ℕ) (c : ℕ) (content run : List ℕ)
     → IsTrue (list_all is_inner_byte run)
     → walk_list (record { closed = closed; place = in_quotes n name (c ∷ content) }) run
     ≡ Some (record { closed = closed; place = in_quotes n name (c ∷ content ++ run) })
@@ -148,10 +136,10 @@ walk_list-quotes closed n name c content run all =
     (λ taken b yes. cond-true _ _ _ yes) content run all
 
 -- spaces go on behind a quoted value
-pub walk_list-behind_quotes : (closed : List (ℕ × Parameter)) (n : ℕ) (name content : List ℕ) (m : ℕ) (run : List ℕ)
+pub walk_list-behind_quotes : (closed : List (List ℕ × Parameter)) (n : List ℕ) (name content : List ℕ) (m : List ℕ) (run : List ℕ)
     → IsTrue (list_all is_space run)
     → walk_list (record { closed = closed; place = behind_quotes n name content m }) run
-    ≡ Some (record { closed = closed; place = behind_quotes n name content (m + length run) })
+    ≡ Some (record { closed = closed; place = behind_quotes n name content (m ++ run) })
 walk_list-behind_quotes closed n name content m run all =
-    walk_list-count (λ k. record { closed = closed; place = behind_quotes n name content k })
+    walk_list-run is_space (λ k. record { closed = closed; place = behind_quotes n name content k })
     (λ k b yes. cond-true _ _ _ yes) m run all

@@ -9,7 +9,6 @@ pub mod Items
 pub mod Views
 pub mod Laws
 -- private
-pub mod Begun
 pub mod Remaining
 pub mod Scanning
 pub mod Pairs

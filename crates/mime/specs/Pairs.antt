@@ -1,7 +1,8 @@
 -- Private. The pairs of a parameter list's text, cut one by one from the left.
 use Rattle.std.specs.Prelude.{ℕ, zero, suc, ◌+◌, ◌-◌, List, [], ◌∷◌, ◌++◌, length, take, drop, if◌then◌else◌, ◌==◌}
 use Rattle.std.specs.List.{prefix_len, position_or_len}
-use Rattle.mime.specs.Bytes.{semicolon_byte, equals_byte, quote_byte, space_byte}
+use Rattle.mime.specs.Bytes.{semicolon_byte, equals_byte, quote_byte}
+use Rattle.mime.specs.Grammar.{is_space}
 use Rattle.mime.specs.Values.{lowered, lowered_value}
 
 -- the first place of a byte from a place on, or the text's end
@@ -44,7 +45,7 @@ cut_value whole name (b ∷ bytes) =
 
 -- the spaces before the first name, and the list without them
 abbrev pub gap_of : List ℕ → ℕ
-gap_of list = prefix_len (λ b. b == space_byte) list
+gap_of list = prefix_len is_space list
 
 abbrev pub without_gap : List ℕ → List ℕ
 without_gap list = drop (gap_of list) list

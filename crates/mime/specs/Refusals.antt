@@ -32,12 +32,8 @@ LacksOnly text completion = IsRefused text × IsAccepted (text ++ completion)
 abbrev pub IsUnclosed : List ℕ → Type 0
 IsUnclosed text = LacksOnly text quote_completion
 
--- no completion helps: the byte at the end of the longest viable front is at fault
+-- the byte at the end of the longest viable front is at fault: nothing behind it helps
 pub record IsDeadAt (text : List ℕ) (pos byte : ℕ) : Type 0 where
-  pub refused : IsRefused text
-  pub no_slash : IsRefused (text ++ slash_completion)
-  pub no_equals : IsRefused (text ++ equals_completion)
-  pub no_quote : IsRefused (text ++ quote_completion)
   pub front : IsFront text pos
   pub there : slice_get text pos ≡ Some byte
 
@@ -51,8 +47,5 @@ IsFault text NoMemory = ⊥
 
 -- why reading fails: for want of memory only where the text is accepted and isn't `*/*`
 abbrev pub Explains : List ℕ → ParseError → Type 0
-Explains text MissingSlash = IsFault text MissingSlash
-Explains text MissingEqual = IsFault text MissingEqual
-Explains text MissingQuote = IsFault text MissingQuote
-Explains text (InvalidToken pos byte) = IsFault text (InvalidToken pos byte)
 Explains text NoMemory = IsAccepted text × (text ≢ codes "*/*")
+Explains text fault = IsFault text fault

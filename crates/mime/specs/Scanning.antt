@@ -1,15 +1,14 @@
 -- Private. What the reader has left, what a pass over it leaves, and what the scanner finds.
 use Rattle.std.specs.Prelude.{◌≡◌, ℕ, ◌+◌, Bool, IsTrue, IsFalse, List, [], ◌∷◌, ◌++◌, length, take, drop, Option, Some, None, MatchOption, ◌==◌}
-use Rattle.std.specs.Option.{option_map, option_to_list}
+use Rattle.std.specs.Option.{option_to_list}
 use Rattle.std.specs.List.{list_all}
-use Rattle.mime.specs.Bytes.{is_token_byte, is_quoted_byte, space_byte}
-use Rattle.mime.specs.Grammar.{Tail, no_list, listed, SyntaxTree, text_of, IsWellFormed, is_inner_byte}
-use Rattle.mime.specs.Values.{last_plus, pairs_of_list, pairs_of_tail, IsRefused}
+use Rattle.mime.specs.Bytes.{is_token_byte, is_quoted_byte, slash_byte, semicolon_byte, space_byte}
+use Rattle.mime.specs.Grammar.{Tail, no_list, listed, SyntaxTree, text_of, IsToken, IsWellFormed, is_inner_byte}
+use Rattle.mime.specs.Values.{last_plus, pairs_of_tail, IsRefused}
 use Rattle.mime.specs.Refusals.{IsFault}
-use Rattle.mime.specs.Begun.{ListPlace, in_spaces, in_name, in_value, in_quotes, behind_quotes, Begun, in_type, in_subtype, in_list, BegunList, begun_list, grow_list, walk_list, ended}
 use Rattle.mime.specs.declared.scan.Places.{Places}
 use Rattle.mime.specs.declared.scan.ParseError.{ParseError}
-use Rattle.mime.specs.declared.scan.ParseError.TheVariants.{MissingSlash, MissingEqual, MissingQuote, InvalidToken}
+use Rattle.mime.specs.declared.scan.ParseError.TheVariants.{InvalidToken}
 use Rattle.mime.specs.declared.scan.Verdict.{Verdict}
 use Rattle.mime.specs.declared.scan.Verdict.TheVariants.{Accepted, Unfinished, Stopped}
 use Rattle.mime.specs.Remaining.{Remaining}
@@ -22,10 +21,6 @@ pub record Given (old new : Remaining) (run : List ℕ) (stop : Option ℕ) : Ty
 -- the next byte was given, or there was none
 abbrev pub GivesFirst : Remaining → Remaining → Option ℕ → Type 0
 GivesFirst old new first = Given old new [] first × MatchOption first (new.left ≡ []) (λ b. Unit {0})
-
--- a space, as a class
-abbrev pub is_space : ℕ → Bool
-is_space b = b == space_byte
 
 -- the longest run of a class was passed; the byte behind it isn't of the class
 pub record Passes (class : ℕ → Bool) (old new : Remaining) (stop : Option ℕ) : Type 0 where
@@ -93,42 +88,20 @@ pub record PassesSubtype (at : ℕ) (old new : Remaining) (answer : Option ℕ �
   pub passes : Passes is_token_byte old new answer.1
   pub plus : answer.0 ≡ last_plus at passes.run
 
--- what is missing from a text that ends too early at a place of a list
-abbrev pub lacking_list : ListPlace → ParseError
-lacking_list (in_spaces n) = MissingQuote
-lacking_list (in_name n name) = MissingEqual
-lacking_list (in_value n name value) = MissingQuote
-lacking_list (in_quotes n name content) = MissingQuote
-lacking_list (behind_quotes n name content m) = MissingQuote
+-- the text of a type and a subtype with the semicolon behind it, and its places
+abbrev pub head_text : List ℕ → List ℕ → List ℕ
+head_text top sub = top ++ (slash_byte ∷ (sub ++ (semicolon_byte ∷ [])))
 
--- what is missing from a text that ends too early
-abbrev pub lacking : Begun → ParseError
-lacking (in_type top) = MissingSlash
-lacking (in_subtype top sub) = MissingSlash
-lacking (in_list top sub list) = lacking_list list.place
+abbrev pub head_places : List ℕ → List ℕ → Places
+head_places top sub = record {
+  slash = length top;
+  plus = last_plus (length top + 2) (drop 1 sub);
+  semicolon = Some (length top + 1 + length sub);
+  pairs = 0;
+}
 
--- the places of a text that ends in a list, if it may, with those before the list
-abbrev pub places_of_list : Places → BegunList → Option Places
-places_of_list head list =
-    option_map (λ rest. record head { pairs = head.pairs + (length list.closed + length (pairs_of_list rest)) })
-    (ended list.place)
-
--- the verdict at a byte that can't stand where it does, or at the end
-abbrev pub verdict_at : Option ℕ → Option Places → ParseError → Verdict
-verdict_at None None fault = Unfinished fault
-verdict_at None (Some places) fault = Accepted places
-verdict_at (Some b) places fault = Stopped b places
-
--- a parameter list was walked, to a place and perhaps to a byte that can't stand there
-pub record WalksList (old new : Remaining) (stop : Option ℕ) (begun : BegunList) : Type 0 where
-  pub run : List ℕ
-  pub given : Given old new run stop
-  pub walked : walk_list begun_list run ≡ Some begun
-  pub stopped : MatchOption stop (new.left ≡ []) (λ b. grow_list begun b ≡ None)
-
--- the scanner's answer on a parameter list, with the places before it
-pub record ScansList (head : Places) (old new : Remaining) (verdict : Verdict) : Type 0 where
-  pub stop : Option ℕ
-  pub begun : BegunList
-  pub walks : WalksList old new stop begun
-  pub told : verdict ≡ verdict_at stop (places_of_list head begun) (lacking_list begun.place)
+-- the scanner's answer on a parameter list is its answer on each text that the list ends
+abbrev pub ScansList : Places → Remaining → Remaining → Verdict → Type 0
+ScansList head old new verdict =
+    (start : Remaining) (top sub : List ℕ) → IsToken top → IsToken sub → head ≡ head_places top sub
+    → Given start old (head_text top sub) None → Scans start new verdict

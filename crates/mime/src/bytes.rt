@@ -2,6 +2,7 @@
 
 ghost use Rattle.std.specs.Prelude.{◌≡◌};
 ghost use Rattle.mime.specs.Bytes.{is_token_byte};
+ghost use Rattle.mime.specs.Grammar.{is_space as is_space_byte};
 ghost use Rattle.mime.specs.Bytes.{is_quoted_byte as is_quoted};
 
 const T: bool = true;
@@ -27,6 +28,14 @@ pub fn is_token(b: u8) -> bool
     ensures { result ≡ is_token_byte b }
 {
     TOKEN[b as usize]
+}
+
+/// Whether a byte is a space, as may stand before a parameter and behind a quoted value.
+#[inline(always)]
+pub(crate) fn is_space(b: u8) -> bool
+    ensures { result ≡ is_space_byte b }
+{
+    b == b' '
 }
 
 /// Whether a byte may stand in a quoted value: any byte but those below 32, so no tab, and 127.

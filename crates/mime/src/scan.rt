@@ -2,13 +2,13 @@
 
 ghost use Rattle.std.specs.Prelude.{◌+◌, ◌-◌, ◌<◌, ◌^◌, length};
 ghost use Rattle.mime.specs.Bytes.{is_token_byte};
-ghost use Rattle.mime.specs.Grammar.{is_inner_byte};
-ghost use Rattle.mime.specs.Scanning.{is_space, Passes, PassesContent, PassesSubtype, ScansList, Scans};
+ghost use Rattle.mime.specs.Grammar.{is_inner_byte, is_space as is_space_byte};
+ghost use Rattle.mime.specs.Scanning.{Passes, PassesContent, PassesSubtype, ScansList, Scans};
 
 mod fault;
 mod reader;
 
-use crate::bytes::{is_quoted_byte, is_token};
+use crate::bytes::{is_quoted_byte, is_space, is_token};
 pub use crate::scan::fault::FromStrError;
 pub(crate) use crate::scan::reader::ByteReader;
 
@@ -68,10 +68,10 @@ fn token(reader: &mut ByteReader<'_>) -> Option<u8>
 /// Passes spaces, and gives the byte that ends them.
 #[inline(always)]
 fn spaces(reader: &mut ByteReader<'_>) -> Option<u8>
-    ensures { Passes is_space reader.old reader.new result }
+    ensures { Passes is_space_byte reader.old reader.new result }
 {
     while let Some(byte) = reader.next() {
-        if byte != b' ' {
+        if !is_space(byte) {
             return Some(byte);
         }
     }

@@ -5,6 +5,8 @@ ghost use Rattle.std.specs.Str.{IsCharBoundary};
 ghost use Rattle.mime.specs.Pairs.{before_byte, behind_byte, cut_of};
 ghost use Rattle.mime.specs.Pairs.{gap_of as spaces_before, place_from as place_of, cut_value as pair_of};
 
+use crate::bytes::is_space;
+
 /// The first pair of a list, and the list behind its semicolon.
 #[derive(Clone, Copy)]
 pub(crate) struct Pair<'a> {
@@ -55,7 +57,7 @@ fn gap_of(list: &str) -> usize
     let bytes = list.as_bytes();
     let mut gap = 0;
     while gap < bytes.len() {
-        if bytes[gap] != b' ' {
+        if !is_space(bytes[gap]) {
             return gap;
         }
         gap += 1;

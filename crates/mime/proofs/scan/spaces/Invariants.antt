@@ -1,5 +1,5 @@
 use Rattle.std.proofs.Common.{length}
-use Rattle.mime.specs.Scanning.{is_space}
+use Rattle.mime.specs.Grammar.{is_space}
 use Rattle.mime.proofs.Passing.{Passing}
 use Rattle.mime.proofs.scan.spaces.Given as goal
 

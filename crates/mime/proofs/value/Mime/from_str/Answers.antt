@@ -4,6 +4,7 @@ use Rattle.mime.specs.Values.{IsRefused}
 use Rattle.mime.specs.Refusals.{IsFault}
 use Rattle.mime.specs.Scanning.{HasPlaces}
 use Rattle.mime.proofs.PartLaws.{accepted-from_places, Explains-no_memory, refused-from_fault, star-accepted}
+use Rattle.mime.proofs.Viability.{refused-at_dead}
 use Rattle.mime.proofs.value.Mime.from_str.Goals as goal
 
 pub returns-in-Accepted-clause-explained : goal.returns-in-Accepted-clause-explained
@@ -23,10 +24,10 @@ returns-in-Unfinished-clause-star c = λ star.
 
 pub returns-in-Stopped-clause-accepted : goal.returns-in-Stopped-clause-accepted
 returns-in-Stopped-clause-accepted c = λ accepted.
-    let refused = subst IsRefused c.new-reader.ensures.left c.in-Stopped.ensures.judged.2.fault.refused in
+    let refused = subst IsRefused c.new-reader.ensures.left (refused-at_dead _ _ _ c.in-Stopped.ensures.judged.2.fault) in
     absurd (refused accepted)
 
 pub returns-in-Stopped-clause-star : goal.returns-in-Stopped-clause-star
 returns-in-Stopped-clause-star c = λ star.
-    let refused = subst IsRefused c.new-reader.ensures.left c.in-Stopped.ensures.judged.2.fault.refused in
+    let refused = subst IsRefused c.new-reader.ensures.left (refused-at_dead _ _ _ c.in-Stopped.ensures.judged.2.fault) in
     absurd (refused (star-accepted _ star))

@@ -1,27 +1,27 @@
--- Private. Trees that were begun: where a text that may still be accepted can end, and how each
+-- Trees that were begun: where a text that may still be accepted can end, and how each
 -- further byte changes the place.
-use Rattle.std.specs.Prelude.{ℕ, suc, List, [], ◌∷◌, ◌++◌, Option, Some, None, if◌then◌else◌, ◌==◌}
+use Rattle.std.specs.Prelude.{ℕ, List, [], ◌∷◌, ◌++◌, Option, Some, None, if◌then◌else◌, ◌==◌}
 use Rattle.std.specs.Option.{option_and_then, option_map}
-use Rattle.mime.specs.Bytes.{is_token_byte, is_quoted_byte, slash_byte, semicolon_byte, equals_byte, quote_byte, space_byte}
-use Rattle.mime.specs.Grammar.{Parameter, plain, quoted, Parameters, blank, final, more, no_list, listed, SyntaxTree, is_inner_byte}
+use Rattle.mime.specs.Bytes.{is_token_byte, is_quoted_byte, slash_byte, semicolon_byte, equals_byte, quote_byte}
+use Rattle.mime.specs.Grammar.{Parameter, plain, quoted, Parameters, blank, final, more, no_list, listed, SyntaxTree, is_inner_byte, is_space}
 
 -- where in a parameter list, counted from the last semicolon
 pub data ListPlace : Type 0 where
-  in_spaces : (n : ℕ) → ListPlace
-  in_name : (n : ℕ) (name : List ℕ) → ListPlace
-  in_value : (n : ℕ) (name value : List ℕ) → ListPlace
-  in_quotes : (n : ℕ) (name content : List ℕ) → ListPlace
-  behind_quotes : (n : ℕ) (name content : List ℕ) (m : ℕ) → ListPlace
+  in_spaces : (n : List ℕ) → ListPlace
+  in_name : (n : List ℕ) (name : List ℕ) → ListPlace
+  in_value : (n : List ℕ) (name value : List ℕ) → ListPlace
+  in_quotes : (n : List ℕ) (name content : List ℕ) → ListPlace
+  behind_quotes : (n : List ℕ) (name content : List ℕ) (m : List ℕ) → ListPlace
 
 -- a begun parameter list: the parameters that a semicolon closed, the last one first, each with
 -- the spaces before it, and the place behind them
 pub record BegunList : Type 0 where
-  pub closed : List (ℕ × Parameter)
+  pub closed : List (List ℕ × Parameter)
   pub place : ListPlace
 
 -- behind a semicolon that no parameter follows yet
 abbrev pub begun_list : BegunList
-begun_list = record { closed = []; place = in_spaces 0 }
+begun_list = record { closed = []; place = in_spaces [] }
 
 pub data Begun : Type 0 where
   in_type : (top : List ℕ) → Begun
@@ -29,17 +29,17 @@ pub data Begun : Type 0 where
   in_list : (top sub : List ℕ) → BegunList → Begun
 
 -- the same parameters, at another place
-abbrev pub at_place : List (ℕ × Parameter) → ListPlace → Option BegunList
+abbrev pub at_place : List (List ℕ × Parameter) → ListPlace → Option BegunList
 at_place closed place = Some (record { closed = closed; place = place })
 
 -- a semicolon closes a parameter
-abbrev pub close : List (ℕ × Parameter) → ℕ → Parameter → Option BegunList
-close closed n parameter = at_place ((n, parameter) ∷ closed) (in_spaces 0)
+abbrev pub close : List (List ℕ × Parameter) → List ℕ → Parameter → Option BegunList
+close closed n parameter = at_place ((n, parameter) ∷ closed) (in_spaces [])
 
 -- one more byte at a place of a list, or none where nothing accepted goes on so
-abbrev pub grow_place : List (ℕ × Parameter) → ListPlace → ℕ → Option BegunList
+abbrev pub grow_place : List (List ℕ × Parameter) → ListPlace → ℕ → Option BegunList
 grow_place closed (in_spaces n) b =
-    if b == space_byte then at_place closed (in_spaces (suc n))
+    if is_space b then at_place closed (in_spaces (n ++ (b ∷ [])))
     else (if is_token_byte b then at_place closed (in_name n (b ∷ [])) else None)
 grow_place closed (in_name n name) b =
     if is_token_byte b then at_place closed (in_name n (name ++ (b ∷ [])))
@@ -54,9 +54,9 @@ grow_place closed (in_quotes n name []) b =
     if is_quoted_byte b then at_place closed (in_quotes n name (b ∷ [])) else None
 grow_place closed (in_quotes n name (c ∷ content)) b =
     if is_inner_byte b then at_place closed (in_quotes n name (c ∷ content ++ (b ∷ [])))
-    else (if b == quote_byte then at_place closed (behind_quotes n name (c ∷ content) 0) else None)
+    else (if b == quote_byte then at_place closed (behind_quotes n name (c ∷ content) []) else None)
 grow_place closed (behind_quotes n name content m) b =
-    if b == space_byte then at_place closed (behind_quotes n name content (suc m))
+    if is_space b then at_place closed (behind_quotes n name content (m ++ (b ∷ [])))
     else (if b == semicolon_byte then close closed n (quoted name content m) else None)
 
 abbrev pub grow_list : BegunList → ℕ → Option BegunList
@@ -87,7 +87,7 @@ abbrev pub walk : List ℕ → Option Begun
 walk text = walk_from (in_type []) text
 
 -- the list that the closed parameters and what follows them make
-abbrev pub with_closed : List (ℕ × Parameter) → Parameters → Parameters
+abbrev pub with_closed : List (List ℕ × Parameter) → Parameters → Parameters
 with_closed [] rest = rest
 with_closed ((n, parameter) ∷ closed) rest = with_closed closed (more n parameter rest)
 
