@@ -2,8 +2,9 @@
 -- further byte changes the place.
 use Rattle.std.specs.Prelude.{ℕ, List, [], ◌∷◌, ◌++◌, Option, Some, None, if◌then◌else◌, ◌==◌}
 use Rattle.std.specs.Option.{option_and_then, option_map}
-use Rattle.mime.specs.Bytes.{is_token_byte, is_quoted_byte, slash_byte, semicolon_byte, equals_byte, quote_byte}
-use Rattle.mime.specs.Grammar.{Parameter, plain, quoted, Parameters, blank, final, more, no_list, listed, SyntaxTree, is_inner_byte, is_space}
+use Rattle.mime.specs.Bytes.{is_token_byte, slash_byte, semicolon_byte, equals_byte, quote_byte}
+use Rattle.mime.specs.Grammar.{Parameter, plain, quoted, Parameters, blank, final, more, no_list, listed, SyntaxTree, is_space}
+use Rattle.mime.specs.Quoted.{continues}
 
 -- where in a parameter list, counted from the last semicolon
 pub data ListPlace : Type 0 where
@@ -50,11 +51,9 @@ grow_place closed (in_value n name []) b =
 grow_place closed (in_value n name (v ∷ value)) b =
     if is_token_byte b then at_place closed (in_value n name (v ∷ value ++ (b ∷ [])))
     else (if b == semicolon_byte then close closed n (plain name (v ∷ value)) else None)
-grow_place closed (in_quotes n name []) b =
-    if is_quoted_byte b then at_place closed (in_quotes n name (b ∷ [])) else None
-grow_place closed (in_quotes n name (c ∷ content)) b =
-    if is_inner_byte b then at_place closed (in_quotes n name (c ∷ content ++ (b ∷ [])))
-    else (if b == quote_byte then at_place closed (behind_quotes n name (c ∷ content) []) else None)
+grow_place closed (in_quotes n name content) b =
+    if continues content b then at_place closed (in_quotes n name (content ++ (b ∷ [])))
+    else (if b == quote_byte then at_place closed (behind_quotes n name content []) else None)
 grow_place closed (behind_quotes n name content m) b =
     if is_space b then at_place closed (behind_quotes n name content (m ++ (b ∷ [])))
     else (if b == semicolon_byte then close closed n (quoted name content m) else None)

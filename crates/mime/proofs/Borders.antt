@@ -8,8 +8,10 @@ use Rattle.std.proofs.lemmas.Str.{IsCharBoundary-start, IsCharBoundary-end, IsCh
 use Rattle.std.specs.Prelude.{IsTrue, IsFalse, MatchOption, if◌then◌else◌, ◌==◌}
 use Rattle.std.specs.Str.{IsUtf8, IsCharBoundary}
 use Rattle.std.specs.Option.{option_and_then, option_map}
-use Rattle.mime.specs.Bytes.{is_token_byte, is_quoted_byte, slash_byte, semicolon_byte, equals_byte, quote_byte, space_byte}
-use Rattle.mime.specs.Grammar.{Parameter, is_inner_byte, is_space}
+use Rattle.mime.specs.Bytes.{is_token_byte, slash_byte, semicolon_byte, equals_byte, quote_byte}
+use Rattle.mime.specs.Grammar.{Parameter, is_space}
+use Rattle.mime.specs.Quoted.{awaits_first, awaits_behind, continues}
+use Rattle.mime.proofs.Quoted.{takes-high}
 use Rattle.mime.specs.Refusals.{IsFront}
 use Rattle.mime.proofs.Begun.{Begun, in_type, in_subtype, in_list, BegunList, ListPlace, in_spaces, in_name, in_value, in_quotes, behind_quotes, grow, grow_place, grow_list, walk, walk_from}
 use Rattle.mime.specs.Laws.{FrontEndsBetweenCharacters}
@@ -19,16 +21,6 @@ use Rattle.mime.proofs.Viability.{front-from_walk, whole_front-from_walk, front_
 token_byte-lt : (b : ℕ) → IsTrue (is_token_byte b) → b < 128
 unfolding is_token_byte
 token_byte-lt b token = grind (arith, nat_tests)
-
--- a byte past ASCII that a quoted value doesn't take goes on no character
-unquoted_byte-ge : (b : ℕ) → IsFalse (is_quoted_byte b) → 128 ≤ b → 192 ≤ b
-unfolding is_quoted_byte
-unquoted_byte-ge b unquoted high = grind (arith, nat_tests)
-
--- nor does one that an open quoted value doesn't take behind its first byte
-outer_byte-ge : (b : ℕ) → IsFalse (is_inner_byte b) → 128 ≤ b → 192 ≤ b
-unfolding is_quoted_byte
-outer_byte-ge b outer high = grind (arith, nat_tests)
 
 -- ---- a byte past ASCII leads on within a quoted value alone
 
@@ -57,22 +49,13 @@ high_space b high = grind (arith, nat_tests)
 -- what an open quoted value doesn't take
 EndsAtBorder-in_quotes : (top sub : List ℕ) (closed : List (List ℕ × Parameter)) (n : List ℕ) (name content : List ℕ)
     → EndsAtBorder (in_list top sub (record { closed = closed; place = in_quotes n name content }))
-EndsAtBorder-in_quotes top sub closed n name [] b dead high =
-    unquoted_byte-ge b (untaken (is_quoted_byte b) dead) high
-  where
-    untaken : (test : Bool)
-        → option_map (in_list top sub) (if test then Some (record { closed = closed; place = in_quotes n name (b ∷ []) }) else None)
-        ≡ None
-        → IsFalse test
-    untaken true dead = absurd (none-some _ (sym dead))
-    untaken false dead = refl
-EndsAtBorder-in_quotes top sub closed n name (c ∷ content) b dead high =
-    outer_byte-ge b (untaken (is_inner_byte b) (b == quote_byte) dead) high
+EndsAtBorder-in_quotes top sub closed n name content b dead high =
+    takes-high (awaits_behind awaits_first content) b (untaken (continues content b) (b == quote_byte) dead) high
   where
     untaken : (test other : Bool)
         → option_map (in_list top sub)
-        (if test then Some (record { closed = closed; place = in_quotes n name (c ∷ content ++ (b ∷ [])) })
-        else (if other then Some (record { closed = closed; place = behind_quotes n name (c ∷ content) [] }) else None))
+        (if test then Some (record { closed = closed; place = in_quotes n name (content ++ (b ∷ [])) })
+        else (if other then Some (record { closed = closed; place = behind_quotes n name content [] }) else None))
         ≡ None
         → IsFalse test
     untaken true other dead = absurd (none-some _ (sym dead))
@@ -89,12 +72,9 @@ grow_place-high top sub closed (in_value n name []) b high =
     neither _ _ _ _ _ (high_token b high) (high_mark b quote_byte (omega arith) high)
 grow_place-high top sub closed (in_value n name (v ∷ value)) b high =
     neither _ _ _ _ _ (high_token b high) (high_mark b semicolon_byte (omega arith) high)
-grow_place-high top sub closed (in_quotes n name []) b high =
-    cond_both (is_quoted_byte b) _ None (λ o. MatchOption o (Unit {0}) (λ next. EndsAtBorder (in_list top sub next)))
-    (λ passes. EndsAtBorder-in_quotes top sub closed n name (b ∷ [])) (λ fails. tt)
-grow_place-high top sub closed (in_quotes n name (c ∷ content)) b high =
-    cond_both (is_inner_byte b) _ _ (λ o. MatchOption o (Unit {0}) (λ next. EndsAtBorder (in_list top sub next)))
-    (λ passes. EndsAtBorder-in_quotes top sub closed n name (c ∷ content ++ (b ∷ [])))
+grow_place-high top sub closed (in_quotes n name content) b high =
+    cond_both (continues content b) _ _ (λ o. MatchOption o (Unit {0}) (λ next. EndsAtBorder (in_list top sub next)))
+    (λ passes. EndsAtBorder-in_quotes top sub closed n name (content ++ (b ∷ [])))
     (λ fails. neither _ false _ None _ refl (high_mark b quote_byte (omega arith) high))
 grow_place-high top sub closed (behind_quotes n name content m) b high =
     neither _ _ _ _ _ (high_space b high) (high_mark b semicolon_byte (omega arith) high)

@@ -1,10 +1,12 @@
 -- Each refused text has one fault, and a viable one has one completion.
-use Rattle.std.proofs.Common.{◌≡◌, ℕ, Bool, true, List, [], ◌∷◌, ◌++◌, length, Option, Some, None, refl, sym, ap, ◌∙◌, subst, inl, inr, ⊎_elim}
+use Rattle.std.proofs.Common.{◌≡◌, ℕ, Bool, true, false, List, [], ◌∷◌, ◌++◌, length, Option, Some, None, refl, sym, ap, ◌∙◌, subst, inl, inr, ⊎_elim}
 use Rattle.std.proofs.lemmas.Bool.{false≢true}
 use Rattle.std.proofs.lemmas.Option.{same_Some, none-some}
-use Rattle.std.specs.Prelude.{is_some, slice_get}
+use Rattle.std.specs.Prelude.{IsTrue, is_some, slice_get}
 use Rattle.std.specs.Option.{option_and_then}
-use Rattle.mime.specs.Bytes.{is_token_byte, is_quoted_byte}
+use Rattle.mime.specs.Bytes.{is_token_byte}
+use Rattle.mime.specs.Quoted.{awaits_first, takes_all, awaits_behind}
+use Rattle.mime.proofs.Quoted.{takes_all-letter_slash, takes_all-equals}
 use Rattle.mime.specs.Grammar.{Parameter, SyntaxTree}
 use Rattle.mime.specs.Values.{IsAccepted, IsRefused}
 use Rattle.mime.specs.Refusals.{IsFront, slash_completion, equals_completion, quote_completion, LacksOnly, IsDeadAt, IsFault}
@@ -14,7 +16,7 @@ use Rattle.mime.specs.declared.scan.ParseError.{ParseError}
 use Rattle.mime.specs.declared.scan.ParseError.TheVariants.{MissingSlash, MissingEqual, MissingQuote, InvalidToken, NoMemory}
 use Rattle.mime.proofs.Walks.{walk-append}
 use Rattle.mime.proofs.Readings.{walk-accepted}
-use Rattle.mime.proofs.Viability.{accepted-from_complete, Completes, accepted-from_completes, Completes-in_type, Completes-in_name, Completes-in_quotes, not_viable-from_walk, walk-from_viable, whole_front-from_walk, front-from_walk, front_unique, dead-from_walk, refused-from_dead, stop-from_walk}
+use Rattle.mime.proofs.Viability.{accepted-from_complete, Completes, accepted-from_completes, Completes-in_type, Completes-in_name, Completes-in_quotes, walk_from-open, not_viable-from_walk, walk-from_viable, whole_front-from_walk, front-from_walk, front_unique, dead-from_walk, refused-from_dead, stop-from_walk}
 
 -- whether a continuation leads from a begun tree to a complete one
 abbrev completes : Begun → List ℕ → Bool
@@ -70,24 +72,26 @@ only-in_name top sub closed n name = record {
   quote = λ passes. absurd (false≢true passes);
 }
 
+-- bytes that an open quoted value takes complete nothing
+completes-open : (top sub : List ℕ) (closed : List (List ℕ × Parameter)) (n name content more : List ℕ)
+    → IsTrue (takes_all (awaits_behind awaits_first content) more)
+    → completes (in_list top sub (record { closed = closed; place = in_quotes n name content })) more ≡ false
+completes-open top sub closed n name content more all =
+    ap (λ o. is_some (option_and_then tree_of o)) (walk_from-open top sub closed n name content more all)
+
 -- an open quoted value lacks a quote alone
 only-in_quotes : (top sub : List ℕ) (closed : List (List ℕ × Parameter)) (n : List ℕ) (name content : List ℕ)
     → IsOnly (in_list top sub (record { closed = closed; place = in_quotes n name content })) quote_completion MissingQuote
-unfolding is_quoted_byte
-only-in_quotes top sub closed n name [] = record {
+only-in_quotes top sub closed n name content = record {
   known = inr (inr refl);
-  way = Completes-in_quotes top sub closed n name [];
+  way = Completes-in_quotes top sub closed n name content;
   named = λ text lacks. lacks;
-  slash = λ passes. absurd (false≢true passes);
-  equals = λ passes. absurd (false≢true passes);
-  quote = λ passes. (refl, refl);
-}
-only-in_quotes top sub closed n name (c ∷ content) = record {
-  known = inr (inr refl);
-  way = Completes-in_quotes top sub closed n name (c ∷ content);
-  named = λ text lacks. lacks;
-  slash = λ passes. absurd (false≢true passes);
-  equals = λ passes. absurd (false≢true passes);
+  slash = λ passes.
+      absurd (false≢true (sym (completes-open top sub closed n name content slash_completion
+      (takes_all-letter_slash (awaits_behind awaits_first content))) ∙ passes));
+  equals = λ passes.
+      absurd (false≢true (sym (completes-open top sub closed n name content equals_completion
+      (takes_all-equals (awaits_behind awaits_first content))) ∙ passes));
   quote = λ passes. (refl, refl);
 }
 

@@ -1,3 +1,4 @@
+pub mod Quoted
 pub mod Begun
 pub mod Verdicts
 pub mod Walks

@@ -1,18 +1,18 @@
 -- A parameter list as the scanner passes it: each part leads on from the place where the last one ended.
-use Rattle.std.proofs.Common.{◌≡◌, ◌≢◌, ℕ, ◌+◌, ◌<◌, ◌≤◌, true, false, List, [], ◌∷◌, ◌++◌, length, Option, Some, None, MatchOption, refl, sym, ap, ◌∙◌, arith, ne_eqb, eq-eqb}
+use Rattle.std.proofs.Common.{◌≡◌, ◌≢◌, ℕ, ◌+◌, ◌<◌, ◌≤◌, true, false, List, [], ◌∷◌, ◌++◌, length, Option, Some, None, MatchOption, refl, ap, ◌∙◌, arith, ne_eqb, eq-eqb}
 use Rattle.std.specs.Prelude.{IsFalse}
-use Rattle.std.proofs.lemmas.Bool.{true≢false}
-use Rattle.mime.specs.Bytes.{is_token_byte, is_quoted_byte, equals_byte, quote_byte, semicolon_byte}
+use Rattle.mime.specs.Bytes.{is_token_byte, equals_byte, quote_byte, semicolon_byte}
 use Rattle.mime.specs.Grammar.{is_space, Parameter, plain, quoted, final}
 use Rattle.mime.proofs.Begun.{ListPlace, in_spaces, in_name, in_value, in_quotes, behind_quotes, BegunList, begun_list, grow_list, grow_place, walk_list, ended, close}
 use Rattle.mime.specs.Remaining.{Remaining}
 use Rattle.mime.specs.declared.scan.Places.{Places}
 use Rattle.mime.specs.declared.scan.Verdict.TheVariants.{Accepted, Unfinished, Stopped}
 use Rattle.mime.specs.declared.scan.ParseError.TheVariants.{MissingEqual, MissingQuote}
-use Rattle.mime.specs.Scanning.{Given, GivesFirst, Passes, PassesContent, IsBegunContent, continues_content}
+use Rattle.mime.specs.Scanning.{Given, GivesFirst, Passes, PassesContent}
+use Rattle.mime.specs.Quoted.{continues}
 use Rattle.mime.proofs.Verdicts.{ListVerdict, places_of_list}
 use Rattle.mime.proofs.Passing.{given_then, given_whole, given_less, given_at_most}
-use Rattle.mime.proofs.Walks.{walk_list-append_some, walk_list-spaces, walk_list-name, walk_list-value, walk_list-quotes, walk_list-behind_quotes}
+use Rattle.mime.proofs.Walks.{walk_list-append_some, walk_list-spaces, walk_list-name, walk_list-value, walk_list-open, walk_list-behind_quotes}
 
 -- a list was walked to a place, with the byte behind it, if any
 pub record ListTo (old now : Remaining) (stop : Option ℕ) (list : BegunList) : Type 0 where
@@ -42,13 +42,6 @@ list_byte old now b list next w e = record {
 pub list_first : (old mid new : Remaining) (first : Option ℕ) (list : BegunList)
     → ListTo old mid None list → GivesFirst mid new first → ListTo old new first list
 list_first old mid new first list w g = list_run old mid new first list list [] w g.0 refl
-
--- the bytes between quotes are walked
-pub walk_list-content : (closed : List (List ℕ × Parameter)) (n : List ℕ) (name run : List ℕ) → IsBegunContent run
-    → walk_list (record { closed = closed; place = in_quotes n name [] }) run
-    ≡ Some (record { closed = closed; place = in_quotes n name run })
-walk_list-content closed n name [] all = refl
-walk_list-content closed n name (c ∷ run) all = rw all.0 (walk_list-quotes closed n name c [] run all.1)
 
 -- the loop before a parameter: some are closed, and each took a byte of those that were left
 pub record Turn (head places : Places) (old now : Remaining) : Type 0 where
@@ -194,11 +187,6 @@ semicolon_is_no_token : is_token_byte semicolon_byte ≡ false
 unfolding is_token_byte
 semicolon_is_no_token = refl
 
--- a quote may stand in a quoted value, as its first byte
-quote_is_quoted : is_quoted_byte quote_byte ≡ true
-unfolding is_quoted_byte
-quote_is_quoted = refl
-
 -- between the quotes of a value
 quotes_walked : (head places : Places) (old mid r2 r3 new : Remaining) (b : ℕ) (stop : Option ℕ)
     → (m : Named head places old mid r2) → GivesFirst r2 r3 (Some b) → b ≡ quote_byte → (q : PassesContent r3 new stop)
@@ -206,7 +194,7 @@ quotes_walked : (head places : Places) (old mid r2 r3 new : Remaining) (b : ℕ)
 quotes_walked head places old mid r2 r3 new b stop m g e q =
     let w = list_byte old r3 b _ (record { closed = m.closed; place = in_quotes m.spaces m.name [] })
     (list_first old r2 r3 (Some b) _ m.walked g) (rw (e, quote_is_no_token))
-    in list_run old r3 new stop _ _ q.run w q.given (walk_list-content m.closed m.spaces m.name q.run q.of_class)
+    in list_run old r3 new stop _ _ q.run w q.given (walk_list-open m.closed m.spaces m.name [] q.run q.of_class)
 
 -- the text ends there
 pub scans_quotes_end : (head places : Places) (old mid r2 r3 new : Remaining) (b : ℕ)
@@ -223,9 +211,8 @@ scans_quotes_end head places old mid r2 r3 new b m g e q =
 
 -- a byte that can't follow between quotes and isn't the closing quote stops the list
 grow_place-quotes : (closed : List (List ℕ × Parameter)) (n : List ℕ) (name content : List ℕ) (b : ℕ)
-    → continues_content content b ≡ false → b ≢ quote_byte → grow_place closed (in_quotes n name content) b ≡ None
-grow_place-quotes closed n name [] b f ne = rw f
-grow_place-quotes closed n name (c ∷ content) b f ne = rw (f, ne_eqb b quote_byte ne)
+    → IsFalse (continues content b) → b ≢ quote_byte → grow_place closed (in_quotes n name content) b ≡ None
+grow_place-quotes closed n name content b f ne = rw (f, ne_eqb b quote_byte ne)
 
 pub scans_quotes_stop : (head places : Places) (old mid r2 r3 new : Remaining) (b c : ℕ)
     → Named head places old mid r2 → GivesFirst r2 r3 (Some b) → b ≡ quote_byte → PassesContent r3 new (Some c)
@@ -246,10 +233,9 @@ scans_quotes_stop head places old mid r2 r3 new b c m g e q ne =
 
 -- a quote that can't follow the content closes it
 grow_place-closing : (closed : List (List ℕ × Parameter)) (n : List ℕ) (name content : List ℕ)
-    → continues_content content quote_byte ≡ false
+    → IsFalse (continues content quote_byte)
     → grow_place closed (in_quotes n name content) quote_byte ≡ Some (record { closed = closed; place = behind_quotes n name content [] })
-grow_place-closing closed n name [] f = absurd (true≢false (sym quote_is_quoted ∙ f))
-grow_place-closing closed n name (c ∷ content) f = rw f
+grow_place-closing closed n name content f = rw f
 
 -- behind the value of a parameter that began at `mid`: the text may end here, or a semicolon close it
 pub record Valued (head places : Places) (old mid now : Remaining) (stop : Option ℕ) : Type 0 where

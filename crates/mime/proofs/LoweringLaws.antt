@@ -7,9 +7,10 @@ use Rattle.std.proofs.lemmas.Bool.{and_parts, and_from}
 use Rattle.std.proofs.lemmas.Bool.Decides.{nat_tests}
 use Rattle.std.proofs.lemmas.List.{map-append, length-map, take-map, drop-map}
 use Rattle.std.proofs.lemmas.Str.Ascii.{lowercase-lowercase}
-use Rattle.mime.specs.Bytes.{is_token_byte, is_quoted_byte}
-use Rattle.mime.specs.Grammar.{Parameter, plain, quoted, Parameters, blank, final, more, Tail, no_list, listed, SyntaxTree, AreTokenBytes, IsToken, IsContent, is_inner_byte, IsInnerParameter, IsFinalParameter, AreParameters, AreSubtypeAndTail, IsWellFormed}
+use Rattle.mime.specs.Bytes.{is_token_byte}
+use Rattle.mime.specs.Grammar.{Parameter, plain, quoted, Parameters, blank, final, more, Tail, no_list, listed, SyntaxTree, AreTokenBytes, IsToken, IsContent, IsInnerParameter, IsFinalParameter, AreParameters, AreSubtypeAndTail, IsWellFormed}
 use Rattle.mime.specs.Values.{lowered, is_charset, lowered_value, lowered_parameter, lowered_list, lowered_tail, lowered_tree, last_plus, pairs_of_list, pairs_of_tail}
+use Rattle.mime.proofs.Quoted.{IsContent-lowered}
 use Rattle.mime.specs.Scanning.{places_of, semicolon_of}
 
 -- twice is once
@@ -38,16 +39,6 @@ pub is_token_byte-lowercase : (b : ℕ) → is_token_byte b ≡ true → is_toke
 unfolding is_token_byte
 is_token_byte-lowercase b member = grind (arith, nat_tests)
 
--- so does the class of quoted bytes
-pub is_quoted_byte-lowercase : (b : ℕ) → is_quoted_byte b ≡ true → is_quoted_byte (to_ascii_lowercase b) ≡ true
-unfolding is_quoted_byte
-is_quoted_byte-lowercase b member = grind (arith, nat_tests)
-
--- and that of those which close no value
-pub is_inner_byte-lowercase : (b : ℕ) → is_inner_byte b ≡ true → is_inner_byte (to_ascii_lowercase b) ≡ true
-unfolding is_quoted_byte
-is_inner_byte-lowercase b member = grind (arith, nat_tests)
-
 -- a list of a class that keeps small letters with the capitals keeps it when it is lowered
 list_all-lowered : (class : ℕ → Bool) → ((b : ℕ) → class b ≡ true → class (to_ascii_lowercase b) ≡ true)
     → (bytes : List ℕ) → list_all class bytes ≡ true → list_all class (lowered bytes) ≡ true
@@ -64,12 +55,6 @@ AreTokenBytes-lowered bytes all = list_all-lowered is_token_byte is_token_byte-l
 pub IsToken-lowered : (bytes : List ℕ) → IsToken bytes → IsToken (lowered bytes)
 IsToken-lowered [] token = token
 IsToken-lowered (b ∷ bytes) token = AreTokenBytes-lowered (b ∷ bytes) token
-
--- lowered content is content
-pub IsContent-lowered : (bytes : List ℕ) → IsContent bytes → IsContent (lowered bytes)
-IsContent-lowered [] content = content
-IsContent-lowered (b ∷ bytes) content =
-    (is_quoted_byte-lowercase b content.0, list_all-lowered is_inner_byte is_inner_byte-lowercase bytes content.1)
 
 -- what holds of a value and of its lowering holds of it under any name
 pub lowered_value-either : (P : List ℕ → Type 0) (name value : List ℕ) → P value → P (lowered value) → P (lowered_value name value)

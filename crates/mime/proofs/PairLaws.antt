@@ -6,9 +6,11 @@ use Rattle.std.specs.Char.{to_ascii_lowercase}
 use Rattle.std.proofs.lemmas.Bool.{not-true, and_parts, and_from, cond-true, cond-false}
 use Rattle.std.proofs.lemmas.Bool.Decides.{nat_tests}
 use Rattle.std.proofs.lemmas.List.{take_at, drop_at, take_all, drop_all, drop-drop, take-append-drop}
-use Rattle.mime.specs.Bytes.{is_token_byte, is_quoted_byte, semicolon_byte, equals_byte, quote_byte, space_byte}
-use Rattle.mime.specs.Grammar.{Parameter, plain, quoted, Parameters, blank, final, more, text_of_list, text_of_parameter, is_space, AreSpaces, AreTokenBytes, IsToken, IsContent, is_inner_byte, AreParameters, IsInnerParameter, IsFinalParameter}
+use Rattle.mime.specs.Bytes.{is_token_byte, semicolon_byte, equals_byte, quote_byte}
+use Rattle.mime.specs.Grammar.{Parameter, plain, quoted, Parameters, blank, final, more, text_of_list, text_of_parameter, is_space, AreSpaces, AreTokenBytes, IsToken, IsContent, AreParameters, IsInnerParameter, IsFinalParameter}
 use Rattle.mime.specs.Values.{lowered, lowered_value, lowered_parameter, lowered_list, pair_of, pairs_of_list}
+use Rattle.mime.specs.Quoted.{content_len, content_of, behind_content}
+use Rattle.mime.proofs.Quoted.{content_len-content}
 use Rattle.mime.specs.Pairs.{PairCut, place_from, before_byte, behind_byte, cut_value, gap_of, without_gap, cut_of, pairs_within, lowered_first, lowered_within}
 use Rattle.mime.proofs.LoweringLaws.{length-lowered, lowered-append, lowered_value-either}
 use Rattle.mime.proofs.Utf8Laws.{IsLoweredInPart, IsLoweredInPart-same, IsLoweredInPart-lowered, IsLoweredInPart-append}
@@ -47,10 +49,8 @@ lies_from_end list bytes name rest k end behind = record {
 }
 
 -- what stands behind a byte is an end of what stands from it on
-behind_byte-end : (from byte : ℕ) (bytes : List ℕ) → IsEnd (behind_byte from byte bytes) (drop (place_from from byte bytes) bytes)
-behind_byte-end from byte bytes =
-    subst (λ x. IsEnd x (drop (place_from from byte bytes) bytes)) (drop-drop 1 (place_from from byte bytes) bytes)
-    (IsEnd-drop 1 (drop (place_from from byte bytes) bytes))
+IsEnd-behind : (place : ℕ) (bytes : List ℕ) → IsEnd (drop (place + 1) bytes) (drop place bytes)
+IsEnd-behind place bytes = subst (λ x. IsEnd x (drop place bytes)) (drop-drop 1 place bytes) (IsEnd-drop 1 (drop place bytes))
 
 -- the cut behind the equals sign lies in the list
 cut_value-lies : (list name bytes : List ℕ) → IsEnd bytes list → LiesIn list (cut_value (length list) name bytes)
@@ -66,8 +66,8 @@ cut_value-lies list name (b ∷ bytes) end = go (b == quote_byte)
         (record {
           name = name;
           head = length list - length bytes;
-          value = before_byte 1 quote_byte bytes;
-          rest = behind_byte 0 semicolon_byte (behind_byte 1 quote_byte bytes);
+          value = content_of bytes;
+          rest = behind_byte 0 semicolon_byte (behind_content bytes);
         })
         (record {
           name = name;
@@ -75,11 +75,11 @@ cut_value-lies list name (b ∷ bytes) end = go (b == quote_byte)
           value = before_byte 0 semicolon_byte (b ∷ bytes);
           rest = behind_byte 0 semicolon_byte (b ∷ bytes);
         }))
-    go true = lies_from_end list bytes name _ (place_from 1 quote_byte bytes)
+    go true = lies_from_end list bytes name _ (content_len bytes)
         (IsEnd-trans bytes (b ∷ bytes) list (IsEnd-drop 1 (b ∷ bytes)) end)
-        (IsEnd-trans _ (behind_byte 1 quote_byte bytes) _ (IsEnd-drop _ (behind_byte 1 quote_byte bytes)) (behind_byte-end 1 quote_byte bytes))
+        (IsEnd-trans _ (behind_content bytes) _ (IsEnd-drop _ (behind_content bytes)) (IsEnd-behind (content_len bytes) bytes))
     go false = lies_from_end list (b ∷ bytes) name _ (place_from 0 semicolon_byte (b ∷ bytes)) end
-        (behind_byte-end 0 semicolon_byte (b ∷ bytes))
+        (IsEnd-behind (place_from 0 semicolon_byte (b ∷ bytes)) (b ∷ bytes))
 
 -- any list is what stands before its first value, that value, what stands behind it, and the rest
 cut_of-lies : (list : List ℕ) → LiesIn list (cut_of list)
@@ -336,33 +336,16 @@ cut_value-plain whole name (v ∷ value) follow rest all follows =
     cond-false (v == quote_byte) _ _ (not-true (v == quote_byte) (is_other-token quote_byte quote-out v first.0))
     ∙ cc (before_follow (v ∷ value) follow rest others follows, behind_follow (v ∷ value) follow rest others follows)
 
--- no inner byte closes a quoted value
-is_other-inner : (b : ℕ) → is_inner_byte b ≡ true → is_other quote_byte b ≡ true
-is_other-inner b member = (and_parts (is_quoted_byte b) (not (b == quote_byte)) member).1
-
--- the place of the closing quote
-place_to_quote : (c : ℕ) (content behind : List ℕ) → list_all is_inner_byte content ≡ true
-    → place_from 1 quote_byte (c ∷ content ++ quote_byte ∷ behind) ≡ length (c ∷ content)
-place_to_quote c content behind all =
-    omega (
-      arith,
-      run_to (is_other quote_byte) content quote_byte behind
-          (list_all-wider is_inner_byte (is_other quote_byte) is_other-inner content all) refl,
-    )
-
 -- a quoted value is cut up to its closing quote
 cut_value-quoted : (whole : ℕ) (name content : List ℕ) (n : List ℕ) (follow rest : List ℕ) → IsContent content → AreSpaces n → IsFollow follow rest
     → cut_value whole name (quote_byte ∷ (content ++ (quote_byte ∷ (n ++ follow))))
     ≡ record { name = name; head = whole - length (content ++ (quote_byte ∷ (n ++ follow))); value = content; rest = rest }
-cut_value-quoted whole name [] n follow rest is white follows = absurd is
-cut_value-quoted whole name (c ∷ content) n follow rest is white follows =
-    let bytes : List ℕ = c ∷ (content ++ (quote_byte ∷ (n ++ follow))) in
-    let place = place_to_quote c content (n ++ follow) is.1 in
-    let value : before_byte 1 quote_byte bytes ≡ c ∷ content =
-    take_at (c ∷ content) (quote_byte ∷ (n ++ follow)) (place_from 1 quote_byte bytes) (sym place) in
-    let after : behind_byte 1 quote_byte bytes ≡ n ++ follow =
-    drop_past (c ∷ content) (n ++ follow) quote_byte (place_from 1 quote_byte bytes) (sym place) in
-    let behind : behind_byte 0 semicolon_byte (behind_byte 1 quote_byte bytes) ≡ rest =
+cut_value-quoted whole name content n follow rest is white follows =
+    let bytes : List ℕ = content ++ (quote_byte ∷ (n ++ follow)) in
+    let place = content_len-content content (n ++ follow) is in
+    let value : content_of bytes ≡ content = take_at content (quote_byte ∷ (n ++ follow)) (content_len bytes) (sym place) in
+    let after : behind_content bytes ≡ n ++ follow = drop_past content (n ++ follow) quote_byte (content_len bytes) (sym place) in
+    let behind : behind_byte 0 semicolon_byte (behind_content bytes) ≡ rest =
     ap (behind_byte 0 semicolon_byte) after ∙ behind_follow n follow rest (are_other-spaces semicolon_byte refl n white) follows in
     cc
 

@@ -7,6 +7,8 @@ use Rattle.std.proofs.lemmas.Bool.{and_from}
 use Rattle.std.proofs.lemmas.List.Folds.{list_all-append}
 use Rattle.mime.specs.Bytes.{is_quoted_byte, plus_byte}
 use Rattle.mime.specs.Grammar.{is_inner_byte}
+use Rattle.mime.specs.Quoted.{takes_all}
+use Rattle.mime.proofs.Quoted.{takes_all-inner, awaits_behind-inner}
 use Rattle.mime.specs.Values.{last_plus}
 use Rattle.mime.specs.Remaining.{Remaining}
 use Rattle.mime.specs.Scanning.{Given, GivesFirst, Passes, PassesContent}
@@ -94,9 +96,9 @@ pub content_from_inner : (old mid new : Remaining) (b : ℕ) (stop : Option ℕ)
     → GivesFirst old mid (Some b) → is_quoted_byte b ≡ true → Passes is_inner_byte mid new stop → PassesContent old new stop
 content_from_inner old mid new b stop g t p = record {
   run = b ∷ p.run;
-  of_class = (t, p.of_class);
+  of_class = and_from (is_quoted_byte b) (takes_all false p.run) t (takes_all-inner p.run p.of_class);
   given = given_then old mid new (b ∷ []) p.run stop (given_whole old mid [] b g.0) p.given;
-  stopped = p.stopped;
+  stopped = rw (awaits_behind-inner p.run) p.stopped;
 }
 
 -- a plus at the end is the last one

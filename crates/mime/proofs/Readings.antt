@@ -1,16 +1,18 @@
 -- What a walk says of its text: which tree spells it, and that no other does.
-use Rattle.std.proofs.Common.{◌≡◌, ℕ, zero, suc, List, [], ◌∷◌, ◌++◌, Some, None, refl, sym, ap, ◌∙◌, arith, append-nil}
+use Rattle.std.proofs.Common.{◌≡◌, ℕ, List, [], ◌∷◌, ◌++◌, Some, None, refl, sym, ap, ◌∙◌, arith, append-nil}
 use Rattle.std.proofs.lemmas.Bool.Decides.{nat_tests}
 use Rattle.std.proofs.lemmas.Bool.{and_parts, cond-true, cond-false, eqb-true, false_from_ne_true, both_ways}
 use Rattle.std.proofs.lemmas.Option.{same_Some, none-some, MatchOption-at_some}
 use Rattle.std.specs.Prelude.{IsTrue, IsFalse, ◌==◌}
 use Rattle.std.specs.List.{list_all}
 use Rattle.std.specs.Option.{option_and_then, option_map}
-use Rattle.mime.specs.Bytes.{is_token_byte, is_quoted_byte, slash_byte, semicolon_byte, equals_byte, quote_byte, space_byte}
+use Rattle.mime.specs.Bytes.{is_token_byte, slash_byte, semicolon_byte, equals_byte, quote_byte}
 use Rattle.mime.specs.Grammar.{Parameter, plain, quoted, Parameters, blank, final, more, Tail, no_list, listed, SyntaxTree, is_space, AreSpaces, text_of_parameter, text_of_list, text_of, AreTokenBytes, IsToken, IsContent, IsInnerParameter, IsFinalParameter, AreParameters, AreSubtypeAndTail, IsWellFormed}
 use Rattle.mime.specs.Values.{MediaType, value_of, Reads, IsAccepted, IsRefused}
+use Rattle.mime.specs.Quoted.{continues}
+use Rattle.mime.proofs.Quoted.{content-taken, content-closed}
 use Rattle.mime.proofs.Begun.{Begun, in_type, in_subtype, in_list, BegunList, ListPlace, in_spaces, in_name, in_value, in_quotes, behind_quotes, begun_list, grow, grow_place, walk, walk_from, walk_list, with_closed, ended_list, tree_of}
-use Rattle.mime.proofs.Walks.{walk_from-step, walk_list-step, walk_from-append_some, walk_list-append_some, walk_from-in_list, walk-type, walk_from-subtype, walk_list-spaces, walk_list-name, walk_list-value, walk_list-quotes, walk_list-behind_quotes}
+use Rattle.mime.proofs.Walks.{walk_from-step, walk_list-step, walk_from-append_some, walk_list-append_some, walk_from-in_list, walk-type, walk_from-subtype, walk_list-spaces, walk_list-name, walk_list-value, walk_list-open, walk_list-behind_quotes}
 use Rattle.mime.proofs.Spelling.{text_of_begun, walk_from-lengthens, tree_of-spelled}
 
 -- a text that is walked to a complete tree is spelled by it
@@ -62,11 +64,10 @@ unfolding is_token_byte
 grow_place-opened closed n name = refl
 
 -- a quote behind content closes it
-grow_place-unquoted : (closed : List (List ℕ × Parameter)) (n : List ℕ) (name : List ℕ) (c : ℕ) (content : List ℕ)
-    → grow_place closed (in_quotes n name (c ∷ content)) quote_byte
-    ≡ Some (record { closed = closed; place = behind_quotes n name (c ∷ content) [] })
-unfolding is_quoted_byte
-grow_place-unquoted closed n name c content = refl
+grow_place-unquoted : (closed : List (List ℕ × Parameter)) (n name content : List ℕ) → IsContent content
+    → grow_place closed (in_quotes n name content) quote_byte
+    ≡ Some (record { closed = closed; place = behind_quotes n name content [] })
+grow_place-unquoted closed n name content is = cond-false (continues content quote_byte) _ _ (content-closed content is)
 
 -- a slash ends the type
 grow-slash : (t : ℕ) (top : List ℕ) → grow (in_type (t ∷ top)) slash_byte ≡ Some (in_subtype (t ∷ top) [])
@@ -123,21 +124,17 @@ walk_list-plain closed n name (v ∷ value) tokens =
 walk_list-quoted : (closed : List (List ℕ × Parameter)) (n : List ℕ) (name content : List ℕ) (m : List ℕ) → IsContent content → AreSpaces m
     → walk_list (record { closed = closed; place = in_value n name [] }) (quote_byte ∷ (content ++ (quote_byte ∷ m)))
     ≡ Some (record { closed = closed; place = behind_quotes n name content m })
-walk_list-quoted closed n name [] m fine white = absurd fine
-walk_list-quoted closed n name (c ∷ content) m fine white =
+walk_list-quoted closed n name content m fine white =
     walk_list-step (record { closed = closed; place = in_value n name [] })
-    (record { closed = closed; place = in_quotes n name [] }) quote_byte (c ∷ (content ++ (quote_byte ∷ m)))
+    (record { closed = closed; place = in_quotes n name [] }) quote_byte (content ++ (quote_byte ∷ m))
     (grow_place-opened closed n name)
-    ∙ walk_list-step (record { closed = closed; place = in_quotes n name [] })
-    (record { closed = closed; place = in_quotes n name (c ∷ []) }) c (content ++ (quote_byte ∷ m))
-    (cond-true (is_quoted_byte c) _ _ fine.0)
-    ∙ walk_list-append_some (record { closed = closed; place = in_quotes n name (c ∷ []) })
-    (record { closed = closed; place = in_quotes n name (c ∷ content) }) content (quote_byte ∷ m)
-    (walk_list-quotes closed n name c [] content fine.1)
-    ∙ walk_list-step (record { closed = closed; place = in_quotes n name (c ∷ content) })
-    (record { closed = closed; place = behind_quotes n name (c ∷ content) [] }) quote_byte m
-    (grow_place-unquoted closed n name c content)
-    ∙ walk_list-behind_quotes closed n name (c ∷ content) [] m white
+    ∙ walk_list-append_some (record { closed = closed; place = in_quotes n name [] })
+    (record { closed = closed; place = in_quotes n name content }) content (quote_byte ∷ m)
+    (walk_list-open closed n name [] content (content-taken content fine))
+    ∙ walk_list-step (record { closed = closed; place = in_quotes n name content })
+    (record { closed = closed; place = behind_quotes n name content [] }) quote_byte m
+    (grow_place-unquoted closed n name content fine)
+    ∙ walk_list-behind_quotes closed n name content [] m white
 
 -- a parameter at the end of a list
 walk_list-parameter : (closed : List (List ℕ × Parameter)) (n : List ℕ) (parameter : Parameter) → IsFinalParameter parameter

@@ -1,13 +1,15 @@
 -- A walk spells what it walked: the text of a begun tree, and of the tree of a text that ends there.
-use Rattle.std.proofs.Common.{◌≡◌, ℕ, zero, suc, Bool, true, List, [], ◌∷◌, ◌++◌, Option, Some, None, refl, sym, ap, ◌∙◌, subst, append_assoc, append-nil}
+use Rattle.std.proofs.Common.{◌≡◌, ℕ, Bool, true, List, [], ◌∷◌, ◌++◌, Option, Some, None, refl, sym, ap, ◌∙◌, subst, append_assoc, append-nil}
 use Rattle.std.proofs.lemmas.Bool.{and_from, cond_both, eqb-true}
 use Rattle.std.proofs.lemmas.List.Folds.{list_all-append}
 use Rattle.std.proofs.lemmas.Option.{same_Some, none-some}
 use Rattle.std.specs.Prelude.{IsTrue, IsFalse, MatchOption, if◌then◌else◌, ◌==◌}
 use Rattle.std.specs.List.{list_all}
 use Rattle.std.specs.Option.{option_and_then, option_map}
-use Rattle.mime.specs.Bytes.{is_token_byte, is_quoted_byte, slash_byte, semicolon_byte, equals_byte, quote_byte, space_byte}
-use Rattle.mime.specs.Grammar.{Parameter, plain, quoted, Parameters, blank, final, more, listed, is_space, AreSpaces, text_of_parameter, text_of_list, text_of, AreTokenBytes, IsToken, is_inner_byte, IsContent, IsInnerParameter, AreParameters, IsWellFormed}
+use Rattle.mime.specs.Bytes.{is_token_byte, slash_byte, semicolon_byte, equals_byte, quote_byte}
+use Rattle.mime.specs.Grammar.{Parameter, plain, quoted, Parameters, blank, final, more, listed, is_space, AreSpaces, text_of_parameter, text_of_list, text_of, AreTokenBytes, IsToken, IsContent, IsInnerParameter, AreParameters, IsWellFormed}
+use Rattle.mime.specs.Quoted.{IsOpenContent, continues}
+use Rattle.mime.proofs.Quoted.{IsOpenContent-push, IsContent-closed}
 use Rattle.mime.proofs.Begun.{Begun, in_type, in_subtype, in_list, BegunList, ListPlace, in_spaces, in_name, in_value, in_quotes, behind_quotes, grow, grow_place, grow_list, walk_from, with_closed, ended, ended_list, tree_of}
 
 -- ---- begun trees: their texts, and that each part is in its class
@@ -41,17 +43,12 @@ abbrev pub AreClosed : List (List ℕ × Parameter) → Type 0
 AreClosed [] = Unit {0}
 AreClosed (item ∷ closed) = AreSpaces item.0 × IsInnerParameter item.1 × AreClosed closed
 
--- what stands behind an opening quote so far
-abbrev pub IsBegunContent : List ℕ → Type 0
-IsBegunContent [] = Unit {0}
-IsBegunContent (c ∷ content) = IsContent (c ∷ content)
-
 -- what stands behind the last semicolon is well formed so far
 abbrev pub IsPlace : ListPlace → Type 0
 IsPlace (in_spaces n) = AreSpaces n
 IsPlace (in_name n name) = AreSpaces n × IsToken name
 IsPlace (in_value n name value) = AreSpaces n × IsToken name × AreTokenBytes value
-IsPlace (in_quotes n name content) = AreSpaces n × IsToken name × IsBegunContent content
+IsPlace (in_quotes n name content) = AreSpaces n × IsToken name × IsOpenContent content
 IsPlace (behind_quotes n name content m) = AreSpaces n × IsToken name × IsContent content × AreSpaces m
 
 -- a begun list that is well formed so far
@@ -162,7 +159,7 @@ grow_place-lengthens closed (in_value n name []) b before here =
     })
     (λ fails. choice _ (b == quote_byte) _ _
     (λ passes. record {
-      well_formed = (before, (here.0, here.1, tt));
+      well_formed = (before, (here.0, here.1, refl));
       spelled = regroup_4 (text_of_closed closed) n name (equals_byte ∷ []) quote_byte
           ∙ same_end _ b quote_byte passes;
     })
@@ -180,23 +177,16 @@ grow_place-lengthens closed (in_value n name (v ∷ value)) b before here =
           ∙ same_end _ b semicolon_byte passes;
     })
     (λ fails. tt))
-grow_place-lengthens closed (in_quotes n name []) b before here =
-    choice _ (is_quoted_byte b) _ _
+grow_place-lengthens closed (in_quotes n name content) b before here =
+    choice _ (continues content b) _ _
     (λ passes. record {
-      well_formed = (before, (here.0, here.1, (passes, refl)));
-      spelled = regroup_4 (text_of_closed closed) n name (equals_byte ∷ quote_byte ∷ []) b;
-    })
-    (λ fails. tt)
-grow_place-lengthens closed (in_quotes n name (c ∷ content)) b before here =
-    choice _ (is_inner_byte b) _ _
-    (λ passes. record {
-      well_formed = (before, (here.0, here.1, (here.2.0, list_all-push is_inner_byte content b here.2.1 passes)));
-      spelled = regroup_4 (text_of_closed closed) n name (equals_byte ∷ quote_byte ∷ c ∷ content) b;
+      well_formed = (before, (here.0, here.1, IsOpenContent-push content b here.2 passes));
+      spelled = regroup_4 (text_of_closed closed) n name (equals_byte ∷ quote_byte ∷ content) b;
     })
     (λ fails. choice _ (b == quote_byte) _ _
     (λ passes. record {
-      well_formed = (before, (here.0, here.1, here.2, refl));
-      spelled = regroup_4 (text_of_closed closed) n name (equals_byte ∷ quote_byte ∷ c ∷ content) quote_byte
+      well_formed = (before, (here.0, here.1, IsContent-closed content b here.2 fails passes, refl));
+      spelled = regroup_4 (text_of_closed closed) n name (equals_byte ∷ quote_byte ∷ content) quote_byte
           ∙ same_end _ b quote_byte passes;
     })
     (λ fails. tt))

@@ -5,6 +5,7 @@ use Rattle.mime.specs.Grammar.{plain, quoted, blank, final, more, no_list, liste
 use Rattle.mime.specs.Values.{Reads}
 use Rattle.mime.specs.Refusals.{IsFault}
 use Rattle.mime.specs.declared.scan.ParseError.TheVariants.{MissingSlash, MissingEqual, MissingQuote, InvalidToken}
+use Rattle.mime.proofs.Quoted.{IsContent-taken}
 use Rattle.mime.proofs.Viability.{slash_fault-from_walk, equal_fault-from_walk, quote_fault-from_walk, dead-from_walk}
 
 -- ---- accepted texts
@@ -156,7 +157,7 @@ quote_first : Reads (codes "a/b;p=\"\"x\"") (record {
 unfolding is_token_byte is_quoted_byte
 quote_first = record {
   tree = record { top = codes "a"; sub = codes "b"; tail = listed (final [] (quoted (codes "p") (codes "\"x") [])) };
-  well_formed = (refl, (refl, (refl, (refl, (refl, refl), refl))));
+  well_formed = (refl, (refl, (refl, (refl, IsContent-taken (codes "\"x") refl refl, refl))));
   spelled = refl;
   valued = refl;
 }
@@ -176,7 +177,7 @@ quoted_bytes = record {
     sub = codes "b";
     tail = listed (final [] (quoted (codes "p") (195 ∷ 169 ∷ codes ";,") []));
   };
-  well_formed = (refl, (refl, (refl, (refl, (refl, refl), refl))));
+  well_formed = (refl, (refl, (refl, (refl, IsContent-taken (195 ∷ 169 ∷ codes ";,") refl refl, refl))));
   spelled = refl;
   valued = refl;
 }
@@ -196,7 +197,7 @@ spaces_behind = record {
     sub = codes "B";
     tail = listed (more (codes " ") (quoted (codes "P") (codes "x") (codes " ")) (final [] (plain (codes "p") (codes "2"))));
   };
-  well_formed = (refl, (refl, (refl, (refl, (refl, refl), refl), (refl, (refl, refl)))));
+  well_formed = (refl, (refl, (refl, (refl, IsContent-taken (codes "x") refl refl, refl), (refl, (refl, refl)))));
   spelled = refl;
   valued = refl;
 }

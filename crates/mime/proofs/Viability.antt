@@ -4,15 +4,19 @@ use Rattle.std.proofs.Math.Seq.{take-append_seam, take-append-add, take-length}
 use Rattle.std.proofs.lemmas.Bool.{cases_order}
 use Rattle.std.proofs.lemmas.Option.{none-some, slice_get_within}
 use Rattle.std.specs.Prelude.{slice_get}
-use Rattle.std.specs.Option.{option_and_then}
-use Rattle.mime.specs.Bytes.{is_token_byte, is_quoted_byte}
+use Rattle.std.specs.Prelude.{IsTrue}
+use Rattle.std.specs.Option.{option_and_then, option_map}
+use Rattle.std.proofs.lemmas.Bool.{cond-false}
+use Rattle.mime.specs.Bytes.{is_token_byte, quote_byte}
 use Rattle.mime.specs.Grammar.{Parameter, SyntaxTree}
 use Rattle.mime.specs.Values.{value_of, IsAccepted, IsRefused}
 use Rattle.mime.specs.Refusals.{IsViable, IsFront, slash_completion, equals_completion, quote_completion, IsDeadAt, IsFault}
 use Rattle.mime.proofs.Begun.{Begun, in_type, in_subtype, in_list, ListPlace, in_spaces, in_name, in_value, in_quotes, behind_quotes, grow, walk, walk_from, tree_of}
 use Rattle.mime.specs.Laws.{EmptyIsViable, FrontOfViableIsViable, AcceptedIsViable}
 use Rattle.mime.specs.declared.scan.ParseError.TheVariants.{MissingSlash, MissingEqual, MissingQuote, InvalidToken}
-use Rattle.mime.proofs.Walks.{walk_from-step, walk_from-append, walk-append}
+use Rattle.mime.proofs.Walks.{walk_from-step, walk_from-append, walk_from-append_some, walk-append, walk_from-in_list, walk_list-open}
+use Rattle.mime.specs.Quoted.{awaits_first, takes_all, awaits_behind, continues}
+use Rattle.mime.proofs.Quoted.{takes_all-letter, closed-letter}
 use Rattle.mime.proofs.Readings.{accepted-from_walk, refused-from_walk, stopped-from_walk}
 
 -- ---- what may still become a media type
@@ -49,12 +53,30 @@ pub Completes-in_name : (top sub : List ℕ) (closed : List (List ℕ × Paramet
 unfolding is_token_byte
 Completes-in_name top sub closed n name = record { last = _; tree = _; goes = refl; complete = refl }
 
--- an open quoted value by a quote
+-- what an open quoted value takes leaves it open
+pub walk_from-open : (top sub : List ℕ) (closed : List (List ℕ × Parameter)) (n name content more : List ℕ)
+    → IsTrue (takes_all (awaits_behind awaits_first content) more)
+    → walk_from (in_list top sub (record { closed = closed; place = in_quotes n name content })) more
+    ≡ Some (in_list top sub (record { closed = closed; place = in_quotes n name (content ++ more) }))
+walk_from-open top sub closed n name content more all =
+    walk_from-in_list top sub (record { closed = closed; place = in_quotes n name content }) more
+    ∙ ap (option_map (in_list top sub)) (walk_list-open closed n name content more all)
+
+-- an open quoted value by a letter and a quote
 pub Completes-in_quotes : (top sub : List ℕ) (closed : List (List ℕ × Parameter)) (n : List ℕ) (name content : List ℕ)
     → Completes (in_list top sub (record { closed = closed; place = in_quotes n name content })) quote_completion
-unfolding is_quoted_byte
-Completes-in_quotes top sub closed n name [] = record { last = _; tree = _; goes = refl; complete = refl }
-Completes-in_quotes top sub closed n name (c ∷ content) = record { last = _; tree = _; goes = refl; complete = refl }
+Completes-in_quotes top sub closed n name content = record {
+  last = in_list top sub (record { closed = closed; place = behind_quotes n name (content ++ (120 ∷ [])) [] });
+  tree = _;
+  goes =
+      walk_from-append_some (in_list top sub (record { closed = closed; place = in_quotes n name content }))
+      (in_list top sub (record { closed = closed; place = in_quotes n name (content ++ (120 ∷ [])) })) (120 ∷ []) (quote_byte ∷ [])
+      (walk_from-open top sub closed n name content (120 ∷ []) (takes_all-letter (awaits_behind awaits_first content)))
+      ∙ walk_from-step (in_list top sub (record { closed = closed; place = in_quotes n name (content ++ (120 ∷ [])) }))
+      (in_list top sub (record { closed = closed; place = behind_quotes n name (content ++ (120 ∷ [])) [] })) quote_byte []
+      (ap (option_map (in_list top sub)) (cond-false (continues (content ++ (120 ∷ [])) quote_byte) _ _ (closed-letter content)));
+  complete = refl;
+}
 
 -- each begun tree can be completed
 completion : (begun : Begun) → (more : List ℕ) × Completes begun more
@@ -183,6 +205,7 @@ dead-from_walk front rest b begun walked dead = record {
   front = front-from_walk front rest b begun walked dead;
   there = slice_get-seam front rest b;
 }
+
 -- nothing behind the byte at fault makes the text an accepted one
 pub refused-from_dead : (text : List ℕ) (pos byte : ℕ) → IsDeadAt text pos byte → (more : List ℕ) → IsRefused (text ++ more)
 refused-from_dead text pos byte dead more accepted =

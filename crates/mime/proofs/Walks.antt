@@ -1,11 +1,13 @@
 -- What a walk over a joined text or over a run of one class comes to.
-use Rattle.std.proofs.Common.{◌≡◌, ℕ, Bool, List, [], ◌∷◌, ◌++◌, Some, None, refl, sym, ap, ◌∙◌, append_assoc, append-nil}
+use Rattle.std.proofs.Common.{◌≡◌, ℕ, Bool, List, [], ◌∷◌, ◌++◌, Some, None, refl, sym, ap, ◌∙◌, subst, append_assoc, append-nil}
 use Rattle.std.proofs.lemmas.Bool.{and_parts, cond-true}
 use Rattle.std.specs.Prelude.{IsTrue}
 use Rattle.std.specs.List.{list_all}
 use Rattle.std.specs.Option.{option_and_then, option_map}
 use Rattle.mime.specs.Bytes.{is_token_byte}
-use Rattle.mime.specs.Grammar.{Parameter, is_inner_byte, is_space}
+use Rattle.mime.specs.Grammar.{Parameter, is_space}
+use Rattle.mime.specs.Quoted.{awaits_first, awaits_next, takes_all, awaits_behind, continues}
+use Rattle.mime.proofs.Quoted.{awaits_behind-push}
 use Rattle.mime.proofs.Begun.{Begun, in_type, in_subtype, in_list, BegunList, in_spaces, in_name, in_value, in_quotes, behind_quotes, grow, grow_list, walk, walk_from, walk_list}
 
 -- a walk takes a step and goes on
@@ -126,14 +128,20 @@ walk_list-value closed n name v value run all =
     walk_list-run is_token_byte (λ taken. record { closed = closed; place = in_value n name (v ∷ taken) })
     (λ taken b yes. cond-true _ _ _ yes) value run all
 
--- inner bytes go on in a quoted value
-pub walk_list-quotes : (closed : List (List ℕ × Parameter)) (n : List ℕ) (name : List ℕ) (c : ℕ) (content run : List ℕ)
-    → IsTrue (list_all is_inner_byte run)
-    → walk_list (record { closed = closed; place = in_quotes n name (c ∷ content) }) run
-    ≡ Some (record { closed = closed; place = in_quotes n name (c ∷ content ++ run) })
-walk_list-quotes closed n name c content run all =
-    walk_list-run is_inner_byte (λ taken. record { closed = closed; place = in_quotes n name (c ∷ taken) })
-    (λ taken b yes. cond-true _ _ _ yes) content run all
+-- bytes that a quoted value takes go on in it
+pub walk_list-open : (closed : List (List ℕ × Parameter)) (n name taken run : List ℕ)
+    → IsTrue (takes_all (awaits_behind awaits_first taken) run)
+    → walk_list (record { closed = closed; place = in_quotes n name taken }) run
+    ≡ Some (record { closed = closed; place = in_quotes n name (taken ++ run) })
+walk_list-open closed n name taken [] all =
+    ap (λ t. Some (record { closed = closed; place = in_quotes n name t })) (sym (append-nil taken))
+walk_list-open closed n name taken (b ∷ run) all =
+    let parts = and_parts (continues taken b) (takes_all (awaits_next (awaits_behind awaits_first taken) b) run) all in
+    walk_list-step (record { closed = closed; place = in_quotes n name taken })
+    (record { closed = closed; place = in_quotes n name (taken ++ (b ∷ [])) }) b run (cond-true (continues taken b) _ _ parts.0)
+    ∙ walk_list-open closed n name (taken ++ (b ∷ [])) run
+    (subst (λ a. IsTrue (takes_all a run)) (sym (awaits_behind-push awaits_first taken b)) parts.1)
+    ∙ ap (λ t. Some (record { closed = closed; place = in_quotes n name t })) (append_assoc taken (b ∷ []) run)
 
 -- spaces go on behind a quoted value
 pub walk_list-behind_quotes : (closed : List (List ℕ × Parameter)) (n : List ℕ) (name content : List ℕ) (m : List ℕ) (run : List ℕ)

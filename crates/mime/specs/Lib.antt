@@ -10,6 +10,7 @@ pub mod Views
 pub mod Laws
 -- private
 pub mod Remaining
+pub mod Quoted
 pub mod Scanning
 pub mod Pairs
 pub mod Storage

@@ -3,6 +3,7 @@ use Rattle.std.specs.Prelude.{ℕ, zero, suc, ◌+◌, ◌-◌, List, [], ◌∷
 use Rattle.std.specs.List.{prefix_len, position_or_len}
 use Rattle.mime.specs.Bytes.{semicolon_byte, equals_byte, quote_byte}
 use Rattle.mime.specs.Grammar.{is_space}
+use Rattle.mime.specs.Quoted.{content_of, behind_content}
 use Rattle.mime.specs.Values.{lowered, lowered_value}
 
 -- the first place of a byte from a place on, or the text's end
@@ -24,7 +25,7 @@ pub record PairCut : Type 0 where
   pub value : List ℕ
   pub rest : List ℕ
 
--- behind the equals sign: a quoted value, of which the first byte may be a quote, or a plain one.
+-- behind the equals sign: a quoted value, or a plain one.
 -- What stands before it is counted as what it leaves of the whole length, so it lies within the list
 abbrev pub cut_value : ℕ → List ℕ → List ℕ → PairCut
 cut_value whole name [] = record { name = name; head = whole; value = []; rest = [] }
@@ -33,8 +34,8 @@ cut_value whole name (b ∷ bytes) =
     then record {
       name = name;
       head = whole - length bytes;
-      value = before_byte 1 quote_byte bytes;
-      rest = behind_byte 0 semicolon_byte (behind_byte 1 quote_byte bytes);
+      value = content_of bytes;
+      rest = behind_byte 0 semicolon_byte (behind_content bytes);
     }
     else record {
       name = name;

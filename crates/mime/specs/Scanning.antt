@@ -1,17 +1,17 @@
 -- Private. What the reader has left, what a pass over it leaves, and what the scanner finds.
-use Rattle.std.specs.Prelude.{◌≡◌, ℕ, ◌+◌, Bool, IsTrue, IsFalse, List, [], ◌∷◌, ◌++◌, length, take, drop, Option, Some, None, MatchOption, ◌==◌}
+use Rattle.std.specs.Prelude.{◌≡◌, ℕ, ◌+◌, Bool, IsTrue, IsFalse, List, [], ◌∷◌, ◌++◌, length, take, drop, Option, Some, None, MatchOption}
 use Rattle.std.specs.Option.{option_to_list}
 use Rattle.std.specs.List.{list_all}
-use Rattle.mime.specs.Bytes.{is_token_byte, is_quoted_byte, slash_byte, semicolon_byte, space_byte}
-use Rattle.mime.specs.Grammar.{Tail, no_list, listed, SyntaxTree, text_of, IsToken, IsWellFormed, is_inner_byte}
+use Rattle.mime.specs.Bytes.{is_token_byte, slash_byte, semicolon_byte}
+use Rattle.mime.specs.Grammar.{Tail, no_list, listed, SyntaxTree, text_of, IsToken, IsWellFormed}
 use Rattle.mime.specs.Values.{last_plus, pairs_of_tail, IsRefused}
 use Rattle.mime.specs.Refusals.{IsFault}
 use Rattle.mime.specs.declared.scan.Places.{Places}
-use Rattle.mime.specs.declared.scan.ParseError.{ParseError}
 use Rattle.mime.specs.declared.scan.ParseError.TheVariants.{InvalidToken}
 use Rattle.mime.specs.declared.scan.Verdict.{Verdict}
 use Rattle.mime.specs.declared.scan.Verdict.TheVariants.{Accepted, Unfinished, Stopped}
 use Rattle.mime.specs.Remaining.{Remaining}
+use Rattle.mime.specs.Quoted.{IsOpenContent, continues}
 
 -- the bytes of a run and the one behind it, if any, were given
 pub record Given (old new : Remaining) (run : List ℕ) (stop : Option ℕ) : Type 0 where
@@ -66,22 +66,12 @@ pub record Scans (old new : Remaining) (verdict : Verdict) : Type 0 where
   pub counted : new.count ≡ old.count + count
   pub judged : Judges old.left count verdict
 
--- what may stand between quotes so far: the first byte may be a quote too
-abbrev pub IsBegunContent : List ℕ → Type 0
-IsBegunContent [] = Unit {0}
-IsBegunContent (b ∷ bytes) = IsTrue (is_quoted_byte b) × IsTrue (list_all is_inner_byte bytes)
-
--- whether a byte may follow it there
-abbrev pub continues_content : List ℕ → ℕ → Bool
-continues_content [] b = is_quoted_byte b
-continues_content (c ∷ content) b = is_inner_byte b
-
 -- what stands between quotes was passed, and the byte that ends it
 pub record PassesContent (old new : Remaining) (stop : Option ℕ) : Type 0 where
   pub run : List ℕ
-  pub of_class : IsBegunContent run
+  pub of_class : IsOpenContent run
   pub given : Given old new run stop
-  pub stopped : MatchOption stop (new.left ≡ []) (λ b. IsFalse (continues_content run b))
+  pub stopped : MatchOption stop (new.left ≡ []) (λ b. IsFalse (continues run b))
 
 -- the rest of a subtype was passed, of which the first byte stands at a place; its last plus
 pub record PassesSubtype (at : ℕ) (old new : Remaining) (answer : Option ℕ × Option ℕ) : Type 0 where

@@ -4,6 +4,7 @@ ghost use Rattle.std.specs.Prelude.{◌≡◌, ◌<◌, ◌≤◌, length};
 ghost use Rattle.std.specs.Str.{IsCharBoundary};
 ghost use Rattle.mime.specs.Pairs.{before_byte, behind_byte, cut_of};
 ghost use Rattle.mime.specs.Pairs.{gap_of as spaces_before, place_from as place_of, cut_value as pair_of};
+ghost use Rattle.mime.specs.Quoted.{content_of, behind_content, content_len as len_of};
 
 use crate::bytes::is_space;
 
@@ -48,6 +49,38 @@ fn split_from<'a>(text: &'a str, from: usize, byte: u8) -> (&'a str, &'a str)
     }
 }
 
+/// Where what stands between quotes ends: at the first quote behind its first byte, or with the text.
+#[inline]
+fn content_len(text: &[u8]) -> usize
+    ensures { result ≡ len_of text.now }
+{
+    let mut place = 0;
+    let mut awaits = true;
+    while place < text.len() {
+        let byte = text[place];
+        if !awaits && byte == b'"' {
+            return place;
+        }
+        awaits = false;
+        place += 1;
+    }
+    place
+}
+
+/// What stands between quotes, and what stands behind the one that closes.
+#[inline]
+fn split_content<'a>(text: &'a str) -> (&'a str, &'a str)
+    ensures content { result.0.now ≡ content_of text.entry.now }
+    ensures behind { result.1.now ≡ behind_content text.entry.now }
+{
+    let place = content_len(text.as_bytes());
+    if place < text.len() {
+        (&text[..place], &text[place + 1..])
+    } else {
+        (text, "")
+    }
+}
+
 /// How many spaces begin the list.
 #[inline]
 fn gap_of(list: &str) -> usize
@@ -77,7 +110,7 @@ fn cut_value<'a>(whole: usize, name: &'a str, text: &'a str) -> Pair<'a>
 {
     if !text.is_empty() && text.as_bytes()[0] == b'"' {
         let content = &text[1..];
-        let (value, others) = split_from(content, 1, b'"');
+        let (value, others) = split_content(content);
         let (_, rest) = split_from(others, 0, b';');
         return Pair {
             name,

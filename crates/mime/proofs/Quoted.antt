@@ -1,0 +1,221 @@
+-- What stands between quotes: it is taken byte by byte, what was taken and awaits no more is content, a cut finds its end.
+use Rattle.std.proofs.Common.{◌≡◌, ℕ, suc, ◌+◌, ◌<◌, ◌≤◌, Bool, true, false, List, [], ◌∷◌, ◌++◌, length, get_or, refl, sym, ap, ◌∙◌, arith, cond}
+use Rattle.std.specs.Prelude.{IsTrue, IsFalse, ◌==◌, ◌&&◌, not}
+use Rattle.std.specs.Char.{to_ascii_lowercase}
+use Rattle.std.specs.List.{list_all}
+use Rattle.std.specs.Str.{IsUtf8, IsCharBoundary}
+use Rattle.std.proofs.lemmas.Str.{IsCharBoundary-before_ascii, IsCharBoundary-after_ascii}
+use Rattle.std.proofs.lemmas.Bool.{and_parts, and_from, cond-false, eqb-true, true≢false}
+use Rattle.std.proofs.lemmas.Bool.Decides.{nat_tests}
+use Rattle.mime.specs.Bytes.{is_quoted_byte, quote_byte}
+use Rattle.mime.specs.Grammar.{is_inner_byte, IsContent}
+use Rattle.mime.specs.Values.{lowered}
+use Rattle.mime.specs.Quoted.{awaits_first, awaits_next, takes, takes_all, awaits_behind, IsOpenContent, continues, len_from, content_len}
+
+-- ---- one byte
+
+-- a quote is taken where a byte is awaited, and closes the value elsewhere
+takes-quote : (awaiting : Bool) → takes awaiting quote_byte ≡ awaiting
+unfolding is_quoted_byte
+takes-quote true = refl
+takes-quote false = refl
+
+-- a letter is taken anywhere
+takes-letter : (awaiting : Bool) → IsTrue (takes awaiting 120)
+unfolding is_quoted_byte
+takes-letter true = refl
+takes-letter false = refl
+
+-- so is an equals sign
+takes-equals : (awaiting : Bool) → IsTrue (takes awaiting 61)
+unfolding is_quoted_byte
+takes-equals true = refl
+takes-equals false = refl
+
+-- and a slash
+takes-slash : (awaiting : Bool) → IsTrue (takes awaiting 47)
+unfolding is_quoted_byte
+takes-slash true = refl
+takes-slash false = refl
+
+-- behind a letter none is awaited
+awaits_next-letter : (awaiting : Bool) → awaits_next awaiting 120 ≡ false
+awaits_next-letter true = refl
+awaits_next-letter false = refl
+
+-- a byte past ASCII that isn't taken goes on no character
+pub takes-high : (awaiting : Bool) (b : ℕ) → IsFalse (takes awaiting b) → 128 ≤ b → 192 ≤ b
+unfolding is_quoted_byte
+takes-high true b not_taken high = grind (arith, nat_tests)
+takes-high false b not_taken high = grind (arith, nat_tests)
+
+-- small letters are taken with the capitals
+takes-lowercase : (awaiting : Bool) (b : ℕ) → IsTrue (takes awaiting b) → IsTrue (takes awaiting (to_ascii_lowercase b))
+unfolding is_quoted_byte
+takes-lowercase true b taken = grind (arith, nat_tests)
+takes-lowercase false b taken = grind (arith, nat_tests)
+
+-- and await no more
+awaits_next-lowercase : (awaiting : Bool) (b : ℕ) → awaits_next awaiting (to_ascii_lowercase b) ≡ awaits_next awaiting b
+awaits_next-lowercase awaiting b = refl
+
+-- what is taken closes nothing
+taken-closes_not : (awaiting : Bool) (b : ℕ) → IsTrue (takes awaiting b) → not awaiting && b == quote_byte ≡ false
+taken-closes_not true b taken = refl
+taken-closes_not false b taken = grind (arith, nat_tests)
+
+-- ---- content is what is taken and awaits no more
+
+-- behind the first byte
+pub takes_all-inner : (bytes : List ℕ) → IsTrue (list_all is_inner_byte bytes) → IsTrue (takes_all false bytes)
+takes_all-inner [] all = refl
+takes_all-inner (b ∷ bytes) all =
+    let parts = and_parts (is_inner_byte b) (list_all is_inner_byte bytes) all in
+    and_from (is_inner_byte b) (takes_all false bytes) parts.0 (takes_all-inner bytes parts.1)
+
+inner-takes_all : (bytes : List ℕ) → IsTrue (takes_all false bytes) → IsTrue (list_all is_inner_byte bytes)
+inner-takes_all [] all = refl
+inner-takes_all (b ∷ bytes) all =
+    let parts = and_parts (is_inner_byte b) (takes_all false bytes) all in
+    and_from (is_inner_byte b) (list_all is_inner_byte bytes) parts.0 (inner-takes_all bytes parts.1)
+
+pub awaits_behind-inner : (bytes : List ℕ) → awaits_behind false bytes ≡ false
+awaits_behind-inner [] = refl
+awaits_behind-inner (b ∷ bytes) = awaits_behind-inner bytes
+
+-- content is taken
+pub content-taken : (content : List ℕ) → IsContent content → IsOpenContent content
+content-taken [] is = absurd is
+content-taken (b ∷ bytes) is = and_from (is_quoted_byte b) (takes_all false bytes) is.0 (takes_all-inner bytes is.1)
+
+-- and awaits no more
+pub content-awaits : (content : List ℕ) → IsContent content → awaits_behind awaits_first content ≡ false
+content-awaits [] is = absurd is
+content-awaits (b ∷ bytes) is = awaits_behind-inner bytes
+
+-- what is taken and awaits no more is content
+pub IsContent-taken : (content : List ℕ) → IsOpenContent content → awaits_behind awaits_first content ≡ false → IsContent content
+IsContent-taken [] all done = absurd (true≢false done)
+IsContent-taken (b ∷ bytes) all done =
+    let parts = and_parts (is_quoted_byte b) (takes_all false bytes) all in (parts.0, inner-takes_all bytes parts.1)
+
+-- ---- byte after byte
+
+-- one byte more
+pub awaits_behind-push : (awaiting : Bool) (run : List ℕ) (b : ℕ)
+    → awaits_behind awaiting (run ++ b ∷ []) ≡ awaits_next (awaits_behind awaiting run) b
+awaits_behind-push awaiting [] b = refl
+awaits_behind-push awaiting (c ∷ run) b = awaits_behind-push (awaits_next awaiting c) run b
+
+takes_all-push : (awaiting : Bool) (run : List ℕ) (b : ℕ) → IsTrue (takes_all awaiting run)
+    → IsTrue (takes (awaits_behind awaiting run) b) → IsTrue (takes_all awaiting (run ++ b ∷ []))
+takes_all-push awaiting [] b all taken = and_from (takes awaiting b) true taken refl
+takes_all-push awaiting (c ∷ run) b all taken =
+    let parts = and_parts (takes awaiting c) (takes_all (awaits_next awaiting c) run) all in
+    and_from (takes awaiting c) _ parts.0 (takes_all-push (awaits_next awaiting c) run b parts.1 taken)
+
+-- a byte that continues open content leaves it open
+pub IsOpenContent-push : (content : List ℕ) (b : ℕ) → IsOpenContent content → IsTrue (continues content b)
+    → IsOpenContent (content ++ b ∷ [])
+IsOpenContent-push content b all taken = takes_all-push awaits_first content b all taken
+
+-- where a quote doesn't continue it, none is awaited
+pub closed-awaits : (content : List ℕ) → IsFalse (continues content quote_byte) → awaits_behind awaits_first content ≡ false
+closed-awaits content closes = sym (takes-quote (awaits_behind awaits_first content)) ∙ closes
+
+-- and it is content
+pub IsContent-closed : (content : List ℕ) (b : ℕ) → IsOpenContent content → IsFalse (continues content b) → IsTrue (b == quote_byte)
+    → IsContent content
+IsContent-closed content b all stopped same =
+    IsContent-taken content all
+    (closed-awaits content (ap (continues content) (sym (eqb-true b quote_byte same)) ∙ stopped))
+
+-- a quote doesn't continue content
+pub content-closed : (content : List ℕ) → IsContent content → IsFalse (continues content quote_byte)
+content-closed content is = takes-quote (awaits_behind awaits_first content) ∙ content-awaits content is
+
+-- what lacks a quote takes the bytes of each completion, and a letter before a quote
+pub takes_all-equals : (awaiting : Bool) → IsTrue (takes_all awaiting (61 ∷ []))
+takes_all-equals awaiting = and_from (takes awaiting 61) true (takes-equals awaiting) refl
+
+pub takes_all-letter : (awaiting : Bool) → IsTrue (takes_all awaiting (120 ∷ []))
+takes_all-letter awaiting = and_from (takes awaiting 120) true (takes-letter awaiting) refl
+
+pub takes_all-letter_slash : (awaiting : Bool) → IsTrue (takes_all awaiting (120 ∷ 47 ∷ []))
+takes_all-letter_slash awaiting =
+    and_from (takes awaiting 120) _ (takes-letter awaiting)
+    (and_from (takes (awaits_next awaiting 120) 47) true (takes-slash (awaits_next awaiting 120)) refl)
+
+-- a letter before a quote closes it
+pub closed-letter : (content : List ℕ) → IsFalse (continues (content ++ 120 ∷ []) quote_byte)
+closed-letter content =
+    takes-quote (awaits_behind awaits_first (content ++ 120 ∷ []))
+    ∙ awaits_behind-push awaits_first content 120 ∙ awaits_next-letter (awaits_behind awaits_first content)
+
+-- ---- lowering
+
+takes_all-lowered : (awaiting : Bool) (bytes : List ℕ) → IsTrue (takes_all awaiting bytes) → IsTrue (takes_all awaiting (lowered bytes))
+takes_all-lowered awaiting [] all = refl
+takes_all-lowered awaiting (b ∷ bytes) all =
+    let parts = and_parts (takes awaiting b) (takes_all (awaits_next awaiting b) bytes) all in
+    and_from (takes awaiting (to_ascii_lowercase b)) _ (takes-lowercase awaiting b parts.0)
+    (rw (awaits_next-lowercase awaiting b) (takes_all-lowered (awaits_next awaiting b) bytes parts.1))
+
+awaits_behind-lowered : (awaiting : Bool) (bytes : List ℕ) → awaits_behind awaiting (lowered bytes) ≡ awaits_behind awaiting bytes
+awaits_behind-lowered awaiting [] = refl
+awaits_behind-lowered awaiting (b ∷ bytes) =
+    ap (λ (a : Bool). awaits_behind a (lowered bytes)) (awaits_next-lowercase awaiting b)
+    ∙ awaits_behind-lowered (awaits_next awaiting b) bytes
+
+-- lowered content is content
+pub IsContent-lowered : (content : List ℕ) → IsContent content → IsContent (lowered content)
+IsContent-lowered content is =
+    IsContent-taken (lowered content) (takes_all-lowered awaits_first content (content-taken content is))
+    (awaits_behind-lowered awaits_first content ∙ content-awaits content is)
+
+-- ---- the cut
+
+-- the quote that closes is found
+len_from-run : (awaiting : Bool) (run behind : List ℕ) → IsTrue (takes_all awaiting run) → awaits_behind awaiting run ≡ false
+    → len_from awaiting (run ++ quote_byte ∷ behind) ≡ length run
+len_from-run true [] behind all done = absurd (true≢false done)
+len_from-run false [] behind all done = refl
+len_from-run awaiting (b ∷ run) behind all done =
+    let parts = and_parts (takes awaiting b) (takes_all (awaits_next awaiting b) run) all in
+    cond-false (not awaiting && b == quote_byte) _ _ (taken-closes_not awaiting b parts.0)
+    ∙ omega (arith, len_from-run (awaits_next awaiting b) run behind parts.1 done)
+
+-- content ends where it is cut
+pub content_len-content : (content behind : List ℕ) → IsContent content
+    → content_len (content ++ quote_byte ∷ behind) ≡ length content
+content_len-content content behind is =
+    len_from-run awaits_first content behind (content-taken content is) (content-awaits content is)
+
+-- in any text a quote stands there, or the text ends
+quote_at_len : (awaiting : Bool) (text : List ℕ) → len_from awaiting text < length text
+    → get_or text (len_from awaiting text) 0 ≡ quote_byte
+quote_at_len awaiting [] within = absurd (omega arith)
+quote_at_len awaiting (b ∷ text) within =
+    go (not awaiting && b == quote_byte) (λ closes. eqb-true b quote_byte (and_parts (not awaiting) (b == quote_byte) closes).1)
+    (len_from (awaits_next awaiting b) text) (quote_at_len (awaits_next awaiting b) text) within
+  where
+    go : (closes : Bool) → (IsTrue closes → b ≡ quote_byte) → (n : ℕ) → (n < length text → get_or text n 0 ≡ quote_byte)
+        → cond closes 0 (suc n) < length (b ∷ text) → get_or (b ∷ text) (cond closes 0 (suc n)) 0 ≡ quote_byte
+    go true same n behind within = same refl
+    go false same n behind within = behind (omega (arith, within))
+
+pub quote_at_content_len : (text : List ℕ) → content_len text < length text → get_or text (content_len text) 0 ≡ quote_byte
+quote_at_content_len text within = quote_at_len awaits_first text within
+
+-- so a text may be cut there
+pub IsCharBoundary-content : (text : List ℕ) (place : ℕ) → place ≡ content_len text → place < length text → IsCharBoundary text place
+IsCharBoundary-content text place e within =
+    let at : get_or text place 0 ≡ quote_byte = rw e (quote_at_content_len text (omega arith)) in
+    IsCharBoundary-before_ascii text place within (omega arith)
+
+-- and behind the quote
+pub IsCharBoundary-behind_content : (text : List ℕ) (place : ℕ) → IsUtf8 text → place ≡ content_len text → place < length text
+    → IsCharBoundary text (place + 1)
+IsCharBoundary-behind_content text place utf8 e within =
+    let at : get_or text place 0 ≡ quote_byte = rw e (quote_at_content_len text (omega arith)) in
+    IsCharBoundary-after_ascii text place utf8 within (omega arith)
