@@ -5,40 +5,50 @@ use Rattle.std.specs.Option.{option_and_then, option_map}
 use Rattle.mime.specs.Bytes.{is_token_byte, slash_byte, semicolon_byte, equals_byte, quote_byte}
 use Rattle.mime.specs.Grammar.{Parameter, plain, quoted, Parameters, blank, final, more, no_list, listed, SyntaxTree, is_space}
 use Rattle.mime.specs.Quoted.{continues}
+use Rattle.mime.specs.declared.scan.fault.ParseError.{ParseError}
+use Rattle.mime.specs.declared.scan.fault.ParseError.TheVariants.{MissingSlash, MissingEqual, MissingQuote}
 
 -- where in a parameter list, counted from the last semicolon
 pub data ListPlace : Type 0 where
   in_spaces : (n : List ℕ) → ListPlace
-  in_name : (n : List ℕ) (name : List ℕ) → ListPlace
-  in_value : (n : List ℕ) (name value : List ℕ) → ListPlace
-  in_quotes : (n : List ℕ) (name content : List ℕ) → ListPlace
-  behind_quotes : (n : List ℕ) (name content : List ℕ) (m : List ℕ) → ListPlace
+  in_name : (n name : List ℕ) → ListPlace
+  in_value : (n name value : List ℕ) → ListPlace
+  in_quotes : (n name content : List ℕ) → ListPlace
+  behind_quotes : (n name content m : List ℕ) → ListPlace
 
--- a begun parameter list: the parameters that a semicolon closed, the last one first, each with
--- the spaces before it, and the place behind them
+-- parameters that a semicolon closed, the last one first, each with the spaces before it
+abbrev pub Closed : Type 0
+Closed = List (List ℕ × Parameter)
+
+-- a begun parameter list: its closed parameters and the place after them
 pub record BegunList : Type 0 where
-  pub closed : List (List ℕ × Parameter)
+  pub closed : Closed
   pub place : ListPlace
 
--- behind a semicolon that no parameter follows yet
+-- after a semicolon that no parameter follows yet
 abbrev pub begun_list : BegunList
 begun_list = record { closed = []; place = in_spaces [] }
 
+-- where in a text: in its type, in its subtype, or in the list after them
 pub data Begun : Type 0 where
   in_type : (top : List ℕ) → Begun
   in_subtype : (top sub : List ℕ) → Begun
   in_list : (top sub : List ℕ) → BegunList → Begun
 
--- the same parameters, at another place
-abbrev pub at_place : List (List ℕ × Parameter) → ListPlace → Option BegunList
-at_place closed place = Some (record { closed = closed; place = place })
+-- a place after closed parameters
+abbrev pub list_at : Closed → ListPlace → BegunList
+list_at closed place = record { closed = closed; place = place }
+
+-- a list goes on there
+abbrev pub at_place : Closed → ListPlace → Option BegunList
+at_place closed place = Some (list_at closed place)
 
 -- a semicolon closes a parameter
-abbrev pub close : List (List ℕ × Parameter) → List ℕ → Parameter → Option BegunList
+abbrev pub close : Closed → List ℕ → Parameter → Option BegunList
 close closed n parameter = at_place ((n, parameter) ∷ closed) (in_spaces [])
 
 -- one more byte at a place of a list, or none where nothing accepted goes on so
-abbrev pub grow_place : List (List ℕ × Parameter) → ListPlace → ℕ → Option BegunList
+abbrev pub grow_place : Closed → ListPlace → ℕ → Option BegunList
 grow_place closed (in_spaces n) b =
     if is_space b then at_place closed (in_spaces (n ++ (b ∷ [])))
     else (if is_token_byte b then at_place closed (in_name n (b ∷ [])) else None)
@@ -58,6 +68,7 @@ grow_place closed (behind_quotes n name content m) b =
     if is_space b then at_place closed (behind_quotes n name content (m ++ (b ∷ [])))
     else (if b == semicolon_byte then close closed n (quoted name content m) else None)
 
+-- one more byte of a list
 abbrev pub grow_list : BegunList → ℕ → Option BegunList
 grow_list list b = grow_place list.closed list.place b
 
@@ -73,20 +84,25 @@ grow (in_subtype top (s ∷ sub)) b =
     else (if b == semicolon_byte then Some (in_list top (s ∷ sub) begun_list) else None)
 grow (in_list top sub list) b = option_map (in_list top sub) (grow_list list b)
 
--- a list and a text walked on, byte by byte
+-- steps from a state on, byte by byte
+abbrev pub walk_by : {S : Type 0} → (S → ℕ → Option S) → S → List ℕ → Option S
+walk_by step state [] = Some state
+walk_by step state (b ∷ bytes) = option_and_then (λ next. walk_by step next bytes) (step state b)
+
+-- a begun list walked on
 abbrev pub walk_list : BegunList → List ℕ → Option BegunList
-walk_list list [] = Some list
-walk_list list (b ∷ bytes) = option_and_then (λ next. walk_list next bytes) (grow_list list b)
+walk_list list bytes = walk_by grow_list list bytes
 
+-- a begun tree walked on
 abbrev pub walk_from : Begun → List ℕ → Option Begun
-walk_from begun [] = Some begun
-walk_from begun (b ∷ bytes) = option_and_then (λ next. walk_from next bytes) (grow begun b)
+walk_from begun bytes = walk_by grow begun bytes
 
+-- a text walked from its start
 abbrev pub walk : List ℕ → Option Begun
 walk text = walk_from (in_type []) text
 
 -- the list that the closed parameters and what follows them make
-abbrev pub with_closed : List (List ℕ × Parameter) → Parameters → Parameters
+abbrev pub with_closed : Closed → Parameters → Parameters
 with_closed [] rest = rest
 with_closed ((n, parameter) ∷ closed) rest = with_closed closed (more n parameter rest)
 
@@ -98,6 +114,7 @@ ended (in_value n name value) = Some (final n (plain name value))
 ended (in_quotes n name content) = None
 ended (behind_quotes n name content m) = Some (final n (quoted name content m))
 
+-- what a begun list is that ends, if it may
 abbrev pub ended_list : BegunList → Option Parameters
 ended_list list = option_map (with_closed list.closed) (ended list.place)
 
@@ -106,3 +123,13 @@ abbrev pub tree_of : Begun → Option SyntaxTree
 tree_of (in_type top) = None
 tree_of (in_subtype top sub) = Some (record { top = top; sub = sub; tail = no_list })
 tree_of (in_list top sub list) = option_map (λ rest. record { top = top; sub = sub; tail = listed rest }) (ended_list list)
+
+-- what is missing from a text that ends too early at a place of a list
+abbrev pub lacking_list : ListPlace → ParseError
+lacking_list (in_name n name) = MissingEqual
+lacking_list place = MissingQuote
+
+-- what is missing from a text that ends here too early
+abbrev pub lacking : Begun → ParseError
+lacking (in_list top sub list) = lacking_list list.place
+lacking begun = MissingSlash

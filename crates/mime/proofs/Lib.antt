@@ -1,22 +1,31 @@
+-- facts of bytes, and what stands between quotes
+pub mod Classes
+pub mod ByteAt
 pub mod Quoted
+-- the grammar walked
 pub mod Begun
-pub mod Verdicts
 pub mod Walks
 pub mod Spelling
 pub mod Readings
 pub mod Viability
-pub mod Faults
+pub mod OneFault
+pub mod ForeignBytes
 pub mod Borders
-pub mod Pluses
 pub mod StandardFacts
+-- the scanner
 pub mod Passing
+pub mod Verdicts
 pub mod ListScan
 pub mod TextScan
-pub mod BorderLaws
-pub mod LoweringLaws
-pub mod BlockLaws
-pub mod Utf8Laws
-pub mod PairLaws
-pub mod RangeLaws
-pub mod StorageLaws
-pub mod PartLaws
+-- the kept text
+pub mod CharBorders
+pub mod Lowering
+pub mod Blocks
+pub mod Utf8
+pub mod PairCuts
+pub mod Ranges
+pub mod ListText
+pub mod KeptText
+pub mod Pluses
+pub mod Parts
+pub mod Outcomes

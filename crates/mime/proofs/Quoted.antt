@@ -20,25 +20,7 @@ unfolding is_quoted_byte
 takes-quote true = refl
 takes-quote false = refl
 
--- a letter is taken anywhere
-takes-letter : (awaiting : Bool) → IsTrue (takes awaiting 120)
-unfolding is_quoted_byte
-takes-letter true = refl
-takes-letter false = refl
-
--- so is an equals sign
-takes-equals : (awaiting : Bool) → IsTrue (takes awaiting 61)
-unfolding is_quoted_byte
-takes-equals true = refl
-takes-equals false = refl
-
--- and a slash
-takes-slash : (awaiting : Bool) → IsTrue (takes awaiting 47)
-unfolding is_quoted_byte
-takes-slash true = refl
-takes-slash false = refl
-
--- behind a letter none is awaited
+-- after a letter none is awaited
 awaits_next-letter : (awaiting : Bool) → awaits_next awaiting 120 ≡ false
 awaits_next-letter true = refl
 awaits_next-letter false = refl
@@ -49,13 +31,13 @@ unfolding is_quoted_byte
 takes-high true b not_taken high = grind (arith, nat_tests)
 takes-high false b not_taken high = grind (arith, nat_tests)
 
--- small letters are taken with the capitals
-takes-lowercase : (awaiting : Bool) (b : ℕ) → IsTrue (takes awaiting b) → IsTrue (takes awaiting (to_ascii_lowercase b))
+-- a value takes a byte exactly if it takes its small letter
+takes-of_lowercase : (awaiting : Bool) (b : ℕ) → takes awaiting (to_ascii_lowercase b) ≡ takes awaiting b
 unfolding is_quoted_byte
-takes-lowercase true b taken = grind (arith, nat_tests)
-takes-lowercase false b taken = grind (arith, nat_tests)
+takes-of_lowercase true b = grind (arith, nat_tests)
+takes-of_lowercase false b = grind (arith, nat_tests)
 
--- and await no more
+-- and awaits as much after either
 awaits_next-lowercase : (awaiting : Bool) (b : ℕ) → awaits_next awaiting (to_ascii_lowercase b) ≡ awaits_next awaiting b
 awaits_next-lowercase awaiting b = refl
 
@@ -66,30 +48,28 @@ taken-closes_not false b taken = grind (arith, nat_tests)
 
 -- ---- content is what is taken and awaits no more
 
--- behind the first byte
-pub takes_all-inner : (bytes : List ℕ) → IsTrue (list_all is_inner_byte bytes) → IsTrue (takes_all false bytes)
-takes_all-inner [] all = refl
-takes_all-inner (b ∷ bytes) all =
-    let parts = and_parts (is_inner_byte b) (list_all is_inner_byte bytes) all in
-    and_from (is_inner_byte b) (takes_all false bytes) parts.0 (takes_all-inner bytes parts.1)
-
-inner-takes_all : (bytes : List ℕ) → IsTrue (takes_all false bytes) → IsTrue (list_all is_inner_byte bytes)
-inner-takes_all [] all = refl
-inner-takes_all (b ∷ bytes) all =
-    let parts = and_parts (is_inner_byte b) (takes_all false bytes) all in
-    and_from (is_inner_byte b) (list_all is_inner_byte bytes) parts.0 (inner-takes_all bytes parts.1)
+-- after the first byte
+takes_all-inner : (bytes : List ℕ) → takes_all false bytes ≡ list_all is_inner_byte bytes
+takes_all-inner [] = refl
+takes_all-inner (b ∷ bytes) = ap (λ rest. is_inner_byte b && rest) (takes_all-inner bytes)
 
 pub awaits_behind-inner : (bytes : List ℕ) → awaits_behind false bytes ≡ false
 awaits_behind-inner [] = refl
 awaits_behind-inner (b ∷ bytes) = awaits_behind-inner bytes
 
+-- a first byte and others
+pub IsOpenContent-inner : (b : ℕ) (bytes : List ℕ) → IsTrue (is_quoted_byte b) → IsTrue (list_all is_inner_byte bytes)
+    → IsOpenContent (b ∷ bytes)
+IsOpenContent-inner b bytes first others =
+    and_from (is_quoted_byte b) (takes_all false bytes) first (takes_all-inner bytes ∙ others)
+
 -- content is taken
 pub content-taken : (content : List ℕ) → IsContent content → IsOpenContent content
 content-taken [] is = absurd is
-content-taken (b ∷ bytes) is = and_from (is_quoted_byte b) (takes_all false bytes) is.0 (takes_all-inner bytes is.1)
+content-taken (b ∷ bytes) is = IsOpenContent-inner b bytes is.0 is.1
 
 -- and awaits no more
-pub content-awaits : (content : List ℕ) → IsContent content → awaits_behind awaits_first content ≡ false
+content-awaits : (content : List ℕ) → IsContent content → awaits_behind awaits_first content ≡ false
 content-awaits [] is = absurd is
 content-awaits (b ∷ bytes) is = awaits_behind-inner bytes
 
@@ -97,7 +77,7 @@ content-awaits (b ∷ bytes) is = awaits_behind-inner bytes
 pub IsContent-taken : (content : List ℕ) → IsOpenContent content → awaits_behind awaits_first content ≡ false → IsContent content
 IsContent-taken [] all done = absurd (true≢false done)
 IsContent-taken (b ∷ bytes) all done =
-    let parts = and_parts (is_quoted_byte b) (takes_all false bytes) all in (parts.0, inner-takes_all bytes parts.1)
+    let parts = and_parts (is_quoted_byte b) (takes_all false bytes) all in (parts.0, sym (takes_all-inner bytes) ∙ parts.1)
 
 -- ---- byte after byte
 
@@ -119,16 +99,12 @@ pub IsOpenContent-push : (content : List ℕ) (b : ℕ) → IsOpenContent conten
     → IsOpenContent (content ++ b ∷ [])
 IsOpenContent-push content b all taken = takes_all-push awaits_first content b all taken
 
--- where a quote doesn't continue it, none is awaited
-pub closed-awaits : (content : List ℕ) → IsFalse (continues content quote_byte) → awaits_behind awaits_first content ≡ false
-closed-awaits content closes = sym (takes-quote (awaits_behind awaits_first content)) ∙ closes
-
--- and it is content
+-- where a quote doesn't continue it, none is awaited and it is content
 pub IsContent-closed : (content : List ℕ) (b : ℕ) → IsOpenContent content → IsFalse (continues content b) → IsTrue (b == quote_byte)
     → IsContent content
 IsContent-closed content b all stopped same =
     IsContent-taken content all
-    (closed-awaits content (ap (continues content) (sym (eqb-true b quote_byte same)) ∙ stopped))
+    (sym (takes-quote (awaits_behind awaits_first content)) ∙ ap (continues content) (sym (eqb-true b quote_byte same)) ∙ stopped)
 
 -- a quote doesn't continue content
 pub content-closed : (content : List ℕ) → IsContent content → IsFalse (continues content quote_byte)
@@ -136,15 +112,19 @@ content-closed content is = takes-quote (awaits_behind awaits_first content) ∙
 
 -- what lacks a quote takes the bytes of each completion, and a letter before a quote
 pub takes_all-equals : (awaiting : Bool) → IsTrue (takes_all awaiting (61 ∷ []))
-takes_all-equals awaiting = and_from (takes awaiting 61) true (takes-equals awaiting) refl
+unfolding is_quoted_byte
+takes_all-equals true = refl
+takes_all-equals false = refl
 
 pub takes_all-letter : (awaiting : Bool) → IsTrue (takes_all awaiting (120 ∷ []))
-takes_all-letter awaiting = and_from (takes awaiting 120) true (takes-letter awaiting) refl
+unfolding is_quoted_byte
+takes_all-letter true = refl
+takes_all-letter false = refl
 
 pub takes_all-letter_slash : (awaiting : Bool) → IsTrue (takes_all awaiting (120 ∷ 47 ∷ []))
-takes_all-letter_slash awaiting =
-    and_from (takes awaiting 120) _ (takes-letter awaiting)
-    (and_from (takes (awaits_next awaiting 120) 47) true (takes-slash (awaits_next awaiting 120)) refl)
+unfolding is_quoted_byte
+takes_all-letter_slash true = refl
+takes_all-letter_slash false = refl
 
 -- a letter before a quote closes it
 pub closed-letter : (content : List ℕ) → IsFalse (continues (content ++ 120 ∷ []) quote_byte)
@@ -154,12 +134,13 @@ closed-letter content =
 
 -- ---- lowering
 
-takes_all-lowered : (awaiting : Bool) (bytes : List ℕ) → IsTrue (takes_all awaiting bytes) → IsTrue (takes_all awaiting (lowered bytes))
-takes_all-lowered awaiting [] all = refl
-takes_all-lowered awaiting (b ∷ bytes) all =
-    let parts = and_parts (takes awaiting b) (takes_all (awaits_next awaiting b) bytes) all in
-    and_from (takes awaiting (to_ascii_lowercase b)) _ (takes-lowercase awaiting b parts.0)
-    (rw (awaits_next-lowercase awaiting b) (takes_all-lowered (awaits_next awaiting b) bytes parts.1))
+-- byte after byte
+takes_all-lowered : (awaiting : Bool) (bytes : List ℕ) → takes_all awaiting (lowered bytes) ≡ takes_all awaiting bytes
+takes_all-lowered awaiting [] = refl
+takes_all-lowered awaiting (b ∷ bytes) =
+    rw (takes-of_lowercase awaiting b)
+    (ap (λ rest. takes awaiting b && rest)
+    (ap (λ a. takes_all a (lowered bytes)) (awaits_next-lowercase awaiting b) ∙ takes_all-lowered (awaits_next awaiting b) bytes))
 
 awaits_behind-lowered : (awaiting : Bool) (bytes : List ℕ) → awaits_behind awaiting (lowered bytes) ≡ awaits_behind awaiting bytes
 awaits_behind-lowered awaiting [] = refl
@@ -167,10 +148,15 @@ awaits_behind-lowered awaiting (b ∷ bytes) =
     ap (λ (a : Bool). awaits_behind a (lowered bytes)) (awaits_next-lowercase awaiting b)
     ∙ awaits_behind-lowered (awaits_next awaiting b) bytes
 
+-- a byte goes on behind open content as its small letter does behind lowered content
+pub continues-lowered : (content : List ℕ) (b : ℕ) → continues (lowered content) (to_ascii_lowercase b) ≡ continues content b
+continues-lowered content b =
+    rw (awaits_behind-lowered awaits_first content) (takes-of_lowercase (awaits_behind awaits_first content) b)
+
 -- lowered content is content
 pub IsContent-lowered : (content : List ℕ) → IsContent content → IsContent (lowered content)
 IsContent-lowered content is =
-    IsContent-taken (lowered content) (takes_all-lowered awaits_first content (content-taken content is))
+    IsContent-taken (lowered content) (takes_all-lowered awaits_first content ∙ content-taken content is)
     (awaits_behind-lowered awaits_first content ∙ content-awaits content is)
 
 -- ---- the cut
@@ -204,18 +190,15 @@ quote_at_len awaiting (b ∷ text) within =
     go true same n behind within = same refl
     go false same n behind within = behind (omega (arith, within))
 
-pub quote_at_content_len : (text : List ℕ) → content_len text < length text → get_or text (content_len text) 0 ≡ quote_byte
-quote_at_content_len text within = quote_at_len awaits_first text within
-
 -- so a text may be cut there
 pub IsCharBoundary-content : (text : List ℕ) (place : ℕ) → place ≡ content_len text → place < length text → IsCharBoundary text place
 IsCharBoundary-content text place e within =
-    let at : get_or text place 0 ≡ quote_byte = rw e (quote_at_content_len text (omega arith)) in
+    let at : get_or text place 0 ≡ quote_byte = rw e (quote_at_len awaits_first text (omega arith)) in
     IsCharBoundary-before_ascii text place within (omega arith)
 
--- and behind the quote
+-- and after the quote
 pub IsCharBoundary-behind_content : (text : List ℕ) (place : ℕ) → IsUtf8 text → place ≡ content_len text → place < length text
     → IsCharBoundary text (place + 1)
 IsCharBoundary-behind_content text place utf8 e within =
-    let at : get_or text place 0 ≡ quote_byte = rw e (quote_at_content_len text (omega arith)) in
+    let at : get_or text place 0 ≡ quote_byte = rw e (quote_at_len awaits_first text (omega arith)) in
     IsCharBoundary-after_ascii text place utf8 within (omega arith)

@@ -1,9 +1,7 @@
 -- What a walk says of its text: which tree spells it, and that no other does.
-use Rattle.std.proofs.Common.{◌≡◌, ℕ, List, [], ◌∷◌, ◌++◌, Some, None, refl, sym, ap, ◌∙◌, arith, append-nil}
-use Rattle.std.proofs.lemmas.Bool.Decides.{nat_tests}
-use Rattle.std.proofs.lemmas.Bool.{and_parts, cond-true, cond-false, eqb-true, false_from_ne_true, both_ways}
+use Rattle.std.proofs.Common.{◌≡◌, ℕ, List, [], ◌∷◌, ◌++◌, Some, None, refl, sym, ap, ◌∙◌, append-nil}
+use Rattle.std.proofs.lemmas.Bool.{and_parts, cond-true, cond-false}
 use Rattle.std.proofs.lemmas.Option.{same_Some, none-some, MatchOption-at_some}
-use Rattle.std.specs.Prelude.{IsTrue, IsFalse, ◌==◌}
 use Rattle.std.specs.List.{list_all}
 use Rattle.std.specs.Option.{option_and_then, option_map}
 use Rattle.mime.specs.Bytes.{is_token_byte, slash_byte, semicolon_byte, equals_byte, quote_byte}
@@ -11,9 +9,10 @@ use Rattle.mime.specs.Grammar.{Parameter, plain, quoted, Parameters, blank, fina
 use Rattle.mime.specs.Values.{MediaType, value_of, Reads, IsAccepted, IsRefused}
 use Rattle.mime.specs.Quoted.{continues}
 use Rattle.mime.proofs.Quoted.{content-taken, content-closed}
-use Rattle.mime.proofs.Begun.{Begun, in_type, in_subtype, in_list, BegunList, ListPlace, in_spaces, in_name, in_value, in_quotes, behind_quotes, begun_list, grow, grow_place, walk, walk_from, walk_list, with_closed, ended_list, tree_of}
-use Rattle.mime.proofs.Walks.{walk_from-step, walk_list-step, walk_from-append_some, walk_list-append_some, walk_from-in_list, walk-type, walk_from-subtype, walk_list-spaces, walk_list-name, walk_list-value, walk_list-open, walk_list-behind_quotes}
+use Rattle.mime.proofs.Begun.{Closed, Begun, in_type, in_subtype, in_list, BegunList, ListPlace, in_spaces, in_name, in_value, in_quotes, behind_quotes, begun_list, list_at, at_place, close, grow, grow_list, grow_place, walk, walk_from, walk_list, with_closed, ended_list, tree_of}
+use Rattle.mime.proofs.Walks.{walk_by-step, walk_from-step, walk_from-append_some, walk_from-in_list, walk-type, walk_from-subtype, walk_list-append_some, walk_list-spaces, walk_list-name, walk_list-value, walk_list-open, walk_list-behind_quotes}
 use Rattle.mime.proofs.Spelling.{text_of_begun, walk_from-lengthens, tree_of-spelled}
+use Rattle.mime.proofs.Classes.{AreTokenBytes-from_token, IsFinalParameter-from_inner, token_byte-not_space}
 
 -- a text that is walked to a complete tree is spelled by it
 pub accepted-from_walk : (text : List ℕ) (begun : Begun) (tree : SyntaxTree)
@@ -26,53 +25,23 @@ accepted-from_walk text begun tree walked complete =
 
 -- ---- the text of a tree is walked to it
 
--- a token byte isn't a mark that isn't one
-token_byte-not : (b mark : ℕ) → IsFalse (is_token_byte mark) → IsTrue (is_token_byte b) → IsFalse (b == mark)
-token_byte-not b mark none token =
-    false_from_ne_true (b == mark)
-    (λ same. both_ways (is_token_byte mark) none (sym (ap is_token_byte (eqb-true b mark same)) ∙ token))
-
 -- the place that a parameter at the end of a list leads to
 abbrev place_of : List ℕ → Parameter → ListPlace
 place_of n (plain name value) = in_value n name value
 place_of n (quoted name content m) = behind_quotes n name content m
 
--- the begun list that a list behind closed parameters leads to
-abbrev begun_of : List (List ℕ × Parameter) → Parameters → BegunList
-begun_of closed (blank n) = record { closed = closed; place = in_spaces n }
-begun_of closed (final n parameter) = record { closed = closed; place = place_of n parameter }
+-- the begun list that a list after closed parameters leads to
+abbrev begun_of : Closed → Parameters → BegunList
+begun_of closed (blank n) = list_at closed (in_spaces n)
+begun_of closed (final n parameter) = list_at closed (place_of n parameter)
 begun_of closed (more n parameter rest) = begun_of ((n, parameter) ∷ closed) rest
 
 -- the list that a list leads to is that list
-ended_list-begun_of : (closed : List (List ℕ × Parameter)) (list : Parameters)
-    → ended_list (begun_of closed list) ≡ Some (with_closed closed list)
+ended_list-begun_of : (closed : Closed) (list : Parameters) → ended_list (begun_of closed list) ≡ Some (with_closed closed list)
 ended_list-begun_of closed (blank n) = refl
 ended_list-begun_of closed (final n (plain name value)) = refl
 ended_list-begun_of closed (final n (quoted name content m)) = refl
 ended_list-begun_of closed (more n parameter rest) = ended_list-begun_of ((n, parameter) ∷ closed) rest
-
--- an equals sign ends a name
-grow_place-equals : (closed : List (List ℕ × Parameter)) (n : List ℕ) (name : List ℕ)
-    → grow_place closed (in_name n name) equals_byte ≡ Some (record { closed = closed; place = in_value n name [] })
-unfolding is_token_byte
-grow_place-equals closed n name = refl
-
--- a quote before the first byte of a value opens it
-grow_place-opened : (closed : List (List ℕ × Parameter)) (n : List ℕ) (name : List ℕ)
-    → grow_place closed (in_value n name []) quote_byte ≡ Some (record { closed = closed; place = in_quotes n name [] })
-unfolding is_token_byte
-grow_place-opened closed n name = refl
-
--- a quote behind content closes it
-grow_place-unquoted : (closed : List (List ℕ × Parameter)) (n name content : List ℕ) → IsContent content
-    → grow_place closed (in_quotes n name content) quote_byte
-    ≡ Some (record { closed = closed; place = behind_quotes n name content [] })
-grow_place-unquoted closed n name content is = cond-false (continues content quote_byte) _ _ (content-closed content is)
-
--- a slash ends the type
-grow-slash : (t : ℕ) (top : List ℕ) → grow (in_type (t ∷ top)) slash_byte ≡ Some (in_subtype (t ∷ top) [])
-unfolding is_token_byte
-grow-slash t top = refl
 
 -- a semicolon ends a subtype
 pub grow-semicolon : (top sub : List ℕ) → IsToken sub → grow (in_subtype top sub) semicolon_byte ≡ Some (in_list top sub begun_list)
@@ -80,112 +49,81 @@ unfolding is_token_byte
 grow-semicolon top [] token = absurd token
 grow-semicolon top (s ∷ sub) token = refl
 
--- a token byte is no space
-token_byte-not_space : (b : ℕ) → IsTrue (is_token_byte b) → IsFalse (is_space b)
+-- a name after spaces, and what follows its equals sign
+walk_list-named : (closed : Closed) (n name rest : List ℕ) → IsToken name
+    → walk_list (list_at closed (in_spaces n)) (name ++ (equals_byte ∷ rest)) ≡ walk_list (list_at closed (in_value n name [])) rest
 unfolding is_token_byte
-token_byte-not_space b token = grind (arith, nat_tests)
-
--- spaces behind a semicolon
-walk_list-leading : (closed : List (List ℕ × Parameter)) (n : List ℕ) → AreSpaces n
-    → walk_list (record { closed = closed; place = in_spaces [] }) n
-    ≡ Some (record { closed = closed; place = in_spaces n })
-walk_list-leading closed n fine = walk_list-spaces closed [] n fine
-
--- a name and what follows it behind spaces
-walk_list-named : (closed : List (List ℕ × Parameter)) (n : List ℕ) (name rest : List ℕ) → IsToken name
-    → walk_list (record { closed = closed; place = in_spaces n }) (name ++ (equals_byte ∷ rest))
-    ≡ walk_list (record { closed = closed; place = in_value n name [] }) rest
 walk_list-named closed n [] rest token = absurd token
 walk_list-named closed n (b ∷ name) rest token =
     let parts = and_parts (is_token_byte b) (list_all is_token_byte name) token in
-    let begins : grow_place closed (in_spaces n) b ≡ Some (record { closed = closed; place = in_name n (b ∷ []) }) =
-    cond-false (is_space b) _ _ (token_byte-not_space b parts.0)
-    ∙ cond-true (is_token_byte b) _ _ parts.0 in
-    walk_list-step (record { closed = closed; place = in_spaces n })
-    (record { closed = closed; place = in_name n (b ∷ []) }) b (name ++ (equals_byte ∷ rest)) begins
-    ∙ walk_list-append_some (record { closed = closed; place = in_name n (b ∷ []) })
-    (record { closed = closed; place = in_name n (b ∷ name) }) name (equals_byte ∷ rest)
+    walk_by-step grow_list (list_at closed (in_spaces n)) (list_at closed (in_name n (b ∷ []))) b (name ++ (equals_byte ∷ rest))
+    (cond-false (is_space b) _ _ (token_byte-not_space b parts.0) ∙ cond-true (is_token_byte b) _ _ parts.0)
+    ∙ walk_list-append_some (list_at closed (in_name n (b ∷ []))) (list_at closed (in_name n (b ∷ name))) name (equals_byte ∷ rest)
     (walk_list-name closed n b [] name parts.1)
-    ∙ walk_list-step (record { closed = closed; place = in_name n (b ∷ name) })
-    (record { closed = closed; place = in_value n (b ∷ name) [] }) equals_byte rest (grow_place-equals closed n (b ∷ name))
 
 -- a plain value
-walk_list-plain : (closed : List (List ℕ × Parameter)) (n : List ℕ) (name value : List ℕ) → AreTokenBytes value
-    → walk_list (record { closed = closed; place = in_value n name [] }) value
-    ≡ Some (record { closed = closed; place = in_value n name value })
+walk_list-plain : (closed : Closed) (n name value : List ℕ) → AreTokenBytes value
+    → walk_list (list_at closed (in_value n name [])) value ≡ at_place closed (in_value n name value)
 walk_list-plain closed n name [] tokens = refl
 walk_list-plain closed n name (v ∷ value) tokens =
     let parts = and_parts (is_token_byte v) (list_all is_token_byte value) tokens in
-    walk_list-step (record { closed = closed; place = in_value n name [] })
-    (record { closed = closed; place = in_value n name (v ∷ []) }) v value (cond-true (is_token_byte v) _ _ parts.0)
+    walk_by-step grow_list (list_at closed (in_value n name [])) (list_at closed (in_value n name (v ∷ []))) v value
+    (cond-true (is_token_byte v) _ _ parts.0)
     ∙ walk_list-value closed n name v [] value parts.1
 
--- a quoted value with the spaces behind it
-walk_list-quoted : (closed : List (List ℕ × Parameter)) (n : List ℕ) (name content : List ℕ) (m : List ℕ) → IsContent content → AreSpaces m
-    → walk_list (record { closed = closed; place = in_value n name [] }) (quote_byte ∷ (content ++ (quote_byte ∷ m)))
-    ≡ Some (record { closed = closed; place = behind_quotes n name content m })
+-- a quoted value with the spaces after it
+walk_list-quoted : (closed : Closed) (n name content m : List ℕ) → IsContent content → AreSpaces m
+    → walk_list (list_at closed (in_value n name [])) (quote_byte ∷ (content ++ (quote_byte ∷ m)))
+    ≡ at_place closed (behind_quotes n name content m)
+unfolding is_token_byte
 walk_list-quoted closed n name content m fine white =
-    walk_list-step (record { closed = closed; place = in_value n name [] })
-    (record { closed = closed; place = in_quotes n name [] }) quote_byte (content ++ (quote_byte ∷ m))
-    (grow_place-opened closed n name)
-    ∙ walk_list-append_some (record { closed = closed; place = in_quotes n name [] })
-    (record { closed = closed; place = in_quotes n name content }) content (quote_byte ∷ m)
+    walk_list-append_some (list_at closed (in_quotes n name [])) (list_at closed (in_quotes n name content)) content (quote_byte ∷ m)
     (walk_list-open closed n name [] content (content-taken content fine))
-    ∙ walk_list-step (record { closed = closed; place = in_quotes n name content })
-    (record { closed = closed; place = behind_quotes n name content [] }) quote_byte m
-    (grow_place-unquoted closed n name content fine)
+    ∙ walk_by-step grow_list (list_at closed (in_quotes n name content)) (list_at closed (behind_quotes n name content [])) quote_byte m
+    (cond-false (continues content quote_byte) _ _ (content-closed content fine))
     ∙ walk_list-behind_quotes closed n name content [] m white
 
 -- a parameter at the end of a list
-walk_list-parameter : (closed : List (List ℕ × Parameter)) (n : List ℕ) (parameter : Parameter) → IsFinalParameter parameter
-    → walk_list (record { closed = closed; place = in_spaces n }) (text_of_parameter parameter)
-    ≡ Some (record { closed = closed; place = place_of n parameter })
+walk_list-parameter : (closed : Closed) (n : List ℕ) (parameter : Parameter) → IsFinalParameter parameter
+    → walk_list (list_at closed (in_spaces n)) (text_of_parameter parameter) ≡ at_place closed (place_of n parameter)
 walk_list-parameter closed n (plain name value) fine =
     walk_list-named closed n name value fine.0 ∙ walk_list-plain closed n name value fine.1
 walk_list-parameter closed n (quoted name content m) fine =
     walk_list-named closed n name (quote_byte ∷ (content ++ (quote_byte ∷ m))) fine.0
     ∙ walk_list-quoted closed n name content m fine.1 fine.2
 
--- a semicolon behind a whole parameter
-grow_place-closed : (closed : List (List ℕ × Parameter)) (n : List ℕ) (parameter : Parameter) → IsInnerParameter parameter
-    → grow_place closed (place_of n parameter) semicolon_byte
-    ≡ Some (record { closed = (n, parameter) ∷ closed; place = in_spaces [] })
+-- a semicolon after a whole parameter
+grow_place-closed : (closed : Closed) (n : List ℕ) (parameter : Parameter) → IsInnerParameter parameter
+    → grow_place closed (place_of n parameter) semicolon_byte ≡ close closed n parameter
 unfolding is_token_byte
 grow_place-closed closed n (plain name []) fine = absurd fine.1
 grow_place-closed closed n (plain name (v ∷ value)) fine = refl
 grow_place-closed closed n (quoted name content m) fine = refl
 
--- a parameter that a semicolon follows may also end a list
-IsFinalParameter-from_inner : (parameter : Parameter) → IsInnerParameter parameter → IsFinalParameter parameter
-IsFinalParameter-from_inner (plain name []) fine = absurd fine.1
-IsFinalParameter-from_inner (plain name (v ∷ value)) fine = fine
-IsFinalParameter-from_inner (quoted name content m) fine = fine
-
 -- the text of a list
-walk_list-text : (closed : List (List ℕ × Parameter)) (list : Parameters) → AreParameters list
-    → walk_list (record { closed = closed; place = in_spaces [] }) (text_of_list list) ≡ Some (begun_of closed list)
-walk_list-text closed (blank n) fine = walk_list-leading closed n fine
+walk_list-text : (closed : Closed) (list : Parameters) → AreParameters list
+    → walk_list (list_at closed (in_spaces [])) (text_of_list list) ≡ Some (begun_of closed list)
+walk_list-text closed (blank n) fine = walk_list-spaces closed [] n fine
 walk_list-text closed (final n parameter) fine =
-    walk_list-append_some (record { closed = closed; place = in_spaces [] }) (record { closed = closed; place = in_spaces n })
-    n (text_of_parameter parameter) (walk_list-leading closed n fine.0)
+    walk_list-append_some (list_at closed (in_spaces [])) (list_at closed (in_spaces n)) n (text_of_parameter parameter)
+    (walk_list-spaces closed [] n fine.0)
     ∙ walk_list-parameter closed n parameter fine.1
 walk_list-text closed (more n parameter rest) fine =
-    walk_list-append_some (record { closed = closed; place = in_spaces [] }) (record { closed = closed; place = in_spaces n })
-    n (text_of_parameter parameter ++ (semicolon_byte ∷ text_of_list rest)) (walk_list-leading closed n fine.0)
-    ∙ walk_list-append_some (record { closed = closed; place = in_spaces n })
-    (record { closed = closed; place = place_of n parameter }) (text_of_parameter parameter)
-    (semicolon_byte ∷ text_of_list rest)
-    (walk_list-parameter closed n parameter (IsFinalParameter-from_inner parameter fine.1))
+    let inner = IsFinalParameter-from_inner parameter fine.1 in
+    walk_list-append_some (list_at closed (in_spaces [])) (list_at closed (in_spaces n))
+    n (text_of_parameter parameter ++ (semicolon_byte ∷ text_of_list rest)) (walk_list-spaces closed [] n fine.0)
+    ∙ walk_list-append_some (list_at closed (in_spaces n)) (list_at closed (place_of n parameter))
+    (text_of_parameter parameter) (semicolon_byte ∷ text_of_list rest) (walk_list-parameter closed n parameter inner)
     ∙ ap (option_and_then (λ next. walk_list next (text_of_list rest))) (grow_place-closed closed n parameter fine.1)
     ∙ walk_list-text ((n, parameter) ∷ closed) rest fine.2
 
 -- type and slash
 pub walk-slash : (top rest : List ℕ) → IsToken top → walk (top ++ (slash_byte ∷ rest)) ≡ walk_from (in_subtype top []) rest
+unfolding is_token_byte
 walk-slash [] rest token = absurd token
 walk-slash (t ∷ top) rest token =
     let parts = and_parts (is_token_byte t) (list_all is_token_byte top) token in
     walk_from-append_some (in_type []) (in_type (t ∷ top)) (t ∷ top) (slash_byte ∷ rest) (walk-type t top parts.0 parts.1)
-    ∙ walk_from-step (in_type (t ∷ top)) (in_subtype (t ∷ top) []) slash_byte rest (grow-slash t top)
 
 -- subtype
 pub walk_from-sub : (top sub : List ℕ) → AreTokenBytes sub → walk_from (in_subtype top []) sub ≡ Some (in_subtype top sub)
@@ -195,10 +133,14 @@ walk_from-sub top (s ∷ sub) tokens =
     walk_from-step (in_subtype top []) (in_subtype top (s ∷ [])) s sub (cond-true (is_token_byte s) _ _ parts.0)
     ∙ walk_from-subtype top s [] sub parts.1
 
--- a token is token bytes
-pub AreTokenBytes-from_token : (bytes : List ℕ) → IsToken bytes → AreTokenBytes bytes
-AreTokenBytes-from_token [] token = absurd token
-AreTokenBytes-from_token (b ∷ bytes) token = token
+-- type, subtype and semicolon
+pub walk-head : (top sub rest : List ℕ) → IsToken top → IsToken sub
+    → walk (top ++ (slash_byte ∷ (sub ++ (semicolon_byte ∷ rest)))) ≡ walk_from (in_list top sub begun_list) rest
+walk-head top sub rest top_token sub_token =
+    walk-slash top (sub ++ (semicolon_byte ∷ rest)) top_token
+    ∙ walk_from-append_some (in_subtype top []) (in_subtype top sub) sub (semicolon_byte ∷ rest)
+    (walk_from-sub top sub (AreTokenBytes-from_token sub sub_token))
+    ∙ walk_from-step (in_subtype top sub) (in_list top sub begun_list) semicolon_byte rest (grow-semicolon top sub sub_token)
 
 -- the text of a well-formed tree is walked to that tree
 pub walk-text_of : (tree : SyntaxTree) → IsWellFormed tree
@@ -211,21 +153,15 @@ walk-text_of tree well_formed = with_tail tree.tail well_formed.1
     with_tail no_list fine = (
       in_subtype tree.top tree.sub,
       (
-        walk-slash tree.top (tree.sub ++ []) well_formed.0
-            ∙ ap (walk_from (in_subtype tree.top [])) (append-nil tree.sub)
-            ∙ walk_from-sub tree.top tree.sub fine,
+        ap (λ sub. walk (tree.top ++ (slash_byte ∷ sub))) (append-nil tree.sub)
+            ∙ walk-slash tree.top tree.sub well_formed.0 ∙ walk_from-sub tree.top tree.sub fine,
         refl,
       ),
     )
     with_tail (listed list) fine = (
       in_list tree.top tree.sub (begun_of [] list),
       (
-        walk-slash tree.top (tree.sub ++ (semicolon_byte ∷ text_of_list list)) well_formed.0
-            ∙ walk_from-append_some (in_subtype tree.top []) (in_subtype tree.top tree.sub) tree.sub
-            (semicolon_byte ∷ text_of_list list)
-            (walk_from-sub tree.top tree.sub (AreTokenBytes-from_token tree.sub fine.0))
-            ∙ walk_from-step (in_subtype tree.top tree.sub) (in_list tree.top tree.sub begun_list) semicolon_byte
-            (text_of_list list) (grow-semicolon tree.top tree.sub fine.0)
+        walk-head tree.top tree.sub (text_of_list list) well_formed.0 fine.0
             ∙ walk_from-in_list tree.top tree.sub begun_list (text_of_list list)
             ∙ ap (option_map (in_list tree.top tree.sub)) (walk_list-text [] list fine.1),
         ap (option_map (λ rest. record { top = tree.top; sub = tree.sub; tail = listed rest })) (ended_list-begun_of [] list),

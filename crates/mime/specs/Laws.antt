@@ -1,11 +1,11 @@
 -- The laws: what follows from the definitions alone.
-use Rattle.std.specs.Prelude.{◌≡◌, ◌≢◌, ℕ, ◌+◌, ◌<◌, ◌≤◌, ◌⊎◌, List, [], ◌++◌, slice_get, Some, MatchOption}
+use Rattle.std.specs.Prelude.{◌≡◌, ◌≢◌, ℕ, ◌+◌, ◌<◌, ◌≤◌, List, [], ◌++◌, slice_get, Some, MatchOption}
 use Rattle.std.specs.Str.{IsUtf8, IsCharBoundary}
 use Rattle.mime.specs.Bytes.{plus_byte}
 use Rattle.mime.specs.Grammar.{SyntaxTree, text_of, IsWellFormed}
 use Rattle.mime.specs.Values.{MediaType, Reads, IsAccepted, IsRefused}
-use Rattle.mime.specs.Refusals.{IsViable, IsFront, slash_completion, equals_completion, quote_completion, IsFault}
-use Rattle.mime.specs.declared.scan.ParseError.{ParseError}
+use Rattle.mime.specs.Refusals.{IsViable, IsFront, Lacks, IsFault}
+use Rattle.mime.specs.declared.scan.fault.ParseError.{ParseError}
 
 -- A text is spelled by at most one well-formed tree.
 abbrev pub OneTree : Type 0
@@ -27,16 +27,15 @@ FrontOfViableIsViable = (front more : List ℕ) → IsViable (front ++ more) →
 abbrev pub AcceptedIsViable : Type 0
 AcceptedIsViable = (text : List ℕ) → IsAccepted text → IsViable text
 
--- one of the three completions that faults name
-abbrev pub IsCompletion : List ℕ → Type 0
-IsCompletion more = (more ≡ slash_completion) ⊎ ((more ≡ equals_completion) ⊎ (more ≡ quote_completion))
-
 -- Exactly one completion makes a viable refused text an accepted one.
 abbrev pub OneCompletion : Type 0
 OneCompletion =
     (text : List ℕ) → IsViable text → IsRefused text
-    → (more : List ℕ) × IsCompletion more × IsAccepted (text ++ more)
-    × ((other : List ℕ) → IsCompletion other → IsAccepted (text ++ other) → other ≡ more)
+    → (fault : ParseError) × Lacks text fault × ((other : ParseError) → Lacks text other → other ≡ fault)
+
+-- A text that a completion makes an accepted one is refused.
+abbrev pub CompletedIsRefused : Type 0
+CompletedIsRefused = (text : List ℕ) (fault : ParseError) → Lacks text fault → IsRefused text
 
 -- Nothing makes a text that isn't viable an accepted one.
 abbrev pub NoCompletion : Type 0

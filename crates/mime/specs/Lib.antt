@@ -3,7 +3,7 @@ pub mod Bytes
 pub mod Grammar
 pub mod Values
 pub mod Refusals
-pub mod Faults
+pub mod Printed
 pub mod Names
 pub mod Items
 pub mod Views
@@ -13,5 +13,5 @@ pub mod Remaining
 pub mod Quoted
 pub mod Scanning
 pub mod Pairs
-pub mod Storage
-pub mod Stored
+pub mod KeptText
+pub mod Owner

@@ -7,15 +7,15 @@ use Rattle.mime.specs.Quoted.{content_of, behind_content}
 use Rattle.mime.specs.Values.{lowered, lowered_value}
 
 -- the first place of a byte from a place on, or the text's end
-abbrev pub place_from : ℕ → ℕ → List ℕ → ℕ
-place_from from byte text = from + position_or_len (λ b. b == byte) (drop from text)
+abbrev pub first_place : ℕ → ℕ → List ℕ → ℕ
+first_place from byte text = from + position_or_len (λ b. b == byte) (drop from text)
 
 -- what stands before that place, and what stands behind it
 abbrev pub before_byte : ℕ → ℕ → List ℕ → List ℕ
-before_byte from byte text = take (place_from from byte text) text
+before_byte from byte text = take (first_place from byte text) text
 
 abbrev pub behind_byte : ℕ → ℕ → List ℕ → List ℕ
-behind_byte from byte text = drop (place_from from byte text + 1) text
+behind_byte from byte text = drop (first_place from byte text + 1) text
 
 -- the first pair of a list: its name, how many bytes stand before its value, its value without
 -- quotes, and the list behind its semicolon
@@ -27,9 +27,9 @@ pub record PairCut : Type 0 where
 
 -- behind the equals sign: a quoted value, or a plain one.
 -- What stands before it is counted as what it leaves of the whole length, so it lies within the list
-abbrev pub cut_value : ℕ → List ℕ → List ℕ → PairCut
-cut_value whole name [] = record { name = name; head = whole; value = []; rest = [] }
-cut_value whole name (b ∷ bytes) =
+abbrev pub cut_behind_equals : ℕ → List ℕ → List ℕ → PairCut
+cut_behind_equals whole name [] = record { name = name; head = whole; value = []; rest = [] }
+cut_behind_equals whole name (b ∷ bytes) =
     if b == quote_byte
     then record {
       name = name;
@@ -45,16 +45,16 @@ cut_value whole name (b ∷ bytes) =
     }
 
 -- the spaces before the first name, and the list without them
-abbrev pub gap_of : List ℕ → ℕ
-gap_of list = prefix_len is_space list
+abbrev pub leading_spaces : List ℕ → ℕ
+leading_spaces list = prefix_len is_space list
 
 abbrev pub without_gap : List ℕ → List ℕ
-without_gap list = drop (gap_of list) list
+without_gap list = drop (leading_spaces list) list
 
 unfoldable pub cut_of : List ℕ → PairCut
 cut_of list =
     let body = without_gap list in
-    cut_value (length list) (before_byte 0 equals_byte body) (behind_byte 0 equals_byte body)
+    cut_behind_equals (length list) (before_byte 0 equals_byte body) (behind_byte 0 equals_byte body)
 
 -- the first so many pairs
 abbrev pub pairs_within : ℕ → List ℕ → List (List ℕ × List ℕ)

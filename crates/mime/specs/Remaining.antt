@@ -1,4 +1,5 @@
--- Private. What a byte reader has left to give, and how many bytes it gave.
+-- Private. What a byte reader has left to give, and how many bytes it gave. A page of its own, since `Scanning` names types of
+-- the code that stand on the reader.
 use Rattle.std.specs.Prelude.{ℕ, List}
 
 pub record Remaining : Type 0 where

@@ -7,7 +7,7 @@ use Rattle.mime.specs.Grammar.{Tail, no_list, listed, SyntaxTree, text_of, IsTok
 use Rattle.mime.specs.Values.{last_plus, pairs_of_tail, IsRefused}
 use Rattle.mime.specs.Refusals.{IsFault}
 use Rattle.mime.specs.declared.scan.Places.{Places}
-use Rattle.mime.specs.declared.scan.ParseError.TheVariants.{InvalidToken}
+use Rattle.mime.specs.declared.scan.fault.ParseError.TheVariants.{InvalidToken}
 use Rattle.mime.specs.declared.scan.Verdict.{Verdict}
 use Rattle.mime.specs.declared.scan.Verdict.TheVariants.{Accepted, Unfinished, Stopped}
 use Rattle.mime.specs.Remaining.{Remaining}

@@ -112,6 +112,6 @@ abbrev pub suffix_of : MediaType → Option (List ℕ)
 suffix_of value = option_map (λ place. drop (place + 1) value.essence) value.plus
 
 -- a value as its owner has it; a fixed one is cloned without memory
-pub record Kept : Type 0 where
+pub record OwnedMedia : Type 0 where
   pub media : MediaType
   pub fixed : Bool

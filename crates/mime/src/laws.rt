@@ -8,7 +8,7 @@ ghost use Rattle.std.specs.Ordering.{ordering_then, bool_cmp, nat_cmp};
 ghost use Rattle.mime.specs.Values.{lowered};
 ghost use Rattle.mime.specs.Names.{name_table};
 ghost use Rattle.mime.specs.Views.{name_text};
-ghost use Rattle.mime.specs.Laws.{OneTree, OneReading, EmptyIsViable, FrontOfViableIsViable, AcceptedIsViable, OneCompletion, NoCompletion, OneFault, OneFront, FrontEndsBetweenCharacters, PlusIsLast};
+ghost use Rattle.mime.specs.Laws.{OneTree, OneReading, EmptyIsViable, FrontOfViableIsViable, AcceptedIsViable, OneCompletion, CompletedIsRefused, NoCompletion, OneFault, OneFront, FrontEndsBetweenCharacters, PlusIsLast};
 
 use crate::name::Name;
 use crate::name::constants::{
@@ -48,6 +48,11 @@ pub fn accepted_is_viable()
 /// Exactly one completion makes a viable refused text an accepted one.
 pub fn one_completion()
     ensures { OneCompletion }
+{}
+
+/// A text that a completion makes an accepted one is refused.
+pub fn completed_is_refused()
+    ensures { CompletedIsRefused }
 {}
 
 /// Nothing makes a text that isn't viable an accepted one.

@@ -9,28 +9,8 @@ mod fault;
 mod reader;
 
 use crate::bytes::{is_quoted_byte, is_space, is_token};
-pub use crate::scan::fault::FromStrError;
+pub use crate::scan::fault::{FromStrError, ParseError};
 pub(crate) use crate::scan::reader::ByteReader;
-
-/// Why a text isn't read as a media type.
-#[derive(Clone, Copy, PartialEq, Eq, Debug)]
-pub enum ParseError {
-    /// The text ends in its type: a `/` and a subtype are missing.
-    MissingSlash,
-    /// The text ends in a parameter's name: a `=` and a value are missing.
-    MissingEqual,
-    /// The text ends in a quoted value: its closing `"` is missing.
-    MissingQuote,
-    /// No media type begins with the bytes up to and with this one.
-    InvalidToken {
-        /// The place of the byte, in bytes from 0.
-        pos: usize,
-        /// The byte, which begins a character.
-        byte: u8,
-    },
-    /// The text is a media type, and there was no memory to keep it.
-    NoMemory,
-}
 
 /// Where the parts of an accepted text are, in bytes from 0.
 #[derive(Clone, Copy, PartialEq, Debug)]

@@ -7,8 +7,7 @@ ghost use Rattle.mime.specs.Refusals.{Explains};
 ghost use Rattle.mime.specs.Items.{items_of, IsLowItem, IsFirstAccepted};
 ghost use Rattle.mime.specs.Views.{name_seen};
 ghost use Rattle.mime.specs.Scanning.{HasPlaces};
-ghost use Rattle.mime.specs.Storage.{kept_places as kept_places_of};
-ghost use Rattle.mime.specs.Stored.{bytes_of};
+ghost use Rattle.mime.specs.Owner.{bytes_of};
 
 mod kept;
 mod pairs;
@@ -16,7 +15,7 @@ mod params;
 
 use crate::name::{Name, ParamKey};
 use crate::scan::{ByteReader, FromStrError, ParseError, Places, Verdict, scan};
-use crate::value::kept::lowered_text;
+use crate::value::kept::{keep_places, keep_text};
 pub use crate::value::params::Params;
 use std::alloc::Global;
 use std::marker::Model;
@@ -52,16 +51,16 @@ pub struct Mime {
 }
 
 impl Model for Mime {
-    ghost use Rattle.mime.specs.Values.{Kept};
+    ghost use Rattle.mime.specs.Values.{OwnedMedia};
 
-    ghost Value = { Kept };
+    ghost Value = { OwnedMedia };
 
-    ghost use Rattle.mime.specs.Stored.{bytes_of, is_fixed};
-    ghost use Rattle.mime.specs.Storage.{media_of, IsStored};
+    ghost use Rattle.mime.specs.Owner.{bytes_of, is_fixed};
+    ghost use Rattle.mime.specs.KeptText.{media_of, IsKept};
 
     ghost view = { λ mime. record { media = media_of (bytes_of mime.text) mime.places; fixed = is_fixed mime.text } };
 
-    ghost invariant = { λ mime. IsStored (bytes_of mime.text) mime.places };
+    ghost invariant = { λ mime. IsKept (bytes_of mime.text) mime.places };
 }
 
 impl Mime {
@@ -110,10 +109,10 @@ impl Mime {
                 places,
             });
         }
-        match lowered_text(alloc, s, places) {
+        match keep_text(alloc, s, places) {
             Ok(text) => Ok(Mime {
                 text: Text::Owned(text),
-                places: kept_places(places),
+                places: keep_places(places),
             }),
             Err(_) => Err(FromStrError::new(ParseError::NoMemory)),
         }
@@ -207,22 +206,6 @@ impl Mime {
             }
         }
         None
-    }
-}
-
-/// The places in the kept text.
-#[inline(always)]
-fn kept_places(places: Places) -> Places
-    ensures { result ≡ kept_places_of places }
-{
-    let semicolon = if places.pairs == 0 {
-        None
-    } else {
-        places.semicolon
-    };
-    Places {
-        semicolon,
-        ..places
     }
 }
 

@@ -4,8 +4,8 @@ use Rattle.mime.specs.Items.{Item, items_of}
 use Rattle.mime_lines.specs.Report.{row, param_rows, lines_of, ReportsLine, ReportsLines}
 use Rattle.mime_lines.specs.Report.ReportsLines.{no_more, line_more}
 use Rattle.mime.specs.Refusals.{IsFault, Explains}
-use Rattle.mime.specs.declared.scan.ParseError.{ParseError}
-use Rattle.mime.specs.declared.scan.ParseError.TheVariants.{MissingSlash, MissingEqual, MissingQuote, InvalidToken, NoMemory}
+use Rattle.mime.specs.declared.scan.fault.ParseError.{ParseError}
+use Rattle.mime.specs.declared.scan.fault.ParseError.TheVariants.{NoMemory}
 
 -- the rows of items
 abbrev pub item_rows : List Item → List ℕ
@@ -40,8 +40,5 @@ param_rows-end old new all left pairs none items added =
 
 -- an error other than want of memory is the text's fault
 pub fault-explained : (text : List ℕ) (fault : ParseError) → Explains text fault → fault ≢ NoMemory → IsFault text fault
-fault-explained text MissingSlash why other = why
-fault-explained text MissingEqual why other = why
-fault-explained text MissingQuote why other = why
-fault-explained text (InvalidToken pos byte) why other = why
 fault-explained text NoMemory why other = absurd (other refl)
+fault-explained text fault why other = why

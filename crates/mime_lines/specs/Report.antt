@@ -4,8 +4,8 @@ use Rattle.std.specs.List.{onto_first}
 use Rattle.std.specs.Str.{IsUtf8}
 use Rattle.mime.specs.Values.{MediaType, type_of, subtype_of, suffix_of, Reads}
 use Rattle.mime.specs.Refusals.{IsFault}
-use Rattle.mime.specs.Faults.{error_text}
-use Rattle.mime.specs.declared.scan.ParseError.{ParseError}
+use Rattle.mime.specs.Printed.{error_text}
+use Rattle.mime.specs.declared.scan.fault.ParseError.{ParseError}
 
 -- byte 10 ends a line; what stands behind the last one is a line if it isn't empty
 abbrev pub lines_of : List ℕ → List (List ℕ)

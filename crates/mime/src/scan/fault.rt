@@ -2,12 +2,31 @@
 
 ghost use Rattle.std.specs.Prelude.{◌≡◌, ◌<◌, true, Some};
 ghost use Rattle.std.specs.Fmt.{digit_glyph, digits, DisplaysOnOk};
-ghost use Rattle.mime.specs.Faults.{token_text};
+ghost use Rattle.mime.specs.Printed.{token_text};
 
-use crate::scan::ParseError;
 use std::error::Error;
 use std::fmt;
 use std::marker::Model;
+
+/// Why a text isn't read as a media type.
+#[derive(Clone, Copy, PartialEq, Eq, Debug)]
+pub enum ParseError {
+    /// The text ends in its type: a `/` and a subtype are missing.
+    MissingSlash,
+    /// The text ends in a parameter's name: a `=` and a value are missing.
+    MissingEqual,
+    /// The text ends in a quoted value: its closing `"` is missing.
+    MissingQuote,
+    /// No media type begins with the bytes up to and with this one.
+    InvalidToken {
+        /// The place of the byte, in bytes from 0.
+        pos: usize,
+        /// The byte, which begins a character.
+        byte: u8,
+    },
+    /// The text is a media type, and there was no memory to keep it.
+    NoMemory,
+}
 
 /// A digit of a number below 16, in capitals.
 fn hex_digit(value: u8) -> char
@@ -47,7 +66,7 @@ fn write_token<W: fmt::Write>(f: &mut fmt::Formatter<W>, pos: usize, byte: u8) -
 ///
 /// `text/;` is refused with `an invalid token was encountered, 3B at position 5`.
 impl fmt::Display for ParseError {
-    ghost use Rattle.mime.specs.Faults.{fault_text};
+    ghost use Rattle.mime.specs.Printed.{fault_text};
 
     ghost output = { λ fault. Some (fault_text fault) };
 
@@ -77,7 +96,7 @@ pub struct FromStrError {
 }
 
 impl Model for FromStrError {
-    ghost use Rattle.mime.specs.declared.scan.ParseError.{ParseError};
+    ghost use Rattle.mime.specs.declared.scan.fault.ParseError.{ParseError};
 
     ghost Value = { ParseError };
 
@@ -103,7 +122,7 @@ impl FromStrError {
 
 /// Prints `mime parse error: ` and then what its fault prints. A width is ignored.
 impl fmt::Display for FromStrError {
-    ghost use Rattle.mime.specs.Faults.{error_text};
+    ghost use Rattle.mime.specs.Printed.{error_text};
 
     ghost output = { λ error. Some (error_text error) };
 

@@ -5,7 +5,7 @@ ghost use Rattle.mime.specs.Bytes.{semicolon_byte};
 ghost use Rattle.mime.specs.Values.{lowered, is_charset};
 ghost use Rattle.mime.specs.Pairs.{cut_of, lowered_first, lowered_within};
 ghost use Rattle.mime.specs.Scanning.{HasPlaces};
-ghost use Rattle.mime.specs.Storage.{lowered_text as kept_text};
+ghost use Rattle.mime.specs.KeptText.{kept_places, kept_text_of};
 
 use crate::name::eq_ignoring_case;
 use crate::scan::Places;
@@ -85,9 +85,9 @@ fn lower_text(bytes: &mut [u8], text: &str, semicolon: usize, pairs: usize)
 /// The kept text of an accepted text: only what ignores case is lowered, and an empty list is cut
 /// off.
 #[inline]
-pub(crate) fn lowered_text(alloc: Global, text: &str, places: Places) -> Result<String, AllocError>
+pub(crate) fn keep_text(alloc: Global, text: &str, places: Places) -> Result<String, AllocError>
     requires { HasPlaces text.now places }
-    ensures { IfOk result (λ kept. string_bytes kept ≡ kept_text places.pairs places.semicolon text.now) }
+    ensures { IfOk result (λ kept. string_bytes kept ≡ kept_text_of places.pairs places.semicolon text.now) }
 {
     let Some(semicolon) = places.semicolon else {
         return text.to_ascii_lowercase(alloc);
@@ -101,4 +101,20 @@ pub(crate) fn lowered_text(alloc: Global, text: &str, places: Places) -> Result<
     let mut bytes = Vec::from_slice(alloc, text.as_bytes())?;
     lower_text(&mut bytes, text, semicolon, places.pairs);
     Ok(unsafe { String::from_utf8_unchecked(bytes) })
+}
+
+/// The places in the kept text.
+#[inline(always)]
+pub(crate) fn keep_places(places: Places) -> Places
+    ensures { result ≡ kept_places places }
+{
+    let semicolon = if places.pairs == 0 {
+        None
+    } else {
+        places.semicolon
+    };
+    Places {
+        semicolon,
+        ..places
+    }
 }

@@ -3,7 +3,7 @@
 ghost use Rattle.std.specs.Prelude.{◌≡◌, ◌<◌, ◌≤◌, length};
 ghost use Rattle.std.specs.Str.{IsCharBoundary};
 ghost use Rattle.mime.specs.Pairs.{before_byte, behind_byte, cut_of};
-ghost use Rattle.mime.specs.Pairs.{gap_of as spaces_before, place_from as place_of, cut_value as pair_of};
+ghost use Rattle.mime.specs.Pairs.{leading_spaces, first_place, cut_behind_equals};
 ghost use Rattle.mime.specs.Quoted.{content_of, behind_content, content_len as len_of};
 
 use crate::bytes::is_space;
@@ -22,7 +22,7 @@ pub(crate) struct Pair<'a> {
 /// The first place of a byte from a place on, or the end.
 #[inline]
 fn place_from(text: &[u8], from: usize, byte: u8) -> usize
-    ensures { result ≡ place_of from byte text.now }
+    ensures { result ≡ first_place from byte text.now }
 {
     let mut place = from;
     while place < text.len() {
@@ -84,7 +84,7 @@ fn split_content<'a>(text: &'a str) -> (&'a str, &'a str)
 /// How many spaces begin the list.
 #[inline]
 fn gap_of(list: &str) -> usize
-    ensures gap { result ≡ spaces_before list.now }
+    ensures gap { result ≡ leading_spaces list.now }
     ensures border { IsCharBoundary list.now result }
 {
     let bytes = list.as_bytes();
@@ -103,10 +103,10 @@ fn gap_of(list: &str) -> usize
 #[inline]
 fn cut_value<'a>(whole: usize, name: &'a str, text: &'a str) -> Pair<'a>
     requires { length text.now ≤ whole }
-    ensures name { result.name.now ≡ (pair_of whole name.entry.now text.entry.now).name }
-    ensures head { result.head ≡ (pair_of whole name.entry.now text.entry.now).head }
-    ensures value { result.value.now ≡ (pair_of whole name.entry.now text.entry.now).value }
-    ensures rest { result.rest.now ≡ (pair_of whole name.entry.now text.entry.now).rest }
+    ensures name { result.name.now ≡ (cut_behind_equals whole name.entry.now text.entry.now).name }
+    ensures head { result.head ≡ (cut_behind_equals whole name.entry.now text.entry.now).head }
+    ensures value { result.value.now ≡ (cut_behind_equals whole name.entry.now text.entry.now).value }
+    ensures rest { result.rest.now ≡ (cut_behind_equals whole name.entry.now text.entry.now).rest }
 {
     if !text.is_empty() && text.as_bytes()[0] == b'"' {
         let content = &text[1..];

@@ -1,3 +1,4 @@
+-- The two comparisons are the class.
 use Rattle.std.proofs.Common.{arith}
 use Rattle.std.proofs.lemmas.Bool.Decides.{nat_tests}
 use Rattle.mime.specs.Bytes.{is_quoted_byte as is_quoted}

@@ -12,4 +12,6 @@ unfolding is_token_byte
 table = refl
 
 pub returns : goal.returns
-returns c = ap (λ t. get_or t c.args.b false) table ∙ get_or-map-range_with_len is_token_byte 0 256 c.args.b c.args.b false (omega arith) (omega arith)
+returns c =
+    ap (λ t. get_or t c.args.b false) table
+    ∙ get_or-map-range_with_len is_token_byte 0 256 c.args.b c.args.b false (omega arith) (omega arith)

@@ -1,3 +1,4 @@
+-- An accepted text is viable.
 use Rattle.mime.proofs.Viability.{accepted_is_viable}
 use Rattle.mime.proofs.laws.accepted_is_viable.Goals as goal
 

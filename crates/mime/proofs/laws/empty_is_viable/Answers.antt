@@ -1,3 +1,4 @@
+-- The empty text is viable.
 use Rattle.mime.proofs.Viability.{empty_is_viable}
 use Rattle.mime.proofs.laws.empty_is_viable.Goals as goal
 

@@ -1,3 +1,4 @@
+-- The longest viable front of a text in UTF-8 ends between characters.
 use Rattle.mime.proofs.Borders.{front_ends_between_characters}
 use Rattle.mime.proofs.laws.front_ends_between_characters.Goals as goal
 

@@ -1,3 +1,4 @@
+-- Nothing makes a text that is not viable an accepted one.
 use Rattle.mime.proofs.laws.no_completion.Goals as goal
 
 pub returns : goal.returns

@@ -1,4 +1,5 @@
-use Rattle.mime.proofs.Faults.{one_completion}
+-- Exactly one completion makes a viable refused text an accepted one.
+use Rattle.mime.proofs.OneFault.{one_completion}
 use Rattle.mime.proofs.laws.one_completion.Goals as goal
 
 pub returns : goal.returns

@@ -1,4 +1,5 @@
-use Rattle.mime.proofs.Faults.{one_fault}
+-- A refused text has exactly one fault.
+use Rattle.mime.proofs.OneFault.{one_fault}
 use Rattle.mime.proofs.laws.one_fault.Goals as goal
 
 pub returns : goal.returns

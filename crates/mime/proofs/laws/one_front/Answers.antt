@@ -1,4 +1,5 @@
-use Rattle.mime.proofs.Faults.{one_front}
+-- A text has exactly one longest viable front.
+use Rattle.mime.proofs.OneFault.{one_front}
 use Rattle.mime.proofs.laws.one_front.Goals as goal
 
 pub returns : goal.returns

@@ -1,3 +1,4 @@
+-- A text is read as at most one value.
 use Rattle.mime.proofs.Readings.{one_reading}
 use Rattle.mime.proofs.laws.one_reading.Goals as goal
 

@@ -1,3 +1,4 @@
+-- A text is spelled by at most one well-formed tree.
 use Rattle.mime.proofs.Readings.{one_tree}
 use Rattle.mime.proofs.laws.one_tree.Goals as goal
 

@@ -1,3 +1,4 @@
+-- The plus of a value is the last one.
 use Rattle.mime.proofs.Pluses.{plus_is_last}
 use Rattle.mime.proofs.laws.plus_is_last.Goals as goal
 

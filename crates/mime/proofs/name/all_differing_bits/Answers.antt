@@ -4,14 +4,15 @@ use Rattle.std.specs.Char.{to_ascii_lowercase}
 use Rattle.std.proofs.lemmas.List.{map_more, same_from_push, length_push}
 use Rattle.std.proofs.lemmas.Slice.Zip.{zip_turn}
 use Rattle.mime.specs.Values.{lowered}
-use Rattle.mime.proofs.BlockLaws.{together}
+use Rattle.mime.proofs.Blocks.{together}
 use Rattle.mime.proofs.name.all_differing_bits.Goals as goal
 
 -- the lowerings with one byte more
 pushed : (a : List ℕ) (n m x : ℕ) → n < length a → m ≡ n + 1 → x ≡ get_or a n 0
     → lowered (take m a) ≡ lowered (take n a) ++ (to_ascii_lowercase x ∷ [])
 pushed a n m x within next is =
-    ap (λ k. lowered (take k a)) next ∙ map_more to_ascii_lowercase a n 0 within ∙ ap (λ z. lowered (take n a) ++ (to_ascii_lowercase z ∷ [])) (sym is)
+    ap (λ k. lowered (take k a)) next ∙ map_more to_ascii_lowercase a n 0 within
+    ∙ ap (λ z. lowered (take n a) ++ (to_ascii_lowercase z ∷ [])) (sym is)
 
 pub loop-x-preserved : goal.loop-x-preserved
 loop-x-preserved c =

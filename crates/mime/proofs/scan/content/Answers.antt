@@ -5,5 +5,4 @@ use Rattle.mime.proofs.scan.content.Goals as goal
 
 pub returns : goal.returns
 returns c =
-    content_from_inner _ _ _ _ _ c.in_ok-first.ensures (sym c.is_quoted_byte.ensures ∙ c.if-not-is_quoted_byte.false)
-    c.inner.ensures
+    content_from_inner c.in_ok-first.ensures (sym c.is_quoted_byte.ensures ∙ c.if-not-is_quoted_byte.false) c.inner.ensures

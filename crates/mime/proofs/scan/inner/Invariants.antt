@@ -1,3 +1,4 @@
+-- The quoted bytes so far, none of them a quote.
 use Rattle.std.proofs.Common.{length}
 use Rattle.mime.specs.Grammar.{is_inner_byte}
 use Rattle.mime.proofs.Passing.{Passing}

@@ -1,3 +1,4 @@
+-- The parameters that were closed so far.
 use Rattle.std.proofs.Common.{length}
 use Rattle.mime.proofs.ListScan.{Turn}
 use Rattle.mime.proofs.scan.parameters.Given as goal

@@ -1,81 +1,136 @@
 -- Each way out of the scanner.
-use Rattle.std.proofs.Common.{◌≡◌, sym, ◌∙◌, ◌-◌, arith}
+use Rattle.std.proofs.Common.{◌≡◌, ℕ, sym, ap, refl, ◌∙◌, ◌+◌, ◌-◌, ◌∷◌, [], length, Some, None, arith, ne_eqb, eq-eqb}
+use Rattle.std.proofs.lemmas.Bool.{cond-true, cond-false}
+use Rattle.mime.specs.Bytes.{slash_byte, semicolon_byte}
+use Rattle.mime.specs.Values.{last_plus}
+use Rattle.mime.specs.declared.scan.Places.{Places}
+use Rattle.mime.specs.Scanning.{head_places}
+use Rattle.mime.proofs.Begun.{in_type, in_subtype}
 use Rattle.mime.proofs.Passing.{given_sum}
-use Rattle.mime.proofs.TextScan.{scans_empty, scans_type_first, scans_type_end, scans_type_stop, Slashed, slashed_from, scans_slash_end, scans_slash_stop, Subtyped, subtyped_from, scans_subtype_end, scans_subtype_stop, scans_list}
+use Rattle.mime.proofs.Verdicts.{Reaches, reaches_run, reaches_byte, scans_at}
+use Rattle.mime.proofs.TextScan.{none_walked, type_walked, subtype_walked, Subtyped, essence_places, essence_is, scans_list}
 use Rattle.mime.proofs.scan.scan.Goals.{After-count, After-subtype-plus}
 use Rattle.mime.proofs.scan.scan.Goals as goal
 
 pub returns-in_default : goal.returns-in_default
-returns-in_default c = scans_empty _ _ c.in_default.ensures
+returns-in_default c = scans_at None (none_walked c.in_default.ensures) c.in_default.ensures.1 refl
 
 pub returns-then-not-is_token : goal.returns-then-not-is_token
-returns-then-not-is_token c = scans_type_first _ _ _ c.in-Some.ensures (sym c.is_token.ensures ∙ c.if-not-is_token.true)
+returns-then-not-is_token c =
+    scans_at None (none_walked c.in-Some.ensures) (cond-false _ _ _ (sym c.is_token.ensures ∙ c.if-not-is_token.true)) refl
 
 pub returns-in-None : goal.returns-in-None
 returns-in-None c =
-    scans_type_end _ _ _ _ c.in-Some.ensures (sym c.is_token.ensures ∙ c.if-not-is_token.false) c.in-None.ensures
+    scans_at None (type_walked c.in-Some.ensures (sym c.is_token.ensures ∙ c.if-not-is_token.false) c.in-None.ensures)
+    c.in-None.ensures.stopped refl
 
 pub returns-in-Some-token : goal.returns-in-Some-token
 returns-in-Some-token c =
-    scans_type_stop _ _ _ _ _ c.in-Some.ensures (sym c.is_token.ensures ∙ c.if-not-is_token.false) c.in-Some-token.ensures
-    c.in-Some-token.byte-test.1
+    scans_at None (type_walked c.in-Some.ensures (sym c.is_token.ensures ∙ c.if-not-is_token.false) c.in-Some-token.ensures)
+    (cond-false _ _ _ c.in-Some-token.ensures.stopped ∙ cond-false _ _ _ (ne_eqb _ slash_byte c.in-Some-token.byte-test.1)) refl
 
--- behind the slash
-slashed : (c : After-count) → Slashed (c.count.result - c.count-from.result - 1) c.args.reader.now c.token.new.reader
+-- the slash after the type, and its position
+slashed : (c : After-count)
+    → Reaches (in_type []) c.args.reader.now c.token.new.reader None (in_subtype (c.in-Some.first ∷ c.in-Some-eq47.ensures.run) [])
 slashed c =
-    slashed_from _ _ _ _ _ _ c.in-Some.ensures (sym c.is_token.ensures ∙ c.if-not-is_token.false) c.in-Some-eq47.ensures
-    c.in-Some-eq47.field-0-test (omega (arith, c.count.ensures.count, c.count-from.ensures.count))
+    reaches_byte (type_walked c.in-Some.ensures (sym c.is_token.ensures ∙ c.if-not-is_token.false) c.in-Some-eq47.ensures)
+    (cond-false _ _ _ c.in-Some-eq47.ensures.stopped ∙ cond-true _ _ _ (eq-eqb _ slash_byte c.in-Some-eq47.field-0-test))
+
+slash_is : (c : After-count) → c.count.result - c.count-from.result - 1 ≡ length (c.in-Some.first ∷ c.in-Some-eq47.ensures.run)
+slash_is c =
+    omega (arith, c.count.ensures.count, c.count-from.ensures.count, c.in-Some.ensures.0.counted, c.in-Some-eq47.ensures.given.counted)
+
+-- what is counted and left after the slash
+slash_sum : (c : After-count)
+    → c.token.new.reader.count + length c.token.new.reader.left ≡ c.args.reader.now.count + length c.args.reader.now.left
+slash_sum c = given_sum c.in-Some-eq47.ensures.given ∙ given_sum c.in-Some.ensures.0
 
 pub overflow_cast-places : goal.overflow_cast-places
 overflow_cast-places c =
-    omega (arith, c.count-from.ensures.fits, c.count-from.ensures.count, c.count.ensures.count, given_sum _ _ _ _ c.in-Some.ensures.0, given_sum _ _ _ _ c.in-Some-eq47.ensures.given)
+    let sum = slash_sum (goal.at.overflow_cast-places c).After-count in
+    omega (arith, sum, c.count-from.ensures.fits, c.count-from.ensures.count, c.count.ensures.count)
 
 pub returns-in_default-next : goal.returns-in_default-next
 returns-in_default-next c =
-    scans_slash_end _ _ _ _ (slashed (goal.at.returns-in_default-next c).After-count) c.in_default-next.ensures
+    let here = (goal.at.returns-in_default-next c).After-count in
+    scans_at (Some _) (reaches_run (slashed here) c.in_default-next.ensures.0 refl) c.in_default-next.ensures.1
+    (ap (λ slash. Some (essence_places slash None)) (slash_is here))
 
 pub returns-then-not-is_token-2 : goal.returns-then-not-is_token-2
 returns-then-not-is_token-2 c =
-    scans_slash_stop _ _ _ _ _ (slashed (goal.at.returns-then-not-is_token-2 c).After-count) c.in-Some-next.ensures
-    (sym c.is_token-2.ensures ∙ c.if-not-is_token-2.true)
+    let here = (goal.at.returns-then-not-is_token-2 c).After-count in
+    scans_at (Some _) (reaches_run (slashed here) c.in-Some-next.ensures.0 refl)
+    (cond-false _ _ _ (sym c.is_token-2.ensures ∙ c.if-not-is_token-2.true))
+    (ap (λ slash. Some (essence_places slash None)) (slash_is here))
 
 pub subtype-plus-requires-clause-fits : goal.subtype-plus-requires-clause-fits
 subtype-plus-requires-clause-fits c =
-    omega (arith, c.count-from.ensures.fits, c.count-from.ensures.count, given_sum _ _ _ _ c.in-Some.ensures.0, given_sum _ _ _ _ c.in-Some-eq47.ensures.given, given_sum _ _ _ _ c.in-Some-next.ensures.0)
+    let sum = slash_sum (goal.at.subtype-plus-requires-clause-fits c).After-count in
+    omega (arith, sum, given_sum c.in-Some-next.ensures.0, c.count-from.ensures.fits, c.count-from.ensures.count)
 
--- behind the subtype
-subtyped : (c : After-subtype-plus) → Slashed (c.count.result - c.count-from.result - 1) c.args.reader.now c.token.new.reader
-    → Subtyped (c.count.result - c.count-from.result - 1) c.subtype-plus.result.0 c.args.reader.now c.subtype-plus.new.reader
-    c.subtype-plus.result.1
-subtyped c s =
-    subtyped_from _ _ _ _ _ _ _ _ s c.in-Some-next.ensures (sym c.is_token-2.ensures ∙ c.if-not-is_token-2.false)
-    c.count-from.ensures.count c.subtype-plus.ensures
+-- the subtype
+subtyped : (c : After-subtype-plus)
+    → Reaches (in_type []) c.args.reader.now c.token.new.reader None (in_subtype (c.in-Some.first ∷ c.in-Some-eq47.ensures.run) [])
+    → Subtyped (c.in-Some.first ∷ c.in-Some-eq47.ensures.run) c.in-Some-next.first c.subtype-plus.result.0 c.args.reader.now
+    c.subtype-plus.new.reader c.subtype-plus.result.1
+subtyped c slash =
+    let first = c.in-Some.ensures.0.counted in
+    let others = c.in-Some-eq47.ensures.given.counted in
+    let next = c.in-Some-next.ensures.0.counted in
+    record {
+      others = c.subtype-plus.ensures.passes.run;
+      walked =
+          subtype_walked slash c.in-Some-next.ensures (sym c.is_token-2.ensures ∙ c.if-not-is_token-2.false) c.subtype-plus.ensures.passes;
+      stopped = c.subtype-plus.ensures.passes.stopped;
+      plussed =
+          c.subtype-plus.ensures.plus
+          ∙ ap (λ at. last_plus at c.subtype-plus.ensures.passes.run)
+          (omega (arith, first, others, next, c.count-from.ensures.count));
+      counted = omega (arith, first, others, next, c.subtype-plus.ensures.passes.given.counted);
+    }
 
 pub returns-in-None-stop : goal.returns-in-None-stop
 returns-in-None-stop c =
     let here = goal.at.returns-in-None-stop c in
-    scans_subtype_end _ _ _ _ _ (subtyped here.After-subtype-plus (slashed here.After-count)) c.in-None-stop.is
+    let s = rw c.in-None-stop.is at (subtyped here.After-subtype-plus (slashed here.After-count)) in
+    scans_at (Some _) s.walked s.stopped
+    (ap Some (essence_is _ _ (c.in-Some.first ∷ c.in-Some-eq47.ensures.run) s.others (slash_is here.After-count) s.plussed))
 
 pub returns-in-Some-stop : goal.returns-in-Some-stop
 returns-in-Some-stop c =
     let here = goal.at.returns-in-Some-stop c in
-    scans_subtype_stop _ _ _ _ _ _ (subtyped here.After-subtype-plus (slashed here.After-count)) c.in-Some-stop.is
-    (rw c.in-Some-stop.is at c.in-Some-stop.byte-test.1)
+    let s = rw c.in-Some-stop.is at (subtyped here.After-subtype-plus (slashed here.After-count)) in
+    scans_at (Some _) s.walked
+    (cond-false _ _ _ s.stopped ∙ cond-false _ _ _ (ne_eqb _ semicolon_byte (rw c.in-Some-stop.is at c.in-Some-stop.byte-test.1)))
+    (ap Some (essence_is _ _ (c.in-Some.first ∷ c.in-Some-eq47.ensures.run) s.others (slash_is here.After-count) s.plussed))
 
--- a place behind the subtype, and all that is left there, fit
+-- what is counted and left after the subtype
+subtype_sum : (c : After-subtype-plus)
+    → c.subtype-plus.new.reader.count + length c.subtype-plus.new.reader.left ≡ c.args.reader.now.count + length c.args.reader.now.left
+subtype_sum c =
+    given_sum c.subtype-plus.ensures.passes.given ∙ given_sum c.in-Some-next.ensures.0
+    ∙ given_sum c.in-Some-eq47.ensures.given ∙ given_sum c.in-Some.ensures.0
+
 pub overflow_cast-places-2 : goal.overflow_cast-places-2
 overflow_cast-places-2 c =
-    omega (arith, c.count-from.ensures.fits, c.count-from.ensures.count, c.count-2.ensures.count, given_sum _ _ _ _ c.in-Some.ensures.0, given_sum _ _ _ _ c.in-Some-eq47.ensures.given, given_sum _ _ _ _ c.in-Some-next.ensures.0, given_sum _ _ _ _ c.subtype-plus.ensures.passes.given)
+    let sum = subtype_sum (goal.at.overflow_cast-places-2 c).After-subtype-plus in
+    omega (arith, sum, c.count-from.ensures.fits, c.count-from.ensures.count, c.count-2.ensures.count)
 
 pub parameters-requires : goal.parameters-requires
 parameters-requires c =
-    omega (arith, c.count-from.ensures.fits, c.count-from.ensures.count, given_sum _ _ _ _ c.in-Some.ensures.0, given_sum _ _ _ _ c.in-Some-eq47.ensures.given, given_sum _ _ _ _ c.in-Some-next.ensures.0, given_sum _ _ _ _ c.subtype-plus.ensures.passes.given)
+    let sum = subtype_sum (goal.at.parameters-requires c).After-subtype-plus in
+    omega (arith, sum, c.count-from.ensures.fits, c.count-from.ensures.count)
 
 pub returns : goal.returns
 returns c =
     let here = goal.at.returns c in
-    let place : c.count-2.result - c.count-from.result - 1 ≡ c.subtype-plus.new.reader.count - c.args.reader.now.count - 1 =
-    omega (arith, c.count-2.ensures.count, c.count-from.ensures.count)
-    in
-    scans_list _ _ _ _ _ _ _ _ _ (subtyped here.After-subtype-plus (slashed here.After-count)) c.in-Some-eq59.is
-    (rw c.in-Some-eq59.field-0-is at c.in-Some-eq59.field-0-test) place c.parameters.ensures
+    let s = rw c.in-Some-eq59.is at (subtyped here.After-subtype-plus (slashed here.After-count)) in
+    let sub = c.in-Some-next.first ∷ s.others in
+    scans_list
+    (reaches_byte s.walked
+    (cond-false _ _ _ s.stopped ∙ cond-true _ _ _ (eq-eqb _ semicolon_byte (rw c.in-Some-eq59.field-0-is at c.in-Some-eq59.field-0-test))))
+    (ap (λ (places : Places). record places { semicolon = Some (c.count-2.result - c.count-from.result - 1) })
+    (essence_is _ _ (c.in-Some.first ∷ c.in-Some-eq47.ensures.run) s.others (slash_is here.After-count) s.plussed)
+    ∙ ap (λ (at : ℕ). record (head_places (c.in-Some.first ∷ c.in-Some-eq47.ensures.run) sub) { semicolon = Some at })
+    (omega (arith, s.counted, c.count-2.ensures.count, c.count-from.ensures.count)))
+    c.parameters.ensures

@@ -1,8 +1,8 @@
 -- One byte more of the class was passed.
 use Rattle.std.proofs.Common.{sym, ◌∙◌}
-use Rattle.mime.specs.Grammar.{is_space}
 use Rattle.mime.proofs.Passing.{passing_more}
 use Rattle.mime.proofs.scan.spaces.Goals as goal
 
 pub loop-byte-preserved : goal.loop-byte-preserved
-loop-byte-preserved c = passing_more is_space _ _ _ _ c.loop-byte.invariant c.in-Some.ensures (sym c.is_space.ensures ∙ c.if-not-is_space.false)
+loop-byte-preserved c =
+    passing_more c.loop-byte.invariant c.in-Some.ensures (sym c.is_space.ensures ∙ c.if-not-is_space.false)

@@ -1,3 +1,4 @@
+-- The spaces so far.
 use Rattle.std.proofs.Common.{length}
 use Rattle.mime.specs.Grammar.{is_space}
 use Rattle.mime.proofs.Passing.{Passing}

@@ -1,3 +1,4 @@
+-- The token bytes so far.
 use Rattle.std.proofs.Common.{length}
 use Rattle.mime.specs.Bytes.{is_token_byte}
 use Rattle.mime.proofs.Passing.{Passing}

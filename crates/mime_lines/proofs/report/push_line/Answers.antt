@@ -2,7 +2,7 @@
 use Rattle.std.proofs.Common.{subst, ◌∙◌, ◌++◌, codes, OnOk, string_bytes, ◌≡◌}
 use Rattle.mime.specs.Values.{Reads}
 use Rattle.mime.specs.Refusals.{Explains}
-use Rattle.mime.specs.Faults.{error_text}
+use Rattle.mime.specs.Printed.{error_text}
 use Rattle.mime_lines.specs.Report.{row}
 use Rattle.mime_lines.specs.Report.ReportsLine.{not_text, read, refused}
 use Rattle.mime_lines.proofs.Rows.{reported, fault-explained}

@@ -1,25 +1,25 @@
 -- The subtype lies between characters of the essence, and is small.
-use Rattle.std.proofs.Common.{refl, ap, sym, ◌∙◌, subst}
-use Rattle.std.specs.Str.{IsCharBoundary}
-use Rattle.mime.proofs.PartLaws.{stored-subtype_start, stored-subtype_end, stored-low_range}
+use Rattle.std.proofs.Common.{refl, ap, sym, ◌∙◌}
+use Rattle.mime.proofs.KeptText.{reads-from_kept}
+use Rattle.mime.proofs.Parts.{subtype_start, subtype_end, read-low_essence, low_take, low_drop}
 use Rattle.mime.proofs.value.Mime.subtype.Goals as goal
 
 pub range-requires-clause-start_le_end : goal.range-requires-clause-start_le_end
 range-requires-clause-start_le_end c =
     let is = c.essence_str-essence.ensures ∙ ap (λ kept. kept.media.essence) (sym c.self.view_is) in
-    rw c.unwrap_or-end.ensures (stored-subtype_end _ _ _ _ c.self.invariant is refl).0
+    rw c.unwrap_or-end.ensures (subtype_end _ _ _ _ (reads-from_kept _ _ c.self.invariant) is refl).0
 
 pub range-requires-clause-start_boundary : goal.range-requires-clause-start_boundary
 range-requires-clause-start_boundary c = λ _.
-    stored-subtype_start _ _ _ c.self.invariant c.essence_str-essence.utf8
-    (c.essence_str-essence.ensures ∙ ap (λ kept. kept.media.essence) (sym c.self.view_is))
+    let is = c.essence_str-essence.ensures ∙ ap (λ kept. kept.media.essence) (sym c.self.view_is) in
+    subtype_start _ _ _ (reads-from_kept _ _ c.self.invariant) is c.essence_str-essence.utf8
 
 pub range-requires-clause-end_boundary : goal.range-requires-clause-end_boundary
 range-requires-clause-end_boundary c =
     let is = c.essence_str-essence.ensures ∙ ap (λ kept. kept.media.essence) (sym c.self.view_is) in
-    subst (IsCharBoundary c.essence_str-essence.result.now) (sym c.unwrap_or-end.ensures) (stored-subtype_end _ _ _ _ c.self.invariant is refl).1
+    rw c.unwrap_or-end.ensures (subtype_end _ _ _ _ (reads-from_kept _ _ c.self.invariant) is refl).1
 
 pub returns-clause-low : goal.returns-clause-low
 returns-clause-low c =
     let is = c.essence_str-essence.ensures ∙ ap (λ kept. kept.media.essence) (sym c.self.view_is) in
-    rw c.range.ensures.value (stored-low_range _ _ _ _ _ c.self.invariant is)
+    rw (c.range.ensures.value, is) (low_take _ _ (low_drop _ _ (read-low_essence _ _ (reads-from_kept _ _ c.self.invariant))))

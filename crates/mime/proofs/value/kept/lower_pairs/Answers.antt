@@ -1,6 +1,6 @@
 -- Each turn lowers the first pair of what is left.
-use Rattle.std.proofs.Common.{◌-◌, arith}
-use Rattle.mime.proofs.RangeLaws.{lowered_to-none, lowered_to-more, lowered_to-all}
+use Rattle.std.proofs.Common.{◌-◌, length, ap, arith, length-append}
+use Rattle.mime.proofs.Ranges.{lowered_to-none, lowered_to-more, lowered_to-all}
 use Rattle.mime.proofs.value.kept.lower_pairs.Goals as goal
 
 pub loop-init : goal.loop-init
@@ -10,7 +10,7 @@ loop-init c = record {
 }
 
 pub overflow_sub-from : goal.overflow_sub-from
-overflow_sub-from c = c.loop.invariant.lowered.size
+overflow_sub-from c = omega (arith, ap length c.loop.invariant.lowered.parts, length-append c.loop.invariant.lowered.done c.loop.left.now)
 
 pub lower_first-left-requires-text-list : goal.lower_first-left-requires-text-list
 lower_first-left-requires-text-list c = λ _. c.loop.invariant.utf8
@@ -19,8 +19,8 @@ pub loop-preserved : goal.loop-preserved
 loop-preserved c = record {
   utf8 = c.lower_first-left.utf8;
   lowered =
-      lowered_to-more c.loop.bytes c.loop.left.now c.lower_first-left.new.bytes c.lower_first-left.result.now _ _ _
-      c.loop.invariant.lowered (let more = c.loop-test.true in omega arith) c.lower_first-left.ensures.lowered c.lower_first-left.ensures.rest;
+      lowered_to-more c.loop.bytes c.loop.left.now c.lower_first-left.new.bytes c.lower_first-left.result.now _ _ _ c.loop.invariant.lowered
+      (omega (arith, c.loop-test.true)) c.lower_first-left.ensures.lowered c.lower_first-left.ensures.rest;
 }
 
 pub returns : goal.returns

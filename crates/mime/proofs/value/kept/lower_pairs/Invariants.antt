@@ -1,8 +1,8 @@
--- The pairs so far are lowered, and the list that is left stands behind them.
+-- The pairs so far are lowered, and the list that is left stands after them.
 use Rattle.std.proofs.Common.{◌-◌}
 use Rattle.std.specs.Str.{IsUtf8}
 use Rattle.mime.specs.Pairs.{lowered_within}
-use Rattle.mime.proofs.RangeLaws.{IsLoweredTo}
+use Rattle.mime.proofs.Ranges.{IsLoweredTo}
 use Rattle.mime.proofs.value.kept.lower_pairs.Given as goal
 
 abbrev pub invariant-loop : goal.invariant-loop

@@ -1,4 +1,4 @@
--- A quote is ASCII: the text may be cut behind it.
+-- A quote is ASCII: the text may be cut after it.
 use Rattle.std.proofs.Common.{◌≡◌, ◌<◌, length, get_or, arith}
 use Rattle.std.proofs.lemmas.Bool.Decides.{nat_tests}
 use Rattle.std.proofs.lemmas.Str.{IsCharBoundary-after_ascii}

@@ -1,20 +1,13 @@
--- A space is ASCII: the list may be cut behind it.
-use Rattle.std.proofs.Common.{◌≡◌, ◌<◌, length, get_or, true, ℕ, arith}
-use Rattle.std.proofs.lemmas.Str.{IsCharBoundary-start, IsCharBoundary-after_ascii}
-use Rattle.std.proofs.lemmas.List.Sums.{prefix_len-drop_yes}
+-- A space is ASCII: the list may be cut after it.
+use Rattle.std.proofs.Common.{◌≡◌, ◌<◌, length, get_or, true, arith}
 use Rattle.std.proofs.lemmas.Bool.Decides.{nat_tests}
+use Rattle.std.proofs.lemmas.List.Sums.{prefix_len-drop_yes}
+use Rattle.std.proofs.lemmas.Str.{IsCharBoundary-start, IsCharBoundary-after_ascii}
 use Rattle.mime.specs.Grammar.{is_space}
 use Rattle.mime.proofs.value.pairs.gap_of.Goals as goal
 
--- a space is ASCII
-space-lt : (b : ℕ) → is_space b ≡ true → b < 128
-space-lt b space = grind (arith, nat_tests)
-
 pub loop-gap-init : goal.loop-gap-init
-loop-gap-init c = record {
-  passed = omega arith;
-  border = IsCharBoundary-start c.args.list.now c.utf8.list;
-}
+loop-gap-init c = record { passed = omega arith; border = IsCharBoundary-start c.args.list.now c.utf8.list }
 
 pub loop-gap-preserved : goal.loop-gap-preserved
 loop-gap-preserved c =
@@ -22,10 +15,7 @@ loop-gap-preserved c =
     let gap = c.loop-gap.gap in
     let within : gap < length list = omega arith in
     let space : is_space (get_or list gap 0) ≡ true = cc in
-    let ascii : get_or list gap 0 < 128 = space-lt _ space in
     record {
-      passed =
-          let more = prefix_len-drop_yes is_space list gap 0 within space in
-          omega (arith, more);
-      border = IsCharBoundary-after_ascii list gap c.utf8.list within (omega arith);
+      passed = omega (arith, prefix_len-drop_yes is_space list gap 0 within space);
+      border = IsCharBoundary-after_ascii list gap c.utf8.list within (grind (arith, nat_tests, space));
     }

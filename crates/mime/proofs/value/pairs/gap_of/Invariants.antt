@@ -1,7 +1,7 @@
--- The bytes so far are spaces, and the list may be cut behind them.
+-- The bytes so far are spaces, and the list may be cut after them.
 use Rattle.std.proofs.Common.{◌≡◌, ◌+◌, ◌-◌, length, drop}
 use Rattle.std.specs.Str.{IsCharBoundary}
-use Rattle.mime.specs.Pairs.{gap_of as spaces_before}
+use Rattle.mime.specs.Pairs.{leading_spaces as spaces_before}
 use Rattle.mime.proofs.value.pairs.gap_of.Given as goal
 
 abbrev pub invariant-loop-gap : goal.invariant-loop-gap

@@ -1,6 +1,6 @@
--- The first place from here on is the first from where the search began.
+-- The first position from here on is the first from where the search began.
 use Rattle.std.proofs.Common.{◌≡◌, ◌-◌, length}
-use Rattle.mime.specs.Pairs.{place_from as place_of}
+use Rattle.mime.specs.Pairs.{first_place as place_of}
 use Rattle.mime.proofs.value.pairs.place_from.Given as goal
 
 abbrev pub invariant-loop-place : goal.invariant-loop-place

@@ -1,4 +1,4 @@
--- A quote is ASCII: the text may be cut before it and behind it.
+-- A quote is ASCII: the text may be cut before it and after it.
 use Rattle.mime.proofs.Quoted.{IsCharBoundary-content, IsCharBoundary-behind_content}
 use Rattle.mime.proofs.value.pairs.split_content.Goals as goal
 

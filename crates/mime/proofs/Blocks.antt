@@ -4,7 +4,7 @@ use Rattle.std.proofs.lemmas.Bool.Decides.{nat_tests}
 use Rattle.std.proofs.lemmas.List.{take-append-drop, take_rest, take-take}
 use Rattle.std.proofs.lemmas.Nat.{le_or_l, le_or_r}
 use Rattle.mime.specs.Values.{lowered}
-use Rattle.mime.proofs.LoweringLaws.{lowered-take, lowered-drop}
+use Rattle.mime.proofs.Lowering.{lowered-take, lowered-drop}
 
 -- two numbers have no bit together exactly where neither has one
 pub together : (n m : ℕ) (P Q Whole : Type 0) → (n ≡ 0) ↔ P → (m ≡ 0) ↔ Q → (P → Q → Whole) → (Whole → P × Q) → (bit_or n m ≡ 0) ↔ Whole
@@ -31,19 +31,18 @@ pub of_block : (n : ℕ) (a b : List ℕ) (from count block : ℕ) → count ≡
 of_block n a b from count block is = moved n _ _ _ _ (lowering a) (lowering b)
   where
     lowering : (text : List ℕ) → lowered (take count (drop from text)) ≡ take block (drop from (lowered text))
-    lowering text = ap (λ k. lowered (take k (drop from text))) is ∙ lowered-take block (drop from text) ∙ ap (take block) (lowered-drop from text)
-
--- of the first block
-pub of_first : (n : ℕ) (a b : List ℕ) (block : ℕ) → (n ≡ 0) ↔ (lowered (take block a) ≡ lowered (take block b))
-    → (n ≡ 0) ↔ (take block (lowered a) ≡ take block (lowered b))
-of_first n a b block = moved n _ _ _ _ (lowered-take block a) (lowered-take block b)
+    lowering text = rw is (lowered-take block (drop from text) ∙ ap (take block) (lowered-drop from text))
 
 -- and of the last one
-pub of_last : (n : ℕ) (a b : List ℕ) (from : ℕ) → (n ≡ 0) ↔ (lowered (take (length a - from) (drop from a)) ≡ lowered (take (length b - from) (drop from b)))
+pub of_last : (n : ℕ) (a b : List ℕ) (from : ℕ)
+    → (n ≡ 0) ↔ (lowered (take (length a - from) (drop from a)) ≡ lowered (take (length b - from) (drop from b)))
     → (n ≡ 0) ↔ (drop from (lowered a) ≡ drop from (lowered b))
-of_last n a b from = moved n _ _ _ _ (ap lowered (take_rest a from) ∙ lowered-drop from a) (ap lowered (take_rest b from) ∙ lowered-drop from b)
+of_last n a b from = moved n _ _ _ _ (ending a) (ending b)
+  where
+    ending : (text : List ℕ) → lowered (take (length text - from) (drop from text)) ≡ drop from (lowered text)
+    ending text = ap lowered (take_rest text from) ∙ lowered-drop from text
 
--- texts that are the same up to a place, and from there or before on, are the same
+-- texts that are the same up to a position, and from there or before on, are the same
 pub lapped : (a b : List ℕ) (n last : ℕ) → last ≤ n → take n a ≡ take n b → drop last a ≡ drop last b → a ≡ b
 lapped a b n last behind front back =
     let shorter : take last a ≡ take last b = sym (take-take last n a behind) ∙ ap (take last) front ∙ take-take last n b behind in

@@ -1,8 +1,8 @@
 -- How a refusal is printed.
 use Rattle.std.specs.Prelude.{ℕ, true, List, ◌++◌, codes}
 use Rattle.std.specs.Fmt.{digits, decimal}
-use Rattle.mime.specs.declared.scan.ParseError.{ParseError}
-use Rattle.mime.specs.declared.scan.ParseError.TheVariants.{MissingSlash, MissingEqual, MissingQuote, InvalidToken, NoMemory}
+use Rattle.mime.specs.declared.scan.fault.ParseError.{ParseError}
+use Rattle.mime.specs.declared.scan.fault.ParseError.TheVariants.{MissingSlash, MissingEqual, MissingQuote, InvalidToken, NoMemory}
 
 -- a byte in capital hexadecimal without leading zeros, and its place in decimal
 abbrev pub token_text : ℕ → ℕ → List ℕ

@@ -1,4 +1,4 @@
--- Private. How a value is stored: its kept text with the places of its parts.
+-- Private. The kept text of a value, with the places of its parts.
 use Rattle.std.specs.Prelude.{◌≡◌, ℕ, zero, suc, ◌+◌, List, [], ◌∷◌, ◌++◌, length, take, drop, Option, Some, None, unwrap_or, IsTrue}
 use Rattle.mime.specs.Grammar.{Tail, no_list, listed, blank, final, more, SyntaxTree, text_of, IsWellFormed}
 use Rattle.mime.specs.Values.{MediaType, lowered, is_charset, lowered_tree}
@@ -29,7 +29,7 @@ HoldsParameter (listed (final n parameter)) = Unit {0}
 HoldsParameter (listed (more n parameter rest)) = Unit {0}
 
 -- a text as it is kept: that of a well-formed tree which is its own lowering, without an empty list
-pub record IsStored (text : List ℕ) (places : Places) : Type 0 where
+pub record IsKept (text : List ℕ) (places : Places) : Type 0 where
   pub tree : SyntaxTree
   pub well_formed : IsWellFormed tree
   pub low : lowered_tree tree ≡ tree
@@ -46,11 +46,11 @@ abbrev pub kept_places : Places → Places
 kept_places places = record places { semicolon = kept_semicolon places.pairs places.semicolon }
 
 -- the kept text of an accepted text with these places
-abbrev pub lowered_text : ℕ → Option ℕ → List ℕ → List ℕ
-lowered_text zero None text = lowered text
-lowered_text zero (Some semicolon) text = lowered (take semicolon text)
-lowered_text (suc pairs) None text = lowered text
-lowered_text (suc pairs) (Some semicolon) text =
+abbrev pub kept_text_of : ℕ → Option ℕ → List ℕ → List ℕ
+kept_text_of zero None text = lowered text
+kept_text_of zero (Some semicolon) text = lowered (take semicolon text)
+kept_text_of (suc pairs) None text = lowered text
+kept_text_of (suc pairs) (Some semicolon) text =
     lowered (take (semicolon + 1) text) ++ lowered_within (suc pairs) (drop (semicolon + 1) text)
 
 -- a pair as it is kept: its name is small, and its value is where the name is `charset`

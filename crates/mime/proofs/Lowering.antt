@@ -1,17 +1,17 @@
--- What lowering leaves as it is: lengths, cuts, classes of bytes, places; and that twice is once.
-use Rattle.std.proofs.Common.{◌≡◌, ℕ, ◌+◌, Bool, true, false, cond, List, [], ◌∷◌, ◌++◌, length, take, drop, refl, sym, ap, arith}
+-- What lowering leaves as it is: lengths, cuts, classes of bytes, places; and lowering twice is lowering once.
+use Rattle.std.proofs.Common.{◌≡◌, ℕ, ◌+◌, true, false, cond, List, [], ◌∷◌, ◌++◌, length, take, drop, refl, sym, ap, ◌∙◌, arith}
 use Rattle.std.specs.Prelude.{◌==◌}
-use Rattle.std.specs.List.{list_all}
 use Rattle.std.specs.Char.{to_ascii_lowercase}
-use Rattle.std.proofs.lemmas.Bool.{and_parts, and_from}
 use Rattle.std.proofs.lemmas.Bool.Decides.{nat_tests}
 use Rattle.std.proofs.lemmas.List.{map-append, length-map, take-map, drop-map}
+use Rattle.std.proofs.lemmas.List.Folds.{list_all-map}
 use Rattle.std.proofs.lemmas.Str.Ascii.{lowercase-lowercase}
 use Rattle.mime.specs.Bytes.{is_token_byte}
 use Rattle.mime.specs.Grammar.{Parameter, plain, quoted, Parameters, blank, final, more, Tail, no_list, listed, SyntaxTree, AreTokenBytes, IsToken, IsContent, IsInnerParameter, IsFinalParameter, AreParameters, AreSubtypeAndTail, IsWellFormed}
 use Rattle.mime.specs.Values.{lowered, is_charset, lowered_value, lowered_parameter, lowered_list, lowered_tail, lowered_tree, last_plus, pairs_of_list, pairs_of_tail}
-use Rattle.mime.proofs.Quoted.{IsContent-lowered}
 use Rattle.mime.specs.Scanning.{places_of, semicolon_of}
+use Rattle.mime.proofs.Quoted.{IsContent-lowered}
+use Rattle.mime.proofs.Classes.{list_all-wider}
 
 -- twice is once
 pub lowered-lowered : (text : List ℕ) → lowered (lowered text) ≡ lowered text
@@ -26,30 +26,24 @@ length-lowered text = length-map text to_ascii_lowercase
 pub lowered-append : (front back : List ℕ) → lowered (front ++ back) ≡ lowered front ++ lowered back
 lowered-append front back = map-append to_ascii_lowercase front back
 
--- so is what stands before a place
+-- so is what stands before a position
 pub lowered-take : (n : ℕ) (text : List ℕ) → lowered (take n text) ≡ take n (lowered text)
 lowered-take n text = sym (take-map to_ascii_lowercase n text)
 
--- and what stands behind it
+-- and what stands after it
 pub lowered-drop : (n : ℕ) (text : List ℕ) → lowered (drop n text) ≡ drop n (lowered text)
 lowered-drop n text = sym (drop-map to_ascii_lowercase n text)
 
--- the classes keep small letters with the capitals
-pub is_token_byte-lowercase : (b : ℕ) → is_token_byte b ≡ true → is_token_byte (to_ascii_lowercase b) ≡ true
+-- a token byte stays one
+is_token_byte-lowercase : (b : ℕ) → is_token_byte b ≡ true → is_token_byte (to_ascii_lowercase b) ≡ true
 unfolding is_token_byte
 is_token_byte-lowercase b member = grind (arith, nat_tests)
 
--- a list of a class that keeps small letters with the capitals keeps it when it is lowered
-list_all-lowered : (class : ℕ → Bool) → ((b : ℕ) → class b ≡ true → class (to_ascii_lowercase b) ≡ true)
-    → (bytes : List ℕ) → list_all class bytes ≡ true → list_all class (lowered bytes) ≡ true
-list_all-lowered class keeps [] all = refl
-list_all-lowered class keeps (b ∷ bytes) all =
-    let parts = and_parts (class b) (list_all class bytes) all in
-    and_from (class (to_ascii_lowercase b)) (list_all class (lowered bytes)) (keeps b parts.0) (list_all-lowered class keeps bytes parts.1)
-
 -- lowered token bytes are token bytes
 pub AreTokenBytes-lowered : (bytes : List ℕ) → AreTokenBytes bytes → AreTokenBytes (lowered bytes)
-AreTokenBytes-lowered bytes all = list_all-lowered is_token_byte is_token_byte-lowercase bytes all
+AreTokenBytes-lowered bytes all =
+    list_all-map is_token_byte to_ascii_lowercase bytes
+    ∙ list_all-wider is_token_byte (λ b. is_token_byte (to_ascii_lowercase b)) is_token_byte-lowercase bytes all
 
 -- a lowered token is a token
 pub IsToken-lowered : (bytes : List ℕ) → IsToken bytes → IsToken (lowered bytes)
@@ -63,41 +57,36 @@ lowered_value-either P name value same small =
 
 -- a parameter before a semicolon stays well formed
 IsInnerParameter-lowered : (p : Parameter) → IsInnerParameter p → IsInnerParameter (lowered_parameter p)
-IsInnerParameter-lowered (plain name value) well =
-    (IsToken-lowered name well.0, lowered_value-either IsToken name value well.1 (IsToken-lowered value well.1))
-IsInnerParameter-lowered (quoted name content n) well =
-    (IsToken-lowered name well.0, lowered_value-either IsContent name content well.1 (IsContent-lowered content well.1), well.2)
+IsInnerParameter-lowered (plain name value) (named, token) =
+    (IsToken-lowered name named, lowered_value-either IsToken name value token (IsToken-lowered value token))
+IsInnerParameter-lowered (quoted name content n) (named, is, white) =
+    (IsToken-lowered name named, lowered_value-either IsContent name content is (IsContent-lowered content is), white)
 
 -- so does one at the end of the text
 IsFinalParameter-lowered : (p : Parameter) → IsFinalParameter p → IsFinalParameter (lowered_parameter p)
-IsFinalParameter-lowered (plain name value) well =
-    (IsToken-lowered name well.0, lowered_value-either AreTokenBytes name value well.1 (AreTokenBytes-lowered value well.1))
-IsFinalParameter-lowered (quoted name content n) well =
-    (IsToken-lowered name well.0, lowered_value-either IsContent name content well.1 (IsContent-lowered content well.1), well.2)
+IsFinalParameter-lowered (plain name value) (named, all) =
+    (IsToken-lowered name named, lowered_value-either AreTokenBytes name value all (AreTokenBytes-lowered value all))
+IsFinalParameter-lowered (quoted name content n) well = IsInnerParameter-lowered (quoted name content n) well
 
 -- so does a parameter list
 AreParameters-lowered : (list : Parameters) → AreParameters list → AreParameters (lowered_list list)
-AreParameters-lowered (blank n) well = well
-AreParameters-lowered (final n p) well = (well.0, IsFinalParameter-lowered p well.1)
-AreParameters-lowered (more n p rest) well = (well.0, IsInnerParameter-lowered p well.1, AreParameters-lowered rest well.2)
+AreParameters-lowered (blank n) white = white
+AreParameters-lowered (final n p) (white, well) = (white, IsFinalParameter-lowered p well)
+AreParameters-lowered (more n p rest) (white, well, others) = (white, IsInnerParameter-lowered p well, AreParameters-lowered rest others)
 
 -- so does a subtype with what follows it
 AreSubtypeAndTail-lowered : (sub : List ℕ) (tail : Tail) → AreSubtypeAndTail sub tail → AreSubtypeAndTail (lowered sub) (lowered_tail tail)
-AreSubtypeAndTail-lowered sub no_list well = AreTokenBytes-lowered sub well
-AreSubtypeAndTail-lowered sub (listed list) well = (IsToken-lowered sub well.0, AreParameters-lowered list well.1)
+AreSubtypeAndTail-lowered sub no_list all = AreTokenBytes-lowered sub all
+AreSubtypeAndTail-lowered sub (listed list) (token, well) = (IsToken-lowered sub token, AreParameters-lowered list well)
 
 -- a lowered tree is well formed
 pub IsWellFormed-lowered_tree : (tree : SyntaxTree) → IsWellFormed tree → IsWellFormed (lowered_tree tree)
 IsWellFormed-lowered_tree tree well = (IsToken-lowered tree.top well.0, AreSubtypeAndTail-lowered tree.sub tree.tail well.1)
 
--- a name is `charset` exactly where its lowering is
-pub is_charset-lowered : (name : List ℕ) → is_charset (lowered name) ≡ is_charset name
-is_charset-lowered name = rw (lowered-lowered name)
-
 -- a kept value is its own lowering
 pub lowered_value-lowered : (name value : List ℕ) → lowered_value (lowered name) (lowered_value name value) ≡ lowered_value name value
 lowered_value-lowered name value =
-    rw (is_charset-lowered name)
+    rw (lowered-lowered name)
     (elim (is_charset name) as
     (λ b. cond b (lowered (cond b (lowered value) value)) (cond b (lowered value) value) ≡ cond b (lowered value) value)
     [ true ↦ lowered-lowered value | false ↦ refl ])
@@ -108,7 +97,7 @@ lowered_parameter-lowered (plain name value) = cc (lowered-lowered name, lowered
 lowered_parameter-lowered (quoted name content n) = cc (lowered-lowered name, lowered_value-lowered name content)
 
 -- so is a lowered parameter list
-pub lowered_list-lowered : (list : Parameters) → lowered_list (lowered_list list) ≡ lowered_list list
+lowered_list-lowered : (list : Parameters) → lowered_list (lowered_list list) ≡ lowered_list list
 lowered_list-lowered (blank n) = refl
 lowered_list-lowered (final n p) = ap (final n) (lowered_parameter-lowered p)
 lowered_list-lowered (more n p rest) = cc (lowered_parameter-lowered p, lowered_list-lowered rest)
@@ -122,14 +111,12 @@ lowered_tail-lowered (listed list) = ap listed (lowered_list-lowered list)
 pub lowered_tree-lowered_tree : (tree : SyntaxTree) → lowered_tree (lowered_tree tree) ≡ lowered_tree tree
 lowered_tree-lowered_tree tree = cc (lowered-lowered tree.top, lowered-lowered tree.sub, lowered_tail-lowered tree.tail)
 
--- a byte is a plus exactly where its lowering is
-is_plus-lowercase : (b : ℕ) → (to_ascii_lowercase b == 43) ≡ (b == 43)
-is_plus-lowercase b = grind (arith, nat_tests)
-
--- so the last plus keeps its place
-pub last_plus-lowered : (at : ℕ) (bytes : List ℕ) → last_plus at (lowered bytes) ≡ last_plus at bytes
+-- the last plus keeps its position
+last_plus-lowered : (at : ℕ) (bytes : List ℕ) → last_plus at (lowered bytes) ≡ last_plus at bytes
 last_plus-lowered at [] = refl
-last_plus-lowered at (b ∷ bytes) = rw (is_plus-lowercase b, last_plus-lowered (at + 1) bytes)
+last_plus-lowered at (b ∷ bytes) =
+    let plus : (to_ascii_lowercase b == 43) ≡ (b == 43) = grind (arith, nat_tests) in
+    rw (plus, last_plus-lowered (at + 1) bytes)
 
 -- a list keeps the number of its pairs
 length-pairs_lowered : (list : Parameters) → length (pairs_of_list (lowered_list list)) ≡ length (pairs_of_list list)
@@ -137,24 +124,20 @@ length-pairs_lowered (blank n) = refl
 length-pairs_lowered (final n p) = refl
 length-pairs_lowered (more n p rest) = omega (arith, length-pairs_lowered rest)
 
--- the semicolon keeps its place
-semicolon_of-lowered : (at : ℕ) (tail : Tail) → semicolon_of at (lowered_tail tail) ≡ semicolon_of at tail
-semicolon_of-lowered at no_list = refl
-semicolon_of-lowered at (listed list) = refl
-
--- so does what follows the subtype keep the number of its pairs
+-- so does what follows the subtype
 length-tail_lowered : (tail : Tail) → length (pairs_of_tail (lowered_tail tail)) ≡ length (pairs_of_tail tail)
 length-tail_lowered no_list = refl
 length-tail_lowered (listed list) = length-pairs_lowered list
 
+-- the semicolon keeps its position
+semicolon_of-lowered : (at : ℕ) (tail : Tail) → semicolon_of at (lowered_tail tail) ≡ semicolon_of at tail
+semicolon_of-lowered at no_list = refl
+semicolon_of-lowered at (listed list) = refl
+
 -- lowering moves no part
 pub places_of-lowered_tree : (tree : SyntaxTree) → places_of (lowered_tree tree) ≡ places_of tree
 places_of-lowered_tree tree =
-    rw (
-      length-lowered tree.top,
-      length-lowered tree.sub,
-      semicolon_of-lowered (length tree.top + 1 + length tree.sub) tree.tail,
-      length-tail_lowered tree.tail,
-      ← lowered-drop 1 tree.sub,
-      last_plus-lowered (length tree.top + 2) (drop 1 tree.sub),
-    )
+    let at = length tree.top + 1 + length tree.sub in
+    let plus = last_plus-lowered (length tree.top + 2) (drop 1 tree.sub) in
+    rw (length-lowered tree.top, length-lowered tree.sub, ← lowered-drop 1 tree.sub)
+    (cc (semicolon_of-lowered at tree.tail, length-tail_lowered tree.tail, plus))

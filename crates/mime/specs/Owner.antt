@@ -1,4 +1,4 @@
--- Private. The text that a value keeps.
+-- Private. The text that a value owns or borrows. A page of its own, since it names a type of the code that cites `KeptText`.
 use Rattle.std.specs.Prelude.{ℕ, List, Bool, true, false}
 use Rattle.mime.specs.declared.value.Text.{Text}
 use Rattle.mime.specs.declared.value.Text.TheVariants.{Fixed, Owned}

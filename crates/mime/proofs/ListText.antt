@@ -1,0 +1,207 @@
+-- The pairs cut from the text of a well-formed parameter list are its pairs, and lowering them lowers the list.
+use Rattle.std.proofs.Common.{◌≡◌, ℕ, suc, ◌+◌, ◌-◌, Bool, true, false, List, [], ◌∷◌, ◌++◌, length, drop, refl, sym, ap, ◌∙◌, subst, arith, append-nil, append_assoc, length-append}
+use Rattle.std.specs.Prelude.{◌==◌}
+use Rattle.std.specs.List.{list_all, prefix_len}
+use Rattle.std.specs.Char.{to_ascii_lowercase}
+use Rattle.std.proofs.lemmas.Bool.{and_parts, cond-true, cond-false}
+use Rattle.std.proofs.lemmas.Bool.Decides.{nat_tests}
+use Rattle.std.proofs.lemmas.List.{take_at, drop_at, drop-drop}
+use Rattle.mime.specs.Bytes.{is_token_byte, semicolon_byte, equals_byte, quote_byte}
+use Rattle.mime.specs.Grammar.{Parameter, plain, quoted, Parameters, blank, final, more, text_of_list, text_of_parameter, is_space, AreSpaces, AreTokenBytes, IsToken, IsContent, AreParameters, IsFinalParameter}
+use Rattle.mime.specs.Values.{lowered, lowered_value, lowered_parameter, lowered_list, pair_of, pairs_of_list}
+use Rattle.mime.specs.Quoted.{content_len, content_of, behind_content}
+use Rattle.mime.specs.Pairs.{PairCut, before_byte, behind_byte, cut_behind_equals, leading_spaces, without_gap, cut_of, pairs_within, lowered_within}
+use Rattle.mime.proofs.Quoted.{content_len-content}
+use Rattle.mime.proofs.Classes.{semicolon_is_no_token, equals_is_no_token, quote_is_no_token, token_byte-not, token_byte-not_space, is_other, are_other-token, are_other-spaces, AreTokenBytes-from_token, IsFinalParameter-from_inner}
+use Rattle.mime.proofs.Lowering.{lowered-append}
+use Rattle.mime.proofs.PairCuts.{lowered_within-first}
+
+-- what may follow a run: nothing, or the byte and the rest
+data IsFollow (byte : ℕ) : List ℕ → List ℕ → Type 0 where
+  nothing : IsFollow byte [] []
+  marked : (rest : List ℕ) → IsFollow byte (byte ∷ rest) rest
+
+-- a run of a class ends at the first byte outside it
+run_to : (class : ℕ → Bool) (run : List ℕ) (b : ℕ) (behind : List ℕ) → list_all class run ≡ true → class b ≡ false
+    → prefix_len class (run ++ b ∷ behind) ≡ length run
+run_to class [] b behind all out = cond-false (class b) _ 0 out
+run_to class (x ∷ run) b behind all out =
+    let parts = and_parts (class x) (list_all class run) all in
+    cond-true (class x) _ 0 parts.0 ∙ omega (arith, run_to class run b behind parts.1 out)
+
+-- a byte is looked for up to where it follows, or up to the end
+place_to : (byte : ℕ) (run follow rest : List ℕ) → list_all (is_other byte) run ≡ true → IsFollow byte follow rest
+    → prefix_len (is_other byte) (run ++ follow) ≡ length run
+place_to byte run follow rest all (marked _) = run_to (is_other byte) run byte rest all (grind (arith, nat_tests))
+place_to byte [] follow rest all nothing = refl
+place_to byte (x ∷ run) follow rest all nothing =
+    let parts = and_parts (is_other byte x) (list_all (is_other byte) run) all in
+    cond-true (is_other byte x) _ 0 parts.0 ∙ omega (arith, place_to byte run [] [] parts.1 nothing)
+
+-- what stands before it
+before_to : (byte : ℕ) (run follow rest : List ℕ) → list_all (is_other byte) run ≡ true → IsFollow byte follow rest
+    → before_byte 0 byte (run ++ follow) ≡ run
+before_to byte run follow rest all follows = take_at run follow _ (omega (arith, place_to byte run follow rest all follows))
+
+-- what is left after a run and a byte
+drop_past : (byte : ℕ) (run follow rest : List ℕ) (n : ℕ) → IsFollow byte follow rest → length run ≡ n → drop (n + 1) (run ++ follow) ≡ rest
+drop_past byte run follow rest n follows long =
+    sym (drop-drop 1 n (run ++ follow)) ∙ ap (drop 1) (drop_at run follow n long) ∙ past follow rest follows
+  where
+    past : (follow rest : List ℕ) → IsFollow byte follow rest → drop 1 follow ≡ rest
+    past follow rest nothing = refl
+    past follow rest (marked _) = refl
+
+-- what stands after it
+behind_to : (byte : ℕ) (run follow rest : List ℕ) → list_all (is_other byte) run ≡ true → IsFollow byte follow rest
+    → behind_byte 0 byte (run ++ follow) ≡ rest
+behind_to byte run follow rest all follows =
+    drop_past byte run follow rest _ follows (omega (arith, place_to byte run follow rest all follows))
+
+-- a plain value is cut up to the semicolon or the end
+cut_value-plain : (whole : ℕ) (name value follow rest : List ℕ) → AreTokenBytes value → IsFollow semicolon_byte follow rest
+    → cut_behind_equals whole name (value ++ follow) ≡ record { name = name; head = whole - length (value ++ follow); value = value; rest = rest }
+cut_value-plain whole name [] follow rest all nothing = ap (λ n. record { name = name; head = n; value = []; rest = [] }) (omega arith)
+cut_value-plain whole name [] follow rest all (marked _) = refl
+cut_value-plain whole name (v ∷ value) follow rest all follows =
+    let first = and_parts (is_token_byte v) (list_all is_token_byte value) all in
+    let others = are_other-token semicolon_byte semicolon_is_no_token (v ∷ value) all in
+    cond-false (v == quote_byte) _ _ (token_byte-not v quote_byte quote_is_no_token first.0)
+    ∙ cc (before_to semicolon_byte (v ∷ value) follow rest others follows, behind_to semicolon_byte (v ∷ value) follow rest others follows)
+
+-- a quoted value is cut up to its closing quote
+cut_value-quoted : (whole : ℕ) (name content n follow rest : List ℕ) → IsContent content → AreSpaces n → IsFollow semicolon_byte follow rest
+    → cut_behind_equals whole name (quote_byte ∷ (content ++ (quote_byte ∷ (n ++ follow))))
+    ≡ record { name = name; head = whole - length (content ++ (quote_byte ∷ (n ++ follow))); value = content; rest = rest }
+cut_value-quoted whole name content n follow rest is white follows =
+    let bytes : List ℕ = content ++ (quote_byte ∷ (n ++ follow)) in
+    let place = content_len-content content (n ++ follow) is in
+    let value : content_of bytes ≡ content = take_at content (quote_byte ∷ (n ++ follow)) (content_len bytes) (sym place) in
+    let after : behind_content bytes ≡ n ++ follow = drop_past quote_byte content _ _ (content_len bytes) (marked _) (sym place) in
+    let behind : behind_byte 0 semicolon_byte (behind_content bytes) ≡ rest =
+    ap (behind_byte 0 semicolon_byte) after
+    ∙ behind_to semicolon_byte n follow rest (are_other-spaces semicolon_byte refl n white) follows in
+    cc
+
+-- the spaces before a name are cut off
+without_gap-token : (n name behind : List ℕ) → AreSpaces n → IsToken name → without_gap (n ++ (name ++ behind)) ≡ name ++ behind
+without_gap-token n [] behind white is = absurd is
+without_gap-token n (b ∷ name) behind white is =
+    let first = and_parts (is_token_byte b) (list_all is_token_byte name) is in
+    drop_at n (b ∷ name ++ behind) (leading_spaces (n ++ (b ∷ name ++ behind)))
+    (sym (run_to is_space n b (name ++ behind) white (token_byte-not_space b first.0)))
+
+-- a name is cut from the spaces before it up to the equals sign
+cut_of-named : (n name behind : List ℕ) → AreSpaces n → IsToken name
+    → cut_of (n ++ (name ++ (equals_byte ∷ behind))) ≡ cut_behind_equals (length (n ++ (name ++ (equals_byte ∷ behind)))) name behind
+unfolding cut_of
+cut_of-named n name behind white is =
+    let others = are_other-token equals_byte equals_is_no_token name (AreTokenBytes-from_token name is) in
+    rw (
+      without_gap-token n name (equals_byte ∷ behind) white is,
+      before_to equals_byte name (equals_byte ∷ behind) behind others (marked behind),
+      behind_to equals_byte name (equals_byte ∷ behind) behind others (marked behind),
+    )
+
+-- what stands before the value of a parameter
+abbrev head_of : Parameter → List ℕ
+head_of (plain name value) = name ++ (equals_byte ∷ [])
+head_of (quoted name content n) = name ++ (equals_byte ∷ quote_byte ∷ [])
+
+-- and what stands after it
+abbrev end_of : Parameter → List ℕ
+end_of (plain name value) = []
+end_of (quoted name content n) = quote_byte ∷ n
+
+-- the text of a parameter in its parts
+text_of_parameter-parts : (p : Parameter) (behind : List ℕ)
+    → text_of_parameter p ++ behind ≡ head_of p ++ ((pair_of p).1 ++ (end_of p ++ behind))
+text_of_parameter-parts (plain name value) behind = simp append_assoc
+text_of_parameter-parts (quoted name content n) behind = simp append_assoc
+
+-- where a value begins, counted from the list's end
+head_counted : (n name opening behind : List ℕ)
+    → length (n ++ (name ++ (opening ++ behind))) - length behind ≡ length (n ++ (name ++ opening))
+head_counted n name opening behind =
+    let whole : length (n ++ (name ++ (opening ++ behind))) ≡ length n + (length name + (length opening + length behind)) =
+    simp length-append in
+    let head : length (n ++ (name ++ opening)) ≡ length n + (length name + length opening) = simp length-append in
+    omega (arith, whole, head)
+
+-- the first pair cut from the text of a parameter and what follows it
+cut_of-parameter : (n : List ℕ) (p : Parameter) (follow rest : List ℕ) → AreSpaces n → IsFinalParameter p
+    → IsFollow semicolon_byte follow rest
+    → cut_of (n ++ (text_of_parameter p ++ follow))
+    ≡ record { name = (pair_of p).0; head = length (n ++ head_of p); value = (pair_of p).1; rest = rest }
+cut_of-parameter n (plain name value) follow rest white (named, all) follows =
+    ap (λ x. cut_of (n ++ x)) (append_assoc name (equals_byte ∷ value) follow)
+    ∙ cut_of-named n name (value ++ follow) white named
+    ∙ cut_value-plain _ name value follow rest all follows
+    ∙ ap (λ h. record { name = name; head = h; value = value; rest = rest }) (head_counted n name (equals_byte ∷ []) (value ++ follow))
+cut_of-parameter n (quoted name content m) follow rest white (named, is, blanks) follows =
+    let behind = content ++ (quote_byte ∷ (m ++ follow)) in
+    let grouped : text_of_parameter (quoted name content m) ++ follow ≡ name ++ (equals_byte ∷ quote_byte ∷ behind) = simp append_assoc in
+    ap (λ x. cut_of (n ++ x)) grouped
+    ∙ cut_of-named n name (quote_byte ∷ behind) white named
+    ∙ cut_value-quoted _ name content m follow rest is blanks follows
+    ∙ ap (λ h. record { name = name; head = h; value = content; rest = rest }) (head_counted n name (equals_byte ∷ quote_byte ∷ []) behind)
+
+-- the pairs of a parameter list's text are the list's
+pub pairs_within-text_of_list : (list : Parameters) → AreParameters list
+    → pairs_within (length (pairs_of_list list)) (text_of_list list) ≡ pairs_of_list list
+pairs_within-text_of_list (blank n) well = refl
+pairs_within-text_of_list (final n p) (white, well) =
+    ap (λ x. pairs_within 1 (n ++ x)) (sym (append-nil (text_of_parameter p)))
+    ∙ ap (λ (cut : PairCut). (cut.name, cut.value) ∷ []) (cut_of-parameter n p [] [] white well nothing)
+pairs_within-text_of_list (more n p rest) (white, well, others) =
+    ap (λ (cut : PairCut). (cut.name, cut.value) ∷ pairs_within (length (pairs_of_list rest)) cut.rest)
+    (cut_of-parameter n p _ (text_of_list rest) white (IsFinalParameter-from_inner p well) (marked _))
+    ∙ ap (λ pairs. pair_of p ∷ pairs) (pairs_within-text_of_list rest others)
+
+-- spaces are small
+lowered-spaces : (bytes : List ℕ) → AreSpaces bytes → lowered bytes ≡ bytes
+lowered-spaces [] white = refl
+lowered-spaces (b ∷ bytes) white =
+    let parts = and_parts (is_space b) (list_all is_space bytes) white in
+    let same : to_ascii_lowercase b ≡ b = grind (arith, nat_tests, parts.0) in
+    cc (same, lowered-spaces bytes parts.1)
+
+-- a parameter in its parts, lowered
+lowered_parameter-parts : (p : Parameter) (behind : List ℕ)
+    → lowered (head_of p) ++ (lowered_value (pair_of p).0 (pair_of p).1 ++ (end_of p ++ behind))
+    ≡ text_of_parameter (lowered_parameter p) ++ behind
+lowered_parameter-parts (plain name value) behind = rw (lowered-append name (equals_byte ∷ [])) (simp append_assoc)
+lowered_parameter-parts (quoted name content n) behind = rw (lowered-append name (equals_byte ∷ quote_byte ∷ [])) (simp append_assoc)
+
+-- the text of a list, its first parameter apart, lowered pair by pair
+lowered_within-parameter : (count : ℕ) (n : List ℕ) (p : Parameter) (between rest : List ℕ) → AreSpaces n → IsFinalParameter p
+    → IsFollow semicolon_byte (between ++ rest) rest
+    → lowered_within (suc count) (n ++ (text_of_parameter p ++ (between ++ rest)))
+    ≡ n ++ (text_of_parameter (lowered_parameter p) ++ (between ++ lowered_within count rest))
+lowered_within-parameter count n p between rest white well follows =
+    let list = n ++ (text_of_parameter p ++ (between ++ rest)) in
+    let cut = cut_of-parameter n p (between ++ rest) rest white well follows in
+    let parts : list ≡ (n ++ head_of p) ++ ((pair_of p).1 ++ ((end_of p ++ between) ++ rest)) =
+    ap (λ x. n ++ x) (text_of_parameter-parts p (between ++ rest)) ∙ simp append_assoc in
+    lowered_within-first count list (record {
+      front = n ++ head_of p;
+      middle = end_of p ++ between;
+      parts = subst (λ (c : PairCut). list ≡ (n ++ head_of p) ++ (c.value ++ ((end_of p ++ between) ++ c.rest))) (sym cut) parts;
+      head = ap (λ (c : PairCut). c.head) cut;
+    })
+    ∙ ap (λ (c : PairCut). (lowered (n ++ head_of p) ++ (lowered_value c.name c.value ++ (end_of p ++ between)))
+    ++ lowered_within count c.rest) cut
+    ∙ rw (lowered-append n (head_of p), lowered-spaces n white) (simp append_assoc)
+    ∙ ap (λ x. n ++ x) (lowered_parameter-parts p (between ++ lowered_within count rest))
+
+-- the text of a parameter list, lowered pair by pair, is the text of the lowered list
+pub lowered_within-text_of_list : (list : Parameters) → AreParameters list
+    → lowered_within (length (pairs_of_list list)) (text_of_list list) ≡ text_of_list (lowered_list list)
+lowered_within-text_of_list (blank n) well = refl
+lowered_within-text_of_list (final n p) (white, well) =
+    ap (λ x. lowered_within 1 (n ++ x)) (sym (append-nil (text_of_parameter p)))
+    ∙ lowered_within-parameter 0 n p [] [] white well nothing
+    ∙ ap (λ x. n ++ x) (append-nil (text_of_parameter (lowered_parameter p)))
+lowered_within-text_of_list (more n p rest) (white, well, others) =
+    lowered_within-parameter _ n p (semicolon_byte ∷ []) (text_of_list rest) white (IsFinalParameter-from_inner p well) (marked _)
+    ∙ ap (λ x. n ++ (text_of_parameter (lowered_parameter p) ++ (semicolon_byte ∷ x))) (lowered_within-text_of_list rest others)

@@ -1,0 +1,5 @@
+use Rattle.mime.proofs.OneFault.{completed_is_refused}
+use Rattle.mime.proofs.laws.completed_is_refused.Goals as goal
+
+pub returns : goal.returns
+returns c = completed_is_refused
