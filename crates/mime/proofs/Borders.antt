@@ -19,7 +19,7 @@ use Rattle.mime.proofs.Viability.{whole_front-from_walk, front_unique, stop-from
 -- ---- a byte past ASCII is foreign to the grammar
 
 -- it is no token byte
-high_token : (b : ℕ) → 128 ≤ b → IsFalse (is_token_byte b)
+pub high_token : (b : ℕ) → 128 ≤ b → IsFalse (is_token_byte b)
 unfolding is_token_byte
 high_token b high = grind (arith, nat_tests)
 

@@ -67,7 +67,7 @@ value_of_low low = record {
 pub value_of-lowering : (tree : SyntaxTree) → value_of tree ≡ value_of_low (lowered_tree tree)
 value_of-lowering tree = rw (length-lowered tree.top)
 
--- a text is stored, with the value of a tree
+-- a text is kept, with the value of a tree
 pub record Keeps (tree : SyntaxTree) (text : List ℕ) (places : Places) : Type 0 where
   pub is_kept : IsKept text places
   pub valued : value_of tree ≡ value_of is_kept.tree
@@ -138,7 +138,7 @@ media_whole top sub list well kept =
     ap (pairs_within (length (pairs_of_list list))) (drop-to_semicolon top sub (text_of_list list)) ∙ pairs_within-text_of_list list well in
     cc
 
--- the value of a stored tree is what its text and its places give
+-- the value of a kept tree is what its text and its places give
 media_parts : (top sub : List ℕ) (tail : Tail) → AreSubtypeAndTail sub tail → HoldsParameter tail
     → value_of_low (tree_with top sub tail) ≡ media_of (text_of (tree_with top sub tail)) (places_of (tree_with top sub tail))
 media_parts top sub no_list well holds =
@@ -147,14 +147,14 @@ media_parts top sub (listed (blank n)) well holds = absurd holds
 media_parts top sub (listed (final n p)) well holds = media_whole top sub (final n p) well.1 refl
 media_parts top sub (listed (more n p rest)) well holds = media_whole top sub (more n p rest) well.1 refl
 
--- so it is for a stored text
+-- so it is for a kept text
 media_of-kept : (text : List ℕ) (places : Places) (is_kept : IsKept text places) → value_of is_kept.tree ≡ media_of text places
 media_of-kept text places is_kept =
     value_of-lowering is_kept.tree ∙ ap value_of_low is_kept.low
     ∙ media_parts is_kept.tree.top is_kept.tree.sub is_kept.tree.tail is_kept.well_formed.1 is_kept.kept
     ∙ cc (is_kept.spelled, is_kept.placed)
 
--- a stored text reads as the value that it gives
+-- a kept text reads as the value that it gives
 pub reads-from_kept : (text : List ℕ) (places : Places) → IsKept text places → Reads text (media_of text places)
 reads-from_kept text places is_kept = record {
   tree = is_kept.tree;
@@ -179,7 +179,7 @@ keeps-accepted text places has =
     at_tree (λ t p. Keeps has.tree (kept_text_of p.pairs p.semicolon t) (kept_places p)) text places has
     (keeps-tree has.tree has.well_formed)
 
--- its kept text is stored
+-- its kept text is kept
 pub kept-from_places : (text : List ℕ) (places : Places) → HasPlaces text places
     → IsKept (kept_text_of places.pairs places.semicolon text) (kept_places places)
 kept-from_places text places has = (keeps-accepted text places has).is_kept
@@ -193,6 +193,13 @@ kept_reads text places has = record {
   spelled = has.spelled;
   valued = kept_media has.tree _ _ (keeps-accepted text places has);
 }
+
+-- the kept text of a value that was read reads as the value
+pub kept_is_read : (text : List ℕ) (value : MediaType) → Reads text value → Reads value.kept value
+kept_is_read text value reads =
+    let keeps = keeps-tree reads.tree reads.well_formed in
+    let is = sym reads.valued ∙ kept_media reads.tree _ _ keeps in
+    subst (λ (v : MediaType). Reads v.kept v) (sym is) (reads-from_kept _ _ keeps.is_kept)
 
 -- the semicolon stands where the places of a tree say
 semicolon-there : (top sub : List ℕ) (tail : Tail) (s : ℕ) → semicolon_of (length top + 1 + length sub) tail ≡ Some s
@@ -211,7 +218,7 @@ slice_get-semicolon text places s has is =
     at_tree (λ t q. q.semicolon ≡ Some s → slice_get t s ≡ Some semicolon_byte) text places has
     (semicolon-there has.tree.top has.tree.sub has.tree.tail s) is
 
--- and in a stored one
+-- and in a kept one
 pub kept-semicolon : (text : List ℕ) (places : Places) (s : ℕ) → IsKept text places → places.semicolon ≡ Some s
     → slice_get text s ≡ Some semicolon_byte
 kept-semicolon text places s is_kept is =

@@ -29,3 +29,18 @@ pub mod KeptText
 pub mod Pluses
 pub mod Parts
 pub mod Outcomes
+-- comparison
+pub mod Ordering
+pub mod PairWalks
+pub mod Counts
+pub mod Joining
+pub mod Constants
+pub mod SmallLetters
+pub mod TextComparison
+-- the cut, and runs of the iterator
+pub mod Cuts
+pub mod Containment
+pub mod Beginnings
+pub mod Iterating
+pub mod RunProofs
+pub mod Characters

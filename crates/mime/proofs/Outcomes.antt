@@ -54,3 +54,8 @@ star-IsKept places has = record {
 pub star-accepted : (text : List ℕ) → text ≡ 42 ∷ 47 ∷ 42 ∷ [] → IsAccepted text
 star-accepted text is =
     (value_of star_tree, record { tree = star_tree; well_formed = star_tree-IsWellFormed; spelled = sym is; valued = refl })
+
+-- a fault explains a refusal
+pub Explains-from_fault : (text : List ℕ) (fault : ParseError) → IsFault text fault → Explains text fault
+Explains-from_fault text NoMemory fault = absurd fault
+Explains-from_fault text other fault = fault

@@ -115,7 +115,7 @@ items_of-low [] low = tt
 items_of-low ((name, value) ∷ pairs) ((named, valued), others) =
     ((λ _. named, λ is. valued (subst (λ n. bytes_eq n (codes "charset") ≡ true) (sym named) is)), items_of-low pairs others)
 
--- those of the pairs after a stored text's semicolon too
+-- those of the pairs after a kept text's semicolon too
 pub kept-low_items : (text list : List ℕ) (places : Places) (semicolon : ℕ) → IsKept text places
     → places.semicolon ≡ Some semicolon → list ≡ drop (semicolon + 1) text
     → AllByRecursion IsLowItem (items_of (pairs_within places.pairs list))

@@ -15,7 +15,7 @@ use Rattle.mime.proofs.Begun.{Begun, in_type, in_list, BegunList, begun_list, gr
 use Rattle.mime.proofs.Passing.{given_then, given_whole}
 use Rattle.mime.proofs.Walks.{walk_from-append_some, walk_from-in_list}
 use Rattle.mime.proofs.Readings.{accepted-from_walk, refused-from_walk, walk-head}
-use Rattle.mime.proofs.Viability.{lacks-from_walk, dead-from_walk}
+use Rattle.mime.proofs.Viability.{lacks-from_walk, viable-from_walk, dead-from_walk}
 use Rattle.mime.proofs.OneFault.{fault-from_lacks}
 
 -- ---- what was walked
@@ -81,7 +81,7 @@ has_places text begun tree w e =
 -- it is judged by the tree that it makes, if any
 judged : (text : List ℕ) (begun : Begun) (tree : Option SyntaxTree) → walk text ≡ Some begun → tree_of begun ≡ tree
     → Judges text (length text) (verdict_at None (option_map places_of tree) (lacking begun))
-judged text begun None w e = (refl, lacking-fault text begun w e)
+judged text begun None w e = (refl, lacking-fault text begun w e, viable-from_walk text begun w)
 judged text begun (Some tree) w e = (refl, has_places text begun tree w e)
 
 -- so is what stands before a byte that leads nowhere

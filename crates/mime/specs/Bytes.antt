@@ -7,7 +7,7 @@ use Rattle.std.specs.Char.{is_ascii_alphanumeric}
 unfoldable pub is_token_byte : ℕ → Bool
 is_token_byte b = is_ascii_alphanumeric b || list_any (λ mark. mark == b) (codes "!#$%&'*+-.^_`|~")
 
--- what a quoted value may hold: every byte but the controls, so no tab, and the quote too
+-- what a quoted value may hold: every byte except the controls (so no tab); the double quote is one
 unfoldable pub is_quoted_byte : ℕ → Bool
 is_quoted_byte b = nat_le 32 b && (nat_le b 255 && not (b == 127))
 
@@ -29,3 +29,7 @@ quote_byte = 34
 
 abbrev pub space_byte : ℕ
 space_byte = 32
+
+-- the byte between the entries of a list of media types (RFC 7231, 5.3.2)
+abbrev pub comma_byte : ℕ
+comma_byte = 44

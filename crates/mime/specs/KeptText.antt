@@ -1,9 +1,10 @@
 -- Private. The kept text of a value, with the places of its parts.
-use Rattle.std.specs.Prelude.{◌≡◌, ℕ, zero, suc, ◌+◌, List, [], ◌∷◌, ◌++◌, length, take, drop, Option, Some, None, unwrap_or, IsTrue}
+use Rattle.std.specs.Prelude.{◌≡◌, ℕ, zero, suc, ◌+◌, List, [], ◌∷◌, ◌++◌, length, take, drop, Option, Some, None, unwrap_or, IsTrue, slice_get}
+use Rattle.mime.specs.Bytes.{semicolon_byte}
 use Rattle.mime.specs.Grammar.{Tail, no_list, listed, blank, final, more, SyntaxTree, text_of, IsWellFormed}
-use Rattle.mime.specs.Values.{MediaType, lowered, is_charset, lowered_tree}
+use Rattle.mime.specs.Values.{MediaType, lowered, is_charset, lowered_value, lowered_tree}
 use Rattle.mime.specs.Pairs.{pairs_within, lowered_within}
-use Rattle.mime.specs.Scanning.{places_of}
+use Rattle.mime.specs.Scanning.{HasPlaces, places_of}
 use Rattle.mime.specs.declared.scan.Places.{Places}
 
 -- the pairs behind the semicolon
@@ -60,3 +61,27 @@ IsLowPair pair = (lowered pair.0 ≡ pair.0) × (IsTrue (is_charset pair.0) → 
 abbrev pub AreLowPairs : List (List ℕ × List ℕ) → Type 0
 AreLowPairs [] = Unit {0}
 AreLowPairs (pair ∷ pairs) = IsLowPair pair × AreLowPairs pairs
+
+-- a pair as it is read: its name in small letters, and its value too where the name is `charset`
+abbrev pub lowered_pair : List ℕ × List ℕ → List ℕ × List ℕ
+lowered_pair (name, value) = (lowered name, lowered_value name value)
+
+-- a pair as it is kept is that of a pair as it is written
+abbrev pub IsKeptPair : List ℕ × List ℕ → List ℕ × List ℕ → Type 0
+IsKeptPair kept pair = (kept.0 ≡ lowered pair.0) × (kept.1 ≡ lowered_value pair.0 pair.1)
+
+-- a text that goes on with a semicolon after this essence, in any case
+abbrev pub IsListAfter : List ℕ → List ℕ → Type 0
+IsListAfter essence text =
+    (slice_get text (length essence) ≡ Some semicolon_byte) × (lowered essence ≡ lowered (take (length essence) text))
+
+-- the pair is the only one, and a charset
+abbrev pub IsLoneCharset : List (List ℕ × List ℕ) → Type 0
+IsLoneCharset pairs = (name : List ℕ) × (content : List ℕ) × (pairs ≡ (name, content) ∷ []) × IsTrue (is_charset name)
+
+-- an accepted text with a semicolon after so many bytes, and so many parameters after it
+pub record IsAcceptedAt (text : List ℕ) (end count : ℕ) : Type 0 where
+  pub places : Places
+  pub has : HasPlaces text places
+  pub semicolon : places.semicolon ≡ Some end
+  pub counted : places.pairs ≡ count

@@ -1,9 +1,10 @@
 -- The laws: what follows from the definitions alone.
-use Rattle.std.specs.Prelude.{◌≡◌, ◌≢◌, ℕ, ◌+◌, ◌<◌, ◌≤◌, List, [], ◌++◌, slice_get, Some, MatchOption}
+use Rattle.std.specs.Prelude.{◌≡◌, ◌≢◌, ℕ, ◌+◌, ◌<◌, ◌≤◌, ◌⊎◌, List, [], ◌++◌, slice_get, Some, MatchOption, ◌↔◌}
 use Rattle.std.specs.Str.{IsUtf8, IsCharBoundary}
 use Rattle.mime.specs.Bytes.{plus_byte}
 use Rattle.mime.specs.Grammar.{SyntaxTree, text_of, IsWellFormed}
-use Rattle.mime.specs.Values.{MediaType, Reads, IsAccepted, IsRefused}
+use Rattle.mime.specs.Values.{MediaType, Reads, IsAccepted, IsRefused, lowered}
+use Rattle.mime.specs.Comparison.{Same, Before, TextIs}
 use Rattle.mime.specs.Refusals.{IsViable, IsFront, Lacks, IsFault}
 use Rattle.mime.specs.declared.scan.fault.ParseError.{ParseError}
 
@@ -66,3 +67,28 @@ PlusIsLast =
     → MatchOption value.plus (HasNoPlusFrom value.essence (value.slash + 2))
     (λ place. (value.slash + 1 < place) × (slice_get value.essence place ≡ Some plus_byte)
     × HasNoPlusFrom value.essence (place + 1))
+
+-- The kept text of a value that was read is read as the value.
+abbrev pub KeptIsRead : Type 0
+KeptIsRead = (text : List ℕ) (value : MediaType) → Reads text value → Reads value.kept value
+
+-- exactly one of the three: the first comes before the second, they are equal, the second comes before the first
+abbrev pub OneOf : MediaType → MediaType → Type 0
+OneOf first second =
+    (Before first second × ¬ (Same first second) × ¬ (Before second first))
+    ⊎ ((Same first second × ¬ (Before first second) × ¬ (Before second first))
+    ⊎ (Before second first × ¬ (Same first second) × ¬ (Before first second)))
+
+-- Of two values the first comes before the second, or they are equal, or the second comes before the first.
+abbrev pub OneOrder : Type 0
+OneOrder = (first second : MediaType) → OneOf first second
+
+-- What comes before a value comes before all that comes behind it.
+abbrev pub BeforeIsTransitive : Type 0
+BeforeIsTransitive = (first second third : MediaType) → Before first second → Before second third → Before first third
+
+-- A text is a value without parameters exactly where the text in small letters is the kept text.
+abbrev pub BareTextIs : Type 0
+BareTextIs =
+    (text : List ℕ) (value : MediaType) → Reads text value → value.pairs ≡ []
+    → (other : List ℕ) → TextIs value other ↔ (lowered other ≡ value.kept)

@@ -5,7 +5,7 @@ use Rattle.std.specs.List.{list_all}
 use Rattle.mime.specs.Bytes.{is_token_byte, slash_byte, semicolon_byte}
 use Rattle.mime.specs.Grammar.{Tail, no_list, listed, SyntaxTree, text_of, IsToken, IsWellFormed}
 use Rattle.mime.specs.Values.{last_plus, pairs_of_tail, IsRefused}
-use Rattle.mime.specs.Refusals.{IsFault}
+use Rattle.mime.specs.Refusals.{IsViable, IsFault}
 use Rattle.mime.specs.declared.scan.Places.{Places}
 use Rattle.mime.specs.declared.scan.fault.ParseError.TheVariants.{InvalidToken}
 use Rattle.mime.specs.declared.scan.Verdict.{Verdict}
@@ -57,7 +57,7 @@ pub record IsStopped (text : List ℕ) (pos byte : ℕ) (places : Option Places)
 -- what the scanner finds in a text, after so many bytes
 abbrev pub Judges : List ℕ → ℕ → Verdict → Type 0
 Judges text count (Accepted places) = (count ≡ length text) × HasPlaces text places
-Judges text count (Unfinished fault) = (count ≡ length text) × IsFault text fault
+Judges text count (Unfinished fault) = (count ≡ length text) × IsFault text fault × IsViable text
 Judges text count (Stopped byte places) = (pos : ℕ) × (count ≡ pos + 1) × IsStopped text pos byte places
 
 -- the scanner's answer, with the bytes that it took

@@ -1,4 +1,4 @@
--- How contracts see the items that `Params` gives.
+-- How contracts see a `Name`, and the items that `Params` gives.
 use Rattle.std.specs.Prelude.{List, ℕ, Bool}
 use Rattle.mime.specs.Items.{Item}
 use Rattle.mime.specs.declared.name.Name.{Name}

@@ -30,7 +30,7 @@ pub fn is_token(b: u8) -> bool
     TOKEN[b as usize]
 }
 
-/// Whether a byte is a space, as may stand before a parameter and behind a quoted value.
+/// Whether a byte is a space, as may stand before a parameter and after a quoted value.
 #[inline(always)]
 pub(crate) fn is_space(b: u8) -> bool
     ensures { result ≡ is_space_byte b }

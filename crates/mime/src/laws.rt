@@ -1,15 +1,29 @@
 //! The laws of the definitions, as calls: each does nothing and ensures its law. The last ones
 //! give the constants, and show what the traits of names do.
 
-ghost use Rattle.std.specs.Prelude.{◌≡◌, ◌↔◌, IsTrue, map};
+ghost use Rattle.std.specs.Prelude.{◌≡◌, ◌↔◌, IsTrue, IfOk, IsOk, map};
 ghost use Rattle.std.specs.Cmp.Lexicographic.{slice_cmp};
 ghost use Rattle.std.specs.List.{list_all};
-ghost use Rattle.std.specs.Ordering.{ordering_then, bool_cmp, nat_cmp};
-ghost use Rattle.mime.specs.Values.{lowered};
+ghost use Rattle.std.specs.Ordering.{MatchOrdering, ordering_then, bool_cmp, nat_cmp};
+ghost use Rattle.mime.specs.Values.{OwnedMedia, lowered};
 ghost use Rattle.mime.specs.Names.{name_table};
 ghost use Rattle.mime.specs.Views.{name_text};
-ghost use Rattle.mime.specs.Laws.{OneTree, OneReading, EmptyIsViable, FrontOfViableIsViable, AcceptedIsViable, OneCompletion, CompletedIsRefused, NoCompletion, OneFault, OneFront, FrontEndsBetweenCharacters, PlusIsLast};
+ghost use Rattle.mime.specs.Laws.{OneTree, OneReading, EmptyIsViable, FrontOfViableIsViable, AcceptedIsViable, OneCompletion, CompletedIsRefused, NoCompletion, OneFault, OneFront, FrontEndsBetweenCharacters, PlusIsLast, KeptIsRead, OneOrder, BeforeIsTransitive, BareTextIs};
+ghost use Rattle.mime.specs.Comparison.{Same, Before};
+ghost use Rattle.mime.specs.Atoms.{atom_text, atom_table};
+ghost use Rattle.mime.specs.CutLaws.{OneCut, CutWritesText, OneCount, CommaContains, JoinedComesBack, PassesOneCharacter};
+ghost use Rattle.mime.specs.RunLaws.{RunGivesCut, PrintedListComesBack, CommaContainsOnRuns};
 
+use crate::atoms::{
+    APPLICATION_JAVASCRIPT, APPLICATION_JAVASCRIPT_UTF_8, APPLICATION_JSON, APPLICATION_MSGPACK,
+    APPLICATION_OCTET_STREAM, APPLICATION_PDF, APPLICATION_WWW_FORM_URLENCODED, Atom, FONT_WOFF,
+    FONT_WOFF2, IMAGE_BMP, IMAGE_GIF, IMAGE_JPEG, IMAGE_PNG, IMAGE_STAR, IMAGE_SVG,
+    MULTIPART_FORM_DATA, STAR_STAR, TEXT_CSS, TEXT_CSS_UTF_8, TEXT_CSV, TEXT_CSV_UTF_8,
+    TEXT_EVENT_STREAM, TEXT_HTML, TEXT_HTML_UTF_8, TEXT_JAVASCRIPT, TEXT_JAVSCRIPT, TEXT_PLAIN,
+    TEXT_PLAIN_UTF_8, TEXT_STAR, TEXT_TAB_SEPARATED_VALUES, TEXT_TAB_SEPARATED_VALUES_UTF_8,
+    TEXT_VCARD, TEXT_XML,
+};
+use crate::iter::MimeIter;
 use crate::name::Name;
 use crate::name::constants::{
     APPLICATION, AUDIO, BASIC, BMP, BOUNDARY, CHARSET, CSS, CSV, EVENT_STREAM, FONT, FORM_DATA,
@@ -17,6 +31,8 @@ use crate::name::constants::{
     OCTET_STREAM, OGG, PDF, PLAIN, PNG, STAR, SVG, TEXT, UTF_8, VCARD, VIDEO, WOFF, WOFF2,
     WWW_FORM_URLENCODED, XML,
 };
+use crate::value::Mime;
+use std::alloc::AllocError;
 use std::cmp::Ordering;
 use std::hash::{Hash, Hasher};
 
@@ -75,10 +91,145 @@ pub fn front_ends_between_characters()
     ensures { FrontEndsBetweenCharacters }
 {}
 
-/// The plus of a value is the last one of its essence behind the subtype's first byte, if there is one.
+/// The plus of a value is the last one of its essence after the subtype's first byte, if there is one.
 pub fn plus_is_last()
     ensures { PlusIsLast }
 {}
+
+/// The kept text of a value that was read is read as the value.
+pub fn kept_is_read()
+    ensures { KeptIsRead }
+{}
+
+/// Of two values the first comes before the second, or they are equal, or the second comes before
+/// the first.
+pub fn one_order()
+    ensures { OneOrder }
+{}
+
+/// What comes before a value comes before all that comes after it.
+pub fn before_is_transitive()
+    ensures { BeforeIsTransitive }
+{}
+
+/// A text is a value without parameters exactly where the text in small letters is the kept text.
+pub fn bare_text_is()
+    ensures { BareTextIs }
+{}
+
+/// Two values are equal exactly where their essences and their pairs are the same.
+pub fn mime_equality()
+    ensures { (first second : OwnedMedia) → IsTrue (⟦<Mime as PartialEq>⟧.eq first second) ↔ Same first.media second.media }
+{}
+
+/// Two values compare as they come before each other.
+pub fn mime_order()
+    ensures { (first second : OwnedMedia) → MatchOrdering (⟦<Mime as Ord>⟧.cmp first second) (Before first.media second.media) (Same first.media second.media) (Before second.media first.media) }
+{}
+
+/// Equal values feed a hasher the same.
+pub fn equal_values_hash_alike()
+    ensures { (first second : OwnedMedia) → Same first.media second.media → ⟦<Mime as Hash>⟧.hash_input first ≡ ⟦<Mime as Hash>⟧.hash_input second }
+{}
+
+/// The constant media types, in the order of their table.
+pub fn atom_constants() -> [Atom; 33]
+    ensures { map atom_text result ≡ atom_table }
+{
+    [
+        STAR_STAR,
+        TEXT_STAR,
+        TEXT_PLAIN,
+        TEXT_PLAIN_UTF_8,
+        TEXT_HTML,
+        TEXT_HTML_UTF_8,
+        TEXT_CSS,
+        TEXT_CSS_UTF_8,
+        TEXT_JAVASCRIPT,
+        TEXT_XML,
+        TEXT_EVENT_STREAM,
+        TEXT_CSV,
+        TEXT_CSV_UTF_8,
+        TEXT_TAB_SEPARATED_VALUES,
+        TEXT_TAB_SEPARATED_VALUES_UTF_8,
+        TEXT_VCARD,
+        IMAGE_STAR,
+        IMAGE_JPEG,
+        IMAGE_GIF,
+        IMAGE_PNG,
+        IMAGE_BMP,
+        IMAGE_SVG,
+        FONT_WOFF,
+        FONT_WOFF2,
+        APPLICATION_JSON,
+        APPLICATION_JAVASCRIPT,
+        APPLICATION_JAVASCRIPT_UTF_8,
+        APPLICATION_WWW_FORM_URLENCODED,
+        APPLICATION_OCTET_STREAM,
+        APPLICATION_MSGPACK,
+        APPLICATION_PDF,
+        MULTIPART_FORM_DATA,
+        TEXT_JAVSCRIPT,
+    ]
+}
+
+/// A text has exactly one cut.
+pub fn one_cut()
+    ensures { OneCut }
+{}
+
+/// A text is pieces, a character after each, and a last piece, which is accepted or the rest of the
+/// text's cut.
+pub fn cut_writes_text()
+    ensures { CutWritesText }
+{}
+
+/// In a text of valid UTF-8 what is passed after a piece is one character.
+pub fn passes_one_character()
+    ensures { PassesOneCharacter }
+{}
+
+/// A text takes exactly one number of steps.
+pub fn one_count()
+    ensures { OneCount }
+{}
+
+/// A comma ends what stands before it, unless that is an open quoted value, and what comes after it
+/// is cut as it is alone.
+pub fn comma_contains()
+    ensures { CommaContains }
+{}
+
+/// Values that were read come back from their kept texts with a comma and a space between them, and
+/// nothing else does.
+pub fn joined_comes_back()
+    ensures { JoinedComesBack }
+{}
+
+/// A run gives the items of the cut; out of memory may come for one that is a media type other than
+/// `*/*`, and ends the run.
+pub fn run_gives_cut()
+    ensures { RunGivesCut }
+{}
+
+/// A run over a text with a comma gives the items of what stands before it, the rest of that, and
+/// the items of what comes after it, unless the rest is an open quoted value.
+pub fn comma_contains_on_runs()
+    ensures { CommaContainsOnRuns }
+{}
+
+/// A run over a printed list of values that were read gives these values.
+pub fn printed_list_comes_back()
+    ensures { PrintedListComesBack }
+{}
+
+/// A clone of a `MimeIter` is always had, and is the same, its steps included.
+pub fn iter_clone<'a>(iter: &MimeIter<'a>) -> Result<MimeIter<'a>, AllocError>
+    ensures same { IfOk result (λ other. other ≡ iter.now) }
+    ensures always { IsOk result }
+{
+    iter.clone()
+}
 
 /// The constant names, in the order of their table. Each has its text, ignores
 /// case, and holds no ASCII capital.
@@ -129,32 +280,27 @@ pub fn name_constants() -> [Name<'static>; 38]
     ]
 }
 
-/// Names are ordered by the bytes of their texts, and then by their flags, `false` first.
-pub fn name_order(first: &Name<'_>, second: &Name<'_>) -> Ordering
-    ensures { result ≡ ordering_then (slice_cmp nat_cmp first.now.text.now second.now.text.now) (bool_cmp first.now.ignores_case second.now.ignores_case) }
-{
-    first.cmp(second)
-}
-
 /// Names are equal if their texts and their flags are.
-pub fn name_equality(first: &Name<'_>, second: &Name<'_>) -> bool
-    ensures { IsTrue result ↔ ((first.now.text.now ≡ second.now.text.now) × (first.now.ignores_case ≡ second.now.ignores_case)) }
-{
-    first == second
-}
+pub fn name_equality()
+    ensures { (first second : Name) → IsTrue (⟦<Name<'static> as PartialEq>⟧.eq first second)
+        ↔ ((first.text.now ≡ second.text.now) × (first.ignores_case ≡ second.ignores_case)) }
+{}
 
-/// Equal names feed a hasher the same.
-pub fn equal_names_hash_alike<H: Hasher>(
-    first: &Name<'_>,
-    second: &Name<'_>,
-    one: &mut H,
-    other: &mut H,
-)
-    requires text { first.now.text.now ≡ second.now.text.now }
-    requires flag { first.now.ignores_case ≡ second.now.ignores_case }
-    requires state { one.old ≡ other.old }
-    ensures { one.new ≡ other.new }
-{
-    first.hash(one);
-    second.hash(other);
-}
+/// Names are ordered by the bytes of their texts, and then by their flags, `false` first.
+pub fn name_order()
+    ensures { (first second : Name) → ⟦<Name<'static> as Ord>⟧.cmp first second
+        ≡ ordering_then (slice_cmp nat_cmp first.text.now second.text.now) (bool_cmp first.ignores_case second.ignores_case) }
+{}
+
+/// Names of the same text and flag feed a hasher the same.
+pub fn equal_names_hash_alike()
+    ensures { (first second : Name) → first.text.now ≡ second.text.now → first.ignores_case ≡ second.ignores_case
+        → ⟦<Name<'static> as Hash>⟧.hash_input first ≡ ⟦<Name<'static> as Hash>⟧.hash_input second }
+{}
+
+/// A name can always be cloned, and its clone has its text and its flag.
+pub fn name_clone()
+    ensures same { (name copy : Name) → ⟦<Name<'static> as Clone>⟧.is_clone name copy
+        → (copy.text.now ≡ name.text.now) × (copy.ignores_case ≡ name.ignores_case) }
+    ensures always { (name : Name) → ⟦<Name<'static> as Clone>⟧.is_infallible name }
+{}

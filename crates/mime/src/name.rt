@@ -10,7 +10,8 @@ pub(crate) mod constants;
 
 use std::fmt;
 
-/// A part of a media type: a type, a subtype, a suffix, a parameter's name or its value.
+/// A part of a media type: a type, a subtype, a suffix, a parameter's name or its value (RFC 7231,
+/// 3.1.1.1). The type of `Text/Plain` is `Name { text: "text", ignores_case: true }`, and equals [`TEXT`](crate::TEXT).
 ///
 /// Two names are equal if their texts and their flags are; they are ordered by the bytes of the
 /// text and then by the flag, `false` first. To compare with a text, see [`name_eq_str`].
@@ -67,8 +68,8 @@ fn differing_bits(x: u8, y: u8) -> u8
     (x ^ y) & !case
 }
 
-/// The bits in which the bytes of two byte strings of one length differ, as of two bytes, all
-/// together. One loop without an early end: over a length that is known, one step of the processor.
+/// The bits in which two byte strings of one length differ, taken over all their bytes, as
+/// `differing_bits` takes them. The loop doesn't end early: over a known length it is one step of the processor.
 #[inline(always)]
 fn all_differing_bits(a: &[u8], b: &[u8]) -> u8
     requires same_length { length a.now ≡ length b.now }
@@ -81,8 +82,8 @@ fn all_differing_bits(a: &[u8], b: &[u8]) -> u8
     differing
 }
 
-/// Whether two byte strings of one length are the same but for the case of ASCII letters, told by
-/// the first so many bytes and the last, which lap over each other or meet.
+/// Whether two byte strings of one length are the same but for the case of ASCII letters, by
+/// their first and last `block` bytes, which together cover texts of at most twice that length.
 #[inline(always)]
 fn ends_alike(a: &[u8], b: &[u8], block: usize) -> bool
     requires same_length { length a.now ≡ length b.now }
@@ -96,7 +97,7 @@ fn ends_alike(a: &[u8], b: &[u8], block: usize) -> bool
 }
 
 /// The same of longer ones, in blocks of 16 bytes, up to the first block that differs. The last may
-/// lap over the one before.
+/// overlap the one before.
 #[inline(always)]
 fn blocks_alike(a: &[u8], b: &[u8]) -> bool
     requires same_length { length a.now ≡ length b.now }

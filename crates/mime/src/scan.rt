@@ -28,7 +28,8 @@ pub(crate) enum Verdict {
     Accepted(Places),
     /// It ends too early.
     Unfinished(ParseError),
-    /// This byte, the last that was taken, can't stand there; what stands before it may be accepted.
+    /// This byte, the last one read, fits nowhere. The places are those of the text before it, if that
+    /// is a media type by itself.
     Stopped(u8, Option<Places>),
 }
 
@@ -84,7 +85,7 @@ fn content(reader: &mut ByteReader<'_>) -> Option<u8>
     inner(reader)
 }
 
-/// Passes what follows a subtype's first byte. Gives the place of its last plus, counted from
+/// Passes what follows a subtype's first byte. Returns the position of its last plus, counted from
 /// `from`, the reader's count where the text began, and the byte that ends it.
 #[inline(always)]
 fn subtype(reader: &mut ByteReader<'_>, from: u128) -> (Option<usize>, Option<u8>)
@@ -108,7 +109,7 @@ fn subtype(reader: &mut ByteReader<'_>, from: u128) -> (Option<usize>, Option<u8
     (if plus == 0 { None } else { Some(plus) }, stop)
 }
 
-/// Reads a parameter list, behind its semicolon, of a text that has these places before it.
+/// Reads a parameter list, after its semicolon, of a text that has these parts before it.
 #[inline(always)]
 fn parameters(reader: &mut ByteReader<'_>, head: Places) -> Verdict
     requires { head.pairs + length reader.old.left < 2 ^ 64 }

@@ -1,17 +1,21 @@
 //! Media types: reading, their parts, their parameters, printing.
 
-ghost use Rattle.std.specs.Prelude.{◌≡◌, ◌≢◌, true, IfOk, IfErr, IsOk, IfSome, codes, option_map};
+ghost use Rattle.std.specs.Prelude.{◌≡◌, ◌≢◌, true, IfOk, IfErr, IsOk, IfSome, codes, option_map, length};
 ghost use Rattle.std.specs.List.{AllByRecursion};
 ghost use Rattle.mime.specs.Values.{Reads, IsAccepted, lowered, type_of, subtype_of, suffix_of};
 ghost use Rattle.mime.specs.Refusals.{Explains};
 ghost use Rattle.mime.specs.Items.{items_of, IsLowItem, IsFirstAccepted};
 ghost use Rattle.mime.specs.Views.{name_seen};
 ghost use Rattle.mime.specs.Scanning.{HasPlaces};
+ghost use Rattle.mime.specs.Pairs.{pairs_within};
+ghost use Rattle.mime.specs.KeptText.{IsKept, media_of};
 ghost use Rattle.mime.specs.Owner.{bytes_of};
 
 mod kept;
-mod pairs;
+pub(crate) mod pairs;
 mod params;
+mod traits;
+mod walks;
 
 use crate::name::{Name, ParamKey};
 use crate::scan::{ByteReader, FromStrError, ParseError, Places, Verdict, scan};
@@ -72,15 +76,15 @@ impl Mime {
     ///
     /// # Errors
     /// The one fault of a text that isn't a media type, told without asking for memory: what is
-    /// missing at its end, as `MissingEqual` for `a/b;p`, or else the place (in bytes, from 0) of
-    /// the byte at which no media type goes on, as 5 for `text/;`. [`ParseError::NoMemory`] comes
+    /// missing at its end, as `MissingEqual` for `a/b;p`, or else the position (in bytes, from 0) of
+    /// the first byte that no media type could have there, as 5 for `text/;`. [`ParseError::NoMemory`] comes
     /// only for a media type, and never for `*/*`.
     pub fn from_str(alloc: Global, s: &str) -> Result<Mime, FromStrError>
         // What is read has the value that the text is read as.
         ensures read { IfOk result (λ mime. Reads s.now mime.media) }
-        // An error is the fault of a refused text, or want of memory for an accepted one.
+        // An error is the fault of a refused text, or says that memory ran out for an accepted one.
         ensures explained { IfErr result (λ error. Explains s.now error) }
-        // So an accepted text is read, or memory is wanting.
+        // So an accepted text is read, or memory ran out.
         ensures accepted { IsAccepted s.now → IfErr result (λ error. error ≡ ParseError.NoMemory) }
         // `*/*` is always read, and fixed.
         ensures star { s.now ≡ codes "*/*" → IfOk result (λ mime. mime.fixed ≡ true) × IsOk result }
@@ -97,7 +101,8 @@ impl Mime {
     }
 
     /// The media type of an accepted text.
-    fn of_accepted(alloc: Global, s: &str, places: Places) -> Result<Mime, FromStrError>
+    #[inline(always)]
+    pub(crate) fn of_accepted(alloc: Global, s: &str, places: Places) -> Result<Mime, FromStrError>
         requires { HasPlaces s.now places }
         ensures read { IfOk result (λ mime. Reads s.now mime.media) }
         ensures memory { IfErr result (λ error. (error ≡ ParseError.NoMemory) × (s.now ≢ codes "*/*")) }
@@ -115,6 +120,20 @@ impl Mime {
                 places: keep_places(places),
             }),
             Err(_) => Err(FromStrError::new(ParseError::NoMemory)),
+        }
+    }
+
+    /// The media type of a text that is kept as it stands, with the positions of its parts.
+    #[inline(always)]
+    pub(crate) fn fixed(text: &'static str, places: Places) -> Mime
+        requires { IsKept text.now places }
+        ensures media { result.media ≡ media_of text.now places }
+        ensures reads { Reads text.now result.media }
+        ensures fixed { result.fixed ≡ true }
+    {
+        Mime {
+            text: Text::Fixed(text),
+            places,
         }
     }
 
@@ -145,7 +164,7 @@ impl Mime {
         }
     }
 
-    /// The suffix, behind the subtype's last `+` that isn't its first byte, in small letters:
+    /// The suffix, after the subtype's last `+` that isn't its first byte, in small letters:
     /// `xml` in `image/svg+xml`, nothing in `a/b+`, and none in `a/+xml` (RFC 6838, 4.2.8).
     pub fn suffix(&self) -> Option<Name<'_>>
         ensures text { option_map (λ name. name.text.now) result ≡ suffix_of self.now.media }
@@ -190,6 +209,25 @@ impl Mime {
         match self.places.semicolon {
             None => Params::new("", 0),
             Some(semicolon) => Params::new(&self.text.as_str()[semicolon + 1..], self.places.pairs),
+        }
+    }
+
+    /// How many parameters there are.
+    #[inline(always)]
+    pub(crate) fn count(&self) -> usize
+        ensures { result ≡ length self.now.media.pairs }
+    {
+        self.places.pairs
+    }
+
+    /// The list of the parameters, as it is kept.
+    #[inline(always)]
+    pub(crate) fn list(&self) -> &str
+        ensures { pairs_within (length self.now.media.pairs) result.now ≡ self.now.media.pairs }
+    {
+        match self.places.semicolon {
+            None => "",
+            Some(semicolon) => &self.text.as_str()[semicolon + 1..],
         }
     }
 

@@ -1,3 +1,4 @@
 mod StandardFacts
 mod LineCuts
+mod ReadingOn
 mod Rows

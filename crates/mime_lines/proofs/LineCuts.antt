@@ -12,7 +12,7 @@ use lib.Dec.{ltb}
 unwrap_or-within : (n bound : ℕ) → n ≤ bound → unwrap_or (cond (ltb n bound) (Some n) None) bound ≡ n
 unwrap_or-within n bound h = grind (arith, nat_tests)
 
--- a place that is found, or the length
+-- a position that is found, or the length
 pub unwrap_or-position : (p : ℕ → Bool) (xs : List ℕ) (r : Option ℕ) → r ≡ cond (ltb (position_or_len p xs) (length xs)) (Some (position_or_len p xs)) None → unwrap_or r (length xs) ≡ position_or_len p xs
 unwrap_or-position p xs r e = ap (λ found. unwrap_or found (length xs)) e ∙ unwrap_or-within (position_or_len p xs) (length xs) (prefix_len-le-length (λ x. not (p x)) xs)
 
@@ -31,11 +31,11 @@ front-lines true n b bytes cut none = refl
 front-lines false n b [] cut none = rw (none refl) refl
 front-lines false n b (c ∷ bytes) cut none = ap (onto_first b) (cut (omega arith)) ∙ front-shift n b (c ∷ bytes)
 
--- the first line, and the lines behind its end
+-- the first line, and the lines after its end
 pub lines_of-first : (bytes : List ℕ) → 0 < length bytes → lines_of bytes ≡ take (position_or_len (λ b. nat_eq b 10) bytes) bytes ∷ lines_of (drop (position_or_len (λ b. nat_eq b 10) bytes + 1) bytes)
 lines_of-first [] h = absurd (omega arith)
 lines_of-first (b ∷ bytes) h = front-lines (nat_eq b 10) (position_or_len (λ b. nat_eq b 10) bytes) b bytes (lines_of-first bytes) (λ e. omega (arith, prefix_len-le-length (λ b. not (nat_eq b 10)) bytes))
 
--- what stands behind a place that may be the end
-pub drop-behind : (n : ℕ) (xs : List ℕ) → drop (n + 1) xs ≡ take (length xs - min (n + 1) (length xs)) (drop (min (n + 1) (length xs)) xs)
-drop-behind n xs = grind (arith, common_steps)
+-- what stands after a position that may be the end
+pub drop-after : (n : ℕ) (xs : List ℕ) → drop (n + 1) xs ≡ take (length xs - min (n + 1) (length xs)) (drop (min (n + 1) (length xs)) xs)
+drop-after n xs = grind (arith, common_steps)

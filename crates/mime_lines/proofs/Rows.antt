@@ -1,44 +1,93 @@
--- The rows of parameters, as `Params` gives these.
+-- The rows of a report, as the code adds them one by one.
 use Rattle.std.proofs.Common.{◌≡◌, ℕ, List, [], ◌∷◌, ◌++◌, refl, ap, sym, subst, ◌∙◌, append_assoc, append-nil, ◌≢◌, length, arith, codes, Result, Ok, Err, OnOk}
 use Rattle.mime.specs.Items.{Item, items_of}
-use Rattle.mime_lines.specs.Report.{row, param_rows, lines_of, ReportsLine, ReportsLines}
+use Rattle.std.specs.Str.{IsUtf8}
+use Rattle.mime.specs.Cut.{CutItem, Cut}
+use Rattle.mime.specs.Runs.{IsFirstItem, HasNoItem}
+use Rattle.mime_lines.specs.Report.{row, param_rows, lines_of, item_row, item_rows, ReportsText, ReportsLine, ReportsLines}
+use Rattle.mime_lines.specs.Report.ReportsText.{listed}
+use Rattle.mime_lines.specs.Report.ReportsLine.{is_text}
 use Rattle.mime_lines.specs.Report.ReportsLines.{no_more, line_more}
+use Rattle.mime_lines.specs.declared.mode.Mode.{Mode}
 use Rattle.mime.specs.Refusals.{IsFault, Explains}
 use Rattle.mime.specs.declared.scan.fault.ParseError.{ParseError}
 use Rattle.mime.specs.declared.scan.fault.ParseError.TheVariants.{NoMemory}
 
--- the rows of items
-abbrev pub item_rows : List Item → List ℕ
-item_rows [] = []
-item_rows (item ∷ items) = row (codes "param ") (item.name ++ (codes "=" ++ item.value)) ++ item_rows items
+-- the rows of what `Params` gives
+abbrev pub given_rows : List Item → List ℕ
+given_rows [] = []
+given_rows (item ∷ items) = row (codes "param ") (item.name ++ (codes "=" ++ item.value)) ++ given_rows items
 
 -- the rows of the items of pairs are those of the pairs
-pub item_rows-items_of : (pairs : List (List ℕ × List ℕ)) → item_rows (items_of pairs) ≡ param_rows pairs
-item_rows-items_of [] = refl
-item_rows-items_of ((name, value) ∷ pairs) = ap (λ rows. row (codes "param ") (name ++ (codes "=" ++ value)) ++ rows) (item_rows-items_of pairs)
+pub given_rows-items_of : (pairs : List (List ℕ × List ℕ)) → given_rows (items_of pairs) ≡ param_rows pairs
+given_rows-items_of [] = refl
+given_rows-items_of ((name, value) ∷ pairs) = ap (λ rows. row (codes "param ") (name ++ (codes "=" ++ value)) ++ rows) (given_rows-items_of pairs)
 
--- what a call that succeeds added is the report on the line
-pub reported : {E : Type 0} (result : Result (Unit {0}) E) (line rows old new : List ℕ) → ReportsLine line rows → OnOk result (new ≡ old ++ rows) → OnOk result ((more : List ℕ) × ReportsLine line more × (new ≡ old ++ more))
-reported (Ok done) line rows old new report added = (rows, report, added)
-reported (Err error) line rows old new report added = tt
+-- what a call that succeeds added is the report
+pub reported : {E : Type 0} (R : List ℕ → Type 0) (result : Result (Unit {0}) E) (rows old new : List ℕ) → R rows
+    → OnOk result (new ≡ old ++ rows) → OnOk result ((more : List ℕ) × R more × (new ≡ old ++ more))
+reported R (Ok done) rows old new report added = (rows, report, added)
+reported R (Err error) rows old new report added = tt
 
--- a line's report, and then that on the lines behind it
-pub ReportsLines-step : (input rest line tail old new : List ℕ) → lines_of rest ≡ line ∷ lines_of tail → ((more : List ℕ) → ReportsLines (lines_of rest) more → ReportsLines (lines_of input) (old ++ more)) → ((rows : List ℕ) × ReportsLine line rows × (new ≡ old ++ rows)) → (more : List ℕ) → ReportsLines (lines_of tail) more → ReportsLines (lines_of input) (new ++ more)
-ReportsLines-step input rest line tail old new cut whole (rows, report, added) more reports =
+-- the report on a text is that on its line
+pub reported-line : {E : Type 0} (result : Result (Unit {0}) E) (mode : Mode) (text line old new : List ℕ) → text ≡ line → IsUtf8 line
+    → OnOk result ((rows : List ℕ) × ReportsText mode text rows × (new ≡ old ++ rows))
+    → OnOk result ((rows : List ℕ) × ReportsLine mode line rows × (new ≡ old ++ rows))
+reported-line (Ok done) mode text line old new is utf8 (rows, report, added) =
+    (rows, is_text utf8 (subst (λ t. ReportsText mode t rows) is report), added)
+reported-line (Err error) mode text line old new is utf8 added = tt
+
+-- a line's report, and then that on the lines after it
+pub ReportsLines-step : (mode : Mode) (input rest line tail old new : List ℕ) → lines_of rest ≡ line ∷ lines_of tail
+    → ((more : List ℕ) → ReportsLines mode (lines_of rest) more → ReportsLines mode (lines_of input) (old ++ more))
+    → ((rows : List ℕ) × ReportsLine mode line rows × (new ≡ old ++ rows))
+    → (more : List ℕ) → ReportsLines mode (lines_of tail) more → ReportsLines mode (lines_of input) (new ++ more)
+ReportsLines-step mode input rest line tail old new cut whole (rows, report, added) more reports =
     let joined : old ++ (rows ++ more) ≡ new ++ more = sym (append_assoc old rows more) ∙ ap (λ text. text ++ more) (sym added) in
-    subst (λ text. ReportsLines (lines_of input) text) joined (whole (rows ++ more) (subst (λ lines. ReportsLines lines (rows ++ more)) (sym cut) (line_more report reports)))
+    subst (λ text. ReportsLines mode (lines_of input) text) joined
+    (whole (rows ++ more) (subst (λ lines. ReportsLines mode lines (rows ++ more)) (sym cut) (line_more report reports)))
 
 -- where no lines are left the report is whole
-pub ReportsLines-end : (input rest report : List ℕ) → length rest ≡ 0 → ((more : List ℕ) → ReportsLines (lines_of rest) more → ReportsLines (lines_of input) (report ++ more)) → ReportsLines (lines_of input) report
-ReportsLines-end input [] report none whole = subst (λ text. ReportsLines (lines_of input) text) (append-nil report) (whole [] no_more)
-ReportsLines-end input (byte ∷ rest) report none whole = absurd (omega arith)
+pub ReportsLines-end : (mode : Mode) (input rest report : List ℕ) → length rest ≡ 0
+    → ((more : List ℕ) → ReportsLines mode (lines_of rest) more → ReportsLines mode (lines_of input) (report ++ more))
+    → ReportsLines mode (lines_of input) report
+ReportsLines-end mode input [] report none whole =
+    subst (λ text. ReportsLines mode (lines_of input) text) (append-nil report) (whole [] no_more)
+ReportsLines-end mode input (byte ∷ rest) report none whole = absurd (omega arith)
 
--- where no items are left all rows are added
-pub param_rows-end : (old new : List ℕ) (all left : List Item) (pairs : List (List ℕ × List ℕ)) → left ≡ [] → all ≡ items_of pairs → new ++ item_rows left ≡ old ++ item_rows all → new ≡ old ++ param_rows pairs
+-- ---- items
+
+-- what was added of a text's items, and what is left of it to add
+pub record IsListing (text left old new : List ℕ) : Type 0 where
+  pub onward : (items : List CutItem) (rest : List ℕ) → Cut left items rest
+      → (all : List CutItem) × Cut text all rest × (old ++ item_rows all ≡ new ++ item_rows items)
+
+-- nothing is added yet
+pub listing-first : (text old : List ℕ) → IsListing text text old old
+listing-first text old = record { onward = λ items rest cut. (items, cut, refl) }
+
+-- the first item of what is left is added
+pub listing-more : (text left old new after more : List ℕ) (item : CutItem) → IsListing text left old new → IsFirstItem left item after
+    → more ≡ new ++ item_row item → IsListing text after old more
+listing-more text left old new after more item listing first added = record {
+  onward = λ items rest cut.
+      let all = listing.onward (item ∷ items) rest (first items rest cut) in
+      (all.0, all.1, all.2 ∙ sym (append_assoc new (item_row item) (item_rows items)) ∙ ap (λ t. t ++ item_rows items) (sym added));
+}
+
+-- where no item is left the text is reported
+pub listing-end : (text left old new : List ℕ) → IsListing text left old new → HasNoItem left
+    → (rows : List ℕ) × ReportsText Mode.List text rows × (new ≡ old ++ rows)
+listing-end text left old new listing (rest, cut) =
+    let all = listing.onward [] rest cut in
+    (item_rows all.0, listed all.0 rest all.1, sym (append-nil new) ∙ sym all.2)
+
+-- where no parameters are left all rows are added
+pub param_rows-end : (old new : List ℕ) (all left : List Item) (pairs : List (List ℕ × List ℕ)) → left ≡ [] → all ≡ items_of pairs → new ++ given_rows left ≡ old ++ given_rows all → new ≡ old ++ param_rows pairs
 param_rows-end old new all left pairs none items added =
-    sym (append-nil new) ∙ ap (λ xs. new ++ item_rows xs) (sym none) ∙ added ∙ ap (λ xs. old ++ item_rows xs) items ∙ ap (λ rows. old ++ rows) (item_rows-items_of pairs)
+    sym (append-nil new) ∙ ap (λ xs. new ++ given_rows xs) (sym none) ∙ added ∙ ap (λ xs. old ++ given_rows xs) items ∙ ap (λ rows. old ++ rows) (given_rows-items_of pairs)
 
--- an error other than want of memory is the text's fault
+-- an error other than that memory ran out is the text's fault
 pub fault-explained : (text : List ℕ) (fault : ParseError) → Explains text fault → fault ≢ NoMemory → IsFault text fault
 fault-explained text NoMemory why other = absurd (other refl)
 fault-explained text fault why other = why

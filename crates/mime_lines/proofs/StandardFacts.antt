@@ -1,7 +1,8 @@
 -- Worked examples of lines and rows, by computation, so that a wrong definition doesn't check.
 use Rattle.std.proofs.Common.{◌≡◌, [], ◌∷◌, refl, codes}
-use Rattle.std.specs.Prelude.{Some}
-use Rattle.mime_lines.specs.Report.{lines_of, row, value_rows}
+use Rattle.std.specs.Prelude.{Some, None}
+use Rattle.mime.specs.Cut.{good, bad}
+use Rattle.mime_lines.specs.Report.{lines_of, row, value_rows, item_rows}
 
 -- no bytes have no line
 no_lines : lines_of [] ≡ []
@@ -34,3 +35,13 @@ rows_of_value :
     })
     ≡ codes "ok text/html+xml;q=1\ntype text\nsubtype html\nsuffix xml\nparam q=1\n"
 rows_of_value = refl
+
+-- a good item is its kept text, a bad one its piece
+rows_of_items :
+    item_rows (
+    bad (codes "invalid")
+    ∷ good (codes "TEXT/HTML;") (record { essence = codes "text/html"; slash = 4; plus = None; pairs = []; kept = codes "text/html" })
+    ∷ []
+    )
+    ≡ codes "bad invalid\nok text/html\n"
+rows_of_items = refl

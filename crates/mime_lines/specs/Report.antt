@@ -5,9 +5,12 @@ use Rattle.std.specs.Str.{IsUtf8}
 use Rattle.mime.specs.Values.{MediaType, type_of, subtype_of, suffix_of, Reads}
 use Rattle.mime.specs.Refusals.{IsFault}
 use Rattle.mime.specs.Printed.{error_text}
+use Rattle.mime.specs.Cut.{CutItem, good, bad, Cut}
 use Rattle.mime.specs.declared.scan.fault.ParseError.{ParseError}
+use Rattle.mime_lines.specs.declared.mode.Mode.{Mode}
+use Rattle.mime_lines.specs.declared.mode.Mode.TheVariants.{Parts}
 
--- byte 10 ends a line; what stands behind the last one is a line if it isn't empty
+-- byte 10 ends a line; what comes after the last one is a line if it isn't empty
 abbrev pub lines_of : List ℕ → List (List ℕ)
 lines_of [] = []
 lines_of (byte ∷ bytes) = if byte == 10 then [] ∷ lines_of bytes else onto_first byte (lines_of bytes)
@@ -33,17 +36,32 @@ value_rows value =
     ++ (suffix_row (suffix_of value)
     ++ param_rows value.pairs)))
 
--- what is written of a line: that it isn't UTF-8, the value that it is read as, or its fault
-pub data ReportsLine : List ℕ → List ℕ → Type 0 where
-  not_text : {line : List ℕ} → ¬ (IsUtf8 line) → ReportsLine line (row (codes "not text") [])
-  read : {line : List ℕ} (value : MediaType) → IsUtf8 line → Reads line value → ReportsLine line (value_rows value)
-  refused : {line : List ℕ} (fault : ParseError) → IsUtf8 line → IsFault line fault → ReportsLine line (row (codes "bad ") (error_text fault))
+-- what is written of an item of a list: the kept text of a media type, or a piece that is none
+abbrev pub item_row : CutItem → List ℕ
+item_row (good piece value) = row (codes "ok ") value.kept
+item_row (bad piece) = row (codes "bad ") piece
+
+abbrev pub item_rows : List CutItem → List ℕ
+item_rows [] = []
+item_rows (item ∷ items) = item_row item ++ item_rows items
+
+-- what is written of a text: by its parts the value that it is read as or its fault, as a list the items of its cut
+pub data ReportsText : Mode → List ℕ → List ℕ → Type 0 where
+  read : {text : List ℕ} (value : MediaType) → Reads text value → ReportsText Mode.Parts text (value_rows value)
+  refused : {text : List ℕ} (fault : ParseError) → IsFault text fault → ReportsText Mode.Parts text (row (codes "bad ") (error_text fault))
+  listed : {text : List ℕ} (items : List CutItem) (rest : List ℕ) → Cut text items rest → ReportsText Mode.List text (item_rows items)
+
+-- what is written of a line: that it isn't UTF-8, or the report on its text
+pub data ReportsLine : Mode → List ℕ → List ℕ → Type 0 where
+  not_text : {mode : Mode} {line : List ℕ} → ¬ (IsUtf8 line) → ReportsLine mode line (row (codes "not text") [])
+  is_text : {mode : Mode} {line rows : List ℕ} → IsUtf8 line → ReportsText mode line rows → ReportsLine mode line rows
 
 -- what is written of lines, one after another
-pub data ReportsLines : List (List ℕ) → List ℕ → Type 0 where
-  no_more : ReportsLines [] []
-  line_more : {line : List ℕ} {lines : List (List ℕ)} {rows more : List ℕ} → ReportsLine line rows → ReportsLines lines more → ReportsLines (line ∷ lines) (rows ++ more)
+pub data ReportsLines : Mode → List (List ℕ) → List ℕ → Type 0 where
+  no_more : {mode : Mode} → ReportsLines mode [] []
+  line_more : {mode : Mode} {line : List ℕ} {lines : List (List ℕ)} {rows more : List ℕ}
+      → ReportsLine mode line rows → ReportsLines mode lines more → ReportsLines mode (line ∷ lines) (rows ++ more)
 
 -- the text is the report of these bytes
-abbrev pub IsReportOf : List ℕ → List ℕ → Type 0
-IsReportOf bytes text = ReportsLines (lines_of bytes) text
+abbrev pub IsReportOf : Mode → List ℕ → List ℕ → Type 0
+IsReportOf mode bytes text = ReportsLines mode (lines_of bytes) text

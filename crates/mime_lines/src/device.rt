@@ -1,24 +1,24 @@
-//! What the program reads from and writes to: a source, a sink, and a device that is either.
+//! What the program reads from and writes to: a source, a sink, and a device that is one of them.
 
-ghost use Rattle.std.specs.Prelude.{◌≡◌, List, ℕ, Bool, true, Option, OnOk, OnErr};
+ghost use Rattle.std.specs.Prelude.{◌≡◌, List, ℕ, Bool, true, Option, OnOk, OnErr, ⊤};
 ghost use Rattle.std.specs.Io.{ReadsAtMost};
 ghost use Rattle.std.specs.Io.KnownBytes.{ReadConsumes, Appends, Keeps};
 
 use std::io::{Read, Write};
 
-/// A read, a write or a flush failed.
+/// A read, a write or a flush failed: that of a full disk, say. Why it failed isn't told.
 #[derive(Clone, Copy, PartialEq, Eq, Debug)]
 pub struct Failed;
 
-/// What can be read from.
+/// What can be read from: a [`Device`] over standard input, for example.
 pub trait Source {
     /// The bytes that are left to read, where they are told.
     ghost left: { Self → Option (List ℕ) };
     /// The mark "has failed".
     ghost has_failed: { Self → Bool };
 
-    /// Puts bytes at the front of a buffer, and gives their number: 0 for a buffer that isn't
-    /// empty is the end.
+    /// Puts bytes at the front of a buffer, and gives their number: 3 for a buffer of 8 bytes means
+    /// that its first 3 are new. 0 for a buffer that isn't empty is the end.
     fn read(&mut self, buf: &mut [u8]) -> Result<usize, Failed>
         ensures bound { ReadsAtMost result buf.new }
         ensures bytes { ReadConsumes (left self.old) (left self.new) result buf.new }
@@ -27,12 +27,14 @@ pub trait Source {
         ensures unfailed { OnOk result (has_failed self.new ≡ has_failed self.old) };
 }
 
-/// What can be written to.
+/// What can be written to: a [`Device`] over standard output, for example.
 pub trait Sink {
     /// The bytes that it holds, where they are told.
     ghost held: { Self → Option (List ℕ) };
     /// The mark "has failed".
     ghost has_failed: { Self → Bool };
+    /// All that was written is passed on, where that is told.
+    ghost IsPassedOn: { Self → Type 0 } = { λ _. ⊤ };
 
     /// Writes all of the bytes. How many were written before a failure isn't told.
     fn write_all(&mut self, bytes: &[u8]) -> Result<(), Failed>
@@ -41,20 +43,23 @@ pub trait Sink {
         ensures failed { OnErr result (has_failed self.new ≡ true) }
         ensures unfailed { OnOk result (has_failed self.new ≡ has_failed self.old) };
 
-    /// Passes on what was written.
+    /// Passes on all that was written: what a buffer still holds goes to the file that it is for.
     fn flush(&mut self) -> Result<(), Failed>
         ensures bytes { Keeps (held self.old) (held self.new) }
+        // Nothing else says that all is passed on.
+        ensures passed_on { OnOk result (IsPassedOn self.new) }
         // A failure sets the mark, and nothing else changes it.
         ensures failed { OnErr result (has_failed self.new ≡ true) }
         ensures unfailed { OnOk result (has_failed self.new ≡ has_failed self.old) };
 }
 
-/// A reader as a source, a writer as a sink. Each call is handed to the inner call of its name.
+/// A reader as a source, a writer as a sink. Each call is handed to the inner call of its name:
+/// `Device { inner: rt.stdin(), failed: false }` reads standard input.
 #[derive(Drop)]
 pub struct Device<T> {
     /// The reader or writer.
     pub inner: T,
-    /// Whether a call has failed.
+    /// Whether a call has failed since this was `false`.
     pub failed: bool,
 }
 

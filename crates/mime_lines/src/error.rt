@@ -2,14 +2,14 @@
 
 use std::fmt;
 
-/// Why a run stops before its end.
+/// Why a run stops before its end. It prints as two words at most: `TooLong` as `too long`.
 #[derive(Clone, Copy, PartialEq, Eq, Debug)]
 pub enum RunError {
-    /// The source failed.
+    /// A read failed, whatever the cause.
     Read,
-    /// The sink failed.
+    /// A write or a flush failed, whatever the cause.
     Write,
-    /// The source gave more bytes than are taken.
+    /// The source gave more than 1,048,576 bytes.
     TooLong,
     /// There was no memory for the input or for its report.
     NoMemory,

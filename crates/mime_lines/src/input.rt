@@ -1,6 +1,6 @@
 //! What the program takes in: all bytes of a source up to a limit, and their lines.
 
-ghost use Rattle.std.specs.Prelude.{◌≡◌, ◌≢◌, ℕ, ◌<◌, ◌≤◌, ◌∷◌, ◌==◌, length, true, OnOk, IfOk, IfErr, IfSome};
+ghost use Rattle.std.specs.Prelude.{◌≡◌, ◌≢◌, ℕ, List, ◌<◌, ◌≤◌, ◌∷◌, ◌==◌, length, true, OnOk, IfOk, IfErr};
 ghost use Rattle.std.specs.List.{position_or_len};
 ghost use Rattle.std.specs.Io.KnownBytes.{Consumes, IsAtEnd};
 ghost use Rattle.mime_lines.specs.Report.{lines_of};
@@ -24,8 +24,10 @@ pub(crate) fn read_to_limit<S: Source>(alloc: Global, source: &mut S) -> Result<
     // The source fails exactly where the answer is `Read`.
     ensures read { result ≡ Err RunError.Read → S.has_failed source.new ≡ true }
     ensures unfailed { result ≢ Err RunError.Read → S.has_failed source.new ≡ S.has_failed source.old }
-    // Too much was given where the answer is `TooLong`; it is never `Write`.
-    ensures too_long { result ≡ Err RunError.TooLong → IfSome (S.left source.old) (λ bytes. 1048576 < length bytes) }
+    // The byte after the limit was given where the answer is `TooLong`.
+    ensures too_long { result ≡ Err RunError.TooLong
+        → (bytes : List ℕ) × Consumes (S.left source.old) (S.left source.new) bytes × (length bytes ≡ 1048577) }
+    // The answer is never `Write`.
     ensures no_write { result ≢ Err RunError.Write }
 {
     let mut input = Vec::new(alloc);
@@ -59,7 +61,7 @@ fn line_len(input: &[u8]) -> usize
         .unwrap_or(input.len())
 }
 
-/// The first line of an input that isn't empty, and what stands behind its end.
+/// The first line of an input that isn't empty, and what stands after its end.
 pub(crate) fn first_line(input: &[u8]) -> (&[u8], &[u8])
     requires { 0 < length input.now }
     ensures lines { lines_of input.now ≡ result.0.now ∷ lines_of result.1.now }

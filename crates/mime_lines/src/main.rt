@@ -1,8 +1,9 @@
-//! Reads media types, one a line, and reports on each.
+//! Reads media types, one a line or, with the argument `list`, lists of them, and reports on each.
 #![tactic(auto)]
 
-ghost use Rattle.std.specs.Prelude.{◌≡◌};
+ghost use Rattle.std.specs.Prelude.{◌≡◌, ◌≢◌, ◌<◌, ◌≤◌, Some, None, OnOk, OnErr, codes};
 ghost use Rattle.std.specs.Process.{exit_status};
+ghost use Rattle.std.specs.Vec.Iter.{into_iter_len};
 
 mod device;
 mod error;
@@ -18,29 +19,45 @@ pub use crate::error::RunError;
 pub use crate::lines::run;
 pub use crate::mode::Mode;
 use std::env;
-use std::env::Env;
+use std::env::Args;
 use std::process::ExitCode;
 
-/// The mode that the arguments ask for, or none where they ask for no mode.
-fn asked_mode<R: Env + Alloc>(rt: &R) -> Result<Option<Mode>, RunError> {
-    let Ok(mut args) = env::args(rt) else {
-        return Err(RunError::NoMemory);
-    };
-    let _program = args.next();
-    match args.next() {
-        None => Ok(Some(Mode::Parts)),
-        Some(_) => Ok(None),
+/// The mode that the arguments ask for, or none where they ask for no mode. The first of them is the
+/// name of the program.
+fn asked_mode(mut arguments: Args) -> Option<Mode>
+    ensures parts { into_iter_len arguments ≤ 1 → result ≡ Some Mode.Parts }
+    ensures list { result ≡ Some Mode.List → into_iter_len arguments ≡ 2 }
+    ensures other { 2 < into_iter_len arguments → result ≡ None }
+{
+    if arguments.len() > 2 {
+        return None;
+    }
+    let _program = arguments.next();
+    match arguments.next() {
+        None => Some(Mode::Parts),
+        Some(word) => named_mode(word.as_str()),
+    }
+}
+
+/// The mode that an argument names.
+fn named_mode(word: &str) -> Option<Mode>
+    ensures list { word.now ≡ codes "list" → result ≡ Some Mode.List }
+    ensures other { word.now ≢ codes "list" → result ≡ None }
+{
+    if word == "list" {
+        Some(Mode::List)
+    } else {
+        None
     }
 }
 
 fn main(rt: HostRuntime) -> ExitCode {
-    let mode = match asked_mode(&rt) {
-        Ok(Some(mode)) => mode,
-        Ok(None) => {
-            let _ = eprintln!(rt; "usage: mime_lines [list]");
-            return ExitCode::from(2);
-        }
-        Err(error) => return stopped(&rt, error),
+    let Ok(arguments) = env::args(&rt) else {
+        return ended(&rt, Err(RunError::NoMemory));
+    };
+    let Some(mode) = asked_mode(arguments) else {
+        let _ = eprintln!(rt; "usage: mime_lines [list]");
+        return ExitCode::from(2);
     };
     let mut input = Device {
         inner: rt.stdin(),
@@ -50,16 +67,20 @@ fn main(rt: HostRuntime) -> ExitCode {
         inner: rt.stdout(),
         failed: false,
     };
-    match run(rt.alloc(), &mut input, &mut output, mode) {
-        Ok(()) => ExitCode::SUCCESS,
-        Err(error) => stopped(&rt, error),
-    }
+    let outcome = run(rt.alloc(), &mut input, &mut output, mode);
+    ended(&rt, outcome)
 }
 
-/// Tells on standard error why the program stops, and gives its status.
-fn stopped(rt: &impl Eprint, error: RunError) -> ExitCode
-    ensures { exit_status result ≡ 1 }
+/// The status that a run ends with. Where it stopped, standard error is told why.
+fn ended(rt: &impl Eprint, outcome: Result<(), RunError>) -> ExitCode
+    ensures done { OnOk outcome (exit_status result ≡ 0) }
+    ensures stopped { OnErr outcome (exit_status result ≡ 1) }
 {
-    let _ = eprintln!(rt; "{error}");
-    ExitCode::FAILURE
+    match outcome {
+        Ok(()) => ExitCode::SUCCESS,
+        Err(error) => {
+            let _ = eprintln!(rt; "{error}");
+            ExitCode::FAILURE
+        }
+    }
 }

@@ -3,6 +3,9 @@
 /// What is reported of each line.
 #[derive(Clone, Copy, PartialEq, Eq, Debug)]
 pub enum Mode {
-    /// The parts of the line's one media type.
+    /// The parts of the one media type that the line is: for `a/b` the rows `ok a/b`, `type a` and
+    /// `subtype b`.
     Parts,
+    /// The media types and the bad pieces of the line, as [`mime::MimeIter`] gives them.
+    List,
 }

@@ -1,33 +1,44 @@
 //! The report on an input, line by line.
 
 ghost use Rattle.std.specs.Prelude.{◌≡◌, ℕ, List, ◌++◌, OnOk, IfOk, string_bytes};
-ghost use Rattle.mime_lines.specs.Report.{row, param_rows, value_rows, ReportsLine, IsReportOf};
+ghost use Rattle.mime_lines.specs.Report.{row, param_rows, value_rows, ReportsText, ReportsLine, IsReportOf};
 
 use crate::input::first_line;
-use mime::{Mime, ParseError};
+use crate::mode::Mode;
+use mime::{Bad, Mime, MimeIter, ParseError};
 use std::alloc::{AllocError, Global};
 
 /// The report on an input.
-pub(crate) fn report_of(alloc: Global, input: &[u8]) -> Result<String, AllocError>
-    ensures { IfOk result (λ report. IsReportOf input.now (string_bytes report)) }
+pub(crate) fn report_of(alloc: Global, input: &[u8], mode: Mode) -> Result<String, AllocError>
+    ensures { IfOk result (λ report. IsReportOf mode input.now (string_bytes report)) }
 {
     let mut report = String::new(alloc);
     let mut rest = input;
     while !rest.is_empty() {
         let (line, more) = first_line(rest);
-        push_line(alloc, &mut report, line)?;
+        push_line(alloc, &mut report, line, mode)?;
         rest = more;
     }
     Ok(report)
 }
 
 /// Adds the report on a line.
-fn push_line(alloc: Global, report: &mut String, line: &[u8]) -> Result<(), AllocError>
-    ensures { OnOk result ((rows : List ℕ) × ReportsLine line.now rows × (string_bytes report.new ≡ string_bytes report.old ++ rows)) }
+fn push_line(alloc: Global, report: &mut String, line: &[u8], mode: Mode) -> Result<(), AllocError>
+    ensures { OnOk result ((rows : List ℕ) × ReportsLine mode line.now rows × (string_bytes report.new ≡ string_bytes report.old ++ rows)) }
 {
     let Ok(text) = str::from_utf8(line) else {
         return push_row(report, "not text", "");
     };
+    match mode {
+        Mode::Parts => push_reading(alloc, report, text),
+        Mode::List => push_items(alloc, report, text),
+    }
+}
+
+/// Adds the rows of the media type that a text is, or its fault.
+fn push_reading(alloc: Global, report: &mut String, text: &str) -> Result<(), AllocError>
+    ensures { OnOk result ((rows : List ℕ) × ReportsText Mode.Parts text.now rows × (string_bytes report.new ≡ string_bytes report.old ++ rows)) }
+{
     match Mime::from_str(alloc, text) {
         Ok(mime) => push_value(report, &mime),
         Err(error) => match error.fault() {
@@ -38,6 +49,20 @@ fn push_line(alloc: Global, report: &mut String, line: &[u8]) -> Result<(), Allo
             }
         },
     }
+}
+
+/// Adds a row for each item of a text.
+fn push_items(alloc: Global, report: &mut String, text: &str) -> Result<(), AllocError>
+    ensures { OnOk result ((rows : List ℕ) × ReportsText Mode.List text.now rows × (string_bytes report.new ≡ string_bytes report.old ++ rows)) }
+{
+    for item in MimeIter::new(alloc, text) {
+        match item {
+            Ok(mime) => push_row(report, "ok ", mime.as_str())?,
+            Err(Bad::Piece(piece)) => push_row(report, "bad ", piece)?,
+            Err(Bad::NoMemory) => return Err(AllocError),
+        }
+    }
+    Ok(())
 }
 
 /// Adds the rows of a media type.

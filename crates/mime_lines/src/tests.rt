@@ -1,28 +1,12 @@
 //! What runs over memory answer and write.
 
-use crate::{Device, Mode, RunError, run};
-use std::alloc::{AllocError, Global};
-use std::io;
+ghost use Rattle.std.specs.Prelude.{◌≡◌, None, false};
+
+use crate::{Device, Failed, Mode, RunError, Sink, run};
+use std::alloc::Global;
 use std::io::{Read, Write};
 use std::test::Fail;
-
-/// Gives two bytes, and then is interrupted, which is a failure like any other.
-#[derive(Drop)]
-struct BrokenReader {
-    given: bool,
-}
-
-impl Read for BrokenReader {
-    fn read(&mut self, buf: &mut [u8]) -> io::Result<usize> {
-        if self.given || buf.len() < 2 {
-            return Err(io::Error::from(io::ErrorKind::Interrupted));
-        }
-        self.given = true;
-        buf[0] = b'a';
-        buf[1] = b'\n';
-        Ok(2)
-    }
-}
+use std::{fmt, io};
 
 /// Gives its bytes one by one.
 #[derive(Drop)]
@@ -43,24 +27,84 @@ impl Read for SlowReader<'_> {
     }
 }
 
-/// Keeps what it is given, and fails at each write or at each flush.
+/// Gives its bytes one by one. After a number of reads it is interrupted, which is a failure like any
+/// other.
 #[derive(Drop)]
-struct BrokenWriter {
-    kept: Vec<u8>,
-    fails_at_write: bool,
+struct FailingReader<'a> {
+    slow: SlowReader<'a>,
+    reads: usize,
 }
 
-impl Write for BrokenWriter {
-    fn write(&mut self, buf: &[u8]) -> io::Result<usize> {
-        if self.fails_at_write {
-            return Err(io::Error::from(io::ErrorKind::BrokenPipe));
+impl Read for FailingReader<'_> {
+    fn read(&mut self, buf: &mut [u8]) -> io::Result<usize> {
+        if self.reads == 0 {
+            return Err(io::Error::from(io::ErrorKind::Interrupted));
         }
-        self.kept.extend_from_slice(buf)?;
+        self.reads -= 1;
+        self.slow.read(buf)
+    }
+}
+
+/// Gives the letter `a` without end.
+#[derive(Drop)]
+struct EndlessReader;
+
+impl Read for EndlessReader {
+    fn read(&mut self, buf: &mut [u8]) -> io::Result<usize> {
+        buf.fill(b'a');
         Ok(buf.len())
+    }
+}
+
+/// Keeps what it is given, one byte a write, and fails where its room is full, or at each flush.
+#[derive(Drop)]
+struct FailingWriter {
+    kept: Vec<u8>,
+    room: usize,
+    fails_at_flush: bool,
+}
+
+impl Write for FailingWriter {
+    fn write(&mut self, buf: &[u8]) -> io::Result<usize> {
+        let Some(byte) = buf.first() else {
+            return Ok(0);
+        };
+        if self.kept.len() >= self.room {
+            return Err(io::Error::from(io::ErrorKind::Other));
+        }
+        self.kept.push(*byte)?;
+        Ok(1)
     }
 
     fn flush(&mut self) -> io::Result<()> {
-        Err(io::Error::from(io::ErrorKind::BrokenPipe))
+        if self.fails_at_flush {
+            return Err(io::Error::from(io::ErrorKind::BrokenPipe));
+        }
+        Ok(())
+    }
+}
+
+/// Drops what it is given, and tells whether a flush is due.
+#[derive(Drop)]
+struct Pending {
+    is_pending: bool,
+}
+
+impl Sink for Pending {
+    ghost held = { λ _. None };
+
+    ghost has_failed = { λ _. false };
+
+    ghost IsPassedOn = { λ sink. sink.is_pending ≡ false };
+
+    fn write_all(&mut self, _bytes: &[u8]) -> Result<(), Failed> {
+        self.is_pending = true;
+        Ok(())
+    }
+
+    fn flush(&mut self) -> Result<(), Failed> {
+        self.is_pending = false;
+        Ok(())
     }
 }
 
@@ -73,8 +117,16 @@ struct Outcome {
     sink_failed: bool,
 }
 
-/// A run from a reader to memory.
+/// A run from a reader to memory, over the parts of media types.
 fn run_over<R: Read>(alloc: Global, reader: R) -> Outcome
+where
+    R: Drop,
+{
+    run_in(Mode::Parts, alloc, reader)
+}
+
+/// A run from a reader to memory in a mode.
+fn run_in<R: Read>(mode: Mode, alloc: Global, reader: R) -> Outcome
 where
     R: Drop,
 {
@@ -86,7 +138,7 @@ where
         inner: Vec::new(alloc),
         failed: false,
     };
-    let answer = run(alloc, &mut source, &mut sink, Mode::Parts);
+    let answer = run(alloc, &mut source, &mut sink, mode);
     Outcome {
         answer,
         written: sink.inner,
@@ -95,16 +147,17 @@ where
     }
 }
 
-/// A run from memory to a writer that fails.
-fn run_to_broken_writer(alloc: Global, input: &[u8], fails_at_write: bool) -> Outcome {
+/// A run from memory to a writer that takes one byte a write.
+fn run_to(alloc: Global, input: &[u8], room: usize, fails_at_flush: bool) -> Outcome {
     let mut source = Device {
         inner: input,
         failed: false,
     };
     let mut sink = Device {
-        inner: BrokenWriter {
+        inner: FailingWriter {
             kept: Vec::new(alloc),
-            fails_at_write,
+            room,
+            fails_at_flush,
         },
         failed: false,
     };
@@ -114,6 +167,20 @@ fn run_to_broken_writer(alloc: Global, input: &[u8], fails_at_write: bool) -> Ou
         written: sink.inner.kept,
         source_failed: source.failed,
         sink_failed: sink.failed,
+    }
+}
+
+/// What is printed into it is refused where it is longer than this.
+#[derive(Drop)]
+struct Room(usize);
+
+impl fmt::Write for Room {
+    fn write_str(&mut self, s: &str) -> fmt::Result {
+        if s.len() > self.0 {
+            return Err(fmt::Error);
+        }
+        self.0 -= s.len();
+        Ok(())
     }
 }
 
@@ -168,6 +235,49 @@ fn reports_each_line(rt: HostRuntime) -> Result<(), Fail> {
 }
 
 #[test]
+fn reports_the_items_of_each_line(rt: HostRuntime) -> Result<(), Fail> {
+    let rows: [(&[u8], &str); 8] = [
+        (
+            b"application/json, invalid, text/html\ninvalid\n",
+            "ok application/json\nbad invalid\nok text/html\n",
+        ),
+        (
+            b"TEXT/HTML; Q=1,*/*;, a/b ;q=x",
+            "ok text/html; q=1\nok */*\nok a/b\nbad q\n",
+        ),
+        (
+            b"a/b;p=\"x, c/d\na/b;p=\"x\", c/d",
+            "ok a/b;p=\"x\"\nok c/d\n",
+        ),
+        (b"a/b, c/d\r\ne/f", "ok a/b\nok c/d\nok e/f\n"),
+        (b"", ""),
+        (b"\n\n", ""),
+        (b"\xff\na/b", "not text\nok a/b\n"),
+        (b"x, a/b\n, \xc3\n", "bad x\nok a/b\nnot text\n"),
+    ];
+    for (input, report) in rows {
+        let shown = String::from_utf8_lossy(rt.alloc(), input)?;
+        let whole = run_in(Mode::List, rt.alloc(), input);
+        assert_eq!(rt; whole.answer, Ok(()), "{shown}");
+        assert_eq!(rt; whole.written.as_slice(), report.as_bytes(), "{shown}");
+    }
+    Ok(())
+}
+
+#[test]
+fn a_list_may_have_1048576_bytes(rt: HostRuntime) -> Result<(), Fail> {
+    let mut commas = vec![in rt.alloc(); b','; 1_048_576]?;
+    let whole = run_in(Mode::List, rt.alloc(), commas.as_slice());
+    assert_eq!(rt; whole.answer, Ok(()));
+    assert_eq!(rt; whole.written.len(), 0);
+    commas.push(b',')?;
+    let long = run_in(Mode::List, rt.alloc(), commas.as_slice());
+    assert_eq!(rt; long.answer, Err(RunError::TooLong));
+    assert_eq!(rt; long.written.len(), 0);
+    Ok(())
+}
+
+#[test]
 fn takes_1048576_bytes_and_no_more(rt: HostRuntime) -> Result<(), Fail> {
     let mut letters = vec![in rt.alloc(); b'a'; 1_048_576]?;
     let whole = run_over(rt.alloc(), letters.as_slice());
@@ -182,45 +292,106 @@ fn takes_1048576_bytes_and_no_more(rt: HostRuntime) -> Result<(), Fail> {
 }
 
 #[test]
+fn a_report_may_be_longer_than_the_limit(rt: HostRuntime) -> Result<(), Fail> {
+    let letters = vec![in rt.alloc(); b'a'; 1_048_574]?;
+    let mut report = Vec::new(rt.alloc());
+    let parts: [&[u8]; 5] = [
+        b"ok ",
+        letters.as_slice(),
+        b"/b\ntype ",
+        letters.as_slice(),
+        b"\nsubtype b\n",
+    ];
+    for part in parts {
+        report.extend_from_slice(part)?;
+    }
+    let mut input = letters;
+    input.extend_from_slice(b"/b")?;
+    assert_eq!(rt; input.len(), 1_048_576);
+    let whole = run_over(rt.alloc(), input.as_slice());
+    assert_eq!(rt; whole.answer, Ok(()));
+    assert!(rt; whole.written.as_slice() == report.as_slice());
+    Ok(())
+}
+
+#[test]
+fn passes_on_what_it_writes(rt: HostRuntime) {
+    for input in [b"".as_slice(), b"a/b"] {
+        let mut source = Device {
+            inner: input,
+            failed: false,
+        };
+        let mut sink = Pending { is_pending: true };
+        assert_eq!(rt;
+            run(rt.alloc(), &mut source, &mut sink, Mode::Parts),
+            Ok(())
+        );
+        assert!(rt; !sink.is_pending, "after {} bytes", input.len());
+    }
+}
+
+#[test]
 fn stops_where_a_read_fails(rt: HostRuntime) {
-    for given in [true, false] {
-        let broken = run_over(rt.alloc(), BrokenReader { given });
-        assert_eq!(rt;
-            broken.answer,
-            Err(RunError::Read),
-            "two bytes were given: {given}"
-        );
-        assert_eq!(rt; broken.written.len(), 0, "two bytes were given: {given}");
-        assert!(rt;
-            broken.source_failed && !broken.sink_failed,
-            "two bytes were given: {given}"
-        );
+    let input: &[u8] = b"text/html\na/b, \xff";
+    for mode in [Mode::Parts, Mode::List] {
+        // The last of these reads would have told the end.
+        for reads in 0..=input.len() {
+            let slow = SlowReader { left: input };
+            let broken = run_in(mode, rt.alloc(), FailingReader { slow, reads });
+            assert_eq!(rt; broken.answer, Err(RunError::Read), "after {reads} reads");
+            assert_eq!(rt; broken.written.len(), 0, "after {reads} reads");
+            assert!(rt;
+                broken.source_failed && !broken.sink_failed,
+                "after {reads} reads"
+            );
+        }
     }
 }
 
 #[test]
-fn stops_where_a_write_or_a_flush_fails(rt: HostRuntime) {
-    for (fails_at_write, count) in [(true, 0), (false, b"ok a/b\ntype a\nsubtype b\n".len())] {
-        let broken = run_to_broken_writer(rt.alloc(), b"a/b", fails_at_write);
-        assert_eq!(rt;
-            broken.answer,
-            Err(RunError::Write),
-            "a write fails: {fails_at_write}"
-        );
-        assert_eq!(rt;
-            broken.written.len(),
-            count,
-            "a write fails: {fails_at_write}"
-        );
-        assert!(rt;
-            broken.sink_failed && !broken.source_failed,
-            "a write fails: {fails_at_write}"
-        );
+fn an_endless_input_is_too_long(rt: HostRuntime) {
+    for mode in [Mode::Parts, Mode::List] {
+        let endless = run_in(mode, rt.alloc(), EndlessReader);
+        assert_eq!(rt; endless.answer, Err(RunError::TooLong));
+        assert_eq!(rt; endless.written.len(), 0);
+        assert!(rt; !endless.source_failed && !endless.sink_failed);
     }
 }
 
 #[test]
-fn prints_each_error(rt: HostRuntime) -> Result<(), AllocError> {
+fn stops_where_a_write_or_a_flush_fails(rt: HostRuntime) -> Result<(), Fail> {
+    let mut lines = Vec::new(rt.alloc());
+    for _ in 0..400 {
+        lines.extend_from_slice(b"a/b\n")?;
+    }
+    // The input, the room of the writer, whether its flush fails, and the answer.
+    let cases: [(&[u8], usize, bool, Result<(), RunError>); 8] = [
+        (b"a/b", 24, false, Ok(())),
+        (b"a/b", 23, false, Err(RunError::Write)),
+        (b"a/b", 5, false, Err(RunError::Write)),
+        (b"a/b", 0, false, Err(RunError::Write)),
+        (b"a/b", 24, true, Err(RunError::Write)),
+        (b"", 0, false, Ok(())),
+        // A flush is made for an empty report and for a long one too.
+        (b"", 0, true, Err(RunError::Write)),
+        (lines.as_slice(), 9_600, true, Err(RunError::Write)),
+    ];
+    for (input, room, fails_at_flush, answer) in cases {
+        let ended = run_to(rt.alloc(), input, room, fails_at_flush);
+        assert_eq!(rt; ended.answer, answer, "{room} bytes, {fails_at_flush}");
+        assert_eq!(rt; ended.written.len(), room, "{room} bytes, {fails_at_flush}");
+        assert_eq!(rt;
+            ended.sink_failed,
+            answer.is_err(),
+            "{room} bytes, {fails_at_flush}"
+        );
+        assert!(rt; !ended.source_failed, "{room} bytes, {fails_at_flush}");
+    }
+    Ok(())
+}
+
+#[test]
+fn prints_each_error(rt: HostRuntime) -> Result<(), Fail> {
     for (error, text) in [
         (RunError::Read, "read"),
         (RunError::Write, "write"),
@@ -229,6 +400,15 @@ fn prints_each_error(rt: HostRuntime) -> Result<(), AllocError> {
     ] {
         let shown = format!(in rt.alloc(); "{error}")?;
         assert_eq!(rt; shown.as_str(), text);
+        // It answers what its writer answers.
+        for room in 0..=text.len() {
+            let answer = fmt::Write::write_fmt(&mut Room(room), format_args!("{error}"));
+            assert_eq!(rt;
+                answer.is_ok(),
+                room == text.len(),
+                "{text} into {room} bytes"
+            );
+        }
     }
     Ok(())
 }

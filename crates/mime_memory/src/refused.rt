@@ -1,7 +1,9 @@
 //! Readings and look-ups without memory.
 
 use crate::taken::all_memory;
-use mime::{CHARSET, Mime, ParseError, TEXT, TextKey, UTF_8, name_eq_str};
+use mime::{
+    Bad, CHARSET, Mime, MimeIter, ParseError, TEXT, TextKey, UTF_8, mime_eq_str, name_eq_str,
+};
 use std::alloc::Global;
 use std::fmt::Write;
 use std::test::Fail;
@@ -32,14 +34,14 @@ fn without_memory(rt: HostRuntime) -> Result<(), Fail> {
     let any = Mime::from_str(alloc, "*/*")?;
     assert_eq!(rt; any.as_str(), "*/*");
     // Every other accepted text asks, and a refused text doesn't.
-    let wanting = Some(ParseError::NoMemory);
+    let no_memory = Some(ParseError::NoMemory);
     let cases = [
-        (text, wanting),
-        ("a/b", wanting),
-        ("text/", wanting),
-        ("*/*;", wanting),
-        ("a/b;p=", wanting),
-        ("a/b;p=\"é;,\"", wanting),
+        (text, no_memory),
+        ("a/b", no_memory),
+        ("text/", no_memory),
+        ("*/*;", no_memory),
+        ("a/b;p=", no_memory),
+        ("a/b;p=\"é;,\"", no_memory),
         ("", Some(ParseError::MissingSlash)),
         ("text", Some(ParseError::MissingSlash)),
         ("a/b;p", Some(ParseError::MissingEqual)),
@@ -120,5 +122,89 @@ fn one_request_for_each_text(rt: HostRuntime) -> Result<(), Fail> {
         drop(blocks);
         assert!(rt; read?.as_str() == kept, "{text}");
     }
+    Ok(())
+}
+
+/// What an item is, by its first letter and what it holds; `-` for none.
+fn shown<'a>(item: &'a Option<Result<Mime, Bad<'_>>>) -> (char, &'a str) {
+    match item {
+        None => ('-', ""),
+        Some(Ok(mime)) => ('o', mime.as_str()),
+        Some(Err(Bad::Piece(piece))) => ('b', piece),
+        Some(Err(Bad::NoMemory)) => ('n', ""),
+    }
+}
+
+#[test]
+fn iterates_without_memory(rt: HostRuntime) -> Result<(), Fail> {
+    let alloc = rt.alloc();
+    let blocks = all_memory(alloc)?;
+    let mut iter = MimeIter::new(alloc, "e, */*, a/b, */*");
+    // Bad pieces and `*/*` ask for none, and a clone doesn't either.
+    assert_eq!(rt; shown(&iter.next()), ('b', "e"));
+    assert_eq!(rt; shown(&iter.next()), ('o', "*/*"));
+    let mut clone = iter.clone()?;
+    // Every other media type asks, and being refused is the end.
+    for expected in ['n', '-', '-'] {
+        assert_eq!(rt; shown(&iter.next()), (expected, ""));
+    }
+    let mut first = MimeIter::new(alloc, "a/b, c/d");
+    for expected in ['n', '-', '-'] {
+        assert_eq!(rt; shown(&first.next()), (expected, ""));
+    }
+    drop(blocks);
+    // With memory again the end stays the end, and what has not ended goes on.
+    assert_eq!(rt; shown(&iter.next()), ('-', ""));
+    assert_eq!(rt; shown(&first.next()), ('-', ""));
+    assert_eq!(rt; shown(&clone.next()), ('o', "a/b"));
+    assert_eq!(rt; shown(&clone.next()), ('o', "*/*"));
+    assert_eq!(rt; shown(&clone.next()), ('-', ""));
+    Ok(())
+}
+
+#[test]
+fn compares_with_texts_without_memory(rt: HostRuntime) -> Result<(), Fail> {
+    let alloc = rt.alloc();
+    let cases = [
+        ("text/event-stream;       ", "text/event-stream;", false),
+        ("text/event-stream;       ", "text/event-stream", true),
+        ("text/plain", "Text/PLAIN", true),
+        ("text/plain", "text/pl(in", false),
+        (
+            "text/plain; charset=utf-8",
+            "text/plain;charset=\"UTF-8\"; ",
+            true,
+        ),
+        (
+            "text/plain; charset=utf-8",
+            "TEXT/PLAIN; CHARSET=UTF-8",
+            true,
+        ),
+        ("a/b;p=x", "a/b;p=\"x\"junk", false),
+        ("a/b;p=x", "a/bXp=x", false),
+        ("a/b;p=x", "😀", false),
+        ("a/b;p=x", "éé", false),
+        ("a/b;p=x", "a/b;p=", false),
+        ("a/b;p=x", "a/b;p=\"", false),
+        ("a/b;p=x", "a/b;p=x", true),
+        ("a/b;p=x;q=y", "A/B; P=\"x\"; Q=\"y\"", true),
+        ("A/B; P=\"x\"; Q=\"y\"", "a/b;p=x;q=y", true),
+        ("A/B; P=\"x\"; Q=\"y\"", "A/B; P=\"x\"; Q=\"y\"", true),
+        ("a/b;q=y;p=x", "a/b;p=x;q=y", false),
+        ("a/b;p=x", "a/b;p=x;q=y", false),
+        ("a/b;p=x;q=y", "a/b;p=x", false),
+    ];
+    let mut values = Vec::with_capacity(alloc, cases.len())?;
+    for (value, _, _) in cases {
+        values.push(Mime::from_str(alloc, value)?)?;
+    }
+    let blocks = all_memory(alloc)?;
+    for (mime, (value, text, expected)) in values.iter().zip(cases) {
+        assert!(rt;
+            mime_eq_str(mime, text) == expected,
+            "{value} against {text:?}"
+        );
+    }
+    drop(blocks);
     Ok(())
 }

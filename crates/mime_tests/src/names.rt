@@ -75,7 +75,7 @@ fn constants_have_their_texts(rt: HostRuntime) {
     }
 }
 
-/// A name that minds case.
+/// A name that is case-sensitive.
 const fn exact(text: &'static str) -> Name<'static> {
     Name {
         text,
@@ -117,7 +117,10 @@ fn names_compare(rt: HostRuntime) -> Result<(), Fail> {
         }
     }
     assert_eq!(rt; exact("text").partial_cmp(&TEXT), Some(Ordering::Less));
-    // A value that was read: `p` minds case.
+    for name in ordered {
+        assert!(rt; name.clone()? == name, "the clone of {name:?}");
+    }
+    // A value that was read: that of `p` is case-sensitive.
     let mime = Mime::from_str(rt.alloc(), "a/b;p=ABC")?;
     let Some(value) = mime.get_param(TextKey("p")) else {
         panic!(rt; "no p");
@@ -159,7 +162,7 @@ fn case_is_ignored_as_std_ignores_it(rt: HostRuntime) {
 
 /// A hasher whose state is a function of the bytes that it is fed.
 #[derive(Drop)]
-struct Digits(u64);
+pub(crate) struct Digits(pub(crate) u64);
 
 impl Hasher for Digits {
     ghost write = { λ state bytes. record { 0 = fold (λ sum byte. (sum * 257 + byte) % 2 ^ 64) state.0 bytes } };
@@ -200,15 +203,21 @@ fn names_feed_a_hasher(rt: HostRuntime) -> Result<(), Fail> {
 fn names_are_printed(rt: HostRuntime) -> Result<(), Fail> {
     let alloc = rt.alloc();
     let quoted = exact("\"é\\");
+    let accented = exact("é");
+    let controls = exact("\n\t\u{7F}\0");
     let cases = [
         (format!(in alloc; "{TEXT}")?, "text"),
         (format!(in alloc; "{TEXT:>6}")?, "  text"),
         (format!(in alloc; "{TEXT:<6}|")?, "text  |"),
         (format!(in alloc; "{TEXT:*^8}")?, "**text**"),
         (format!(in alloc; "{TEXT:2}")?, "text"),
+        // A width counts characters.
+        (format!(in alloc; "{accented:>6}")?, "     é"),
+        (format!(in alloc; "{accented:-<3}")?, "é--"),
         (format!(in alloc; "{TEXT:?}")?, "\"text\""),
         (format!(in alloc; "{quoted}")?, "\"é\\"),
         (format!(in alloc; "{quoted:?}")?, "\"\\\"é\\\\\""),
+        (format!(in alloc; "{controls:?}")?, "\"\\n\\t\\u{7f}\\0\""),
     ];
     for (printed, expected) in &cases {
         assert_eq!(rt; printed.as_str(), *expected);

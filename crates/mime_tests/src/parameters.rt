@@ -32,7 +32,7 @@ fn accepted_texts_have_their_parameters(rt: HostRuntime) -> Result<(), Fail> {
             "A/B; P=\"X\"; CharSet=\"X;Y\"; Q=Z",
             "a/b; p=\"X\"; charset=\"x;y\"; q=Z | a | b | - | a/b | p=X | charset~x;y | q=Z",
         ),
-        // Behind the last parameter a semicolon and spaces are kept.
+        // After the last parameter a semicolon and spaces are kept.
         ("a/b;p=x", "a/b;p=x | a | b | - | a/b | p=x"),
         ("a/b;p=x; ", "a/b;p=x;  | a | b | - | a/b | p=x"),
         (
@@ -47,7 +47,7 @@ fn accepted_texts_have_their_parameters(rt: HostRuntime) -> Result<(), Fail> {
             "text/plain;charset=\"utf-8\"   ",
             "text/plain;charset=\"utf-8\"    | text | plain | - | text/plain | charset~utf-8",
         ),
-        // A charset behind quotes, or not in the first place, is found where it stands.
+        // A charset in quotes, or before another parameter, is found where it stands.
         (
             "text/html; charset=\"utf-8\"; q=1",
             "text/html; charset=\"utf-8\"; q=1 | text | html | - | text/html | charset~utf-8 | q=1",
@@ -66,7 +66,7 @@ fn accepted_texts_have_their_parameters(rt: HostRuntime) -> Result<(), Fail> {
         ),
         // Duplicates are kept.
         ("a/b;p=1;P=2", "a/b;p=1;p=2 | a | b | - | a/b | p=1 | p=2"),
-        // An unquoted value may be empty where the text ends behind it.
+        // An unquoted value may be empty where the text ends after it.
         ("a/b;p=", "a/b;p= | a | b | - | a/b | p="),
         ("a/b;q=1; p=", "a/b;q=1; p= | a | b | - | a/b | q=1 | p="),
         // A quoted value may begin with a quote, and holds any byte but another quote and controls.
@@ -131,12 +131,26 @@ fn keys_find_the_first_value(rt: HostRuntime) -> Result<(), Fail> {
         let found = mime.get_param(TextKey(key)).map(|name| name.as_str());
         assert!(rt; found == expected, "{key} in {text}");
     }
-    for text in ["text/plain;charset=\"utf-8\"", "TEXT/PLAIN; CHARSET=UTF-8"] {
+    for text in [
+        "text/plain; charset=utf-8",
+        "text/plain; charset=utf-8; foo=bar",
+        "text/plain;charset=\"utf-8\"",
+        "TEXT/PLAIN; CHARSET=UTF-8",
+    ] {
         let mime = Mime::from_str(rt.alloc(), text)?;
+        // The value is the name `utf-8` in its flag too.
         assert!(rt;
             mime.get_param(CHARSET) == Some(UTF_8),
             "a constant as a key in {text}"
         );
+        assert!(rt;
+            mime.get_param(TextKey("Charset")) == Some(UTF_8),
+            "a text as a key in {text}"
+        );
+        let is_utf8 = mime
+            .get_param(CHARSET)
+            .is_some_and(|value| name_eq_str(&value, "utf-8"));
+        assert!(rt; is_utf8, "the value against a text in {text}");
         assert!(rt;
             mime.get_param(BOUNDARY) == None,
             "a constant as a key in {text}"
@@ -150,22 +164,31 @@ fn keys_find_the_first_value(rt: HostRuntime) -> Result<(), Fail> {
 
 #[test]
 fn values_ignore_case_under_charset_alone(rt: HostRuntime) -> Result<(), Fail> {
-    let cases = [
-        ("charset", "bAsE64", true),
-        ("boundary", "ABCDEFG", true),
-        ("boundary", "abcdefg", false),
-    ];
-    let text = "multipart/form-data; charset=BASE64; boundary=ABCDEFG";
-    let mime = Mime::from_str(rt.alloc(), text)?;
+    let form = "multipart/form-data; charset=BASE64; boundary=ABCDEFG";
+    let mime = Mime::from_str(rt.alloc(), form)?;
     assert!(rt; mime.type_() == MULTIPART && mime.subtype() == FORM_DATA);
-    for (key, other, expected) in cases {
+    let small = "text/plain; charset=utf-8; foo=bar";
+    let large = "TEXT/PLAIN; CHARSET=UTF-8; FOO=BAR";
+    let cases = [
+        (form, "charset", "bAsE64", true),
+        (form, "boundary", "ABCDEFG", true),
+        (form, "boundary", "abcdefg", false),
+        (small, "charset", "UTF-8", true),
+        (small, "foo", "bar", true),
+        (small, "foo", "BAR", false),
+        (large, "charset", "utf-8", true),
+        (large, "foo", "BAR", true),
+        (large, "foo", "bar", false),
+    ];
+    for (text, key, other, expected) in cases {
+        let mime = Mime::from_str(rt.alloc(), text)?;
         let Some(value) = mime.get_param(TextKey(key)) else {
             panic!(rt; "no {key}");
         };
         assert_eq!(rt;
             name_eq_str(&value, other),
             expected,
-            "{key} against {other}"
+            "{key} against {other} in {text}"
         );
     }
     // As a key a value accepts a name of its text only where it ignores case too.

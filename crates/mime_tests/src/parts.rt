@@ -1,4 +1,4 @@
-//! The classes of bytes, and the parts of texts without a parameter.
+//! The classes of bytes, and the parts of texts, most of them without a parameter.
 
 use crate::described::line_of;
 use mime::{
@@ -55,12 +55,12 @@ fn classes_of_all_bytes(rt: HostRuntime) {
 
 #[test]
 fn accepted_texts_have_their_parts(rt: HostRuntime) -> Result<(), Fail> {
-    const CASES: [(&str, &str); 13] = [
+    const CASES: [(&str, &str); 15] = [
         ("*/*", "*/* | * | * | - | */*"),
         ("image/*", "image/* | image | * | - | image/*"),
         ("text/plain", "text/plain | text | plain | - | text/plain"),
         ("TEXT/Plain", "text/plain | text | plain | - | text/plain"),
-        // A subtype may be empty where the text ends behind it.
+        // A subtype may be empty where the text ends after it.
         ("text/", "text/ | text |  | - | text/"),
         // The last plus that isn't the subtype's first byte begins the suffix, which may be empty.
         ("a/+xml", "a/+xml | a | +xml | - | a/+xml"),
@@ -69,8 +69,17 @@ fn accepted_texts_have_their_parts(rt: HostRuntime) -> Result<(), Fail> {
         ("a/++", "a/++ | a | + |  | a/++"),
         ("a+b/c", "a+b/c | a+b | c | - | a+b/c"),
         (
+            "image/svg+xml",
+            "image/svg+xml | image | svg | xml | image/svg+xml",
+        ),
+        (
             "IMAGE/SVG+XML",
             "image/svg+xml | image | svg | xml | image/svg+xml",
+        ),
+        // The essence ends where the parameters begin.
+        (
+            "text/plain; charset=utf-8",
+            "text/plain; charset=utf-8 | text | plain | - | text/plain | charset~utf-8",
         ),
         // A list without a parameter is cut off.
         (

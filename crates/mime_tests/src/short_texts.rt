@@ -21,7 +21,7 @@ fn fault_of(rt: &impl Abort, alloc: Global, bytes: &[u8]) -> Result<Option<Parse
     Ok(fault)
 }
 
-/// Whether the text is accepted with the completion behind it. The buffer is left as it was.
+/// Whether the text is accepted with the completion after it. The buffer is left as it was.
 fn is_completed(
     rt: &impl Abort,
     alloc: Global,
@@ -36,26 +36,25 @@ fn is_completed(
 }
 
 fn check(rt: &impl Abort, alloc: Global, text: &mut Vec<u8>) -> Result<(), Fail> {
-    let Some(fault) = fault_of(rt, alloc, text.as_slice())? else {
-        return Ok(());
-    };
+    let fault = fault_of(rt, alloc, text.as_slice())?;
     let completed = [
         is_completed(rt, alloc, text, b"x/")?,
         is_completed(rt, alloc, text, b"=")?,
         is_completed(rt, alloc, text, b"x\"")?,
     ];
     let expected = match fault {
-        ParseError::MissingSlash => [true, false, false],
-        ParseError::MissingEqual => [false, true, false],
-        ParseError::MissingQuote => [false, false, true],
+        Some(ParseError::MissingSlash) => [true, false, false],
+        Some(ParseError::MissingEqual) => [false, true, false],
+        Some(ParseError::MissingQuote) => [false, false, true],
+        // Nothing makes another accepted text of one that is accepted, or of one with a dead byte.
         _ => [false, false, false],
     };
     assert!(rt; completed == expected, "{text:?}");
-    if let ParseError::InvalidToken { pos, byte } = fault {
+    if let Some(ParseError::InvalidToken { pos, byte }) = fault {
         assert!(rt; pos < text.len() && text[pos] == byte, "{text:?}");
-        // The bytes up to and with this one have the same fault, those before it another or none.
+        // The bytes up to and including this one have the same fault, those before it another or none.
         let dead = fault_of(rt, alloc, &text[..pos + 1])?;
-        assert!(rt; dead == Some(fault), "{text:?}");
+        assert!(rt; dead == fault, "{text:?}");
         let front = fault_of(rt, alloc, &text[..pos])?;
         assert!(rt;
             !matches!(front, Some(ParseError::InvalidToken { .. })),

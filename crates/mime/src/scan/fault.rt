@@ -8,23 +8,23 @@ use std::error::Error;
 use std::fmt;
 use std::marker::Model;
 
-/// Why a text isn't read as a media type.
+/// Why a text isn't read as a media type (RFC 7231, 3.1.1.1).
 #[derive(Clone, Copy, PartialEq, Eq, Debug)]
 pub enum ParseError {
-    /// The text ends in its type: a `/` and a subtype are missing.
+    /// The text ends in its type: a `/` and a subtype are missing, as in `text`.
     MissingSlash,
-    /// The text ends in a parameter's name: a `=` and a value are missing.
+    /// The text ends in a parameter's name: a `=` and a value are missing, as in `a/b;p`.
     MissingEqual,
-    /// The text ends in a quoted value: its closing `"` is missing.
+    /// The text ends in a quoted value: its closing `"` is missing, as in `a/b;p="x`.
     MissingQuote,
-    /// No media type begins with the bytes up to and with this one.
+    /// No media type begins with the bytes up to and including this one, as the space in `a b`.
     InvalidToken {
-        /// The place of the byte, in bytes from 0.
+        /// The position of the byte, in bytes from 0.
         pos: usize,
         /// The byte, which begins a character.
         byte: u8,
     },
-    /// The text is a media type, and there was no memory to keep it.
+    /// The text is a media type, and memory ran out.
     NoMemory,
 }
 
@@ -61,7 +61,7 @@ fn write_token<W: fmt::Write>(f: &mut fmt::Formatter<W>, pos: usize, byte: u8) -
     write!(f, " at position {pos}")
 }
 
-/// Prints what is missing, or the byte in capital hexadecimal with its place in decimal. A width is
+/// Prints what is missing, or the byte in capital hexadecimal with its position in decimal. A width is
 /// ignored.
 ///
 /// `text/;` is refused with `an invalid token was encountered, 3B at position 5`.
@@ -111,7 +111,7 @@ impl FromStrError {
         FromStrError { fault }
     }
 
-    /// The fault (RFC 7231, 3.1.1.1), with places in bytes from 0. That of `text/;` is
+    /// The fault (RFC 7231, 3.1.1.1), with positions in bytes from 0. That of `text/;` is
     /// `InvalidToken { pos: 5, byte: b';' }`.
     pub fn fault(&self) -> &ParseError
         ensures { result.now ≡ self.now }

@@ -32,7 +32,7 @@ fn names_charset(name: &str) -> bool
     eq_ignoring_case(name.as_bytes(), b"charset")
 }
 
-/// Makes the capitals small between two places.
+/// Makes the capitals small between two positions.
 #[inline]
 fn lower_range(bytes: &mut [u8], from: usize, to: usize)
     requires order { from ≤ to }
@@ -42,7 +42,7 @@ fn lower_range(bytes: &mut [u8], from: usize, to: usize)
     bytes[from..to].make_ascii_lowercase();
 }
 
-/// Lowers the first pair of a list, whose bytes these are, and gives the list behind it.
+/// Lowers the first pair of a list, whose bytes these are, and gives the list after it.
 #[inline]
 fn lower_first<'a>(bytes: &mut [u8], list: &'a str) -> &'a str
     requires { bytes.old ≡ list.now }
@@ -84,7 +84,7 @@ fn lower_text(bytes: &mut [u8], text: &str, semicolon: usize, pairs: usize)
 
 /// The kept text of an accepted text: only what ignores case is lowered, and an empty list is cut
 /// off.
-#[inline]
+#[inline(always)]
 pub(crate) fn keep_text(alloc: Global, text: &str, places: Places) -> Result<String, AllocError>
     requires { HasPlaces text.now places }
     ensures { IfOk result (λ kept. string_bytes kept ≡ kept_text_of places.pairs places.semicolon text.now) }
@@ -103,7 +103,7 @@ pub(crate) fn keep_text(alloc: Global, text: &str, places: Places) -> Result<Str
     Ok(unsafe { String::from_utf8_unchecked(bytes) })
 }
 
-/// The places in the kept text.
+/// The positions in the kept text.
 #[inline(always)]
 pub(crate) fn keep_places(places: Places) -> Places
     ensures { result ≡ kept_places places }

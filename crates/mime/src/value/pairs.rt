@@ -8,7 +8,7 @@ ghost use Rattle.mime.specs.Quoted.{content_of, behind_content, content_len as l
 
 use crate::bytes::is_space;
 
-/// The first pair of a list, and the list behind its semicolon.
+/// The first pair of a list, and the list after its semicolon.
 #[derive(Clone, Copy)]
 pub(crate) struct Pair<'a> {
     pub(crate) name: &'a str,
@@ -19,7 +19,7 @@ pub(crate) struct Pair<'a> {
     pub(crate) rest: &'a str,
 }
 
-/// The first place of a byte from a place on, or the end.
+/// The first position of a byte from a position on, or the end.
 #[inline]
 fn place_from(text: &[u8], from: usize, byte: u8) -> usize
     ensures { result ≡ first_place from byte text.now }
@@ -34,7 +34,7 @@ fn place_from(text: &[u8], from: usize, byte: u8) -> usize
     place
 }
 
-/// What stands before that place, and what stands behind it.
+/// What stands before that position, and what stands after it.
 #[inline]
 fn split_from<'a>(text: &'a str, from: usize, byte: u8) -> (&'a str, &'a str)
     requires { byte < 128 }
@@ -49,7 +49,7 @@ fn split_from<'a>(text: &'a str, from: usize, byte: u8) -> (&'a str, &'a str)
     }
 }
 
-/// Where what stands between quotes ends: at the first quote behind its first byte, or with the text.
+/// Where what stands between quotes ends: at the first quote after its first byte, or with the text.
 #[inline]
 fn content_len(text: &[u8]) -> usize
     ensures { result ≡ len_of text.now }
@@ -67,7 +67,7 @@ fn content_len(text: &[u8]) -> usize
     place
 }
 
-/// What stands between quotes, and what stands behind the one that closes.
+/// What stands between quotes, and what stands after the one that closes.
 #[inline]
 fn split_content<'a>(text: &'a str) -> (&'a str, &'a str)
     ensures content { result.0.now ≡ content_of text.entry.now }
@@ -98,7 +98,7 @@ fn gap_of(list: &str) -> usize
     gap
 }
 
-/// The pair of a name, from what stands behind its equals sign in a list of so many bytes: a quoted
+/// The pair of a name, from what stands after its equals sign in a list of so many bytes: a quoted
 /// value or a plain one.
 #[inline]
 fn cut_value<'a>(whole: usize, name: &'a str, text: &'a str) -> Pair<'a>

@@ -14,6 +14,7 @@ use std::marker::Model;
 
 /// The parameters of a media type that are still to come, in the text's order: an iterator over
 /// pairs of a name and a value. A name ignores case; a value does exactly if its name is `charset`.
+/// Those of `a/b;P=X` give the name `p` with the value `X` (RFC 7231, 3.1.1.1).
 /// The size hint is the number left, twice. It walks the kept text, and asks for no memory.
 #[derive(Drop)]
 pub struct Params<'a> {

@@ -1,4 +1,4 @@
--- The place that is found is the length of the line.
+-- The position that is found is the length of the line.
 use Rattle.std.proofs.Common.{◌∙◌, nat_eq, rules}
 use Rattle.std.proofs.lemmas.Iterator.{YieldsList-from_slice}
 use Rattle.std.proofs.lemmas.Iterator.Search.{position_from_yields_List}

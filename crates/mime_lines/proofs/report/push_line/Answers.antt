@@ -1,23 +1,17 @@
--- Each kind of line has its own rule of the report.
-use Rattle.std.proofs.Common.{subst, ◌∙◌, ◌++◌, codes, OnOk, string_bytes, ◌≡◌}
-use Rattle.mime.specs.Values.{Reads}
-use Rattle.mime.specs.Refusals.{Explains}
-use Rattle.mime.specs.Printed.{error_text}
-use Rattle.mime_lines.specs.Report.{row}
-use Rattle.mime_lines.specs.Report.ReportsLine.{not_text, read, refused}
-use Rattle.mime_lines.proofs.Rows.{reported, fault-explained}
+-- A line that is a text is reported as its text is.
+use Rattle.mime_lines.specs.Report.{ReportsLine}
+use Rattle.mime_lines.specs.Report.ReportsLine.{not_text}
+use Rattle.mime_lines.proofs.Rows.{reported, reported-line}
 use Rattle.mime_lines.proofs.report.push_line.Goals as goal
 
 pub returns-in_default : goal.returns-in_default
-returns-in_default c = reported _ _ _ _ _ (not_text c.in_default.ensures.cases.0) c.push_row.ensures
+returns-in_default c =
+    reported (ReportsLine c.args.mode c.args.line.now) _ _ _ _ (not_text c.in_default.ensures.cases.0) c.push_row.ensures
 
-pub returns-in-Ok-from_str : goal.returns-in-Ok-from_str
-returns-in-Ok-from_str c = reported _ _ _ _ _ (read c.in-Ok-from_str.mime.media c.in-Ok.ensures.cases.1 (subst (λ text. Reads text c.in-Ok-from_str.mime.media) c.in-Ok.ensures.cases.0 c.in-Ok-from_str.ensures.read)) c.push_value.ensures
+pub returns-in-Parts : goal.returns-in-Parts
+returns-in-Parts c =
+    rw c.in-Parts.is (reported-line _ _ _ _ _ _ c.in-Ok.ensures.cases.0 c.in-Ok.ensures.cases.1 c.push_reading.ensures)
 
-pub returns-in_ok-shown-in_default-fault : goal.returns-in_ok-shown-in_default-fault
-returns-in_ok-shown-in_default-fault c =
-    let other = c.in_default-fault.not-NoMemory in
-    let shown : c.as_str.result.now ≡ error_text c.in-Err.error = c.as_str.ensures.value ∙ c.in_ok-shown-in_default-fault.ensures.ok in
-    let fault = fault-explained c.args.line.now c.in-Err.error (subst (λ text. Explains text c.in-Err.error) c.in-Ok.ensures.cases.0 c.in-Err.ensures.explained) (λ want. other (c.fault.ensures ∙ want)) in
-    reported _ _ _ _ _ (refused c.in-Err.error c.in-Ok.ensures.cases.1 fault)
-    (subst (λ text. OnOk c.push_row-in_default-fault.result (string_bytes c.push_row-in_default-fault.new.report ≡ string_bytes c.args.report.now ++ row (codes "bad ") text)) shown c.push_row-in_default-fault.ensures)
+pub returns-in-List : goal.returns-in-List
+returns-in-List c =
+    rw c.in-List.is (reported-line _ _ _ _ _ _ c.in-Ok.ensures.cases.0 c.in-Ok.ensures.cases.1 c.push_items.ensures)

@@ -1,5 +1,5 @@
 -- The scanner's verdict is what the call answers.
-use Rattle.mime.proofs.Outcomes.{accepted-from_places, Explains-no_memory, refused-from_fault, star-accepted}
+use Rattle.mime.proofs.Outcomes.{accepted-from_places, Explains-from_fault, Explains-no_memory, refused-from_fault, star-accepted}
 use Rattle.mime.proofs.Viability.{refused-at_dead}
 use Rattle.mime.proofs.value.Mime.from_str.Goals as goal
 
@@ -23,3 +23,7 @@ returns-in-Stopped-clause-accepted c = λ accepted.
 pub returns-in-Stopped-clause-star : goal.returns-in-Stopped-clause-star
 returns-in-Stopped-clause-star c = λ star.
     absurd (refused-at_dead _ _ _ (rw c.new-reader.ensures.left at c.in-Stopped.ensures.judged.2.fault) (star-accepted _ star))
+
+pub returns-in-Unfinished-clause-explained : goal.returns-in-Unfinished-clause-explained
+returns-in-Unfinished-clause-explained c =
+    rw c.new.ensures (Explains-from_fault _ _ (rw c.new-reader.ensures.left at c.in-Unfinished.ensures.judged.1))

@@ -1,4 +1,4 @@
--- An accepted text is stored, and reads as the value of what is stored.
+-- An accepted text is kept, and reads as the value of what is kept.
 use Rattle.std.proofs.Common.{◌≡◌, ◌∙◌, ◌∷◌, [], sym}
 use Rattle.std.specs.Cmp.Lexicographic.{same_text}
 use Rattle.mime.proofs.KeptText.{kept-from_places, reads-from_kept, kept_reads}

@@ -1,0 +1,164 @@
+-- How a text begins: its first character, and its first piece.
+use Rattle.std.proofs.Common.{◌≡◌, ◌≢◌, ℕ, suc, ◌+◌, ◌-◌, ◌<◌, true, false, List, [], ◌∷◌, ◌++◌, length, take, drop, get_or, Option, Some, None, MatchOption, refl, sym, ap, ◌∙◌, subst, arith, append_assoc, length-append, length-drop}
+use Rattle.std.proofs.Math.Seq.{drop-cons, drop-length}
+use Rattle.std.proofs.lemmas.List.{take-append-drop, length-take-le}
+use Rattle.std.proofs.lemmas.List.Folds.{list_all-append}
+use Rattle.std.proofs.lemmas.Option.{slice_get_within}
+use Rattle.std.specs.Prelude.{IsTrue, IsFalse, ◌&&◌}
+use Rattle.std.specs.List.{list_all}
+use Rattle.std.specs.Str.{IsUtf8, IsCharBoundary}
+use Rattle.mime.specs.Values.{IsAccepted, IsRefused}
+use Rattle.mime.specs.Refusals.{IsViable, IsFront}
+use Rattle.mime.specs.Cut.{is_following_byte, BeginsCharacter, IsSplit, CutItem, good, bad, ItemsOf, is_read, is_refused, is_empty, Cut, whole, unfinished, goes_on, TakesSteps}
+use Rattle.mime.specs.Remaining.{Remaining}
+use Rattle.mime.specs.Scanning.{HasPlaces, IsStopped, Judges, Scans}
+use Rattle.mime.specs.UnderWay.{IsAfterCharacter, PassedTo, IsUnderWay, IsFirstPiece, PassesPiece}
+use Rattle.mime.specs.declared.scan.fault.ParseError.{ParseError}
+use Rattle.mime.specs.declared.scan.Places.{Places}
+use Rattle.mime.specs.declared.scan.Verdict.{Verdict}
+use Rattle.mime.specs.declared.scan.Verdict.TheVariants.{Accepted, Unfinished, Stopped}
+use Rattle.mime.proofs.Borders.{front_ends_between_characters}
+use Rattle.mime.proofs.Cuts.{empty-refused, empty-cut, split-size, cut_unique, takes-split, takes-viable, takes-empty}
+use Rattle.mime.proofs.Outcomes.{accepted-from_places, refused-from_fault}
+use Rattle.mime.proofs.Viability.{accepted_is_viable}
+
+-- ---- the first character of a text
+
+-- the first byte
+pub passed_first : (text : List ℕ) → 0 < length text → PassedTo text 1
+passed_first [] some = absurd (omega arith)
+passed_first (b ∷ bytes) some = record { first = b; following = []; spelled = refl; of_class = refl; counted = refl }
+
+-- one more that follows
+pub passed_more : (text : List ℕ) (end : ℕ) → PassedTo text end → end < length text
+    → IsTrue (is_following_byte (get_or text end 0)) → PassedTo text (end + 1)
+passed_more text end p within follows = let after : suc end ≡ end + 1 = omega arith in record {
+  first = p.first;
+  following = p.following ++ (get_or text end 0 ∷ []);
+  spelled =
+      p.spelled
+      ∙ ap (λ t. p.first ∷ (p.following ++ t)) (drop-cons text end 0 within ∙ ap (λ n. get_or text end 0 ∷ drop n text) after)
+      ∙ ap (λ t. p.first ∷ t) (sym (append_assoc p.following (get_or text end 0 ∷ []) (drop (end + 1) text)));
+  of_class =
+      list_all-append is_following_byte p.following (get_or text end 0 ∷ [])
+      ∙ ap (λ x. x && list_all is_following_byte (get_or text end 0 ∷ [])) p.of_class
+      ∙ ap (λ x. x && true) follows;
+  counted = omega (arith, p.counted, length-append p.following (get_or text end 0 ∷ []));
+}
+
+-- the character ends where no such byte is next
+passed_character : (text : List ℕ) (end : ℕ) → PassedTo text end → BeginsCharacter (drop end text)
+    → IsAfterCharacter text (drop end text)
+passed_character text end p begins = (p.first ∷ p.following, p.spelled, (p.of_class, begins))
+
+pub passed_stop : (text : List ℕ) (end : ℕ) → PassedTo text end → end < length text
+    → IsFalse (is_following_byte (get_or text end 0)) → IsAfterCharacter text (drop end text)
+passed_stop text end p within stops =
+    passed_character text end p (subst BeginsCharacter (sym (drop-cons text end 0 within)) stops)
+
+pub passed_end : (text : List ℕ) (end : ℕ) → PassedTo text end → end ≡ length text → IsAfterCharacter text (drop end text)
+passed_end text end p is =
+    passed_character text end p (subst BeginsCharacter (sym (ap (λ n. drop n text) is ∙ drop-length text)) tt)
+
+-- ---- the first piece of a text
+
+-- what the scanner found in a text that a reader counted on from somewhere
+pub judged-from_scan : (old new : Remaining) (text : List ℕ) (from steps : ℕ) (verdict : Verdict) → Scans old new verdict
+    → old.left ≡ text → old.count ≡ from → steps ≡ new.count → Judges text (steps - from) verdict
+judged-from_scan old new text from steps verdict scans left begin end =
+    let count : scans.count ≡ steps - from = omega (arith, scans.counted, begin, end) in
+    subst (λ n. Judges text n verdict) count (subst (λ t. Judges t scans.count verdict) left scans.judged)
+
+-- where it stopped the text may be cut, and isn't at its end
+pub stopped-boundary : (text : List ℕ) (steps byte : ℕ) (places : Option Places) → IsUtf8 text → Judges text steps (Stopped byte places)
+    → IsCharBoundary text (steps - 1) × (0 < length (drop (steps - 1) text))
+stopped-boundary text steps byte places utf8 (pos, is, stopped) =
+    let at : pos ≡ steps - 1 = omega (arith, is) in
+    let within = slice_get_within text pos byte stopped.fault.there in (
+      subst (IsCharBoundary text) at (front_ends_between_characters text pos utf8 stopped.fault.front),
+      omega (arith, length-drop (steps - 1) text, at, within),
+    )
+
+-- a text that was read to its end
+under_way-viable : (text : List ℕ) → IsViable text → IsUnderWay text [] false (length text)
+under_way-viable text viable = record {
+  few = omega arith;
+  exact = λ fed n takes.
+      let none : n ≡ 0 = takes-empty n takes in
+      subst (TakesSteps text) (omega (arith, none)) (takes-viable text viable);
+}
+
+-- an accepted text is its first piece
+pub passes-whole : (text : List ℕ) (places : Places) (steps : ℕ) → Judges text steps (Accepted places)
+    → PassesPiece text text (Some places) [] steps
+passes-whole text places steps (is, has) =
+    let accepted = accepted-from_places text places has in
+    record {
+      empty = λ none. absurd (empty-refused (subst IsAccepted none accepted));
+      item = λ some. (
+        has,
+        λ value reads items rest cut.
+            let same = cut_unique [] [] [] empty-cut items rest cut in
+            subst (Cut text (good text value ∷ items)) (sym same.1)
+            (subst (λ i. Cut text (good text value ∷ i) []) (sym same.0) (whole text value reads)),
+      );
+      less = λ some. some;
+      under_way = subst (IsUnderWay text [] false) (sym is) (under_way-viable text (accepted_is_viable text accepted));
+    }
+
+-- an unfinished one has none
+pub passes-unfinished : (text : List ℕ) (fault : ParseError) (steps : ℕ) → Judges text steps (Unfinished fault)
+    → PassesPiece text [] None [] steps
+passes-unfinished text fault steps (is, fault_is, viable) = record {
+  empty = λ e. record {
+    carries = λ some. absurd (some refl);
+    ends = λ end. (text, unfinished text viable (refused-from_fault text fault fault_is));
+  };
+  item = λ some. absurd (some refl);
+  less = λ some. some;
+  under_way = subst (IsUnderWay text [] false) (sym is) (under_way-viable text viable);
+}
+
+-- a character that can't follow ends it
+passes-split : (text piece character left : List ℕ) (places : Option Places) → IsSplit text piece character left
+    → MatchOption places (IsRefused piece) (λ p. HasPlaces piece p) → PassesPiece text piece places left (length piece + 1)
+passes-split text piece character left places split is =
+    let size = split-size text piece character left split in
+    record {
+      empty = λ none. record {
+        carries = λ some items rest cut. on [] (is_empty none) items rest cut;
+        ends = λ end. ([], on [] (is_empty none) [] [] (subst (λ t. Cut t [] []) (sym end) empty-cut));
+      };
+      item = first places is;
+      less = λ some. omega (arith, size.0, size.1);
+      under_way = record {
+        few = omega (arith, size.0, size.1);
+        exact = λ fed n takes. takes-split text piece character left n split takes;
+      };
+    }
+  where
+    on : (first : List CutItem) → ItemsOf piece first → (items : List CutItem) (rest : List ℕ) → Cut left items rest
+        → Cut text (first ++ items) rest
+    on first of_piece items rest cut = goes_on text piece character left first items rest split of_piece cut
+
+    first : (places : Option Places) → MatchOption places (IsRefused piece) (λ p. HasPlaces piece p) → piece ≢ []
+        → IsFirstPiece text piece places left
+    first None is some = on (bad piece ∷ []) (is_refused is some)
+    first (Some p) has some = (has, λ value reads. on (good piece value ∷ []) (is_read value reads))
+
+-- so a text that the scanner stops at is split there
+pub passes-stopped : (text piece rest left : List ℕ) (steps at byte : ℕ) (places : Option Places) → Judges text steps (Stopped byte places)
+    → at ≡ steps - 1 → piece ≡ take at text → rest ≡ drop at text → IsAfterCharacter rest left
+    → PassesPiece text piece places left steps
+passes-stopped text piece rest left steps at byte places (pos, is, stopped) is_at is_piece is_rest (character, spelled, is_character) =
+    let same : pos ≡ at = omega (arith, is, is_at) in
+    let before = subst (λ n. IsStopped text n byte places) same stopped in
+    let size : length (take at text) ≡ at = length-take-le at text before.fault.front.within in
+    subst (λ p. PassesPiece text p places left steps) (sym is_piece)
+    (subst (PassesPiece text (take at text) places left) (omega (arith, is, same, size))
+    (passes-split text (take at text) character left places
+    (record {
+      spelled = sym (take-append-drop at text) ∙ ap (λ t. take at text ++ t) (sym is_rest ∙ spelled);
+      front = subst (IsFront text) (sym size) before.fault.front;
+      is_character = is_character;
+    }) before.before))

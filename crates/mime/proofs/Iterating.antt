@@ -1,0 +1,108 @@
+-- One call of a `MimeIter`: pieces are passed up to the first that is an item, and that is given.
+use Rattle.std.proofs.Common.{◌≡◌, ◌≢◌, ℕ, Bool, true, false, List, [], Option, Some, None, Result, Ok, Err, refl, sym, ap, ◌∙◌, subst, arith, Bor}
+use Rattle.std.specs.Prelude.{codes}
+use Rattle.std.proofs.lemmas.Bool.{true≢false}
+use Rattle.std.proofs.lemmas.Option.{none-some}
+use Rattle.mime.specs.Values.{OwnedMedia, Reads}
+use Rattle.mime.specs.Cut.{TakesSteps, Cut}
+use Rattle.mime.specs.Runs.{Iteration, GivesItem, IsNext}
+use Rattle.mime.specs.UnderWay.{IsUnderWay, IsSound, IsLooking, IsFound}
+use Rattle.mime.specs.declared.iter.Bad.{Bad}
+use Rattle.mime.specs.declared.iter.Bad.TheVariants.{Piece, NoMemory}
+use Rattle.mime.specs.declared.iter.MimeIter.TheInside.{Inside}
+use Rattle.mime.specs.declared.scan.Places.{Places}
+use Rattle.mime.proofs.Cuts.{empty-cut, takes-viable, has_cut}
+use Rattle.mime.proofs.Outcomes.{accepted-from_places}
+use Rattle.mime.proofs.Viability.{empty_is_viable}
+
+-- ---- what is kept
+
+-- out of memory, nothing is left
+under_way-starved : (text left : List ℕ) (starved : Bool) (steps : ℕ) → IsUnderWay text left starved steps
+    → IsUnderWay text [] true steps
+under_way-starved text left starved steps kept = record {
+  few = omega (arith, kept.few);
+  exact = λ fed n takes. absurd (true≢false fed);
+}
+
+-- a `MimeIter` as contracts see it
+abbrev pub seen : Inside → Iteration
+seen i = record { text = i.text.now; left = i.left.now; starved = i.starved; steps = i.steps }
+
+-- ---- the search
+
+-- it begins
+pub looking-first : (old : Iteration) → IsLooking old old
+looking-first old = record {
+  passed = record {
+    carries = λ some items rest cut. cut;
+    ends = λ end. ([], subst (λ t. Cut t [] []) (sym end) empty-cut);
+  };
+  starved = refl;
+  text = refl;
+  still = λ ended. refl;
+  less = omega arith;
+}
+
+-- ---- a whole call
+
+-- at the end of a run the steps are those that the text takes
+sound-exact : (i : Iteration) → IsSound i → i.left ≡ [] → i.starved ≡ false → TakesSteps i.text i.steps
+sound-exact i sound ended fed =
+    let none : TakesSteps i.left 0 = subst (λ t. TakesSteps t 0) (sym ended) (takes-viable [] empty_is_viable) in
+    subst (TakesSteps i.text) (omega arith) (sound.exact fed 0 none)
+
+-- a call gives none,
+pub next-none : (old new : Iteration) → IsFound old None new → IsNext old None new
+next-none old new found = record {
+  item = (found.gives.0, found.gives.1, found.starved);
+  text = found.text;
+  few = omega (arith, found.sound.few);
+  exact = sound-exact new found.sound;
+  stays = λ ended. (refl, (found.still ended).1);
+}
+
+-- or what was made of the piece that was found:
+next-some : (old now new : Iteration) (piece : Bor (List ℕ) × Option Places) (given : Result OwnedMedia Bad) → IsFound old (Some piece) now
+    → IsSound new → new.text ≡ now.text → GivesItem old (Some given) new → IsNext old (Some given) new
+next-some old now new piece given found sound text item = record {
+  item = item;
+  text = text ∙ found.text;
+  few = omega (arith, sound.few);
+  exact = sound-exact new sound;
+  stays = λ ended. absurd (none-some piece (sym (found.still ended).0));
+}
+
+-- a bad piece,
+pub next-bad : (old new : Iteration) (piece : Bor (List ℕ)) → IsFound old (Some (piece, None)) new
+    → IsNext old (Some (Err (Piece piece))) new
+next-bad old new piece found =
+    next-some old new new (piece, None) (Err (Piece piece)) found found.sound refl (found.gives.0, found.starved)
+
+-- a media type,
+pub next-good : (old new : Iteration) (piece : Bor (List ℕ)) (places : Places) (mime : OwnedMedia)
+    → IsFound old (Some (piece, Some places)) new → Reads piece.now mime.media → IsNext old (Some (Ok mime)) new
+next-good old new piece places mime found reads =
+    next-some old new new (piece, Some places) (Ok mime) found found.sound refl
+    (piece.now, found.gives.0.1 mime.media reads, found.starved)
+
+-- or out of memory, which ends the run
+pub next-starved : (old now new : Iteration) (piece : Bor (List ℕ)) (places : Places) → IsFound old (Some (piece, Some places)) now
+    → piece.now ≢ codes "*/*" → new ≡ record now { left = []; starved = true } → IsNext old (Some (Err NoMemory)) new
+next-starved old now new piece places found not_star is =
+    let accepted = accepted-from_places piece.now places found.gives.0.0 in
+    let others = has_cut now.left in
+    next-some old now new (piece, Some places) (Err NoMemory) found
+    (subst IsSound (sym is) (under_way-starved now.text now.left now.starved now.steps found.sound))
+    (ap (λ (i : Iteration). i.text) is) (
+      record {
+        piece = piece.now;
+        value = accepted.0;
+        items = others.items;
+        rest = others.rest;
+        cut = found.gives.0.1 accepted.0 accepted.1 others.items others.rest others.cut;
+        not_star = not_star;
+      },
+      ap (λ (i : Iteration). i.left) is,
+      ap (λ (i : Iteration). i.starved) is,
+    )

@@ -1,0 +1,97 @@
+-- The order of values: what comes before is less, and the laws of `Before` and `Same`.
+use Rattle.std.proofs.Common.{◌≡◌, ℕ, ◌<◌, inl, inr, Bool, true, false, IsTrue, ◌↔◌, List, [], ◌∷◌, refl, sym, ap, ◌∙◌, subst, true≢false}
+use Rattle.std.specs.declared.cmp.Ordering.{Ordering}
+use Rattle.std.specs.declared.cmp.Ordering.TheVariants.{Less, Equal, Greater}
+use Rattle.std.specs.Cmp.{tied_itself, nat_cmp_is, nat_cmp_total}
+use Rattle.std.specs.Cmp.Lexicographic.{slice_cmp, nat_list_cmp_total}
+use Rattle.std.specs.Ordering.{MatchOrdering, nat_cmp, ordering_then, is_eq, is_lt, eq_by_cmp, ordering_reverse}
+use Rattle.mime.specs.Values.{MediaType}
+use Rattle.mime.specs.Comparison.{Same, IsListBefore, IsTextBefore, IsPairBefore, Before, pair_cmp, media_cmp}
+use Rattle.mime.specs.Laws.{OneOf}
+use Rattle.mime.specs.Orders.{tells_media, same_from_cmp, pair_cmp_total, media_cmp_total}
+
+-- an answer that is the order's tells what the order tells
+pub tells_answer : (x y : MediaType) (answer : Ordering) → answer ≡ media_cmp x y
+    → MatchOrdering answer (Before x y) (Same x y) (Before y x)
+tells_answer x y answer is = subst (λ order. MatchOrdering order (Before x y) (Same x y) (Before y x)) (sym is) (tells_media x y)
+
+-- two orders of which the first answers less, or equal and the second less
+then-less : (a b : Ordering) → a ≡ Equal → b ≡ Less → ordering_then a b ≡ Less
+then-less a b equal less = ap (λ o. ordering_then o b) equal ∙ less
+
+-- a list before another is less
+less-lists : {X : Type 0} (cmp : X → X → Ordering) (IsLess : X → X → Type 0) → ((x y : X) → IsLess x y → cmp x y ≡ Less)
+    → ((x : X) → cmp x x ≡ Equal) → (xs ys : List X) → IsListBefore IsLess xs ys → slice_cmp cmp xs ys ≡ Less
+less-lists cmp IsLess less same [] [] before = absurd before
+less-lists cmp IsLess less same [] (y ∷ ys) before = refl
+less-lists cmp IsLess less same (x ∷ xs) [] before = absurd before
+less-lists cmp IsLess less same (x ∷ xs) (y ∷ ys) (inl first) = ap (λ o. ordering_then o (slice_cmp cmp xs ys)) (less x y first)
+less-lists cmp IsLess less same (x ∷ xs) (y ∷ ys) (inr rest) =
+    then-less (cmp x y) (slice_cmp cmp xs ys) (ap (cmp x) (sym rest.0) ∙ same x) (less-lists cmp IsLess less same xs ys rest.1)
+
+less-bytes : (x y : ℕ) → x < y → nat_cmp x y ≡ Less
+less-bytes x y less = sym (nat_cmp_is x y Less less)
+
+-- so is a text
+less-texts : (x y : List ℕ) → IsTextBefore x y → slice_cmp nat_cmp x y ≡ Less
+less-texts x y before = less-lists nat_cmp (λ x y. x < y) less-bytes (tied_itself nat_cmp_total) x y before
+
+-- a pair
+less-pairs : (x y : List ℕ × List ℕ) → IsPairBefore x y → pair_cmp x y ≡ Less
+less-pairs x y (inl name) = ap (λ o. ordering_then o (slice_cmp nat_cmp x.1 y.1)) (less-texts x.0 y.0 name)
+less-pairs x y (inr rest) =
+    then-less (slice_cmp nat_cmp x.0 y.0) (slice_cmp nat_cmp x.1 y.1) (ap (slice_cmp nat_cmp x.0) (sym rest.0) ∙ tied_itself nat_list_cmp_total x.0)
+    (less-texts x.1 y.1 rest.1)
+
+-- and a value
+less-media : (x y : MediaType) → Before x y → media_cmp x y ≡ Less
+less-media x y (inl essence) = ap (λ o. ordering_then o (slice_cmp pair_cmp x.pairs y.pairs)) (less-texts x.essence y.essence essence)
+less-media x y (inr rest) =
+    then-less (slice_cmp nat_cmp x.essence y.essence) (slice_cmp pair_cmp x.pairs y.pairs)
+    (ap (slice_cmp nat_cmp x.essence) (sym rest.0) ∙ tied_itself nat_list_cmp_total x.essence)
+    (less-lists pair_cmp IsPairBefore less-pairs (tied_itself pair_cmp_total) x.pairs y.pairs rest.1)
+
+-- equal values are equal to the order
+pub equal-media : (x y : MediaType) → Same x y → media_cmp x y ≡ Equal
+equal-media x y same = cc (same.0, same.1, tied_itself media_cmp_total y)
+
+less-not_equal : (o : Ordering) → o ≡ Less → ¬ (o ≡ Equal)
+less-not_equal o less equal = true≢false (ap is_lt (sym less ∙ equal))
+
+-- neither of two equal values comes before the other
+pub Before-not_same : (x y : MediaType) → Before x y → ¬ (Same x y)
+Before-not_same x y before same = less-not_equal (media_cmp x y) (less-media x y before) (equal-media x y same)
+
+-- of two values one at most comes before the other
+pub Before-not_both : (x y : MediaType) → Before x y → ¬ (Before y x)
+Before-not_both x y before back =
+    true≢false (ap is_lt (sym (less-media x y before) ∙ media_cmp_total.antisymm x y ∙ ap ordering_reverse (less-media y x back)))
+
+-- a value before one that comes before a third comes before the third
+pub Before-transitive : (x y z : MediaType) → Before x y → Before y z → Before x z
+Before-transitive x y z first second =
+    subst (λ o. MatchOrdering o (Before x z) (Same x z) (Before z x)) (media_cmp_total.trans x y z (less-media x y first) (less-media y z second)) (tells_media x z)
+
+-- what the order finds equal is
+pub eq_by_cmp-tells : (x y : MediaType) → IsTrue (eq_by_cmp media_cmp x y) ↔ Same x y
+eq_by_cmp-tells x y = (same_from_cmp x y, λ same. ap is_eq (equal-media x y same))
+
+-- a test that tells what is equal answers as the order does
+pub eq_by_cmp-same : (x y : MediaType) (answer : Bool) → IsTrue answer ↔ Same x y → answer ≡ eq_by_cmp media_cmp x y
+eq_by_cmp-same x y answer tells = go answer (eq_by_cmp media_cmp x y) tells (eq_by_cmp-tells x y)
+  where
+    go : (a b : Bool) → IsTrue a ↔ Same x y → IsTrue b ↔ Same x y → a ≡ b
+    go true b tells also = sym (also.1 (tells.0 refl))
+    go false true tells also = tells.1 (also.0 refl)
+    go false false tells also = refl
+
+-- exactly one of the three holds
+pub one_order : (x y : MediaType) → OneOf x y
+one_order x y = go (media_cmp x y) (tells_media x y)
+  where
+    go : (order : Ordering) → MatchOrdering order (Before x y) (Same x y) (Before y x) → OneOf x y
+    go Less told = inl (told, Before-not_same x y told, Before-not_both x y told)
+    go Equal told =
+        inr (inl (told, (λ before. Before-not_same x y before told), (λ before. Before-not_same y x before (sym told.0, sym told.1))))
+    go Greater told =
+        inr (inr (told, (λ same. Before-not_same y x told (sym same.0, sym same.1)), Before-not_both y x told))

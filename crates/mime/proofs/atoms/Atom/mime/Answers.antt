@@ -1,0 +1,6 @@
+-- The constant's text is kept as its places say.
+use Rattle.mime.proofs.Constants.{kept_atom}
+use Rattle.mime.proofs.atoms.Atom.mime.Goals as goal
+
+pub fixed-requires : goal.fixed-requires
+fixed-requires c = rw (c.constant-constant.ensures.text, c.constant-constant.ensures.places) (kept_atom c.args.self)

@@ -1,0 +1,19 @@
+-- The piece that was found is the item, as it is read.
+use Rattle.std.proofs.Common.{[], true, ap}
+use Rattle.mime.specs.Runs.{Iteration}
+use Rattle.mime.proofs.Iterating.{next-none, next-bad, next-good, next-starved}
+use Rattle.mime.proofs.iter.MimeIterIterator.next.Goals as goal
+
+pub returns-in_default-clause-steps : goal.returns-in_default-clause-steps
+returns-in_default-clause-steps c = next-none _ _ c.in_default.ensures
+
+pub returns-in_default-places-clause-steps : goal.returns-in_default-places-clause-steps
+returns-in_default-places-clause-steps c = next-bad _ _ _ (rw c.in_default-places.is at c.in-Some.ensures)
+
+pub returns-in-Ok-clause-steps : goal.returns-in-Ok-clause-steps
+returns-in-Ok-clause-steps c = next-good _ _ _ _ _ (rw c.in-Some-places.is at c.in-Some.ensures) c.in-Ok.ensures.read
+
+pub returns-in-Err-clause-steps : goal.returns-in-Err-clause-steps
+returns-in-Err-clause-steps c =
+    next-starved _ _ _ _ _ (rw c.in-Some-places.is at c.in-Some.ensures) c.in-Err.ensures.memory.1
+    (ap (λ (i : Iteration). record { text = i.text; left = []; starved = true; steps = i.steps }) c.self.view_is)

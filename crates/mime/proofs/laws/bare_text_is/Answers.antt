@@ -1,0 +1,6 @@
+-- The law of TextComparison.
+use Rattle.mime.proofs.TextComparison.{text_is-bare}
+use Rattle.mime.proofs.laws.bare_text_is.Goals as goal
+
+pub returns : goal.returns
+returns c = text_is-bare

@@ -1,0 +1,6 @@
+-- The law of Ordering.
+use Rattle.mime.proofs.Ordering.{Before-transitive}
+use Rattle.mime.proofs.laws.before_is_transitive.Goals as goal
+
+pub returns : goal.returns
+returns c = Before-transitive

@@ -1,0 +1,5 @@
+use Rattle.mime.proofs.RunProofs.{comma_contains_on_runs}
+use Rattle.mime.proofs.laws.comma_contains_on_runs.Goals as goal
+
+pub returns : goal.returns
+returns c = comma_contains_on_runs

@@ -1,0 +1,5 @@
+use Rattle.mime.proofs.Containment.{cut_writes_text}
+use Rattle.mime.proofs.laws.cut_writes_text.Goals as goal
+
+pub returns : goal.returns
+returns c = cut_writes_text

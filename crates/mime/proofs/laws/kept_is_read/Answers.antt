@@ -1,0 +1,6 @@
+-- The law of StorageLaws.
+use Rattle.mime.proofs.KeptText.{kept_is_read}
+use Rattle.mime.proofs.laws.kept_is_read.Goals as goal
+
+pub returns : goal.returns
+returns c = kept_is_read

@@ -1,0 +1,6 @@
+-- The test of the order, and what it tells.
+use Rattle.mime.proofs.Ordering.{eq_by_cmp-tells}
+use Rattle.mime.proofs.laws.mime_equality.Goals as goal
+
+pub returns : goal.returns
+returns c = λ first second. eq_by_cmp-tells first.media second.media

@@ -1,0 +1,6 @@
+-- What the order tells.
+use Rattle.mime.specs.Orders.{tells_media}
+use Rattle.mime.proofs.laws.mime_order.Goals as goal
+
+pub returns : goal.returns
+returns c = λ first second. tells_media first.media second.media

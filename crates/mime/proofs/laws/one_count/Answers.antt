@@ -1,0 +1,5 @@
+use Rattle.mime.proofs.Containment.{one_count}
+use Rattle.mime.proofs.laws.one_count.Goals as goal
+
+pub returns : goal.returns
+returns c = one_count

@@ -1,0 +1,5 @@
+use Rattle.mime.proofs.Containment.{one_cut}
+use Rattle.mime.proofs.laws.one_cut.Goals as goal
+
+pub returns : goal.returns
+returns c = one_cut

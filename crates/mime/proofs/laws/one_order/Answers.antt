@@ -1,0 +1,6 @@
+-- The law of Ordering.
+use Rattle.mime.proofs.Ordering.{one_order}
+use Rattle.mime.proofs.laws.one_order.Goals as goal
+
+pub returns : goal.returns
+returns c = one_order

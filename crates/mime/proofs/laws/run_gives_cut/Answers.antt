@@ -1,0 +1,5 @@
+use Rattle.mime.proofs.RunProofs.{run_gives_cut}
+use Rattle.mime.proofs.laws.run_gives_cut.Goals as goal
+
+pub returns : goal.returns
+returns c = run_gives_cut

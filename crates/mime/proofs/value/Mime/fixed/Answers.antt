@@ -1,0 +1,6 @@
+-- A kept text reads as the value that it gives.
+use Rattle.mime.proofs.KeptText.{reads-from_kept}
+use Rattle.mime.proofs.value.Mime.fixed.Goals as goal
+
+pub returns-clause-reads : goal.returns-clause-reads
+returns-clause-reads c = reads-from_kept _ _ c.requires

@@ -1,0 +1,16 @@
+-- The list begins behind the semicolon, and holds as many pairs as are counted.
+use Rattle.std.proofs.Common.{◌∙◌, ap, drop, ◌+◌, subst, lit<}
+use Rattle.std.specs.Str.{IsUtf8}
+use Rattle.mime.proofs.CharBorders.{boundary_behind}
+use Rattle.mime.proofs.Counts.{kept_list}
+use Rattle.mime.proofs.KeptText.{kept-semicolon}
+use Rattle.mime.proofs.value.Mime.list.Goals as goal
+
+pub range_from-requires : goal.range_from-requires
+range_from-requires c = λ _.
+    rw c.as_str.ensures
+    (boundary_behind _ _ _ (subst IsUtf8 c.as_str.ensures c.as_str.utf8) (kept-semicolon _ _ _ c.self.invariant c.in-Some.is) (lit< tt))
+
+pub returns-in-Some : goal.returns-in-Some
+returns-in-Some c =
+    kept_list _ _ _ _ _ c.self.invariant c.self.view_is c.in-Some.is (c.range_from.ensures.value ∙ ap (drop (c.in-Some.semicolon + 1)) c.as_str.ensures)

@@ -1,0 +1,52 @@
+-- The constant media types: the text of each.
+use Rattle.std.specs.Prelude.{ℕ, List, [], ◌∷◌, codes}
+use Rattle.mime.specs.declared.atoms.Atom.{Atom}
+use Rattle.mime.specs.declared.atoms.Atom.TheVariants.{STAR_STAR, TEXT_STAR, TEXT_PLAIN, TEXT_PLAIN_UTF_8, TEXT_HTML, TEXT_HTML_UTF_8, TEXT_CSS, TEXT_CSS_UTF_8, TEXT_JAVASCRIPT, TEXT_XML, TEXT_EVENT_STREAM, TEXT_CSV, TEXT_CSV_UTF_8, TEXT_TAB_SEPARATED_VALUES, TEXT_TAB_SEPARATED_VALUES_UTF_8, TEXT_VCARD, IMAGE_STAR, IMAGE_JPEG, IMAGE_GIF, IMAGE_PNG, IMAGE_BMP, IMAGE_SVG, FONT_WOFF, FONT_WOFF2, APPLICATION_JSON, APPLICATION_JAVASCRIPT, APPLICATION_JAVASCRIPT_UTF_8, APPLICATION_WWW_FORM_URLENCODED, APPLICATION_OCTET_STREAM, APPLICATION_MSGPACK, APPLICATION_PDF, MULTIPART_FORM_DATA}
+
+-- the text of a constant
+abbrev pub atom_text : Atom → List ℕ
+atom_text STAR_STAR = codes "*/*"
+atom_text TEXT_STAR = codes "text/*"
+atom_text TEXT_PLAIN = codes "text/plain"
+atom_text TEXT_PLAIN_UTF_8 = codes "text/plain; charset=utf-8"
+atom_text TEXT_HTML = codes "text/html"
+atom_text TEXT_HTML_UTF_8 = codes "text/html; charset=utf-8"
+atom_text TEXT_CSS = codes "text/css"
+atom_text TEXT_CSS_UTF_8 = codes "text/css; charset=utf-8"
+atom_text TEXT_JAVASCRIPT = codes "text/javascript"
+atom_text TEXT_XML = codes "text/xml"
+atom_text TEXT_EVENT_STREAM = codes "text/event-stream"
+atom_text TEXT_CSV = codes "text/csv"
+atom_text TEXT_CSV_UTF_8 = codes "text/csv; charset=utf-8"
+atom_text TEXT_TAB_SEPARATED_VALUES = codes "text/tab-separated-values"
+atom_text TEXT_TAB_SEPARATED_VALUES_UTF_8 = codes "text/tab-separated-values; charset=utf-8"
+atom_text TEXT_VCARD = codes "text/vcard"
+atom_text IMAGE_STAR = codes "image/*"
+atom_text IMAGE_JPEG = codes "image/jpeg"
+atom_text IMAGE_GIF = codes "image/gif"
+atom_text IMAGE_PNG = codes "image/png"
+atom_text IMAGE_BMP = codes "image/bmp"
+atom_text IMAGE_SVG = codes "image/svg+xml"
+atom_text FONT_WOFF = codes "font/woff"
+atom_text FONT_WOFF2 = codes "font/woff2"
+atom_text APPLICATION_JSON = codes "application/json"
+atom_text APPLICATION_JAVASCRIPT = codes "application/javascript"
+atom_text APPLICATION_JAVASCRIPT_UTF_8 = codes "application/javascript; charset=utf-8"
+atom_text APPLICATION_WWW_FORM_URLENCODED = codes "application/x-www-form-urlencoded"
+atom_text APPLICATION_OCTET_STREAM = codes "application/octet-stream"
+atom_text APPLICATION_MSGPACK = codes "application/msgpack"
+atom_text APPLICATION_PDF = codes "application/pdf"
+atom_text MULTIPART_FORM_DATA = codes "multipart/form-data"
+
+-- the texts of the constants, in their order; the last is the old spelling of `TEXT_JAVASCRIPT`
+abbrev pub atom_table : List (List ℕ)
+atom_table =
+    codes "*/*" ∷ codes "text/*" ∷ codes "text/plain" ∷ codes "text/plain; charset=utf-8" ∷ codes "text/html"
+    ∷ codes "text/html; charset=utf-8" ∷ codes "text/css" ∷ codes "text/css; charset=utf-8" ∷ codes "text/javascript"
+    ∷ codes "text/xml" ∷ codes "text/event-stream" ∷ codes "text/csv" ∷ codes "text/csv; charset=utf-8"
+    ∷ codes "text/tab-separated-values" ∷ codes "text/tab-separated-values; charset=utf-8" ∷ codes "text/vcard"
+    ∷ codes "image/*" ∷ codes "image/jpeg" ∷ codes "image/gif" ∷ codes "image/png" ∷ codes "image/bmp"
+    ∷ codes "image/svg+xml" ∷ codes "font/woff" ∷ codes "font/woff2" ∷ codes "application/json"
+    ∷ codes "application/javascript" ∷ codes "application/javascript; charset=utf-8"
+    ∷ codes "application/x-www-form-urlencoded" ∷ codes "application/octet-stream" ∷ codes "application/msgpack"
+    ∷ codes "application/pdf" ∷ codes "multipart/form-data" ∷ codes "text/javascript" ∷ []

@@ -1,0 +1,67 @@
+-- The laws of the cut.
+use Rattle.std.specs.Prelude.{◌≡◌, ◌⊎◌, ℕ, List, [], ◌∷◌, ◌++◌, map}
+use Rattle.std.specs.List.{AllByRecursion}
+use Rattle.mime.specs.Values.{MediaType, Reads, IsAccepted}
+use Rattle.mime.specs.Refusals.{IsUnclosed}
+use Rattle.std.specs.Char.{encode_utf8}
+use Rattle.std.specs.Str.{IsUtf8}
+use Rattle.mime.specs.Bytes.{comma_byte, space_byte}
+use Rattle.mime.specs.Cut.{IsSplit, CutItem, good, bad, Cut, Pieces, TakesSteps}
+
+-- A text has exactly one cut.
+abbrev pub OneCut : Type 0
+OneCut =
+    (text : List ℕ)
+    → (items : List CutItem) × (rest : List ℕ) × Cut text items rest
+    × ((others : List CutItem) (left : List ℕ) → Cut text others left → (others ≡ items) × (left ≡ rest))
+
+-- pieces and characters, one after the other
+abbrev pub text_of_pieces : List (List ℕ × List ℕ) → List ℕ → List ℕ
+text_of_pieces [] end = end
+text_of_pieces ((piece, character) ∷ pieces) end = piece ++ (character ++ text_of_pieces pieces end)
+
+-- A text is pieces, a character after each, and a last piece, which is accepted or is the rest of the text's cut.
+abbrev pub CutWritesText : Type 0
+CutWritesText =
+    (text : List ℕ) (items : List CutItem) (rest : List ℕ) → Cut text items rest
+    → (pieces : List (List ℕ × List ℕ)) × (end : List ℕ) × Pieces text pieces end
+    × (text_of_pieces pieces end ≡ text) × (IsAccepted end ⊎ (end ≡ rest))
+
+-- A text takes exactly one number of steps.
+abbrev pub OneCount : Type 0
+OneCount = (text : List ℕ) → (steps : ℕ) × TakesSteps text steps × ((other : ℕ) → TakesSteps text other → other ≡ steps)
+
+-- a rest that a comma follows is an item if it isn't empty
+abbrev pub items_of_rest : List ℕ → List CutItem
+items_of_rest [] = []
+items_of_rest (b ∷ rest) = bad (b ∷ rest) ∷ []
+
+-- A comma ends what stands before it, unless that is an open quoted value, and what comes after it is cut as it is alone.
+abbrev pub CommaContains : Type 0
+CommaContains =
+    (before after : List ℕ) (items others : List CutItem) (rest end : List ℕ) → Cut before items rest → ¬ (IsUnclosed rest)
+    → Cut after others end → Cut (before ++ (comma_byte ∷ after)) (items ++ (items_of_rest rest ++ others)) end
+
+-- the kept texts with a comma and a space between each and the next
+abbrev pub joined : List MediaType → List ℕ
+joined [] = []
+joined (value ∷ []) = value.kept
+joined (value ∷ next ∷ values) = value.kept ++ (comma_byte ∷ space_byte ∷ joined (next ∷ values))
+
+-- some text is read as the value
+abbrev pub IsRead : MediaType → Type 0
+IsRead value = (text : List ℕ) × Reads text value
+
+-- the item of a value's kept text
+abbrev pub kept_item : MediaType → CutItem
+kept_item value = good value.kept value
+
+-- Values that were read come back from their joined kept texts, and nothing else does.
+abbrev pub JoinedComesBack : Type 0
+JoinedComesBack = (values : List MediaType) → AllByRecursion IsRead values → Cut (joined values) (map kept_item values) []
+
+-- In a text of valid UTF-8 what is passed is one character, between texts of valid UTF-8.
+abbrev pub PassesOneCharacter : Type 0
+PassesOneCharacter =
+    (text piece character left : List ℕ) → IsUtf8 text → IsSplit text piece character left
+    → (char : ℕ) × (character ≡ encode_utf8 char) × IsUtf8 piece × IsUtf8 left

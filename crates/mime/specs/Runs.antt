@@ -1,0 +1,55 @@
+-- How contracts see a `MimeIter`, and what one call of its `next` gives.
+use Rattle.std.specs.Prelude.{◌≡◌, ◌≢◌, ℕ, ◌*◌, ◌≤◌, Bool, true, false, List, [], ◌∷◌, length, Option, Some, None, Result, Ok, Err, codes}
+use Rattle.mime.specs.Values.{MediaType, OwnedMedia}
+use Rattle.mime.specs.Cut.{CutItem, good, bad, Cut, TakesSteps}
+use Rattle.mime.specs.declared.iter.Bad.{Bad}
+use Rattle.mime.specs.declared.iter.Bad.TheVariants.{Piece, NoMemory}
+
+-- the whole text, what is left of it, whether it ran out of memory, and the steps that were taken
+pub record Iteration : Type 0 where
+  pub text : List ℕ
+  pub left : List ℕ
+  pub starved : Bool
+  pub steps : ℕ
+
+-- it has ended where nothing is left
+abbrev pub HasEnded : Iteration → Type 0
+HasEnded i = i.left ≡ []
+
+-- the cut of the text is this item, and then the cut of what is left
+abbrev pub IsFirstItem : List ℕ → CutItem → List ℕ → Type 0
+IsFirstItem text item left = (items : List CutItem) (rest : List ℕ) → Cut left items rest → Cut text (item ∷ items) rest
+
+-- the first item of the text's cut is a media type that needs memory
+pub record NeedsMemory (text : List ℕ) : Type 0 where
+  pub piece : List ℕ
+  pub value : MediaType
+  pub items : List CutItem
+  pub rest : List ℕ
+  pub cut : Cut text (good piece value ∷ items) rest
+  pub not_star : piece ≢ codes "*/*"
+
+-- the text's cut has no item
+abbrev pub HasNoItem : List ℕ → Type 0
+HasNoItem text = (rest : List ℕ) × Cut text [] rest
+
+-- what is given: an item, none, or that it ran out of memory
+abbrev pub GivesItem : Iteration → Option (Result OwnedMedia Bad) → Iteration → Type 0
+GivesItem old None new = HasNoItem old.left × HasEnded new × (new.starved ≡ old.starved)
+GivesItem old (Some (Ok mime)) new =
+    (piece : List ℕ) × IsFirstItem old.left (good piece mime.media) new.left × (new.starved ≡ old.starved)
+GivesItem old (Some (Err (Piece piece))) new = IsFirstItem old.left (bad piece.now) new.left × (new.starved ≡ old.starved)
+GivesItem old (Some (Err NoMemory)) new = NeedsMemory old.left × HasEnded new × (new.starved ≡ true)
+
+-- one call of `next`
+pub record IsNext (old : Iteration) (result : Option (Result OwnedMedia Bad)) (new : Iteration) : Type 0 where
+  -- the first item of the cut of what was left, or none where it has none, or out of memory
+  pub item : GivesItem old result new
+  -- the text is the same
+  pub text : new.text ≡ old.text
+  -- the steps are at most twice the bytes,
+  pub few : new.steps ≤ 2 * length new.text
+  -- and at the end, unless it ran out of memory, exactly those that the text takes
+  pub exact : HasEnded new → new.starved ≡ false → TakesSteps new.text new.steps
+  -- what has ended stays so
+  pub stays : HasEnded old → (result ≡ None) × (new ≡ old)

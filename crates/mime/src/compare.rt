@@ -1,0 +1,207 @@
+//! A media type against a text, without memory.
+
+ghost use Rattle.std.specs.Prelude.{◌≡◌, ◌≢◌, ◌↔◌, ◌<◌, IsTrue, Some, [], length, map, take};
+ghost use Rattle.mime.specs.Comparison.{TextIs};
+ghost use Rattle.mime.specs.Pairs.{pairs_within};
+ghost use Rattle.mime.specs.KeptText.{IsKeptPair, IsListAfter, IsAcceptedAt, IsLowPair, AreLowPairs, lowered_pair, IsLoneCharset};
+ghost use Rattle.mime.specs.Values.{lowered, lowered_value, is_charset};
+
+use crate::name::eq_ignoring_case;
+use crate::scan::{ByteReader, Places, Verdict, scan};
+use crate::value::Mime;
+use crate::value::pairs::{Pair, cut};
+
+/// Whether two texts are the same but for case.
+#[inline(always)]
+fn alike(kept: &str, text: &str) -> bool
+    ensures { IsTrue result ↔ (lowered kept.now ≡ lowered text.now) }
+{
+    eq_ignoring_case(kept.as_bytes(), text.as_bytes())
+}
+
+/// Whether two texts begin with the same byte, but for case.
+#[inline(always)]
+fn begin_alike(kept: &[u8], text: &[u8]) -> bool
+    requires { 0 < length kept.now }
+    ensures { lowered (take 1 kept.now) ≡ lowered (take 1 text.now) → IsTrue result }
+{
+    !text.is_empty() && kept[0].to_ascii_lowercase() == text[0].to_ascii_lowercase()
+}
+
+/// Whether a text goes on with a semicolon after this essence, in any case.
+#[inline]
+fn is_list_after(essence: &str, text: &str) -> bool
+    ensures { IsTrue result ↔ IsListAfter essence.now text.now }
+{
+    let end = essence.len();
+    let text = text.as_bytes();
+    end < text.len() && text[end] == b';' && eq_ignoring_case(essence.as_bytes(), &text[..end])
+}
+
+/// The same, where it is known whether the text is alike to one that does.
+#[inline(always)]
+fn has_list(is_alike: bool, essence: &str, text: &str) -> bool
+    requires { IsTrue is_alike → IsListAfter essence.now text.now }
+    ensures { IsTrue result ↔ IsListAfter essence.now text.now }
+{
+    is_alike || is_list_after(essence, text)
+}
+
+/// Whether a text is a kept name, which has no capital, in any case.
+#[inline]
+fn is_name(kept: &str, text: &str) -> bool
+    requires { lowered kept.now ≡ kept.now }
+    ensures { IsTrue result ↔ (kept.now ≡ lowered text.now) }
+{
+    kept == text || alike(kept, text)
+}
+
+/// Whether a text is the kept value of a kept name: in any case under `charset`, else byte for byte.
+#[inline]
+fn is_value(name: &str, kept: &str, text: &str) -> bool
+    requires low_name { lowered name.now ≡ name.now }
+    requires low { IsTrue (is_charset name.now) → lowered kept.now ≡ kept.now }
+    ensures { IsTrue result ↔ (kept.now ≡ lowered_value name.now text.now) }
+{
+    if name == "charset" {
+        is_name(kept, text)
+    } else {
+        kept == text
+    }
+}
+
+/// Whether a pair is a kept one.
+#[inline]
+fn is_pair(kept: Pair<'_>, pair: Pair<'_>) -> bool
+    requires { IsLowPair (kept.name.now, kept.value.now) }
+    ensures { IsTrue result ↔ IsKeptPair (kept.entry.name.now, kept.entry.value.now) (pair.entry.name.now, pair.entry.value.now) }
+{
+    is_name(kept.name, pair.name) && is_value(kept.name, kept.value, pair.value)
+}
+
+/// Whether the first so many pairs of a list are those of a kept one.
+fn are_pairs(kept: &str, list: &str, count: usize) -> bool
+    requires { AreLowPairs (pairs_within count kept.now) }
+    ensures { IsTrue result ↔ (pairs_within count kept.now ≡ map lowered_pair (pairs_within count list.now)) }
+{
+    let mut left = kept;
+    let mut right = list;
+    for _ in 0..count {
+        let one = cut(left);
+        let other = cut(right);
+        if !is_pair(one, other) {
+            return false;
+        }
+        left = one.rest;
+        right = other.rest;
+    }
+    true
+}
+
+/// Whether so many pairs stand after a semicolon at this position.
+#[inline(always)]
+fn is_list_at(places: Places, end: usize, count: usize) -> bool
+    ensures { IsTrue result ↔ ((places.semicolon ≡ Some end) × (places.pairs ≡ count)) }
+{
+    places.semicolon == Some(end) && places.pairs == count
+}
+
+/// Whether a text is accepted, with a semicolon after so many bytes and so many parameters after it.
+#[inline(never)]
+fn is_accepted_at(text: &str, end: usize, count: usize) -> bool
+    ensures { IsTrue result ↔ IsAcceptedAt text.now end count }
+{
+    let mut reader = ByteReader::new(text, 0);
+    match scan(&mut reader) {
+        Verdict::Accepted(places) => is_list_at(places, end, count),
+        Verdict::Unfinished(_) => false,
+        Verdict::Stopped(_, _) => false,
+    }
+}
+
+/// Whether the only parameter is a charset, written as ` charset=utf-8` is.
+#[inline]
+fn is_lone_charset(mime: &Mime) -> bool
+    ensures { IsTrue result → IsLoneCharset mime.now.media.pairs }
+{
+    if mime.count() != 1 {
+        return false;
+    }
+    let list = mime.list();
+    if list.len() < 9 || list.as_bytes()[8] != b'=' {
+        return false;
+    }
+    &list[..9] == " charset="
+}
+
+/// Whether a text is a value with parameters, part by part: a value can be written in more than one
+/// way. The text is scanned only where its parts are the value's, and it isn't the kept text in
+/// another case, which is accepted as the kept text is.
+#[inline(never)]
+fn eq_by_parts(mime: &Mime, s: &str) -> bool
+    requires { mime.now.media.pairs ≢ [] }
+    ensures { IsTrue result ↔ TextIs mime.now.media s.now }
+{
+    let kept = mime.as_str();
+    let essence = mime.essence_str();
+    let is_alike = alike(kept, s);
+    if !has_list(is_alike, essence, s) {
+        return false;
+    }
+    if !are_pairs(mime.list(), &s[essence.len() + 1..], mime.count()) {
+        return false;
+    }
+    if is_alike {
+        return true;
+    }
+    is_accepted_at(s, essence.len(), mime.count())
+}
+
+/// Whether a text is a value with parameters. What is told without its parts comes first: the kept
+/// text, a text that begins otherwise, and a lone charset in another case.
+#[inline(never)]
+fn eq_with_parameters(mime: &Mime, s: &str) -> bool
+    requires { mime.now.media.pairs ≢ [] }
+    ensures { IsTrue result ↔ TextIs mime.now.media s.now }
+{
+    let kept = mime.as_str();
+    if kept == s {
+        return true;
+    }
+    if !begin_alike(kept.as_bytes(), s.as_bytes()) {
+        return false;
+    }
+    if is_lone_charset(mime) {
+        // Nothing of it minds case.
+        if alike(kept, s) {
+            return true;
+        }
+    }
+    eq_by_parts(mime, s)
+}
+
+/// Whether a text is a value without parameters.
+#[inline(always)]
+fn eq_without_parameters(mime: &Mime, s: &str) -> bool
+    requires { mime.now.media.pairs ≡ [] }
+    ensures { IsTrue result ↔ TextIs mime.now.media s.now }
+{
+    alike(mime.as_str(), s)
+}
+
+/// Whether a text is read as a value equal to this one and, where this one has no parameter, has no
+/// semicolon. It asks for no memory.
+///
+/// `TEXT/PLAIN;charset="UTF-8"; ` is `TEXT_PLAIN_UTF_8.mime()`. But `text/plain;` isn't
+/// `TEXT_PLAIN.mime()`, though reading it gives an equal value: a media type without parameters is
+/// not equal to a text with a semicolon.
+#[inline]
+pub fn mime_eq_str(mime: &Mime, s: &str) -> bool
+    ensures { IsTrue result ↔ TextIs mime.now.media s.now }
+{
+    if mime.count() == 0 {
+        eq_without_parameters(mime, s)
+    } else {
+        eq_with_parameters(mime, s)
+    }
+}

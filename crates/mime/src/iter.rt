@@ -1,0 +1,200 @@
+//! Media types one by one out of a text.
+
+ghost use Rattle.std.specs.Prelude.{◌≡◌, ◌+◌, ◌-◌, ◌*◌, ◌<◌, ◌≤◌, ◌^◌, false, length};
+ghost use Rattle.std.specs.Iterator.{at_most};
+ghost use Rattle.mime.specs.Cut.{is_following_byte};
+ghost use Rattle.mime.specs.Runs.{IsNext};
+ghost use Rattle.mime.specs.UnderWay.{IsAfterCharacter, PassesPiece, IsFound};
+
+use crate::scan::{ByteReader, Places, Verdict, scan};
+use crate::value::Mime;
+use std::alloc::Global;
+use std::fmt;
+use std::marker::Model;
+
+/// Why an item of a [`MimeIter`] is no media type.
+#[derive(Clone, Copy, PartialEq, Eq, Debug)]
+pub enum Bad<'a> {
+    /// This piece of the text is none, as `invalid` in `invalid, a/b`.
+    Piece(&'a str),
+    /// The piece is one, and there was no memory to keep it. Nothing comes after this.
+    NoMemory,
+}
+
+/// The first piece of a text, passed with the character after it.
+#[derive(Clone, Copy)]
+struct Passed<'a> {
+    /// The piece; empty where it is no item.
+    piece: &'a str,
+    /// Its places where it is accepted.
+    places: Option<Places>,
+    /// What is left of the text.
+    left: &'a str,
+    /// How many bytes were read by then.
+    steps: u128,
+}
+
+/// Whether a byte begins no character.
+#[inline(always)]
+fn is_following(byte: u8) -> bool
+    ensures { result ≡ is_following_byte byte }
+{
+    byte >= 128 && byte < 192
+}
+
+/// What comes after the first character of a text.
+#[inline]
+fn after_character(text: &str) -> &str
+    requires { 0 < length text.now }
+    ensures { IsAfterCharacter text.now result.now }
+{
+    let bytes = text.as_bytes();
+    let mut end = 1;
+    while end < bytes.len() && is_following(bytes[end]) {
+        end += 1;
+    }
+    &text[end..]
+}
+
+/// Passes the first piece of a text, and the character after it, by a reader that counts on from `from`.
+#[inline(always)]
+fn pass<'a>(text: &'a str, from: u128) -> Passed<'a>
+    requires { from + length text.now < 2 ^ 128 }
+    ensures passes { PassesPiece text.now result.piece.now result.places result.left.now (result.steps - from) }
+    ensures counted { from ≤ result.steps }
+{
+    let mut reader = ByteReader::new(text, from);
+    let verdict = scan(&mut reader);
+    let steps = reader.count();
+    match verdict {
+        Verdict::Accepted(places) => Passed {
+            piece: text,
+            places: Some(places),
+            left: "",
+            steps,
+        },
+        Verdict::Unfinished(_) => Passed {
+            piece: "",
+            places: None,
+            left: "",
+            steps,
+        },
+        Verdict::Stopped(_, places) => {
+            let (piece, rest) = text.split_at((steps - from - 1) as usize);
+            Passed {
+                piece,
+                places,
+                left: after_character(rest),
+                steps,
+            }
+        }
+    }
+}
+
+/// The media types of a text one by one, as those of an `Accept` header (RFC 7231, 5.3.2): the good
+/// entries of a list, and the pieces of it that are none.
+///
+/// The text is cut into the longest pieces that some media type begins with. Each ends before a
+/// character that can't follow it, such as the comma of a list; that character is passed. A piece
+/// is a media type or a bad piece; an empty one is no item, and neither is a last piece that is
+/// unfinished. So a bad entry leaves those after it as they are. No byte is read twice.
+///
+/// Over `text/html, invalid, a/b; q=1` it gives `text/html`, the bad piece `invalid`, and
+/// `a/b; q=1`. Over `a/b ; q=1` it gives `a/b` and the bad piece `q`, since no space may stand
+/// before the semicolon; over `invalid` alone it gives nothing.
+#[derive(Clone, Drop)]
+pub struct MimeIter<'a> {
+    alloc: Global,
+    text: &'a str,
+    left: &'a str,
+    starved: bool,
+    steps: u128,
+}
+
+impl<'a> Model for MimeIter<'a> {
+    ghost use Rattle.mime.specs.Runs.{Iteration};
+    ghost use Rattle.mime.specs.UnderWay.{IsUnderWay};
+
+    ghost Value = { Iteration };
+
+    ghost view = { λ i. record { text = i.text.now; left = i.left.now; starved = i.starved; steps = i.steps } };
+
+    ghost invariant = { λ i. IsUnderWay i.text.now i.left.now i.starved i.steps };
+}
+
+impl<'a> MimeIter<'a> {
+    /// The media types of `s`, none of which is read yet. A media type will ask for memory once, for
+    /// its kept text; `*/*` and bad pieces never do.
+    pub fn new(alloc: Global, s: &'a str) -> MimeIter<'a>
+        ensures text { result.text ≡ s.now }
+        ensures left { result.left ≡ s.now }
+        ensures starved { result.starved ≡ false }
+        ensures steps { result.steps ≡ 0 }
+    {
+        MimeIter {
+            alloc,
+            text: s,
+            left: s,
+            starved: false,
+            steps: 0,
+        }
+    }
+
+    /// How many bytes were read so far, those of the items given included: 43 for all of
+    /// `application/json, invalid, application/json`, which are 16, 7 and 16 bytes and 4 characters
+    /// that were passed.
+    pub fn steps(&self) -> u128
+        ensures steps { result ≡ self.now.steps }
+        ensures few { result ≤ 2 * length self.now.text }
+    {
+        self.steps
+    }
+
+    /// Passes pieces up to the first that is an item: that piece, with its places where it is accepted.
+    #[inline(always)]
+    fn find(&mut self) -> Option<(&'a str, Option<Places>)>
+        ensures { IsFound self.old result self.new }
+    {
+        while !self.left.is_empty() {
+            let passed = pass(self.left, self.steps);
+            self.left = passed.left;
+            self.steps = passed.steps;
+            if !passed.piece.is_empty() {
+                return Some((passed.piece, passed.places));
+            }
+        }
+        None
+    }
+}
+
+impl<'a> Iterator for MimeIter<'a> {
+    type Item = Result<Mime, Bad<'a>>;
+
+    ghost next_gives = { IsNext };
+
+    ghost remaining = { λ i. at_most (length i.left) };
+
+    fn next(&mut self) -> Option<Result<Mime, Bad<'a>>> {
+        let Some((piece, places)) = self.find() else {
+            return None;
+        };
+        let Some(places) = places else {
+            return Some(Err(Bad::Piece(piece)));
+        };
+        match Mime::of_accepted(self.alloc, piece, places) {
+            Ok(mime) => Some(Ok(mime)),
+            Err(_) => {
+                self.left = "";
+                self.starved = true;
+                Some(Err(Bad::NoMemory))
+            }
+        }
+    }
+}
+
+/// Prints `MimeIter`.
+impl fmt::Debug for MimeIter<'_> {
+    fn fmt<W: fmt::Write>(&self, f: &mut fmt::Formatter<W>) -> fmt::Result {
+        f.write_str("MimeIter")
+    }
+}

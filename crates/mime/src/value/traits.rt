@@ -1,0 +1,181 @@
+//! What media types do as keys and copies, and how they are printed.
+
+ghost use Rattle.std.specs.Prelude.{◌≡◌, ◌↔◌, IsTrue, Some, true, refl, length};
+ghost use Rattle.std.specs.Cmp.{partial_equiv_from_equiv, partial_order_from_total, on_equiv, on_total, eq_by_cmp_equiv};
+ghost use Rattle.std.specs.Fmt.{debug_str};
+ghost use Rattle.std.specs.List.{fold};
+ghost use Rattle.std.specs.Ordering.{MatchOrdering, eq_by_cmp, on, as_partial_cmp};
+ghost use Rattle.mime.specs.Comparison.{Same, Before, media_cmp};
+ghost use Rattle.mime.specs.Orders.{media_cmp_total, same_from_cmp, media_input, media_input-same};
+
+use crate::value::walks::{feed_pairs, order_pairs, same_pairs};
+use crate::value::{Mime, Text};
+use std::alloc::AllocError;
+use std::cmp::Ordering;
+use std::fmt;
+use std::hash::{Hash, Hasher};
+
+/// Whether two values are equal.
+#[inline]
+fn same(first: &Mime, second: &Mime) -> bool
+    ensures { IsTrue result ↔ Same first.now.media second.now.media }
+{
+    if first.count() != second.count() {
+        return false;
+    }
+    // One text is read as one value.
+    if first.as_str() == second.as_str() {
+        return true;
+    }
+    if first.count() == 0 {
+        return false;
+    }
+    same_parts(first, second)
+}
+
+/// The same, part by part: a list of parameters can be written in more than one way.
+#[inline(never)]
+fn same_parts(first: &Mime, second: &Mime) -> bool
+    requires { length first.now.media.pairs ≡ length second.now.media.pairs }
+    ensures { IsTrue result ↔ Same first.now.media second.now.media }
+{
+    first.essence_str() == second.essence_str()
+        && same_pairs(first.list(), second.list(), first.count())
+}
+
+/// How two values compare.
+#[inline]
+fn order(first: &Mime, second: &Mime) -> Ordering
+    ensures { result ≡ media_cmp first.now.media second.now.media }
+{
+    // One text is read as one value.
+    if first.as_str() == second.as_str() {
+        return Ordering::Equal;
+    }
+    order_parts(first, second)
+}
+
+/// The same, part by part.
+#[inline(never)]
+fn order_parts(first: &Mime, second: &Mime) -> Ordering
+    ensures { result ≡ media_cmp first.now.media second.now.media }
+{
+    let order = first.essence_str().cmp(second.essence_str());
+    if order.is_ne() {
+        return order;
+    }
+    order_pairs(first.list(), first.count(), second.list(), second.count())
+}
+
+/// Feeds a hasher the parameters of a value, and then its essence.
+#[inline]
+fn feed<H: Hasher>(mime: &Mime, state: &mut H)
+    ensures { state.new ≡ fold H.write state.old (media_input mime.now.media) }
+{
+    let essence = mime.essence_str().as_bytes();
+    // A fresh hasher takes an essence alone in whole words.
+    if mime.count() == 0 {
+        state.write(essence);
+        return;
+    }
+    feed_pairs(mime.list(), mime.count(), state);
+    state.write(essence);
+}
+
+/// Two values are equal if their essences are the same and so are their parameters, in the same
+/// order: `a/b; p="x"` and `A/B;P=x` are. It asks for no memory.
+impl PartialEq for Mime {
+    ghost eq = { on (λ mime. mime.media) (eq_by_cmp media_cmp) };
+
+    ghost laws = { partial_equiv_from_equiv (on_equiv (λ mime. mime.media) (eq_by_cmp_equiv media_cmp_total)) };
+
+    #[inline]
+    fn eq(&self, other: &Mime) -> bool
+        ensures computed { result ≡ eq_by_cmp media_cmp self.now.media other.now.media }
+        ensures same { IsTrue result ↔ Same self.now.media other.now.media }
+    {
+        same(self, other)
+    }
+}
+
+impl Eq for Mime {
+    ghost laws = { on_equiv (λ mime. mime.media) (eq_by_cmp_equiv media_cmp_total) };
+}
+
+impl PartialOrd for Mime {
+    ghost partial_cmp = { as_partial_cmp (on (λ mime. mime.media) media_cmp) };
+
+    ghost laws = { partial_order_from_total (on_total (λ mime. mime.media) media_cmp_total) };
+
+    #[inline]
+    fn partial_cmp(&self, other: &Mime) -> Option<Ordering> {
+        Some(order(self, other))
+    }
+}
+
+/// Values are ordered by the bytes of their essences, and then by their parameters, pair by pair,
+/// each by its name and then its value; a list that begins another comes first.
+impl Ord for Mime {
+    ghost cmp = { on (λ mime. mime.media) media_cmp };
+
+    ghost total = { on_total (λ mime. mime.media) media_cmp_total };
+
+    ghost matches_partial_cmp = { λ _ _. refl };
+
+    ghost matches_eq = { λ _ _. refl };
+
+    #[inline]
+    fn cmp(&self, other: &Mime) -> Ordering
+        ensures computed { result ≡ media_cmp self.now.media other.now.media }
+        ensures told { MatchOrdering result (Before self.now.media other.now.media) (Same self.now.media other.now.media) (Before other.now.media self.now.media) }
+    {
+        order(self, other)
+    }
+}
+
+/// Feeds a hasher the parameters and the essence, so equal values the same. It asks for no memory.
+impl Hash for Mime {
+    ghost hash_input = { λ mime. media_input mime.media };
+
+    ghost respects_eq = { λ first second is. media_input-same first.media second.media (same_from_cmp first.media second.media is) };
+
+    fn hash<H: Hasher>(&self, state: &mut H) {
+        feed(self, state);
+    }
+}
+
+/// Makes a copy with the same kept text. A fixed one takes no memory.
+impl Clone for Mime {
+    ghost is_clone = { λ mime copy. copy ≡ mime };
+
+    ghost is_infallible = { λ mime. mime.fixed ≡ true };
+
+    fn clone(&self) -> Result<Mime, AllocError> {
+        let text = match &self.text {
+            Text::Fixed(text) => Text::Fixed(text),
+            Text::Owned(text) => Text::Owned(text.clone()?),
+        };
+        Ok(Mime {
+            text,
+            places: self.places,
+        })
+    }
+}
+
+/// Prints the kept text, padded to a width where one is given.
+impl fmt::Display for Mime {
+    ghost output = { λ mime. Some mime.media.kept };
+
+    fn fmt<W: fmt::Write>(&self, f: &mut fmt::Formatter<W>) -> fmt::Result {
+        fmt::Display::fmt(self.as_str(), f)
+    }
+}
+
+/// Prints the kept text in quotes, with escapes, as a `str` does.
+impl fmt::Debug for Mime {
+    ghost debug_output = { λ mime. debug_str mime.media.kept };
+
+    fn fmt<W: fmt::Write>(&self, f: &mut fmt::Formatter<W>) -> fmt::Result {
+        fmt::Debug::fmt(self.as_str(), f)
+    }
+}

@@ -1,0 +1,104 @@
+//! What strangers send: prints a table of malicious texts, or does one thing with the text on standard input after it has
+//! written the line `now`. From that line on, tools/refused_requests refuses one of its requests for memory.
+#![tactic(auto)]
+
+mod table;
+
+use crate::table::print_table;
+use mime::{Bad, Mime, MimeIter};
+use std::alloc::Global;
+use std::env::Env;
+use std::io::Read;
+use std::process::ExitCode;
+use std::{env, io};
+
+/// What is done.
+#[derive(Clone, Copy)]
+enum Task {
+    /// The table is printed.
+    Table,
+    /// The text on standard input is read.
+    Read,
+    /// What was read of it is cloned.
+    Clone,
+    /// The media types in it are taken one by one.
+    Items,
+}
+
+/// The task that the one argument names, or the table where there is none.
+fn asked_task<R: Env + Alloc>(rt: &R) -> Option<Task> {
+    let mut args = env::args(rt).ok()?;
+    let _program = args.next();
+    let Some(word) = args.next() else {
+        return Some(Task::Table);
+    };
+    let task = match word.as_str() {
+        "read" => Task::Read,
+        "clone" => Task::Clone,
+        "items" => Task::Items,
+        _ => return None,
+    };
+    if args.next().is_some() {
+        return None;
+    }
+    Some(task)
+}
+
+fn main(rt: HostRuntime) -> ExitCode {
+    let Some(task) = asked_task(&rt) else {
+        let _ = eprintln!(rt; "usage: mime_hostile [read|clone|items]");
+        return ExitCode::from(2);
+    };
+    match done(&rt, task) {
+        Ok(()) => ExitCode::SUCCESS,
+        Err(_) => ExitCode::FAILURE,
+    }
+}
+
+/// Reads standard input, and does the task.
+fn done(rt: &HostRuntime, task: Task) -> io::Result<()> {
+    let mut text = String::new(rt.alloc());
+    rt.stdin().read_to_string(&mut text)?;
+    match task {
+        Task::Table => print_table(rt),
+        Task::Read => read(rt, text.as_str()),
+        Task::Clone => clone(rt, text.as_str()),
+        Task::Items => items(rt, text.as_str()),
+    }
+}
+
+/// Reads a text, and prints what it was read as, or the fault.
+fn read(rt: &HostRuntime, text: &str) -> io::Result<()> {
+    println!(rt; "now")?;
+    match Mime::from_str(rt.alloc(), text) {
+        Ok(mime) => println!(rt; "ok {}", mime.as_str()),
+        Err(error) => println!(rt; "bad {error}"),
+    }
+}
+
+/// Clones what a text was read as. The original is printed too, since a clone that is refused leaves it as it was.
+fn clone(rt: &HostRuntime, text: &str) -> io::Result<()> {
+    let Ok(original) = Mime::from_str(rt.alloc(), text) else {
+        return println!(rt; "not a media type");
+    };
+    println!(rt; "now")?;
+    match original.clone() {
+        Ok(copy) => println!(rt; "ok {}, equal: {}", copy.as_str(), copy == original)?,
+        Err(_) => println!(rt; "no memory")?,
+    }
+    println!(rt; "original {}", original.as_str())
+}
+
+/// Takes the media types in a text one by one.
+fn items(rt: &HostRuntime, text: &str) -> io::Result<()> {
+    let mut iter = MimeIter::new(rt.alloc(), text);
+    println!(rt; "now")?;
+    for item in iter {
+        match item {
+            Ok(mime) => println!(rt; "ok {}", mime.as_str())?,
+            Err(Bad::Piece(piece)) => println!(rt; "bad {piece}")?,
+            Err(Bad::NoMemory) => println!(rt; "no memory")?,
+        }
+    }
+    println!(rt; "end")
+}
