@@ -33,13 +33,42 @@ mod here {
             length: usize,
             times: usize,
         ) -> usize;
+        pub fn mime_bench_items(text: *const u8, length: usize, times: usize) -> usize;
+        pub fn mime_bench_eq(
+            one: *const u8,
+            one_length: usize,
+            other: *const u8,
+            other_length: usize,
+            times: usize,
+        ) -> usize;
+        pub fn mime_bench_cmp(
+            one: *const u8,
+            one_length: usize,
+            other: *const u8,
+            other_length: usize,
+            times: usize,
+        ) -> usize;
+        pub fn mime_bench_eq_str(
+            one: *const u8,
+            one_length: usize,
+            other: *const u8,
+            other_length: usize,
+            times: usize,
+        ) -> usize;
+        pub fn mime_bench_hash(text: *const u8, length: usize, times: usize) -> usize;
+        pub fn mime_bench_clone(text: *const u8, length: usize, times: usize) -> usize;
+        pub fn mime_bench_print(text: *const u8, length: usize, times: usize) -> usize;
+        pub fn mime_bench_atom(text: *const u8, length: usize, times: usize) -> usize;
     }
 }
 
 /// The same calls over the Rust crate, written the same way.
 mod there {
     use super::hidden;
-    use mime::Mime;
+    use mime::{Mime, APPLICATION_JSON, IMAGE_SVG, TEXT_HTML, TEXT_PLAIN_UTF_8};
+    use std::collections::hash_map::DefaultHasher;
+    use std::fmt::Write;
+    use std::hash::{Hash, Hasher};
 
     #[inline(never)]
     #[no_mangle]
@@ -96,6 +125,108 @@ mod there {
         }
         same
     }
+
+    /// The release has no iterator, so this is what its user writes.
+    #[inline(never)]
+    #[no_mangle]
+    pub fn rust_mime_items(text: &str, times: usize) -> usize {
+        let mut length = 0;
+        for _ in 0..times {
+            length = 0;
+            for entry in hidden(text).split(',') {
+                if let Ok(mime) = entry.trim().parse::<Mime>() {
+                    length += mime.as_ref().len();
+                }
+            }
+        }
+        length
+    }
+
+    /// The value of a text that is a media type.
+    fn read(text: &str) -> Mime {
+        text.parse().unwrap()
+    }
+
+    #[inline(never)]
+    #[no_mangle]
+    pub fn rust_mime_eq(one: &str, other: &str, times: usize) -> usize {
+        let (one, other) = (read(one), read(other));
+        let mut same = 0;
+        for _ in 0..times {
+            same += (*hidden(&one) == *hidden(&other)) as usize;
+        }
+        same
+    }
+
+    #[inline(never)]
+    #[no_mangle]
+    pub fn rust_mime_cmp(one: &str, other: &str, times: usize) -> usize {
+        let (one, other) = (read(one), read(other));
+        let mut less = 0;
+        for _ in 0..times {
+            less += hidden(&one).cmp(hidden(&other)).is_lt() as usize;
+        }
+        less
+    }
+
+    #[inline(never)]
+    #[no_mangle]
+    pub fn rust_mime_eq_str(one: &str, other: &str, times: usize) -> usize {
+        let one = read(one);
+        let mut same = 0;
+        for _ in 0..times {
+            same += (*hidden(&one) == hidden(other)) as usize;
+        }
+        same
+    }
+
+    #[inline(never)]
+    #[no_mangle]
+    pub fn rust_mime_hash(text: &str, times: usize) -> usize {
+        let mime = read(text);
+        let mut even = 0;
+        for _ in 0..times {
+            let mut hasher = DefaultHasher::new();
+            hidden(&mime).hash(&mut hasher);
+            even += (hasher.finish() % 2 == 0) as usize;
+        }
+        // Which bytes are fed is open, so the answers of the two sides differ.
+        usize::from(even <= times)
+    }
+
+    #[inline(never)]
+    #[no_mangle]
+    pub fn rust_mime_clone(text: &str, times: usize) -> usize {
+        let mime = read(text);
+        let mut length = 0;
+        for _ in 0..times {
+            length = hidden(&hidden(&mime).clone()).as_ref().len();
+        }
+        length
+    }
+
+    #[inline(never)]
+    #[no_mangle]
+    pub fn rust_mime_print(text: &str, times: usize) -> usize {
+        let mime = read(text);
+        let mut printed = String::with_capacity(text.len());
+        for _ in 0..times {
+            printed.clear();
+            let _ = write!(printed, "{}", hidden(&mime));
+        }
+        printed.len()
+    }
+
+    #[inline(never)]
+    #[no_mangle]
+    pub fn rust_mime_atom(_text: &str, times: usize) -> usize {
+        let constants = [TEXT_HTML, APPLICATION_JSON, TEXT_PLAIN_UTF_8, IMAGE_SVG];
+        let mut length = 0;
+        for _ in 0..times {
+            length += hidden(&constants)[length % 4].clone().as_ref().len();
+        }
+        length
+    }
 }
 
 /// The value, of which the compiler can no longer tell that it is the same at each turn.
@@ -122,6 +253,37 @@ enum Operation {
     LookUp(&'static str),
     /// Of this name with the text.
     NameEq(&'static str),
+    /// Of a list of media types.
+    Items,
+    /// Of the value with that of another text.
+    Equal(Other),
+    Order(Other),
+    /// Of the value with another text.
+    EqualText(Other),
+    Hash,
+    Clone,
+    Print,
+    /// Of one of four constants.
+    Constant,
+}
+
+/// The text that is compared with the first.
+#[derive(Clone, Copy, PartialEq)]
+enum Other {
+    Same,
+    Given(&'static str),
+    /// The first without the spaces after its semicolons.
+    Unspaced,
+}
+
+impl Other {
+    fn written(&self, text: &str) -> String {
+        match self {
+            Other::Same => text.to_string(),
+            Other::Given(other) => other.to_string(),
+            Other::Unspaced => text.replace("; ", ";"),
+        }
+    }
 }
 
 /// The text that is read.
@@ -134,6 +296,12 @@ enum Text {
     Subtype(usize),
     /// With a parameter's value of so many bytes.
     Value(usize),
+    /// An Accept header of so many entries.
+    Accept(usize),
+    /// One of which every second entry is broken.
+    Broken(usize),
+    /// This text so many times.
+    Times(&'static str, usize),
     /// With a comma behind it.
     Refused(Box<Text>),
 }
@@ -151,12 +319,21 @@ impl Text {
             }
             Text::Subtype(length) => format!("text/{}", "x".repeat(*length)),
             Text::Value(length) => format!("a/b; p={}", "x".repeat(*length)),
+            Text::Accept(count) => entries(*count).join(", "),
+            Text::Broken(count) => {
+                let mut entries = entries(*count);
+                for number in (1..*count).step_by(2) {
+                    entries[number] = if number % 4 == 1 { "invalid" } else { "te xt" };
+                }
+                entries.join(", ")
+            }
+            Text::Times(text, count) => text.repeat(*count),
             Text::Refused(text) => text.written() + ",",
         }
     }
 }
 
-/// What is measured: an operation on a text, and what is wanted of it.
+/// What is measured: an operation on a text, and the goal of it.
 #[derive(Clone)]
 struct Case {
     label: String,
@@ -191,6 +368,66 @@ impl Case {
                 here::mime_bench_name_eq(name.as_ptr(), name.len(), start, length, times)
             },
             (Operation::NameEq(name), Side::There) => there::rust_mime_name_eq(name, text, times),
+            (Operation::Items, Side::Here) => unsafe {
+                here::mime_bench_items(start, length, times)
+            },
+            (Operation::Items, Side::There) => there::rust_mime_items(text, times),
+            (Operation::Equal(other), _) => self.run_two(
+                side,
+                text,
+                &other.written(text),
+                times,
+                here::mime_bench_eq,
+                there::rust_mime_eq,
+            ),
+            (Operation::Order(other), _) => self.run_two(
+                side,
+                text,
+                &other.written(text),
+                times,
+                here::mime_bench_cmp,
+                there::rust_mime_cmp,
+            ),
+            (Operation::EqualText(other), _) => self.run_two(
+                side,
+                text,
+                &other.written(text),
+                times,
+                here::mime_bench_eq_str,
+                there::rust_mime_eq_str,
+            ),
+            (Operation::Hash, Side::Here) => unsafe { here::mime_bench_hash(start, length, times) },
+            (Operation::Hash, Side::There) => there::rust_mime_hash(text, times),
+            (Operation::Clone, Side::Here) => unsafe {
+                here::mime_bench_clone(start, length, times)
+            },
+            (Operation::Clone, Side::There) => there::rust_mime_clone(text, times),
+            (Operation::Print, Side::Here) => unsafe {
+                here::mime_bench_print(start, length, times)
+            },
+            (Operation::Print, Side::There) => there::rust_mime_print(text, times),
+            (Operation::Constant, Side::Here) => unsafe {
+                here::mime_bench_atom(start, length, times)
+            },
+            (Operation::Constant, Side::There) => there::rust_mime_atom(text, times),
+        }
+    }
+
+    /// Makes an operation on two texts.
+    fn run_two(
+        &self,
+        side: Side,
+        one: &str,
+        other: &str,
+        times: usize,
+        here: unsafe extern "C" fn(*const u8, usize, *const u8, usize, usize) -> usize,
+        there: fn(&str, &str, usize) -> usize,
+    ) -> usize {
+        match side {
+            Side::Here => unsafe {
+                here(one.as_ptr(), one.len(), other.as_ptr(), other.len(), times)
+            },
+            Side::There => there(one, other, times),
         }
     }
 
@@ -210,7 +447,97 @@ const UTF_8: &str = "text/plain; charset=utf-8";
 
 const TWO: &str = "multipart/form-data; charset=BASE64; boundary=ABCDEFG";
 
+/// The entries of an Accept header, as browsers send them.
+fn entries(count: usize) -> Vec<&'static str> {
+    let five = [
+        "text/html",
+        "application/xhtml+xml",
+        "application/xml;q=0.9",
+        "image/webp",
+        "*/*;q=0.8",
+    ];
+    five.into_iter().cycle().take(count).collect()
+}
+
 const QUOTED: &str = "a/b; p=\"x;y\"; q=\"z\"";
+
+/// A value that is compared, hashed, copied and printed.
+struct Value {
+    name: &'static str,
+    text: Text,
+    /// The same value, written otherwise.
+    otherwise: Other,
+    /// The most that its equality with that, and its hash, may cost.
+    wanted: [&'static str; 2],
+}
+
+const VALUES: [Value; 4] = [
+    Value {
+        name: "`text/plain`",
+        text: Text::Given("text/plain"),
+        otherwise: Other::Given("TEXT/PLAIN"),
+        wanted: ["0.80", "1.30"],
+    },
+    Value {
+        name: "`text/plain; charset=utf-8`",
+        text: Text::Given(UTF_8),
+        otherwise: Other::Given("TEXT/PLAIN;CHARSET=\"UTF-8\""),
+        wanted: ["0.80", ""],
+    },
+    Value {
+        name: "`multipart/form-data; charset=BASE64; boundary=ABCDEFG`",
+        text: Text::Given(TWO),
+        otherwise: Other::Given("multipart/form-data;charset=BASE64;boundary=\"ABCDEFG\""),
+        wanted: ["0.80", "3.00"],
+    },
+    Value {
+        name: "a hundred parameters",
+        text: Text::Parameters(100),
+        otherwise: Other::Unspaced,
+        wanted: ["", ""],
+    },
+];
+
+/// The operations on values that were read before.
+fn values() -> Vec<Case> {
+    let mut cases = Vec::new();
+    for value in VALUES {
+        let mut add = |what: &str, operation, wanted| {
+            let label = format!("{} {}", what, value.name);
+            cases.push(Case::new(label, operation, value.text.clone(), wanted));
+        };
+        let [equal, hash] = value.wanted;
+        add("equality, one text:", Operation::Equal(Other::Same), "0.30");
+        add(
+            "equality, written otherwise:",
+            Operation::Equal(value.otherwise),
+            equal,
+        );
+        add("order, one text:", Operation::Order(Other::Same), "1.00");
+        add("hash of", Operation::Hash, hash);
+        add("copy and drop", Operation::Clone, "0.85");
+        add("print", Operation::Print, "1.00");
+    }
+    cases.push(Case::new(
+        "equality, another essence: `text/plain` and `text/html`".to_string(),
+        Operation::Equal(Other::Given("text/html")),
+        Text::Given("text/plain"),
+        "",
+    ));
+    cases.push(Case::new(
+        "copy and drop `*/*`".to_string(),
+        Operation::Clone,
+        Text::Given("*/*"),
+        "0.85",
+    ));
+    cases.push(Case::new(
+        "a constant as a value".to_string(),
+        Operation::Constant,
+        Text::Given("text/plain"),
+        "",
+    ));
+    cases
+}
 
 /// The operations of everyday texts.
 fn operations() -> Vec<Case> {
@@ -281,6 +608,71 @@ fn operations() -> Vec<Case> {
         ),
         name_eq("charset", "Charset", ""),
     ]
+}
+
+/// The media types of lists one by one.
+fn lists() -> Vec<Case> {
+    let list = |what: &str, text, wanted| {
+        let label = format!("the media types of {}", what);
+        Case::new(label, Operation::Items, text, wanted)
+    };
+    vec![
+        list("an Accept header of five entries", Text::Accept(5), "0.70"),
+        list("one of fifty", Text::Accept(50), "0.70"),
+        list("one of 5,000", Text::Accept(5_000), ""),
+        list("one of ten, every second broken", Text::Broken(10), ""),
+        list("`text/plain`", Text::Given("text/plain"), ""),
+        list("1,000 commas", Text::Times(",", 1_000), ""),
+        list("10,000 commas", Text::Times(",", 10_000), ""),
+        list("1,000 times `é`", Text::Times("é", 1_000), ""),
+        list("100,000 times `é`", Text::Times("é", 100_000), ""),
+    ]
+}
+
+/// A value against texts: its own, the same in capitals, with another first byte, with another last
+/// parameter, written otherwise, and one that is refused.
+fn text_comparisons() -> Vec<Case> {
+    let texts = |value: &'static str, texts: &[(&'static str, &'static str)]| -> Vec<Case> {
+        let case = |&(text, wanted): &(&'static str, &'static str)| {
+            let label = format!("the value of `{}` against the text `{}`", value, text);
+            Case::new(label, Operation::EqualText(Other::Given(text)), Text::Given(value), wanted)
+        };
+        texts.iter().map(case).collect()
+    };
+    [
+        texts(
+            "text/plain",
+            &[
+                ("text/plain", "0.30"),
+                ("TEXT/PLAIN", "0.30"),
+                ("next/plain", "1.00"),
+                ("text/pl(in", "1.00"),
+            ],
+        ),
+        texts(
+            UTF_8,
+            &[
+                (UTF_8, "0.80"),
+                ("TEXT/PLAIN; CHARSET=UTF-8", "1.00"),
+                ("next/plain; charset=utf-8", "1.00"),
+                ("text/plain; charset=utf-9", "1.00"),
+                ("text/plain;charset=\"utf-8\"", "1.00"),
+                ("text/plain; charset=utf(8", "1.00"),
+            ],
+        ),
+        texts(
+            TWO,
+            &[
+                ("multipart/form-data; charset=base64; boundary=ABCDEFG", "0.80"),
+                ("MULTIPART/FORM-DATA; CHARSET=BASE64; BOUNDARY=ABCDEFG", "1.00"),
+                ("nultipart/form-data; charset=base64; boundary=ABCDEFG", "1.00"),
+                ("multipart/form-data; charset=base64; boundary=ABCDEFX", "1.00"),
+                ("multipart/form-data;charset=base64;boundary=\"ABCDEFG\"", "1.00"),
+                ("multipart/form-data; charset=base64; boundary=ABCDE(G", "1.00"),
+            ],
+        ),
+    ]
+    .concat()
 }
 
 /// The same on longer and longer texts.
@@ -373,7 +765,14 @@ fn counts() -> Vec<Count> {
 
 /// Every operation that is measured, in the table's order.
 fn cases() -> Vec<Case> {
-    operations().into_iter().chain(growth()).collect()
+    let lists = lists().into_iter();
+    operations()
+        .into_iter()
+        .chain(values())
+        .chain(lists)
+        .chain(text_comparisons())
+        .chain(growth())
+        .collect()
 }
 
 // Callgrind's requests, as valgrind documents them.
@@ -572,7 +971,7 @@ const HEADS: [&str; 13] = [
     "instructions here",
     "there",
     "ratio",
-    "wanted at most",
+    "goal, at most",
     "ratio with the reading before it",
     "the walk alone, here",
     "instructions a byte here",
@@ -605,7 +1004,7 @@ fn table(folder: &str) {
             Operation::Walk | Operation::LookUp(_) => cases
                 .iter()
                 .position(|other| other.operation == Operation::Read && other.text == case.text),
-            Operation::Read | Operation::NameEq(_) => None,
+            _ => None,
         };
         let cells = [
             case.label.clone(),

@@ -1,0 +1,88 @@
+/* Refuses one request for memory of the program that it is loaded into, and counts them.
+ *
+ * REFUSE=K refuses the K-th request after the program has written the line "now" to its standard output, or, with
+ * REFUSE_FROM=start, the K-th after it began. Each call of malloc, calloc, realloc or aligned_alloc and its like is a
+ * request; giving memory back isn't one. At the end the number of requests goes to the file descriptor
+ * REFUSE_COUNT, with the word "refused" if one was refused. */
+#define _GNU_SOURCE
+#include <errno.h>
+#include <stddef.h>
+#include <stdio.h>
+#include <stdlib.h>
+#include <string.h>
+#include <sys/syscall.h>
+#include <sys/uio.h>
+#include <unistd.h>
+
+extern void *__libc_malloc(size_t);
+extern void *__libc_calloc(size_t, size_t);
+extern void *__libc_realloc(void *, size_t);
+extern void *__libc_memalign(size_t, size_t);
+
+static long refused_at, requests;
+static int counting, refused;
+
+__attribute__((constructor)) static void begin(void)
+{
+    const char *at = getenv("REFUSE"), *from = getenv("REFUSE_FROM");
+    refused_at = at ? atol(at) : 0;
+    counting = from && strcmp(from, "start") == 0;
+}
+
+__attribute__((destructor)) static void end(void)
+{
+    const char *fd = getenv("REFUSE_COUNT");
+    char said[64];
+    int length = snprintf(said, sizeof said, "%ld requests%s\n", requests, refused ? ", refused" : "");
+    if (fd && length > 0)
+        syscall(SYS_write, atoi(fd), said, (size_t)length);
+}
+
+static int refuses(void)
+{
+    if (!counting || ++requests != refused_at)
+        return 0;
+    refused = 1;
+    errno = ENOMEM;
+    return 1;
+}
+
+void *malloc(size_t size) { return refuses() ? NULL : __libc_malloc(size); }
+
+void *calloc(size_t count, size_t size) { return refuses() ? NULL : __libc_calloc(count, size); }
+
+void *realloc(void *block, size_t size) { return refuses() ? NULL : __libc_realloc(block, size); }
+
+void *aligned_alloc(size_t align, size_t size) { return refuses() ? NULL : __libc_memalign(align, size); }
+
+void *memalign(size_t align, size_t size) { return refuses() ? NULL : __libc_memalign(align, size); }
+
+int posix_memalign(void **block, size_t align, size_t size)
+{
+    if (refuses())
+        return ENOMEM;
+    *block = __libc_memalign(align, size);
+    return *block ? 0 : ENOMEM;
+}
+
+/* The line "now" begins the count. */
+static void seen(int fd, const void *bytes, size_t length)
+{
+    if (fd == 1 && length >= 3 && memcmp(bytes, "now", 3) == 0)
+        counting = 1;
+}
+
+ssize_t write(int fd, const void *bytes, size_t length)
+{
+    ssize_t done = syscall(SYS_write, fd, bytes, length);
+    seen(fd, bytes, length);
+    return done;
+}
+
+ssize_t writev(int fd, const struct iovec *parts, int count)
+{
+    ssize_t done = syscall(SYS_writev, fd, parts, count);
+    if (count > 0)
+        seen(fd, parts[0].iov_base, parts[0].iov_len);
+    return done;
+}
