@@ -1,16 +1,16 @@
 -- What a pass over a reader's bytes has given so far, one byte or one run more, and at its end.
-use Rattle.std.proofs.Common.{◌≡◌, ℕ, ◌+◌, ◌<◌, Bool, true, false, eqb, List, [], ◌∷◌, ◌++◌, length, Option, Some, None, refl, sym, ap, ◌∙◌, arith, append_assoc, append-nil, length-append}
+use Rattle.std.proofs.Common.{◌≡◌, ℕ, ◌+◌, ◌<◌, Bool, true, false, eqb, List, [], ◌∷◌, ◌++◌, length, Option, Some, None, refl, sym, ap, ◌∙◌, subst, arith, append_assoc, append-nil, length-append}
 use Rattle.std.specs.Prelude.{IsTrue, IsFalse, MatchOption}
 use Rattle.std.specs.List.{list_all}
 use Rattle.std.specs.Option.{option_to_list}
 use Rattle.std.proofs.lemmas.Bool.{and_from}
 use Rattle.std.proofs.lemmas.List.Folds.{list_all-append}
-use Rattle.mime.specs.Bytes.{is_quoted_byte, plus_byte}
-use Rattle.mime.specs.Grammar.{is_inner_byte}
+use Rattle.mime.specs.Bytes.{is_quoted_text_byte, plus_byte, backslash_byte}
+use Rattle.mime.specs.Quoted.{awaits_first, awaits_next, takes, awaits_behind, IsOpenContent}
 use Rattle.mime.specs.Values.{last_plus}
 use Rattle.mime.specs.Remaining.{Remaining}
 use Rattle.mime.specs.Scanning.{Given, GivesFirst, Passes, PassesContent}
-use Rattle.mime.proofs.Quoted.{IsOpenContent-inner, awaits_behind-inner}
+use Rattle.mime.proofs.Quoted.{takes-text, awaits_next-text, takes-backslash, awaits_behind-push, IsOpenContent-push}
 
 -- a run, and what was given from where it ended
 pub given_then : {old mid new : Remaining} {xs ys : List ℕ} {stop : Option ℕ}
@@ -26,6 +26,16 @@ given_whole {new} {xs} {b} g = record {
   bytes = g.bytes ∙ sym (append_assoc xs (b ∷ []) new.left);
   counted = omega (arith, g.counted, length-append xs (b ∷ []));
 }
+
+-- a run, and one byte more
+pub given_more : {old mid new : Remaining} {xs : List ℕ} {b : ℕ} → Given old mid xs None → GivesFirst mid new (Some b)
+    → Given old new (xs ++ b ∷ []) None
+given_more g first = given_then g (given_whole first.0)
+
+-- a run, and the byte that ended it, or the end of the text
+pub given_stop : {old mid new : Remaining} {xs : List ℕ} {stop : Option ℕ} → Given old mid xs None → GivesFirst mid new stop
+    → Given old new xs stop
+given_stop {xs = xs} g first = rw (sym (append-nil xs)) (given_then g first.0)
 
 -- what is counted and what is left make one sum
 pub given_sum : {old new : Remaining} {xs : List ℕ} {stop : Option ℕ} → Given old new xs stop
@@ -48,7 +58,7 @@ abbrev pub passing_more : {class : ℕ → Bool} {old mid new : Remaining} {b : 
 passing_more {class} {b = b} p g fits = record {
   run = p.run ++ b ∷ [];
   of_class = list_all-append class p.run (b ∷ []) ∙ and_from _ _ p.of_class (and_from (class b) true fits refl);
-  given = given_then p.given (given_whole g.0);
+  given = given_more p.given g;
 }
 
 -- the text ended the run, or a byte outside the class did
@@ -57,18 +67,47 @@ abbrev pub passes_at : {class : ℕ → Bool} {old mid new : Remaining} {stop : 
 passes_at p g stopped = record {
   run = p.run;
   of_class = p.of_class;
-  given = rw (sym (append-nil p.run)) (given_then p.given g.0);
+  given = given_stop p.given g;
   stopped = stopped;
 }
 
--- a quoted byte, and what follows it to the end of the value
-pub content_from_inner : {old mid new : Remaining} {b : ℕ} {stop : Option ℕ}
-    → GivesFirst old mid (Some b) → is_quoted_byte b ≡ true → Passes is_inner_byte mid new stop → PassesContent old new stop
-content_from_inner {b = b} g first p = record {
-  run = b ∷ p.run;
-  of_class = IsOpenContent-inner b p.run first p.of_class;
-  given = given_then (given_whole g.0) p.given;
-  stopped = rw (awaits_behind-inner p.run) p.stopped;
+-- open content was given so far, which awaits a byte or not
+pub record Taking (awaiting : Bool) (old now : Remaining) : Type 0 where
+  pub run : List ℕ
+  pub of_class : IsOpenContent run
+  pub awaits : awaits_behind awaits_first run ≡ awaiting
+  pub given : Given old now run None
+
+-- one byte more of it
+pub taking_more : {awaiting : Bool} {old mid new : Remaining} {b : ℕ} → Taking awaiting old mid → GivesFirst mid new (Some b)
+    → IsTrue (takes awaiting b) → Taking (awaits_next awaiting b) old new
+taking_more {b = b} p g fits = record {
+  run = p.run ++ b ∷ [];
+  of_class = IsOpenContent-push p.run b p.of_class (rw p.awaits fits);
+  awaits = awaits_behind-push awaits_first p.run b ∙ ap (λ (a : Bool). awaits_next a b) p.awaits;
+  given = given_more p.given g;
+}
+
+-- quoted text awaits nothing
+pub taking_text : {old mid new : Remaining} {b : ℕ} → Taking false old mid → GivesFirst mid new (Some b)
+    → IsTrue (is_quoted_text_byte b) → Taking false old new
+taking_text {old} {new = new} {b = b} p g text =
+    subst (λ awaiting. Taking awaiting old new) (awaits_next-text b text) (taking_more p g (takes-text b text))
+
+-- a backslash awaits a byte
+pub taking_backslash : {old mid new : Remaining} {b : ℕ} → Taking false old mid → GivesFirst mid new (Some b)
+    → b ≡ backslash_byte → Taking true old new
+taking_backslash {mid} {new} p g same =
+    taking_more p (subst (λ b. GivesFirst mid new (Some b)) same g) takes-backslash
+
+-- the text ended it, or a byte that it doesn't take did
+pub content_at : {awaiting : Bool} {old mid new : Remaining} {stop : Option ℕ} → Taking awaiting old mid → GivesFirst mid new stop
+    → MatchOption stop (new.left ≡ []) (λ b. IsFalse (takes awaiting b)) → PassesContent old new stop
+content_at p g stopped = record {
+  run = p.run;
+  of_class = p.of_class;
+  given = given_stop p.given g;
+  stopped = rw p.awaits stopped;
 }
 
 -- a plus at the end is the last one

@@ -1,14 +1,14 @@
 -- What stands between quotes: it is taken byte by byte, what was taken and awaits no more is content, a cut finds its end.
-use Rattle.std.proofs.Common.{◌≡◌, ℕ, suc, ◌+◌, ◌<◌, ◌≤◌, Bool, true, false, List, [], ◌∷◌, ◌++◌, length, get_or, refl, sym, ap, ◌∙◌, arith, cond}
+use Rattle.std.proofs.Common.{◌≡◌, ◌≢◌, ℕ, suc, ◌+◌, ◌<◌, ◌≤◌, Bool, true, false, List, [], ◌∷◌, ◌++◌, length, get_or, drop, refl, sym, ap, ◌∙◌, subst, ne_eqb, arith, cond}
 use Rattle.std.specs.Prelude.{IsTrue, IsFalse, ◌==◌, ◌&&◌, not}
 use Rattle.std.specs.Char.{to_ascii_lowercase}
-use Rattle.std.specs.List.{list_all}
+use Rattle.std.proofs.lemmas.List.{drop_more, drop_all}
 use Rattle.std.specs.Str.{IsUtf8, IsCharBoundary}
 use Rattle.std.proofs.lemmas.Str.{IsCharBoundary-before_ascii, IsCharBoundary-after_ascii}
 use Rattle.std.proofs.lemmas.Bool.{and_parts, and_from, cond-false, eqb-true, true≢false}
 use Rattle.std.proofs.lemmas.Bool.Decides.{nat_tests}
-use Rattle.mime.specs.Bytes.{is_quoted_byte, quote_byte}
-use Rattle.mime.specs.Grammar.{is_inner_byte, IsContent}
+use Rattle.mime.specs.Bytes.{is_quoted_byte, is_quoted_text_byte, quote_byte, backslash_byte}
+use Rattle.mime.specs.Grammar.{IsContent, no_byte, text_byte, quoted_pair}
 use Rattle.mime.specs.Values.{lowered}
 use Rattle.mime.specs.Quoted.{awaits_first, awaits_next, takes, takes_all, awaits_behind, IsOpenContent, continues, len_from, content_len}
 
@@ -39,45 +39,79 @@ takes-of_lowercase false b = grind (arith, nat_tests)
 
 -- and awaits as much after either
 awaits_next-lowercase : (awaiting : Bool) (b : ℕ) → awaits_next awaiting (to_ascii_lowercase b) ≡ awaits_next awaiting b
-awaits_next-lowercase awaiting b = refl
+awaits_next-lowercase true b = refl
+awaits_next-lowercase false b = grind (arith, nat_tests)
 
 -- what is taken closes nothing
 taken-closes_not : (awaiting : Bool) (b : ℕ) → IsTrue (takes awaiting b) → not awaiting && b == quote_byte ≡ false
 taken-closes_not true b taken = refl
 taken-closes_not false b taken = grind (arith, nat_tests)
 
+-- ---- quoted text and pairs
+
+-- quoted text is taken
+pub takes-text : (b : ℕ) → IsTrue (is_quoted_text_byte b) → IsTrue (takes false b)
+takes-text b text = grind (arith, nat_tests)
+
+-- and awaits nothing
+pub awaits_next-text : (b : ℕ) → IsTrue (is_quoted_text_byte b) → awaits_next false b ≡ false
+awaits_next-text b text = grind (arith, nat_tests)
+
+-- a backslash is taken
+pub takes-backslash : IsTrue (takes false backslash_byte)
+unfolding is_quoted_byte
+takes-backslash = refl
+
+-- what is taken and is no backslash is quoted text
+text-taken : (b : ℕ) → IsTrue (takes false b) → IsFalse (b == backslash_byte) → IsTrue (is_quoted_text_byte b)
+text-taken b taken other = grind (arith, nat_tests)
+
+-- no other byte is taken
+pub not_taken : (b : ℕ) → IsFalse (is_quoted_text_byte b) → b ≢ backslash_byte → IsFalse (takes false b)
+not_taken b no_text other = grind (arith, nat_tests)
+
 -- ---- content is what is taken and awaits no more
-
--- after the first byte
-takes_all-inner : (bytes : List ℕ) → takes_all false bytes ≡ list_all is_inner_byte bytes
-takes_all-inner [] = refl
-takes_all-inner (b ∷ bytes) = ap (λ rest. is_inner_byte b && rest) (takes_all-inner bytes)
-
-pub awaits_behind-inner : (bytes : List ℕ) → awaits_behind false bytes ≡ false
-awaits_behind-inner [] = refl
-awaits_behind-inner (b ∷ bytes) = awaits_behind-inner bytes
-
--- a first byte and others
-pub IsOpenContent-inner : (b : ℕ) (bytes : List ℕ) → IsTrue (is_quoted_byte b) → IsTrue (list_all is_inner_byte bytes)
-    → IsOpenContent (b ∷ bytes)
-IsOpenContent-inner b bytes first others =
-    and_from (is_quoted_byte b) (takes_all false bytes) first (takes_all-inner bytes ∙ others)
 
 -- content is taken
 pub content-taken : (content : List ℕ) → IsContent content → IsOpenContent content
-content-taken [] is = absurd is
-content-taken (b ∷ bytes) is = IsOpenContent-inner b bytes is.0 is.1
+content-taken bytes no_byte = refl
+content-taken bytes (text_byte b content text more) =
+    and_from (takes false b) _ (takes-text b text)
+    (subst (λ awaiting. IsTrue (takes_all awaiting content)) (sym (awaits_next-text b text)) (content-taken content more))
+content-taken bytes (quoted_pair b content fits more) =
+    and_from (takes false backslash_byte) _ takes-backslash
+    (and_from (takes true b) (takes_all false content) fits (content-taken content more))
 
 -- and awaits no more
 content-awaits : (content : List ℕ) → IsContent content → awaits_behind awaits_first content ≡ false
-content-awaits [] is = absurd is
-content-awaits (b ∷ bytes) is = awaits_behind-inner bytes
+content-awaits bytes no_byte = refl
+content-awaits bytes (text_byte b content text more) =
+    ap (λ (awaiting : Bool). awaits_behind awaiting content) (awaits_next-text b text) ∙ content-awaits content more
+content-awaits bytes (quoted_pair b content fits more) = content-awaits content more
 
--- what is taken and awaits no more is content
+-- what makes content, after a backslash or not
+abbrev ContentFrom : Bool → List ℕ → Type 0
+ContentFrom true bytes = IsContent (backslash_byte ∷ bytes)
+ContentFrom false bytes = IsContent bytes
+
+-- what is taken and awaits no more makes content
+content_from : (awaiting : Bool) (bytes : List ℕ) → IsTrue (takes_all awaiting bytes) → awaits_behind awaiting bytes ≡ false
+    → ContentFrom awaiting bytes
+content_from true [] all done = absurd (true≢false done)
+content_from false [] all done = no_byte
+content_from true (b ∷ bytes) all done =
+    let parts = and_parts (takes true b) (takes_all false bytes) all in
+    quoted_pair b bytes parts.0 (content_from false bytes parts.1 done)
+content_from false (b ∷ bytes) all done =
+    let parts = and_parts (takes false b) (takes_all (b == backslash_byte) bytes) all in
+    go (b == backslash_byte) refl parts.0 (content_from (b == backslash_byte) bytes parts.1 done)
+  where
+    go : (backslash : Bool) → b == backslash_byte ≡ backslash → IsTrue (takes false b) → ContentFrom backslash bytes → IsContent (b ∷ bytes)
+    go true same taken more = subst (λ first. IsContent (first ∷ bytes)) (sym (eqb-true b backslash_byte same)) more
+    go false other taken more = text_byte b bytes (text-taken b taken other) more
+
 pub IsContent-taken : (content : List ℕ) → IsOpenContent content → awaits_behind awaits_first content ≡ false → IsContent content
-IsContent-taken [] all done = absurd (true≢false done)
-IsContent-taken (b ∷ bytes) all done =
-    let parts = and_parts (is_quoted_byte b) (takes_all false bytes) all in (parts.0, sym (takes_all-inner bytes) ∙ parts.1)
+IsContent-taken content all done = content_from false content all done
 
 -- ---- byte after byte
 
@@ -202,3 +236,36 @@ pub IsCharBoundary-behind_content : (text : List ℕ) (place : ℕ) → IsUtf8 t
 IsCharBoundary-behind_content text place utf8 e within =
     let at : get_or text place 0 ≡ quote_byte = rw e (quote_at_len awaits_first text (omega arith)) in
     IsCharBoundary-after_ascii text place utf8 within (omega arith)
+
+-- ---- the search for that end, position by position
+
+-- what a position leaves to search
+len_from-at : (text : List ℕ) (place : ℕ) → place < length text
+    → len_from false (drop place text)
+    ≡ cond (get_or text place 0 == quote_byte) 0 (suc (len_from (get_or text place 0 == backslash_byte) (drop (place + 1) text)))
+len_from-at text place within = ap (len_from false) (drop_more text place 0 within)
+
+-- any other byte is passed alone
+pub search_past : (text : List ℕ) (place whole : ℕ) → place + len_from false (drop place text) ≡ whole → place < length text
+    → get_or text place 0 ≢ quote_byte → get_or text place 0 ≢ backslash_byte
+    → place + 1 + len_from false (drop (place + 1) text) ≡ whole
+search_past text place whole e within no_quote no_backslash =
+    let at = len_from-at text place within in
+    omega (arith, e, rw (ne_eqb (get_or text place 0) quote_byte no_quote, ne_eqb (get_or text place 0) backslash_byte no_backslash) at at)
+
+-- a backslash at the end is passed alone
+pub search_past_last : (text : List ℕ) (place whole : ℕ) → place + len_from false (drop place text) ≡ whole → place < length text
+    → get_or text place 0 ≡ backslash_byte → length text ≤ place + 1
+    → place + 1 + len_from false (drop (place + 1) text) ≡ whole
+search_past_last text place whole e within backslash last =
+    let at = rw backslash at (len_from-at text place within) in
+    let behind = drop_all (place + 1) text last in
+    omega (arith, e, rw behind at at, ap (len_from false) behind)
+
+-- a backslash is passed with the byte that it pairs
+pub search_past_pair : (text : List ℕ) (place whole : ℕ) → place + len_from false (drop place text) ≡ whole → place + 1 < length text
+    → get_or text place 0 ≡ backslash_byte
+    → place + 1 + 1 + len_from false (drop (place + 1 + 1) text) ≡ whole
+search_past_pair text place whole e within backslash =
+    let at = rw backslash at (len_from-at text place (omega arith)) in
+    omega (arith, e, at, ap (len_from true) (drop_more text (place + 1) 0 within))

@@ -1,7 +1,7 @@
 -- Texts with what they are read as or why they are refused, by computation: a wrong rule does not check.
 use Rattle.std.proofs.Common.{ℕ, List, [], ◌∷◌, ◌++◌, Option, Some, None, refl, codes}
 use Rattle.mime.specs.Bytes.{is_token_byte, is_quoted_byte}
-use Rattle.mime.specs.Grammar.{plain, quoted, blank, final, more, Tail, no_list, listed, SyntaxTree, text_of, IsWellFormed}
+use Rattle.mime.specs.Grammar.{no_byte, plain, quoted, blank, final, more, Tail, no_list, listed, SyntaxTree, text_of, IsWellFormed}
 use Rattle.mime.specs.Values.{MediaType, value_of, Reads}
 use Rattle.mime.specs.Refusals.{IsFault}
 use Rattle.mime.specs.declared.scan.fault.ParseError.TheVariants.{MissingSlash, MissingEqual, MissingQuote, InvalidToken}
@@ -70,12 +70,44 @@ empty_value : Reads (codes "a/b;p=") (media (codes "a/b") 1 None ((codes "p", []
 unfolding is_token_byte
 empty_value = reads (codes "a") (codes "b") (listed (final [] (plain (codes "p") []))) (refl, (refl, (refl, (refl, refl))))
 
--- a quoted value may begin with a quote
-quote_first : Reads (codes "a/b;p=\"\"x\"") (media (codes "a/b") 1 None ((codes "p", codes "\"x") ∷ []) (codes "a/b;p=\"\"x\""))
+-- a quoted value may be empty
+no_content : Reads (codes "a/b;p=\"\"") (media (codes "a/b") 1 None ((codes "p", []) ∷ []) (codes "a/b;p=\"\""))
 unfolding is_token_byte is_quoted_byte
-quote_first =
-    reads (codes "a") (codes "b") (listed (final [] (quoted (codes "p") (codes "\"x") [])))
-    (refl, (refl, (refl, (refl, IsContent-taken (codes "\"x") refl refl, refl))))
+no_content =
+    reads (codes "a") (codes "b") (listed (final [] (quoted (codes "p") [] []))) (refl, (refl, (refl, (refl, no_byte, refl))))
+
+-- a backslash pairs a quote, and the value keeps both
+paired_quote : Reads (codes "a/b;p=\"\\\"x\"") (media (codes "a/b") 1 None ((codes "p", codes "\\\"x") ∷ []) (codes "a/b;p=\"\\\"x\""))
+unfolding is_token_byte is_quoted_byte
+paired_quote =
+    reads (codes "a") (codes "b") (listed (final [] (quoted (codes "p") (codes "\\\"x") [])))
+    (refl, (refl, (refl, (refl, IsContent-taken (codes "\\\"x") refl refl, refl))))
+
+-- a charset is lowered after a backslash too
+paired_capital : Reads (codes "a/b;charset=\"\\U\"")
+    (media (codes "a/b") 1 None ((codes "charset", codes "\\u") ∷ []) (codes "a/b;charset=\"\\u\""))
+unfolding is_token_byte is_quoted_byte
+paired_capital =
+    reads (codes "a") (codes "b") (listed (final [] (quoted (codes "charset") (codes "\\U") [])))
+    (refl, (refl, (refl, (refl, IsContent-taken (codes "\\U") refl refl, refl))))
+
+-- a tab stands in a quoted value
+tab_in_quotes : Reads (codes "a/b;p=\"" ++ (195 ∷ 169 ∷ 9 ∷ codes "\""))
+    (media (codes "a/b") 1 None ((codes "p", 195 ∷ 169 ∷ 9 ∷ []) ∷ []) (codes "a/b;p=\"" ++ (195 ∷ 169 ∷ 9 ∷ codes "\"")))
+unfolding is_token_byte is_quoted_byte
+tab_in_quotes =
+    reads (codes "a") (codes "b") (listed (final [] (quoted (codes "p") (195 ∷ 169 ∷ 9 ∷ []) [])))
+    (refl, (refl, (refl, (refl, IsContent-taken (195 ∷ 169 ∷ 9 ∷ []) refl refl, refl))))
+
+-- tabs stand where spaces do
+tabs_beside_parameters : Reads (codes "a/b;" ++ (9 ∷ codes "p=\"x\"" ++ (9 ∷ codes ";q=1")))
+    (media (codes "a/b") 1 None ((codes "p", codes "x") ∷ (codes "q", codes "1") ∷ [])
+    (codes "a/b;" ++ (9 ∷ codes "p=\"x\"" ++ (9 ∷ codes ";q=1"))))
+unfolding is_token_byte is_quoted_byte
+tabs_beside_parameters =
+    reads (codes "a") (codes "b")
+    (listed (more (9 ∷ []) (quoted (codes "p") (codes "x") (9 ∷ [])) (final [] (plain (codes "q") (codes "1")))))
+    (refl, (refl, (refl, (refl, IsContent-taken (codes "x") refl refl, refl), (refl, (refl, refl)))))
 
 -- a quoted value may hold bytes past ASCII, semicolons and commas
 quoted_bytes : Reads (codes "a/b;p=\"" ++ (195 ∷ 169 ∷ codes ";,\""))
@@ -110,10 +142,15 @@ no_equals : IsFault (codes "a/b;p") MissingEqual
 unfolding is_token_byte
 no_equals = equal_fault-from_walk (codes "a/b;p") (codes "a") (codes "b") [] [] (codes "p") refl
 
--- the second quote is content
-no_quote : IsFault (codes "a/b;p=\"\"") MissingQuote
+-- a paired quote closes nothing
+no_quote : IsFault (codes "a/b;p=\"\\\"") MissingQuote
 unfolding is_token_byte is_quoted_byte
-no_quote = quote_fault-from_walk (codes "a/b;p=\"\"") (codes "a") (codes "b") [] [] (codes "p") (codes "\"") refl
+no_quote = quote_fault-from_walk (codes "a/b;p=\"\\\"") (codes "a") (codes "b") [] [] (codes "p") (codes "\\\"") refl
+
+-- what ends in a lone backslash lacks the quote too
+lone_backslash : IsFault (codes "a/b;p=\"\\") MissingQuote
+unfolding is_token_byte is_quoted_byte
+lone_backslash = quote_fault-from_walk (codes "a/b;p=\"\\") (codes "a") (codes "b") [] [] (codes "p") (codes "\\") refl
 
 -- no space stands in a type
 space_in_type : IsFault (codes "a b") (InvalidToken 1 32)
@@ -135,15 +172,35 @@ space_after_name : IsFault (codes "a/b;p ") (InvalidToken 5 32)
 unfolding is_token_byte
 space_after_name = dead-from_walk (codes "a/b;p") [] 32 _ refl refl
 
--- spaces alone stand after a quoted value
+-- spaces and tabs alone stand after a quoted value
 text_after_quotes : IsFault (codes "a/b;p=\"x\"junk") (InvalidToken 9 106)
 unfolding is_token_byte is_quoted_byte
 text_after_quotes = dead-from_walk (codes "a/b;p=\"x\"") (codes "unk") 106 _ refl refl
 
--- a tab stands in no quoted value
-tab_in_quotes : IsFault (codes "a/b;p=\"" ++ (195 ∷ 169 ∷ 9 ∷ codes "\"")) (InvalidToken 9 9)
+-- and after an empty one
+text_after_empty_quotes : IsFault (codes "a/b;p=\"\"x\"") (InvalidToken 8 120)
 unfolding is_token_byte is_quoted_byte
-tab_in_quotes = dead-from_walk (codes "a/b;p=\"" ++ (195 ∷ 169 ∷ [])) (codes "\"") 9 _ refl refl
+text_after_empty_quotes = dead-from_walk (codes "a/b;p=\"\"") (codes "\"") 120 _ refl refl
+
+-- no control but the tab stands in a quoted value
+control_in_quotes : IsFault (codes "a/b;p=\"" ++ (195 ∷ 169 ∷ 1 ∷ codes "\"")) (InvalidToken 9 1)
+unfolding is_token_byte is_quoted_byte
+control_in_quotes = dead-from_walk (codes "a/b;p=\"" ++ (195 ∷ 169 ∷ [])) (codes "\"") 1 _ refl refl
+
+-- nor after a backslash
+control_after_backslash : IsFault (codes "a/b;p=\"\\" ++ (13 ∷ [])) (InvalidToken 8 13)
+unfolding is_token_byte is_quoted_byte
+control_after_backslash = dead-from_walk (codes "a/b;p=\"\\") [] 13 _ refl refl
+
+-- no tab stands before the first semicolon
+tab_before_semicolon : IsFault (codes "a/b" ++ (9 ∷ codes ";p=x")) (InvalidToken 3 9)
+unfolding is_token_byte
+tab_before_semicolon = dead-from_walk (codes "a/b") (codes ";p=x") 9 _ refl refl
+
+-- nor after a plain value
+tab_after_plain_value : IsFault (codes "a/b;p=x" ++ (9 ∷ [])) (InvalidToken 7 9)
+unfolding is_token_byte
+tab_after_plain_value = dead-from_walk (codes "a/b;p=x") [] 9 _ refl refl
 
 -- a line's end is no space
 line_end_after_semicolon : IsFault (codes "text/plain;" ++ (13 ∷ 10 ∷ codes "charset=utf-8")) (InvalidToken 11 13)

@@ -7,9 +7,13 @@ use Rattle.std.specs.Char.{is_ascii_alphanumeric}
 unfoldable pub is_token_byte : ℕ → Bool
 is_token_byte b = is_ascii_alphanumeric b || list_any (λ mark. mark == b) (codes "!#$%&'*+-.^_`|~")
 
--- what a quoted value may hold: every byte except the controls (so no tab); the double quote is one
+-- the second byte of a quoted-pair: the tab, and every byte except the controls (RFC 7230, 3.2.6)
 unfoldable pub is_quoted_byte : ℕ → Bool
-is_quoted_byte b = nat_le 32 b && (nat_le b 255 && not (b == 127))
+is_quoted_byte b = b == 9 || (nat_le 32 b && (nat_le b 255 && not (b == 127)))
+
+-- qdtext: of these all but the double quote and the backslash
+abbrev pub is_quoted_text_byte : ℕ → Bool
+is_quoted_text_byte b = is_quoted_byte b && not (b == 34 || b == 92)
 
 -- the bytes that part a text
 abbrev pub slash_byte : ℕ
@@ -27,8 +31,14 @@ equals_byte = 61
 abbrev pub quote_byte : ℕ
 quote_byte = 34
 
+abbrev pub backslash_byte : ℕ
+backslash_byte = 92
+
 abbrev pub space_byte : ℕ
 space_byte = 32
+
+abbrev pub tab_byte : ℕ
+tab_byte = 9
 
 -- the byte between the entries of a list of media types (RFC 7231, 5.3.2)
 abbrev pub comma_byte : ℕ

@@ -1,15 +1,15 @@
 -- What the text of a media type is: its trees, the text of each, and which are well formed
 -- (RFC 7231, 3.1.1.1, with the departures that docs/DIFFERENCES.md lists).
-use Rattle.std.specs.Prelude.{ℕ, List, [], ◌∷◌, ◌++◌, ◌==◌, ◌&&◌, not, Bool, IsTrue}
+use Rattle.std.specs.Prelude.{ℕ, List, [], ◌∷◌, ◌++◌, ◌==◌, ◌||◌, Bool, IsTrue}
 use Rattle.std.specs.List.{list_all}
-use Rattle.mime.specs.Bytes.{is_token_byte, is_quoted_byte, slash_byte, semicolon_byte, equals_byte, quote_byte, space_byte}
+use Rattle.mime.specs.Bytes.{is_token_byte, is_quoted_byte, is_quoted_text_byte, slash_byte, semicolon_byte, equals_byte, quote_byte, backslash_byte, space_byte, tab_byte}
 
--- parameter = name "=" ( value / DQUOTE content DQUOTE *SP )
+-- parameter = name "=" ( value / DQUOTE content DQUOTE spaces )
 pub data Parameter : Type 0 where
   plain : (name value : List ℕ) → Parameter
   quoted : (name content spaces : List ℕ) → Parameter
 
--- parameters = *SP [ parameter [ ";" parameters ] ]
+-- parameters = spaces [ parameter [ ";" parameters ] ]
 pub data Parameters : Type 0 where
   blank : (spaces : List ℕ) → Parameters
   final : (spaces : List ℕ) (parameter : Parameter) → Parameters
@@ -26,11 +26,11 @@ pub record SyntaxTree : Type 0 where
   pub sub : List ℕ
   pub tail : Tail
 
--- SP
+-- SP / HTAB
 abbrev pub is_space : ℕ → Bool
-is_space b = b == space_byte
+is_space b = b == space_byte || b == tab_byte
 
--- *SP
+-- spaces = *( SP / HTAB )
 abbrev pub AreSpaces : List ℕ → Type 0
 AreSpaces bytes = IsTrue (list_all is_space bytes)
 
@@ -63,14 +63,11 @@ abbrev pub IsToken : List ℕ → Type 0
 IsToken [] = ⊥
 IsToken (b ∷ bytes) = AreTokenBytes (b ∷ bytes)
 
--- a quoted byte that doesn't close the value
-abbrev pub is_inner_byte : ℕ → Bool
-is_inner_byte b = is_quoted_byte b && not (b == quote_byte)
-
--- content: one quoted byte or more, of which the first alone may be a quote
-abbrev pub IsContent : List ℕ → Type 0
-IsContent [] = ⊥
-IsContent (b ∷ bytes) = IsTrue (is_quoted_byte b) × IsTrue (list_all is_inner_byte bytes)
+-- content = *( qdtext / quoted-pair ), with its backslashes (RFC 7230, 3.2.6)
+pub data IsContent : List ℕ → Type 0 where
+  no_byte : IsContent []
+  text_byte : (b : ℕ) (content : List ℕ) → IsTrue (is_quoted_text_byte b) → IsContent content → IsContent (b ∷ content)
+  quoted_pair : (b : ℕ) (content : List ℕ) → IsTrue (is_quoted_byte b) → IsContent content → IsContent (backslash_byte ∷ b ∷ content)
 
 -- a parameter that a semicolon follows
 abbrev pub IsInnerParameter : Parameter → Type 0

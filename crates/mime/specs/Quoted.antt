@@ -1,20 +1,19 @@
 -- Private. What stands between quotes, byte by byte: which byte may come next, and where it ends.
 use Rattle.std.specs.Prelude.{ℕ, zero, suc, ◌+◌, Bool, true, false, IsTrue, List, [], ◌∷◌, take, drop, if◌then◌else◌, ◌==◌, ◌&&◌, not}
-use Rattle.mime.specs.Bytes.{is_quoted_byte, quote_byte}
-use Rattle.mime.specs.Grammar.{is_inner_byte}
+use Rattle.mime.specs.Bytes.{is_quoted_byte, quote_byte, backslash_byte}
 
 -- whether a byte must come that can't close the value, at its start
 abbrev pub awaits_first : Bool
-awaits_first = true
+awaits_first = false
 
--- and behind one more byte
+-- and behind one more byte: behind a backslash that isn't itself the second byte of a pair
 abbrev pub awaits_next : Bool → ℕ → Bool
-awaits_next awaiting b = false
+awaits_next awaiting b = not awaiting && b == backslash_byte
 
 -- whether the value takes a byte
 abbrev pub takes : Bool → ℕ → Bool
 takes true b = is_quoted_byte b
-takes false b = is_inner_byte b
+takes false b = is_quoted_byte b && not (b == quote_byte)
 
 -- whether it takes byte after byte
 abbrev pub takes_all : Bool → List ℕ → Bool

@@ -3,7 +3,7 @@
 ghost use Rattle.std.specs.Prelude.{◌≡◌};
 ghost use Rattle.mime.specs.Bytes.{is_token_byte};
 ghost use Rattle.mime.specs.Grammar.{is_space as is_space_byte};
-ghost use Rattle.mime.specs.Bytes.{is_quoted_byte as is_quoted};
+ghost use Rattle.mime.specs.Bytes.{is_quoted_byte as is_quoted, is_quoted_text_byte as is_quoted_text};
 
 const T: bool = true;
 
@@ -21,6 +21,18 @@ static TOKEN: [bool; 256] = [
     F, F, F, F, F, F, F, F, F, F, F, F, F, F, F, F, F, F, F, F, F, F, F, F, F, F, F, F, F, F, F, F,
 ];
 
+/// Whether each byte may stand by itself in a quoted value.
+static QUOTED_TEXT: [bool; 256] = [
+    F, F, F, F, F, F, F, F, F, T, F, F, F, F, F, F, F, F, F, F, F, F, F, F, F, F, F, F, F, F, F, F,
+    T, T, F, T, T, T, T, T, T, T, T, T, T, T, T, T, T, T, T, T, T, T, T, T, T, T, T, T, T, T, T, T,
+    T, T, T, T, T, T, T, T, T, T, T, T, T, T, T, T, T, T, T, T, T, T, T, T, T, T, T, T, F, T, T, T,
+    T, T, T, T, T, T, T, T, T, T, T, T, T, T, T, T, T, T, T, T, T, T, T, T, T, T, T, T, T, T, T, F,
+    T, T, T, T, T, T, T, T, T, T, T, T, T, T, T, T, T, T, T, T, T, T, T, T, T, T, T, T, T, T, T, T,
+    T, T, T, T, T, T, T, T, T, T, T, T, T, T, T, T, T, T, T, T, T, T, T, T, T, T, T, T, T, T, T, T,
+    T, T, T, T, T, T, T, T, T, T, T, T, T, T, T, T, T, T, T, T, T, T, T, T, T, T, T, T, T, T, T, T,
+    T, T, T, T, T, T, T, T, T, T, T, T, T, T, T, T, T, T, T, T, T, T, T, T, T, T, T, T, T, T, T, T,
+];
+
 /// Whether a byte may stand in a token: a type, a subtype, a parameter's name, an unquoted value
 /// (tchar of RFC 7230, 3.2.6). `is_token(b'+')` is true, `is_token(b' ')` is false.
 #[inline(always)]
@@ -30,19 +42,28 @@ pub fn is_token(b: u8) -> bool
     TOKEN[b as usize]
 }
 
-/// Whether a byte is a space, as may stand before a parameter and after a quoted value.
+/// Whether a byte is a space or a tab, as may stand before a parameter and after a quoted value.
 #[inline(always)]
 pub(crate) fn is_space(b: u8) -> bool
     ensures { result ≡ is_space_byte b }
 {
-    b == b' '
+    b == b' ' || b == b'\t'
 }
 
-/// Whether a byte may stand in a quoted value: any byte but those below 32, so no tab, and 127.
-/// `is_quoted_byte(b'"')` is true, since a quote may begin a value. RFC 7230, 3.2.6, allows the tab.
+/// Whether a byte may follow a backslash in a quoted value (the second byte of a quoted-pair of
+/// RFC 7230, 3.2.6): the tab, and any other byte from 32 on but 127. `is_quoted_byte(b'"')` is true.
 #[inline(always)]
 pub fn is_quoted_byte(b: u8) -> bool
     ensures { result ≡ is_quoted b }
 {
-    b >= 32 && b != 127
+    b == b'\t' || (b >= 32 && b != 127)
+}
+
+/// Whether a byte may stand by itself in a quoted value (qdtext of RFC 7230, 3.2.6): any quoted byte
+/// but the quote and the backslash. `is_quoted_text_byte(b';')` is true.
+#[inline(always)]
+pub fn is_quoted_text_byte(b: u8) -> bool
+    ensures { result ≡ is_quoted_text b }
+{
+    QUOTED_TEXT[b as usize]
 }

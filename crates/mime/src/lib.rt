@@ -27,7 +27,7 @@ pub use crate::atoms::{
     TEXT_PLAIN_UTF_8, TEXT_STAR, TEXT_TAB_SEPARATED_VALUES, TEXT_TAB_SEPARATED_VALUES_UTF_8,
     TEXT_VCARD, TEXT_XML,
 };
-pub use crate::bytes::{is_quoted_byte, is_token};
+pub use crate::bytes::{is_quoted_byte, is_quoted_text_byte, is_token};
 pub use crate::compare::mime_eq_str;
 pub use crate::iter::{Bad, MimeIter};
 pub use crate::name::constants::{

@@ -2,13 +2,13 @@
 
 ghost use Rattle.std.specs.Prelude.{◌+◌, ◌-◌, ◌<◌, ◌^◌, length};
 ghost use Rattle.mime.specs.Bytes.{is_token_byte};
-ghost use Rattle.mime.specs.Grammar.{is_inner_byte, is_space as is_space_byte};
+ghost use Rattle.mime.specs.Grammar.{is_space as is_space_byte};
 ghost use Rattle.mime.specs.Scanning.{Passes, PassesContent, PassesSubtype, ScansList, Scans};
 
 mod fault;
 mod reader;
 
-use crate::bytes::{is_quoted_byte, is_space, is_token};
+use crate::bytes::{is_quoted_byte, is_quoted_text_byte, is_space, is_token};
 pub use crate::scan::fault::{FromStrError, ParseError};
 pub(crate) use crate::scan::reader::ByteReader;
 
@@ -46,7 +46,7 @@ fn token(reader: &mut ByteReader<'_>) -> Option<u8>
     None
 }
 
-/// Passes spaces, and gives the byte that ends them.
+/// Passes spaces and tabs, and gives the byte that ends them.
 #[inline(always)]
 fn spaces(reader: &mut ByteReader<'_>) -> Option<u8>
     ensures { Passes is_space_byte reader.old reader.new result }
@@ -59,30 +59,24 @@ fn spaces(reader: &mut ByteReader<'_>) -> Option<u8>
     None
 }
 
-/// Passes the bytes of an open quoted value, and gives the byte that ends them: a quote closes it.
-#[inline(always)]
-fn inner(reader: &mut ByteReader<'_>) -> Option<u8>
-    ensures { Passes is_inner_byte reader.old reader.new result }
-{
-    while let Some(byte) = reader.next() {
-        if !is_quoted_byte(byte) || byte == b'"' {
-            return Some(byte);
-        }
-    }
-    None
-}
-
-/// Passes what stands between the quotes of a value, and gives the byte that ends it. Its first
-/// byte may be a quote.
+/// Passes what stands between the quotes of a value, and gives the byte that ends it: a quote closes
+/// the value, unless a backslash stands before it that isn't itself paired.
 #[inline(always)]
 fn content(reader: &mut ByteReader<'_>) -> Option<u8>
     ensures { PassesContent reader.old reader.new result }
 {
-    let first = reader.next()?;
-    if !is_quoted_byte(first) {
-        return Some(first);
+    while let Some(byte) = reader.next() {
+        if !is_quoted_text_byte(byte) {
+            if byte != b'\\' {
+                return Some(byte);
+            }
+            let paired = reader.next()?;
+            if !is_quoted_byte(paired) {
+                return Some(paired);
+            }
+        }
     }
-    inner(reader)
+    None
 }
 
 /// Passes what follows a subtype's first byte. Returns the position of its last plus, counted from

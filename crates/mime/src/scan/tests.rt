@@ -47,7 +47,11 @@ fn accepted_texts_have_their_places(rt: HostRuntime) {
         ),
         ("a/b;p=x; ", accepted(1, None, Some(3), 1)),
         ("a/b;p=", accepted(1, None, Some(3), 1)),
-        ("a/b;p=\"\"x\"", accepted(1, None, Some(3), 1)),
+        ("a/b;p=\"\"", accepted(1, None, Some(3), 1)),
+        ("a/b;p=\"\\\"x\"", accepted(1, None, Some(3), 1)),
+        ("a/b;p=\"\\\\\"", accepted(1, None, Some(3), 1)),
+        ("a/b;p=\"é\t\"", accepted(1, None, Some(3), 1)),
+        ("a/b;\tp=\"x\"\t;q=1", accepted(1, None, Some(3), 2)),
         ("a/b;p=\"é;,\"", accepted(1, None, Some(3), 1)),
         (
             "TEXT/HTML+XML; Charset=\"UTF-8\" ;q=1",
@@ -69,7 +73,9 @@ fn unfinished_texts_have_their_fault(rt: HostRuntime) {
         ("a/b;p", ParseError::MissingEqual),
         ("a/b;p=x; q", ParseError::MissingEqual),
         ("a/b;p=\"", ParseError::MissingQuote),
-        ("a/b;p=\"\"", ParseError::MissingQuote),
+        ("a/b;p=\"\\\"", ParseError::MissingQuote),
+        ("a/b;p=\"\\", ParseError::MissingQuote),
+        ("a/b;p=\"\t", ParseError::MissingQuote),
         ("a/b;p=\"x, c/d", ParseError::MissingQuote),
     ];
     for (text, fault) in table {
@@ -94,8 +100,12 @@ fn refused_texts_stop_at_their_byte(rt: HostRuntime) {
         ("a/b;p=;", 6, stopped(b';', 1, Some(3), 1)),
         ("a/b;p ", 5, Verdict::Stopped(b' ', None)),
         ("a/b;=x", 4, stopped(b'=', 1, Some(3), 0)),
-        ("a/b;p=\"é\t\"", 9, Verdict::Stopped(9, None)),
-        ("a/b;p=\"\t\"", 7, Verdict::Stopped(9, None)),
+        ("a/b;p=\"é\u{1}\"", 9, Verdict::Stopped(1, None)),
+        ("a/b;p=\"\\\r\"", 8, Verdict::Stopped(13, None)),
+        ("a/b;p=\"\"x\"", 8, stopped(b'x', 1, Some(3), 1)),
+        ("a/b;p=\"\"\"", 8, stopped(b'"', 1, Some(3), 1)),
+        ("a/b\t;p=x", 3, stopped(9, 1, None, 0)),
+        ("a/b;p=x\t", 7, stopped(9, 1, Some(3), 1)),
         ("a/b;p=\"x\"junk", 9, stopped(b'j', 1, Some(3), 1)),
         (
             "text/plain;\r\ncharset=utf-8",

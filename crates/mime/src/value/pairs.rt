@@ -49,19 +49,21 @@ fn split_from<'a>(text: &'a str, from: usize, byte: u8) -> (&'a str, &'a str)
     }
 }
 
-/// Where what stands between quotes ends: at the first quote after its first byte, or with the text.
+/// Where what stands between quotes ends: at the first quote that no backslash pairs, or with the text.
 #[inline]
 fn content_len(text: &[u8]) -> usize
     ensures { result ≡ len_of text.now }
 {
     let mut place = 0;
-    let mut awaits = true;
     while place < text.len() {
         let byte = text[place];
-        if !awaits && byte == b'"' {
+        if byte == b'"' {
             return place;
         }
-        awaits = false;
+        if byte == b'\\' && place + 1 < text.len() {
+            // The byte that it pairs closes nothing.
+            place += 1;
+        }
         place += 1;
     }
     place
@@ -81,7 +83,7 @@ fn split_content<'a>(text: &'a str) -> (&'a str, &'a str)
     }
 }
 
-/// How many spaces begin the list.
+/// How many spaces and tabs begin the list.
 #[inline]
 fn gap_of(list: &str) -> usize
     ensures gap { result ≡ leading_spaces list.now }

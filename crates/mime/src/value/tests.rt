@@ -15,9 +15,16 @@ fn cuts_the_first_pair(rt: HostRuntime) {
             " q=1",
         ),
         ("  q=1; x=2", "q", "  q=", "1", " x=2"),
-        // the first byte of a quoted value may be a quote
-        ("p=\"\"x\"", "p", "p=\"", "\"x", ""),
-        ("p=\"\"x\";r=1", "p", "p=\"", "\"x", "r=1"),
+        // a quoted value may be empty
+        ("p=\"\"", "p", "p=\"", "", ""),
+        ("p=\"\" ;r=1", "p", "p=\"", "", "r=1"),
+        // a backslash pairs a quote, and both stay
+        ("p=\"\\\"x\"", "p", "p=\"", "\\\"x", ""),
+        ("p=\"\\\";\";r=1", "p", "p=\"", "\\\";", "r=1"),
+        ("p=\"\\\\\";r=1", "p", "p=\"", "\\\\", "r=1"),
+        ("p=\"x\\", "p", "p=\"", "x\\", ""),
+        // a tab stands where a space does
+        ("\tp=\"\t\"\t;r=1", "p", "\tp=\"", "\t", "r=1"),
         // a quoted value may hold any character
         ("p=\"é;,\"; q=1", "p", "p=\"", "é;,", " q=1"),
         ("p=\"é", "p", "p=\"", "é", ""),
