@@ -296,6 +296,10 @@ enum Text {
     Subtype(usize),
     /// With a parameter's value of so many bytes.
     Value(usize),
+    /// With a quoted value of so many times this text.
+    Quoted(&'static str, usize),
+    /// The same before its last quote.
+    Open(&'static str, usize),
     /// An Accept header of so many entries.
     Accept(usize),
     /// One of which every second entry is broken.
@@ -319,6 +323,8 @@ impl Text {
             }
             Text::Subtype(length) => format!("text/{}", "x".repeat(*length)),
             Text::Value(length) => format!("a/b; p={}", "x".repeat(*length)),
+            Text::Quoted(text, count) => format!("a/b; p=\"{}\"", text.repeat(*count)),
+            Text::Open(text, count) => format!("a/b; p=\"{}", text.repeat(*count)),
             Text::Accept(count) => entries(*count).join(", "),
             Text::Broken(count) => {
                 let mut entries = entries(*count);
@@ -730,6 +736,25 @@ fn growth() -> Vec<Case> {
     cases
 }
 
+/// Quoted values of 1,000 bytes: of plain bytes, with a pair in every ten bytes, and of nothing but pairs.
+fn quoted_values() -> Vec<Case> {
+    let mut cases = Vec::new();
+    for (what, text) in [
+        ("plain bytes", "xxxxxxxxxx"),
+        ("bytes with a pair in ten", "xxxxxxxx\\x"),
+        ("bytes in pairs", "\\x\\x\\x\\x\\x"),
+    ] {
+        for (verb, operation, text) in [
+            ("read an open quoted value of", Operation::Read, Text::Open(text, 100)),
+            ("read a quoted value of", Operation::Read, Text::Quoted(text, 100)),
+            ("walk past a quoted value of", Operation::Walk, Text::Quoted(text, 100)),
+        ] {
+            cases.push(Case::new(format!("{} 1,000 {}", verb, what), operation, text, ""));
+        }
+    }
+    cases
+}
+
 /// A count that callgrind takes, with the name of its file.
 struct Count {
     file: String,
@@ -772,6 +797,7 @@ fn cases() -> Vec<Case> {
         .chain(lists)
         .chain(text_comparisons())
         .chain(growth())
+        .chain(quoted_values())
         .collect()
 }
 

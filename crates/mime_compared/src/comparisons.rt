@@ -21,7 +21,7 @@ fn digits_of(mime: &Mime) -> u64 {
 }
 
 /// Texts that are read as equal values.
-const EQUAL: [(&str, &str); 12] = [
+const EQUAL: [(&str, &str); 15] = [
     ("a/b", "A/B"),
     ("text/event-stream;       ", "text/event-stream"),
     ("a/b;p=x", "a/b; p=x"),
@@ -35,6 +35,9 @@ const EQUAL: [(&str, &str); 12] = [
         "text/plain; charset=utf-8",
     ),
     ("a/b;p=", "A/B; P="),
+    ("a/b;p=\"\"", "A/B; P=\"\"\t"),
+    ("a/b;charset=\"\\U\"", "A/B; CHARSET=\"\\u\""),
+    ("a/b;\tp=\"x\"\t;q=1", "a/b;p=x;q=1"),
     // Pairs of 63, 64 and 200 bytes in all, which a hasher is fed in another way.
     (
         "a/b;p=xxxxxxxxxxxxxxxxxxxxxxxxxxxxxxxxxxxxxxxxxxxxxxxxxxxxxxxxxxxxx;q=y",
@@ -69,10 +72,11 @@ fn equal_values(rt: HostRuntime) -> Result<(), Fail> {
 
 /// Texts that are read as values in their order, each before the next: by the essence, then pair
 /// by pair, each by its name and then its value, and a list that begins another first.
-const ASCENDING: [&str; 16] = [
+const ASCENDING: [&str; 17] = [
     "a/b",
     "a/b;p=",
     "a/b;p=X",
+    "a/b;p=\"\\x\"",
     "a/b;p=x",
     "a/b; p=\"x\"; q=\"y\"",
     "a/b;p=x;q=z",
@@ -114,7 +118,7 @@ fn values_in_their_order(rt: HostRuntime) -> Result<(), Fail> {
 
 #[test]
 fn unequal_values(rt: HostRuntime) -> Result<(), Fail> {
-    const CASES: [(&str, &str); 10] = [
+    const CASES: [(&str, &str); 12] = [
         (
             "text/plain; charset=iso-8859-1",
             "text/plain; charset=utf-8",
@@ -135,6 +139,9 @@ fn unequal_values(rt: HostRuntime) -> Result<(), Fail> {
         // As in one run of bytes, but cut in other places.
         ("a/b;p=xq", "a/b;px=q"),
         ("a/b;p=\"x;q=y\"", "a/b;p=x;q=y"),
+        // No backslash is taken out.
+        ("a/b;p=\"\\x\"", "a/b;p=x"),
+        ("a/b;p=\"\\\\\"", "a/b;p=\"\\\"\""),
     ];
     let alloc = rt.alloc();
     for (one, other) in CASES {

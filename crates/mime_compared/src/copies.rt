@@ -5,13 +5,15 @@ use std::test::Fail;
 
 #[test]
 fn copies_are_equal(rt: HostRuntime) -> Result<(), Fail> {
-    const CASES: [&str; 6] = [
+    const CASES: [&str; 8] = [
         "*/*",
         "text/plain",
         "TEXT/PLAIN; CHARSET=UTF-8; FOO=BAR",
         "a/b;p=x; ",
         "a/b;p=x",
         "image/svg+xml; p=\"é;,\"",
+        "a/b;p=\"\"",
+        "a/b;p=\"\\\"é\"; q=\"\"",
     ];
     let alloc = rt.alloc();
     for text in CASES {
@@ -39,6 +41,7 @@ fn values_are_printed(rt: HostRuntime) -> Result<(), Fail> {
     let utf_8 = TEXT_PLAIN_UTF_8.mime();
     let quoted = Mime::from_str(alloc, "A/B;P=\"x\"")?;
     let backslash = Mime::from_str(alloc, "a/b;p=\"\\é\"")?;
+    let tab = Mime::from_str(alloc, "a/b;p=\"\t\"")?;
     let cases = [
         (format!(in alloc; "{plain}")?, "text/plain"),
         (format!(in alloc; "{utf_8}")?, "text/plain; charset=utf-8"),
@@ -54,6 +57,7 @@ fn values_are_printed(rt: HostRuntime) -> Result<(), Fail> {
             format!(in alloc; "{backslash:?}")?,
             "\"a/b;p=\\\"\\\\é\\\"\"",
         ),
+        (format!(in alloc; "{tab:?}")?, "\"a/b;p=\\\"\\t\\\"\""),
     ];
     for (printed, expected) in &cases {
         assert_eq!(rt; printed.as_str(), *expected);
@@ -63,11 +67,12 @@ fn values_are_printed(rt: HostRuntime) -> Result<(), Fail> {
 
 #[test]
 fn printed_values_are_read_again(rt: HostRuntime) -> Result<(), Fail> {
-    const CASES: [&str; 4] = [
+    const CASES: [&str; 5] = [
         "text/event-stream;       ",
         "TEXT/PLAIN; CHARSET=UTF-8; FOO=BAR",
         "a/b;p=x; ",
         "A/B; P=\"x;y\" ; Q=z",
+        "A/B;\tP=\"\\\";\"\t; CHARSET=\"\\U\"",
     ];
     let alloc = rt.alloc();
     for text in CASES {

@@ -8,7 +8,7 @@ use std::process::Abort;
 use std::test::Fail;
 
 /// Values, by the texts that they are read from, with texts that they equal.
-const EQUAL: [(&str, &str); 40] = [
+const EQUAL: [(&str, &str); 44] = [
     ("text/event-stream;       ", "text/event-stream"),
     ("text/event-stream;       ", "TEXT/Event-Stream"),
     ("text/plain", "text/plain"),
@@ -42,7 +42,10 @@ const EQUAL: [(&str, &str); 40] = [
     ("a/b;p=x; ", "a/b;p=\"x\"   ;"),
     ("a/b;p=", "A/B; P="),
     ("a/b;p=\"é\"", "A/B; P=\"é\" "),
-    ("a/b;p=\"\"x\"", "A/B;P=\"\"x\""),
+    ("a/b;p=\"\"", "a/b; P=\"\""),
+    ("a/b;p=\"\\\"x\"", "A/B;P=\"\\\"x\" "),
+    ("a/b;charset=\"\\U\"", "A/B; Charset=\"\\u\""),
+    ("a/b; p=\"\t\"", "A/B;\tP=\"\t\"\t"),
     (
         "multipart/form-data; boundary=A",
         "Multipart/Form-Data; Boundary=A",
@@ -51,6 +54,7 @@ const EQUAL: [(&str, &str); 40] = [
     ("a/b;p=x;q=y", "A/B; P=\"x\"; Q=\"y\""),
     ("A/B; P=\"x\"; Q=\"y\"", "a/b;p=x;q=y"),
     ("a/b;p=\"x;y\";q=z", "a/b; p=\"x;y\"; q=\"z\""),
+    ("a/b;p=\"\\\";\";q=z", "a/b;\tp=\"\\\";\"\t; q=\"z\""),
     ("a/b; p=\"x;y\"; q=\"z\"", "a/b;p=\"x;y\";q=z"),
     ("a/b;p=1;P=2", "A/B;P=1;p=2"),
     ("a/b; charset=x; p=Y", "A/B; CHARSET=X; P=Y"),
@@ -73,7 +77,7 @@ const EQUAL: [(&str, &str); 40] = [
 ];
 
 /// Values with texts that they don't equal, though some are accepted.
-const UNEQUAL: [(&str, &str); 59] = [
+const UNEQUAL: [(&str, &str); 66] = [
     // A value without parameters equals no text with a semicolon.
     ("text/event-stream;       ", "text/event-stream;"),
     ("text/event-stream;       ", "text/event-stream;       "),
@@ -96,6 +100,10 @@ const UNEQUAL: [(&str, &str); 59] = [
     ("a/b;p=x", "a/bé;p=x"),
     ("a/b;p=x", "a/b;é"),
     ("a/b;p=x", "a/b;p=x "),
+    ("a/b;p=x", "a/b;p=x\t"),
+    ("a/b;p=x", "a/b\t;p=x"),
+    ("a/b;p=\"\\\"x\"", "a/b;p=\"\\\"x"),
+    ("a/b;p=\"\"", "a/b;p=\"\"x\""),
     ("a/b;p=x", "a/b ;p=x"),
     ("a/b;p=x", "a/b;p=x;q"),
     ("a/b;p=x", ""),
@@ -115,6 +123,9 @@ const UNEQUAL: [(&str, &str); 59] = [
     ("a/b;p=x", "A/B;P=X"),
     ("a/b;p=x", "a/b;q=x"),
     ("a/b;p=x", "a/b;p=y"),
+    ("a/b;p=x", "a/b;p=\"\\x\""),
+    ("a/b;p=\"\\x\"", "a/b;p=x"),
+    ("a/b;p=\"\\X\"", "a/b;p=\"\\x\""),
     ("a/b;p=y", "a/b;p=x"),
     ("a/b;p=x", "a/b;p=x;q=y"),
     ("a/b;p=x;q=y", "a/b;p=x"),
@@ -195,14 +206,14 @@ fn constants_against_texts(rt: HostRuntime) {
     }
 }
 
-const ALPHABET: [u8; 7] = *b"aA/;=\" ";
+const ALPHABET: [u8; 8] = *b"aA/;=\"\\ ";
 
 /// How many texts over the alphabet have 0, 1, .. and 6 bytes.
-const COUNTS: [u32; 7] = [1, 7, 49, 343, 2_401, 16_807, 117_649];
+const COUNTS: [u32; 7] = [1, 8, 64, 512, 4_096, 32_768, 262_144];
 
 /// Compares a text with each value: the answer is that of reading it, if it is accepted, and of
 /// comparing the two values; but where a value has no parameters, a text with a semicolon isn't it.
-fn check(rt: &impl Abort, alloc: Global, values: &[Mime; 4], bytes: &[u8]) -> Result<u32, Fail> {
+fn check(rt: &impl Abort, alloc: Global, values: &[Mime; 5], bytes: &[u8]) -> Result<u32, Fail> {
     let text = str::from_utf8(bytes)?;
     let read = match Mime::from_str(alloc, text) {
         Ok(mime) => Some(mime),
@@ -233,7 +244,7 @@ fn check(rt: &impl Abort, alloc: Global, values: &[Mime; 4], bytes: &[u8]) -> Re
 fn check_all(
     rt: &impl Abort,
     alloc: Global,
-    values: &[Mime; 4],
+    values: &[Mime; 5],
     front: &[u8],
 ) -> Result<u32, Fail> {
     let mut text = Vec::with_capacity(alloc, 16)?;
@@ -244,8 +255,8 @@ fn check_all(
             text.extend_from_slice(front)?;
             let mut rest = number;
             for _ in 0..len {
-                text.push(ALPHABET[rest as usize % 7])?;
-                rest /= 7;
+                text.push(ALPHABET[rest as usize % 8])?;
+                rest /= 8;
             }
             equal = equal.wrapping_add(check(rt, alloc, values, text.as_slice())?);
         }
@@ -261,9 +272,10 @@ fn all_short_texts_as_if_they_were_read(rt: HostRuntime) -> Result<(), Fail> {
         Mime::from_str(alloc, "a/a;a=")?,
         Mime::from_str(alloc, "a/a;a=a")?,
         Mime::from_str(alloc, "a/a; a=\"A\"")?,
+        Mime::from_str(alloc, "a/a;a=\"\\a\"")?,
     ];
     let short = check_all(&rt, alloc, &values, b"")?;
     let listed = check_all(&rt, alloc, &values, b"a/A;")?;
-    assert_eq!(rt; (short, listed), (12, 66));
+    assert_eq!(rt; (short, listed), (12, 88));
     Ok(())
 }

@@ -4,8 +4,8 @@ use mime::{Bad, Mime, MimeIter, ParseError, TextKey};
 use std::alloc::AllocError;
 use std::io;
 
-/// Texts with a character past ASCII, a quote or a control where none may stand.
-const MALICIOUS: [&str; 11] = [
+/// Texts with a character past ASCII, a quote, a backslash or a control where none may stand, or where it closes nothing.
+const MALICIOUS: [&str; 14] = [
     "é/b",
     "a/é",
     "a/b;é=x",
@@ -16,6 +16,9 @@ const MALICIOUS: [&str; 11] = [
     "a/b;p=\"",
     "a/b;p=\"\"\"",
     "a/b;p=\"\"\"\"",
+    "a/b;p=\"\\",
+    "a/b;p=\"\\\", c/d",
+    "a/b;p=\"\\\x01",
     "a/b;p=\"x\x7F\"",
 ];
 
@@ -54,7 +57,7 @@ fn print_text(rt: &HostRuntime, name: &str, text: &str) -> io::Result<()> {
     println!(rt; "  steps {}", iter.steps())
 }
 
-/// Prints how many of the bytes below 32 are refused in a quoted value, each where it stands.
+/// Prints how many of the bytes below 32 are refused in a quoted value, each where it stands: all but the tab.
 fn print_controls(rt: &HostRuntime) -> io::Result<()> {
     let mut refused = 0u32;
     for byte in 0..32u8 {

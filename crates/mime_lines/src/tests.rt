@@ -189,7 +189,7 @@ const NO_SLASH: &str =
 
 #[test]
 fn reports_each_line(rt: HostRuntime) -> Result<(), Fail> {
-    let rows: [(&[u8], &str); 9] = [
+    let rows: [(&[u8], &str); 10] = [
         (
             b"IMAGE/SVG+XML\ntext/\nno slash\n",
             "ok image/svg+xml\ntype image\nsubtype svg\nsuffix xml\n\
@@ -206,6 +206,10 @@ fn reports_each_line(rt: HostRuntime) -> Result<(), Fail> {
             "bad mime parse error: an invalid token was encountered, 3B at position 7\n",
         ),
         (b"a/b+", "ok a/b+\ntype a\nsubtype b\nsuffix \n"),
+        (
+            b"a/b;p=\"\\\"\xc3\xa9\"; q=\"\"",
+            "ok a/b;p=\"\\\"é\"; q=\"\"\ntype a\nsubtype b\nparam p=\\\"é\nparam q=\n",
+        ),
         (
             b"a/b\r\nc/d",
             "bad mime parse error: an invalid token was encountered, D at position 3\nok c/d\ntype c\nsubtype d\n",

@@ -97,7 +97,10 @@ fn texts_have_their_items(rt: HostRuntime) -> Result<(), AllocError> {
         ("invalidétext/plain", "bad invalid|ok text/plain|", 18),
         ("a/b;p=\"x, c/d", "", 13),
         ("a/b;p=\"x\", c/d", "ok a/b;p=\"x\"|ok c/d|", 14),
-        ("a/b;p=\"x\ty/z", "bad a/b;p=\"x|ok y/z|", 12),
+        ("a/b;p=\"x\ty/z", "", 12),
+        ("a/b;p=\"x\u{1}y/z", "bad a/b;p=\"x|ok y/z|", 12),
+        ("a/b;p=\"\\\", c/d", "", 14),
+        ("a/b;p=\"\\\"\", c/d", "ok a/b;p=\"\\\"\"|ok c/d|", 15),
         ("a/b;p=x; , c/d", "ok a/b;p=x; |ok c/d|", 14),
         ("e,e,", "bad e|bad e|", 4),
         ("é/b", "", 3),
@@ -108,8 +111,8 @@ fn texts_have_their_items(rt: HostRuntime) -> Result<(), AllocError> {
         ("\"", "", 1),
         ("a/b;p=x\"", "ok a/b;p=x|", 8),
         ("a/b;p=\"", "", 7),
-        ("a/b;p=\"\"\"", "ok a/b;p=\"\"\"|", 9),
-        ("a/b;p=\"\"\"\"", "ok a/b;p=\"\"\"|", 10),
+        ("a/b;p=\"\"\"", "ok a/b;p=\"\"|", 9),
+        ("a/b;p=\"\"\"\"", "ok a/b;p=\"\"|", 10),
     ];
     for (text, expected, steps) in rows {
         check(&rt, rt.alloc(), text, expected, steps)?;
@@ -143,7 +146,10 @@ fn a_comma_ends_all_but_an_open_quoted_value(rt: HostRuntime) -> Result<(), Allo
         ("a/b;p", "bad a/b;p|ok c/d|"),
         ("a/b;p=", "ok c/d|"),
         ("a/b;p=\"x\"", "ok c/d|"),
+        ("a/b;p=\"\"", "ok c/d|"),
         ("a/b;p=\"x", ""),
+        ("a/b;p=\"\\", ""),
+        ("a/b;p=\"\\\"", ""),
     ];
     for (before, others) in rows {
         let (mut expected, _) = items_of(&rt, alloc, before)?;
@@ -170,6 +176,7 @@ fn a_printed_list_comes_back(rt: HostRuntime) -> Result<(), Fail> {
         "TEXT/PLAIN; CHARSET=UTF-8; FOO=BAR",
         "a/b;p=x; ",
         "a/b;p=\"é;,\"",
+        "a/b;p=\"\\\",\"\t",
         "*/*",
     ];
     let mut list = String::new(alloc);

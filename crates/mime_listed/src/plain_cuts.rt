@@ -1,4 +1,4 @@
-//! All texts of at most 5 characters over eight that matter: the items are those of a plain cut, which
+//! All texts of at most 5 characters over nine that matter: the items are those of a plain cut, which
 //! is found by reading alone.
 
 use crate::items::{items_of, push_item};
@@ -6,10 +6,10 @@ use mime::Mime;
 use std::alloc::{AllocError, Global};
 use std::test::Fail;
 
-const ALPHABET: [char; 8] = ['a', '/', ';', '=', '"', ' ', ',', 'é'];
+const ALPHABET: [char; 9] = ['a', '/', ';', '=', '"', '\\', ' ', ',', 'é'];
 
 /// How many texts over the alphabet have 0, 1, .. and 5 characters.
-const COUNTS: [u32; 6] = [1, 8, 64, 512, 4_096, 32_768];
+const COUNTS: [u32; 6] = [1, 9, 81, 729, 6_561, 59_049];
 
 /// Whether a completion makes the text an accepted one.
 fn is_viable(alloc: Global, front: &str) -> Result<bool, AllocError> {
@@ -82,8 +82,8 @@ fn all_short_texts_are_cut_plainly(rt: HostRuntime) -> Result<(), Fail> {
             text.clear();
             let mut rest = number;
             for _ in 0..len {
-                text.push(ALPHABET[rest as usize % 8])?;
-                rest /= 8;
+                text.push(ALPHABET[rest as usize % 9])?;
+                rest /= 9;
             }
             let (expected, steps) = plain_cut(alloc, text.as_str())?;
             let (items, taken) = items_of(&rt, alloc, text.as_str())?;

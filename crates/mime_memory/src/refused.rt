@@ -45,7 +45,8 @@ fn without_memory(rt: HostRuntime) -> Result<(), Fail> {
         ("", Some(ParseError::MissingSlash)),
         ("text", Some(ParseError::MissingSlash)),
         ("a/b;p", Some(ParseError::MissingEqual)),
-        ("a/b;p=\"\"", Some(ParseError::MissingQuote)),
+        ("a/b;p=\"\\\"é\"; q=\"\"", no_memory),
+        ("a/b;p=\"\\\"", Some(ParseError::MissingQuote)),
         ("a b", Some(ParseError::InvalidToken { pos: 1, byte: 0x20 })),
         (
             "text/;",

@@ -47,13 +47,15 @@ fn check_fault(
 
 #[test]
 fn what_is_missing_at_the_end(rt: HostRuntime) -> Result<(), Fail> {
-    const CASES: [(&str, ParseError, &str); 7] = [
+    const CASES: [(&str, ParseError, &str); 9] = [
         ("", ParseError::MissingSlash, SLASH),
         ("text", ParseError::MissingSlash, SLASH),
         ("a/b;p", ParseError::MissingEqual, EQUAL),
         ("a/b;p=x;   charset", ParseError::MissingEqual, EQUAL),
-        ("a/b;p=\"\"", ParseError::MissingQuote, QUOTE),
+        ("a/b;p=\"\\\"", ParseError::MissingQuote, QUOTE),
+        ("a/b;p=\"\\", ParseError::MissingQuote, QUOTE),
         ("a/b;p=\"", ParseError::MissingQuote, QUOTE),
+        ("a/b;p=\"\t", ParseError::MissingQuote, QUOTE),
         ("a/b;p=\"x, c/d; q=é", ParseError::MissingQuote, QUOTE),
     ];
     for (text, expected, words) in CASES {
@@ -74,8 +76,8 @@ fn what_is_missing_at_the_end(rt: HostRuntime) -> Result<(), Fail> {
 
 #[test]
 fn the_byte_where_no_media_type_goes_on(rt: HostRuntime) -> Result<(), Fail> {
-    const CASES: [(&str, usize, u8, &str); 32] = [
-        // An empty subtype or value, and spaces, in the wrong place.
+    const CASES: [(&str, usize, u8, &str); 37] = [
+        // An empty subtype or value, and white space, in the wrong place.
         ("a b", 1, 0x20, "20 at position 1"),
         ("no slash", 2, 0x20, "20 at position 2"),
         ("f o o / bar", 1, 0x20, "20 at position 1"),
@@ -88,15 +90,20 @@ fn the_byte_where_no_media_type_goes_on(rt: HostRuntime) -> Result<(), Fail> {
         ("a/b;p ", 5, 0x20, "20 at position 5"),
         ("a/b;p=;", 6, 0x3B, "3B at position 6"),
         ("a/b;p=x ;q=y", 7, 0x20, "20 at position 7"),
+        ("a/b\t;p=x", 3, 0x9, "9 at position 3"),
+        ("a/b;p=x\t", 7, 0x9, "9 at position 7"),
         ("a/b;p= x", 6, 0x20, "20 at position 6"),
         // Quotes.
         ("\"", 0, 0x22, "22 at position 0"),
         ("a/b;p=x\"", 7, 0x22, "22 at position 7"),
-        ("a/b;p=\"\"\"\"", 9, 0x22, "22 at position 9"),
+        ("a/b;p=\"\"x\"", 8, 0x78, "78 at position 8"),
+        ("a/b;p=\"\"\"", 8, 0x22, "22 at position 8"),
+        ("a/b;p=\"\"\"\"", 8, 0x22, "22 at position 8"),
         ("a/b;p=\"x\"junk", 9, 0x6A, "6A at position 9"),
         ("a/b;p=\"x\" junk", 10, 0x6A, "6A at position 10"),
         // Controls, and the byte 127.
-        ("a/b;p=\"é\t\"", 9, 0x9, "9 at position 9"),
+        ("a/b;p=\"é\u{1}\"", 9, 0x1, "1 at position 9"),
+        ("a/b;p=\"\\\r", 8, 0xD, "D at position 8"),
         ("a/b;p=\"x\u{7F}\"", 8, 0x7F, "7F at position 8"),
         ("text/plain;\r\ncharset=utf-8", 11, 0xD, "D at position 11"),
         ("text/plain; charset=\r\nutf-8", 20, 0xD, "D at position 20"),
@@ -127,16 +134,21 @@ fn the_byte_where_no_media_type_goes_on(rt: HostRuntime) -> Result<(), Fail> {
 
 #[test]
 fn controls_end_a_quoted_value(rt: HostRuntime) -> Result<(), Fail> {
-    for byte in 0..32u8 {
-        let mut text = String::from_str(rt.alloc(), "a/b;p=\"")?;
-        text.push(byte as char)?;
-        let expected = ParseError::InvalidToken { pos: 7, byte };
-        let high = if byte < 16 { "" } else { "1" };
-        let low = byte % 16;
-        let words = format!(in rt.alloc();
-            "an invalid token was encountered, {high}{low:X} at position 7"
-        )?;
-        check_fault(&rt, rt.alloc(), text.as_str(), expected, words.as_str())?;
+    for (front, pos) in [("a/b;p=\"", 7), ("a/b;p=\"\\", 8)] {
+        for byte in 0..32u8 {
+            if byte == b'\t' {
+                continue;
+            }
+            let mut text = String::from_str(rt.alloc(), front)?;
+            text.push(byte as char)?;
+            let expected = ParseError::InvalidToken { pos, byte };
+            let high = if byte < 16 { "" } else { "1" };
+            let low = byte % 16;
+            let words = format!(in rt.alloc();
+                "an invalid token was encountered, {high}{low:X} at position {pos}"
+            )?;
+            check_fault(&rt, rt.alloc(), text.as_str(), expected, words.as_str())?;
+        }
     }
     Ok(())
 }

@@ -44,7 +44,7 @@ fn check_long(
 #[test]
 fn texts_of_65536_bytes(rt: HostRuntime) -> Result<(), Fail> {
     // What is read, what is kept, and how many parameters there are.
-    const CASES: [(Ends, Ends, usize); 9] = [
+    const CASES: [(Ends, Ends, usize); 10] = [
         // No list, without and with a capital.
         (("a/", b'b', "+c"), ("a/", b'b', "+c"), 0),
         (("A/", b'B', "+C"), ("a/", b'b', "+c"), 0),
@@ -54,6 +54,7 @@ fn texts_of_65536_bytes(rt: HostRuntime) -> Result<(), Fail> {
         // A list without a capital.
         (("a/b;p=", b'x', ";q=y"), ("a/b;p=", b'x', ";q=y"), 2),
         (("a/b;p=\"", b';', "\" "), ("a/b;p=\"", b';', "\" "), 1),
+        (("a/b;p=\"x", b'\\', "\" "), ("a/b;p=\"x", b'\\', "\" "), 1),
         // A list with capitals.
         (("A/B;P=", b'X', ";Q=Y"), ("a/b;p=", b'X', ";q=Y"), 2),
         (("a/b;", b'P', "=X"), ("a/b;", b'p', "=X"), 1),

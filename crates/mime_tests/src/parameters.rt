@@ -10,7 +10,7 @@ use std::test::Fail;
 
 #[test]
 fn accepted_texts_have_their_parameters(rt: HostRuntime) -> Result<(), Fail> {
-    const CASES: [(&str, &str); 22] = [
+    const CASES: [(&str, &str); 27] = [
         // Names are lowered, and values exactly under `charset`.
         (
             "TEXT/PLAIN; CHARSET=UTF-8; FOO=BAR",
@@ -69,17 +69,40 @@ fn accepted_texts_have_their_parameters(rt: HostRuntime) -> Result<(), Fail> {
         // An unquoted value may be empty where the text ends after it.
         ("a/b;p=", "a/b;p= | a | b | - | a/b | p="),
         ("a/b;q=1; p=", "a/b;q=1; p= | a | b | - | a/b | q=1 | p="),
-        // A quoted value may begin with a quote, and holds any byte but another quote and controls.
-        ("a/b;p=\"\"x\"", "a/b;p=\"\"x\" | a | b | - | a/b | p=\"x"),
-        ("a/b;p=\"\"\"", "a/b;p=\"\"\" | a | b | - | a/b | p=\""),
+        // A quoted value may be empty, and holds the tab and any byte but a quote and other controls.
+        ("a/b;p=\"\"", "a/b;p=\"\" | a | b | - | a/b | p="),
+        (
+            "a/b;p=\"\" ;q=\"\"",
+            "a/b;p=\"\" ;q=\"\" | a | b | - | a/b | p= | q=",
+        ),
         ("a/b;p=\"é;,\"", "a/b;p=\"é;,\" | a | b | - | a/b | p=é;,"),
+        ("a/b;p=\"é\t\"", "a/b;p=\"é\t\" | a | b | - | a/b | p=é\t"),
         (
             "a/b;p=\"x;y\";q=z",
             "a/b;p=\"x;y\";q=z | a | b | - | a/b | p=x;y | q=z",
         ),
+        // After a backslash it holds any of them, a quote too. Both bytes stay.
         (
-            "a/b;p=\" = \\\"",
-            "a/b;p=\" = \\\" | a | b | - | a/b | p= = \\",
+            "a/b;p=\" = \\\\\"",
+            "a/b;p=\" = \\\\\" | a | b | - | a/b | p= = \\\\",
+        ),
+        (
+            "a/b;p=\"\\\"x\"",
+            "a/b;p=\"\\\"x\" | a | b | - | a/b | p=\\\"x",
+        ),
+        (
+            "a/b;p=\"\\\";q=1\";q=\"\\é\\\t\"",
+            "a/b;p=\"\\\";q=1\";q=\"\\é\\\t\" | a | b | - | a/b | p=\\\";q=1 | q=\\é\\\t",
+        ),
+        // A charset is lowered after a backslash too.
+        (
+            "a/b;charset=\"\\U\"",
+            "a/b;charset=\"\\u\" | a | b | - | a/b | charset~\\u",
+        ),
+        // A tab stands where a space does.
+        (
+            "a/b;\tp=\"x\"\t;q=1",
+            "a/b;\tp=\"x\"\t;q=1 | a | b | - | a/b | p=x | q=1",
         ),
     ];
     for (text, expected) in CASES {
@@ -107,7 +130,7 @@ impl ParamKey for Foo {
 
 #[test]
 fn keys_find_the_first_value(rt: HostRuntime) -> Result<(), Fail> {
-    const CASES: [(&str, &str, Option<&str>); 13] = [
+    const CASES: [(&str, &str, Option<&str>); 15] = [
         ("text/plain", "charset", None),
         ("text/plain", "baz", None),
         ("text/plain; charset=utf-8", "charset", Some("utf-8")),
@@ -125,6 +148,8 @@ fn keys_find_the_first_value(rt: HostRuntime) -> Result<(), Fail> {
         ("a/b;p=1;P=2", "p", Some("1")),
         ("a/b;q=1;p=", "p", Some("")),
         ("a/b;p=\"q=1\";q=2", "q", Some("2")),
+        ("a/b;p=\"\\\";q=1\";q=2", "q", Some("2")),
+        ("a/b;p=\"\";q=2", "p", Some("")),
     ];
     for (text, key, expected) in CASES {
         let mime = Mime::from_str(rt.alloc(), text)?;
@@ -209,13 +234,14 @@ fn values_ignore_case_under_charset_alone(rt: HostRuntime) -> Result<(), Fail> {
 
 #[test]
 fn parameters_are_counted_and_end(rt: HostRuntime) -> Result<(), Fail> {
-    const CASES: [(&str, usize); 6] = [
+    const CASES: [(&str, usize); 7] = [
         ("TEXT/PLAIN; CHARSET=UTF-8; FOO=BAR", 2),
         ("text/plain; CHARSET=UTF-8; ", 1),
         ("text/event-stream;       ", 0),
         ("text/plain", 0),
         ("*/*", 0),
         ("a/b;p=\"x;y\";q=z;r=", 3),
+        ("a/b;p=\"\\\";\";\tq=\"\"", 2),
     ];
     for (text, expected) in CASES {
         let mime = Mime::from_str(rt.alloc(), text)?;

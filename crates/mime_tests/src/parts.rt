@@ -3,7 +3,7 @@
 use crate::described::line_of;
 use mime::{
     APPLICATION, EVENT_STREAM, HTML, IMAGE, Mime, Name, OCTET_STREAM, PLAIN, STAR, SVG, TEXT, XML,
-    is_quoted_byte, is_token,
+    is_quoted_byte, is_quoted_text_byte, is_token,
 };
 use std::test::Fail;
 
@@ -20,8 +20,17 @@ const TOKEN_RUNS: [(u8, u8); 9] = [
     (0x7E, 0x7E),
 ];
 
-/// The bytes of a quoted value.
-const QUOTED_RUNS: [(u8, u8); 2] = [(0x20, 0x7E), (0x80, 0xFF)];
+/// The second bytes of a quoted-pair.
+const QUOTED_RUNS: [(u8, u8); 3] = [(0x09, 0x09), (0x20, 0x7E), (0x80, 0xFF)];
+
+/// The bytes of a quoted value that stand by themselves.
+const QUOTED_TEXT_RUNS: [(u8, u8); 5] = [
+    (0x09, 0x09),
+    (0x20, 0x21),
+    (0x23, 0x5B),
+    (0x5D, 0x7E),
+    (0x80, 0xFF),
+];
 
 fn is_within(runs: &[(u8, u8)], byte: u8) -> bool {
     for (first, last) in runs {
@@ -36,6 +45,7 @@ fn is_within(runs: &[(u8, u8)], byte: u8) -> bool {
 fn classes_of_all_bytes(rt: HostRuntime) {
     let mut tokens = 0u32;
     let mut quoted = 0u32;
+    let mut texts = 0u32;
     for byte in 0..=255u8 {
         assert_eq!(rt;
             is_token(byte),
@@ -47,15 +57,21 @@ fn classes_of_all_bytes(rt: HostRuntime) {
             is_within(&QUOTED_RUNS, byte),
             "quoted byte {byte}"
         );
+        assert_eq!(rt;
+            is_quoted_text_byte(byte),
+            is_within(&QUOTED_TEXT_RUNS, byte),
+            "quoted text byte {byte}"
+        );
         tokens = tokens.wrapping_add(is_token(byte) as u32);
         quoted = quoted.wrapping_add(is_quoted_byte(byte) as u32);
+        texts = texts.wrapping_add(is_quoted_text_byte(byte) as u32);
     }
-    assert_eq!(rt; (tokens, quoted), (77, 223));
+    assert_eq!(rt; (tokens, quoted, texts), (77, 224, 222));
 }
 
 #[test]
 fn accepted_texts_have_their_parts(rt: HostRuntime) -> Result<(), Fail> {
-    const CASES: [(&str, &str); 15] = [
+    const CASES: [(&str, &str); 16] = [
         ("*/*", "*/* | * | * | - | */*"),
         ("image/*", "image/* | image | * | - | image/*"),
         ("text/plain", "text/plain | text | plain | - | text/plain"),
@@ -90,6 +106,7 @@ fn accepted_texts_have_their_parts(rt: HostRuntime) -> Result<(), Fail> {
             "text/event-stream;       ",
             "text/event-stream | text | event-stream | - | text/event-stream",
         ),
+        ("a/b;\t", "a/b | a | b | - | a/b"),
     ];
     for (text, expected) in CASES {
         let line = line_of(rt.alloc(), &Mime::from_str(rt.alloc(), text))?;
