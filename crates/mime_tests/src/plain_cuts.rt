@@ -14,7 +14,7 @@ const COUNTS: [u32; 6] = [1, 8, 64, 512, 4_096, 32_768];
 /// Whether a completion makes the text an accepted one.
 fn is_viable(alloc: Global, front: &str) -> Result<bool, AllocError> {
     let mut text = String::new(alloc);
-    for completion in ["", "x/", "=", "x\""] {
+    for completion in ["", "x/x", "=x", "x", "x\""] {
         text.clear();
         text.push_str(front)?;
         text.push_str(completion)?;

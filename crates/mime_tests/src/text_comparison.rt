@@ -8,14 +8,13 @@ use std::process::Abort;
 use std::test::Fail;
 
 /// Values, by the texts that they are read from, with texts that they equal.
-const EQUAL: [(&str, &str); 40] = [
+const EQUAL: [(&str, &str); 37] = [
     ("text/event-stream;       ", "text/event-stream"),
     ("text/event-stream;       ", "TEXT/Event-Stream"),
     ("text/plain", "text/plain"),
     ("text/plain", "TEXT/PLAIN"),
     ("Text/PLAIN", "text/plain"),
     ("image/svg+xml", "Image/SVG+xml"),
-    ("text/", "TEXT/"),
     ("image/*", "image/*"),
     ("*/*", "*/*"),
     // One parameter, a charset.
@@ -34,13 +33,11 @@ const EQUAL: [(&str, &str); 40] = [
     ("text/plain;  charset=utf-8", "Text/Plain;  Charset=Utf-8"),
     ("a/b; charset=utf-9", "a/b; CHARSET=\"UTF-9\""),
     ("a/b; CHARSET=\"UTF-9\"", "a/b; charset=utf-9"),
-    ("a/b; charset=", "A/B;CHARSET="),
     // One other parameter.
     ("a/b;p=x", "a/b; p=x"),
     ("a/b; p=x", "a/b;p=x"),
     ("a/b;p=x", "A/B;P=x"),
     ("a/b;p=x; ", "a/b;p=\"x\"   ;"),
-    ("a/b;p=", "A/B; P="),
     ("a/b;p=\"é\"", "A/B; P=\"é\" "),
     ("a/b;p=\"\"x\"", "A/B;P=\"\"x\""),
     (
@@ -86,7 +83,7 @@ const UNEQUAL: [(&str, &str); 59] = [
     ("text/plain", "text/plainé"),
     ("text/plain", "text/pl(in"),
     ("text/plain", ""),
-    ("text/", "text"),
+    ("text/plain", "text/"),
     // Texts that are refused.
     ("a/b;p=x", "😀"),
     ("a/b;p=x", "éé"),
@@ -102,7 +99,7 @@ const UNEQUAL: [(&str, &str); 59] = [
     ("a/b;p=x", "a"),
     ("a/b;p=x;q=y", "a/b;p=x ;q=y"),
     ("a/b;p=x;q=y", "a/b;p =x;q=y"),
-    ("a/b;p=", "a/b;p=;"),
+    ("a/b;p=x", "a/b;p=;"),
     ("a/b;p=\"é\"", "a/b;p=é"),
     ("text/plain; charset=utf-8", "text/plain; charset=utf(8"),
     ("text/plain; charset=utf-8", "text/plain; charset=utf-8 "),
@@ -258,12 +255,12 @@ fn all_short_texts_as_if_they_were_read(rt: HostRuntime) -> Result<(), Fail> {
     let alloc = rt.alloc();
     let values = [
         Mime::from_str(alloc, "a/a")?,
-        Mime::from_str(alloc, "a/a;a=")?,
+        Mime::from_str(alloc, "a/a;a=aa")?,
         Mime::from_str(alloc, "a/a;a=a")?,
         Mime::from_str(alloc, "a/a; a=\"A\"")?,
     ];
     let short = check_all(&rt, alloc, &values, b"")?;
     let listed = check_all(&rt, alloc, &values, b"a/A;")?;
-    assert_eq!(rt; (short, listed), (12, 66));
+    assert_eq!(rt; (short, listed), (4, 70));
     Ok(())
 }
