@@ -6,7 +6,7 @@ use Rattle.mime.specs.Bytes.{is_token_byte, slash_byte, semicolon_byte, equals_b
 use Rattle.mime.specs.Grammar.{Parameter, plain, quoted, Parameters, blank, final, more, no_list, listed, SyntaxTree, is_space}
 use Rattle.mime.specs.Quoted.{continues}
 use Rattle.mime.specs.declared.scan.fault.ParseError.{ParseError}
-use Rattle.mime.specs.declared.scan.fault.ParseError.TheVariants.{MissingSlash, MissingEqual, MissingQuote}
+use Rattle.mime.specs.declared.scan.fault.ParseError.TheVariants.{MissingSlash, MissingSubtype, MissingEqual, MissingValue, MissingQuote}
 
 -- where in a parameter list, counted from the last semicolon
 pub data ListPlace : Type 0 where
@@ -110,7 +110,8 @@ with_closed ((n, parameter) ∷ closed) rest = with_closed closed (more n parame
 abbrev pub ended : ListPlace → Option Parameters
 ended (in_spaces n) = Some (blank n)
 ended (in_name n name) = None
-ended (in_value n name value) = Some (final n (plain name value))
+ended (in_value n name []) = None
+ended (in_value n name (v ∷ value)) = Some (final n (plain name (v ∷ value)))
 ended (in_quotes n name content) = None
 ended (behind_quotes n name content m) = Some (final n (quoted name content m))
 
@@ -121,15 +122,18 @@ ended_list list = option_map (with_closed list.closed) (ended list.place)
 -- the tree of a text that ends here, if it may
 abbrev pub tree_of : Begun → Option SyntaxTree
 tree_of (in_type top) = None
-tree_of (in_subtype top sub) = Some (record { top = top; sub = sub; tail = no_list })
+tree_of (in_subtype top []) = None
+tree_of (in_subtype top (s ∷ sub)) = Some (record { top = top; sub = s ∷ sub; tail = no_list })
 tree_of (in_list top sub list) = option_map (λ rest. record { top = top; sub = sub; tail = listed rest }) (ended_list list)
 
 -- what is missing from a text that ends too early at a place of a list
 abbrev pub lacking_list : ListPlace → ParseError
 lacking_list (in_name n name) = MissingEqual
+lacking_list (in_value n name value) = MissingValue
 lacking_list place = MissingQuote
 
 -- what is missing from a text that ends here too early
 abbrev pub lacking : Begun → ParseError
+lacking (in_type top) = MissingSlash
+lacking (in_subtype top sub) = MissingSubtype
 lacking (in_list top sub list) = lacking_list list.place
-lacking begun = MissingSlash

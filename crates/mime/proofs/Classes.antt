@@ -5,7 +5,7 @@ use Rattle.std.specs.List.{list_all}
 use Rattle.std.proofs.lemmas.Bool.{and_parts, and_from}
 use Rattle.std.proofs.lemmas.Bool.Decides.{nat_tests}
 use Rattle.mime.specs.Bytes.{is_token_byte, semicolon_byte, equals_byte, quote_byte}
-use Rattle.mime.specs.Grammar.{Parameter, plain, quoted, is_space, AreSpaces, AreTokenBytes, IsToken, IsInnerParameter, IsFinalParameter}
+use Rattle.mime.specs.Grammar.{is_space, AreSpaces, AreTokenBytes, IsToken}
 
 -- a semicolon is no token byte
 pub semicolon_is_no_token : IsFalse (is_token_byte semicolon_byte)
@@ -61,8 +61,3 @@ are_other-spaces = are_other is_space
 pub AreTokenBytes-from_token : (bytes : List ℕ) → IsToken bytes → AreTokenBytes bytes
 AreTokenBytes-from_token [] token = absurd token
 AreTokenBytes-from_token (b ∷ bytes) token = token
-
--- a parameter that a semicolon follows may also end a list
-pub IsFinalParameter-from_inner : (parameter : Parameter) → IsInnerParameter parameter → IsFinalParameter parameter
-IsFinalParameter-from_inner (plain name value) fine = (fine.0, AreTokenBytes-from_token value fine.1)
-IsFinalParameter-from_inner (quoted name content n) fine = fine

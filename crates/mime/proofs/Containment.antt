@@ -196,7 +196,7 @@ space-dead = refl
 -- the empty text is no open quoted value
 empty-closed : ¬ (IsUnclosed [])
 unfolding is_token_byte
-empty-closed unclosed = stopped-from_walk (codes "x\"") refl unclosed
+empty-closed unclosed = stopped-from_walk (codes "x\"") refl unclosed.0
 
 -- values come back from their joined kept texts
 pub joined_comes_back : JoinedComesBack

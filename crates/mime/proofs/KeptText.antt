@@ -3,7 +3,7 @@ use Rattle.std.proofs.Common.{◌≡◌, ℕ, zero, suc, ◌+◌, ◌<◌, List,
 use Rattle.std.specs.Prelude.{slice_get}
 use Rattle.std.proofs.lemmas.List.{take_at, drop_at, take_all, take-append-drop}
 use Rattle.mime.specs.Bytes.{slash_byte, semicolon_byte}
-use Rattle.mime.specs.Grammar.{Parameters, blank, final, more, Tail, no_list, listed, SyntaxTree, text_of, text_of_tail, text_of_list, IsToken, AreParameters, AreSubtypeAndTail, IsWellFormed}
+use Rattle.mime.specs.Grammar.{Parameters, blank, final, more, Tail, no_list, listed, SyntaxTree, text_of, text_of_tail, text_of_list, IsToken, AreParameters, IsTail, IsWellFormed}
 use Rattle.mime.specs.Values.{MediaType, Reads, value_of, essence_of, kept_text, lowered, lowered_tree, last_plus, pairs_of_list, pairs_of_tail}
 use Rattle.mime.specs.Pairs.{pairs_within, lowered_within}
 use Rattle.mime.specs.Scanning.{HasPlaces, places_of, semicolon_of, head_text}
@@ -107,25 +107,25 @@ essence_text : (top sub text : List ℕ) → text ≡ top ++ (slash_byte ∷ sub
 essence_text top sub text is = rw (is, lowered-append top (slash_byte ∷ sub), append-nil (lowered sub)) refl
 
 -- every accepted text is kept so
-keeps_parts : (top sub : List ℕ) (tail : Tail) → IsToken top → AreSubtypeAndTail sub tail
+keeps_parts : (top sub : List ℕ) (tail : Tail) → IsToken top → IsToken sub → IsTail tail
     → Keeps (tree_with top sub tail)
     (kept_text_of (length (pairs_of_tail tail)) (semicolon_of (length top + 1 + length sub) tail) (text_of (tree_with top sub tail)))
     (kept_places (places_of (tree_with top sub tail)))
-keeps_parts top sub no_list top_well well =
-    keeps_as _ (tree_with top sub no_list) _ (top_well, well) tt
+keeps_parts top sub no_list top_well sub_well well =
+    keeps_as _ (tree_with top sub no_list) _ (top_well, sub_well, tt) tt
     (essence_text top sub _ (ap (λ x. top ++ (slash_byte ∷ x)) (append-nil sub))) refl
-keeps_parts top sub (listed (blank n)) top_well well =
-    keeps_as _ (tree_with top sub no_list) _ (top_well, AreTokenBytes-from_token sub well.0) tt
+keeps_parts top sub (listed (blank n)) top_well sub_well well =
+    keeps_as _ (tree_with top sub no_list) _ (top_well, sub_well, tt) tt
     (essence_text top sub _ (take-essence (tree_with top sub (listed (blank n))))) refl
-keeps_parts top sub (listed (final n p)) top_well well =
-    keeps_as _ (tree_with top sub (listed (final n p))) _ (top_well, well) tt (whole_text top sub (final n p) well.1) refl
-keeps_parts top sub (listed (more n p rest)) top_well well =
-    keeps_as _ (tree_with top sub (listed (more n p rest))) _ (top_well, well) tt (whole_text top sub (more n p rest) well.1) refl
+keeps_parts top sub (listed (final n p)) top_well sub_well well =
+    keeps_as _ (tree_with top sub (listed (final n p))) _ (top_well, sub_well, well) tt (whole_text top sub (final n p) well) refl
+keeps_parts top sub (listed (more n p rest)) top_well sub_well well =
+    keeps_as _ (tree_with top sub (listed (more n p rest))) _ (top_well, sub_well, well) tt (whole_text top sub (more n p rest) well) refl
 
 -- the same, told by the places of a tree
 pub keeps-tree : (tree : SyntaxTree) → IsWellFormed tree
     → Keeps tree (kept_text_of (places_of tree).pairs (places_of tree).semicolon (text_of tree)) (kept_places (places_of tree))
-keeps-tree tree well = keeps_parts tree.top tree.sub tree.tail well.0 well.1
+keeps-tree tree well = keeps_parts tree.top tree.sub tree.tail well.0 well.1 well.2
 
 -- the value of a tree with a parameter, cut out of its text
 media_whole : (top sub : List ℕ) (list : Parameters) → AreParameters list
@@ -139,19 +139,19 @@ media_whole top sub list well kept =
     cc
 
 -- the value of a kept tree is what its text and its places give
-media_parts : (top sub : List ℕ) (tail : Tail) → AreSubtypeAndTail sub tail → HoldsParameter tail
+media_parts : (top sub : List ℕ) (tail : Tail) → IsTail tail → HoldsParameter tail
     → value_of_low (tree_with top sub tail) ≡ media_of (text_of (tree_with top sub tail)) (places_of (tree_with top sub tail))
 media_parts top sub no_list well holds =
     rw (append-nil sub, take_all (length (top ++ (slash_byte ∷ sub))) (top ++ (slash_byte ∷ sub)) (omega arith))
 media_parts top sub (listed (blank n)) well holds = absurd holds
-media_parts top sub (listed (final n p)) well holds = media_whole top sub (final n p) well.1 refl
-media_parts top sub (listed (more n p rest)) well holds = media_whole top sub (more n p rest) well.1 refl
+media_parts top sub (listed (final n p)) well holds = media_whole top sub (final n p) well refl
+media_parts top sub (listed (more n p rest)) well holds = media_whole top sub (more n p rest) well refl
 
 -- so it is for a kept text
 media_of-kept : (text : List ℕ) (places : Places) (is_kept : IsKept text places) → value_of is_kept.tree ≡ media_of text places
 media_of-kept text places is_kept =
     value_of-lowering is_kept.tree ∙ ap value_of_low is_kept.low
-    ∙ media_parts is_kept.tree.top is_kept.tree.sub is_kept.tree.tail is_kept.well_formed.1 is_kept.kept
+    ∙ media_parts is_kept.tree.top is_kept.tree.sub is_kept.tree.tail is_kept.well_formed.2 is_kept.kept
     ∙ cc (is_kept.spelled, is_kept.placed)
 
 -- a kept text reads as the value that it gives

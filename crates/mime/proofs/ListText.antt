@@ -7,12 +7,12 @@ use Rattle.std.proofs.lemmas.Bool.{and_parts, cond-true, cond-false}
 use Rattle.std.proofs.lemmas.Bool.Decides.{nat_tests}
 use Rattle.std.proofs.lemmas.List.{take_at, drop_at, drop-drop}
 use Rattle.mime.specs.Bytes.{is_token_byte, semicolon_byte, equals_byte, quote_byte}
-use Rattle.mime.specs.Grammar.{Parameter, plain, quoted, Parameters, blank, final, more, text_of_list, text_of_parameter, is_space, AreSpaces, AreTokenBytes, IsToken, IsContent, AreParameters, IsFinalParameter}
+use Rattle.mime.specs.Grammar.{Parameter, plain, quoted, Parameters, blank, final, more, text_of_list, text_of_parameter, is_space, AreSpaces, AreTokenBytes, IsToken, IsContent, AreParameters, IsParameter}
 use Rattle.mime.specs.Values.{lowered, lowered_value, lowered_parameter, lowered_list, pair_of, pairs_of_list}
 use Rattle.mime.specs.Quoted.{content_len, content_of, behind_content}
 use Rattle.mime.specs.Pairs.{PairCut, before_byte, behind_byte, cut_behind_equals, leading_spaces, without_gap, cut_of, pairs_within, lowered_within}
 use Rattle.mime.proofs.Quoted.{content_len-content}
-use Rattle.mime.proofs.Classes.{semicolon_is_no_token, equals_is_no_token, quote_is_no_token, token_byte-not, token_byte-not_space, is_other, are_other-token, are_other-spaces, AreTokenBytes-from_token, IsFinalParameter-from_inner}
+use Rattle.mime.proofs.Classes.{semicolon_is_no_token, equals_is_no_token, quote_is_no_token, token_byte-not, token_byte-not_space, is_other, are_other-token, are_other-spaces, AreTokenBytes-from_token}
 use Rattle.mime.proofs.Lowering.{lowered-append}
 use Rattle.mime.proofs.PairCuts.{lowered_within-first}
 
@@ -129,14 +129,14 @@ head_counted n name opening behind =
     omega (arith, whole, head)
 
 -- the first pair cut from the text of a parameter and what follows it
-cut_of-parameter : (n : List ℕ) (p : Parameter) (follow rest : List ℕ) → AreSpaces n → IsFinalParameter p
+cut_of-parameter : (n : List ℕ) (p : Parameter) (follow rest : List ℕ) → AreSpaces n → IsParameter p
     → IsFollow semicolon_byte follow rest
     → cut_of (n ++ (text_of_parameter p ++ follow))
     ≡ record { name = (pair_of p).0; head = length (n ++ head_of p); value = (pair_of p).1; rest = rest }
-cut_of-parameter n (plain name value) follow rest white (named, all) follows =
+cut_of-parameter n (plain name value) follow rest white (named, token) follows =
     ap (λ x. cut_of (n ++ x)) (append_assoc name (equals_byte ∷ value) follow)
     ∙ cut_of-named n name (value ++ follow) white named
-    ∙ cut_value-plain _ name value follow rest all follows
+    ∙ cut_value-plain _ name value follow rest (AreTokenBytes-from_token value token) follows
     ∙ ap (λ h. record { name = name; head = h; value = value; rest = rest }) (head_counted n name (equals_byte ∷ []) (value ++ follow))
 cut_of-parameter n (quoted name content m) follow rest white (named, is, blanks) follows =
     let behind = content ++ (quote_byte ∷ (m ++ follow)) in
@@ -155,7 +155,7 @@ pairs_within-text_of_list (final n p) (white, well) =
     ∙ ap (λ (cut : PairCut). (cut.name, cut.value) ∷ []) (cut_of-parameter n p [] [] white well nothing)
 pairs_within-text_of_list (more n p rest) (white, well, others) =
     ap (λ (cut : PairCut). (cut.name, cut.value) ∷ pairs_within (length (pairs_of_list rest)) cut.rest)
-    (cut_of-parameter n p _ (text_of_list rest) white (IsFinalParameter-from_inner p well) (marked _))
+    (cut_of-parameter n p _ (text_of_list rest) white well (marked _))
     ∙ ap (λ pairs. pair_of p ∷ pairs) (pairs_within-text_of_list rest others)
 
 -- spaces are small
@@ -174,7 +174,7 @@ lowered_parameter-parts (plain name value) behind = rw (lowered-append name (equ
 lowered_parameter-parts (quoted name content n) behind = rw (lowered-append name (equals_byte ∷ quote_byte ∷ [])) (simp append_assoc)
 
 -- the text of a list, its first parameter apart, lowered pair by pair
-lowered_within-parameter : (count : ℕ) (n : List ℕ) (p : Parameter) (between rest : List ℕ) → AreSpaces n → IsFinalParameter p
+lowered_within-parameter : (count : ℕ) (n : List ℕ) (p : Parameter) (between rest : List ℕ) → AreSpaces n → IsParameter p
     → IsFollow semicolon_byte (between ++ rest) rest
     → lowered_within (suc count) (n ++ (text_of_parameter p ++ (between ++ rest)))
     ≡ n ++ (text_of_parameter (lowered_parameter p) ++ (between ++ lowered_within count rest))
@@ -203,5 +203,5 @@ lowered_within-text_of_list (final n p) (white, well) =
     ∙ lowered_within-parameter 0 n p [] [] white well nothing
     ∙ ap (λ x. n ++ x) (append-nil (text_of_parameter (lowered_parameter p)))
 lowered_within-text_of_list (more n p rest) (white, well, others) =
-    lowered_within-parameter _ n p (semicolon_byte ∷ []) (text_of_list rest) white (IsFinalParameter-from_inner p well) (marked _)
+    lowered_within-parameter _ n p (semicolon_byte ∷ []) (text_of_list rest) white well (marked _)
     ∙ ap (λ x. n ++ (text_of_parameter (lowered_parameter p) ++ (semicolon_byte ∷ x))) (lowered_within-text_of_list rest others)

@@ -7,7 +7,7 @@ use Rattle.std.proofs.lemmas.List.{map-append, length-map, take-map, drop-map}
 use Rattle.std.proofs.lemmas.List.Folds.{list_all-map}
 use Rattle.std.proofs.lemmas.Str.Ascii.{lowercase-lowercase}
 use Rattle.mime.specs.Bytes.{is_token_byte}
-use Rattle.mime.specs.Grammar.{Parameter, plain, quoted, Parameters, blank, final, more, Tail, no_list, listed, SyntaxTree, AreTokenBytes, IsToken, IsContent, IsInnerParameter, IsFinalParameter, AreParameters, AreSubtypeAndTail, IsWellFormed}
+use Rattle.mime.specs.Grammar.{Parameter, plain, quoted, Parameters, blank, final, more, Tail, no_list, listed, SyntaxTree, AreTokenBytes, IsToken, IsContent, IsParameter, AreParameters, IsTail, IsWellFormed}
 use Rattle.mime.specs.Values.{lowered, is_charset, lowered_value, lowered_parameter, lowered_list, lowered_tail, lowered_tree, last_plus, pairs_of_list, pairs_of_tail}
 use Rattle.mime.specs.Scanning.{places_of, semicolon_of}
 use Rattle.mime.proofs.Quoted.{IsContent-lowered}
@@ -55,33 +55,27 @@ pub lowered_value-either : (P : List ℕ → Type 0) (name value : List ℕ) →
 lowered_value-either P name value same small =
     elim (is_charset name) as (λ b. P (cond b (lowered value) value)) [ true ↦ small | false ↦ same ]
 
--- a parameter before a semicolon stays well formed
-IsInnerParameter-lowered : (p : Parameter) → IsInnerParameter p → IsInnerParameter (lowered_parameter p)
-IsInnerParameter-lowered (plain name value) (named, token) =
+-- a parameter stays well formed
+IsParameter-lowered : (p : Parameter) → IsParameter p → IsParameter (lowered_parameter p)
+IsParameter-lowered (plain name value) (named, token) =
     (IsToken-lowered name named, lowered_value-either IsToken name value token (IsToken-lowered value token))
-IsInnerParameter-lowered (quoted name content n) (named, is, white) =
+IsParameter-lowered (quoted name content n) (named, is, white) =
     (IsToken-lowered name named, lowered_value-either IsContent name content is (IsContent-lowered content is), white)
-
--- so does one at the end of the text
-IsFinalParameter-lowered : (p : Parameter) → IsFinalParameter p → IsFinalParameter (lowered_parameter p)
-IsFinalParameter-lowered (plain name value) (named, all) =
-    (IsToken-lowered name named, lowered_value-either AreTokenBytes name value all (AreTokenBytes-lowered value all))
-IsFinalParameter-lowered (quoted name content n) well = IsInnerParameter-lowered (quoted name content n) well
 
 -- so does a parameter list
 AreParameters-lowered : (list : Parameters) → AreParameters list → AreParameters (lowered_list list)
 AreParameters-lowered (blank n) white = white
-AreParameters-lowered (final n p) (white, well) = (white, IsFinalParameter-lowered p well)
-AreParameters-lowered (more n p rest) (white, well, others) = (white, IsInnerParameter-lowered p well, AreParameters-lowered rest others)
+AreParameters-lowered (final n p) (white, well) = (white, IsParameter-lowered p well)
+AreParameters-lowered (more n p rest) (white, well, others) = (white, IsParameter-lowered p well, AreParameters-lowered rest others)
 
--- so does a subtype with what follows it
-AreSubtypeAndTail-lowered : (sub : List ℕ) (tail : Tail) → AreSubtypeAndTail sub tail → AreSubtypeAndTail (lowered sub) (lowered_tail tail)
-AreSubtypeAndTail-lowered sub no_list all = AreTokenBytes-lowered sub all
-AreSubtypeAndTail-lowered sub (listed list) (token, well) = (IsToken-lowered sub token, AreParameters-lowered list well)
+-- so does what follows the subtype
+IsTail-lowered : (tail : Tail) → IsTail tail → IsTail (lowered_tail tail)
+IsTail-lowered no_list well = tt
+IsTail-lowered (listed list) well = AreParameters-lowered list well
 
 -- a lowered tree is well formed
 pub IsWellFormed-lowered_tree : (tree : SyntaxTree) → IsWellFormed tree → IsWellFormed (lowered_tree tree)
-IsWellFormed-lowered_tree tree well = (IsToken-lowered tree.top well.0, AreSubtypeAndTail-lowered tree.sub tree.tail well.1)
+IsWellFormed-lowered_tree tree well = (IsToken-lowered tree.top well.0, IsToken-lowered tree.sub well.1, IsTail-lowered tree.tail well.2)
 
 -- a kept value is its own lowering
 pub lowered_value-lowered : (name value : List ℕ) → lowered_value (lowered name) (lowered_value name value) ≡ lowered_value name value

@@ -37,7 +37,7 @@ star_tree = record { top = 42 ∷ []; sub = 42 ∷ []; tail = no_list }
 -- it is well formed
 star_tree-IsWellFormed : IsWellFormed star_tree
 unfolding is_token_byte
-star_tree-IsWellFormed = (refl, refl)
+star_tree-IsWellFormed = (refl, refl, tt)
 
 -- `*/*` is kept as it is
 pub star-IsKept : (places : Places) → HasPlaces (42 ∷ 47 ∷ 42 ∷ []) places → IsKept (42 ∷ 47 ∷ 42 ∷ []) places
@@ -57,5 +57,5 @@ star-accepted text is =
 
 -- a fault explains a refusal
 pub Explains-from_fault : (text : List ℕ) (fault : ParseError) → IsFault text fault → Explains text fault
-Explains-from_fault text NoMemory fault = absurd fault
+Explains-from_fault text NoMemory fault = absurd fault.0
 Explains-from_fault text other fault = fault

@@ -145,20 +145,20 @@ pub content-closed : (content : List ℕ) → IsContent content → IsFalse (con
 content-closed content is = takes-quote (awaits_behind awaits_first content) ∙ content-awaits content is
 
 -- what lacks a quote takes the bytes of each completion, and a letter before a quote
-pub takes_all-equals : (awaiting : Bool) → IsTrue (takes_all awaiting (61 ∷ []))
+pub takes_all-equals_letter : (awaiting : Bool) → IsTrue (takes_all awaiting (61 ∷ 120 ∷ []))
 unfolding is_quoted_byte
-takes_all-equals true = refl
-takes_all-equals false = refl
+takes_all-equals_letter true = refl
+takes_all-equals_letter false = refl
 
 pub takes_all-letter : (awaiting : Bool) → IsTrue (takes_all awaiting (120 ∷ []))
 unfolding is_quoted_byte
 takes_all-letter true = refl
 takes_all-letter false = refl
 
-pub takes_all-letter_slash : (awaiting : Bool) → IsTrue (takes_all awaiting (120 ∷ 47 ∷ []))
+pub takes_all-letter_slash_letter : (awaiting : Bool) → IsTrue (takes_all awaiting (120 ∷ 47 ∷ 120 ∷ []))
 unfolding is_quoted_byte
-takes_all-letter_slash true = refl
-takes_all-letter_slash false = refl
+takes_all-letter_slash_letter true = refl
+takes_all-letter_slash_letter false = refl
 
 -- a letter before a quote closes it
 pub closed-letter : (content : List ℕ) → IsFalse (continues (content ++ 120 ∷ []) quote_byte)

@@ -5,14 +5,14 @@ use Rattle.std.proofs.lemmas.Option.{same_Some, none-some, MatchOption-at_some}
 use Rattle.std.specs.List.{list_all}
 use Rattle.std.specs.Option.{option_and_then, option_map}
 use Rattle.mime.specs.Bytes.{is_token_byte, slash_byte, semicolon_byte, equals_byte, quote_byte}
-use Rattle.mime.specs.Grammar.{Parameter, plain, quoted, Parameters, blank, final, more, Tail, no_list, listed, SyntaxTree, is_space, AreSpaces, text_of_parameter, text_of_list, text_of, AreTokenBytes, IsToken, IsContent, IsInnerParameter, IsFinalParameter, AreParameters, AreSubtypeAndTail, IsWellFormed}
+use Rattle.mime.specs.Grammar.{Parameter, plain, quoted, Parameters, blank, final, more, Tail, no_list, listed, SyntaxTree, is_space, AreSpaces, text_of_parameter, text_of_list, text_of, AreTokenBytes, IsToken, IsContent, IsParameter, AreParameters, IsTail, IsWellFormed}
 use Rattle.mime.specs.Values.{MediaType, value_of, Reads, IsAccepted, IsRefused}
 use Rattle.mime.specs.Quoted.{continues}
 use Rattle.mime.proofs.Quoted.{content-taken, content-closed}
 use Rattle.mime.proofs.Begun.{Closed, Begun, in_type, in_subtype, in_list, BegunList, ListPlace, in_spaces, in_name, in_value, in_quotes, behind_quotes, begun_list, list_at, at_place, close, grow, grow_list, grow_place, walk, walk_from, walk_list, with_closed, ended_list, tree_of}
 use Rattle.mime.proofs.Walks.{walk_by-step, walk_from-step, walk_from-append_some, walk_from-in_list, walk-type, walk_from-subtype, walk_list-append_some, walk_list-spaces, walk_list-name, walk_list-value, walk_list-open, walk_list-behind_quotes}
 use Rattle.mime.proofs.Spelling.{text_of_begun, walk_from-lengthens, tree_of-spelled}
-use Rattle.mime.proofs.Classes.{AreTokenBytes-from_token, IsFinalParameter-from_inner, token_byte-not_space}
+use Rattle.mime.proofs.Classes.{AreTokenBytes-from_token, token_byte-not_space}
 
 -- a text that is walked to a complete tree is spelled by it
 pub accepted-from_walk : (text : List ℕ) (begun : Begun) (tree : SyntaxTree)
@@ -37,11 +37,13 @@ begun_of closed (final n parameter) = list_at closed (place_of n parameter)
 begun_of closed (more n parameter rest) = begun_of ((n, parameter) ∷ closed) rest
 
 -- the list that a list leads to is that list
-ended_list-begun_of : (closed : Closed) (list : Parameters) → ended_list (begun_of closed list) ≡ Some (with_closed closed list)
-ended_list-begun_of closed (blank n) = refl
-ended_list-begun_of closed (final n (plain name value)) = refl
-ended_list-begun_of closed (final n (quoted name content m)) = refl
-ended_list-begun_of closed (more n parameter rest) = ended_list-begun_of ((n, parameter) ∷ closed) rest
+ended_list-begun_of : (closed : Closed) (list : Parameters) → AreParameters list
+    → ended_list (begun_of closed list) ≡ Some (with_closed closed list)
+ended_list-begun_of closed (blank n) fine = refl
+ended_list-begun_of closed (final n (plain name [])) fine = absurd fine.1.1
+ended_list-begun_of closed (final n (plain name (v ∷ value))) fine = refl
+ended_list-begun_of closed (final n (quoted name content m)) fine = refl
+ended_list-begun_of closed (more n parameter rest) fine = ended_list-begun_of ((n, parameter) ∷ closed) rest fine.2
 
 -- a semicolon ends a subtype
 pub grow-semicolon : (top sub : List ℕ) → IsToken sub → grow (in_subtype top sub) semicolon_byte ≡ Some (in_list top sub begun_list)
@@ -62,11 +64,11 @@ walk_list-named closed n (b ∷ name) rest token =
     (walk_list-name closed n b [] name parts.1)
 
 -- a plain value
-walk_list-plain : (closed : Closed) (n name value : List ℕ) → AreTokenBytes value
+walk_list-plain : (closed : Closed) (n name value : List ℕ) → IsToken value
     → walk_list (list_at closed (in_value n name [])) value ≡ at_place closed (in_value n name value)
-walk_list-plain closed n name [] tokens = refl
-walk_list-plain closed n name (v ∷ value) tokens =
-    let parts = and_parts (is_token_byte v) (list_all is_token_byte value) tokens in
+walk_list-plain closed n name [] token = absurd token
+walk_list-plain closed n name (v ∷ value) token =
+    let parts = and_parts (is_token_byte v) (list_all is_token_byte value) token in
     walk_by-step grow_list (list_at closed (in_value n name [])) (list_at closed (in_value n name (v ∷ []))) v value
     (cond-true (is_token_byte v) _ _ parts.0)
     ∙ walk_list-value closed n name v [] value parts.1
@@ -83,8 +85,8 @@ walk_list-quoted closed n name content m fine white =
     (cond-false (continues content quote_byte) _ _ (content-closed content fine))
     ∙ walk_list-behind_quotes closed n name content [] m white
 
--- a parameter at the end of a list
-walk_list-parameter : (closed : Closed) (n : List ℕ) (parameter : Parameter) → IsFinalParameter parameter
+-- a parameter
+walk_list-parameter : (closed : Closed) (n : List ℕ) (parameter : Parameter) → IsParameter parameter
     → walk_list (list_at closed (in_spaces n)) (text_of_parameter parameter) ≡ at_place closed (place_of n parameter)
 walk_list-parameter closed n (plain name value) fine =
     walk_list-named closed n name value fine.0 ∙ walk_list-plain closed n name value fine.1
@@ -93,7 +95,7 @@ walk_list-parameter closed n (quoted name content m) fine =
     ∙ walk_list-quoted closed n name content m fine.1 fine.2
 
 -- a semicolon after a whole parameter
-grow_place-closed : (closed : Closed) (n : List ℕ) (parameter : Parameter) → IsInnerParameter parameter
+grow_place-closed : (closed : Closed) (n : List ℕ) (parameter : Parameter) → IsParameter parameter
     → grow_place closed (place_of n parameter) semicolon_byte ≡ close closed n parameter
 unfolding is_token_byte
 grow_place-closed closed n (plain name []) fine = absurd fine.1
@@ -109,11 +111,10 @@ walk_list-text closed (final n parameter) fine =
     (walk_list-spaces closed [] n fine.0)
     ∙ walk_list-parameter closed n parameter fine.1
 walk_list-text closed (more n parameter rest) fine =
-    let inner = IsFinalParameter-from_inner parameter fine.1 in
     walk_list-append_some (list_at closed (in_spaces [])) (list_at closed (in_spaces n))
     n (text_of_parameter parameter ++ (semicolon_byte ∷ text_of_list rest)) (walk_list-spaces closed [] n fine.0)
     ∙ walk_list-append_some (list_at closed (in_spaces n)) (list_at closed (place_of n parameter))
-    (text_of_parameter parameter) (semicolon_byte ∷ text_of_list rest) (walk_list-parameter closed n parameter inner)
+    (text_of_parameter parameter) (semicolon_byte ∷ text_of_list rest) (walk_list-parameter closed n parameter fine.1)
     ∙ ap (option_and_then (λ next. walk_list next (text_of_list rest))) (grow_place-closed closed n parameter fine.1)
     ∙ walk_list-text ((n, parameter) ∷ closed) rest fine.2
 
@@ -126,10 +127,10 @@ walk-slash (t ∷ top) rest token =
     walk_from-append_some (in_type []) (in_type (t ∷ top)) (t ∷ top) (slash_byte ∷ rest) (walk-type t top parts.0 parts.1)
 
 -- subtype
-pub walk_from-sub : (top sub : List ℕ) → AreTokenBytes sub → walk_from (in_subtype top []) sub ≡ Some (in_subtype top sub)
-walk_from-sub top [] tokens = refl
-walk_from-sub top (s ∷ sub) tokens =
-    let parts = and_parts (is_token_byte s) (list_all is_token_byte sub) tokens in
+pub walk_from-sub : (top sub : List ℕ) → IsToken sub → walk_from (in_subtype top []) sub ≡ Some (in_subtype top sub)
+walk_from-sub top [] token = absurd token
+walk_from-sub top (s ∷ sub) token =
+    let parts = and_parts (is_token_byte s) (list_all is_token_byte sub) token in
     walk_from-step (in_subtype top []) (in_subtype top (s ∷ [])) s sub (cond-true (is_token_byte s) _ _ parts.0)
     ∙ walk_from-subtype top s [] sub parts.1
 
@@ -139,32 +140,38 @@ pub walk-head : (top sub rest : List ℕ) → IsToken top → IsToken sub
 walk-head top sub rest top_token sub_token =
     walk-slash top (sub ++ (semicolon_byte ∷ rest)) top_token
     ∙ walk_from-append_some (in_subtype top []) (in_subtype top sub) sub (semicolon_byte ∷ rest)
-    (walk_from-sub top sub (AreTokenBytes-from_token sub sub_token))
+    (walk_from-sub top sub sub_token)
     ∙ walk_from-step (in_subtype top sub) (in_list top sub begun_list) semicolon_byte rest (grow-semicolon top sub sub_token)
+
+-- a text may end in its subtype
+tree_of-subtype : (top sub : List ℕ) → IsToken sub
+    → tree_of (in_subtype top sub) ≡ Some (record { top = top; sub = sub; tail = no_list })
+tree_of-subtype top [] token = absurd token
+tree_of-subtype top (s ∷ sub) token = refl
 
 -- the text of a well-formed tree is walked to that tree
 pub walk-text_of : (tree : SyntaxTree) → IsWellFormed tree
     → (begun : Begun) × ((walk (text_of tree) ≡ Some begun) × (tree_of begun ≡ Some tree))
-walk-text_of tree well_formed = with_tail tree.tail well_formed.1
+walk-text_of tree well_formed = with_tail tree.tail well_formed.2
   where
-    with_tail : (tail : Tail) → AreSubtypeAndTail tree.sub tail
+    with_tail : (tail : Tail) → IsTail tail
         → (begun : Begun) × ((walk (text_of (record { top = tree.top; sub = tree.sub; tail = tail })) ≡ Some begun)
         × (tree_of begun ≡ Some (record { top = tree.top; sub = tree.sub; tail = tail })))
     with_tail no_list fine = (
       in_subtype tree.top tree.sub,
       (
         ap (λ sub. walk (tree.top ++ (slash_byte ∷ sub))) (append-nil tree.sub)
-            ∙ walk-slash tree.top tree.sub well_formed.0 ∙ walk_from-sub tree.top tree.sub fine,
-        refl,
+            ∙ walk-slash tree.top tree.sub well_formed.0 ∙ walk_from-sub tree.top tree.sub well_formed.1,
+        tree_of-subtype tree.top tree.sub well_formed.1,
       ),
     )
     with_tail (listed list) fine = (
       in_list tree.top tree.sub (begun_of [] list),
       (
-        walk-head tree.top tree.sub (text_of_list list) well_formed.0 fine.0
+        walk-head tree.top tree.sub (text_of_list list) well_formed.0 well_formed.1
             ∙ walk_from-in_list tree.top tree.sub begun_list (text_of_list list)
-            ∙ ap (option_map (in_list tree.top tree.sub)) (walk_list-text [] list fine.1),
-        ap (option_map (λ rest. record { top = tree.top; sub = tree.sub; tail = listed rest })) (ended_list-begun_of [] list),
+            ∙ ap (option_map (in_list tree.top tree.sub)) (walk_list-text [] list fine),
+        ap (option_map (λ rest. record { top = tree.top; sub = tree.sub; tail = listed rest })) (ended_list-begun_of [] list fine),
       ),
     )
 

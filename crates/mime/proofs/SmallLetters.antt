@@ -151,7 +151,8 @@ with_closed-small ((n, p) ∷ closed) rest = with_closed-small closed (more n p 
 -- the tree of what is read, in small letters
 tree_of-small : (begun : Begun) → tree_of (small_begun begun) ≡ option_map small_tree (tree_of begun)
 tree_of-small (in_type top) = refl
-tree_of-small (in_subtype top sub) = refl
+tree_of-small (in_subtype top []) = refl
+tree_of-small (in_subtype top (s ∷ sub)) = refl
 tree_of-small (in_list top sub list) = go list.closed list.place
   where
     go : (closed : List (List ℕ × Parameter)) (place : ListPlace)
@@ -159,7 +160,8 @@ tree_of-small (in_list top sub list) = go list.closed list.place
         ≡ option_map small_tree (tree_of (in_list top sub (record { closed = closed; place = place })))
     go closed (in_spaces n) = rw (with_closed-small closed (blank n)) refl
     go closed (in_name n name) = refl
-    go closed (in_value n name value) = rw (with_closed-small closed (final n (plain name value))) refl
+    go closed (in_value n name []) = refl
+    go closed (in_value n name (v ∷ value)) = rw (with_closed-small closed (final n (plain name (v ∷ value)))) refl
     go closed (in_quotes n name content) = refl
     go closed (behind_quotes n name content m) = rw (with_closed-small closed (final n (quoted name content m))) refl
 

@@ -7,10 +7,10 @@ use Rattle.std.specs.Prelude.{IsTrue, IsFalse, MatchOption, if◌then◌else◌,
 use Rattle.std.specs.List.{list_all}
 use Rattle.std.specs.Option.{option_map}
 use Rattle.mime.specs.Bytes.{is_token_byte, slash_byte, semicolon_byte, equals_byte, quote_byte}
-use Rattle.mime.specs.Grammar.{quoted, Parameters, more, listed, is_space, AreSpaces, text_of_parameter, text_of_list, text_of, AreTokenBytes, IsToken, IsContent, IsInnerParameter, AreParameters, IsWellFormed}
+use Rattle.mime.specs.Grammar.{quoted, Parameters, more, listed, is_space, AreSpaces, text_of_parameter, text_of_list, text_of, AreTokenBytes, IsToken, IsContent, IsParameter, AreParameters, IsWellFormed}
 use Rattle.mime.specs.Quoted.{IsOpenContent, continues}
 use Rattle.mime.proofs.Quoted.{IsOpenContent-push, IsContent-closed}
-use Rattle.mime.proofs.Begun.{Closed, Begun, in_type, in_subtype, in_list, BegunList, ListPlace, in_spaces, in_name, in_value, in_quotes, behind_quotes, list_at, grow, grow_place, grow_list, walk_from, with_closed, ended, tree_of}
+use Rattle.mime.proofs.Begun.{Closed, Begun, in_type, in_subtype, in_list, BegunList, ListPlace, in_spaces, in_name, in_value, in_quotes, behind_quotes, list_at, grow, grow_place, grow_list, walk, walk_from, with_closed, ended, tree_of}
 
 -- ---- begun trees: their texts, and that each part is in its class
 
@@ -41,7 +41,7 @@ text_of_begun (in_list top sub list) = top ++ (slash_byte ∷ (sub ++ (semicolon
 -- the parameters that a semicolon closed are well formed
 abbrev pub AreClosed : Closed → Type 0
 AreClosed [] = Unit {0}
-AreClosed (item ∷ closed) = AreSpaces item.0 × IsInnerParameter item.1 × AreClosed closed
+AreClosed (item ∷ closed) = AreSpaces item.0 × IsParameter item.1 × AreClosed closed
 
 -- what stands after the last semicolon is well formed so far
 abbrev pub IsPlace : ListPlace → Type 0
@@ -179,6 +179,27 @@ walk_from-lengthens begun (b ∷ bytes) last here walked =
     let after = walk_from-lengthens next bytes last longer.0 goes in
     (after.0, after.1 ∙ ap (λ t. t ++ bytes) longer.1 ∙ append_assoc (text_of_begun begun) (b ∷ []) bytes))
 
+-- what is walked from the start of a text is well formed so far, and spells it
+pub begun-from_walk : (text : List ℕ) (begun : Begun) → walk text ≡ Some begun → IsBegun begun
+begun-from_walk text begun walked = (walk_from-lengthens (in_type []) text begun refl walked).0
+
+pub spelled-from_walk : (text : List ℕ) (begun : Begun) → walk text ≡ Some begun → text_of_begun begun ≡ text
+spelled-from_walk text begun walked = (walk_from-lengthens (in_type []) text begun refl walked).1
+
+-- one that ends in a subtype, after its slash
+pub text-in_subtype : (top sub : List ℕ) → (top ++ (slash_byte ∷ [])) ++ sub ≡ text_of_begun (in_subtype top sub)
+text-in_subtype top sub = simp regroup
+
+-- one that ends in a value, after its equals sign
+abbrev pub before_equals : List ℕ → List ℕ → Closed → List ℕ → List ℕ → List ℕ
+before_equals top sub closed n name =
+    top ++ (slash_byte ∷ (sub ++ (semicolon_byte ∷ (text_of_closed closed ++ (n ++ name)))))
+
+pub text-in_value : (top sub : List ℕ) (closed : Closed) (n name value : List ℕ)
+    → (before_equals top sub closed n name ++ (equals_byte ∷ [])) ++ value
+    ≡ text_of_begun (in_list top sub (list_at closed (in_value n name value)))
+text-in_value top sub closed n name value = simp regroup
+
 -- ---- a tree that may end is spelled
 
 -- the list that closed parameters and the rest make
@@ -200,7 +221,8 @@ ended-spelled : (place : ListPlace) → IsPlace place
     → MatchOption (ended place) (Unit {0}) (λ rest. AreParameters rest × (text_of_list rest ≡ text_of_place place))
 ended-spelled (in_spaces n) fine = (fine, refl)
 ended-spelled (in_name n name) fine = tt
-ended-spelled (in_value n name value) fine = ((fine.0, (fine.1, fine.2)), refl)
+ended-spelled (in_value n name []) fine = tt
+ended-spelled (in_value n name (v ∷ value)) fine = ((fine.0, (fine.1, fine.2)), refl)
 ended-spelled (in_quotes n name content) fine = tt
 ended-spelled (behind_quotes n name content m) fine = ((fine.0, (fine.1, fine.2, fine.3)), refl)
 
@@ -208,7 +230,9 @@ ended-spelled (behind_quotes n name content m) fine = ((fine.0, (fine.1, fine.2,
 pub tree_of-spelled : (begun : Begun) → IsBegun begun
     → MatchOption (tree_of begun) (Unit {0}) (λ tree. IsWellFormed tree × (text_of tree ≡ text_of_begun begun))
 tree_of-spelled (in_type top) here = tt
-tree_of-spelled (in_subtype top sub) here = (here, ap (λ t. top ++ (slash_byte ∷ t)) (append-nil sub))
+tree_of-spelled (in_subtype top []) here = tt
+tree_of-spelled (in_subtype top (s ∷ sub)) here =
+    ((here.0, here.1, tt), ap (λ t. top ++ (slash_byte ∷ t)) (append-nil (s ∷ sub)))
 tree_of-spelled (in_list top sub list) here =
     elim (ended list.place) as (λ o.
     MatchOption o (Unit {0}) (λ rest. AreParameters rest × (text_of_list rest ≡ text_of_place list.place))
@@ -216,7 +240,7 @@ tree_of-spelled (in_list top sub list) here =
     (Unit {0}) (λ tree. IsWellFormed tree × (text_of tree ≡ text_of_begun (in_list top sub list)))) [
       | None ↦ λ ends. tt
       | Some rest ↦ λ ends. (
-        (here.top, (here.sub, AreParameters-with_closed list.closed rest here.list.closed ends.0)),
+        (here.top, here.sub, AreParameters-with_closed list.closed rest here.list.closed ends.0),
         ap (λ t. top ++ (slash_byte ∷ (sub ++ (semicolon_byte ∷ t))))
             (text_of_list-with_closed list.closed rest ∙ ap (λ t. text_of_closed list.closed ++ t) ends.1),
       )

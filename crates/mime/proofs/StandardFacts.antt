@@ -4,9 +4,9 @@ use Rattle.mime.specs.Bytes.{is_token_byte, is_quoted_byte}
 use Rattle.mime.specs.Grammar.{no_byte, plain, quoted, blank, final, more, Tail, no_list, listed, SyntaxTree, text_of, IsWellFormed}
 use Rattle.mime.specs.Values.{MediaType, value_of, Reads}
 use Rattle.mime.specs.Refusals.{IsFault}
-use Rattle.mime.specs.declared.scan.fault.ParseError.TheVariants.{MissingSlash, MissingEqual, MissingQuote, InvalidToken}
+use Rattle.mime.specs.declared.scan.fault.ParseError.TheVariants.{MissingSlash, MissingSubtype, MissingEqual, MissingValue, MissingQuote, InvalidToken}
 use Rattle.mime.proofs.Quoted.{IsContent-taken}
-use Rattle.mime.proofs.Viability.{slash_fault-from_walk, equal_fault-from_walk, quote_fault-from_walk, dead-from_walk}
+use Rattle.mime.proofs.Viability.{slash_fault-from_walk, subtype_fault-from_walk, equal_fault-from_walk, value_fault-from_walk, quote_fault-from_walk, dead-from_walk}
 
 -- ---- accepted texts
 
@@ -23,25 +23,20 @@ reads : (top sub : List ℕ) (tail : Tail) → IsWellFormed (tree_from_parts top
     → Reads (text_of (tree_from_parts top sub tail)) (value_of (tree_from_parts top sub tail))
 reads top sub tail fine = record { tree = tree_from_parts top sub tail; well_formed = fine; spelled = refl; valued = refl }
 
--- the subtype may be empty at the end
-empty_subtype : Reads (codes "text/") (media (codes "text/") 4 None [] (codes "text/"))
-unfolding is_token_byte
-empty_subtype = reads (codes "text") [] no_list (refl, refl)
-
 -- the subtype's first byte begins no suffix
 plus_first : Reads (codes "a/+xml") (media (codes "a/+xml") 1 None [] (codes "a/+xml"))
 unfolding is_token_byte
-plus_first = reads (codes "a") (codes "+xml") no_list (refl, refl)
+plus_first = reads (codes "a") (codes "+xml") no_list (refl, refl, tt)
 
 -- the last plus begins the suffix
 plus_twice : Reads (codes "a/b+c+d") (media (codes "a/b+c+d") 1 (Some 5) [] (codes "a/b+c+d"))
 unfolding is_token_byte
-plus_twice = reads (codes "a") (codes "b+c+d") no_list (refl, refl)
+plus_twice = reads (codes "a") (codes "b+c+d") no_list (refl, refl, tt)
 
 -- a suffix may be empty
 plus_last : Reads (codes "a/b+") (media (codes "a/b+") 1 (Some 3) [] (codes "a/b+"))
 unfolding is_token_byte
-plus_last = reads (codes "a") (codes "b+") no_list (refl, refl)
+plus_last = reads (codes "a") (codes "b+") no_list (refl, refl, tt)
 
 -- type, subtype, names and a charset are lowered, other values are kept
 lowered_parts : Reads (codes "TEXT/PLAIN; CHARSET=UTF-8; FOO=BAR")
@@ -51,37 +46,32 @@ unfolding is_token_byte
 lowered_parts =
     reads (codes "TEXT") (codes "PLAIN")
     (listed (more (codes " ") (plain (codes "CHARSET") (codes "UTF-8")) (final (codes " ") (plain (codes "FOO") (codes "BAR")))))
-    (refl, (refl, (refl, (refl, refl), (refl, (refl, refl)))))
+    (refl, refl, (refl, (refl, refl), (refl, (refl, refl))))
 
 -- a list without parameters isn't kept
 blank_list : Reads (codes "text/event-stream;       ") (media (codes "text/event-stream") 4 None [] (codes "text/event-stream"))
 unfolding is_token_byte
-blank_list = reads (codes "text") (codes "event-stream") (listed (blank (codes "       "))) (refl, (refl, refl))
+blank_list = reads (codes "text") (codes "event-stream") (listed (blank (codes "       "))) (refl, refl, refl)
 
 -- a semicolon and spaces after the last parameter are kept
 kept_end : Reads (codes "a/b;p=x; ") (media (codes "a/b") 1 None ((codes "p", codes "x") ∷ []) (codes "a/b;p=x; "))
 unfolding is_token_byte
 kept_end =
     reads (codes "a") (codes "b") (listed (more [] (plain (codes "p") (codes "x")) (blank (codes " "))))
-    (refl, (refl, (refl, (refl, refl), refl)))
-
--- a value may be empty at the end
-empty_value : Reads (codes "a/b;p=") (media (codes "a/b") 1 None ((codes "p", []) ∷ []) (codes "a/b;p="))
-unfolding is_token_byte
-empty_value = reads (codes "a") (codes "b") (listed (final [] (plain (codes "p") []))) (refl, (refl, (refl, (refl, refl))))
+    (refl, refl, (refl, (refl, refl), refl))
 
 -- a quoted value may be empty
 no_content : Reads (codes "a/b;p=\"\"") (media (codes "a/b") 1 None ((codes "p", []) ∷ []) (codes "a/b;p=\"\""))
 unfolding is_token_byte is_quoted_byte
 no_content =
-    reads (codes "a") (codes "b") (listed (final [] (quoted (codes "p") [] []))) (refl, (refl, (refl, (refl, no_byte, refl))))
+    reads (codes "a") (codes "b") (listed (final [] (quoted (codes "p") [] []))) (refl, refl, (refl, (refl, no_byte, refl)))
 
 -- a backslash pairs a quote, and the value keeps both
 paired_quote : Reads (codes "a/b;p=\"\\\"x\"") (media (codes "a/b") 1 None ((codes "p", codes "\\\"x") ∷ []) (codes "a/b;p=\"\\\"x\""))
 unfolding is_token_byte is_quoted_byte
 paired_quote =
     reads (codes "a") (codes "b") (listed (final [] (quoted (codes "p") (codes "\\\"x") [])))
-    (refl, (refl, (refl, (refl, IsContent-taken (codes "\\\"x") refl refl, refl))))
+    (refl, refl, (refl, (refl, IsContent-taken (codes "\\\"x") refl refl, refl)))
 
 -- a charset is lowered after a backslash too
 paired_capital : Reads (codes "a/b;charset=\"\\U\"")
@@ -89,7 +79,7 @@ paired_capital : Reads (codes "a/b;charset=\"\\U\"")
 unfolding is_token_byte is_quoted_byte
 paired_capital =
     reads (codes "a") (codes "b") (listed (final [] (quoted (codes "charset") (codes "\\U") [])))
-    (refl, (refl, (refl, (refl, IsContent-taken (codes "\\U") refl refl, refl))))
+    (refl, refl, (refl, (refl, IsContent-taken (codes "\\U") refl refl, refl)))
 
 -- a tab stands in a quoted value
 tab_in_quotes : Reads (codes "a/b;p=\"" ++ (195 ∷ 169 ∷ 9 ∷ codes "\""))
@@ -97,7 +87,7 @@ tab_in_quotes : Reads (codes "a/b;p=\"" ++ (195 ∷ 169 ∷ 9 ∷ codes "\""))
 unfolding is_token_byte is_quoted_byte
 tab_in_quotes =
     reads (codes "a") (codes "b") (listed (final [] (quoted (codes "p") (195 ∷ 169 ∷ 9 ∷ []) [])))
-    (refl, (refl, (refl, (refl, IsContent-taken (195 ∷ 169 ∷ 9 ∷ []) refl refl, refl))))
+    (refl, refl, (refl, (refl, IsContent-taken (195 ∷ 169 ∷ 9 ∷ []) refl refl, refl)))
 
 -- tabs stand where spaces do
 tabs_beside_parameters : Reads (codes "a/b;" ++ (9 ∷ codes "p=\"x\"" ++ (9 ∷ codes ";q=1")))
@@ -107,7 +97,7 @@ unfolding is_token_byte is_quoted_byte
 tabs_beside_parameters =
     reads (codes "a") (codes "b")
     (listed (more (9 ∷ []) (quoted (codes "p") (codes "x") (9 ∷ [])) (final [] (plain (codes "q") (codes "1")))))
-    (refl, (refl, (refl, (refl, IsContent-taken (codes "x") refl refl, refl), (refl, (refl, refl)))))
+    (refl, refl, (refl, (refl, IsContent-taken (codes "x") refl refl, refl), (refl, (refl, refl))))
 
 -- a quoted value may hold bytes past ASCII, semicolons and commas
 quoted_bytes : Reads (codes "a/b;p=\"" ++ (195 ∷ 169 ∷ codes ";,\""))
@@ -115,7 +105,7 @@ quoted_bytes : Reads (codes "a/b;p=\"" ++ (195 ∷ 169 ∷ codes ";,\""))
 unfolding is_token_byte is_quoted_byte
 quoted_bytes =
     reads (codes "a") (codes "b") (listed (final [] (quoted (codes "p") (195 ∷ 169 ∷ codes ";,") [])))
-    (refl, (refl, (refl, (refl, IsContent-taken (195 ∷ 169 ∷ codes ";,") refl refl, refl))))
+    (refl, refl, (refl, (refl, IsContent-taken (195 ∷ 169 ∷ codes ";,") refl refl, refl)))
 
 -- spaces may stand after a quoted value, and a name may come twice
 spaces_after_quotes : Reads (codes "A/B; P=\"x\" ;p=2")
@@ -124,7 +114,7 @@ unfolding is_token_byte is_quoted_byte
 spaces_after_quotes =
     reads (codes "A") (codes "B")
     (listed (more (codes " ") (quoted (codes "P") (codes "x") (codes " ")) (final [] (plain (codes "p") (codes "2")))))
-    (refl, (refl, (refl, (refl, IsContent-taken (codes "x") refl refl, refl), (refl, (refl, refl)))))
+    (refl, refl, (refl, (refl, IsContent-taken (codes "x") refl refl, refl), (refl, (refl, refl))))
 
 -- ---- refused texts
 
@@ -137,10 +127,29 @@ no_slash : IsFault (codes "invalid") MissingSlash
 unfolding is_token_byte
 no_slash = slash_fault-from_walk (codes "invalid") (codes "invalid") refl
 
+-- a type and its slash
+no_subtype : IsFault (codes "text/") MissingSubtype
+unfolding is_token_byte
+no_subtype = subtype_fault-from_walk (codes "text/") (codes "text") refl
+
 -- a parameter's name alone
 no_equals : IsFault (codes "a/b;p") MissingEqual
 unfolding is_token_byte
 no_equals = equal_fault-from_walk (codes "a/b;p") (codes "a") (codes "b") [] [] (codes "p") refl
+
+-- a name and its equals sign
+no_value : IsFault (codes "a/b;p=") MissingValue
+unfolding is_token_byte
+no_value = value_fault-from_walk (codes "a/b;p=") (codes "a") (codes "b") [] [] (codes "p") refl
+
+-- in an open quoted value a slash and an equals sign are content
+slash_in_quotes : IsFault (codes "a/b;p=\"x/") MissingQuote
+unfolding is_token_byte is_quoted_byte
+slash_in_quotes = quote_fault-from_walk (codes "a/b;p=\"x/") (codes "a") (codes "b") [] [] (codes "p") (codes "x/") refl
+
+equals_in_quotes : IsFault (codes "a/b;p=\"=") MissingQuote
+unfolding is_token_byte is_quoted_byte
+equals_in_quotes = quote_fault-from_walk (codes "a/b;p=\"=") (codes "a") (codes "b") [] [] (codes "p") (codes "=") refl
 
 -- a paired quote closes nothing
 no_quote : IsFault (codes "a/b;p=\"\\\"") MissingQuote
@@ -157,12 +166,17 @@ space_in_type : IsFault (codes "a b") (InvalidToken 1 32)
 unfolding is_token_byte
 space_in_type = dead-from_walk (codes "a") (codes "b") 32 _ refl refl
 
--- an empty subtype has no parameters
+-- no slash stands in a subtype
+second_slash : IsFault (codes "a//") (InvalidToken 2 47)
+unfolding is_token_byte
+second_slash = dead-from_walk (codes "a/") [] 47 _ refl refl
+
+-- a subtype has one byte or more
 list_after_empty_subtype : IsFault (codes "text/;") (InvalidToken 5 59)
 unfolding is_token_byte
 list_after_empty_subtype = dead-from_walk (codes "text/") [] 59 _ refl refl
 
--- a semicolon follows no empty value
+-- a value has one byte or more
 semicolon_after_empty_value : IsFault (codes "a/b;p=;") (InvalidToken 6 59)
 unfolding is_token_byte
 semicolon_after_empty_value = dead-from_walk (codes "a/b;p=") [] 59 _ refl refl

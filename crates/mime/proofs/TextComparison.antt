@@ -5,7 +5,7 @@ use Rattle.std.proofs.lemmas.List.{length-map, nil_from_length, take-append-drop
 use Rattle.std.specs.List.{list_all}
 use Rattle.std.proofs.lemmas.List.Folds.{list_all-append}
 use Rattle.mime.specs.Bytes.{slash_byte, semicolon_byte, quote_byte}
-use Rattle.mime.specs.Grammar.{plain, quoted, Parameters, blank, final, more, Tail, no_list, listed, SyntaxTree, text_of, text_of_tail, text_of_list, IsToken, AreTokenBytes, AreSubtypeAndTail, IsWellFormed}
+use Rattle.mime.specs.Grammar.{plain, quoted, Parameters, blank, final, more, Tail, no_list, listed, SyntaxTree, text_of, text_of_tail, text_of_list, IsToken, IsWellFormed}
 use Rattle.mime.specs.Values.{MediaType, Reads, IsAccepted, value_of, essence_of, lowered, lowered_list, pairs_of_list, pairs_of_tail, is_charset}
 use Rattle.mime.specs.Comparison.{TextIs, HasNoSemicolon}
 use Rattle.mime.specs.Pairs.{PairCut, cut_behind_equals, cut_of, pairs_within}
@@ -61,7 +61,7 @@ read_at-tree top sub list well =
       essence = essence-lowered tree ∙ ap lowered (sym (take-essence tree));
       pairs = pairs_of_list-lowered list
           ∙ ap (map lowered_pair) (sym (ap (pairs_within (length (pairs_of_list list))) (drop-to_semicolon top sub (text_of_list list))
-          ∙ pairs_within-text_of_list list well.1.1));
+          ∙ pairs_within-text_of_list list well.2));
     }
 
 -- of every such text
@@ -230,15 +230,10 @@ lone_charset list pairs one kept is =
 -- ---- a text against a value without pairs
 
 -- no semicolon stands in the essence of a tree
-bare_essence : (top sub : List ℕ) → IsToken top → AreTokenBytes sub → HasNoSemicolon (top ++ (slash_byte ∷ sub))
-bare_essence top sub token bytes =
+bare_essence : (top sub : List ℕ) → IsToken top → IsToken sub → HasNoSemicolon (top ++ (slash_byte ∷ sub))
+bare_essence top sub token sub_token =
     list_all-append (λ b. not (b == semicolon_byte)) top (slash_byte ∷ sub)
-    ∙ cc (are_other-token semicolon_byte semicolon_is_no_token top (AreTokenBytes-from_token top token), are_other-token semicolon_byte semicolon_is_no_token sub bytes)
-
--- the bytes of a subtype
-sub_bytes : (sub : List ℕ) (tail : Tail) → AreSubtypeAndTail sub tail → AreTokenBytes sub
-sub_bytes sub no_list well = well
-sub_bytes sub (listed list) well = AreTokenBytes-from_token sub well.0
+    ∙ cc (are_other-token semicolon_byte semicolon_is_no_token top (AreTokenBytes-from_token top token), are_other-token semicolon_byte semicolon_is_no_token sub (AreTokenBytes-from_token sub sub_token))
 
 -- small letters leave semicolons alone
 HasNoSemicolon-lowered : (text : List ℕ)
@@ -267,7 +262,7 @@ text_is-from_lowered text kept value reads none is =
     let found = case_read text value.kept value (kept_is_read kept value reads) (is ∙ sym low ∙ ap lowered same) in
     let tree = reads.tree in
     let essence : lowered (essence_of tree) ≡ value.essence = sym (essence-lowered tree) ∙ ap (λ (v : MediaType). v.essence) reads.valued in
-    let bare = bare_essence tree.top tree.sub reads.well_formed.0 (sub_bytes tree.sub tree.tail reads.well_formed.1) in
+    let bare = bare_essence tree.top tree.sub reads.well_formed.0 reads.well_formed.1 in
     record {
       read = found.read;
       reads = found.reads;

@@ -10,13 +10,14 @@ use Rattle.mime.specs.Bytes.{is_token_byte, quote_byte}
 use Rattle.mime.specs.Grammar.{SyntaxTree}
 use Rattle.mime.specs.Values.{value_of, IsAccepted, IsRefused}
 use Rattle.mime.specs.Refusals.{IsViable, IsFront, completion_of, Lacks, IsDeadAt, IsFault}
-use Rattle.mime.proofs.Begun.{Closed, Begun, in_type, in_subtype, in_list, ListPlace, in_name, in_quotes, list_at, grow, walk, walk_from, tree_of, lacking, lacking_list}
+use Rattle.mime.proofs.Begun.{Closed, Begun, in_type, in_subtype, in_list, ListPlace, in_name, in_value, in_quotes, list_at, grow, walk, walk_from, tree_of, lacking, lacking_list}
 use Rattle.mime.specs.Laws.{EmptyIsViable, FrontOfViableIsViable, AcceptedIsViable}
 use Rattle.mime.specs.declared.scan.fault.ParseError.{ParseError}
-use Rattle.mime.specs.declared.scan.fault.ParseError.TheVariants.{MissingSlash, MissingEqual, MissingQuote, InvalidToken}
+use Rattle.mime.specs.declared.scan.fault.ParseError.TheVariants.{MissingSlash, MissingSubtype, MissingEqual, MissingValue, MissingQuote, InvalidToken}
 use Rattle.mime.proofs.Walks.{walk_from-step, walk_by-append, walk_from-append_some, walk_from-in_list, walk_list-open}
 use Rattle.mime.specs.Quoted.{awaits_first, takes_all, awaits_behind, continues}
 use Rattle.mime.proofs.Quoted.{takes_all-letter, closed-letter}
+use Rattle.mime.proofs.Spelling.{before_equals, spelled-from_walk, text-in_value}
 use Rattle.mime.proofs.Readings.{accepted-from_walk, walk-accepted, stopped-from_walk}
 use Rattle.mime.proofs.ByteAt.{slice_get-front}
 
@@ -79,26 +80,39 @@ completes-open_quotes top sub closed n name content =
 pub lacks-from_walk : (text : List ℕ) (begun : Begun) → walk text ≡ Some begun → tree_of begun ≡ None → Lacks text (lacking begun)
 unfolding is_token_byte
 lacks-from_walk text (in_type []) walked unfinished =
-    accepted-from_completes text (codes "x/") (in_type []) walked refl
+    (accepted-from_completes text (codes "x/x") (in_type []) walked refl, tt)
 lacks-from_walk text (in_type (t ∷ top)) walked unfinished =
-    accepted-from_completes text (codes "x/") (in_type (t ∷ top)) walked refl
-lacks-from_walk text (in_subtype top sub) walked unfinished = absurd (none-some _ (sym unfinished))
+    (accepted-from_completes text (codes "x/x") (in_type (t ∷ top)) walked refl, tt)
+lacks-from_walk text (in_subtype top []) walked unfinished = (
+  accepted-from_completes text (codes "x") (in_subtype top []) walked refl,
+  (top, sym (spelled-from_walk text (in_subtype top []) walked)),
+)
+lacks-from_walk text (in_subtype top (s ∷ sub)) walked unfinished = absurd (none-some _ (sym unfinished))
 lacks-from_walk text (in_list top sub list) walked unfinished = at list.place list.closed walked unfinished
   where
     at : (place : ListPlace) (closed : Closed) → walk text ≡ Some (in_list top sub (list_at closed place))
         → tree_of (in_list top sub (list_at closed place)) ≡ None → Lacks text (lacking_list place)
     at (in_name n name) closed walked unfinished =
-        accepted-from_completes text (codes "=") (in_list top sub (list_at closed (in_name n name))) walked refl
-    at (in_quotes n name content) closed walked unfinished =
-        accepted-from_completes text (codes "x\"") (in_list top sub (list_at closed (in_quotes n name content))) walked
-        (completes-open_quotes top sub closed n name content)
+        (accepted-from_completes text (codes "=x") (in_list top sub (list_at closed (in_name n name))) walked refl, tt)
+    at (in_value n name []) closed walked unfinished = (
+      accepted-from_completes text (codes "x") (in_list top sub (list_at closed (in_value n name []))) walked refl,
+      (
+        before_equals top sub closed n name,
+        sym (spelled-from_walk text _ walked) ∙ sym (text-in_value top sub closed n name []) ∙ append-nil _,
+      ),
+    )
+    at (in_quotes n name content) closed walked unfinished = (
+      accepted-from_completes text (codes "x\"") (in_list top sub (list_at closed (in_quotes n name content))) walked
+          (completes-open_quotes top sub closed n name content),
+      tt,
+    )
     at other closed walked unfinished = absurd (none-some _ (sym unfinished))
 
 -- a text with a completion is viable
 pub viable-from_lacks : (text : List ℕ) (fault : ParseError) → Lacks text fault → IsViable text
-viable-from_lacks text fault =
-    elim (completion_of fault) as (λ o. MatchOption o ⊥ (λ more. IsAccepted (text ++ more)) → IsViable text)
-    [ None ↦ λ lacks. absurd lacks | Some more ↦ λ lacks. (more, lacks) ]
+viable-from_lacks text fault lacks =
+    (elim (completion_of fault) as (λ o. MatchOption o ⊥ (λ more. IsAccepted (text ++ more)) → IsViable text)
+    [ None ↦ λ completed. absurd completed | Some more ↦ λ completed. (more, completed) ]) lacks.0
 
 -- an accepted text is viable
 pub accepted_is_viable : AcceptedIsViable
@@ -181,10 +195,19 @@ front_unique text m n first second =
 pub slash_fault-from_walk : (text top : List ℕ) → walk text ≡ Some (in_type top) → IsFault text MissingSlash
 slash_fault-from_walk text top walked = lacks-from_walk text (in_type top) walked refl
 
+-- the text ends in its slash
+pub subtype_fault-from_walk : (text top : List ℕ) → walk text ≡ Some (in_subtype top []) → IsFault text MissingSubtype
+subtype_fault-from_walk text top walked = lacks-from_walk text (in_subtype top []) walked refl
+
 -- the text ends in a parameter's name
 pub equal_fault-from_walk : (text top sub : List ℕ) (closed : Closed) (n name : List ℕ)
     → walk text ≡ Some (in_list top sub (list_at closed (in_name n name))) → IsFault text MissingEqual
 equal_fault-from_walk text top sub closed n name walked = lacks-from_walk text _ walked refl
+
+-- the text ends in a parameter's equals sign
+pub value_fault-from_walk : (text top sub : List ℕ) (closed : Closed) (n name : List ℕ)
+    → walk text ≡ Some (in_list top sub (list_at closed (in_value n name []))) → IsFault text MissingValue
+value_fault-from_walk text top sub closed n name walked = lacks-from_walk text _ walked refl
 
 -- the text ends in an open quoted value
 pub quote_fault-from_walk : (text top sub : List ℕ) (closed : Closed) (n name content : List ℕ)

@@ -69,27 +69,22 @@ pub data IsContent : List ℕ → Type 0 where
   text_byte : (b : ℕ) (content : List ℕ) → IsTrue (is_quoted_text_byte b) → IsContent content → IsContent (b ∷ content)
   quoted_pair : (b : ℕ) (content : List ℕ) → IsTrue (is_quoted_byte b) → IsContent content → IsContent (backslash_byte ∷ b ∷ content)
 
--- a parameter that a semicolon follows
-abbrev pub IsInnerParameter : Parameter → Type 0
-IsInnerParameter (plain name value) = IsToken name × IsToken value
-IsInnerParameter (quoted name content n) = IsToken name × IsContent content × AreSpaces n
-
--- a parameter at the end of the text: its plain value may be empty
-abbrev pub IsFinalParameter : Parameter → Type 0
-IsFinalParameter (plain name value) = IsToken name × AreTokenBytes value
-IsFinalParameter (quoted name content n) = IsToken name × IsContent content × AreSpaces n
+-- a parameter
+abbrev pub IsParameter : Parameter → Type 0
+IsParameter (plain name value) = IsToken name × IsToken value
+IsParameter (quoted name content n) = IsToken name × IsContent content × AreSpaces n
 
 -- a parameter list
 abbrev pub AreParameters : Parameters → Type 0
 AreParameters (blank n) = AreSpaces n
-AreParameters (final n parameter) = AreSpaces n × IsFinalParameter parameter
-AreParameters (more n parameter rest) = AreSpaces n × IsInnerParameter parameter × AreParameters rest
+AreParameters (final n parameter) = AreSpaces n × IsParameter parameter
+AreParameters (more n parameter rest) = AreSpaces n × IsParameter parameter × AreParameters rest
 
--- a subtype and what follows it: the subtype may be empty at the end of the text
-abbrev pub AreSubtypeAndTail : List ℕ → Tail → Type 0
-AreSubtypeAndTail sub no_list = AreTokenBytes sub
-AreSubtypeAndTail sub (listed parameters) = IsToken sub × AreParameters parameters
+-- what follows the subtype
+abbrev pub IsTail : Tail → Type 0
+IsTail no_list = Unit {0}
+IsTail (listed parameters) = AreParameters parameters
 
 -- a well-formed tree
 abbrev pub IsWellFormed : SyntaxTree → Type 0
-IsWellFormed tree = IsToken tree.top × AreSubtypeAndTail tree.sub tree.tail
+IsWellFormed tree = IsToken tree.top × IsToken tree.sub × IsTail tree.tail

@@ -28,13 +28,13 @@ FrontOfViableIsViable = (front more : List ℕ) → IsViable (front ++ more) →
 abbrev pub AcceptedIsViable : Type 0
 AcceptedIsViable = (text : List ℕ) → IsAccepted text → IsViable text
 
--- Exactly one completion makes a viable refused text an accepted one.
+-- Exactly one of five things is missing from a viable refused text: its completion makes the text an accepted one.
 abbrev pub OneCompletion : Type 0
 OneCompletion =
     (text : List ℕ) → IsViable text → IsRefused text
     → (fault : ParseError) × Lacks text fault × ((other : ParseError) → Lacks text other → other ≡ fault)
 
--- A text that a completion makes an accepted one is refused.
+-- A text that lacks one of them is refused.
 abbrev pub CompletedIsRefused : Type 0
 CompletedIsRefused = (text : List ℕ) (fault : ParseError) → Lacks text fault → IsRefused text
 

@@ -2,7 +2,7 @@
 use Rattle.std.specs.Prelude.{ℕ, true, List, ◌++◌, codes}
 use Rattle.std.specs.Fmt.{digits, decimal}
 use Rattle.mime.specs.declared.scan.fault.ParseError.{ParseError}
-use Rattle.mime.specs.declared.scan.fault.ParseError.TheVariants.{MissingSlash, MissingEqual, MissingQuote, InvalidToken, NoMemory}
+use Rattle.mime.specs.declared.scan.fault.ParseError.TheVariants.{MissingSlash, MissingSubtype, MissingEqual, MissingValue, MissingQuote, InvalidToken, NoMemory}
 
 -- a byte in capital hexadecimal without leading zeros, and its place in decimal
 abbrev pub token_text : ℕ → ℕ → List ℕ
@@ -12,7 +12,9 @@ token_text pos byte =
 -- what a fault prints
 abbrev pub fault_text : ParseError → List ℕ
 fault_text MissingSlash = codes "a slash (/) was missing between the type and subtype"
+fault_text MissingSubtype = codes "a subtype was missing behind the slash (/)"
 fault_text MissingEqual = codes "an equals sign (=) was missing between a parameter and its value"
+fault_text MissingValue = codes "a value was missing behind the equals sign (=)"
 fault_text MissingQuote = codes "a quote (\") was missing from a parameter value"
 fault_text (InvalidToken pos byte) = token_text pos byte
 fault_text NoMemory = codes "memory ran out"

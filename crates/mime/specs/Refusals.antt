@@ -1,8 +1,9 @@
 -- How a text is refused: what may still become a media type, how far a text does, and its one fault.
-use Rattle.std.specs.Prelude.{◌≡◌, ◌≢◌, ℕ, ◌<◌, ◌≤◌, List, ◌++◌, length, take, slice_get, Option, Some, None, MatchOption, codes}
+use Rattle.std.specs.Prelude.{◌≡◌, ◌≢◌, ℕ, ◌<◌, ◌≤◌, List, [], ◌∷◌, ◌++◌, length, take, slice_get, Option, Some, None, MatchOption, codes}
+use Rattle.mime.specs.Bytes.{slash_byte, equals_byte}
 use Rattle.mime.specs.Values.{IsAccepted}
 use Rattle.mime.specs.declared.scan.fault.ParseError.{ParseError}
-use Rattle.mime.specs.declared.scan.fault.ParseError.TheVariants.{MissingSlash, MissingEqual, MissingQuote, InvalidToken, NoMemory}
+use Rattle.mime.specs.declared.scan.fault.ParseError.TheVariants.{MissingSlash, MissingSubtype, MissingEqual, MissingValue, MissingQuote, InvalidToken, NoMemory}
 
 -- some accepted text begins with it
 abbrev pub IsViable : List ℕ → Type 0
@@ -14,16 +15,32 @@ pub record IsFront (text : List ℕ) (count : ℕ) : Type 0 where
   pub viable : IsViable (take count text)
   pub longest : (n : ℕ) → count < n → n ≤ length text → ¬ (IsViable (take n text))
 
--- what completes a text that ends in its type, in a parameter's name, or in an open quoted value
+-- what completes a text that ends in its type, in its slash, in a parameter's name, in its equals sign, or in an
+-- open quoted value
 abbrev pub completion_of : ParseError → Option (List ℕ)
-completion_of MissingSlash = Some (codes "x/")
-completion_of MissingEqual = Some (codes "=")
+completion_of MissingSlash = Some (codes "x/x")
+completion_of MissingSubtype = Some (codes "x")
+completion_of MissingEqual = Some (codes "=x")
+completion_of MissingValue = Some (codes "x")
 completion_of MissingQuote = Some (codes "x\"")
 completion_of other = None
 
--- the fault's completion makes the text an accepted one; an accepted text has none
+-- the byte that such a text ends in, where its completion alone doesn't tell what is missing
+abbrev pub last_byte_of : ParseError → Option ℕ
+last_byte_of MissingSubtype = Some slash_byte
+last_byte_of MissingValue = Some equals_byte
+last_byte_of other = None
+
+-- the text ends in this byte
+abbrev pub EndsIn : List ℕ → ℕ → Type 0
+EndsIn text byte = (front : List ℕ) × (text ≡ front ++ (byte ∷ []))
+
+-- the fault's completion makes the text an accepted one, and the text ends in the fault's byte, if it has one;
+-- an accepted text has no such fault
 abbrev pub Lacks : List ℕ → ParseError → Type 0
-Lacks text fault = MatchOption (completion_of fault) ⊥ (λ more. IsAccepted (text ++ more))
+Lacks text fault =
+    MatchOption (completion_of fault) ⊥ (λ more. IsAccepted (text ++ more))
+    × MatchOption (last_byte_of fault) (Unit {0}) (EndsIn text)
 
 -- the text ends in an open quoted value
 abbrev pub IsUnclosed : List ℕ → Type 0

@@ -61,12 +61,13 @@ pub fn accepted_is_viable()
     ensures { AcceptedIsViable }
 {}
 
-/// Exactly one completion makes a viable refused text an accepted one.
+/// Exactly one of five things is missing from a viable refused text: its completion makes the text
+/// an accepted one.
 pub fn one_completion()
     ensures { OneCompletion }
 {}
 
-/// A text that a completion makes an accepted one is refused.
+/// A text that lacks one of them is refused.
 pub fn completed_is_refused()
     ensures { CompletedIsRefused }
 {}

@@ -122,9 +122,8 @@ fn parameters(reader: &mut ByteReader<'_>, head: Places) -> Verdict
             Some(b'=') => {}
             Some(byte) => return Verdict::Stopped(byte, None),
         }
-        places.pairs += 1;
         let Some(first) = reader.next() else {
-            return Verdict::Accepted(places);
+            return Verdict::Unfinished(ParseError::MissingValue);
         };
         let stop = if first == b'"' {
             match content(reader) {
@@ -136,8 +135,9 @@ fn parameters(reader: &mut ByteReader<'_>, head: Places) -> Verdict
         } else if is_token(first) {
             token(reader)
         } else {
-            return Verdict::Stopped(first, Some(places));
+            return Verdict::Stopped(first, None);
         };
+        places.pairs += 1;
         match stop {
             None => return Verdict::Accepted(places),
             Some(b';') => {}
@@ -163,20 +163,20 @@ pub(crate) fn scan(reader: &mut ByteReader<'_>) -> Verdict
         Some(b'/') => {}
         Some(byte) => return Verdict::Stopped(byte, None),
     }
+    let slash = (reader.count() - from - 1) as usize;
+    let Some(first) = reader.next() else {
+        return Verdict::Unfinished(ParseError::MissingSubtype);
+    };
+    if !is_token(first) {
+        return Verdict::Stopped(first, None);
+    }
+    let (plus, stop) = subtype(reader, from);
     let mut places = Places {
-        slash: (reader.count() - from - 1) as usize,
-        plus: None,
+        slash,
+        plus,
         semicolon: None,
         pairs: 0,
     };
-    let Some(first) = reader.next() else {
-        return Verdict::Accepted(places);
-    };
-    if !is_token(first) {
-        return Verdict::Stopped(first, Some(places));
-    }
-    let (plus, stop) = subtype(reader, from);
-    places.plus = plus;
     match stop {
         None => return Verdict::Accepted(places),
         Some(b';') => {}

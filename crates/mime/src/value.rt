@@ -150,7 +150,7 @@ impl Mime {
     }
 
     /// The subtype without its suffix, in small letters: `svg` in `image/svg+xml`, `b+c` in
-    /// `a/b+c+d`, and nothing in `text/` (RFC 6838, 4.2.8).
+    /// `a/b+c+d` (RFC 6838, 4.2.8).
     pub fn subtype(&self) -> Name<'_>
         ensures text { result.text.now ≡ subtype_of self.now.media }
         ensures flag { result.ignores_case ≡ true }

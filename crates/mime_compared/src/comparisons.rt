@@ -21,7 +21,7 @@ fn digits_of(mime: &Mime) -> u64 {
 }
 
 /// Texts that are read as equal values.
-const EQUAL: [(&str, &str); 15] = [
+const EQUAL: [(&str, &str); 14] = [
     ("a/b", "A/B"),
     ("text/event-stream;       ", "text/event-stream"),
     ("a/b;p=x", "a/b; p=x"),
@@ -34,7 +34,6 @@ const EQUAL: [(&str, &str); 15] = [
         "text/plain;charset=\"utf-8\"; ",
         "text/plain; charset=utf-8",
     ),
-    ("a/b;p=", "A/B; P="),
     ("a/b;p=\"\"", "A/B; P=\"\"\t"),
     ("a/b;charset=\"\\U\"", "A/B; CHARSET=\"\\u\""),
     ("a/b;\tp=\"x\"\t;q=1", "a/b;p=x;q=1"),
@@ -72,9 +71,8 @@ fn equal_values(rt: HostRuntime) -> Result<(), Fail> {
 
 /// Texts that are read as values in their order, each before the next: by the essence, then pair
 /// by pair, each by its name and then its value, and a list that begins another first.
-const ASCENDING: [&str; 17] = [
+const ASCENDING: [&str; 16] = [
     "a/b",
-    "a/b;p=",
     "a/b;p=X",
     "a/b;p=\"\\x\"",
     "a/b;p=x",

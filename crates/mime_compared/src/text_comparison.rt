@@ -8,14 +8,13 @@ use std::process::Abort;
 use std::test::Fail;
 
 /// Values, by the texts that they are read from, with texts that they equal.
-const EQUAL: [(&str, &str); 44] = [
+const EQUAL: [(&str, &str); 41] = [
     ("text/event-stream;       ", "text/event-stream"),
     ("text/event-stream;       ", "TEXT/Event-Stream"),
     ("text/plain", "text/plain"),
     ("text/plain", "TEXT/PLAIN"),
     ("Text/PLAIN", "text/plain"),
     ("image/svg+xml", "Image/SVG+xml"),
-    ("text/", "TEXT/"),
     ("image/*", "image/*"),
     ("*/*", "*/*"),
     // One parameter, a charset.
@@ -34,13 +33,11 @@ const EQUAL: [(&str, &str); 44] = [
     ("text/plain;  charset=utf-8", "Text/Plain;  Charset=Utf-8"),
     ("a/b; charset=utf-9", "a/b; CHARSET=\"UTF-9\""),
     ("a/b; CHARSET=\"UTF-9\"", "a/b; charset=utf-9"),
-    ("a/b; charset=", "A/B;CHARSET="),
     // One other parameter.
     ("a/b;p=x", "a/b; p=x"),
     ("a/b; p=x", "a/b;p=x"),
     ("a/b;p=x", "A/B;P=x"),
     ("a/b;p=x; ", "a/b;p=\"x\"   ;"),
-    ("a/b;p=", "A/B; P="),
     ("a/b;p=\"é\"", "A/B; P=\"é\" "),
     ("a/b;p=\"\"", "a/b; P=\"\""),
     ("a/b;p=\"\\\"x\"", "A/B;P=\"\\\"x\" "),
@@ -77,7 +74,7 @@ const EQUAL: [(&str, &str); 44] = [
 ];
 
 /// Values with texts that they don't equal, though some are accepted.
-const UNEQUAL: [(&str, &str); 66] = [
+const UNEQUAL: [(&str, &str); 67] = [
     // A value without parameters equals no text with a semicolon.
     ("text/event-stream;       ", "text/event-stream;"),
     ("text/event-stream;       ", "text/event-stream;       "),
@@ -90,7 +87,7 @@ const UNEQUAL: [(&str, &str); 66] = [
     ("text/plain", "text/plainé"),
     ("text/plain", "text/pl(in"),
     ("text/plain", ""),
-    ("text/", "text"),
+    ("text/plain", "text/"),
     // Texts that are refused.
     ("a/b;p=x", "😀"),
     ("a/b;p=x", "éé"),
@@ -104,13 +101,14 @@ const UNEQUAL: [(&str, &str); 66] = [
     ("a/b;p=x", "a/b\t;p=x"),
     ("a/b;p=\"\\\"x\"", "a/b;p=\"\\\"x"),
     ("a/b;p=\"\"", "a/b;p=\"\"x\""),
+    ("a/b;p=\"\"", "a/b;p="),
     ("a/b;p=x", "a/b ;p=x"),
     ("a/b;p=x", "a/b;p=x;q"),
     ("a/b;p=x", ""),
     ("a/b;p=x", "a"),
     ("a/b;p=x;q=y", "a/b;p=x ;q=y"),
     ("a/b;p=x;q=y", "a/b;p =x;q=y"),
-    ("a/b;p=", "a/b;p=;"),
+    ("a/b;p=x", "a/b;p=;"),
     ("a/b;p=\"é\"", "a/b;p=é"),
     ("text/plain; charset=utf-8", "text/plain; charset=utf(8"),
     ("text/plain; charset=utf-8", "text/plain; charset=utf-8 "),
@@ -269,13 +267,13 @@ fn all_short_texts_as_if_they_were_read(rt: HostRuntime) -> Result<(), Fail> {
     let alloc = rt.alloc();
     let values = [
         Mime::from_str(alloc, "a/a")?,
-        Mime::from_str(alloc, "a/a;a=")?,
+        Mime::from_str(alloc, "a/a;a=\"\"")?,
         Mime::from_str(alloc, "a/a;a=a")?,
         Mime::from_str(alloc, "a/a; a=\"A\"")?,
         Mime::from_str(alloc, "a/a;a=\"\\a\"")?,
     ];
     let short = check_all(&rt, alloc, &values, b"")?;
     let listed = check_all(&rt, alloc, &values, b"a/A;")?;
-    assert_eq!(rt; (short, listed), (12, 88));
+    assert_eq!(rt; (short, listed), (4, 78));
     Ok(())
 }

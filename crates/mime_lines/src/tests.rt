@@ -193,7 +193,7 @@ fn reports_each_line(rt: HostRuntime) -> Result<(), Fail> {
         (
             b"IMAGE/SVG+XML\ntext/\nno slash\n",
             "ok image/svg+xml\ntype image\nsubtype svg\nsuffix xml\n\
-             ok text/\ntype text\nsubtype \n\
+             bad mime parse error: a subtype was missing behind the slash (/)\n\
              bad mime parse error: an invalid token was encountered, 20 at position 2\n",
         ),
         (
@@ -221,6 +221,10 @@ fn reports_each_line(rt: HostRuntime) -> Result<(), Fail> {
             b"a/b;p\n\xc3",
             "bad mime parse error: an equals sign (=) was missing between a parameter and its value\nnot text\n",
         ),
+        (
+            b"a/b;p=",
+            "bad mime parse error: a value was missing behind the equals sign (=)\n",
+        ),
     ];
     for (input, report) in rows {
         let shown = String::from_utf8_lossy(rt.alloc(), input)?;
@@ -240,7 +244,7 @@ fn reports_each_line(rt: HostRuntime) -> Result<(), Fail> {
 
 #[test]
 fn reports_the_items_of_each_line(rt: HostRuntime) -> Result<(), Fail> {
-    let rows: [(&[u8], &str); 8] = [
+    let rows: [(&[u8], &str); 9] = [
         (
             b"application/json, invalid, text/html\ninvalid\n",
             "ok application/json\nbad invalid\nok text/html\n",
@@ -258,6 +262,10 @@ fn reports_the_items_of_each_line(rt: HostRuntime) -> Result<(), Fail> {
         (b"\n\n", ""),
         (b"\xff\na/b", "not text\nok a/b\n"),
         (b"x, a/b\n, \xc3\n", "bad x\nok a/b\nnot text\n"),
+        (
+            b"text/, a/b;p=, c/d\ntext/\n",
+            "bad text/\nbad a/b;p=\nok c/d\n",
+        ),
     ];
     for (input, report) in rows {
         let shown = String::from_utf8_lossy(rt.alloc(), input)?;

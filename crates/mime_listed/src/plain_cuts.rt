@@ -14,7 +14,7 @@ const COUNTS: [u32; 6] = [1, 9, 81, 729, 6_561, 59_049];
 /// Whether a completion makes the text an accepted one.
 fn is_viable(alloc: Global, front: &str) -> Result<bool, AllocError> {
     let mut text = String::new(alloc);
-    for completion in ["", "x/", "=", "x\""] {
+    for completion in ["", "x/x", "=x", "x", "x\""] {
         text.clear();
         text.push_str(front)?;
         text.push_str(completion)?;

@@ -38,14 +38,14 @@ fn without_memory(rt: HostRuntime) -> Result<(), Fail> {
     let cases = [
         (text, no_memory),
         ("a/b", no_memory),
-        ("text/", no_memory),
         ("*/*;", no_memory),
-        ("a/b;p=", no_memory),
         ("a/b;p=\"é;,\"", no_memory),
         ("", Some(ParseError::MissingSlash)),
         ("text", Some(ParseError::MissingSlash)),
+        ("text/", Some(ParseError::MissingSubtype)),
         ("a/b;p", Some(ParseError::MissingEqual)),
         ("a/b;p=\"\\\"é\"; q=\"\"", no_memory),
+        ("a/b;p=", Some(ParseError::MissingValue)),
         ("a/b;p=\"\\\"", Some(ParseError::MissingQuote)),
         ("a b", Some(ParseError::InvalidToken { pos: 1, byte: 0x20 })),
         (

@@ -7,7 +7,11 @@ use std::test::Fail;
 
 const SLASH: &str = "a slash (/) was missing between the type and subtype";
 
+const SUBTYPE: &str = "a subtype was missing behind the slash (/)";
+
 const EQUAL: &str = "an equals sign (=) was missing between a parameter and its value";
+
+const VALUE: &str = "a value was missing behind the equals sign (=)";
 
 const QUOTE: &str = "a quote (\") was missing from a parameter value";
 
@@ -47,16 +51,24 @@ fn check_fault(
 
 #[test]
 fn what_is_missing_at_the_end(rt: HostRuntime) -> Result<(), Fail> {
-    const CASES: [(&str, ParseError, &str); 9] = [
+    const CASES: [(&str, ParseError, &str); 16] = [
         ("", ParseError::MissingSlash, SLASH),
         ("text", ParseError::MissingSlash, SLASH),
+        ("text/", ParseError::MissingSubtype, SUBTYPE),
+        ("*/", ParseError::MissingSubtype, SUBTYPE),
         ("a/b;p", ParseError::MissingEqual, EQUAL),
         ("a/b;p=x;   charset", ParseError::MissingEqual, EQUAL),
+        ("a/b;p=", ParseError::MissingValue, VALUE),
+        ("a/b;q=1; p=", ParseError::MissingValue, VALUE),
+        ("text/plain; charset=", ParseError::MissingValue, VALUE),
         ("a/b;p=\"\\\"", ParseError::MissingQuote, QUOTE),
         ("a/b;p=\"\\", ParseError::MissingQuote, QUOTE),
         ("a/b;p=\"", ParseError::MissingQuote, QUOTE),
         ("a/b;p=\"\t", ParseError::MissingQuote, QUOTE),
         ("a/b;p=\"x, c/d; q=é", ParseError::MissingQuote, QUOTE),
+        // Between quotes a slash and an equals sign are content.
+        ("a/b;p=\"x/", ParseError::MissingQuote, QUOTE),
+        ("a/b;p=\"=", ParseError::MissingQuote, QUOTE),
     ];
     for (text, expected, words) in CASES {
         check_fault(&rt, rt.alloc(), text, expected, words)?;
@@ -76,7 +88,7 @@ fn what_is_missing_at_the_end(rt: HostRuntime) -> Result<(), Fail> {
 
 #[test]
 fn the_byte_where_no_media_type_goes_on(rt: HostRuntime) -> Result<(), Fail> {
-    const CASES: [(&str, usize, u8, &str); 37] = [
+    const CASES: [(&str, usize, u8, &str); 38] = [
         // An empty subtype or value, and white space, in the wrong place.
         ("a b", 1, 0x20, "20 at position 1"),
         ("no slash", 2, 0x20, "20 at position 2"),
@@ -89,6 +101,7 @@ fn the_byte_where_no_media_type_goes_on(rt: HostRuntime) -> Result<(), Fail> {
         ("a/b;=x", 4, 0x3D, "3D at position 4"),
         ("a/b;p ", 5, 0x20, "20 at position 5"),
         ("a/b;p=;", 6, 0x3B, "3B at position 6"),
+        ("a/b;p==", 6, 0x3D, "3D at position 6"),
         ("a/b;p=x ;q=y", 7, 0x20, "20 at position 7"),
         ("a/b\t;p=x", 3, 0x9, "9 at position 3"),
         ("a/b;p=x\t", 7, 0x9, "9 at position 7"),

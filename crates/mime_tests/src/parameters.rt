@@ -10,7 +10,7 @@ use std::test::Fail;
 
 #[test]
 fn accepted_texts_have_their_parameters(rt: HostRuntime) -> Result<(), Fail> {
-    const CASES: [(&str, &str); 27] = [
+    const CASES: [(&str, &str); 25] = [
         // Names are lowered, and values exactly under `charset`.
         (
             "TEXT/PLAIN; CHARSET=UTF-8; FOO=BAR",
@@ -66,9 +66,6 @@ fn accepted_texts_have_their_parameters(rt: HostRuntime) -> Result<(), Fail> {
         ),
         // Duplicates are kept.
         ("a/b;p=1;P=2", "a/b;p=1;p=2 | a | b | - | a/b | p=1 | p=2"),
-        // An unquoted value may be empty where the text ends after it.
-        ("a/b;p=", "a/b;p= | a | b | - | a/b | p="),
-        ("a/b;q=1; p=", "a/b;q=1; p= | a | b | - | a/b | q=1 | p="),
         // A quoted value may be empty, and holds the tab and any byte but a quote and other controls.
         ("a/b;p=\"\"", "a/b;p=\"\" | a | b | - | a/b | p="),
         (
@@ -130,7 +127,7 @@ impl ParamKey for Foo {
 
 #[test]
 fn keys_find_the_first_value(rt: HostRuntime) -> Result<(), Fail> {
-    const CASES: [(&str, &str, Option<&str>); 15] = [
+    const CASES: [(&str, &str, Option<&str>); 14] = [
         ("text/plain", "charset", None),
         ("text/plain", "baz", None),
         ("text/plain; charset=utf-8", "charset", Some("utf-8")),
@@ -146,7 +143,6 @@ fn keys_find_the_first_value(rt: HostRuntime) -> Result<(), Fail> {
         ("text/html; charset=\"utf-8\"; q=1", "q", Some("1")),
         ("a/b;p=1;P=2", "P", Some("1")),
         ("a/b;p=1;P=2", "p", Some("1")),
-        ("a/b;q=1;p=", "p", Some("")),
         ("a/b;p=\"q=1\";q=2", "q", Some("2")),
         ("a/b;p=\"\\\";q=1\";q=2", "q", Some("2")),
         ("a/b;p=\"\";q=2", "p", Some("")),

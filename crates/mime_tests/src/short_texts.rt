@@ -37,17 +37,23 @@ fn is_completed(
 
 fn check(rt: &impl Abort, alloc: Global, text: &mut Vec<u8>) -> Result<(), Fail> {
     let fault = fault_of(rt, alloc, text.as_slice())?;
+    let by_letter = is_completed(rt, alloc, text, b"x")?;
+    let last = text.last().copied();
     let completed = [
-        is_completed(rt, alloc, text, b"x/")?,
-        is_completed(rt, alloc, text, b"=")?,
+        is_completed(rt, alloc, text, b"x/x")?,
+        by_letter && last == Some(b'/'),
+        is_completed(rt, alloc, text, b"=x")?,
+        by_letter && last == Some(b'='),
         is_completed(rt, alloc, text, b"x\"")?,
     ];
     let expected = match fault {
-        Some(ParseError::MissingSlash) => [true, false, false],
-        Some(ParseError::MissingEqual) => [false, true, false],
-        Some(ParseError::MissingQuote) => [false, false, true],
-        // Nothing makes another accepted text of one that is accepted, or of one with a dead byte.
-        _ => [false, false, false],
+        Some(ParseError::MissingSlash) => [true, false, false, false, false],
+        Some(ParseError::MissingSubtype) => [false, true, false, false, false],
+        Some(ParseError::MissingEqual) => [false, false, true, false, false],
+        Some(ParseError::MissingValue) => [false, false, false, true, false],
+        Some(ParseError::MissingQuote) => [false, false, false, false, true],
+        // An accepted text has none of them, nor has one with a dead byte.
+        _ => [false; 5],
     };
     assert!(rt; completed == expected, "{text:?}");
     if let Some(ParseError::InvalidToken { pos, byte }) = fault {

@@ -13,8 +13,12 @@ use std::marker::Model;
 pub enum ParseError {
     /// The text ends in its type: a `/` and a subtype are missing, as in `text`.
     MissingSlash,
+    /// The text ends in its slash: a subtype is missing, as in `text/`.
+    MissingSubtype,
     /// The text ends in a parameter's name: a `=` and a value are missing, as in `a/b;p`.
     MissingEqual,
+    /// The text ends in a parameter's equals sign: a value is missing, as in `a/b;p=`.
+    MissingValue,
     /// The text ends in a quoted value: its closing `"` is missing, as in `a/b;p="x`.
     MissingQuote,
     /// No media type begins with the bytes up to and including this one, as the space in `a b`.
@@ -75,9 +79,13 @@ impl fmt::Display for ParseError {
             ParseError::MissingSlash => f.write_str(
                 "a slash (/) was missing between the type and subtype",
             ),
+            ParseError::MissingSubtype => f.write_str("a subtype was missing behind the slash (/)"),
             ParseError::MissingEqual => {
                 f.write_str("an equals sign (=) was missing between a parameter and its value")
             }
+            ParseError::MissingValue => f.write_str(
+                "a value was missing behind the equals sign (=)",
+            ),
             ParseError::MissingQuote => f.write_str(
                 "a quote (\") was missing from a parameter value",
             ),

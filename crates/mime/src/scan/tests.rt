@@ -34,7 +34,6 @@ fn stopped(byte: u8, slash: usize, semicolon: Option<usize>, pairs: usize) -> Ve
 fn accepted_texts_have_their_places(rt: HostRuntime) {
     let table = [
         ("text/plain", accepted(4, None, None, 0)),
-        ("text/", accepted(4, None, None, 0)),
         ("*/*", accepted(1, None, None, 0)),
         ("a/+xml", accepted(1, None, None, 0)),
         ("a/b+", accepted(1, Some(3), None, 0)),
@@ -46,7 +45,7 @@ fn accepted_texts_have_their_places(rt: HostRuntime) {
             accepted(4, None, Some(10), 2),
         ),
         ("a/b;p=x; ", accepted(1, None, Some(3), 1)),
-        ("a/b;p=", accepted(1, None, Some(3), 1)),
+        ("a/b;q=1;p=x", accepted(1, None, Some(3), 2)),
         ("a/b;p=\"\"", accepted(1, None, Some(3), 1)),
         ("a/b;p=\"\\\"x\"", accepted(1, None, Some(3), 1)),
         ("a/b;p=\"\\\\\"", accepted(1, None, Some(3), 1)),
@@ -70,13 +69,18 @@ fn unfinished_texts_have_their_fault(rt: HostRuntime) {
     let table = [
         ("", ParseError::MissingSlash),
         ("text", ParseError::MissingSlash),
+        ("text/", ParseError::MissingSubtype),
         ("a/b;p", ParseError::MissingEqual),
         ("a/b;p=x; q", ParseError::MissingEqual),
+        ("a/b;p=", ParseError::MissingValue),
+        ("a/b;p=x; q=", ParseError::MissingValue),
         ("a/b;p=\"", ParseError::MissingQuote),
         ("a/b;p=\"\\\"", ParseError::MissingQuote),
         ("a/b;p=\"\\", ParseError::MissingQuote),
         ("a/b;p=\"\t", ParseError::MissingQuote),
         ("a/b;p=\"x, c/d", ParseError::MissingQuote),
+        ("a/b;p=\"x/", ParseError::MissingQuote),
+        ("a/b;p=\"=", ParseError::MissingQuote),
     ];
     for (text, fault) in table {
         let (verdict, count) = scanned(text);
@@ -95,9 +99,11 @@ fn refused_texts_stop_at_their_byte(rt: HostRuntime) {
         ("/b", 0, Verdict::Stopped(b'/', None)),
         ("a b", 1, Verdict::Stopped(b' ', None)),
         ("no slash", 2, Verdict::Stopped(b' ', None)),
-        ("text/;", 5, stopped(b';', 4, None, 0)),
+        ("text/;", 5, Verdict::Stopped(b';', None)),
+        ("a//", 2, Verdict::Stopped(b'/', None)),
         ("a/b ; q=1", 3, stopped(b' ', 1, None, 0)),
-        ("a/b;p=;", 6, stopped(b';', 1, Some(3), 1)),
+        ("a/b;p=;", 6, Verdict::Stopped(b';', None)),
+        ("a/b;p==", 6, Verdict::Stopped(b'=', None)),
         ("a/b;p ", 5, Verdict::Stopped(b' ', None)),
         ("a/b;=x", 4, stopped(b'=', 1, Some(3), 0)),
         ("a/b;p=\"é\u{1}\"", 9, Verdict::Stopped(1, None)),
@@ -130,8 +136,16 @@ fn a_fault_prints_its_text(rt: HostRuntime) {
             "a slash (/) was missing between the type and subtype",
         ),
         (
+            ParseError::MissingSubtype,
+            "a subtype was missing behind the slash (/)",
+        ),
+        (
             ParseError::MissingEqual,
             "an equals sign (=) was missing between a parameter and its value",
+        ),
+        (
+            ParseError::MissingValue,
+            "a value was missing behind the equals sign (=)",
         ),
         (
             ParseError::MissingQuote,

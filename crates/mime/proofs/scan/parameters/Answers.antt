@@ -45,8 +45,8 @@ named c =
 
 pub returns-in_default-next : goal.returns-in_default-next
 returns-in_default-next c =
-    list_scans_at (Some _) (list_run (named (goal.at.returns-in_default-next c).In-Some-eq61) c.in_default-next.ensures.0 refl)
-    c.in_default-next.ensures.1 (ap Some (one_pair_more _ _ _ c.loop-first.invariant.placed))
+    list_scans_at None (list_run (named (goal.at.returns-in_default-next c).In-Some-eq61) c.in_default-next.ensures.0 refl)
+    c.in_default-next.ensures.1 refl
 
 pub returns-in-None-content : goal.returns-in-None-content
 returns-in-None-content c =
@@ -62,10 +62,9 @@ returns-in-Some-content c =
 
 pub returns-else-is_token : goal.returns-else-is_token
 returns-else-is_token c =
-    list_scans_at (Some _) (list_run (named (goal.at.returns-else-is_token c).In-Some-eq61) c.in-Some-next.ensures.0 refl)
+    list_scans_at None (list_run (named (goal.at.returns-else-is_token c).In-Some-eq61) c.in-Some-next.ensures.0 refl)
     (cond-false _ _ _ (sym c.is_token-else-first-eq34.ensures ∙ c.if-is_token.false)
-    ∙ cond-false _ _ _ (ne_eqb _ quote_byte c.if-first-eq34.false))
-    (ap Some (one_pair_more _ _ _ c.loop-first.invariant.placed))
+    ∙ cond-false _ _ _ (ne_eqb _ quote_byte c.if-first-eq34.false)) refl
 
 -- a parameter's value
 valued : {closed : List (List ℕ × Parameter)} {spaces name : List ℕ} (c : Joined-first-eq34)

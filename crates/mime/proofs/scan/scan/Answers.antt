@@ -45,23 +45,20 @@ slash_sum : (c : After-count)
     → c.token.new.reader.count + length c.token.new.reader.left ≡ c.args.reader.now.count + length c.args.reader.now.left
 slash_sum c = given_sum c.in-Some-eq47.ensures.given ∙ given_sum c.in-Some.ensures.0
 
-pub overflow_cast-places : goal.overflow_cast-places
-overflow_cast-places c =
-    let sum = slash_sum (goal.at.overflow_cast-places c).After-count in
+pub overflow_cast-slash : goal.overflow_cast-slash
+overflow_cast-slash c =
+    let sum = slash_sum (goal.at.overflow_cast-slash c).After-count in
     omega (arith, sum, c.count-from.ensures.fits, c.count-from.ensures.count, c.count.ensures.count)
 
 pub returns-in_default-next : goal.returns-in_default-next
 returns-in_default-next c =
-    let here = (goal.at.returns-in_default-next c).After-count in
-    scans_at (Some _) (reaches_run (slashed here) c.in_default-next.ensures.0 refl) c.in_default-next.ensures.1
-    (ap (λ slash. Some (essence_places slash None)) (slash_is here))
+    scans_at None (reaches_run (slashed (goal.at.returns-in_default-next c).After-count) c.in_default-next.ensures.0 refl)
+    c.in_default-next.ensures.1 refl
 
 pub returns-then-not-is_token-2 : goal.returns-then-not-is_token-2
 returns-then-not-is_token-2 c =
-    let here = (goal.at.returns-then-not-is_token-2 c).After-count in
-    scans_at (Some _) (reaches_run (slashed here) c.in-Some-next.ensures.0 refl)
-    (cond-false _ _ _ (sym c.is_token-2.ensures ∙ c.if-not-is_token-2.true))
-    (ap (λ slash. Some (essence_places slash None)) (slash_is here))
+    scans_at None (reaches_run (slashed (goal.at.returns-then-not-is_token-2 c).After-count) c.in-Some-next.ensures.0 refl)
+    (cond-false _ _ _ (sym c.is_token-2.ensures ∙ c.if-not-is_token-2.true)) refl
 
 pub subtype-plus-requires-clause-fits : goal.subtype-plus-requires-clause-fits
 subtype-plus-requires-clause-fits c =
@@ -111,9 +108,9 @@ subtype_sum c =
     given_sum c.subtype-plus.ensures.passes.given ∙ given_sum c.in-Some-next.ensures.0
     ∙ given_sum c.in-Some-eq47.ensures.given ∙ given_sum c.in-Some.ensures.0
 
-pub overflow_cast-places-2 : goal.overflow_cast-places-2
-overflow_cast-places-2 c =
-    let sum = subtype_sum (goal.at.overflow_cast-places-2 c).After-subtype-plus in
+pub overflow_cast-places : goal.overflow_cast-places
+overflow_cast-places c =
+    let sum = subtype_sum (goal.at.overflow_cast-places c).After-subtype-plus in
     omega (arith, sum, c.count-from.ensures.fits, c.count-from.ensures.count, c.count-2.ensures.count)
 
 pub parameters-requires : goal.parameters-requires
