@@ -236,7 +236,7 @@ fn parameters_are_counted_and_end(rt: HostRuntime) -> Result<(), Fail> {
         ("text/event-stream;       ", 0),
         ("text/plain", 0),
         ("*/*", 0),
-        ("a/b;p=\"x;y\";q=z;r=", 3),
+        ("a/b;p=\"x;y\";q=z;r=s", 3),
         ("a/b;p=\"\\\";\";\tq=\"\"", 2),
     ];
     for (text, expected) in CASES {
