@@ -191,6 +191,3 @@ pub(crate) fn scan(reader: &mut ByteReader<'_>) -> Verdict
     places.semicolon = Some((reader.count() - from - 1) as usize);
     parameters(reader, places)
 }
-
-#[cfg(test)]
-mod tests;

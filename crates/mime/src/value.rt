@@ -246,6 +246,3 @@ impl Mime {
         None
     }
 }
-
-#[cfg(test)]
-mod tests;
