@@ -1,16 +1,16 @@
 -- What stands between quotes: it is taken byte by byte, what was taken and awaits no more is content, a cut finds its end.
-use Rattle.std.proofs.Common.{◌≡◌, ℕ, suc, ◌+◌, ◌<◌, ◌≤◌, Bool, true, false, List, [], ◌∷◌, ◌++◌, length, get_or, refl, sym, ap, ◌∙◌, arith, cond}
+use Rattle.std.proofs.Common.{◌≡◌, ℕ, ◌+◌, ◌≤◌, Bool, true, false, List, [], ◌∷◌, ◌++◌, length, take, drop, refl, sym, ap, ◌∙◌, arith, cond}
 use Rattle.std.specs.Prelude.{IsTrue, IsFalse, ◌==◌, ◌&&◌, not}
 use Rattle.std.specs.Char.{to_ascii_lowercase}
-use Rattle.std.specs.List.{list_all}
-use Rattle.std.specs.Str.{IsUtf8, IsCharBoundary}
-use Rattle.std.proofs.lemmas.Str.{IsCharBoundary-before_ascii, IsCharBoundary-after_ascii}
+use Rattle.std.specs.List.{list_all, position_or_len}
 use Rattle.std.proofs.lemmas.Bool.{and_parts, and_from, cond-false, eqb-true, true≢false}
 use Rattle.std.proofs.lemmas.Bool.Decides.{nat_tests}
+use Rattle.std.proofs.lemmas.List.Recursion.{is_position_or_len}
 use Rattle.mime.specs.Bytes.{is_quoted_byte, quote_byte}
 use Rattle.mime.specs.Grammar.{is_inner_byte, IsContent}
 use Rattle.mime.specs.Values.{lowered}
-use Rattle.mime.specs.Quoted.{awaits_first, awaits_next, takes, takes_all, awaits_behind, IsOpenContent, continues, len_from, content_len}
+use Rattle.mime.specs.Quoted.{awaits_first, awaits_next, takes, takes_all, awaits_behind, IsOpenContent, continues, len_from, content_len, content_of, behind_content}
+use Rattle.mime.specs.Pairs.{first_place, before_byte, behind_byte}
 
 -- ---- one byte
 
@@ -177,28 +177,18 @@ pub content_len-content : (content behind : List ℕ) → IsContent content
 content_len-content content behind is =
     len_from-run awaits_first content behind (content-taken content is) (content-awaits content is)
 
--- in any text a quote stands there, or the text ends
-quote_at_len : (awaiting : Bool) (text : List ℕ) → len_from awaiting text < length text
-    → get_or text (len_from awaiting text) 0 ≡ quote_byte
-quote_at_len awaiting [] within = absurd (omega arith)
-quote_at_len awaiting (b ∷ text) within =
-    go (not awaiting && b == quote_byte) (λ closes. eqb-true b quote_byte (and_parts (not awaiting) (b == quote_byte) closes).1)
-    (len_from (awaits_next awaiting b) text) (quote_at_len (awaits_next awaiting b) text) within
-  where
-    go : (closes : Bool) → (IsTrue closes → b ≡ quote_byte) → (n : ℕ) → (n < length text → get_or text n 0 ≡ quote_byte)
-        → cond closes 0 (suc n) < length (b ∷ text) → get_or (b ∷ text) (cond closes 0 (suc n)) 0 ≡ quote_byte
-    go true same n behind within = same refl
-    go false same n behind within = behind (omega (arith, within))
+-- it is the first quote after the first byte
+len_from-inner : (bytes : List ℕ) → len_from false bytes ≡ position_or_len (λ b. b == quote_byte) bytes
+len_from-inner bytes = is_position_or_len (len_from false) (λ b. b == quote_byte) refl (λ b rest. ap (cond (b == quote_byte) 0) (omega arith)) bytes
 
--- so a text may be cut there
-pub IsCharBoundary-content : (text : List ℕ) (place : ℕ) → place ≡ content_len text → place < length text → IsCharBoundary text place
-IsCharBoundary-content text place e within =
-    let at : get_or text place 0 ≡ quote_byte = rw e (quote_at_len awaits_first text (omega arith)) in
-    IsCharBoundary-before_ascii text place within (omega arith)
+first_quote : (b : ℕ) (bytes : List ℕ) → first_place 1 quote_byte (b ∷ bytes) ≡ content_len (b ∷ bytes)
+first_quote b bytes = omega (arith, len_from-inner bytes)
 
--- and after the quote
-pub IsCharBoundary-behind_content : (text : List ℕ) (place : ℕ) → IsUtf8 text → place ≡ content_len text → place < length text
-    → IsCharBoundary text (place + 1)
-IsCharBoundary-behind_content text place utf8 e within =
-    let at : get_or text place 0 ≡ quote_byte = rw e (quote_at_len awaits_first text (omega arith)) in
-    IsCharBoundary-after_ascii text place utf8 within (omega arith)
+-- so a text is cut there as at any byte
+pub content_of-first : (text : List ℕ) → before_byte 1 quote_byte text ≡ content_of text
+content_of-first [] = refl
+content_of-first (b ∷ bytes) = ap (λ n. take n (b ∷ bytes)) (first_quote b bytes)
+
+pub behind_content-first : (text : List ℕ) → behind_byte 1 quote_byte text ≡ behind_content text
+behind_content-first [] = refl
+behind_content-first (b ∷ bytes) = ap (λ n. drop (n + 1) (b ∷ bytes)) (first_quote b bytes)

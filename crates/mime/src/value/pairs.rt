@@ -4,7 +4,7 @@ ghost use Rattle.std.specs.Prelude.{◌≡◌, ◌<◌, ◌≤◌, length};
 ghost use Rattle.std.specs.Str.{IsCharBoundary};
 ghost use Rattle.mime.specs.Pairs.{before_byte, behind_byte, cut_of};
 ghost use Rattle.mime.specs.Pairs.{leading_spaces, first_place, cut_behind_equals};
-ghost use Rattle.mime.specs.Quoted.{content_of, behind_content, content_len as len_of};
+ghost use Rattle.mime.specs.Quoted.{content_of, behind_content};
 
 use crate::bytes::is_space;
 
@@ -49,36 +49,14 @@ fn split_from<'a>(text: &'a str, from: usize, byte: u8) -> (&'a str, &'a str)
     }
 }
 
-/// Where what stands between quotes ends: at the first quote after its first byte, or with the text.
-#[inline]
-fn content_len(text: &[u8]) -> usize
-    ensures { result ≡ len_of text.now }
-{
-    let mut place = 0;
-    let mut awaits = true;
-    while place < text.len() {
-        let byte = text[place];
-        if !awaits && byte == b'"' {
-            return place;
-        }
-        awaits = false;
-        place += 1;
-    }
-    place
-}
-
-/// What stands between quotes, and what stands after the one that closes.
+/// What stands between quotes, and what stands after the one that closes: the first quote after the
+/// first byte.
 #[inline]
 fn split_content<'a>(text: &'a str) -> (&'a str, &'a str)
     ensures content { result.0.now ≡ content_of text.entry.now }
     ensures behind { result.1.now ≡ behind_content text.entry.now }
 {
-    let place = content_len(text.as_bytes());
-    if place < text.len() {
-        (&text[..place], &text[place + 1..])
-    } else {
-        (text, "")
-    }
+    split_from(text, 1, b'"')
 }
 
 /// How many spaces begin the list.

@@ -1,11 +1,10 @@
--- A quote is ASCII: the text may be cut before it and after it.
-use Rattle.mime.proofs.Quoted.{IsCharBoundary-content, IsCharBoundary-behind_content}
+-- The quote that closes is the first after the first byte.
+use Rattle.std.proofs.Common.{◌∙◌}
+use Rattle.mime.proofs.Quoted.{content_of-first, behind_content-first}
 use Rattle.mime.proofs.value.pairs.split_content.Goals as goal
 
-pub range-requires-clause-end_boundary : goal.range-requires-clause-end_boundary
-range-requires-clause-end_boundary c =
-    IsCharBoundary-content c.args.text.now c.content_len-place.result (cc) c.if-place-text.true
+pub returns-clause-content : goal.returns-clause-content
+returns-clause-content c = c.split_from.ensures.before ∙ content_of-first c.args.text.now
 
-pub range_from-requires : goal.range_from-requires
-range_from-requires c = λ _.
-    IsCharBoundary-behind_content c.args.text.now c.content_len-place.result c.utf8.text (cc) c.if-place-text.true
+pub returns-clause-behind : goal.returns-clause-behind
+returns-clause-behind c = c.split_from.ensures.behind ∙ behind_content-first c.args.text.now
