@@ -1,9 +1,9 @@
 /* Refuses one request for memory of the program that it is loaded into, and counts them.
  *
- * REFUSE=K refuses the K-th request after the program has written the line "now" to its standard output, or, with
- * REFUSE_FROM=start, the K-th after it began. Each call of malloc, calloc, realloc or aligned_alloc and its like is a
- * request; giving memory back isn't one. At the end the number of requests goes to the file descriptor
- * REFUSE_COUNT, with the word "refused" if one was refused. */
+ * REFUSE=K refuses the K-th request after each line "now" that the program writes to its standard output, up to the line
+ * "end", or, with REFUSE_FROM=start, the K-th after it began. Each call of malloc, calloc, realloc or aligned_alloc and
+ * its like is a request; giving memory back isn't one. At each line "end", or when the program ends, the number of requests
+ * goes to the file descriptor REFUSE_COUNT, with the word "refused" if one was refused. */
 #define _GNU_SOURCE
 #include <errno.h>
 #include <stddef.h>
@@ -20,23 +20,27 @@ extern void *__libc_realloc(void *, size_t);
 extern void *__libc_memalign(size_t, size_t);
 
 static long refused_at, requests;
-static int counting, refused;
+static int counting, refused, counts = -1;
 
 __attribute__((constructor)) static void begin(void)
 {
     const char *at = getenv("REFUSE"), *from = getenv("REFUSE_FROM");
+    const char *to = getenv("REFUSE_COUNT");
     refused_at = at ? atol(at) : 0;
+    counts = to ? atoi(to) : -1;
     counting = from && strcmp(from, "start") == 0;
 }
 
-__attribute__((destructor)) static void end(void)
+static void end_count(void)
 {
-    const char *fd = getenv("REFUSE_COUNT");
     char said[64];
     int length = snprintf(said, sizeof said, "%ld requests%s\n", requests, refused ? ", refused" : "");
-    if (fd && length > 0)
-        syscall(SYS_write, atoi(fd), said, (size_t)length);
+    if (counting && counts >= 0 && length > 0)
+        syscall(SYS_write, counts, said, (size_t)length);
+    counting = 0;
 }
+
+__attribute__((destructor)) static void end(void) { end_count(); }
 
 static int refuses(void)
 {
@@ -65,11 +69,23 @@ int posix_memalign(void **block, size_t align, size_t size)
     return *block ? 0 : ENOMEM;
 }
 
-/* The line "now" begins the count. */
+static int is_line(const char *line, const void *bytes, size_t length)
+{
+    return length >= 3 && memcmp(bytes, line, 3) == 0 && (length == 3 || ((const char *)bytes)[3] == '\n');
+}
+
+/* The line "now" begins a count, and the line "end" ends it. */
 static void seen(int fd, const void *bytes, size_t length)
 {
-    if (fd == 1 && length >= 3 && memcmp(bytes, "now", 3) == 0)
+    if (fd != 1)
+        return;
+    if (is_line("now", bytes, length)) {
+        requests = 0;
+        refused = 0;
         counting = 1;
+    } else if (is_line("end", bytes, length)) {
+        end_count();
+    }
 }
 
 ssize_t write(int fd, const void *bytes, size_t length)

@@ -6,7 +6,7 @@ use Rattle.mime.specs.Bytes.{is_quoted_byte, quote_byte, backslash_byte}
 abbrev pub awaits_first : Bool
 awaits_first = false
 
--- and behind one more byte: behind a backslash that isn't itself the second byte of a pair
+-- and after one more byte: after a backslash that isn't itself the second byte of a pair
 abbrev pub awaits_next : Bool → ℕ → Bool
 awaits_next awaiting b = not awaiting && b == backslash_byte
 
@@ -20,12 +20,12 @@ abbrev pub takes_all : Bool → List ℕ → Bool
 takes_all awaiting [] = true
 takes_all awaiting (b ∷ bytes) = takes awaiting b && takes_all (awaits_next awaiting b) bytes
 
--- whether it awaits one behind them
+-- whether it awaits one after them
 abbrev pub awaits_behind : Bool → List ℕ → Bool
 awaits_behind awaiting [] = awaiting
 awaits_behind awaiting (b ∷ bytes) = awaits_behind (awaits_next awaiting b) bytes
 
--- what may stand behind an opening quote
+-- what may stand after an opening quote
 abbrev pub IsOpenContent : List ℕ → Type 0
 IsOpenContent content = IsTrue (takes_all awaits_first content)
 
@@ -42,7 +42,7 @@ len_from awaiting (b ∷ bytes) =
 abbrev pub content_len : List ℕ → ℕ
 content_len text = len_from awaits_first text
 
--- the content that a text begins with, and what stands behind its closing quote
+-- the content that a text begins with, and what stands after its closing quote
 abbrev pub content_of : List ℕ → List ℕ
 content_of text = take (content_len text) text
 

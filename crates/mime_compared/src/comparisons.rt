@@ -2,9 +2,11 @@
 
 use crate::names::Digits;
 use mime::Mime;
+use std::alloc::Global;
 use std::cmp::Ordering;
 use std::collections::{BTreeSet, HashSet};
 use std::hash::{DefaultHasher, Hash, Hasher};
+use std::process::Abort;
 use std::test::Fail;
 
 fn hash_of(mime: &Mime) -> u64 {
@@ -21,7 +23,7 @@ fn digits_of(mime: &Mime) -> u64 {
 }
 
 /// Texts that are read as equal values.
-const EQUAL: [(&str, &str); 14] = [
+static EQUAL: &[(&str, &str)] = &[
     ("a/b", "A/B"),
     ("text/event-stream;       ", "text/event-stream"),
     ("a/b;p=x", "a/b; p=x"),
@@ -48,23 +50,41 @@ const EQUAL: [(&str, &str); 14] = [
     ),
 ];
 
+/// Whether a set that has the one value says that it has the other, of either kind of set.
+fn found(alloc: Global, one: Mime, other: &Mime) -> Result<(bool, bool), Fail> {
+    let mut hashed = HashSet::new(alloc);
+    hashed.insert(one.clone()?)?;
+    let mut ordered = BTreeSet::new(alloc);
+    ordered.insert(one)?;
+    Ok((hashed.contains(other), ordered.contains(other)))
+}
+
+/// The answers of equality and order, both ways, and whether both feed the same, to two hashers.
+fn check_values(rt: &impl Abort, first: &Mime, second: &Mime, order: Ordering) {
+    let same = order == Ordering::Equal;
+    let is = *first == *second && *second == *first;
+    let is_not = *first != *second && *second != *first;
+    assert!(rt; is == same && is_not != same, "{first} and {second}");
+    assert_eq!(rt; first.cmp(second), order, "{first} and {second}");
+    assert_eq!(rt; second.cmp(first), order.reverse(), "{first} and {second}");
+    assert_eq!(rt;
+        first.partial_cmp(second),
+        Some(order),
+        "{first} and {second}"
+    );
+    let hashes = hash_of(first) == hash_of(second);
+    let digits = digits_of(first) == digits_of(second);
+    assert!(rt; hashes == same && digits == same, "{first} and {second}");
+}
+
 #[test]
 fn equal_values(rt: HostRuntime) -> Result<(), Fail> {
     let alloc = rt.alloc();
-    for (one, other) in EQUAL {
+    for &(one, other) in EQUAL {
         let first = Mime::from_str(alloc, one)?;
         let second = Mime::from_str(alloc, other)?;
-        assert!(rt; first == second && second == first, "{one}");
-        assert_eq!(rt; first.cmp(&second), Ordering::Equal, "{one}");
-        assert_eq!(rt; second.partial_cmp(&first), Some(Ordering::Equal), "{one}");
-        assert_eq!(rt; hash_of(&first), hash_of(&second), "{one}");
-        assert_eq!(rt; digits_of(&first), digits_of(&second), "{one}");
-        let mut hashed = HashSet::new(alloc);
-        hashed.insert(first.clone()?)?;
-        assert!(rt; hashed.contains(&second), "{one}");
-        let mut ordered = BTreeSet::new(alloc);
-        ordered.insert(first)?;
-        assert!(rt; ordered.contains(&second), "{one}");
+        check_values(&rt, &first, &second, Ordering::Equal);
+        assert_eq!(rt; found(alloc, first, &second)?, (true, true), "{one}");
     }
     Ok(())
 }
@@ -97,18 +117,7 @@ fn values_in_their_order(rt: HostRuntime) -> Result<(), Fail> {
         let first = Mime::from_str(alloc, one)?;
         for (j, other) in ASCENDING.iter().enumerate() {
             let second = Mime::from_str(alloc, other)?;
-            assert_eq!(rt; first.cmp(&second), i.cmp(&j), "{one} and {other}");
-            assert_eq!(rt;
-                first.partial_cmp(&second),
-                Some(i.cmp(&j)),
-                "{one} and {other}"
-            );
-            assert_eq!(rt; first == second, i == j, "{one} and {other}");
-            assert_eq!(rt;
-                digits_of(&first) == digits_of(&second),
-                i == j,
-                "{one} and {other}"
-            );
+            check_values(&rt, &first, &second, i.cmp(&j));
         }
     }
     Ok(())
@@ -116,7 +125,7 @@ fn values_in_their_order(rt: HostRuntime) -> Result<(), Fail> {
 
 #[test]
 fn unequal_values(rt: HostRuntime) -> Result<(), Fail> {
-    const CASES: [(&str, &str); 12] = [
+    static CASES: &[(&str, &str)] = &[
         (
             "text/plain; charset=iso-8859-1",
             "text/plain; charset=utf-8",
@@ -142,16 +151,13 @@ fn unequal_values(rt: HostRuntime) -> Result<(), Fail> {
         ("a/b;p=\"\\\\\"", "a/b;p=\"\\\"\""),
     ];
     let alloc = rt.alloc();
-    for (one, other) in CASES {
+    for &(one, other) in CASES {
         let first = Mime::from_str(alloc, one)?;
         let second = Mime::from_str(alloc, other)?;
-        assert!(rt; first != second && second != first, "{one}");
-        assert!(rt; first.cmp(&second) != Ordering::Equal, "{one}");
-        assert!(rt; hash_of(&first) != hash_of(&second), "{one}");
-        assert!(rt; digits_of(&first) != digits_of(&second), "{one}");
-        let mut hashed = HashSet::new(alloc);
-        hashed.insert(first)?;
-        assert!(rt; !hashed.contains(&second), "{one}");
+        let order = first.cmp(&second);
+        assert!(rt; order != Ordering::Equal, "{one}");
+        check_values(&rt, &first, &second, order);
+        assert_eq!(rt; found(alloc, first, &second)?, (false, false), "{one}");
     }
     Ok(())
 }

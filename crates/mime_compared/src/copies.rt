@@ -1,11 +1,19 @@
 //! Copies of values, and values printed.
 
 use mime::{IMAGE_SVG, Mime, STAR_STAR, TEXT_PLAIN, TEXT_PLAIN_UTF_8};
+use std::alloc::AllocError;
+use std::process::Abort;
 use std::test::Fail;
+
+/// Two values are equal, with the same kept text.
+fn check_same(rt: &impl Abort, first: &Mime, second: &Mime) {
+    assert!(rt; *first == *second, "{first} and {second}");
+    assert_eq!(rt; first.as_str(), second.as_str());
+}
 
 #[test]
 fn copies_are_equal(rt: HostRuntime) -> Result<(), Fail> {
-    const CASES: [&str; 8] = [
+    static CASES: &[&str] = &[
         "*/*",
         "text/plain",
         "TEXT/PLAIN; CHARSET=UTF-8; FOO=BAR",
@@ -16,58 +24,87 @@ fn copies_are_equal(rt: HostRuntime) -> Result<(), Fail> {
         "a/b;p=\"\\\"é\"; q=\"\"",
     ];
     let alloc = rt.alloc();
-    for text in CASES {
+    for &text in CASES {
         let mime = Mime::from_str(alloc, text)?;
         let copy = mime.clone()?;
-        assert!(rt; copy == mime, "{text}");
-        assert_eq!(rt; copy.as_str(), mime.as_str());
+        check_same(&rt, &copy, &mime);
+        // A copy outlives its original.
         drop(mime);
-        assert!(rt; copy == Mime::from_str(alloc, text)?, "{text}");
-    }
-    for atom in [STAR_STAR, TEXT_PLAIN, TEXT_PLAIN_UTF_8, IMAGE_SVG] {
-        let copy = atom.mime().clone()?;
-        assert!(rt;
-            copy == atom.mime() && copy.as_str() == atom.text(),
-            "{atom:?}"
-        );
+        check_same(&rt, &copy, &Mime::from_str(alloc, text)?);
     }
     Ok(())
 }
 
 #[test]
-fn values_are_printed(rt: HostRuntime) -> Result<(), Fail> {
+fn copies_of_constants_are_equal(rt: HostRuntime) -> Result<(), Fail> {
+    for atom in [STAR_STAR, TEXT_PLAIN, TEXT_PLAIN_UTF_8, IMAGE_SVG] {
+        let mime = atom.mime();
+        check_same(&rt, &mime.clone()?, &mime);
+    }
+    Ok(())
+}
+
+/// What a call of `format!` gave.
+type Printed = Result<String, AllocError>;
+
+fn check_printed(rt: &impl Abort, printed: Printed, expected: &str) -> Result<(), AllocError> {
+    assert_eq!(rt; printed?.as_str(), expected);
+    Ok(())
+}
+
+#[test]
+fn constants_are_printed(rt: HostRuntime) -> Result<(), AllocError> {
     let alloc = rt.alloc();
     let plain = TEXT_PLAIN.mime();
     let utf_8 = TEXT_PLAIN_UTF_8.mime();
-    let quoted = Mime::from_str(alloc, "A/B;P=\"x\"")?;
-    let backslash = Mime::from_str(alloc, "a/b;p=\"\\é\"")?;
-    let tab = Mime::from_str(alloc, "a/b;p=\"\t\"")?;
-    let cases = [
-        (format!(in alloc; "{plain}")?, "text/plain"),
-        (format!(in alloc; "{utf_8}")?, "text/plain; charset=utf-8"),
-        (format!(in alloc; "{quoted}")?, "a/b;p=\"x\""),
-        (format!(in alloc; "{plain:>12}")?, "  text/plain"),
-        (format!(in alloc; "{plain:<12}|")?, "text/plain  |"),
-        (format!(in alloc; "{plain:*^14}")?, "**text/plain**"),
-        (format!(in alloc; "{plain:4}")?, "text/plain"),
-        (format!(in alloc; "{backslash:>12}")?, "  a/b;p=\"\\é\""),
-        (format!(in alloc; "{plain:?}")?, "\"text/plain\""),
-        (format!(in alloc; "{quoted:?}")?, "\"a/b;p=\\\"x\\\"\""),
+    check_printed(&rt, format!(in alloc; "{plain}"), "text/plain")?;
+    check_printed(
+        &rt,
+        format!(in alloc; "{utf_8}"),
+        "text/plain; charset=utf-8",
+    )?;
+    check_printed(&rt, format!(in alloc; "{plain:>12}"), "  text/plain")?;
+    check_printed(&rt, format!(in alloc; "{plain:<12}|"), "text/plain  |")?;
+    check_printed(&rt, format!(in alloc; "{plain:*^14}"), "**text/plain**")?;
+    check_printed(&rt, format!(in alloc; "{plain:4}"), "text/plain")?;
+    check_printed(&rt, format!(in alloc; "{plain:?}"), "\"text/plain\"")
+}
+
+#[test]
+fn values_are_printed(rt: HostRuntime) -> Result<(), Fail> {
+    static CASES: &[(&str, &str, &str, &str)] = &[
         (
-            format!(in alloc; "{backslash:?}")?,
+            "A/B;P=\"x\"",
+            "a/b;p=\"x\"",
+            "   a/b;p=\"x\"",
+            "\"a/b;p=\\\"x\\\"\"",
+        ),
+        (
+            "a/b;p=\"\\é\"",
+            "a/b;p=\"\\é\"",
+            "  a/b;p=\"\\é\"",
             "\"a/b;p=\\\"\\\\é\\\"\"",
         ),
-        (format!(in alloc; "{tab:?}")?, "\"a/b;p=\\\"\\t\\\"\""),
+        (
+            "a/b;p=\"\t\"",
+            "a/b;p=\"\t\"",
+            "   a/b;p=\"\t\"",
+            "\"a/b;p=\\\"\\t\\\"\"",
+        ),
     ];
-    for (printed, expected) in &cases {
-        assert_eq!(rt; printed.as_str(), *expected);
+    let alloc = rt.alloc();
+    for &(text, printed, wide, quoted) in CASES {
+        let mime = Mime::from_str(alloc, text)?;
+        check_printed(&rt, format!(in alloc; "{mime}"), printed)?;
+        check_printed(&rt, format!(in alloc; "{mime:>12}"), wide)?;
+        check_printed(&rt, format!(in alloc; "{mime:?}"), quoted)?;
     }
     Ok(())
 }
 
 #[test]
 fn printed_values_are_read_again(rt: HostRuntime) -> Result<(), Fail> {
-    const CASES: [&str; 5] = [
+    static CASES: &[&str] = &[
         "text/event-stream;       ",
         "TEXT/PLAIN; CHARSET=UTF-8; FOO=BAR",
         "a/b;p=x; ",
@@ -75,12 +112,11 @@ fn printed_values_are_read_again(rt: HostRuntime) -> Result<(), Fail> {
         "A/B;\tP=\"\\\";\"\t; CHARSET=\"\\U\"",
     ];
     let alloc = rt.alloc();
-    for text in CASES {
+    for &text in CASES {
         let mime = Mime::from_str(alloc, text)?;
         let printed = format!(in alloc; "{mime}")?;
         let again = Mime::from_str(alloc, printed.as_str())?;
-        assert!(rt; again == mime, "{text}");
-        assert_eq!(rt; again.as_str(), mime.as_str());
+        check_same(&rt, &again, &mime);
     }
     Ok(())
 }

@@ -8,6 +8,7 @@ use mime::{
     Name, OCTET_STREAM, OGG, PDF, PLAIN, PNG, STAR, SVG, TEXT, TextKey, UTF_8, VCARD, VIDEO, WOFF,
     WOFF2, WWW_FORM_URLENCODED, XML, name_eq_str,
 };
+use std::alloc::AllocError;
 use std::cmp::Ordering;
 use std::hash::{Hash, Hasher};
 use std::process::Abort;
@@ -30,7 +31,7 @@ fn check_constant(rt: &impl Abort, name: Name<'_>, text: &str) {
 
 #[test]
 fn constants_have_their_texts(rt: HostRuntime) {
-    const CASES: [(Name<'static>, &str); 38] = [
+    static CASES: &[(Name<'static>, &str)] = &[
         (STAR, "*"),
         (TEXT, "text"),
         (IMAGE, "image"),
@@ -70,10 +71,20 @@ fn constants_have_their_texts(rt: HostRuntime) {
         (BOUNDARY, "boundary"),
         (UTF_8, "utf-8"),
     ];
-    for (name, text) in CASES {
+    for &(name, text) in CASES {
         check_constant(&rt, name, text);
     }
 }
+
+const EXACT_ABC: Name<'static> = Name {
+    text: "ABC",
+    ignores_case: false,
+};
+
+const EXACT_EMPTY: Name<'static> = Name {
+    text: "",
+    ignores_case: false,
+};
 
 /// A name that is case-sensitive.
 const fn exact(text: &'static str) -> Name<'static> {
@@ -84,8 +95,8 @@ const fn exact(text: &'static str) -> Name<'static> {
 }
 
 #[test]
-fn names_compare(rt: HostRuntime) -> Result<(), Fail> {
-    let against_texts = [
+fn names_against_texts(rt: HostRuntime) {
+    static CASES: &[(Name<'static>, &str, bool)] = &[
         (TEXT, "text", true),
         (TEXT, "TEXT", true),
         (TEXT, "tex", false),
@@ -93,13 +104,17 @@ fn names_compare(rt: HostRuntime) -> Result<(), Fail> {
         (UTF_8, "UTF-8", true),
         // Of two bytes that differ by 32 only letters are the same.
         (UTF_8, "utf\r8", false),
-        (exact("ABC"), "ABC", true),
-        (exact("ABC"), "abc", false),
-        (exact(""), "", true),
+        (EXACT_ABC, "ABC", true),
+        (EXACT_ABC, "abc", false),
+        (EXACT_EMPTY, "", true),
     ];
-    for (name, text, expected) in against_texts {
-        assert_eq!(rt; name_eq_str(&name, text), expected, "{name} against {text}");
+    for (name, text, expected) in CASES {
+        assert_eq!(rt; name_eq_str(name, text), *expected, "{name} against {text}");
     }
+}
+
+#[test]
+fn names_in_their_order(rt: HostRuntime) -> Result<(), Fail> {
     // By the bytes of the text, and then by the flag, false first.
     let ordered = [
         exact(""),
@@ -115,16 +130,17 @@ fn names_compare(rt: HostRuntime) -> Result<(), Fail> {
             assert_eq!(rt; first == second, i == j, "{first:?} and {second:?}");
             assert_eq!(rt; first.cmp(second), i.cmp(&j), "{first:?} and {second:?}");
         }
+        assert!(rt; first.clone()? == *first, "the clone of {first:?}");
     }
     assert_eq!(rt; exact("text").partial_cmp(&TEXT), Some(Ordering::Less));
-    for name in ordered {
-        assert!(rt; name.clone()? == name, "the clone of {name:?}");
-    }
-    // A value that was read: that of `p` is case-sensitive.
+    Ok(())
+}
+
+#[test]
+fn a_value_that_was_read(rt: HostRuntime) -> Result<(), Fail> {
+    // That of `p` is case-sensitive.
     let mime = Mime::from_str(rt.alloc(), "a/b;p=ABC")?;
-    let Some(value) = mime.get_param(TextKey("p")) else {
-        panic!(rt; "no p");
-    };
+    let value = mime.get_param(TextKey("p")).ok_or("no p")?;
     assert!(rt; value == value && value == exact("ABC"));
     assert!(rt; name_eq_str(&value, "ABC") && !name_eq_str(&value, "abc"));
     Ok(())
@@ -199,28 +215,40 @@ fn names_feed_a_hasher(rt: HostRuntime) -> Result<(), Fail> {
     Ok(())
 }
 
+fn check_printed(
+    rt: &impl Abort,
+    printed: Result<String, AllocError>,
+    expected: &str,
+) -> Result<(), AllocError> {
+    assert_eq!(rt; printed?.as_str(), expected);
+    Ok(())
+}
+
 #[test]
-fn names_are_printed(rt: HostRuntime) -> Result<(), Fail> {
+fn names_are_printed(rt: HostRuntime) -> Result<(), AllocError> {
+    let alloc = rt.alloc();
+    let accented = exact("é");
+    check_printed(&rt, format!(in alloc; "{TEXT}"), "text")?;
+    check_printed(&rt, format!(in alloc; "{TEXT:>6}"), "  text")?;
+    check_printed(&rt, format!(in alloc; "{TEXT:<6}|"), "text  |")?;
+    check_printed(&rt, format!(in alloc; "{TEXT:*^8}"), "**text**")?;
+    check_printed(&rt, format!(in alloc; "{TEXT:2}"), "text")?;
+    // A width counts characters.
+    check_printed(&rt, format!(in alloc; "{accented:>6}"), "     é")?;
+    check_printed(&rt, format!(in alloc; "{accented:-<3}"), "é--")
+}
+
+#[test]
+fn names_are_quoted(rt: HostRuntime) -> Result<(), AllocError> {
     let alloc = rt.alloc();
     let quoted = exact("\"é\\");
-    let accented = exact("é");
     let controls = exact("\n\t\u{7F}\0");
-    let cases = [
-        (format!(in alloc; "{TEXT}")?, "text"),
-        (format!(in alloc; "{TEXT:>6}")?, "  text"),
-        (format!(in alloc; "{TEXT:<6}|")?, "text  |"),
-        (format!(in alloc; "{TEXT:*^8}")?, "**text**"),
-        (format!(in alloc; "{TEXT:2}")?, "text"),
-        // A width counts characters.
-        (format!(in alloc; "{accented:>6}")?, "     é"),
-        (format!(in alloc; "{accented:-<3}")?, "é--"),
-        (format!(in alloc; "{TEXT:?}")?, "\"text\""),
-        (format!(in alloc; "{quoted}")?, "\"é\\"),
-        (format!(in alloc; "{quoted:?}")?, "\"\\\"é\\\\\""),
-        (format!(in alloc; "{controls:?}")?, "\"\\n\\t\\u{7f}\\0\""),
-    ];
-    for (printed, expected) in &cases {
-        assert_eq!(rt; printed.as_str(), *expected);
-    }
-    Ok(())
+    check_printed(&rt, format!(in alloc; "{TEXT:?}"), "\"text\"")?;
+    check_printed(&rt, format!(in alloc; "{quoted}"), "\"é\\")?;
+    check_printed(&rt, format!(in alloc; "{quoted:?}"), "\"\\\"é\\\\\"")?;
+    check_printed(
+        &rt,
+        format!(in alloc; "{controls:?}"),
+        "\"\\n\\t\\u{7f}\\0\"",
+    )
 }

@@ -1,14 +1,14 @@
 //! Values against texts: tables, and all short texts.
 
 use mime::{
-    Mime, ParseError, STAR_STAR, TEXT_EVENT_STREAM, TEXT_PLAIN, TEXT_PLAIN_UTF_8, mime_eq_str,
+    Atom, Mime, ParseError, STAR_STAR, TEXT_EVENT_STREAM, TEXT_PLAIN, TEXT_PLAIN_UTF_8, mime_eq_str,
 };
 use std::alloc::Global;
 use std::process::Abort;
 use std::test::Fail;
 
 /// Values, by the texts that they are read from, with texts that they equal.
-const EQUAL: [(&str, &str); 41] = [
+static EQUAL: &[(&str, &str)] = &[
     ("text/event-stream;       ", "text/event-stream"),
     ("text/event-stream;       ", "TEXT/Event-Stream"),
     ("text/plain", "text/plain"),
@@ -74,7 +74,7 @@ const EQUAL: [(&str, &str); 41] = [
 ];
 
 /// Values with texts that they don't equal, though some are accepted.
-const UNEQUAL: [(&str, &str); 67] = [
+static UNEQUAL: &[(&str, &str)] = &[
     // A value without parameters equals no text with a semicolon.
     ("text/event-stream;       ", "text/event-stream;"),
     ("text/event-stream;       ", "text/event-stream;       "),
@@ -168,7 +168,7 @@ const UNEQUAL: [(&str, &str); 67] = [
 
 #[test]
 fn texts_that_are_the_value(rt: HostRuntime) -> Result<(), Fail> {
-    for (value, text) in EQUAL {
+    for &(value, text) in EQUAL {
         let mime = Mime::from_str(rt.alloc(), value)?;
         assert!(rt; mime_eq_str(&mime, text), "{value} against {text}");
         // A value is its own kept text.
@@ -179,7 +179,7 @@ fn texts_that_are_the_value(rt: HostRuntime) -> Result<(), Fail> {
 
 #[test]
 fn texts_that_are_another_or_none(rt: HostRuntime) -> Result<(), Fail> {
-    for (value, text) in UNEQUAL {
+    for &(value, text) in UNEQUAL {
         let mime = Mime::from_str(rt.alloc(), value)?;
         assert!(rt; !mime_eq_str(&mime, text), "{value} against {text}");
     }
@@ -188,7 +188,7 @@ fn texts_that_are_another_or_none(rt: HostRuntime) -> Result<(), Fail> {
 
 #[test]
 fn constants_against_texts(rt: HostRuntime) {
-    let cases = [
+    static CASES: &[(Atom, &str, bool)] = &[
         (TEXT_PLAIN, "Text/PLAIN", true),
         (TEXT_PLAIN, "text/plain;", false),
         (TEXT_EVENT_STREAM, "text/event-stream", true),
@@ -198,7 +198,7 @@ fn constants_against_texts(rt: HostRuntime) {
         (TEXT_PLAIN_UTF_8, "text/plain;charset=\"UTF-8\"; ", true),
         (TEXT_PLAIN_UTF_8, "text/plain", false),
     ];
-    for (atom, text, expected) in cases {
+    for &(atom, text, expected) in CASES {
         let mime = atom.mime();
         assert_eq!(rt; mime_eq_str(&mime, text), expected, "{text}");
     }

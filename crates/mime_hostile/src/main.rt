@@ -1,5 +1,5 @@
-//! What strangers send: prints a table of malicious texts, or does one thing with the text on standard input after it has
-//! written the line `now`. From that line on, tools/refused_requests refuses one of its requests for memory.
+//! What strangers send: prints a table of malicious texts, or does one thing with each line of standard input, between the
+//! lines `now` and `end` that it writes. Between them tools/refused_requests refuses one of its requests for memory.
 #![tactic(auto)]
 
 mod table;
@@ -17,7 +17,7 @@ use std::{env, io};
 enum Task {
     /// The table is printed.
     Table,
-    /// The text on standard input is read.
+    /// Each line is read.
     Read,
     /// What was read of it is cloned.
     Clone,
@@ -57,14 +57,20 @@ fn main(rt: HostRuntime) -> ExitCode {
 
 /// Reads standard input, and does the task.
 fn done(rt: &HostRuntime, task: Task) -> io::Result<()> {
-    let mut text = String::new(rt.alloc());
-    rt.stdin().read_to_string(&mut text)?;
-    match task {
-        Task::Table => print_table(rt),
-        Task::Read => read(rt, text.as_str()),
-        Task::Clone => clone(rt, text.as_str()),
-        Task::Items => items(rt, text.as_str()),
+    let mut input = String::new(rt.alloc());
+    rt.stdin().read_to_string(&mut input)?;
+    if let Task::Table = task {
+        return print_table(rt);
     }
+    for text in input.as_str().split('\n') {
+        match task {
+            Task::Clone => clone(rt, text)?,
+            Task::Items => items(rt, text)?,
+            _ => read(rt, text)?,
+        }
+        println!(rt; "end")?;
+    }
+    Ok(())
 }
 
 /// Reads a text, and prints what it was read as, or the fault.
@@ -79,6 +85,7 @@ fn read(rt: &HostRuntime, text: &str) -> io::Result<()> {
 /// Clones what a text was read as. The original is printed too, since a clone that is refused leaves it as it was.
 fn clone(rt: &HostRuntime, text: &str) -> io::Result<()> {
     let Ok(original) = Mime::from_str(rt.alloc(), text) else {
+        println!(rt; "now")?;
         return println!(rt; "not a media type");
     };
     println!(rt; "now")?;
@@ -100,5 +107,5 @@ fn items(rt: &HostRuntime, text: &str) -> io::Result<()> {
             Err(Bad::NoMemory) => println!(rt; "no memory")?,
         }
     }
-    println!(rt; "end")
+    Ok(())
 }

@@ -70,7 +70,7 @@ fn check(
 
 #[test]
 fn texts_have_their_items(rt: HostRuntime) -> Result<(), AllocError> {
-    let rows = [
+    static ROWS: &[(&str, &str, u128)] = &[
         ("", "", 0u128),
         (
             "application/json, invalid, application/json",
@@ -119,7 +119,7 @@ fn texts_have_their_items(rt: HostRuntime) -> Result<(), AllocError> {
         ("a/b;p=\"\"\"", "ok a/b;p=\"\"|", 9),
         ("a/b;p=\"\"\"\"", "ok a/b;p=\"\"|", 10),
     ];
-    for (text, expected, steps) in rows {
+    for &(text, expected, steps) in ROWS {
         check(&rt, rt.alloc(), text, expected, steps)?;
     }
     Ok(())
@@ -143,8 +143,7 @@ fn long_texts_have_their_items(rt: HostRuntime) -> Result<(), AllocError> {
 
 #[test]
 fn a_comma_ends_all_but_an_open_quoted_value(rt: HostRuntime) -> Result<(), AllocError> {
-    let alloc = rt.alloc();
-    let rows = [
+    static ROWS: &[(&str, &str)] = &[
         ("invalid", "bad invalid|ok c/d|"),
         ("a/b", "ok c/d|"),
         ("a/b;", "ok c/d|"),
@@ -157,7 +156,8 @@ fn a_comma_ends_all_but_an_open_quoted_value(rt: HostRuntime) -> Result<(), Allo
         ("a/b;p=\"\\", ""),
         ("a/b;p=\"\\\"", ""),
     ];
-    for (before, others) in rows {
+    let alloc = rt.alloc();
+    for &(before, others) in ROWS {
         let (mut expected, _) = items_of(&rt, alloc, before)?;
         expected.push_str(others)?;
         let text = format!(in alloc; "{before},c/d")?;

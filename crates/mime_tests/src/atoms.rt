@@ -16,7 +16,7 @@ use std::collections::{BTreeSet, HashSet};
 use std::test::Fail;
 
 /// Each constant with its kept text, type, subtype, suffix, essence and charset.
-const CASES: [(Atom, &str); 32] = [
+static CASES: &[(Atom, &str)] = &[
     (STAR_STAR, "*/* | * | * | - | */*"),
     (TEXT_STAR, "text/* | text | * | - | text/*"),
     (TEXT_PLAIN, "text/plain | text | plain | - | text/plain"),
@@ -105,7 +105,7 @@ const CASES: [(Atom, &str); 32] = [
 #[test]
 fn constants_have_their_texts_and_parts(rt: HostRuntime) -> Result<(), Fail> {
     let alloc = rt.alloc();
-    for (atom, line) in CASES {
+    for &(atom, line) in CASES {
         let mime = atom.mime();
         assert_eq!(rt; parts_of(alloc, &mime)?.as_str(), line);
         assert_eq!(rt; atom.text(), mime.as_str());
@@ -118,22 +118,23 @@ fn constants_are_what_their_texts_are_read_as(rt: HostRuntime) -> Result<(), Fai
     let alloc = rt.alloc();
     let mut hashed = HashSet::new(alloc);
     let mut ordered = BTreeSet::new(alloc);
-    for (atom, _) in CASES {
+    for &(atom, _) in CASES {
         let read = Mime::from_str(alloc, atom.text())?;
-        assert!(rt; read == atom.mime() && atom.mime() == read, "{atom:?}");
-        assert_eq!(rt; atom.mime().cmp(&read), Ordering::Equal, "{atom:?}");
-        assert!(rt; hashed.insert(atom.mime())?, "{atom:?} is another's");
-        assert!(rt; hashed.contains(&read), "{atom:?}");
-        assert!(rt; ordered.insert(read)?, "{atom:?} is another's");
-        assert!(rt; ordered.contains(&atom.mime()), "{atom:?}");
+        let mime = atom.mime();
+        let is = read == mime && mime == read && mime.cmp(&read) == Ordering::Equal;
+        assert!(rt; is, "{atom:?}");
+        // It is in neither set yet, and then what was read finds it.
+        let is_new = hashed.insert(atom.mime())? && ordered.insert(mime)?;
+        assert!(rt; is_new, "{atom:?} is another's");
+        let found = hashed.contains(&read) && ordered.contains(&read);
+        assert!(rt; found, "{atom:?}");
     }
     Ok(())
 }
 
 #[test]
 fn texts_equal_their_constants(rt: HostRuntime) -> Result<(), Fail> {
-    let alloc = rt.alloc();
-    let cases = [
+    static CASES: &[(&str, Atom)] = &[
         ("*/*", STAR_STAR),
         ("text/plain", TEXT_PLAIN),
         ("TEXT/PLAIN", TEXT_PLAIN),
@@ -145,43 +146,60 @@ fn texts_equal_their_constants(rt: HostRuntime) -> Result<(), Fail> {
         ("text/event-stream; ", TEXT_EVENT_STREAM),
         ("text/event-stream;       ", TEXT_EVENT_STREAM),
     ];
-    for (text, atom) in cases {
-        let read = Mime::from_str(alloc, text)?;
-        assert!(rt; read == atom.mime(), "{text}");
-        let mut hashed = HashSet::new(alloc);
-        hashed.insert(atom.mime())?;
+    for &(text, atom) in CASES {
+        let read = Mime::from_str(rt.alloc(), text)?;
+        let mime = atom.mime();
+        assert!(rt; read == mime, "{text}");
+        let mut hashed = HashSet::new(rt.alloc());
+        hashed.insert(mime)?;
         assert!(rt; hashed.contains(&read), "{text}");
     }
-    let read = Mime::from_str(alloc, "text/plain; charset=iso-8859-1")?;
-    assert!(rt; read != TEXT_PLAIN_UTF_8.mime() && read != TEXT_PLAIN.mime());
-    let stream = Mime::from_str(alloc, "text/event-stream; ")?;
-    assert!(rt; stream.type_() == TEXT && stream.subtype() == EVENT_STREAM);
+    Ok(())
+}
+
+#[test]
+fn texts_without_a_constant(rt: HostRuntime) -> Result<(), Fail> {
+    let read = Mime::from_str(rt.alloc(), "text/plain; charset=iso-8859-1")?;
+    let is = read == TEXT_PLAIN_UTF_8.mime() || read == TEXT_PLAIN.mime();
+    assert!(rt; !is);
+    Ok(())
+}
+
+#[test]
+fn an_empty_list_has_no_parameter(rt: HostRuntime) -> Result<(), Fail> {
+    let stream = Mime::from_str(rt.alloc(), "text/event-stream; ")?;
+    let parts = (stream.type_(), stream.subtype());
+    assert!(rt; parts == (TEXT, EVENT_STREAM));
     assert!(rt; stream.params().next().is_none());
     Ok(())
 }
 
 #[test]
 fn parts_of_constants_equal_the_names(rt: HostRuntime) {
-    let cases: [(Atom, Name<'static>, Name<'static>, Option<Name<'static>>); 4] = [
+    static CASES: &[(Atom, Name<'static>, Name<'static>, Option<Name<'static>>)] = &[
         (TEXT_PLAIN, TEXT, PLAIN, None),
         (TEXT_PLAIN_UTF_8, TEXT, PLAIN, None),
         (TEXT_HTML, TEXT, HTML, None),
         (IMAGE_SVG, IMAGE, SVG, Some(XML)),
     ];
-    for (atom, top, subtype, suffix) in cases {
+    for &(atom, top, subtype, suffix) in CASES {
         let mime = atom.mime();
-        assert!(rt;
-            mime.type_() == top && mime.subtype() == subtype,
-            "{atom:?}"
-        );
-        assert!(rt; mime.suffix() == suffix, "{atom:?}");
+        let parts = (mime.type_(), mime.subtype(), mime.suffix());
+        assert!(rt; parts == (top, subtype, suffix), "{atom:?}");
     }
+}
+
+#[test]
+fn constants_have_their_charset(rt: HostRuntime) {
     let mime = TEXT_PLAIN_UTF_8.mime();
-    assert!(rt;
-        mime.get_param(CHARSET) == Some(UTF_8) && mime.get_param(TextKey("charset")) == Some(UTF_8)
-    );
+    let found = (mime.get_param(CHARSET), mime.get_param(TextKey("charset")));
+    assert!(rt; found == (Some(UTF_8), Some(UTF_8)));
     assert!(rt; mime.get_param(TextKey("baz")).is_none());
     assert!(rt; TEXT_PLAIN.mime().get_param(CHARSET).is_none());
+}
+
+#[test]
+fn constants_equal_themselves_alone(rt: HostRuntime) {
     assert!(rt; TEXT_JAVSCRIPT == TEXT_JAVASCRIPT && TEXT_PLAIN != TEXT_PLAIN_UTF_8);
     assert!(rt; Atom::TEXT_CSS == TEXT_CSS);
 }

@@ -1,7 +1,7 @@
 //! The one fault of each refused text, and its printed form.
 
 use mime::{Mime, ParseError};
-use std::alloc::Global;
+use std::alloc::{AllocError, Global};
 use std::process::Abort;
 use std::test::Fail;
 
@@ -15,6 +15,39 @@ const VALUE: &str = "a value was missing behind the equals sign (=)";
 
 const QUOTE: &str = "a quote (\") was missing from a parameter value";
 
+fn check_printed(
+    rt: &impl Abort,
+    printed: Result<String, AllocError>,
+    expected: &str,
+    text: &str,
+) -> Result<(), Fail> {
+    assert_eq!(rt; printed?.as_str(), expected, "{text:?}");
+    Ok(())
+}
+
+#[test]
+fn faults_are_printed(rt: HostRuntime) -> Result<(), Fail> {
+    static CASES: &[(ParseError, &str)] = &[
+        (
+            ParseError::InvalidToken { pos: 0, byte: 0 },
+            "an invalid token was encountered, 0 at position 0",
+        ),
+        (
+            ParseError::InvalidToken {
+                pos: 1234,
+                byte: 0xEF,
+            },
+            "an invalid token was encountered, EF at position 1234",
+        ),
+        (ParseError::NoMemory, "memory ran out"),
+    ];
+    for &(fault, expected) in CASES {
+        check_printed(&rt, format!(in rt.alloc(); "{fault}"), expected, "")?;
+        check_printed(&rt, format!(in rt.alloc(); "{fault:>99}"), expected, "wide")?;
+    }
+    Ok(())
+}
+
 /// A text is refused with this fault, which prints so.
 fn check_fault(
     rt: &impl Abort,
@@ -26,32 +59,20 @@ fn check_fault(
     let Err(error) = Mime::from_str(alloc, text) else {
         panic!(rt; "{text:?} is accepted");
     };
-    assert_eq!(rt; *error.fault(), expected, "{text:?}");
-    let printed = format!(in alloc; "{}", error.fault())?;
-    assert_eq!(rt; printed.as_str(), words, "{text:?}");
+    let fault = *error.fault();
+    assert_eq!(rt; fault, expected, "{text:?}");
     let sentence = format!(in alloc; "mime parse error: {words}")?;
-    assert_eq!(rt;
-        error.to_string(alloc)?.as_str(),
-        sentence.as_str(),
-        "{text:?}"
-    );
+    let sentence = sentence.as_str();
+    check_printed(rt, error.to_string(alloc), sentence, text)?;
+    check_printed(rt, format!(in alloc; "{fault}"), words, text)?;
     // A width is ignored.
-    assert_eq!(rt;
-        format!(in alloc; "{error:99}")?.as_str(),
-        sentence.as_str(),
-        "{text:?}"
-    );
-    assert_eq!(rt;
-        format!(in alloc; "{:>99}", error.fault())?.as_str(),
-        words,
-        "{text:?}"
-    );
-    Ok(())
+    check_printed(rt, format!(in alloc; "{error:99}"), sentence, text)?;
+    check_printed(rt, format!(in alloc; "{fault:>99}"), words, text)
 }
 
 #[test]
 fn what_is_missing_at_the_end(rt: HostRuntime) -> Result<(), Fail> {
-    const CASES: [(&str, ParseError, &str); 16] = [
+    static CASES: &[(&str, ParseError, &str)] = &[
         ("", ParseError::MissingSlash, SLASH),
         ("text", ParseError::MissingSlash, SLASH),
         ("text/", ParseError::MissingSubtype, SUBTYPE),
@@ -70,17 +91,20 @@ fn what_is_missing_at_the_end(rt: HostRuntime) -> Result<(), Fail> {
         ("a/b;p=\"x/", ParseError::MissingQuote, QUOTE),
         ("a/b;p=\"=", ParseError::MissingQuote, QUOTE),
     ];
-    for (text, expected, words) in CASES {
+    for &(text, expected, words) in CASES {
         check_fault(&rt, rt.alloc(), text, expected, words)?;
     }
-    let mut long = String::from_str(rt.alloc(), "a/b;p=\"")?;
-    for _ in 0..100_000 {
-        long.push(',')?;
-    }
+    Ok(())
+}
+
+#[test]
+fn many_commas_after_a_quote(rt: HostRuntime) -> Result<(), Fail> {
+    let commas = ",".repeat(rt.alloc(), 100_000)?;
+    let text = format!(in rt.alloc(); "a/b;p=\"{commas}")?;
     check_fault(
         &rt,
         rt.alloc(),
-        long.as_str(),
+        text.as_str(),
         ParseError::MissingQuote,
         QUOTE,
     )
@@ -88,7 +112,7 @@ fn what_is_missing_at_the_end(rt: HostRuntime) -> Result<(), Fail> {
 
 #[test]
 fn the_byte_where_no_media_type_goes_on(rt: HostRuntime) -> Result<(), Fail> {
-    const CASES: [(&str, usize, u8, &str); 38] = [
+    static CASES: &[(&str, usize, u8, &str)] = &[
         // An empty subtype or value, and white space, in the wrong place.
         ("a b", 1, 0x20, "20 at position 1"),
         ("no slash", 2, 0x20, "20 at position 2"),
@@ -137,7 +161,7 @@ fn the_byte_where_no_media_type_goes_on(rt: HostRuntime) -> Result<(), Fail> {
         ("a/b;p=\"x\"é", 9, 0xC3, "C3 at position 9"),
         ("a/b;p=\"é\"😀", 10, 0xF0, "F0 at position 10"),
     ];
-    for (text, pos, byte, place) in CASES {
+    for &(text, pos, byte, place) in CASES {
         let expected = ParseError::InvalidToken { pos, byte };
         let words = format!(in rt.alloc(); "an invalid token was encountered, {place}")?;
         check_fault(&rt, rt.alloc(), text, expected, words.as_str())?;

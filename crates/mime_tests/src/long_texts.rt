@@ -44,7 +44,7 @@ fn check_long(
 #[test]
 fn texts_of_65536_bytes(rt: HostRuntime) -> Result<(), Fail> {
     // What is read, what is kept, and how many parameters there are.
-    const CASES: [(Ends, Ends, usize); 10] = [
+    static CASES: &[(Ends, Ends, usize)] = &[
         // No list, without and with a capital.
         (("a/", b'b', "+c"), ("a/", b'b', "+c"), 0),
         (("A/", b'B', "+C"), ("a/", b'b', "+c"), 0),
@@ -64,7 +64,7 @@ fn texts_of_65536_bytes(rt: HostRuntime) -> Result<(), Fail> {
             2,
         ),
     ];
-    for case in CASES {
+    for &case in CASES {
         check_long(&rt, rt.alloc(), 65_536, case)?;
     }
     Ok(())
@@ -73,13 +73,13 @@ fn texts_of_65536_bytes(rt: HostRuntime) -> Result<(), Fail> {
 #[test]
 fn texts_of_1000000_bytes(rt: HostRuntime) -> Result<(), Fail> {
     // No list, an empty one, and one without and with a capital.
-    const CASES: [(Ends, Ends, usize); 4] = [
+    static CASES: &[(Ends, Ends, usize)] = &[
         (("A/", b'B', ""), ("a/", b'b', ""), 0),
         (("a/", b'b', ";"), ("a/", b'b', ""), 0),
         (("a/b;p=", b'x', ""), ("a/b;p=", b'x', ""), 1),
         (("a/b;P=", b'x', ""), ("a/b;p=", b'x', ""), 1),
     ];
-    for case in CASES {
+    for &case in CASES {
         check_long(&rt, rt.alloc(), 1_000_000, case)?;
     }
     Ok(())

@@ -2,15 +2,23 @@
 
 ghost use Rattle.std.specs.Prelude.{◌≡◌, codes};
 
-use crate::described::{line_of, parts_of};
+use crate::described::parts_of;
 use mime::{
     BOUNDARY, CHARSET, FORM_DATA, MULTIPART, Mime, Name, ParamKey, TextKey, UTF_8, name_eq_str,
 };
+use std::alloc::Global;
+use std::process::Abort;
 use std::test::Fail;
+
+fn check_parts(rt: &impl Abort, alloc: Global, mime: &Mime, expected: &str) -> Result<(), Fail> {
+    let line = parts_of(alloc, mime)?;
+    assert_eq!(rt; line.as_str(), expected);
+    Ok(())
+}
 
 #[test]
 fn accepted_texts_have_their_parameters(rt: HostRuntime) -> Result<(), Fail> {
-    const CASES: [(&str, &str); 25] = [
+    static CASES: &[(&str, &str)] = &[
         // Names are lowered, and values exactly under `charset`.
         (
             "TEXT/PLAIN; CHARSET=UTF-8; FOO=BAR",
@@ -102,13 +110,12 @@ fn accepted_texts_have_their_parameters(rt: HostRuntime) -> Result<(), Fail> {
             "a/b;\tp=\"x\"\t;q=1 | a | b | - | a/b | p=x | q=1",
         ),
     ];
-    for (text, expected) in CASES {
+    for &(text, expected) in CASES {
         let mime = Mime::from_str(rt.alloc(), text)?;
-        let line = parts_of(rt.alloc(), &mime)?;
-        assert_eq!(rt; line.as_str(), expected, "{text}");
+        check_parts(&rt, rt.alloc(), &mime, expected)?;
         // What is kept is read again as the same.
-        let again = line_of(rt.alloc(), &Mime::from_str(rt.alloc(), mime.as_str()))?;
-        assert_eq!(rt; again.as_str(), expected, "{text} read again");
+        let again = Mime::from_str(rt.alloc(), mime.as_str())?;
+        check_parts(&rt, rt.alloc(), &again, expected)?;
     }
     Ok(())
 }
@@ -127,7 +134,7 @@ impl ParamKey for Foo {
 
 #[test]
 fn keys_find_the_first_value(rt: HostRuntime) -> Result<(), Fail> {
-    const CASES: [(&str, &str, Option<&str>); 14] = [
+    static CASES: &[(&str, &str, Option<&str>)] = &[
         ("text/plain", "charset", None),
         ("text/plain", "baz", None),
         ("text/plain; charset=utf-8", "charset", Some("utf-8")),
@@ -147,90 +154,107 @@ fn keys_find_the_first_value(rt: HostRuntime) -> Result<(), Fail> {
         ("a/b;p=\"\\\";q=1\";q=2", "q", Some("2")),
         ("a/b;p=\"\";q=2", "p", Some("")),
     ];
-    for (text, key, expected) in CASES {
+    for &(text, key, expected) in CASES {
         let mime = Mime::from_str(rt.alloc(), text)?;
         let found = mime.get_param(TextKey(key)).map(|name| name.as_str());
         assert!(rt; found == expected, "{key} in {text}");
     }
-    for text in [
-        "text/plain; charset=utf-8",
-        "text/plain; charset=utf-8; foo=bar",
-        "text/plain;charset=\"utf-8\"",
-        "TEXT/PLAIN; CHARSET=UTF-8",
-    ] {
-        let mime = Mime::from_str(rt.alloc(), text)?;
-        // The value is the name `utf-8` in its flag too.
-        assert!(rt;
-            mime.get_param(CHARSET) == Some(UTF_8),
-            "a constant as a key in {text}"
-        );
-        assert!(rt;
-            mime.get_param(TextKey("Charset")) == Some(UTF_8),
-            "a text as a key in {text}"
-        );
-        let is_utf8 = mime
-            .get_param(CHARSET)
-            .is_some_and(|value| name_eq_str(&value, "utf-8"));
-        assert!(rt; is_utf8, "the value against a text in {text}");
-        assert!(rt;
-            mime.get_param(BOUNDARY) == None,
-            "a constant as a key in {text}"
-        );
-    }
-    let mime = Mime::from_str(rt.alloc(), "TEXT/PLAIN; CHARSET=UTF-8; FOO=BAR")?;
-    let found = mime.get_param(Foo).map(|name| name.as_str());
-    assert!(rt; found == Some("BAR"), "a key of one's own");
     Ok(())
 }
 
 #[test]
-fn values_ignore_case_under_charset_alone(rt: HostRuntime) -> Result<(), Fail> {
-    let form = "multipart/form-data; charset=BASE64; boundary=ABCDEFG";
-    let mime = Mime::from_str(rt.alloc(), form)?;
-    assert!(rt; mime.type_() == MULTIPART && mime.subtype() == FORM_DATA);
-    let small = "text/plain; charset=utf-8; foo=bar";
-    let large = "TEXT/PLAIN; CHARSET=UTF-8; FOO=BAR";
-    let cases = [
-        (form, "charset", "bAsE64", true),
-        (form, "boundary", "ABCDEFG", true),
-        (form, "boundary", "abcdefg", false),
-        (small, "charset", "UTF-8", true),
-        (small, "foo", "bar", true),
-        (small, "foo", "BAR", false),
-        (large, "charset", "utf-8", true),
-        (large, "foo", "BAR", true),
-        (large, "foo", "bar", false),
+fn constants_and_texts_are_keys(rt: HostRuntime) -> Result<(), Fail> {
+    static TEXTS: &[&str] = &[
+        "text/plain; charset=utf-8",
+        "text/plain; charset=utf-8; foo=bar",
+        "text/plain;charset=\"utf-8\"",
+        "TEXT/PLAIN; CHARSET=UTF-8",
     ];
-    for (text, key, other, expected) in cases {
+    for &text in TEXTS {
         let mime = Mime::from_str(rt.alloc(), text)?;
-        let Some(value) = mime.get_param(TextKey(key)) else {
-            panic!(rt; "no {key}");
-        };
-        assert_eq!(rt;
-            name_eq_str(&value, other),
-            expected,
-            "{key} against {other} in {text}"
-        );
+        // The value is the name `utf-8` in its flag too.
+        let found = (mime.get_param(CHARSET), mime.get_param(TextKey("Charset")));
+        assert!(rt; found == (Some(UTF_8), Some(UTF_8)), "{text}");
+        let is_utf8 = found.0.is_some_and(|value| name_eq_str(&value, "utf-8"));
+        assert!(rt; is_utf8, "the value against a text in {text}");
+        let other = mime.get_param(BOUNDARY);
+        assert!(rt; other == None, "another constant in {text}");
     }
-    // As a key a value accepts a name of its text only where it ignores case too.
-    let cases = [
+    Ok(())
+}
+
+#[test]
+fn a_key_of_ones_own(rt: HostRuntime) -> Result<(), Fail> {
+    let mime = Mime::from_str(rt.alloc(), LARGE)?;
+    let found = mime.get_param(Foo).map(|name| name.as_str());
+    assert!(rt; found == Some("BAR"));
+    Ok(())
+}
+
+const FORM: &str = "multipart/form-data; charset=BASE64; boundary=ABCDEFG";
+
+const SMALL: &str = "text/plain; charset=utf-8; foo=bar";
+
+const LARGE: &str = "TEXT/PLAIN; CHARSET=UTF-8; FOO=BAR";
+
+#[test]
+fn values_ignore_case_under_charset_alone(rt: HostRuntime) -> Result<(), Fail> {
+    static CASES: &[(&str, &str, &str, bool)] = &[
+        (FORM, "charset", "bAsE64", true),
+        (FORM, "boundary", "ABCDEFG", true),
+        (FORM, "boundary", "abcdefg", false),
+        (SMALL, "charset", "UTF-8", true),
+        (SMALL, "foo", "bar", true),
+        (SMALL, "foo", "BAR", false),
+        (LARGE, "charset", "utf-8", true),
+        (LARGE, "foo", "BAR", true),
+        (LARGE, "foo", "bar", false),
+    ];
+    for &(text, key, other, expected) in CASES {
+        let mime = Mime::from_str(rt.alloc(), text)?;
+        let value = mime.get_param(TextKey(key)).ok_or("no such parameter")?;
+        let answer = name_eq_str(&value, other);
+        assert_eq!(rt; answer, expected, "{key} against {other} in {text}");
+    }
+    let mime = Mime::from_str(rt.alloc(), FORM)?;
+    let parts = (mime.type_(), mime.subtype());
+    assert!(rt; parts == (MULTIPART, FORM_DATA));
+    Ok(())
+}
+
+#[test]
+fn a_value_as_a_key(rt: HostRuntime) -> Result<(), Fail> {
+    // It accepts a name of its text only where it ignores case too.
+    static CASES: &[(&str, &str, Option<&str>)] = &[
         ("a/b;charset=x;x=1", "charset", Some("1")),
         ("a/b;k=x;x=1", "k", None),
     ];
-    for (text, key, expected) in cases {
+    for &(text, key, expected) in CASES {
         let mime = Mime::from_str(rt.alloc(), text)?;
-        let Some(value) = mime.get_param(TextKey(key)) else {
-            panic!(rt; "no {key}");
-        };
+        let value = mime.get_param(TextKey(key)).ok_or("no such parameter")?;
         let found = mime.get_param(value).map(|name| name.as_str());
         assert!(rt; found == expected, "the value of {key} as a key in {text}");
     }
     Ok(())
 }
 
+/// The parameters have this length, and then there is no more, however often one asks.
+fn check_count(rt: &impl Abort, mime: &Mime, expected: usize) {
+    let mut params = mime.params();
+    for taken in 0..expected {
+        let left: usize = expected - taken;
+        assert_eq!(rt; params.size_hint(), (left, Some(left)), "{mime}");
+        assert!(rt; params.next().is_some(), "{mime}");
+    }
+    for _ in 0..3 {
+        assert_eq!(rt; params.size_hint(), (0, Some(0)), "the end of {mime}");
+        assert!(rt; params.next().is_none(), "the end of {mime}");
+    }
+}
+
 #[test]
 fn parameters_are_counted_and_end(rt: HostRuntime) -> Result<(), Fail> {
-    const CASES: [(&str, usize); 7] = [
+    static CASES: &[(&str, usize)] = &[
         ("TEXT/PLAIN; CHARSET=UTF-8; FOO=BAR", 2),
         ("text/plain; CHARSET=UTF-8; ", 1),
         ("text/event-stream;       ", 0),
@@ -239,46 +263,37 @@ fn parameters_are_counted_and_end(rt: HostRuntime) -> Result<(), Fail> {
         ("a/b;p=\"x;y\";q=z;r=s", 3),
         ("a/b;p=\"\\\";\";\tq=\"\"", 2),
     ];
-    for (text, expected) in CASES {
+    for &(text, expected) in CASES {
         let mime = Mime::from_str(rt.alloc(), text)?;
-        let mut params = mime.params();
-        assert_eq!(rt; format!(in rt.alloc(); "{params:?}")?.as_str(), "Params");
-        for taken in 0..expected {
-            let left: usize = expected - taken;
-            assert_eq!(rt;
-                params.size_hint(),
-                (left, Some(left)),
-                "{taken} taken of {text}"
-            );
-            assert!(rt; params.next().is_some(), "{taken} taken of {text}");
-        }
-        for _ in 0..3 {
-            assert_eq!(rt; params.size_hint(), (0, Some(0)), "the end of {text}");
-            assert!(rt; params.next().is_none(), "the end of {text}");
-        }
+        check_count(&rt, &mime, expected);
+        let params = mime.params();
+        let printed = format!(in rt.alloc(); "{params:?}")?;
+        assert_eq!(rt; printed.as_str(), "Params");
     }
     Ok(())
 }
 
-#[test]
-fn ten_thousand_parameters(rt: HostRuntime) -> Result<(), Fail> {
-    let mut text = String::from_str(rt.alloc(), "a/b")?;
-    for _ in 0..10_000 {
-        text.push_str(";p=x")?;
-    }
-    assert_eq!(rt; text.len(), 40_003);
-    let mime = Mime::from_str(rt.alloc(), text.as_str())?;
-    assert_eq!(rt; mime.params().size_hint(), (10_000, Some(10_000)));
-    assert!(rt; mime.get_param(TextKey("q")).is_none());
+/// How many parameters there are, each of which is `p=x`.
+fn count_of_p(rt: &impl Abort, mime: &Mime) -> u64 {
     let mut count = 0u64;
     for (name, value) in mime.params() {
         assert!(rt; name.text == "p" && value.text == "x", "parameter {count}");
         count = count.wrapping_add(1);
     }
-    assert_eq!(rt; count, 10_000);
+    count
+}
+
+#[test]
+fn ten_thousand_parameters(rt: HostRuntime) -> Result<(), Fail> {
+    let list = ";p=x".repeat(rt.alloc(), 10_000)?;
+    let text = format!(in rt.alloc(); "a/b{list}")?;
+    assert_eq!(rt; text.len(), 40_003);
+    let mime = Mime::from_str(rt.alloc(), text.as_str())?;
+    assert_eq!(rt; mime.params().size_hint(), (10_000, Some(10_000)));
+    assert!(rt; mime.get_param(TextKey("q")).is_none());
+    assert_eq!(rt; count_of_p(&rt, &mime), 10_000);
     assert!(rt; mime.as_str() == text.as_str());
     let again = Mime::from_str(rt.alloc(), mime.as_str())?;
-    assert!(rt; again.as_str() == text.as_str());
-    assert_eq!(rt; again.params().size_hint(), (10_000, Some(10_000)));
+    assert!(rt; again == mime && again.as_str() == text.as_str());
     Ok(())
 }
