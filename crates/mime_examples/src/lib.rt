@@ -11,5 +11,6 @@ pub mod extensions;
 pub mod handler;
 pub mod json;
 pub mod reader;
+pub mod unescape;
 pub mod utf8;
 pub mod weights;
