@@ -9,7 +9,6 @@ use Rattle.mime.specs.Pairs.{pairs_within, lowered_within}
 use Rattle.mime.specs.Scanning.{HasPlaces, places_of, semicolon_of, head_text}
 use Rattle.mime.specs.KeptText.{media_of, HoldsParameter, IsKept, kept_text_of, kept_places}
 use Rattle.mime.specs.declared.scan.Places.{Places}
-use Rattle.mime.proofs.Classes.{AreTokenBytes-from_token}
 use Rattle.mime.proofs.ByteAt.{slice_get-front}
 use Rattle.mime.proofs.Lowering.{length-lowered, lowered-append, lowered_tree-lowered_tree, IsWellFormed-lowered_tree, places_of-lowered_tree}
 use Rattle.mime.proofs.Utf8.{IsLoweredInPart, small, joined, low-in_part}

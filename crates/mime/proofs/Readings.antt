@@ -5,14 +5,14 @@ use Rattle.std.proofs.lemmas.Option.{same_Some, none-some, MatchOption-at_some}
 use Rattle.std.specs.List.{list_all}
 use Rattle.std.specs.Option.{option_and_then, option_map}
 use Rattle.mime.specs.Bytes.{is_token_byte, slash_byte, semicolon_byte, equals_byte, quote_byte}
-use Rattle.mime.specs.Grammar.{Parameter, plain, quoted, Parameters, blank, final, more, Tail, no_list, listed, SyntaxTree, is_space, AreSpaces, text_of_parameter, text_of_list, text_of, AreTokenBytes, IsToken, IsContent, IsParameter, AreParameters, IsTail, IsWellFormed}
+use Rattle.mime.specs.Grammar.{Parameter, plain, quoted, Parameters, blank, final, more, Tail, no_list, listed, SyntaxTree, is_space, AreSpaces, text_of_parameter, text_of_list, text_of, IsToken, IsContent, IsParameter, AreParameters, IsTail, IsWellFormed}
 use Rattle.mime.specs.Values.{MediaType, value_of, Reads, IsAccepted, IsRefused}
 use Rattle.mime.specs.Quoted.{continues}
 use Rattle.mime.proofs.Quoted.{content-taken, content-closed}
 use Rattle.mime.proofs.Begun.{Closed, Begun, in_type, in_subtype, in_list, BegunList, ListPlace, in_spaces, in_name, in_value, in_quotes, behind_quotes, begun_list, list_at, at_place, close, grow, grow_list, grow_place, walk, walk_from, walk_list, with_closed, ended_list, tree_of}
 use Rattle.mime.proofs.Walks.{walk_by-step, walk_from-step, walk_from-append_some, walk_from-in_list, walk-type, walk_from-subtype, walk_list-append_some, walk_list-spaces, walk_list-name, walk_list-value, walk_list-open, walk_list-behind_quotes}
 use Rattle.mime.proofs.Spelling.{text_of_begun, walk_from-lengthens, tree_of-spelled}
-use Rattle.mime.proofs.Classes.{AreTokenBytes-from_token, token_byte-not_space}
+use Rattle.mime.proofs.Classes.{token_byte-not_space}
 
 -- a text that is walked to a complete tree is spelled by it
 pub accepted-from_walk : (text : List ℕ) (begun : Begun) (tree : SyntaxTree)

@@ -58,14 +58,18 @@ fn check(rt: &impl Abort, alloc: Global, text: &mut Vec<u8>) -> Result<(), Fail>
     assert!(rt; completed == expected, "{text:?}");
     if let Some(ParseError::InvalidToken { pos, byte }) = fault {
         assert!(rt; pos < text.len() && text[pos] == byte, "{text:?}");
-        // The bytes up to and including this one have the same fault, those before it another or none.
-        let dead = fault_of(rt, alloc, &text[..pos + 1])?;
-        assert!(rt; dead == fault, "{text:?}");
-        let front = fault_of(rt, alloc, &text[..pos])?;
-        assert!(rt;
-            !matches!(front, Some(ParseError::InvalidToken { .. })),
-            "{text:?}"
-        );
+        if pos + 1 < text.len() {
+            // The bytes up to and including this one have the same fault.
+            let dead = fault_of(rt, alloc, &text[..pos + 1])?;
+            assert!(rt; dead == fault, "{text:?}");
+        } else {
+            // Those before it have another or none.
+            let front = fault_of(rt, alloc, &text[..pos])?;
+            assert!(rt;
+                !matches!(front, Some(ParseError::InvalidToken { .. })),
+                "{text:?}"
+            );
+        }
     }
     Ok(())
 }

@@ -8,7 +8,7 @@ use Rattle.mime.specs.Scanning.{head_places}
 use Rattle.mime.proofs.Begun.{in_type, in_subtype}
 use Rattle.mime.proofs.Passing.{given_sum}
 use Rattle.mime.proofs.Verdicts.{Reaches, reaches_run, reaches_byte, scans_at}
-use Rattle.mime.proofs.TextScan.{none_walked, type_walked, subtype_walked, Subtyped, essence_places, essence_is, scans_list}
+use Rattle.mime.proofs.TextScan.{none_walked, type_walked, subtype_walked, Subtyped, essence_is, scans_list}
 use Rattle.mime.proofs.scan.scan.Goals.{After-count, After-subtype-plus}
 use Rattle.mime.proofs.scan.scan.Goals as goal
 
