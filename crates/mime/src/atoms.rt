@@ -8,7 +8,8 @@ ghost use Rattle.mime.specs.AtomPlaces.{atom_places, bare_places, charset_places
 use crate::scan::Places;
 use crate::value::Mime;
 
-/// A constant media type; [`Atom::mime`] gives its value.
+/// A constant media type (RFC 7231, 3.1.1.1): [`Atom::mime`] gives its value, [`Atom::text`] its text. It can be
+/// matched and copied, and takes no memory: `TEXT_PLAIN.mime()` is the media type `text/plain`.
 #[derive(Clone, Copy, PartialEq, Eq, Debug)]
 #[allow(non_camel_case_types)]
 pub enum Atom {
@@ -237,14 +238,14 @@ impl Atom {
         }
     }
 
-    /// The text: `text/plain` of `TEXT_PLAIN`.
+    /// The constant's text: `text/plain` for `TEXT_PLAIN`.
     pub fn text(self) -> &'static str
         ensures { result.now ≡ atom_text self }
     {
         self.constant().text
     }
 
-    /// The value that its text is read as. It asks for no memory, and neither does cloning it:
+    /// The media type that its text is read as. It asks for no memory, and neither does cloning it:
     /// `TEXT_PLAIN_UTF_8.mime()` is equal to what `text/plain;charset="utf-8"` is read as.
     pub fn mime(self) -> Mime
         ensures reads { Reads (atom_text self) result.media }

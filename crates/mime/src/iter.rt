@@ -12,12 +12,12 @@ use std::alloc::Global;
 use std::fmt;
 use std::marker::Model;
 
-/// Why an item of a [`MimeIter`] is no media type.
+/// Why an item of a [`MimeIter`] is no media type (a list of them: RFC 7231, 5.3.2).
 #[derive(Clone, Copy, PartialEq, Eq, Debug)]
 pub enum Bad<'a> {
-    /// This piece of the text is none, as `invalid` in `invalid, a/b`.
+    /// This piece of the text isn't a media type, as `invalid` in `invalid, a/b`.
     Piece(&'a str),
-    /// The piece is one, and there was no memory to keep it. Nothing comes after this.
+    /// The piece is a media type, and there was no memory to keep it. Nothing comes after this.
     NoMemory,
 }
 
@@ -26,11 +26,11 @@ pub enum Bad<'a> {
 struct Passed<'a> {
     /// The piece; empty where it is no item.
     piece: &'a str,
-    /// Its places where it is accepted.
+    /// The positions of its parts, if it is a media type.
     places: Option<Places>,
     /// What is left of the text.
     left: &'a str,
-    /// How many bytes were read by then.
+    /// How many bytes were read so far.
     steps: u128,
 }
 
@@ -101,7 +101,7 @@ fn pass<'a>(text: &'a str, from: u128) -> Passed<'a>
 ///
 /// Over `text/html, invalid, a/b; q=1` it gives `text/html`, the bad piece `invalid`, and
 /// `a/b; q=1`. Over `a/b ; q=1` it gives `a/b` and the bad piece `q`, since no space may stand
-/// before the semicolon; over `invalid` alone it gives nothing.
+/// before the semicolon. Over `invalid` alone it gives nothing, since that could still become a media type.
 #[derive(Clone, Drop)]
 pub struct MimeIter<'a> {
     alloc: Global,
@@ -123,8 +123,8 @@ impl<'a> Model for MimeIter<'a> {
 }
 
 impl<'a> MimeIter<'a> {
-    /// The media types of `s`, none of which is read yet. A media type will ask for memory once, for
-    /// its kept text; `*/*` and bad pieces never do.
+    /// An iterator over the media types of `s`, such as `text/html, */*;q=0.8`. Nothing is read yet. Each
+    /// media type will ask for memory once, for its kept text; `*/*` and bad pieces never do.
     pub fn new(alloc: Global, s: &'a str) -> MimeIter<'a>
         ensures text { result.text ≡ s.now }
         ensures left { result.left ≡ s.now }
@@ -140,7 +140,7 @@ impl<'a> MimeIter<'a> {
         }
     }
 
-    /// How many bytes were read so far, those of the items given included: 43 for all of
+    /// How many bytes were read so far, those of the items that were given included: 43 for all of
     /// `application/json, invalid, application/json`, which are 16, 7 and 16 bytes and 4 characters
     /// that were passed.
     pub fn steps(&self) -> u128
@@ -150,7 +150,8 @@ impl<'a> MimeIter<'a> {
         self.steps
     }
 
-    /// Passes pieces up to the first that is an item: that piece, with its places where it is accepted.
+    /// Passes pieces up to the first that is an item: that piece, with the positions of its parts if it is a
+    /// media type.
     #[inline(always)]
     fn find(&mut self) -> Option<(&'a str, Option<Places>)>
         ensures { IsFound self.old result self.new }
@@ -192,7 +193,7 @@ impl<'a> Iterator for MimeIter<'a> {
     }
 }
 
-/// Prints `MimeIter`.
+/// Prints the word `MimeIter`.
 impl fmt::Debug for MimeIter<'_> {
     fn fmt<W: fmt::Write>(&self, f: &mut fmt::Formatter<W>) -> fmt::Result {
         f.write_str("MimeIter")

@@ -1,5 +1,5 @@
-//! The laws of the definitions, as calls: each does nothing and ensures its law. The last ones
-//! give the constants, and show what the traits of names do.
+//! The laws of the definitions, as calls: each does nothing and ensures its law, so a caller that calls it has the
+//! law in its proof. Some give the constants, or show what traits do. docs/LAWS.md lists all claims.
 
 ghost use Rattle.std.specs.Prelude.{◌≡◌, ◌↔◌, IsTrue, IfOk, IsOk, map};
 ghost use Rattle.std.specs.Cmp.Lexicographic.{slice_cmp};
@@ -36,103 +36,106 @@ use std::alloc::AllocError;
 use std::cmp::Ordering;
 use std::hash::{Hash, Hasher};
 
-/// A text is spelled by at most one well-formed tree.
+/// A text is spelled by at most one well-formed tree: `a/b;p=x` only by the one with type `a`, subtype `b` and a
+/// plain parameter (RFC 7231, 3.1.1.1).
 pub fn one_tree()
     ensures { OneTree }
 {}
 
-/// A text is read as at most one value.
+/// A text is read as at most one value: what `Text/Plain` is read as doesn't turn on who reads it.
 pub fn one_reading()
     ensures { OneReading }
 {}
 
-/// The empty text is viable.
+/// The empty text is viable: `a/b` begins with it.
 pub fn empty_is_viable()
     ensures { EmptyIsViable }
 {}
 
-/// What a viable text begins with is viable.
+/// What a viable text begins with is viable: `a/b;p`, since `a/b;p="` is.
 pub fn front_of_viable_is_viable()
     ensures { FrontOfViableIsViable }
 {}
 
-/// An accepted text is viable.
+/// An accepted text is viable: `a/b`, for one.
 pub fn accepted_is_viable()
     ensures { AcceptedIsViable }
 {}
 
-/// Exactly one completion makes a viable refused text an accepted one.
+/// Exactly one completion makes a viable refused text an accepted one: for `a/b;p="x` it is `x"`.
 pub fn one_completion()
     ensures { OneCompletion }
 {}
 
-/// A text that a completion makes an accepted one is refused.
+/// A text that a completion makes an accepted one is refused: `a/b;p="`, since `a/b;p="x"` is accepted.
 pub fn completed_is_refused()
     ensures { CompletedIsRefused }
 {}
 
-/// Nothing makes a text that isn't viable an accepted one.
+/// Nothing makes a text that isn't viable an accepted one: `a b` is refused, whatever follows it.
 pub fn no_completion()
     ensures { NoCompletion }
 {}
 
-/// A refused text has exactly one fault.
+/// A refused text has exactly one fault: that of `text/;` is its byte at position 5, counted from 0.
 pub fn one_fault()
     ensures { OneFault }
 {}
 
-/// A text has exactly one longest viable front.
+/// A text has exactly one longest viable front: that of `a/b c` is `a/b`.
 pub fn one_front()
     ensures { OneFront }
 {}
 
-/// The longest viable front of a text of valid UTF-8 ends between characters.
+/// The longest viable front of a text of valid UTF-8 ends between characters: that of `a/bé` before the `é`.
 pub fn front_ends_between_characters()
     ensures { FrontEndsBetweenCharacters }
 {}
 
-/// The plus of a value is the last one of its essence after the subtype's first byte, if there is one.
+/// The plus of a value is the last one of its essence after the subtype's first byte, if there is one: that of
+/// `a/b+c+d` is at position 5 (RFC 6838, 4.2.8).
 pub fn plus_is_last()
     ensures { PlusIsLast }
 {}
 
-/// The kept text of a value that was read is read as the value.
+/// The kept text of a value that was read is read as the value: `a/b;p=X`, which is kept of `A/B;P=X`.
 pub fn kept_is_read()
     ensures { KeptIsRead }
 {}
 
 /// Of two values the first comes before the second, or they are equal, or the second comes before
-/// the first.
+/// the first: `a/b` comes before `a/b;p=1`, and that before `a/c`.
 pub fn one_order()
     ensures { OneOrder }
 {}
 
-/// What comes before a value comes before all that comes after it.
+/// What comes before a value comes before all that comes after it: `a/b` before `a/c` and so before `a/d`.
 pub fn before_is_transitive()
     ensures { BeforeIsTransitive }
 {}
 
-/// A text is a value without parameters exactly where the text in small letters is the kept text.
+/// A text is a value without parameters exactly where the text in small letters is the kept text: `Text/Plain` is
+/// `text/plain`, and `text/plain;` isn't.
 pub fn bare_text_is()
     ensures { BareTextIs }
 {}
 
-/// Two values are equal exactly where their essences and their pairs are the same.
+/// Two values are equal exactly where their essences and their pairs are the same: `a/b; p="x"` and `A/B;P=x`.
 pub fn mime_equality()
     ensures { (first second : OwnedMedia) → IsTrue (⟦<Mime as PartialEq>⟧.eq first second) ↔ Same first.media second.media }
 {}
 
-/// Two values compare as they come before each other.
+/// Two values compare as they come before each other: `a/b` is less than `a/c`.
 pub fn mime_order()
     ensures { (first second : OwnedMedia) → MatchOrdering (⟦<Mime as Ord>⟧.cmp first second) (Before first.media second.media) (Same first.media second.media) (Before second.media first.media) }
 {}
 
-/// Equal values feed a hasher the same.
+/// Equal values feed a hasher the same: `a/b; p="x"` and `A/B;P=x`.
 pub fn equal_values_hash_alike()
     ensures { (first second : OwnedMedia) → Same first.media second.media → ⟦<Mime as Hash>⟧.hash_input first ≡ ⟦<Mime as Hash>⟧.hash_input second }
 {}
 
-/// The constant media types, in the order of their table.
+/// The constant media types, in the order of their table, from `*/*` on.
 pub fn atom_constants() -> [Atom; 33]
     ensures { map atom_text result ≡ atom_table }
 {
@@ -173,57 +176,59 @@ pub fn atom_constants() -> [Atom; 33]
     ]
 }
 
-/// A text has exactly one cut.
+/// A text has exactly one cut: that of `a/b, e, c/d` has the items `a/b`, the bad piece `e`, and `c/d`.
 pub fn one_cut()
     ensures { OneCut }
 {}
 
 /// A text is pieces, a character after each, and a last piece, which is accepted or the rest of the
-/// text's cut.
+/// text's cut: `e,a/b` is the piece `e`, a comma, and the last piece `a/b`.
 pub fn cut_writes_text()
     ensures { CutWritesText }
 {}
 
-/// In a text of valid UTF-8 what is passed after a piece is one character.
+/// In a text of valid UTF-8 what is passed after a piece is one character: both bytes of the `é` of `a/bé`.
 pub fn passes_one_character()
     ensures { PassesOneCharacter }
 {}
 
-/// A text takes exactly one number of steps.
+/// A text takes exactly one number of steps: `a/b,c/d` takes 7, one for each byte.
 pub fn one_count()
     ensures { OneCount }
 {}
 
 /// A comma ends what stands before it, unless that is an open quoted value, and what comes after it
-/// is cut as it is alone.
+/// is cut as it is alone: `e f, a/b` has the item `a/b`, as `a/b` alone has.
 pub fn comma_contains()
     ensures { CommaContains }
 {}
 
 /// Values that were read come back from their kept texts with a comma and a space between them, and
-/// nothing else does.
+/// nothing else does: `a/b, c/d` gives `a/b` and `c/d`.
 pub fn joined_comes_back()
     ensures { JoinedComesBack }
 {}
 
-/// A run gives the items of the cut; out of memory may come for one that is a media type other than
-/// `*/*`, and ends the run.
+/// A run gives the items of the cut, over `a/b, e, c/d` two media types and a bad piece. Out of memory may come
+/// for an item that is a media type other than `*/*`, and ends the run.
 pub fn run_gives_cut()
     ensures { RunGivesCut }
 {}
 
 /// A run over a text with a comma gives the items of what stands before it, the rest of that, and
-/// the items of what comes after it, unless the rest is an open quoted value.
+/// the items of what comes after it, unless the rest is an open quoted value: over `e, c/d` it gives the bad
+/// piece `e`, which is the rest of `e` alone, and `c/d`.
 pub fn comma_contains_on_runs()
     ensures { CommaContainsOnRuns }
 {}
 
-/// A run over a printed list of values that were read gives these values.
+/// A run over a printed list of values that were read gives these values: over `a/b, c/d` the two.
 pub fn printed_list_comes_back()
     ensures { PrintedListComesBack }
 {}
 
-/// A clone of a `MimeIter` is always had, and is the same, its steps included.
+/// A clone of a `MimeIter` always succeeds, and is the same, its steps included: from the middle of a list it
+/// gives what the other gives.
 pub fn iter_clone<'a>(iter: &MimeIter<'a>) -> Result<MimeIter<'a>, AllocError>
     ensures same { IfOk result (λ other. other ≡ iter.now) }
     ensures always { IsOk result }
@@ -231,8 +236,8 @@ pub fn iter_clone<'a>(iter: &MimeIter<'a>) -> Result<MimeIter<'a>, AllocError>
     iter.clone()
 }
 
-/// The constant names, in the order of their table. Each has its text, ignores
-/// case, and holds no ASCII capital.
+/// The constant names, in the order of their table, from `*` on. Each has its text, ignores case, and holds no
+/// ASCII capital.
 pub fn name_constants() -> [Name<'static>; 38]
     ensures texts { map name_text result ≡ name_table }
     ensures flags { IsTrue (list_all (λ name. name.ignores_case) result) }
@@ -280,25 +285,26 @@ pub fn name_constants() -> [Name<'static>; 38]
     ]
 }
 
-/// Names are equal if their texts and their flags are.
+/// Names are equal if their texts and their flags are: `TEXT` isn't the name `text` whose flag is `false`.
 pub fn name_equality()
     ensures { (first second : Name) → IsTrue (⟦<Name<'static> as PartialEq>⟧.eq first second)
         ↔ ((first.text.now ≡ second.text.now) × (first.ignores_case ≡ second.ignores_case)) }
 {}
 
-/// Names are ordered by the bytes of their texts, and then by their flags, `false` first.
+/// Names are ordered by the bytes of their texts, and then by their flags, `false` first: `HTML` comes before
+/// `XML`.
 pub fn name_order()
     ensures { (first second : Name) → ⟦<Name<'static> as Ord>⟧.cmp first second
         ≡ ordering_then (slice_cmp nat_cmp first.text.now second.text.now) (bool_cmp first.ignores_case second.ignores_case) }
 {}
 
-/// Names of the same text and flag feed a hasher the same.
+/// Names of the same text and flag feed a hasher the same: `TEXT` and the type of `Text/Plain`.
 pub fn equal_names_hash_alike()
     ensures { (first second : Name) → first.text.now ≡ second.text.now → first.ignores_case ≡ second.ignores_case
         → ⟦<Name<'static> as Hash>⟧.hash_input first ≡ ⟦<Name<'static> as Hash>⟧.hash_input second }
 {}
 
-/// A name can always be cloned, and its clone has its text and its flag.
+/// A name can always be cloned, and its clone has its text and its flag: that of `TEXT` is `TEXT`.
 pub fn name_clone()
     ensures same { (name copy : Name) → ⟦<Name<'static> as Clone>⟧.is_clone name copy
         → (copy.text.now ≡ name.text.now) × (copy.ignores_case ≡ name.ignores_case) }

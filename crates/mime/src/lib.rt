@@ -1,12 +1,39 @@
 //! Media types such as `text/plain; charset=utf-8` (RFC 7231, 3.1.1.1): read, held, compared and printed.
+//! It is a port of the Rust crate `mime`, series 0.3, whose promises are contracts.
 //!
-//! `Mime::from_str(alloc, "TEXT/PLAIN; Charset=UTF-8")?` is the media type that prints as
-//! `text/plain; charset=utf-8`. It equals `TEXT_PLAIN_UTF_8.mime()`, and `get_param(CHARSET)` finds `utf-8`.
-//! A text that isn't a media type is refused with its one fault (`ParseError`), at its exact byte.
-//! `MimeIter` takes the media types of a list one by one, whatever is broken between them.
+//! [`Mime::from_str`] reads a media type from a text, [`MimeIter`] takes them one by one out of a list, such
+//! as an `Accept` header, and [`mime_eq_str`] compares one with a text. The 38 constants such as [`CHARSET`]
+//! are names, the 33 such as [`TEXT_PLAIN_UTF_8`] are media types. [`laws`] says what holds of all of them.
 //!
-//! A call that allocates takes the allocator first and can run out of memory; all others take none. What
-//! a media type means (ranges, weights, escapes in quoted values) is left to the caller.
+//! # Example
+//! Is a body in UTF-8? It is for the `Content-Type` `TEXT/HTML; Charset="UTF-8"`.
+//!
+//! ```rust
+//! use mime::{CHARSET, FromStrError, Mime, name_eq_str};
+//! use std::alloc::Global;
+//!
+//! /// Whether a `Content-Type` says that the body is in UTF-8.
+//! pub fn says_utf8(alloc: Global, content_type: &str) -> Result<bool, FromStrError> {
+//!     let mime = Mime::from_str(alloc, content_type)?;
+//!     let charset = mime.get_param(CHARSET);
+//!     Ok(charset.is_some_and(|charset| name_eq_str(&charset, "utf-8")))
+//! }
+//! ```
+//!
+//! # Errors
+//! A text that isn't a media type is refused with its one fault, a [`ParseError`]: what is missing at its
+//! end, or the first byte that no media type could have there, with its position. Positions count bytes from
+//! 0. A broken entry of a list is [`Bad::Piece`], and those after it are read all the same.
+//!
+//! # Memory
+//! A call that allocates takes the allocator first, or is `clone`, and its error says when memory ran out.
+//! `Mime::from_str`, `clone` of a `Mime` and each media type of a `MimeIter` ask for memory once; `*/*` and the
+//! constants never do, and nothing else does.
+//!
+//! # Left out
+//! What a media type means: ranges, weights, choosing by `Accept`, escapes in quoted values, extensions of
+//! files. docs/DIFFERENCES.md lists what differs from the Rust crate and from RFC 7231, crates/mime/CALLING.md
+//! every contract, docs/RECIPES.md what callers do.
 #![tactic(auto)]
 
 mod atoms;

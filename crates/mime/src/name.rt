@@ -24,8 +24,8 @@ pub struct Name<'a> {
 }
 
 impl<'a> Name<'a> {
-    /// The name's text, which lives as long as what the name was lent from, and so longer than the
-    /// `Name`: `TEXT.as_str()` is `"text"`.
+    /// The name's text: `TEXT.as_str()` is `"text"`. It lives as long as what the name was lent from, which may
+    /// be longer than the `Name`.
     pub fn as_str(&self) -> &'a str
         ensures { result.now ≡ self.now.text.now }
     {
@@ -33,7 +33,7 @@ impl<'a> Name<'a> {
     }
 }
 
-/// Prints the text, padded to a width where one is given.
+/// Prints the text, padded to a width where one is given: [`TEXT`](crate::TEXT) prints `text`.
 impl fmt::Display for Name<'_> {
     ghost output = { λ name. Some name.text.now };
 
@@ -42,7 +42,7 @@ impl fmt::Display for Name<'_> {
     }
 }
 
-/// Prints the text in quotes, with escapes, as a `str` does.
+/// Prints the text in quotes, with escapes, as a `str` does: [`TEXT`](crate::TEXT) prints `"text"`.
 impl fmt::Debug for Name<'_> {
     ghost debug_output = { λ name. debug_str name.text.now };
 
@@ -139,7 +139,8 @@ pub(crate) fn eq_ignoring_case(a: &[u8], b: &[u8]) -> bool
 }
 
 /// Whether a name is the text `s`: without regard to ASCII case where the name ignores it, else
-/// byte for byte. `name_eq_str(&TEXT, "Text")` is true; the boundary `ABC` isn't `abc`.
+/// byte for byte (RFC 7231, 3.1.1.1). `name_eq_str(&TEXT, "Text")` is true; the boundary `ABC` isn't `abc`.
+/// It asks for no memory.
 #[inline]
 pub fn name_eq_str(name: &Name<'_>, s: &str) -> bool
     ensures { IsTrue result ↔ NameIs name.now.text.now name.now.ignores_case s.now }
@@ -147,18 +148,20 @@ pub fn name_eq_str(name: &Name<'_>, s: &str) -> bool
     name.text == s || name.ignores_case && eq_ignoring_case(name.text.as_bytes(), s.as_bytes())
 }
 
-/// A key that looks a parameter up by its name, with [`Mime::get_param`](crate::Mime::get_param).
+/// A key that looks a parameter up by its name, with [`Mime::get_param`](crate::Mime::get_param): a [`TextKey`], a
+/// [`Name`], or a type of your own, for which `Accepts` says what it accepts.
 pub trait ParamKey: Drop {
     /// The names that the key accepts, by text and flag.
     ghost Accepts: { Self → List ℕ → Bool → Type 0 };
 
-    /// Whether the key accepts a parameter's name, which is given in small letters with its flag set.
+    /// Whether the key accepts a parameter's name, which is given in small letters with its flag set:
+    /// `TextKey("P")` accepts `p`.
     fn accepts(&self, name: Name<'_>) -> bool
         ensures { IsTrue result ↔ Accepts self.now name.entry.text.now name.entry.ignores_case };
 }
 
 /// The key that accepts the names which are this text, as [`name_eq_str`] compares them:
-/// `TextKey("Charset")` accepts `charset`.
+/// `TextKey("Charset")` accepts `charset` (names ignore case: RFC 7231, 3.1.1.1).
 #[derive(Clone, Copy)]
 pub struct TextKey<'k>(pub &'k str);
 
@@ -170,7 +173,8 @@ impl ParamKey for TextKey<'_> {
     }
 }
 
-/// A name as a key accepts the names that are equal to it, in text and flag.
+/// A name as a key accepts the names that are equal to it, in text and flag: [`CHARSET`](crate::CHARSET)
+/// accepts `charset`.
 impl ParamKey for Name<'_> {
     ghost Accepts = { λ key name ignores_case. (name ≡ key.text.now) × (ignores_case ≡ key.ignores_case) };
 

@@ -47,7 +47,8 @@ impl Text {
 ///
 /// Its text is kept as it was read, but for ASCII capitals, which are made small in the type, the
 /// subtype, the parameters' names and the value of `charset`, and but for a parameter list without
-/// a parameter, which is cut off.
+/// a parameter, which is cut off: `Text/Plain; P=X` is kept as `text/plain; p=X`, and `text/plain;` as
+/// `text/plain`.
 #[derive(Drop)]
 pub struct Mime {
     text: Text,
@@ -69,16 +70,16 @@ impl Model for Mime {
 
 impl Mime {
     /// Reads a media type from the whole of `s` (RFC 7231, 3.1.1.1, with the departures that
-    /// docs/DIFFERENCES.md lists). It asks for memory once, for the kept text, and for `*/*` never.
+    /// docs/DIFFERENCES.md lists). It asks for memory once, for the kept text, and never for `*/*`.
     ///
     /// `TEXT/PLAIN; CHARSET=UTF-8; FOO=BAR` is kept as `text/plain; charset=utf-8; foo=BAR`, and
     /// `text/plain; ` as `text/plain`.
     ///
     /// # Errors
-    /// The one fault of a text that isn't a media type, told without asking for memory: what is
-    /// missing at its end, as `MissingEqual` for `a/b;p`, or else the position (in bytes, from 0) of
-    /// the first byte that no media type could have there, as 5 for `text/;`. [`ParseError::NoMemory`] comes
-    /// only for a media type, and never for `*/*`.
+    /// The one fault of a text that isn't a media type: what is missing at its end, as `MissingEqual` for
+    /// `a/b;p`, or else the position (in bytes, from 0) of the first byte that no media type could have
+    /// there, as 5 for `text/;`. It takes no memory. [`ParseError::NoMemory`] comes only for a media type,
+    /// and never for `*/*`.
     pub fn from_str(alloc: Global, s: &str) -> Result<Mime, FromStrError>
         // What is read has the value that the text is read as.
         ensures read { IfOk result (λ mime. Reads s.now mime.media) }
@@ -137,7 +138,7 @@ impl Mime {
         }
     }
 
-    /// The type, in small letters: `text` in `Text/Plain` (RFC 7231, 3.1.1.1).
+    /// The type, in small letters: `text` for `Text/Plain` (RFC 7231, 3.1.1.1).
     pub fn type_(&self) -> Name<'_>
         ensures text { result.text.now ≡ type_of self.now.media }
         ensures flag { result.ignores_case ≡ true }
@@ -178,8 +179,8 @@ impl Mime {
         })
     }
 
-    /// The essence, type and subtype with its suffix, in small letters: `image/svg+xml` for
-    /// `Image/SVG+XML; q=1`.
+    /// The essence, in small letters: the type and the subtype with its suffix, `image/svg+xml` for
+    /// `Image/SVG+XML; q=1` (RFC 7231, 3.1.1.1).
     pub fn essence_str(&self) -> &str
         ensures { result.now ≡ self.now.media.essence }
     {
@@ -190,9 +191,9 @@ impl Mime {
         }
     }
 
-    /// The kept text: with a parameter the whole text that was read, with its type, subtype,
-    /// parameters' names and charset in small letters, and else the essence. `a/b;P=X; ` gives
-    /// `a/b;p=X; `. Read again, it has the same value and the same text.
+    /// The kept text, which is what is printed. Where there is a parameter, it is the whole text that was
+    /// read, with type, subtype, parameters' names and charset in small letters; else it is the essence.
+    /// `a/b;P=X; ` gives `a/b;p=X; `. Read again, it has the same value and the same text.
     pub fn as_str(&self) -> &str
         ensures text { result.now ≡ self.now.media.kept }
         ensures reads { Reads result.now self.now.media }
@@ -233,7 +234,7 @@ impl Mime {
 
     /// The value of the first parameter whose name the key accepts, or none if it accepts none:
     /// `TextKey("P")` finds `1` in `a/b;p=1;P=2`, and `CHARSET` finds `utf-8` in
-    /// `text/html; Charset="UTF-8"`. It asks for no memory.
+    /// `text/html; Charset="UTF-8"` (RFC 7231, 3.1.1.1). It asks for no memory.
     pub fn get_param<K: ParamKey>(&self, key: K) -> Option<Name<'_>>
         ensures found { IsFirstAccepted (K.Accepts key) (items_of self.now.media.pairs) (option_map name_seen result) }
         ensures low { IfSome result (λ name. name.ignores_case ≡ true → lowered name.text.now ≡ name.text.now) }

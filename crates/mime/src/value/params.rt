@@ -77,7 +77,7 @@ impl<'a> Iterator for Params<'a> {
     }
 }
 
-/// Prints `Params`.
+/// Prints the word `Params`.
 impl fmt::Debug for Params<'_> {
     fn fmt<W: fmt::Write>(&self, f: &mut fmt::Formatter<W>) -> fmt::Result {
         f.write_str("Params")

@@ -33,7 +33,7 @@ fn same(first: &Mime, second: &Mime) -> bool
     same_parts(first, second)
 }
 
-/// The same, part by part: a list of parameters can be written in more than one way.
+/// Whether two values are equal, part by part: a list of parameters can be written in more than one way.
 #[inline(never)]
 fn same_parts(first: &Mime, second: &Mime) -> bool
     requires { length first.now.media.pairs ≡ length second.now.media.pairs }
@@ -55,7 +55,7 @@ fn order(first: &Mime, second: &Mime) -> Ordering
     order_parts(first, second)
 }
 
-/// The same, part by part.
+/// How two values compare, part by part.
 #[inline(never)]
 fn order_parts(first: &Mime, second: &Mime) -> Ordering
     ensures { result ≡ media_cmp first.now.media second.now.media }
@@ -83,7 +83,7 @@ fn feed<H: Hasher>(mime: &Mime, state: &mut H)
 }
 
 /// Two values are equal if their essences are the same and so are their parameters, in the same
-/// order: `a/b; p="x"` and `A/B;P=x` are. It asks for no memory.
+/// order: `a/b; p="x"` and `A/B;P=x` are (RFC 7231, 3.1.1.1). It asks for no memory.
 impl PartialEq for Mime {
     ghost eq = { on (λ mime. mime.media) (eq_by_cmp media_cmp) };
 
@@ -114,7 +114,8 @@ impl PartialOrd for Mime {
 }
 
 /// Values are ordered by the bytes of their essences, and then by their parameters, pair by pair,
-/// each by its name and then its value; a list that begins another comes first.
+/// each by its name and then its value; a list that begins another comes first: `a/b`, `a/b;p=1`, `a/b;p=2`, `a/c`.
+/// It asks for no memory.
 impl Ord for Mime {
     ghost cmp = { on (λ mime. mime.media) media_cmp };
 
@@ -133,7 +134,8 @@ impl Ord for Mime {
     }
 }
 
-/// Feeds a hasher the parameters and the essence, so equal values the same. It asks for no memory.
+/// Feeds a hasher the parameters and the essence, so equal values feed it the same: `a/b; p="x"` and
+/// `A/B;P=x` do. Which bytes are fed is open. It asks for no memory.
 impl Hash for Mime {
     ghost hash_input = { λ mime. media_input mime.media };
 
@@ -144,7 +146,8 @@ impl Hash for Mime {
     }
 }
 
-/// Makes a copy with the same kept text. A fixed one takes no memory.
+/// Makes a copy with the same kept text. It asks for memory once, and its error says that there was none;
+/// a constant and `*/*` take none.
 impl Clone for Mime {
     ghost is_clone = { λ mime copy. copy ≡ mime };
 
@@ -162,7 +165,7 @@ impl Clone for Mime {
     }
 }
 
-/// Prints the kept text, padded to a width where one is given.
+/// Prints the kept text, padded to a width where one is given: `Text/Plain;` prints `text/plain`.
 impl fmt::Display for Mime {
     ghost output = { λ mime. Some mime.media.kept };
 
@@ -171,7 +174,7 @@ impl fmt::Display for Mime {
     }
 }
 
-/// Prints the kept text in quotes, with escapes, as a `str` does.
+/// Prints the kept text in quotes, with escapes, as a `str` does: `a/b;p="x"` prints `"a/b;p=\"x\""`.
 impl fmt::Debug for Mime {
     ghost debug_output = { λ mime. debug_str mime.media.kept };
 
