@@ -14,7 +14,9 @@ pub fn status_of(fault: &ParseError) -> u16
 {
     match fault {
         ParseError::MissingSlash => 400,
+        ParseError::MissingSubtype => 400,
         ParseError::MissingEqual => 400,
+        ParseError::MissingValue => 400,
         ParseError::MissingQuote => 400,
         ParseError::InvalidToken { .. } => 400,
         ParseError::NoMemory => 503,
@@ -54,7 +56,9 @@ mod tests {
             ("text/plain", Some(415)),
             ("application/json; charset=utf-8", Some(415)),
             ("json", Some(400)),
+            ("application/", Some(400)),
             ("application/json;q", Some(400)),
+            ("application/json;q=", Some(400)),
             ("application/json;q=\"1", Some(400)),
             ("application/json;;", Some(400)),
             ("application json", Some(400)),

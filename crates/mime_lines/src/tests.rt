@@ -5,6 +5,7 @@ ghost use Rattle.std.specs.Prelude.{◌≡◌, None, false};
 use crate::{Device, Failed, Mode, RunError, Sink, run};
 use std::alloc::Global;
 use std::io::{Read, Write};
+use std::process::Abort;
 use std::test::Fail;
 use std::{fmt, io};
 
@@ -147,8 +148,8 @@ where
     }
 }
 
-/// A run from memory to a writer that takes one byte a write.
-fn run_to(alloc: Global, input: &[u8], room: usize, fails_at_flush: bool) -> Outcome {
+/// A run in a mode from memory to a writer that takes one byte a write.
+fn run_to(mode: Mode, alloc: Global, input: &[u8], room: usize, fails_at_flush: bool) -> Outcome {
     let mut source = Device {
         inner: input,
         failed: false,
@@ -161,7 +162,7 @@ fn run_to(alloc: Global, input: &[u8], room: usize, fails_at_flush: bool) -> Out
         },
         failed: false,
     };
-    let answer = run(alloc, &mut source, &mut sink, Mode::Parts);
+    let answer = run(alloc, &mut source, &mut sink, mode);
     Outcome {
         answer,
         written: sink.inner.kept,
@@ -187,9 +188,22 @@ impl fmt::Write for Room {
 const NO_SLASH: &str =
     "bad mime parse error: a slash (/) was missing between the type and subtype\n";
 
+/// A run went well, and this is what it wrote.
+fn check_report(
+    rt: &impl Abort,
+    alloc: Global,
+    outcome: &Outcome,
+    report: &str,
+) -> Result<(), Fail> {
+    let written = String::from_utf8_lossy(alloc, outcome.written.as_slice())?;
+    assert_eq!(rt; outcome.answer, Ok(()), "for {report}");
+    assert_eq!(rt; &*written, report);
+    Ok(())
+}
+
 #[test]
 fn reports_each_line(rt: HostRuntime) -> Result<(), Fail> {
-    let rows: [(&[u8], &str); 10] = [
+    static ROWS: &[(&[u8], &str)] = &[
         (
             b"IMAGE/SVG+XML\ntext/\nno slash\n",
             "ok image/svg+xml\ntype image\nsubtype svg\nsuffix xml\n\
@@ -226,25 +240,18 @@ fn reports_each_line(rt: HostRuntime) -> Result<(), Fail> {
             "bad mime parse error: a value was missing behind the equals sign (=)\n",
         ),
     ];
-    for (input, report) in rows {
-        let shown = String::from_utf8_lossy(rt.alloc(), input)?;
+    for &(input, report) in ROWS {
         let whole = run_over(rt.alloc(), input);
-        assert_eq!(rt; whole.answer, Ok(()), "{shown}");
-        assert_eq!(rt; whole.written.as_slice(), report.as_bytes(), "{shown}");
+        check_report(&rt, rt.alloc(), &whole, report)?;
         let slow = run_over(rt.alloc(), SlowReader { left: input });
-        assert_eq!(rt; slow.answer, Ok(()), "{shown}, byte by byte");
-        assert_eq!(rt;
-            slow.written.as_slice(),
-            report.as_bytes(),
-            "{shown}, byte by byte"
-        );
+        check_report(&rt, rt.alloc(), &slow, report)?;
     }
     Ok(())
 }
 
 #[test]
 fn reports_the_items_of_each_line(rt: HostRuntime) -> Result<(), Fail> {
-    let rows: [(&[u8], &str); 9] = [
+    static ROWS: &[(&[u8], &str)] = &[
         (
             b"application/json, invalid, text/html\ninvalid\n",
             "ok application/json\nbad invalid\nok text/html\n",
@@ -267,11 +274,11 @@ fn reports_the_items_of_each_line(rt: HostRuntime) -> Result<(), Fail> {
             "bad text/\nbad a/b;p=\nok c/d\n",
         ),
     ];
-    for (input, report) in rows {
-        let shown = String::from_utf8_lossy(rt.alloc(), input)?;
+    for &(input, report) in ROWS {
         let whole = run_in(Mode::List, rt.alloc(), input);
-        assert_eq!(rt; whole.answer, Ok(()), "{shown}");
-        assert_eq!(rt; whole.written.as_slice(), report.as_bytes(), "{shown}");
+        check_report(&rt, rt.alloc(), &whole, report)?;
+        let slow = run_in(Mode::List, rt.alloc(), SlowReader { left: input });
+        check_report(&rt, rt.alloc(), &slow, report)?;
     }
     Ok(())
 }
@@ -370,35 +377,41 @@ fn an_endless_input_is_too_long(rt: HostRuntime) {
     }
 }
 
+/// The writer has room for so many bytes: a run that failed wrote all of them, and only its sink has failed.
+fn check_ended(rt: &impl Abort, ended: &Outcome, room: usize, answer: Result<(), RunError>) {
+    assert_eq!(rt; ended.answer, answer, "{room} bytes");
+    assert_eq!(rt; ended.written.len(), room);
+    let failed = (ended.source_failed, ended.sink_failed);
+    assert_eq!(rt; failed, (false, answer.is_err()), "{room} bytes");
+}
+
 #[test]
-fn stops_where_a_write_or_a_flush_fails(rt: HostRuntime) -> Result<(), Fail> {
-    let mut lines = Vec::new(rt.alloc());
-    for _ in 0..400 {
-        lines.extend_from_slice(b"a/b\n")?;
-    }
-    // The input, the room of the writer, whether its flush fails, and the answer.
-    let cases: [(&[u8], usize, bool, Result<(), RunError>); 8] = [
-        (b"a/b", 24, false, Ok(())),
-        (b"a/b", 23, false, Err(RunError::Write)),
-        (b"a/b", 5, false, Err(RunError::Write)),
-        (b"a/b", 0, false, Err(RunError::Write)),
-        (b"a/b", 24, true, Err(RunError::Write)),
-        (b"", 0, false, Ok(())),
-        // A flush is made for an empty report and for a long one too.
-        (b"", 0, true, Err(RunError::Write)),
-        (lines.as_slice(), 9_600, true, Err(RunError::Write)),
+fn stops_where_a_write_or_a_flush_fails(rt: HostRuntime) {
+    // The mode, the input, and the length of its report.
+    static CASES: &[(Mode, &[u8], usize)] = &[
+        (Mode::Parts, b"a/b", 24),
+        (Mode::List, b"a/b", 7),
+        (Mode::Parts, b"", 0),
+        (Mode::List, b"", 0),
     ];
-    for (input, room, fails_at_flush, answer) in cases {
-        let ended = run_to(rt.alloc(), input, room, fails_at_flush);
-        assert_eq!(rt; ended.answer, answer, "{room} bytes, {fails_at_flush}");
-        assert_eq!(rt; ended.written.len(), room, "{room} bytes, {fails_at_flush}");
-        assert_eq!(rt;
-            ended.sink_failed,
-            answer.is_err(),
-            "{room} bytes, {fails_at_flush}"
-        );
-        assert!(rt; !ended.source_failed, "{room} bytes, {fails_at_flush}");
+    for &(mode, input, len) in CASES {
+        for room in 0..len {
+            let ended = run_to(mode, rt.alloc(), input, room, false);
+            check_ended(&rt, &ended, room, Err(RunError::Write));
+        }
+        let whole = run_to(mode, rt.alloc(), input, len, false);
+        check_ended(&rt, &whole, len, Ok(()));
+        // A flush is made for an empty report too.
+        let unflushed = run_to(mode, rt.alloc(), input, len, true);
+        check_ended(&rt, &unflushed, len, Err(RunError::Write));
     }
+}
+
+#[test]
+fn a_long_report_is_flushed(rt: HostRuntime) -> Result<(), Fail> {
+    let lines = "a/b\n".repeat(rt.alloc(), 400)?;
+    let unflushed = run_to(Mode::Parts, rt.alloc(), lines.as_bytes(), 9_600, true);
+    check_ended(&rt, &unflushed, 9_600, Err(RunError::Write));
     Ok(())
 }
 

@@ -5,6 +5,7 @@ use mime::{Mime, STAR_STAR, TEXT_PLAIN, TEXT_PLAIN_UTF_8};
 use std::alloc::AllocError;
 use std::cmp::Ordering;
 use std::hash::{DefaultHasher, Hash, Hasher};
+use std::process::Abort;
 use std::test::Fail;
 
 fn hash_of(mime: &Mime) -> u64 {
@@ -20,12 +21,21 @@ fn fixed_values_are_copied_without_memory(rt: HostRuntime) -> Result<(), Fail> {
     for atom in [STAR_STAR, TEXT_PLAIN, TEXT_PLAIN_UTF_8] {
         let copy = atom.mime().clone()?;
         let again = copy.clone()?;
-        assert!(rt; again == copy && again.as_str() == atom.text(), "{atom:?}");
+        let is_copied = is_same(&again, &copy) && again.as_str() == atom.text();
+        assert!(rt; is_copied, "{atom:?}");
     }
     let any = Mime::from_str(alloc, "*/*")?;
     assert!(rt; any.clone()? == STAR_STAR.mime());
     drop(blocks);
     Ok(())
+}
+
+/// How two values compare, and whether they hash alike.
+fn check_order(rt: &impl Abort, first: &Mime, second: &Mime, order: Ordering) {
+    let same = order == Ordering::Equal;
+    assert_eq!(rt; first.cmp(second), order);
+    assert!(rt; (*first == *second) == same);
+    assert!(rt; (hash_of(first) == hash_of(second)) == same);
 }
 
 #[test]
@@ -36,15 +46,17 @@ fn values_are_compared_without_memory(rt: HostRuntime) -> Result<(), Fail> {
     let third = Mime::from_str(alloc, "a/b;p=y")?;
     let read = Mime::from_str(alloc, "text/plain;charset=\"utf-8\"")?;
     let blocks = all_memory(alloc)?;
-    assert!(rt; first == second && first != third);
-    assert_eq!(rt; first.cmp(&second), Ordering::Equal);
-    assert!(rt; first < third && third > second);
-    assert_eq!(rt; hash_of(&first), hash_of(&second));
-    assert!(rt; hash_of(&first) != hash_of(&third));
-    let constant = TEXT_PLAIN_UTF_8.mime();
-    assert!(rt; read == constant && hash_of(&read) == hash_of(&constant));
+    check_order(&rt, &first, &second, Ordering::Equal);
+    check_order(&rt, &first, &third, Ordering::Less);
+    check_order(&rt, &third, &second, Ordering::Greater);
+    check_order(&rt, &read, &TEXT_PLAIN_UTF_8.mime(), Ordering::Equal);
     drop(blocks);
     Ok(())
+}
+
+/// Whether two values are equal, with the same kept text.
+fn is_same(first: &Mime, second: &Mime) -> bool {
+    *first == *second && first.as_str() == second.as_str()
 }
 
 /// A copy of a value that was read asks once, for its text; refused, it leaves the value as it was.
@@ -64,12 +76,13 @@ fn one_request_for_each_copy(rt: HostRuntime) -> Result<(), Fail> {
         let blocks = all_memory(alloc)?;
         let refused: Result<Mime, AllocError> = mime.clone();
         assert!(rt; refused.is_err(), "{text} without memory");
-        assert!(rt; mime == like && mime.as_str() == like.as_str(), "{text}");
+        let is_kept = is_same(&mime, &like);
+        assert!(rt; is_kept, "{text}");
         drop(spare);
         let copy: Result<Mime, AllocError> = mime.clone();
         drop(blocks);
-        let copy = copy?;
-        assert!(rt; copy == mime && copy.as_str() == mime.as_str(), "{text}");
+        let is_copied = is_same(&copy?, &mime);
+        assert!(rt; is_copied, "{text}");
     }
     Ok(())
 }

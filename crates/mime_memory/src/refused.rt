@@ -2,10 +2,11 @@
 
 use crate::taken::all_memory;
 use mime::{
-    Bad, CHARSET, Mime, MimeIter, ParseError, TEXT, TextKey, UTF_8, mime_eq_str, name_eq_str,
+    Bad, CHARSET, Mime, MimeIter, PLAIN, ParseError, TEXT, TextKey, UTF_8, mime_eq_str, name_eq_str,
 };
 use std::alloc::Global;
 use std::fmt::Write;
+use std::process::Abort;
 use std::test::Fail;
 
 /// The fault of a reading, or none if the text was read.
@@ -15,36 +16,23 @@ fn fault_of(alloc: Global, text: &str) -> Option<ParseError> {
         .map(|error| *error.fault())
 }
 
+const TEXT_WITH_PARAMETERS: &str = "TEXT/PLAIN; CHARSET=UTF-8; FOO=BAR";
+
 #[test]
-fn without_memory(rt: HostRuntime) -> Result<(), Fail> {
-    let alloc = rt.alloc();
-    let text = "TEXT/PLAIN; CHARSET=UTF-8; FOO=BAR";
-    let read = Mime::from_str(alloc, text)?;
-    let mut printed = String::with_capacity(alloc, 200)?;
-    let blocks = all_memory(alloc)?;
-    assert!(rt;
-        Vec::<u8>::with_capacity(alloc, 8).is_err(),
-        "memory is left"
-    );
-    assert!(rt;
-        Vec::<u8>::with_capacity(alloc, text.len()).is_err(),
-        "memory is left"
-    );
-    // `*/*` asks for none.
-    let any = Mime::from_str(alloc, "*/*")?;
-    assert_eq!(rt; any.as_str(), "*/*");
-    // Every other accepted text asks, and a refused text doesn't.
-    let no_memory = Some(ParseError::NoMemory);
-    let cases = [
-        (text, no_memory),
-        ("a/b", no_memory),
-        ("*/*;", no_memory),
-        ("a/b;p=\"é;,\"", no_memory),
+fn reads_without_memory(rt: HostRuntime) -> Result<(), Fail> {
+    const NO_MEMORY: Option<ParseError> = Some(ParseError::NoMemory);
+    // Every accepted text other than `*/*` asks for memory, and a refused text doesn't.
+    static CASES: &[(&str, Option<ParseError>)] = &[
+        ("*/*", None),
+        (TEXT_WITH_PARAMETERS, NO_MEMORY),
+        ("a/b", NO_MEMORY),
+        ("*/*;", NO_MEMORY),
+        ("a/b;p=\"é;,\"", NO_MEMORY),
         ("", Some(ParseError::MissingSlash)),
         ("text", Some(ParseError::MissingSlash)),
         ("text/", Some(ParseError::MissingSubtype)),
         ("a/b;p", Some(ParseError::MissingEqual)),
-        ("a/b;p=\"\\\"é\"; q=\"\"", no_memory),
+        ("a/b;p=\"\\\"é\"; q=\"\"", NO_MEMORY),
         ("a/b;p=", Some(ParseError::MissingValue)),
         ("a/b;p=\"\\\"", Some(ParseError::MissingQuote)),
         ("a b", Some(ParseError::InvalidToken { pos: 1, byte: 0x20 })),
@@ -57,43 +45,48 @@ fn without_memory(rt: HostRuntime) -> Result<(), Fail> {
             Some(ParseError::InvalidToken { pos: 7, byte: 0x20 }),
         ),
     ];
-    for (text, expected) in cases {
+    let alloc = rt.alloc();
+    let mut printed = String::with_capacity(alloc, 200)?;
+    let blocks = all_memory(alloc)?;
+    let is_left = Vec::<u8>::with_capacity(alloc, 8).is_ok();
+    assert!(rt; !is_left, "memory is left");
+    for &(text, expected) in CASES {
         assert!(rt; fault_of(alloc, text) == expected, "{text:?}");
     }
-    let Err(error) = Mime::from_str(alloc, "a/b") else {
-        panic!(rt; "memory is left");
-    };
-    write!(printed, "{error}")?;
-    assert_eq!(rt; printed.as_str(), "mime parse error: memory ran out");
-    // Parts, parameters, look-up and comparison ask for none.
-    assert!(rt; read.type_() == TEXT && read.subtype().as_str() == "plain");
-    assert!(rt; read.suffix().is_none() && read.essence_str() == "text/plain");
+    let fault = fault_of(alloc, "a/b").ok_or("memory is left")?;
+    write!(printed, "{fault}")?;
+    drop(blocks);
+    assert_eq!(rt; printed.as_str(), "memory ran out");
+    Ok(())
+}
+
+/// Parts and parameters of a value, with the values of two keys.
+fn check_parts(rt: &impl Abort, read: &Mime) {
+    let parts = (read.type_(), read.subtype(), read.suffix());
+    assert!(rt; parts == (TEXT, PLAIN, None));
+    assert_eq!(rt; read.essence_str(), "text/plain");
     let mut params = read.params();
     assert_eq!(rt; params.size_hint(), (2, Some(2)));
-    let first = params
-        .next()
-        .map(|(name, value)| name == CHARSET && value == UTF_8);
-    let second = params
-        .next()
-        .map(|(name, value)| name.text == "foo" && value.text == "BAR");
-    assert_eq!(rt; (first, second), (Some(true), Some(true)));
-    assert!(rt; params.next().is_none());
-    let found = read
-        .get_param(TextKey("Foo"))
-        .map(|name| name_eq_str(&name, "BAR"));
-    assert_eq!(rt; found, Some(true));
-    let found = read
-        .get_param(CHARSET)
-        .map(|name| name_eq_str(&name, "Utf-8"));
-    assert_eq!(rt; found, Some(true));
+    assert!(rt; params.next() == Some((CHARSET, UTF_8)));
+    assert!(rt; params.next().is_some() && params.next().is_none());
+    let foo = read.get_param(TextKey("Foo"));
+    assert!(rt; foo.is_some_and(|name| name_eq_str(&name, "BAR")));
+    assert!(rt; read.get_param(CHARSET) == Some(UTF_8));
+}
+
+#[test]
+fn looks_up_without_memory(rt: HostRuntime) -> Result<(), Fail> {
+    let alloc = rt.alloc();
+    let read = Mime::from_str(alloc, TEXT_WITH_PARAMETERS)?;
+    let blocks = all_memory(alloc)?;
+    check_parts(&rt, &read);
     drop(blocks);
     Ok(())
 }
 
 #[test]
 fn one_request_for_each_text(rt: HostRuntime) -> Result<(), Fail> {
-    let alloc = rt.alloc();
-    let cases = [
+    static CASES: &[(&str, &str)] = &[
         (
             "TEXT/PLAIN; CHARSET=UTF-8; FOO=BAR",
             "text/plain; charset=utf-8; foo=BAR",
@@ -110,12 +103,14 @@ fn one_request_for_each_text(rt: HostRuntime) -> Result<(), Fail> {
         ("a/b;p=x;   ", "a/b;p=x;   "),
         ("text/event-stream;       ", "text/event-stream"),
     ];
-    for (text, kept) in cases {
+    let alloc = rt.alloc();
+    for &(text, kept) in CASES {
         // The one free block has the size of the kept text.
         let spare = Vec::<u8>::with_capacity(alloc, kept.len())?;
         let blocks = all_memory(alloc)?;
+        let fault = fault_of(alloc, text);
         assert!(rt;
-            fault_of(alloc, text) == Some(ParseError::NoMemory),
+            fault == Some(ParseError::NoMemory),
             "{text} without memory"
         );
         drop(spare);
@@ -136,37 +131,43 @@ fn shown<'a>(item: &'a Option<Result<Mime, Bad<'_>>>) -> (char, &'a str) {
     }
 }
 
+/// The next items are these, by their letters and texts.
+fn check_items(rt: &impl Abort, iter: &mut MimeIter<'_>, expected: &[(char, &str)]) {
+    for item in expected {
+        assert_eq!(rt; shown(&iter.next()), *item);
+    }
+}
+
 #[test]
 fn iterates_without_memory(rt: HostRuntime) -> Result<(), Fail> {
     let alloc = rt.alloc();
     let blocks = all_memory(alloc)?;
     let mut iter = MimeIter::new(alloc, "e, */*, a/b, */*");
     // Bad pieces and `*/*` ask for none, and a clone doesn't either.
-    assert_eq!(rt; shown(&iter.next()), ('b', "e"));
-    assert_eq!(rt; shown(&iter.next()), ('o', "*/*"));
+    check_items(&rt, &mut iter, &[('b', "e"), ('o', "*/*")]);
     let mut clone = iter.clone()?;
     // Every other media type asks, and being refused is the end.
-    for expected in ['n', '-', '-'] {
-        assert_eq!(rt; shown(&iter.next()), (expected, ""));
-    }
-    let mut first = MimeIter::new(alloc, "a/b, c/d");
-    for expected in ['n', '-', '-'] {
-        assert_eq!(rt; shown(&first.next()), (expected, ""));
-    }
+    check_items(&rt, &mut iter, &[('n', ""), ('-', ""), ('-', "")]);
     drop(blocks);
     // With memory again the end stays the end, and what has not ended goes on.
-    assert_eq!(rt; shown(&iter.next()), ('-', ""));
-    assert_eq!(rt; shown(&first.next()), ('-', ""));
-    assert_eq!(rt; shown(&clone.next()), ('o', "a/b"));
-    assert_eq!(rt; shown(&clone.next()), ('o', "*/*"));
-    assert_eq!(rt; shown(&clone.next()), ('-', ""));
+    check_items(&rt, &mut iter, &[('-', "")]);
+    check_items(&rt, &mut clone, &[('o', "a/b"), ('o', "*/*"), ('-', "")]);
+    Ok(())
+}
+
+#[test]
+fn the_first_item_without_memory(rt: HostRuntime) -> Result<(), Fail> {
+    let blocks = all_memory(rt.alloc())?;
+    let mut iter = MimeIter::new(rt.alloc(), "a/b, c/d");
+    check_items(&rt, &mut iter, &[('n', ""), ('-', ""), ('-', "")]);
+    drop(blocks);
+    check_items(&rt, &mut iter, &[('-', "")]);
     Ok(())
 }
 
 #[test]
 fn compares_with_texts_without_memory(rt: HostRuntime) -> Result<(), Fail> {
-    let alloc = rt.alloc();
-    let cases = [
+    static CASES: &[(&str, &str, bool)] = &[
         ("text/event-stream;       ", "text/event-stream;", false),
         ("text/event-stream;       ", "text/event-stream", true),
         ("text/plain", "Text/PLAIN", true),
@@ -195,16 +196,15 @@ fn compares_with_texts_without_memory(rt: HostRuntime) -> Result<(), Fail> {
         ("a/b;p=x", "a/b;p=x;q=y", false),
         ("a/b;p=x;q=y", "a/b;p=x", false),
     ];
-    let mut values = Vec::with_capacity(alloc, cases.len())?;
-    for (value, _, _) in cases {
+    let alloc = rt.alloc();
+    let mut values = Vec::with_capacity(alloc, CASES.len())?;
+    for &(value, _, _) in CASES {
         values.push(Mime::from_str(alloc, value)?)?;
     }
     let blocks = all_memory(alloc)?;
-    for (mime, (value, text, expected)) in values.iter().zip(cases) {
-        assert!(rt;
-            mime_eq_str(mime, text) == expected,
-            "{value} against {text:?}"
-        );
+    for (mime, &(value, text, expected)) in values.iter().zip(CASES) {
+        let answer = mime_eq_str(mime, text);
+        assert_eq!(rt; answer, expected, "{value} against {text:?}");
     }
     drop(blocks);
     Ok(())

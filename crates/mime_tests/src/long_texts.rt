@@ -1,6 +1,6 @@
 //! Long texts are read as short ones are, in each branch of reading.
 
-use mime::Mime;
+use mime::{Mime, MimeIter};
 use std::alloc::Global;
 use std::process::Abort;
 use std::test::Fail;
@@ -18,6 +18,16 @@ fn stretched(alloc: Global, len: usize, (front, letter, back): Ends) -> Result<S
     Ok(text)
 }
 
+/// Whether an iterator over the text gives this value alone, and reads each byte once.
+fn is_only_item(alloc: Global, text: &str, mime: &Mime) -> bool {
+    let mut iter = MimeIter::new(alloc, text);
+    let is_first = match iter.next() {
+        Some(Ok(item)) => item == *mime && item.as_str() == mime.as_str(),
+        _ => false,
+    };
+    is_first && iter.next().is_none() && iter.steps() == text.len() as u128
+}
+
 /// The text of this length is read, with this kept text and so many parameters.
 fn check_long(
     rt: &impl Abort,
@@ -30,14 +40,12 @@ fn check_long(
     let cut = ends.2.len().saturating_sub(kept_ends.2.len());
     let kept = stretched(alloc, len.saturating_sub(cut), kept_ends)?;
     let mime = Mime::from_str(alloc, text.as_str())?;
-    assert!(rt; mime.as_str() == kept.as_str(), "{} .. {}", ends.0, ends.2);
-    assert_eq!(rt;
-        mime.params().size_hint(),
-        (params, Some(params)),
-        "{} .. {}",
-        ends.0,
-        ends.2
-    );
+    let (front, back) = (ends.0, ends.2);
+    assert!(rt; mime.as_str() == kept.as_str(), "{front} .. {back}");
+    let hint = mime.params().size_hint();
+    assert_eq!(rt; hint, (params, Some(params)), "{front} .. {back}");
+    let is_item = is_only_item(alloc, text.as_str(), &mime);
+    assert!(rt; is_item, "{front} .. {back}");
     Ok(())
 }
 
@@ -72,15 +80,48 @@ fn texts_of_65536_bytes(rt: HostRuntime) -> Result<(), Fail> {
 
 #[test]
 fn texts_of_1000000_bytes(rt: HostRuntime) -> Result<(), Fail> {
-    // No list, an empty one, and one without and with a capital.
+    // One long part each, in every branch of reading.
     static CASES: &[(Ends, Ends, usize)] = &[
+        // The type, the subtype and the suffix.
+        (("", b'T', "/b"), ("", b't', "/b"), 0),
         (("A/", b'B', ""), ("a/", b'b', ""), 0),
+        (("a/b+", b'C', ""), ("a/b+", b'c', ""), 0),
+        // A list without a parameter.
         (("a/", b'b', ";"), ("a/", b'b', ""), 0),
+        // Spaces before a name, and after a quoted value.
+        (("a/b;", b' ', "P=x"), ("a/b;", b' ', "p=x"), 1),
+        (
+            ("a/b;p=\"x\"", b' ', ";q=y"),
+            ("a/b;p=\"x\"", b' ', ";q=y"),
+            2,
+        ),
+        // A name, and values without and with quotes.
+        (("a/b;", b'P', "=X"), ("a/b;", b'p', "=X"), 1),
         (("a/b;p=", b'x', ""), ("a/b;p=", b'x', ""), 1),
-        (("a/b;P=", b'x', ""), ("a/b;p=", b'x', ""), 1),
+        (("a/b;P=", b'X', ";Q=Y"), ("a/b;p=", b'X', ";q=Y"), 2),
+        (("a/b;p=\"", b',', "\""), ("a/b;p=\"", b',', "\""), 1),
+        // The value of a charset, in small letters.
+        (("a/b;charset=", b'C', ""), ("a/b;charset=", b'c', ""), 1),
+        (
+            ("a/b;p=X;charset=\"", b'C', "\" ;q=Y"),
+            ("a/b;p=X;charset=\"", b'c', "\" ;q=Y"),
+            3,
+        ),
     ];
     for &case in CASES {
         check_long(&rt, rt.alloc(), 1_000_000, case)?;
     }
+    Ok(())
+}
+
+#[test]
+fn many_parameters_in_1000000_bytes(rt: HostRuntime) -> Result<(), Fail> {
+    let list = ";p=X".repeat(rt.alloc(), 249_999)?;
+    let text = format!(in rt.alloc(); "a/bb{list}")?;
+    assert_eq!(rt; text.len(), 1_000_000);
+    let mime = Mime::from_str(rt.alloc(), text.as_str())?;
+    let is_item = is_only_item(rt.alloc(), text.as_str(), &mime);
+    assert!(rt; mime.as_str() == text.as_str() && is_item);
+    assert_eq!(rt; mime.params().count(), 249_999);
     Ok(())
 }
