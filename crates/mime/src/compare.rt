@@ -79,7 +79,7 @@ fn is_pair(kept: Pair<'_>, pair: Pair<'_>) -> bool
     is_name(kept.name, pair.name) && is_value(kept.name, kept.value, pair.value)
 }
 
-/// Whether the first so many pairs of a list are those of a kept one.
+/// Whether the first `count` pairs of a list are those of a kept one.
 fn are_pairs(kept: &str, list: &str, count: usize) -> bool
     requires { AreLowPairs (pairs_within count kept.now) }
     ensures { IsTrue result ↔ (pairs_within count kept.now ≡ map lowered_pair (pairs_within count list.now)) }
