@@ -6,7 +6,7 @@ use Rattle.std.proofs.lemmas.Bool.{and_parts, true≢false}
 use Rattle.std.proofs.lemmas.Bool.Decides.{nat_tests}
 use Rattle.std.proofs.lemmas.Option.{same_Some, get_or_from_slice_get}
 use Rattle.mime.specs.Bytes.{is_token_byte, semicolon_byte, equals_byte, quote_byte, space_byte}
-use Rattle.mime.specs.Grammar.{Parameter, plain, quoted, Parameters, blank, final, more, Tail, no_list, listed, SyntaxTree, text_of, text_of_list, text_of_parameter, is_space, AreSpaces, IsToken, IsInnerParameter, IsFinalParameter, AreParameters, IsWellFormed}
+use Rattle.mime.specs.Grammar.{Parameter, plain, quoted, Parameters, blank, final, more, Tail, no_list, listed, SyntaxTree, text_of, text_of_list, text_of_parameter, is_space, AreSpaces, IsToken, IsParameter, AreParameters, IsWellFormed}
 use Rattle.mime.specs.Values.{MediaType, Reads, value_of, essence_of, lowered, lowered_value, pair_of, pairs_of_list}
 use Rattle.mime.specs.Comparison.{TextIs}
 use Rattle.mime.specs.KeptText.{lowered_pair, HasOneForm}
@@ -39,7 +39,7 @@ record OneParameter (list : List ℕ) (pair : List ℕ × List ℕ) : Type 0 whe
   valued : (after ≡ pair.1) ⊎ ((length pair.1 < length after) × Marked list)
 
 -- the last parameter of a text
-last_parameter : (n : List ℕ) (p : Parameter) → AreSpaces n → IsFinalParameter p → OneParameter (n ++ text_of_parameter p) (pair_of p)
+last_parameter : (n : List ℕ) (p : Parameter) → AreSpaces n → IsParameter p → OneParameter (n ++ text_of_parameter p) (pair_of p)
 last_parameter n (plain name value) white (named, all) =
     record { gap = n; white = white; named = named; after = value; spelled = refl; valued = inl refl }
 last_parameter n (quoted name content m) white (named, is, blanks) = record {
@@ -62,7 +62,7 @@ last_parameter n (quoted name content m) white (named, is, blanks) = record {
 }
 
 -- one that a semicolon follows, and spaces
-inner_parameter : (n : List ℕ) (p : Parameter) (m : List ℕ) → AreSpaces n → IsInnerParameter p → AreSpaces m
+inner_parameter : (n : List ℕ) (p : Parameter) (m : List ℕ) → AreSpaces n → IsParameter p → AreSpaces m
     → OneParameter (n ++ (text_of_parameter p ++ (semicolon_byte ∷ m))) (pair_of p)
 inner_parameter n (plain name value) m white (named, token) blanks = record {
   gap = n;
