@@ -11,7 +11,7 @@ use Rattle.mime.specs.Values.{MediaType, Reads}
 abbrev pub Same : MediaType → MediaType → Type 0
 Same first second = (first.essence ≡ second.essence) × (first.pairs ≡ second.pairs)
 
--- a list comes before another where, behind items that are the same, it ends or has the lesser item
+-- a list comes before another where, after items that are the same, it ends or has the lesser item
 abbrev pub IsListBefore : {X : Type 0} → (X → X → Type 0) → List X → List X → Type 0
 IsListBefore IsLess [] [] = ⊥
 IsListBefore IsLess [] (y ∷ ys) = Unit {0}

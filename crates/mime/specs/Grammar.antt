@@ -45,7 +45,7 @@ text_of_list (blank n) = n
 text_of_list (final n parameter) = n ++ text_of_parameter parameter
 text_of_list (more n parameter rest) = n ++ (text_of_parameter parameter ++ (semicolon_byte ∷ text_of_list rest))
 
--- the text behind the subtype
+-- the text after the subtype
 abbrev pub text_of_tail : Tail → List ℕ
 text_of_tail no_list = []
 text_of_tail (listed parameters) = semicolon_byte ∷ text_of_list parameters

@@ -1,4 +1,4 @@
--- Private. The kept text of a value, with the places of its parts.
+-- Private. The kept text of a value, with the positions of its parts.
 use Rattle.std.specs.Prelude.{◌≡◌, ℕ, zero, suc, ◌+◌, List, [], ◌∷◌, ◌++◌, length, take, drop, Option, Some, None, unwrap_or, IsTrue, slice_get}
 use Rattle.mime.specs.Bytes.{semicolon_byte}
 use Rattle.mime.specs.Grammar.{Tail, no_list, listed, blank, final, more, SyntaxTree, text_of, IsWellFormed}
@@ -7,12 +7,12 @@ use Rattle.mime.specs.Pairs.{pairs_within, lowered_within}
 use Rattle.mime.specs.Scanning.{HasPlaces, places_of}
 use Rattle.mime.specs.declared.scan.Places.{Places}
 
--- the pairs behind the semicolon
+-- the pairs after the semicolon
 abbrev pub pairs_behind : ℕ → Option ℕ → List ℕ → List (List ℕ × List ℕ)
 pairs_behind count None text = []
 pairs_behind count (Some semicolon) text = pairs_within count (drop (semicolon + 1) text)
 
--- the value that a kept text and its places give
+-- the value that a kept text and the positions of its parts give
 abbrev pub media_of : List ℕ → Places → MediaType
 media_of text places = record {
   essence = take (unwrap_or places.semicolon (length text)) text;
@@ -38,7 +38,7 @@ pub record IsKept (text : List ℕ) (places : Places) : Type 0 where
   pub spelled : text_of tree ≡ text
   pub placed : places_of tree ≡ places
 
--- the places in the kept text: no semicolon where there is no pair
+-- the positions in the kept text: no semicolon where there is no pair
 abbrev pub kept_semicolon : ℕ → Option ℕ → Option ℕ
 kept_semicolon zero semicolon = None
 kept_semicolon (suc pairs) semicolon = semicolon
@@ -46,7 +46,7 @@ kept_semicolon (suc pairs) semicolon = semicolon
 abbrev pub kept_places : Places → Places
 kept_places places = record places { semicolon = kept_semicolon places.pairs places.semicolon }
 
--- the kept text of an accepted text with these places
+-- the kept text of an accepted text with its parts at these positions
 abbrev pub kept_text_of : ℕ → Option ℕ → List ℕ → List ℕ
 kept_text_of zero None text = lowered text
 kept_text_of zero (Some semicolon) text = lowered (take semicolon text)

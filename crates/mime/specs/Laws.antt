@@ -56,11 +56,11 @@ OneFront = (text : List ℕ) → (count : ℕ) × IsFront text count × ((other 
 abbrev pub FrontEndsBetweenCharacters : Type 0
 FrontEndsBetweenCharacters = (text : List ℕ) (count : ℕ) → IsUtf8 text → IsFront text count → IsCharBoundary text count
 
--- no plus stands in the text from a place on
+-- no plus stands in the text from a position on
 abbrev pub HasNoPlusFrom : List ℕ → ℕ → Type 0
 HasNoPlusFrom text from = (place : ℕ) → from ≤ place → slice_get text place ≢ Some plus_byte
 
--- The plus of a value is the last one of its essence behind the subtype's first byte, if there is one.
+-- The plus of a value is the last one of its essence after the subtype's first byte, if there is one.
 abbrev pub PlusIsLast : Type 0
 PlusIsLast =
     (text : List ℕ) (value : MediaType) → Reads text value
@@ -83,7 +83,7 @@ OneOf first second =
 abbrev pub OneOrder : Type 0
 OneOrder = (first second : MediaType) → OneOf first second
 
--- What comes before a value comes before all that comes behind it.
+-- What comes before a value comes before all that comes after it.
 abbrev pub BeforeIsTransitive : Type 0
 BeforeIsTransitive = (first second third : MediaType) → Before first second → Before second third → Before first third
 

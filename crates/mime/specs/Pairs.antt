@@ -6,11 +6,11 @@ use Rattle.mime.specs.Grammar.{is_space}
 use Rattle.mime.specs.Quoted.{content_of, behind_content}
 use Rattle.mime.specs.Values.{lowered, lowered_value}
 
--- the first place of a byte from a place on, or the text's end
+-- the first position of a byte from a position on, or the text's end
 abbrev pub first_place : ℕ → ℕ → List ℕ → ℕ
 first_place from byte text = from + position_or_len (λ b. b == byte) (drop from text)
 
--- what stands before that place, and what stands behind it
+-- what stands before that position, and what stands after it
 abbrev pub before_byte : ℕ → ℕ → List ℕ → List ℕ
 before_byte from byte text = take (first_place from byte text) text
 
@@ -18,14 +18,14 @@ abbrev pub behind_byte : ℕ → ℕ → List ℕ → List ℕ
 behind_byte from byte text = drop (first_place from byte text + 1) text
 
 -- the first pair of a list: its name, how many bytes stand before its value, its value without
--- quotes, and the list behind its semicolon
+-- quotes, and the list after its semicolon
 pub record PairCut : Type 0 where
   pub name : List ℕ
   pub head : ℕ
   pub value : List ℕ
   pub rest : List ℕ
 
--- behind the equals sign: a quoted value, or a plain one.
+-- after the equals sign: a quoted value, or a plain one.
 -- What stands before it is counted as what it leaves of the whole length, so it lies within the list
 abbrev pub cut_behind_equals : ℕ → List ℕ → List ℕ → PairCut
 cut_behind_equals whole name [] = record { name = name; head = whole; value = []; rest = [] }

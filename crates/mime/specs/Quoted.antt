@@ -7,7 +7,7 @@ use Rattle.mime.specs.Grammar.{is_inner_byte}
 abbrev pub awaits_first : Bool
 awaits_first = true
 
--- and behind one more byte
+-- and after one more byte
 abbrev pub awaits_next : Bool → ℕ → Bool
 awaits_next awaiting b = false
 
@@ -21,12 +21,12 @@ abbrev pub takes_all : Bool → List ℕ → Bool
 takes_all awaiting [] = true
 takes_all awaiting (b ∷ bytes) = takes awaiting b && takes_all (awaits_next awaiting b) bytes
 
--- whether it awaits one behind them
+-- whether it awaits one after them
 abbrev pub awaits_behind : Bool → List ℕ → Bool
 awaits_behind awaiting [] = awaiting
 awaits_behind awaiting (b ∷ bytes) = awaits_behind (awaits_next awaiting b) bytes
 
--- what may stand behind an opening quote
+-- what may stand after an opening quote
 abbrev pub IsOpenContent : List ℕ → Type 0
 IsOpenContent content = IsTrue (takes_all awaits_first content)
 
@@ -43,7 +43,7 @@ len_from awaiting (b ∷ bytes) =
 abbrev pub content_len : List ℕ → ℕ
 content_len text = len_from awaits_first text
 
--- the content that a text begins with, and what stands behind its closing quote
+-- the content that a text begins with, and what stands after its closing quote
 abbrev pub content_of : List ℕ → List ℕ
 content_of text = take (content_len text) text
 

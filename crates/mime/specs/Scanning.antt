@@ -13,7 +13,7 @@ use Rattle.mime.specs.declared.scan.Verdict.TheVariants.{Accepted, Unfinished, S
 use Rattle.mime.specs.Remaining.{Remaining}
 use Rattle.mime.specs.Quoted.{IsOpenContent, continues}
 
--- the bytes of a run and the one behind it, if any, were given
+-- the bytes of a run and the one after it, if any, were given
 pub record Given (old new : Remaining) (run : List ℕ) (stop : Option ℕ) : Type 0 where
   pub bytes : old.left ≡ run ++ (option_to_list stop ++ new.left)
   pub counted : new.count ≡ old.count + (length run + length (option_to_list stop))
@@ -22,14 +22,14 @@ pub record Given (old new : Remaining) (run : List ℕ) (stop : Option ℕ) : Ty
 abbrev pub GivesFirst : Remaining → Remaining → Option ℕ → Type 0
 GivesFirst old new first = Given old new [] first × MatchOption first (new.left ≡ []) (λ b. Unit {0})
 
--- the longest run of a class was passed; the byte behind it isn't of the class
+-- the longest run of a class was passed; the byte after it isn't of the class
 pub record Passes (class : ℕ → Bool) (old new : Remaining) (stop : Option ℕ) : Type 0 where
   pub run : List ℕ
   pub of_class : IsTrue (list_all class run)
   pub given : Given old new run stop
   pub stopped : MatchOption stop (new.left ≡ []) (λ b. IsFalse (class b))
 
--- the places of a tree's parts in its text
+-- the positions of a tree's parts in its text
 abbrev pub semicolon_of : ℕ → Tail → Option ℕ
 semicolon_of at no_list = None
 semicolon_of at (listed parameters) = Some at
@@ -42,14 +42,14 @@ places_of tree = record {
   pairs = length (pairs_of_tail tree.tail);
 }
 
--- the text is accepted, with these places
+-- the text is accepted, with its parts at these positions
 pub record HasPlaces (text : List ℕ) (places : Places) : Type 0 where
   pub tree : SyntaxTree
   pub well_formed : IsWellFormed tree
   pub spelled : text_of tree ≡ text
   pub placed : places_of tree ≡ places
 
--- the text is refused at the byte behind its first `pos` bytes, which are themselves as said
+-- the text is refused at the byte after its first `pos` bytes, which are themselves as said
 pub record IsStopped (text : List ℕ) (pos byte : ℕ) (places : Option Places) : Type 0 where
   pub fault : IsFault text (InvalidToken pos byte)
   pub before : MatchOption places (IsRefused (take pos text)) (λ p. HasPlaces (take pos text) p)
@@ -73,12 +73,12 @@ pub record PassesContent (old new : Remaining) (stop : Option ℕ) : Type 0 wher
   pub given : Given old new run stop
   pub stopped : MatchOption stop (new.left ≡ []) (λ b. IsFalse (continues run b))
 
--- the rest of a subtype was passed, of which the first byte stands at a place; its last plus
+-- the rest of a subtype was passed, of which the first byte stands at a position; its last plus
 pub record PassesSubtype (at : ℕ) (old new : Remaining) (answer : Option ℕ × Option ℕ) : Type 0 where
   pub passes : Passes is_token_byte old new answer.1
   pub plus : answer.0 ≡ last_plus at passes.run
 
--- the text of a type and a subtype with the semicolon behind it, and its places
+-- the text of a type and a subtype with the semicolon after it, and the positions of its parts
 abbrev pub head_text : List ℕ → List ℕ → List ℕ
 head_text top sub = top ++ (slash_byte ∷ (sub ++ (semicolon_byte ∷ [])))
 

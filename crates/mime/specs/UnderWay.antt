@@ -30,7 +30,7 @@ pub record PassesOn (text left : List ℕ) : Type 0 where
   pub carries : left ≢ [] → (items : List CutItem) (rest : List ℕ) → Cut left items rest → Cut text items rest
   pub ends : left ≡ [] → HasNoItem text
 
--- the text's first item is this piece: a bad one, or what it is read as where it has places
+-- the text's first item is this piece: a bad one, or what it is read as where its parts have positions
 abbrev pub IsFirstPiece : List ℕ → List ℕ → Option Places → List ℕ → Type 0
 IsFirstPiece text piece None left = IsFirstItem text (bad piece) left
 IsFirstPiece text piece (Some places) left =
@@ -55,7 +55,7 @@ pub record IsLooking (old now : Iteration) : Type 0 where
   pub still : old.left ≡ [] → now ≡ old
   pub less : length now.left ≤ length old.left
 
--- the piece of the first item, with its places where it is accepted, and what is left then
+-- the piece of the first item, with the positions of its parts if it is accepted, and what is left then
 abbrev pub GivesPiece : List ℕ → Option (Bor (List ℕ) × Option Places) → List ℕ → Type 0
 GivesPiece text None left = HasNoItem text × (left ≡ [])
 GivesPiece text (Some (piece, places)) left = IsFirstPiece text piece.now places left × (length left < length text)

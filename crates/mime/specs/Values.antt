@@ -50,12 +50,12 @@ abbrev pub pairs_of_tail : Tail → List (List ℕ × List ℕ)
 pairs_of_tail no_list = []
 pairs_of_tail (listed parameters) = pairs_of_list parameters
 
--- the last place of a plus in bytes of which the first stands at a place
+-- the last position of a plus in bytes of which the first stands at a position
 abbrev pub last_plus : ℕ → List ℕ → Option ℕ
 last_plus at [] = None
 last_plus at (b ∷ bytes) = option_or (last_plus (at + 1) bytes) (if b == plus_byte then Some at else None)
 
--- what a media type is: its essence with the places of the slash and of the suffix's plus, its
+-- what a media type is: its essence with the positions of the slash and of the suffix's plus, its
 -- parameters as pairs of name and value, and its kept text, which is what printing gives
 pub record MediaType : Type 0 where
   pub essence : List ℕ

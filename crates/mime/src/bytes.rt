@@ -38,7 +38,7 @@ pub(crate) fn is_space(b: u8) -> bool
     b == b' '
 }
 
-/// Whether a byte may stand in a quoted value: any byte but those below 32, so no tab, and 127.
+/// Whether a byte may stand in a quoted value: any byte except those below 32 (so no tab) and 127.
 /// `is_quoted_byte(b'"')` is true, since a quote may begin a value. RFC 7230, 3.2.6, allows the tab.
 #[inline(always)]
 pub fn is_quoted_byte(b: u8) -> bool

@@ -79,7 +79,7 @@ fn is_pair(kept: Pair<'_>, pair: Pair<'_>) -> bool
     is_name(kept.name, pair.name) && is_value(kept.name, kept.value, pair.value)
 }
 
-/// Whether the first so many pairs of a list are those of a kept one.
+/// Whether the first `count` pairs of a list are those of a kept one.
 fn are_pairs(kept: &str, list: &str, count: usize) -> bool
     requires { AreLowPairs (pairs_within count kept.now) }
     ensures { IsTrue result ↔ (pairs_within count kept.now ≡ map lowered_pair (pairs_within count list.now)) }
@@ -157,8 +157,8 @@ fn eq_by_parts(mime: &Mime, s: &str) -> bool
     is_accepted_at(s, essence.len(), mime.count())
 }
 
-/// Whether a text is a value with parameters. What is told without its parts comes first: the kept
-/// text, a text that begins otherwise, and a lone charset in another case.
+/// Whether a text is a value with parameters. What can be answered without its parts comes first: the
+/// kept text, a text that begins otherwise, and a lone charset in another case.
 #[inline(never)]
 fn eq_with_parameters(mime: &Mime, s: &str) -> bool
     requires { mime.now.media.pairs ≢ [] }
@@ -172,7 +172,7 @@ fn eq_with_parameters(mime: &Mime, s: &str) -> bool
         return false;
     }
     if is_lone_charset(mime) {
-        // Nothing of it minds case.
+        // All of it ignores case.
         if alike(kept, s) {
             return true;
         }
@@ -190,7 +190,7 @@ fn eq_without_parameters(mime: &Mime, s: &str) -> bool
 }
 
 /// Whether a text is read as a value equal to this one and, where this one has no parameter, has no
-/// semicolon. It asks for no memory.
+/// semicolon (RFC 7231, 3.1.1.1). It asks for no memory.
 ///
 /// `TEXT/PLAIN;charset="UTF-8"; ` is `TEXT_PLAIN_UTF_8.mime()`. But `text/plain;` isn't
 /// `TEXT_PLAIN.mime()`, though reading it gives an equal value: a media type without parameters is

@@ -28,8 +28,8 @@ pub(crate) enum Verdict {
     Accepted(Places),
     /// It ends too early.
     Unfinished(ParseError),
-    /// This byte, the last one read, fits nowhere. The places are those of the text before it, if that
-    /// is a media type by itself.
+    /// This byte, the last one read, fits nowhere. The positions are those of the parts of the text before
+    /// it, if that is a media type by itself.
     Stopped(u8, Option<Places>),
 }
 

@@ -24,7 +24,7 @@ pub enum ParseError {
         /// The byte, which begins a character.
         byte: u8,
     },
-    /// The text is a media type, and memory ran out.
+    /// The text is a media type, such as `text/plain`, and memory ran out.
     NoMemory,
 }
 
@@ -89,7 +89,8 @@ impl fmt::Display for ParseError {
 
 impl Error for ParseError {}
 
-/// Why a text isn't read as a media type: the error of `Mime::from_str`.
+/// Why a text isn't read as a media type: the error of `Mime::from_str`. That of `text` prints
+/// `mime parse error: a slash (/) was missing between the type and subtype`.
 #[derive(Debug, Drop)]
 pub struct FromStrError {
     fault: ParseError,
