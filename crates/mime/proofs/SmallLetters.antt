@@ -202,7 +202,7 @@ abbrev small_pair : List ℕ × List ℕ → List ℕ × List ℕ
 small_pair (name, value) = (lowered name, lowered value)
 
 -- a value as it is kept, in small letters
-lowered-lowered_value : (name value : List ℕ) → lowered (lowered_value name value) ≡ lowered value
+pub lowered-lowered_value : (name value : List ℕ) → lowered (lowered_value name value) ≡ lowered value
 lowered-lowered_value name value = lowered_value-either (λ v. lowered v ≡ lowered value) name value refl (lowered-lowered value)
 
 -- the pairs of a list as they are kept, in small letters

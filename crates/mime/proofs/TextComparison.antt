@@ -24,11 +24,11 @@ use Rattle.mime.proofs.SmallLetters.{semicolon-lower, case_read, case_read-count
 -- ---- what an accepted text with parameters is read as
 
 -- a value's essence is its tree's in small letters
-essence-lowered : (tree : SyntaxTree) → (value_of tree).essence ≡ lowered (essence_of tree)
+pub essence-lowered : (tree : SyntaxTree) → (value_of tree).essence ≡ lowered (essence_of tree)
 essence-lowered tree = sym (lowered-append tree.top (slash_byte ∷ tree.sub))
 
 -- its pairs are its tree's, each lowered
-pairs_of_list-lowered : (list : Parameters) → pairs_of_list (lowered_list list) ≡ map lowered_pair (pairs_of_list list)
+pub pairs_of_list-lowered : (list : Parameters) → pairs_of_list (lowered_list list) ≡ map lowered_pair (pairs_of_list list)
 pairs_of_list-lowered (blank n) = refl
 pairs_of_list-lowered (final n (plain name value)) = refl
 pairs_of_list-lowered (final n (quoted name content m)) = refl

@@ -3,9 +3,10 @@
 ghost use Rattle.std.specs.Prelude.{◌≡◌, ◌≢◌, ◌↔◌, ◌<◌, IsTrue, Some, [], length, map, take};
 ghost use Rattle.mime.specs.Comparison.{TextIs};
 ghost use Rattle.mime.specs.Pairs.{pairs_within};
-ghost use Rattle.mime.specs.KeptText.{IsKeptPair, IsListAfter, IsAcceptedAt, IsLowPair, AreLowPairs, lowered_pair, IsLoneCharset};
+ghost use Rattle.mime.specs.KeptText.{IsKeptPair, IsListAfter, IsAcceptedAt, IsLowPair, AreLowPairs, lowered_pair, IsLoneCharset, HasOneForm};
 ghost use Rattle.mime.specs.Values.{lowered, lowered_value, is_charset};
 
+use crate::bytes::is_token;
 use crate::name::eq_ignoring_case;
 use crate::scan::{ByteReader, Places, Verdict, scan};
 use crate::value::Mime;
@@ -79,7 +80,7 @@ fn is_pair(kept: Pair<'_>, pair: Pair<'_>) -> bool
     is_name(kept.name, pair.name) && is_value(kept.name, kept.value, pair.value)
 }
 
-/// Whether the first so many pairs of a list are those of a kept one.
+/// Whether the first `count` pairs of a list are those of a kept one.
 fn are_pairs(kept: &str, list: &str, count: usize) -> bool
     requires { AreLowPairs (pairs_within count kept.now) }
     ensures { IsTrue result ↔ (pairs_within count kept.now ≡ map lowered_pair (pairs_within count list.now)) }
@@ -157,8 +158,42 @@ fn eq_by_parts(mime: &Mime, s: &str) -> bool
     is_accepted_at(s, essence.len(), mime.count())
 }
 
-/// Whether a text is a value with parameters. What can be answered without its parts comes first: the
-/// kept text, a text that begins otherwise, and a lone charset in another case.
+/// Whether a text is as long as a kept one, both lists begin with a space, and the kept one ends with
+/// a token byte. If the kept list has one parameter, such a text is its value in one form alone.
+#[inline(always)]
+fn has_one_form(kept: &str, essence: &str, text: &str) -> bool
+    ensures { IsTrue result → HasOneForm kept.now essence.now text.now }
+{
+    let end = essence.len();
+    let kept = kept.as_bytes();
+    let text = text.as_bytes();
+    kept.len() == text.len()
+        && end + 2 < kept.len()
+        && kept[end + 1] == b' '
+        && kept[end + 2] == b'c'
+        && text[end + 1] == b' '
+        && is_token(kept[kept.len() - 1])
+}
+
+/// Whether a text is a value with parameters, where it isn't the kept text: a lone charset in another
+/// case is told without its parts.
+#[inline(never)]
+fn eq_otherwise(mime: &Mime, s: &str) -> bool
+    requires { mime.now.media.pairs ≢ [] }
+    ensures { IsTrue result ↔ TextIs mime.now.media s.now }
+{
+    let kept = mime.as_str();
+    if is_lone_charset(mime) {
+        // All of it ignores case.
+        if alike(kept, s) {
+            return true;
+        }
+    }
+    eq_by_parts(mime, s)
+}
+
+/// Whether a text is a value with parameters. What can be answered without its parts comes first: the kept
+/// text, a text that begins otherwise, and a lone charset where one comparison decides.
 #[inline(never)]
 fn eq_with_parameters(mime: &Mime, s: &str) -> bool
     requires { mime.now.media.pairs ≢ [] }
@@ -172,12 +207,11 @@ fn eq_with_parameters(mime: &Mime, s: &str) -> bool
         return false;
     }
     if is_lone_charset(mime) {
-        // All of it ignores case.
-        if alike(kept, s) {
-            return true;
+        if has_one_form(kept, mime.essence_str(), s) {
+            return alike(kept, s);
         }
     }
-    eq_by_parts(mime, s)
+    eq_otherwise(mime, s)
 }
 
 /// Whether a text is a value without parameters.

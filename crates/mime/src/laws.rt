@@ -42,7 +42,7 @@ pub fn one_tree()
     ensures { OneTree }
 {}
 
-/// A text is read as at most one value: what `Text/Plain` is read as doesn't turn on who reads it.
+/// A text is read as at most one value: every reading of `Text/Plain` is `text/plain`.
 pub fn one_reading()
     ensures { OneReading }
 {}

@@ -1,11 +1,12 @@
 //! Callers with contracts of their own.
 
-ghost use Rattle.std.specs.Prelude.{◌≡◌, List, ℕ, Bool, Option, is_some, IfOk, IfErr};
+ghost use Rattle.std.specs.Prelude.{◌≡◌, List, ℕ, Bool, true, Option, is_some, IfOk, IfErr};
 ghost use Rattle.mime.specs.Values.{MediaType, Reads, suffix_of};
 ghost use Rattle.mime.specs.Refusals.{Explains};
 ghost use Rattle.mime.specs.Names.{NameIs};
 ghost use Rattle.mime.specs.Items.{items_of, IsFirstAccepted};
 
+use mime::laws::one_reading;
 use mime::{FromStrError, Mime, TextKey};
 use std::alloc::Global;
 
@@ -37,6 +38,16 @@ pub fn printed(alloc: Global, text: &str) -> Result<Mime, FromStrError>
     Ok(mime)
 }
 
+/// Whether a text that is read twice gives equal media types: it does, since it has one reading.
+pub fn reads_alike(alloc: Global, text: &str) -> Result<bool, FromStrError>
+    ensures { IfOk result (λ same. same ≡ true) }
+{
+    let first = Mime::from_str(alloc, text)?;
+    let second = Mime::from_str(alloc, text)?;
+    one_reading();
+    Ok(first == second)
+}
+
 #[cfg(test)]
 mod tests {
     use super::*;
@@ -53,6 +64,7 @@ mod tests {
             assert_eq!(rt; has_suffix(rt.alloc(), text)?, suffix, "at {text}");
             let mime = printed(rt.alloc(), text)?;
             assert_eq!(rt; has_param(&mime, "q"), param, "at {text}");
+            assert!(rt; reads_alike(rt.alloc(), text)?, "at {text}");
         }
         assert!(rt; has_suffix(rt.alloc(), "image svg").is_err());
         assert!(rt; printed(rt.alloc(), "a/b;p").is_err());

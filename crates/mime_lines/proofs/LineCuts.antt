@@ -1,7 +1,9 @@
 -- How lines are cut off one by one.
-use Rattle.std.proofs.Common.{suc, min, ◌-◌, ◌≡◌, ℕ, ◌+◌, ◌<◌, ◌≤◌, Bool, true, false, cond, not, List, [], ◌∷◌, length, take, drop, refl, ap, ◌∙◌, arith, nat_eq, Option, Some, None}
+use Rattle.std.proofs.Common.{suc, min, ◌-◌, ◌≡◌, ℕ, ◌+◌, ◌<◌, ◌≤◌, Bool, true, false, cond, not, List, [], ◌∷◌, ◌++◌, length, take, drop, refl, ap, sym, ◌∙◌, arith, nat_eq, Option, Some, None, ◌||◌, zero-add, length-drop}
+use Rattle.std.proofs.lemmas.List.{take-append-drop, take_rest, drop-drop, length-take-le}
+use Rattle.std.proofs.lemmas.Bool.{true≢false}
 use Rattle.std.specs.Option.{unwrap_or}
-use Rattle.std.specs.List.{position_or_len, onto_first}
+use Rattle.std.specs.List.{list_any, position_or_len, onto_first}
 use Rattle.std.proofs.lemmas.List.Sums.{prefix_len-le-length}
 use Rattle.mime_lines.specs.Report.{lines_of}
 use Rattle.std.proofs.lemmas.Bool.Decides.{nat_tests}
@@ -39,3 +41,29 @@ lines_of-first (b ∷ bytes) h = front-lines (nat_eq b 10) (position_or_len (λ 
 -- what stands after a position that may be the end
 pub drop-after : (n : ℕ) (xs : List ℕ) → drop (n + 1) xs ≡ take (length xs - min (n + 1) (length xs)) (drop (min (n + 1) (length xs)) xs)
 drop-after n xs = grind (arith, common_steps)
+
+-- one more byte in front of bytes that were passed
+passed_more : (is_end any : Bool) (n l m : ℕ) → (is_end || any) ≡ false → (any ≡ false → n ≡ l + m) → cond (not is_end) (1 + n) 0 ≡ suc l + m
+passed_more true any n l m none rest = absurd (true≢false none)
+passed_more false any n l m none rest = omega (arith, rest none)
+
+-- bytes without an end of a line are passed
+passed_all : (p : ℕ → Bool) (xs ys : List ℕ) → list_any p xs ≡ false → position_or_len p (xs ++ ys) ≡ length xs + position_or_len p ys
+passed_all p [] ys none = sym (zero-add (position_or_len p ys))
+passed_all p (x ∷ xs) ys none = passed_more (p x) (list_any p xs) (position_or_len p (xs ++ ys)) (length xs) (position_or_len p ys) none (passed_all p xs ys)
+
+-- so many bytes more are passed, of those that come after so many
+pub passed_onward : (p : ℕ → Bool) (xs : List ℕ) (n k j : ℕ) → j ≡ k → n + k ≤ length xs → list_any p (take j (drop n xs)) ≡ false
+    → position_or_len p xs ≡ n + position_or_len p (drop n xs) → position_or_len p xs ≡ (n + k) + position_or_len p (drop (n + k) xs)
+passed_onward p xs n k j size within none at =
+    let front = take j (drop n xs) in
+    let room : j ≤ length (drop n xs) = omega (arith, length-drop n xs) in
+    let cut : position_or_len p (drop n xs) ≡ position_or_len p (front ++ drop j (drop n xs)) = ap (position_or_len p) (sym (take-append-drop j (drop n xs))) in
+    let rest : position_or_len p (drop j (drop n xs)) ≡ position_or_len p (drop (n + k) xs) = ap (position_or_len p) (drop-drop j n xs ∙ ap (λ i. drop (n + i) xs) size) in
+    omega (arith, at, cut, passed_all p front (drop j (drop n xs)) none, length-take-le j (drop n xs) room, rest)
+
+-- the end of a line after what was passed is that of the whole
+pub passed_end : (p : ℕ → Bool) (xs rest : List ℕ) (n m : ℕ) → rest ≡ take (length xs - n) (drop n xs) → n ≤ length xs
+    → position_or_len p xs ≡ n + position_or_len p (drop n xs) → m ≡ position_or_len p rest → n + m ≡ position_or_len p xs
+passed_end p xs rest n m is within at found =
+    omega (arith, at, found, ap (position_or_len p) (is ∙ take_rest xs n))

@@ -1,7 +1,7 @@
 //! What the program takes in: all bytes of a source up to a limit, and their lines.
 
-ghost use Rattle.std.specs.Prelude.{◌≡◌, ◌≢◌, ℕ, List, ◌<◌, ◌≤◌, ◌∷◌, ◌==◌, length, true, OnOk, IfOk, IfErr};
-ghost use Rattle.std.specs.List.{position_or_len};
+ghost use Rattle.std.specs.Prelude.{◌≡◌, ◌≢◌, ℕ, List, ◌<◌, ◌≤◌, ◌∷◌, ◌==◌, ◌+◌, length, drop, true, OnOk, IfOk, IfErr};
+ghost use Rattle.std.specs.List.{list_any, position_or_len};
 ghost use Rattle.std.specs.Io.KnownBytes.{Consumes, IsAtEnd};
 ghost use Rattle.mime_lines.specs.Report.{lines_of};
 
@@ -14,6 +14,9 @@ const LIMIT: usize = 1_048_576;
 
 /// How many bytes are asked for at a time.
 const BLOCK: usize = 8192;
+
+/// How many bytes are looked at together in the search for the end of a line.
+const STEP: usize = 8;
 
 /// Reads a source to its end, and no further than one byte past the limit.
 pub(crate) fn read_to_limit<S: Source>(alloc: Global, source: &mut S) -> Result<Vec<u8>, RunError>
@@ -50,6 +53,35 @@ pub(crate) fn read_to_limit<S: Source>(alloc: Global, source: &mut S) -> Result<
     }
 }
 
+/// Whether a line ends among some bytes. The loop doesn't end early: over a known length it is a few
+/// steps of the processor.
+#[inline(always)]
+fn has_line_end(bytes: &[u8]) -> bool
+    ensures { result ≡ list_any (λ byte. byte == 10) bytes.now }
+{
+    let mut found = false;
+    for byte in bytes {
+        found |= *byte == b'\n';
+    }
+    found
+}
+
+/// How many bytes are passed in whole steps, since no line ends among them.
+fn passed_len(input: &[u8]) -> usize
+    ensures within { result ≤ length input.now }
+    ensures onward { position_or_len (λ byte. byte == 10) input.now
+        ≡ result + position_or_len (λ byte. byte == 10) (drop result input.now) }
+{
+    let mut passed = 0;
+    while input.len() - passed >= STEP {
+        if has_line_end(&input[passed..passed + STEP]) {
+            return passed;
+        }
+        passed += STEP;
+    }
+    passed
+}
+
 /// How many bytes stand before the first end of a line, or before the end of the input.
 fn line_len(input: &[u8]) -> usize
     ensures line { result ≡ position_or_len (λ byte. byte == 10) input.now }
@@ -67,7 +99,8 @@ pub(crate) fn first_line(input: &[u8]) -> (&[u8], &[u8])
     ensures lines { lines_of input.now ≡ result.0.now ∷ lines_of result.1.now }
     ensures shorter { length result.1.now < length input.now }
 {
-    let end = line_len(input);
+    let passed = passed_len(input);
+    let end = passed + line_len(&input[passed..]);
     let next = (end + 1).min(input.len());
     (&input[..end], &input[next..])
 }

@@ -36,6 +36,7 @@ fn push_line(alloc: Global, report: &mut String, line: &[u8], mode: Mode) -> Res
 }
 
 /// Adds the rows of the media type that a text is, or its fault.
+#[inline(never)]
 fn push_reading(alloc: Global, report: &mut String, text: &str) -> Result<(), AllocError>
     ensures { OnOk result ((rows : List ℕ) × ReportsText Mode.Parts text.now rows × (string_bytes report.new ≡ string_bytes report.old ++ rows)) }
 {
@@ -43,10 +44,7 @@ fn push_reading(alloc: Global, report: &mut String, text: &str) -> Result<(), Al
         Ok(mime) => push_value(report, &mime),
         Err(error) => match error.fault() {
             ParseError::NoMemory => Err(AllocError),
-            _ => {
-                let shown = format!(in alloc; "{error}")?;
-                push_row(report, "bad ", shown.as_str())
-            }
+            _ => writeln!(report, "bad {error}"),
         },
     }
 }
@@ -91,6 +89,7 @@ fn push_params(report: &mut String, mime: &Mime) -> Result<(), AllocError>
 }
 
 /// Adds a row.
+#[inline(always)]
 fn push_row(report: &mut String, label: &str, text: &str) -> Result<(), AllocError>
     ensures { OnOk result (string_bytes report.new ≡ string_bytes report.old ++ row label.now text.now) }
 {

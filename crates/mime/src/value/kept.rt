@@ -57,7 +57,7 @@ fn lower_first<'a>(bytes: &mut [u8], list: &'a str) -> &'a str
     pair.rest
 }
 
-/// Lowers the first so many pairs of a list, whose bytes these are.
+/// Lowers the first `count` pairs of a list, whose bytes these are.
 #[inline]
 fn lower_pairs(bytes: &mut [u8], list: &str, count: usize)
     requires { bytes.old ≡ list.now }

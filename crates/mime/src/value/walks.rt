@@ -27,7 +27,7 @@ fn order_pair(one: Pair<'_>, other: Pair<'_>) -> Ordering
     one.name.cmp(other.name).then(one.value.cmp(other.value))
 }
 
-/// Whether the first so many pairs of two lists are the same.
+/// Whether the first `count` pairs of two lists are the same.
 pub(crate) fn same_pairs(first: &str, second: &str, count: usize) -> bool
     ensures { IsTrue result ↔ (pairs_within count first.now ≡ pairs_within count second.now) }
 {
@@ -45,8 +45,8 @@ pub(crate) fn same_pairs(first: &str, second: &str, count: usize) -> bool
     true
 }
 
-/// How the first so many pairs of two lists compare: pair by pair, each by its name and then by its
-/// value.
+/// How the first `count` pairs of one list and the first `number` of another compare: pair by pair,
+/// each by its name and then by its value.
 pub(crate) fn order_pairs(first: &str, count: usize, second: &str, number: usize) -> Ordering
     ensures { result ≡ slice_cmp pair_cmp (pairs_within count first.now) (pairs_within number second.now) }
 {
@@ -113,7 +113,7 @@ fn feed_pair<H: Hasher>(pair: Pair<'_>, state: &mut H)
     }
 }
 
-/// Feeds the first so many pairs of a list to a hasher.
+/// Feeds the first `count` pairs of a list to a hasher.
 pub(crate) fn feed_pairs<H: Hasher>(list: &str, count: usize, state: &mut H)
     ensures { state.new ≡ fold H.write state.old (flat_map pair_input (pairs_within count list.now)) }
 {

@@ -1,7 +1,6 @@
 -- A text is read, or has a fault.
-use Rattle.std.proofs.Common.{subst, ◌∙◌, ◌++◌, codes, OnOk, string_bytes, ◌≡◌}
-use Rattle.mime.specs.Printed.{error_text}
-use Rattle.mime_lines.specs.Report.{row, ReportsText}
+use Rattle.std.proofs.Common.{◌∙◌}
+use Rattle.mime_lines.specs.Report.{ReportsText}
 use Rattle.mime_lines.specs.Report.ReportsText.{read, refused}
 use Rattle.mime_lines.specs.declared.mode.Mode.{Mode}
 use Rattle.mime_lines.proofs.Rows.{reported, fault-explained}
@@ -11,12 +10,9 @@ pub returns-in-Ok : goal.returns-in-Ok
 returns-in-Ok c =
     reported (ReportsText Mode.Parts c.args.text.now) _ _ _ _ (read c.in-Ok.mime.media c.in-Ok.ensures.read) c.push_value.ensures
 
-pub returns-in_ok-shown-in_default : goal.returns-in_ok-shown-in_default
-returns-in_ok-shown-in_default c =
-    let shown : c.as_str.result.now ≡ error_text c.in-Err.error = c.as_str.ensures.value ∙ c.in_ok-shown-in_default.ensures.ok in
+pub returns-in_default : goal.returns-in_default
+returns-in_default c =
     let fault =
     fault-explained c.args.text.now c.in-Err.error c.in-Err.ensures.explained
     (λ want. c.in_default.not-NoMemory (c.fault.ensures ∙ want)) in
-    reported (ReportsText Mode.Parts c.args.text.now) _ _ _ _ (refused c.in-Err.error fault)
-    (subst (λ text. OnOk c.push_row.result (string_bytes c.push_row.new.report ≡ string_bytes c.args.report.now ++ row (codes "bad ") text))
-    shown c.push_row.ensures)
+    reported (ReportsText Mode.Parts c.args.text.now) _ _ _ _ (refused c.in-Err.error fault) c.writeln.ensures.bytes
