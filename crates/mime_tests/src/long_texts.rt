@@ -1,5 +1,6 @@
 //! Long texts are read as short ones are, in each branch of reading.
 
+use crate::parameters::count_of_p;
 use mime::{Mime, MimeIter};
 use std::alloc::Global;
 use std::process::Abort;
@@ -116,12 +117,12 @@ fn texts_of_1000000_bytes(rt: HostRuntime) -> Result<(), Fail> {
 
 #[test]
 fn many_parameters_in_1000000_bytes(rt: HostRuntime) -> Result<(), Fail> {
-    let list = ";p=X".repeat(rt.alloc(), 249_999)?;
+    let list = ";p=x".repeat(rt.alloc(), 249_999)?;
     let text = format!(in rt.alloc(); "a/bb{list}")?;
     assert_eq!(rt; text.len(), 1_000_000);
     let mime = Mime::from_str(rt.alloc(), text.as_str())?;
     let is_item = is_only_item(rt.alloc(), text.as_str(), &mime);
     assert!(rt; mime.as_str() == text.as_str() && is_item);
-    assert_eq!(rt; mime.params().count(), 249_999);
+    assert_eq!(rt; count_of_p(&rt, &mime), 249_999);
     Ok(())
 }

@@ -273,8 +273,8 @@ fn parameters_are_counted_and_end(rt: HostRuntime) -> Result<(), Fail> {
     Ok(())
 }
 
-/// How many parameters there are, each of which is `p=x`.
-fn count_of_p(rt: &impl Abort, mime: &Mime) -> u64 {
+/// How many parameters there are; each is `p=x`.
+pub(crate) fn count_of_p(rt: &impl Abort, mime: &Mime) -> u64 {
     let mut count = 0u64;
     for (name, value) in mime.params() {
         assert!(rt; name.text == "p" && value.text == "x", "parameter {count}");
