@@ -2,15 +2,15 @@
 use Rattle.std.proofs.Common.{◌≡◌, ℕ, ◌+◌, ◌<◌, Bool, true, false, eqb, List, [], ◌∷◌, ◌++◌, length, Option, Some, None, refl, sym, ap, ◌∙◌, subst, arith, append_assoc, append-nil, length-append}
 use Rattle.std.specs.Prelude.{IsTrue, IsFalse, MatchOption}
 use Rattle.std.specs.List.{list_all}
-use Rattle.std.specs.Option.{option_to_list}
-use Rattle.std.proofs.lemmas.Bool.{and_from}
+use Rattle.std.specs.Option.{option_eq, option_to_list}
+use Rattle.std.proofs.lemmas.Bool.{and_from, eqb-true, true≢false}
 use Rattle.std.proofs.lemmas.List.Folds.{list_all-append}
-use Rattle.mime.specs.Bytes.{is_quoted_text_byte, plus_byte, backslash_byte}
-use Rattle.mime.specs.Quoted.{awaits_first, awaits_next, takes, awaits_behind, IsOpenContent}
+use Rattle.mime.specs.Bytes.{is_quoted_byte, is_quoted_text_byte, plus_byte, backslash_byte}
+use Rattle.mime.specs.Quoted.{awaits_first, awaits_next, takes, takes_all, awaits_behind, IsOpenContent, continues}
 use Rattle.mime.specs.Values.{last_plus}
 use Rattle.mime.specs.Remaining.{Remaining}
 use Rattle.mime.specs.Scanning.{Given, GivesFirst, Passes, PassesContent}
-use Rattle.mime.proofs.Quoted.{takes-text, awaits_next-text, takes-backslash, awaits_behind-push, IsOpenContent-push}
+use Rattle.mime.proofs.Quoted.{takes_all-backslash, takes_all-text, awaits_behind-text, awaits_behind-append, takes_all-append, not_taken}
 
 -- a run, and what was given from where it ended
 pub given_then : {old mid new : Remaining} {xs ys : List ℕ} {stop : Option ℕ}
@@ -78,37 +78,71 @@ pub record Taking (awaiting : Bool) (old now : Remaining) : Type 0 where
   pub awaits : awaits_behind awaits_first run ≡ awaiting
   pub given : Given old now run None
 
--- one byte more of it
-pub taking_more : {awaiting : Bool} {old mid new : Remaining} {b : ℕ} → Taking awaiting old mid → GivesFirst mid new (Some b)
-    → IsTrue (takes awaiting b) → Taking (awaits_next awaiting b) old new
-taking_more {b = b} p g fits = record {
-  run = p.run ++ b ∷ [];
-  of_class = IsOpenContent-push p.run b p.of_class (rw p.awaits fits);
-  awaits = awaits_behind-push awaits_first p.run b ∙ ap (λ (a : Bool). awaits_next a b) p.awaits;
-  given = given_more p.given g;
+-- no byte yet
+pub taking_none : (now : Remaining) → Taking false now now
+taking_none now = record { run = []; of_class = refl; awaits = refl; given = record { bytes = refl; counted = omega arith } }
+
+-- more of it
+taking_run : {awaiting : Bool} {old mid new : Remaining} {run : List ℕ} → Taking awaiting old mid → Given mid new run None
+    → IsTrue (takes_all awaiting run) → Taking (awaits_behind awaiting run) old new
+taking_run {run} p g taken = record {
+  run = p.run ++ run;
+  of_class = takes_all-append awaits_first p.run run p.of_class (rw p.awaits taken);
+  awaits = awaits_behind-append awaits_first p.run run ∙ ap (λ (a : Bool). awaits_behind a run) p.awaits;
+  given = given_then p.given g;
 }
 
--- quoted text awaits nothing
-pub taking_text : {old mid new : Remaining} {b : ℕ} → Taking false old mid → GivesFirst mid new (Some b)
-    → IsTrue (is_quoted_text_byte b) → Taking false old new
-taking_text {old} {new = new} {b = b} p g text =
-    subst (λ awaiting. Taking awaiting old new) (awaits_next-text b text) (taking_more p g (takes-text b text))
+-- a test that says so tells that a backslash stopped a pass
+is_backslash : (stop : Option ℕ) → option_eq eqb stop (Some backslash_byte) ≡ true → stop ≡ Some backslash_byte
+is_backslash None test = absurd (true≢false (sym test))
+is_backslash (Some b) test = ap Some (eqb-true b backslash_byte test)
 
--- a backslash awaits a byte
-pub taking_backslash : {old mid new : Remaining} {b : ℕ} → Taking false old mid → GivesFirst mid new (Some b)
-    → b ≡ backslash_byte → Taking true old new
-taking_backslash {mid} {new} p g same =
-    taking_more p (subst (λ b. GivesFirst mid new (Some b)) same g) takes-backslash
+-- quoted text, and a backslash, which awaits a byte
+pub taking_backslash : {old mid new : Remaining} {stop : Option ℕ} → Taking false old mid
+    → Passes is_quoted_text_byte mid new stop → option_eq eqb stop (Some backslash_byte) ≡ true → Taking true old new
+taking_backslash {old} {mid} {new} {stop} p passes test =
+    let given = given_whole (subst (λ s. Given mid new passes.run s) (is_backslash stop test) passes.given) in
+    let text = awaits_behind-text passes.run passes.of_class in
+    subst (λ awaiting. Taking awaiting old new)
+    (awaits_behind-append false passes.run (backslash_byte ∷ []) ∙ ap (λ (a : Bool). awaits_next a backslash_byte) text)
+    (taking_run p given
+    (takes_all-append false passes.run (backslash_byte ∷ []) (takes_all-text passes.run passes.of_class)
+    (subst (λ awaiting. IsTrue (takes_all awaiting (backslash_byte ∷ []))) (sym text) takes_all-backslash)))
 
--- the text ended it, or a byte that it doesn't take did
-pub content_at : {awaiting : Bool} {old mid new : Remaining} {stop : Option ℕ} → Taking awaiting old mid → GivesFirst mid new stop
-    → MatchOption stop (new.left ≡ []) (λ b. IsFalse (takes awaiting b)) → PassesContent old new stop
-content_at p g stopped = record {
+-- and the byte that it pairs
+pub taking_paired : {old mid new : Remaining} {b : ℕ} → Taking true old mid → GivesFirst mid new (Some b)
+    → IsTrue (is_quoted_byte b) → Taking false old new
+taking_paired {b} p g fits = taking_run p (given_whole g.0) (and_from (is_quoted_byte b) true fits refl)
+
+-- the text ended after a backslash, or a byte stood there that it doesn't pair
+pub content_pair : {old mid new : Remaining} {stop : Option ℕ} → Taking true old mid → GivesFirst mid new stop
+    → MatchOption stop (new.left ≡ []) (λ b. IsFalse (is_quoted_byte b)) → PassesContent old new stop
+content_pair p g stopped = record {
   run = p.run;
   of_class = p.of_class;
   given = given_stop p.given g;
   stopped = rw p.awaits stopped;
 }
+
+-- quoted text up to the end, or to a byte that is no backslash
+pub content_text : {old mid new : Remaining} (stop : Option ℕ) → Taking false old mid → Passes is_quoted_text_byte mid new stop
+    → option_eq eqb stop (Some backslash_byte) ≡ false → PassesContent old new stop
+content_text {new = new} stop p passes other = record {
+  run = p.run ++ passes.run;
+  of_class = takes_all-append awaits_first p.run passes.run p.of_class (rw p.awaits (takes_all-text passes.run passes.of_class));
+  given = given_then p.given passes.given;
+  stopped = ends stop passes.stopped other;
+}
+  where
+    closes : awaits_behind awaits_first (p.run ++ passes.run) ≡ false
+    closes = awaits_behind-append awaits_first p.run passes.run
+        ∙ ap (λ (a : Bool). awaits_behind a passes.run) p.awaits ∙ awaits_behind-text passes.run passes.of_class
+
+    ends : (stop : Option ℕ) → MatchOption stop (new.left ≡ []) (λ b. IsFalse (is_quoted_text_byte b)) → option_eq eqb stop (Some backslash_byte) ≡ false
+        → MatchOption stop (new.left ≡ []) (λ b. IsFalse (continues (p.run ++ passes.run) b))
+    ends None stopped other = stopped
+    ends (Some b) stopped other =
+        ap (λ (a : Bool). takes a b) closes ∙ not_taken b stopped other
 
 -- a plus at the end is the last one
 pub last_plus-plus : (at : ℕ) (xs : List ℕ) (b place : ℕ) → b ≡ plus_byte → at + length xs ≡ place

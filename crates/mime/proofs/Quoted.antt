@@ -2,6 +2,7 @@
 use Rattle.std.proofs.Common.{◌≡◌, ◌≢◌, ℕ, suc, ◌+◌, ◌<◌, ◌≤◌, Bool, true, false, List, [], ◌∷◌, ◌++◌, length, get_or, drop, refl, sym, ap, ◌∙◌, subst, ne_eqb, arith, cond}
 use Rattle.std.specs.Prelude.{IsTrue, IsFalse, ◌==◌, ◌&&◌, not}
 use Rattle.std.specs.Char.{to_ascii_lowercase}
+use Rattle.std.specs.List.{list_all}
 use Rattle.std.proofs.lemmas.List.{drop_more, drop_all}
 use Rattle.std.specs.Str.{IsUtf8, IsCharBoundary}
 use Rattle.std.proofs.lemmas.Str.{IsCharBoundary-before_ascii, IsCharBoundary-after_ascii}
@@ -50,24 +51,35 @@ taken-closes_not false b taken = grind (arith, nat_tests)
 -- ---- quoted text and pairs
 
 -- quoted text is taken
-pub takes-text : (b : ℕ) → IsTrue (is_quoted_text_byte b) → IsTrue (takes false b)
+takes-text : (b : ℕ) → IsTrue (is_quoted_text_byte b) → IsTrue (takes false b)
 takes-text b text = grind (arith, nat_tests)
 
 -- and awaits nothing
-pub awaits_next-text : (b : ℕ) → IsTrue (is_quoted_text_byte b) → awaits_next false b ≡ false
+awaits_next-text : (b : ℕ) → IsTrue (is_quoted_text_byte b) → awaits_next false b ≡ false
 awaits_next-text b text = grind (arith, nat_tests)
 
 -- a backslash is taken
-pub takes-backslash : IsTrue (takes false backslash_byte)
+takes-backslash : IsTrue (takes false backslash_byte)
 unfolding is_quoted_byte
 takes-backslash = refl
+
+pub takes_all-backslash : IsTrue (takes_all false (backslash_byte ∷ []))
+unfolding is_quoted_byte
+takes_all-backslash = refl
 
 -- what is taken and is no backslash is quoted text
 text-taken : (b : ℕ) → IsTrue (takes false b) → IsFalse (b == backslash_byte) → IsTrue (is_quoted_text_byte b)
 text-taken b taken other = grind (arith, nat_tests)
 
+-- neither a quote nor a backslash is quoted text
+pub not_quote : (b : ℕ) → IsTrue (is_quoted_text_byte b) → b ≢ quote_byte
+not_quote b text same = grind (arith, nat_tests)
+
+pub not_backslash : (b : ℕ) → IsTrue (is_quoted_text_byte b) → b ≢ backslash_byte
+not_backslash b text same = grind (arith, nat_tests)
+
 -- no other byte is taken
-pub not_taken : (b : ℕ) → IsFalse (is_quoted_text_byte b) → b ≢ backslash_byte → IsFalse (takes false b)
+pub not_taken : (b : ℕ) → IsFalse (is_quoted_text_byte b) → IsFalse (b == backslash_byte) → IsFalse (takes false b)
 not_taken b no_text other = grind (arith, nat_tests)
 
 -- ---- content is what is taken and awaits no more
@@ -115,23 +127,38 @@ IsContent-taken content all done = content_from false content all done
 
 -- ---- byte after byte
 
--- one byte more
-pub awaits_behind-push : (awaiting : Bool) (run : List ℕ) (b : ℕ)
-    → awaits_behind awaiting (run ++ b ∷ []) ≡ awaits_next (awaits_behind awaiting run) b
-awaits_behind-push awaiting [] b = refl
-awaits_behind-push awaiting (c ∷ run) b = awaits_behind-push (awaits_next awaiting c) run b
+-- bytes after others
+pub awaits_behind-append : (awaiting : Bool) (run more : List ℕ)
+    → awaits_behind awaiting (run ++ more) ≡ awaits_behind (awaits_behind awaiting run) more
+awaits_behind-append awaiting [] more = refl
+awaits_behind-append awaiting (b ∷ run) more = awaits_behind-append (awaits_next awaiting b) run more
 
-takes_all-push : (awaiting : Bool) (run : List ℕ) (b : ℕ) → IsTrue (takes_all awaiting run)
-    → IsTrue (takes (awaits_behind awaiting run) b) → IsTrue (takes_all awaiting (run ++ b ∷ []))
-takes_all-push awaiting [] b all taken = and_from (takes awaiting b) true taken refl
-takes_all-push awaiting (c ∷ run) b all taken =
-    let parts = and_parts (takes awaiting c) (takes_all (awaits_next awaiting c) run) all in
-    and_from (takes awaiting c) _ parts.0 (takes_all-push (awaits_next awaiting c) run b parts.1 taken)
+pub takes_all-append : (awaiting : Bool) (run more : List ℕ) → IsTrue (takes_all awaiting run)
+    → IsTrue (takes_all (awaits_behind awaiting run) more) → IsTrue (takes_all awaiting (run ++ more))
+takes_all-append awaiting [] more all taken = taken
+takes_all-append awaiting (b ∷ run) more all taken =
+    let parts = and_parts (takes awaiting b) (takes_all (awaits_next awaiting b) run) all in
+    and_from (takes awaiting b) _ parts.0 (takes_all-append (awaits_next awaiting b) run more parts.1 taken)
 
 -- a byte that continues open content leaves it open
 pub IsOpenContent-push : (content : List ℕ) (b : ℕ) → IsOpenContent content → IsTrue (continues content b)
     → IsOpenContent (content ++ b ∷ [])
-IsOpenContent-push content b all taken = takes_all-push awaits_first content b all taken
+IsOpenContent-push content b all taken =
+    takes_all-append awaits_first content (b ∷ []) all (and_from (continues content b) true taken refl)
+
+-- quoted text is taken, and awaits nothing
+pub takes_all-text : (run : List ℕ) → IsTrue (list_all is_quoted_text_byte run) → IsTrue (takes_all false run)
+takes_all-text [] all = refl
+takes_all-text (b ∷ run) all =
+    let parts = and_parts (is_quoted_text_byte b) (list_all is_quoted_text_byte run) all in
+    and_from (takes false b) _ (takes-text b parts.0)
+    (subst (λ awaiting. IsTrue (takes_all awaiting run)) (sym (awaits_next-text b parts.0)) (takes_all-text run parts.1))
+
+pub awaits_behind-text : (run : List ℕ) → IsTrue (list_all is_quoted_text_byte run) → awaits_behind false run ≡ false
+awaits_behind-text [] all = refl
+awaits_behind-text (b ∷ run) all =
+    let parts = and_parts (is_quoted_text_byte b) (list_all is_quoted_text_byte run) all in
+    ap (λ (awaiting : Bool). awaits_behind awaiting run) (awaits_next-text b parts.0) ∙ awaits_behind-text run parts.1
 
 -- where a quote doesn't continue it, none is awaited and it is content
 pub IsContent-closed : (content : List ℕ) (b : ℕ) → IsOpenContent content → IsFalse (continues content b) → IsTrue (b == quote_byte)
@@ -164,7 +191,7 @@ takes_all-letter_slash_letter false = refl
 pub closed-letter : (content : List ℕ) → IsFalse (continues (content ++ 120 ∷ []) quote_byte)
 closed-letter content =
     takes-quote (awaits_behind awaits_first (content ++ 120 ∷ []))
-    ∙ awaits_behind-push awaits_first content 120 ∙ awaits_next-letter (awaits_behind awaits_first content)
+    ∙ awaits_behind-append awaits_first content (120 ∷ []) ∙ awaits_next-letter (awaits_behind awaits_first content)
 
 -- ---- lowering
 

@@ -7,7 +7,7 @@ use Rattle.std.specs.Option.{option_and_then, option_map}
 use Rattle.mime.specs.Bytes.{is_token_byte}
 use Rattle.mime.specs.Grammar.{is_space}
 use Rattle.mime.specs.Quoted.{awaits_first, awaits_next, takes_all, awaits_behind, continues}
-use Rattle.mime.proofs.Quoted.{awaits_behind-push}
+use Rattle.mime.proofs.Quoted.{awaits_behind-append}
 use Rattle.mime.proofs.Begun.{Closed, Begun, in_type, in_subtype, in_list, BegunList, in_spaces, in_name, in_value, in_quotes, behind_quotes, list_at, at_place, grow, grow_list, walk_by, walk, walk_from, walk_list}
 
 -- ---- by any step
@@ -111,7 +111,7 @@ walk_list-open closed n name taken (b ∷ run) all =
     walk_by-step grow_list (list_at closed (in_quotes n name taken)) (list_at closed (in_quotes n name (taken ++ (b ∷ [])))) b run
     (cond-true (continues taken b) _ _ parts.0)
     ∙ walk_list-open closed n name (taken ++ (b ∷ [])) run
-    (subst (λ a. IsTrue (takes_all a run)) (sym (awaits_behind-push awaits_first taken b)) parts.1)
+    (subst (λ a. IsTrue (takes_all a run)) (sym (awaits_behind-append awaits_first taken (b ∷ []))) parts.1)
     ∙ ap (λ t. at_place closed (in_quotes n name t)) (append_assoc taken (b ∷ []) run)
 
 -- spaces go on after a quoted value

@@ -1,7 +1,7 @@
 //! One pass over a text: where its parts are, or why it is refused.
 
 ghost use Rattle.std.specs.Prelude.{◌+◌, ◌-◌, ◌<◌, ◌^◌, length};
-ghost use Rattle.mime.specs.Bytes.{is_token_byte};
+ghost use Rattle.mime.specs.Bytes.{is_token_byte, is_quoted_text_byte as is_quoted_text};
 ghost use Rattle.mime.specs.Grammar.{is_space as is_space_byte};
 ghost use Rattle.mime.specs.Scanning.{Passes, PassesContent, PassesSubtype, ScansList, Scans};
 
@@ -59,24 +59,34 @@ fn spaces(reader: &mut ByteReader<'_>) -> Option<u8>
     None
 }
 
+/// Passes the bytes of a quoted value that stand by themselves, and gives the byte that ends them.
+#[inline(always)]
+fn quoted_text(reader: &mut ByteReader<'_>) -> Option<u8>
+    ensures { Passes is_quoted_text reader.old reader.new result }
+{
+    while let Some(byte) = reader.next() {
+        if !is_quoted_text_byte(byte) {
+            return Some(byte);
+        }
+    }
+    None
+}
+
 /// Passes what stands between the quotes of a value, and gives the byte that ends it: a quote closes
 /// the value, unless a backslash stands before it that isn't itself paired.
 #[inline(always)]
 fn content(reader: &mut ByteReader<'_>) -> Option<u8>
     ensures { PassesContent reader.old reader.new result }
 {
-    while let Some(byte) = reader.next() {
-        if !is_quoted_text_byte(byte) {
-            if byte != b'\\' {
-                return Some(byte);
-            }
-            let paired = reader.next()?;
-            if !is_quoted_byte(paired) {
-                return Some(paired);
-            }
+    let mut stop = quoted_text(reader);
+    while stop == Some(b'\\') {
+        let paired = reader.next()?;
+        if !is_quoted_byte(paired) {
+            return Some(paired);
         }
+        stop = quoted_text(reader);
     }
-    None
+    stop
 }
 
 /// Passes what follows a subtype's first byte. Returns the position of its last plus, counted from

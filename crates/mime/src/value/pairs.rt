@@ -6,7 +6,7 @@ ghost use Rattle.mime.specs.Pairs.{before_byte, behind_byte, cut_of};
 ghost use Rattle.mime.specs.Pairs.{leading_spaces, first_place, cut_behind_equals};
 ghost use Rattle.mime.specs.Quoted.{content_of, behind_content, content_len as len_of};
 
-use crate::bytes::is_space;
+use crate::bytes::{is_quoted_text_byte, is_space};
 
 /// The first pair of a list, and the list after its semicolon.
 #[derive(Clone, Copy)]
@@ -57,12 +57,14 @@ fn content_len(text: &[u8]) -> usize
     let mut place = 0;
     while place < text.len() {
         let byte = text[place];
-        if byte == b'"' {
-            return place;
-        }
-        if byte == b'\\' && place + 1 < text.len() {
-            // The byte that it pairs closes nothing.
-            place += 1;
+        if !is_quoted_text_byte(byte) {
+            if byte == b'"' {
+                return place;
+            }
+            if byte == b'\\' && place + 1 < text.len() {
+                // The byte that it pairs closes nothing.
+                place += 1;
+            }
         }
         place += 1;
     }

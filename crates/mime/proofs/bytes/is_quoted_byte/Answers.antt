@@ -1,17 +1,17 @@
--- The comparisons are the class.
-use Rattle.std.proofs.Common.{arith}
-use Rattle.std.proofs.lemmas.Bool.Decides.{nat_tests}
+-- The table holds the class of each byte.
+use Rattle.std.proofs.Common.{◌≡◌, false, get_or, map, refl, ap, ◌∙◌, arith}
+use Rattle.std.specs.List.{range_with_len}
+use Rattle.std.proofs.lemmas.List.FromFn.{get_or-map-range_with_len}
 use Rattle.mime.specs.Bytes.{is_quoted_byte as is_quoted}
+use Rattle.mime.specs.declared.bytes.TheConstants.{QUOTED}
 use Rattle.mime.proofs.bytes.is_quoted_byte.Goals as goal
 
-pub returns-then-b-eq9 : goal.returns-then-b-eq9
+-- the table is the class, byte by byte
+table : QUOTED ≡ map is_quoted (range_with_len 0 256)
 unfolding is_quoted
-returns-then-b-eq9 c = grind (arith, nat_tests)
+table = refl
 
-pub returns-then-b-ge32 : goal.returns-then-b-ge32
-unfolding is_quoted
-returns-then-b-ge32 c = grind (arith, nat_tests)
-
-pub returns-else-b-ge32 : goal.returns-else-b-ge32
-unfolding is_quoted
-returns-else-b-ge32 c = grind (arith, nat_tests)
+pub returns : goal.returns
+returns c =
+    ap (λ t. get_or t c.args.b false) table
+    ∙ get_or-map-range_with_len is_quoted 0 256 c.args.b c.args.b false (omega arith) (omega arith)

@@ -1,10 +1,13 @@
--- The quoted text and the pairs so far.
+-- The quoted text and the pairs so far, and then quoted text up to the byte that stops it.
 use Rattle.std.proofs.Common.{false, length}
+use Rattle.mime.specs.Bytes.{is_quoted_text_byte}
+use Rattle.mime.specs.Remaining.{Remaining}
+use Rattle.mime.specs.Scanning.{Passes}
 use Rattle.mime.proofs.Passing.{Taking}
 use Rattle.mime.proofs.scan.content.Given as goal
 
-abbrev pub invariant-loop-byte : goal.invariant-loop-byte
-invariant-loop-byte l = Taking false l.initial.reader l.reader
+abbrev pub invariant-loop-stop : goal.invariant-loop-stop
+invariant-loop-stop l = (mid : Remaining) × Taking false l.fn.reader mid × Passes is_quoted_text_byte mid l.reader l.stop
 
-abbrev pub decreases-loop-byte : goal.decreases-loop-byte
-decreases-loop-byte l = length l.reader.left
+abbrev pub decreases-loop-stop : goal.decreases-loop-stop
+decreases-loop-stop l = length l.reader.left
