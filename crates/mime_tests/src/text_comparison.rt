@@ -8,7 +8,7 @@ use std::process::Abort;
 use std::test::Fail;
 
 /// Values, by the texts that they are read from, with texts that they equal.
-const EQUAL: [(&str, &str); 40] = [
+const EQUAL: [(&str, &str); 46] = [
     ("text/event-stream;       ", "text/event-stream"),
     ("text/event-stream;       ", "TEXT/Event-Stream"),
     ("text/plain", "text/plain"),
@@ -35,6 +35,19 @@ const EQUAL: [(&str, &str); 40] = [
     ("a/b; charset=utf-9", "a/b; CHARSET=\"UTF-9\""),
     ("a/b; CHARSET=\"UTF-9\"", "a/b; charset=utf-9"),
     ("a/b; charset=", "A/B;CHARSET="),
+    // As long as the kept text, but in another form.
+    ("text/plain; charset=utf-8", "TEXT/PLAIN;charset=UTF-8;"),
+    ("text/plain;charset=utf-8;", "text/plain; charset=utf-8"),
+    (
+        "text/plain; charset=\"utf-8\"",
+        "text/plain; charset=utf-8; ",
+    ),
+    (
+        "text/plain; charset=utf-8; ",
+        "text/plain; charset=\"utf-8\"",
+    ),
+    ("a/b; charset=x;  ", "a/b;    charset=x"),
+    ("a/b;  charset=x", "a/b; charset=x;"),
     // One other parameter.
     ("a/b;p=x", "a/b; p=x"),
     ("a/b; p=x", "a/b;p=x"),
@@ -73,7 +86,7 @@ const EQUAL: [(&str, &str); 40] = [
 ];
 
 /// Values with texts that they don't equal, though some are accepted.
-const UNEQUAL: [(&str, &str); 59] = [
+const UNEQUAL: [(&str, &str); 67] = [
     // A value without parameters equals no text with a semicolon.
     ("text/event-stream;       ", "text/event-stream;"),
     ("text/event-stream;       ", "text/event-stream;       "),
@@ -130,6 +143,14 @@ const UNEQUAL: [(&str, &str); 59] = [
     ("a/b; charset=utf-8", "a/b; charset=utf-9"),
     ("text/plain; charset=utf-8", "text/plain; charset=utf-9"),
     ("text/plain; charset=utf-8", "next/plain; charset=utf-8"),
+    ("text/plain; charset=utf-8", "text/plaim; charset=utf-8"),
+    ("text/plain; charset=utf-8", "text/plain; charsex=utf-8"),
+    ("text/plain; charset=utf-8", "text/plain;  charset=utf8"),
+    ("text/plain; charset=utf-8", "text/plain; charset=utf8;"),
+    ("text/plain; charset=utf-8", "text/plain; charset=utfé"),
+    ("text/plain; charset=utf-8", "text/plain; charset=\"tf8\""),
+    ("a/b; charset=x", "a/b; charset= "),
+    ("a/b; charset=x", "é/; charset=x"),
     ("text/plain; charset=utf-8", "text/plain"),
     (
         "text/plain; charset=iso-8859-1",
