@@ -1,13 +1,13 @@
 -- A text against a kept one of its length with one plain parameter: it can be written in one form alone.
-use Rattle.std.proofs.Common.{◌≡◌, ℕ, ◌+◌, ◌-◌, ◌<◌, ◌≤◌, true, false, List, [], ◌∷◌, ◌++◌, length, Some, slice_get, map, refl, sym, ap, ◌∙◌, subst, arith, ◌⊎◌, inl, inr, ⊎_elim, append_assoc, length-append}
-use Rattle.std.specs.Prelude.{IsTrue, IsFalse, ◌==◌}
+use Rattle.std.proofs.Common.{◌≡◌, ℕ, ◌+◌, ◌-◌, ◌<◌, ◌≤◌, List, [], ◌∷◌, ◌++◌, length, Some, slice_get, map, refl, sym, ap, ◌∙◌, subst, arith, ◌⊎◌, inl, inr, ⊎_elim, append_assoc, length-append}
+use Rattle.std.specs.Prelude.{IsTrue, IsFalse}
 use Rattle.std.specs.List.{list_all, slice_index}
 use Rattle.std.proofs.lemmas.Bool.{and_parts, true≢false}
 use Rattle.std.proofs.lemmas.Bool.Decides.{nat_tests}
 use Rattle.std.proofs.lemmas.Option.{same_Some, get_or_from_slice_get}
 use Rattle.mime.specs.Bytes.{is_token_byte, semicolon_byte, equals_byte, quote_byte, space_byte}
 use Rattle.mime.specs.Grammar.{Parameter, plain, quoted, Parameters, blank, final, more, Tail, no_list, listed, SyntaxTree, text_of, text_of_list, text_of_parameter, is_space, AreSpaces, IsToken, IsInnerParameter, IsFinalParameter, AreParameters, IsWellFormed}
-use Rattle.mime.specs.Values.{MediaType, Reads, value_of, essence_of, lowered, lowered_value, pair_of, pairs_of_list}
+use Rattle.mime.specs.Values.{MediaType, Reads, value_of, essence_of, lowered, pair_of, pairs_of_list}
 use Rattle.mime.specs.Comparison.{TextIs}
 use Rattle.mime.specs.KeptText.{lowered_pair, HasOneForm}
 use Rattle.mime.proofs.ByteAt.{slice_get-behind, slice_get-front}
@@ -241,36 +241,36 @@ alike_alone kept text essence pair own other (long, own_space, letter, space, to
     let heads : lowered own.head ≡ lowered other.head = own.low ∙ sym other.low in
     let names : lowered own.written.0 ≡ lowered other.written.0 = ap (λ p. p.0) (own.kept ∙ sym other.kept) in
     let values : lowered own.written.1 ≡ lowered other.written.1 =
-        sym (lowered-lowered_value own.written.0 own.written.1) ∙ ap (λ p. lowered p.1) (own.kept ∙ sym other.kept)
-        ∙ lowered-lowered_value other.written.0 other.written.1 in
+    sym (lowered-lowered_value own.written.0 own.written.1) ∙ ap (λ p. lowered p.1) (own.kept ∙ sym other.kept)
+    ∙ lowered-lowered_value other.written.0 other.written.1 in
     let head_long : length own.head ≡ length essence = sym (length-lowered own.head) ∙ ap length own.low in
     let other_long : length other.head ≡ length essence = sym (length-lowered other.head) ∙ ap length other.low in
     let plain_one : one.after ≡ own.written.1 =
-        ⊎_elim (λ same. same) (λ more. absurd (no_mark own.head own.list own.spelled more.1)) one.valued in
+    ⊎_elim (λ same. same) (λ more. absurd (no_mark own.head own.list own.spelled more.1)) one.valued in
     let few : length one.gap ≤ 1 =
-        small_gap one.gap (own.written.0 ++ (equals_byte ∷ one.after)) one.white
-        (ap (λ l. slice_get l 1) (sym one.spelled) ∙ sym (at_list own.head own.list 1 (length essence + 2) (omega (arith, head_long)))
-        ∙ ap (λ t. slice_get t (length essence + 2)) (sym own.spelled) ∙ letter) in
+    small_gap one.gap (own.written.0 ++ (equals_byte ∷ one.after)) one.white
+    (ap (λ l. slice_get l 1) (sym one.spelled) ∙ sym (at_list own.head own.list 1 (length essence + 2) (omega (arith, head_long)))
+    ∙ ap (λ t. slice_get t (length essence + 2)) (sym own.spelled) ∙ letter) in
     let own_at : slice_get (one.gap ++ (own.written.0 ++ (equals_byte ∷ one.after))) 0 ≡ Some space_byte =
-        ap (λ l. slice_get l 0) (sym one.spelled) ∙ sym (at_list own.head own.list 0 (length essence + 1) (omega (arith, head_long)))
-        ∙ ap (λ t. slice_get t (length essence + 1)) (sym own.spelled) ∙ own_space in
+    ap (λ l. slice_get l 0) (sym one.spelled) ∙ sym (at_list own.head own.list 0 (length essence + 1) (omega (arith, head_long)))
+    ∙ ap (λ t. slice_get t (length essence + 1)) (sym own.spelled) ∙ own_space in
     let other_at : slice_get (two.gap ++ (other.written.0 ++ (equals_byte ∷ two.after))) 0 ≡ Some space_byte =
-        ap (λ l. slice_get l 0) (sym two.spelled) ∙ sym (at_list other.head other.list 0 (length essence + 1) (omega (arith, other_long)))
-        ∙ ap (λ t. slice_get t (length essence + 1)) (sym other.spelled) ∙ space in
+    ap (λ l. slice_get l 0) (sym two.spelled) ∙ sym (at_list other.head other.list 0 (length essence + 1) (omega (arith, other_long)))
+    ∙ ap (λ t. slice_get t (length essence + 1)) (sym other.spelled) ∙ space in
     let some : 1 ≤ length two.gap = some_gap two.gap other.written.0 (equals_byte ∷ two.after) two.named other_at in
     let lengths = sym (length-spelled own.head one.gap own.written.0 one.after) ∙ ap length (sym whole) ∙ long
-        ∙ ap length also ∙ length-spelled other.head two.gap other.written.0 two.after in
+    ∙ ap length also ∙ length-spelled other.head two.gap other.written.0 two.after in
     let name_long = length-alike own.written.0 other.written.0 names in
     let value_long = length-alike own.written.1 other.written.1 values in
     let own_long = ap length plain_one in
     let plain_two : two.after ≡ other.written.1 =
-        ⊎_elim (λ same. same)
-        (λ more. absurd (omega (arith, head_long, other_long, few, some, lengths, name_long, value_long, own_long, more.0))) two.valued in
+    ⊎_elim (λ same. same)
+    (λ more. absurd (omega (arith, head_long, other_long, few, some, lengths, name_long, value_long, own_long, more.0))) two.valued in
     let two_long = ap length plain_two in
     let own_gap : length one.gap ≡ 1 =
-        omega (arith, head_long, other_long, few, some, lengths, name_long, value_long, own_long, two_long) in
+    omega (arith, head_long, other_long, few, some, lengths, name_long, value_long, own_long, two_long) in
     let other_gap : length two.gap ≡ 1 =
-        omega (arith, head_long, other_long, few, some, lengths, name_long, value_long, own_long, two_long) in
+    omega (arith, head_long, other_long, few, some, lengths, name_long, value_long, own_long, two_long) in
     let gaps : one.gap ≡ two.gap = one_space one.gap (own.written.0 ++ (equals_byte ∷ one.after)) own_gap own_at ∙ sym (one_space two.gap (other.written.0 ++ (equals_byte ∷ two.after)) other_gap other_at) in
     let afters : lowered one.after ≡ lowered two.after = ap lowered plain_one ∙ values ∙ sym (ap lowered plain_two) in
     ap lowered whole ∙ lowered-spelled own.head one.gap own.written.0 one.after
