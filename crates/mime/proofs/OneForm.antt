@@ -1,13 +1,13 @@
 -- A text against a kept one of its length with one plain parameter: it can be written in one form alone.
-use Rattle.std.proofs.Common.{◌≡◌, ℕ, ◌+◌, ◌-◌, ◌<◌, ◌≤◌, true, false, List, [], ◌∷◌, ◌++◌, length, Some, slice_get, map, refl, sym, ap, ◌∙◌, subst, arith, ◌⊎◌, inl, inr, ⊎_elim, append_assoc, length-append}
-use Rattle.std.specs.Prelude.{IsTrue, IsFalse, ◌==◌}
+use Rattle.std.proofs.Common.{◌≡◌, ℕ, ◌+◌, ◌-◌, ◌<◌, ◌≤◌, List, [], ◌∷◌, ◌++◌, length, Some, slice_get, map, refl, sym, ap, ◌∙◌, subst, arith, ◌⊎◌, inl, inr, ⊎_elim, append_assoc, length-append}
+use Rattle.std.specs.Prelude.{IsTrue, IsFalse}
 use Rattle.std.specs.List.{list_all, slice_index}
 use Rattle.std.proofs.lemmas.Bool.{and_parts, true≢false}
 use Rattle.std.proofs.lemmas.Bool.Decides.{nat_tests}
 use Rattle.std.proofs.lemmas.Option.{same_Some, get_or_from_slice_get}
 use Rattle.mime.specs.Bytes.{is_token_byte, semicolon_byte, equals_byte, quote_byte, space_byte}
 use Rattle.mime.specs.Grammar.{Parameter, plain, quoted, Parameters, blank, final, more, Tail, no_list, listed, SyntaxTree, text_of, text_of_list, text_of_parameter, is_space, AreSpaces, IsToken, IsParameter, AreParameters, IsWellFormed}
-use Rattle.mime.specs.Values.{MediaType, Reads, value_of, essence_of, lowered, lowered_value, pair_of, pairs_of_list}
+use Rattle.mime.specs.Values.{MediaType, Reads, value_of, essence_of, lowered, pair_of, pairs_of_list}
 use Rattle.mime.specs.Comparison.{TextIs}
 use Rattle.mime.specs.KeptText.{lowered_pair, HasOneForm}
 use Rattle.mime.proofs.ByteAt.{slice_get-behind, slice_get-front}

@@ -175,19 +175,16 @@ fn has_one_form(kept: &str, essence: &str, text: &str) -> bool
         && is_token(kept[kept.len() - 1])
 }
 
-/// Whether a text is a value with parameters, where it isn't the kept text: a lone charset in another
-/// case is told without its parts.
+/// Whether a text is a value whose only parameter is a charset.
 #[inline(never)]
-fn eq_otherwise(mime: &Mime, s: &str) -> bool
-    requires { mime.now.media.pairs ≢ [] }
+fn eq_lone_charset(mime: &Mime, s: &str) -> bool
+    requires some { mime.now.media.pairs ≢ [] }
+    requires lone { IsLoneCharset mime.now.media.pairs }
     ensures { IsTrue result ↔ TextIs mime.now.media s.now }
 {
-    let kept = mime.as_str();
-    if is_lone_charset(mime) {
-        // All of it ignores case.
-        if alike(kept, s) {
-            return true;
-        }
+    // All of it ignores case.
+    if alike(mime.as_str(), s) {
+        return true;
     }
     eq_by_parts(mime, s)
 }
@@ -207,11 +204,14 @@ fn eq_with_parameters(mime: &Mime, s: &str) -> bool
         return false;
     }
     if is_lone_charset(mime) {
-        if has_one_form(kept, mime.essence_str(), s) {
-            return alike(kept, s);
+        if kept.len() == s.len() {
+            if has_one_form(kept, mime.essence_str(), s) {
+                return alike(kept, s);
+            }
+            return eq_lone_charset(mime, s);
         }
     }
-    eq_otherwise(mime, s)
+    eq_by_parts(mime, s)
 }
 
 /// Whether a text is a value without parameters.

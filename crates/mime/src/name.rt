@@ -83,7 +83,8 @@ fn all_differing_bits(a: &[u8], b: &[u8]) -> u8
 }
 
 /// Whether two byte strings of one length are the same but for the case of ASCII letters, by
-/// their first and last `block` bytes, which together cover texts of at most twice that length.
+/// their last and first `block` bytes, which together cover texts of at most twice that length. Names and
+/// texts differ at their ends more often than where they begin.
 #[inline(always)]
 fn ends_alike(a: &[u8], b: &[u8], block: usize) -> bool
     requires same_length { length a.now ≡ length b.now }
@@ -92,8 +93,8 @@ fn ends_alike(a: &[u8], b: &[u8], block: usize) -> bool
     ensures { IsTrue result ↔ (lowered a.now ≡ lowered b.now) }
 {
     let last = a.len() - block;
-    all_differing_bits(&a[..block], &b[..block]) == 0
-        && all_differing_bits(&a[last..], &b[last..]) == 0
+    all_differing_bits(&a[last..], &b[last..]) == 0
+        && all_differing_bits(&a[..block], &b[..block]) == 0
 }
 
 /// The same of longer ones, in blocks of 16 bytes, up to the first block that differs. The last may

@@ -33,6 +33,19 @@ static EQUAL: &[(&str, &str)] = &[
     ("text/plain;  charset=utf-8", "Text/Plain;  Charset=Utf-8"),
     ("a/b; charset=utf-9", "a/b; CHARSET=\"UTF-9\""),
     ("a/b; CHARSET=\"UTF-9\"", "a/b; charset=utf-9"),
+    // As long as the kept text, but in another form.
+    ("text/plain; charset=utf-8", "TEXT/PLAIN;charset=UTF-8;"),
+    ("text/plain;charset=utf-8;", "text/plain; charset=utf-8"),
+    (
+        "text/plain; charset=\"utf-8\"",
+        "text/plain; charset=utf-8; ",
+    ),
+    (
+        "text/plain; charset=utf-8; ",
+        "text/plain; charset=\"utf-8\"",
+    ),
+    ("a/b; charset=x;  ", "a/b;    charset=x"),
+    ("a/b;  charset=x", "a/b; charset=x;"),
     // One other parameter.
     ("a/b;p=x", "a/b; p=x"),
     ("a/b; p=x", "a/b;p=x"),
@@ -139,6 +152,14 @@ static UNEQUAL: &[(&str, &str)] = &[
     ("a/b; charset=utf-8", "a/b; charset=utf-9"),
     ("text/plain; charset=utf-8", "text/plain; charset=utf-9"),
     ("text/plain; charset=utf-8", "next/plain; charset=utf-8"),
+    ("text/plain; charset=utf-8", "text/plaim; charset=utf-8"),
+    ("text/plain; charset=utf-8", "text/plain; charsex=utf-8"),
+    ("text/plain; charset=utf-8", "text/plain;  charset=utf8"),
+    ("text/plain; charset=utf-8", "text/plain; charset=utf8;"),
+    ("text/plain; charset=utf-8", "text/plain; charset=utfé"),
+    ("text/plain; charset=utf-8", "text/plain; charset=\"tf8\""),
+    ("a/b; charset=x", "a/b; charset= "),
+    ("a/b; charset=x", "é/; charset=x"),
     ("text/plain; charset=utf-8", "text/plain"),
     (
         "text/plain; charset=iso-8859-1",

@@ -1,4 +1,4 @@
--- Texts whose first and last blocks reach over the whole are alike exactly where those are.
+-- Texts whose last and first blocks reach over the whole are alike exactly where those are.
 use Rattle.std.proofs.Common.{◌≡◌, ◌-◌, length, take, drop, refl, ap, arith}
 use Rattle.mime.specs.Values.{lowered}
 use Rattle.mime.proofs.Blocks.{no_bit, of_block, of_last, lapped}
@@ -10,17 +10,18 @@ returns-then-all_differing_bits-eq0 c =
     let b = lowered c.args.b.now in
     let block = c.args.block in
     let last = length c.args.a.now - block in
-    let front = of_block c.all_differing_bits.result c.args.a.now c.args.b.now 0 block block refl c.all_differing_bits.ensures in
+    let back = of_last c.all_differing_bits.result c.args.a.now c.args.b.now last c.all_differing_bits.ensures in
     let bits = c.all_differing_bits-then-all_differing_bits-eq0.result in
-    let back = of_last bits c.args.a.now c.args.b.now last c.all_differing_bits-then-all_differing_bits-eq0.ensures in
+    let front = of_block bits c.args.a.now c.args.b.now 0 block block refl c.all_differing_bits-then-all_differing_bits-eq0.ensures in
     no_bit bits (a ≡ b) (
-      λ none. lapped a b block last (omega arith) (front.0 c.if-all_differing_bits-eq0.true) (back.0 none),
-      λ same. back.1 (ap (drop last) same),
+      λ none. lapped a b block last (omega arith) (front.0 none) (back.0 c.if-all_differing_bits-eq0.true),
+      λ same. front.1 (ap (take block) same),
     )
 
 pub returns-else-all_differing_bits-eq0 : goal.returns-else-all_differing_bits-eq0
 returns-else-all_differing_bits-eq0 c =
     let bits = c.all_differing_bits.result in
-    let front = of_block bits c.args.a.now c.args.b.now 0 c.args.block c.args.block refl c.all_differing_bits.ensures in
+    let last = length c.args.a.now - c.args.block in
+    let back = of_last bits c.args.a.now c.args.b.now last c.all_differing_bits.ensures in
     no_bit bits (lowered c.args.a.now ≡ lowered c.args.b.now)
-    (λ none. absurd (c.if-all_differing_bits-eq0.false none), λ same. front.1 (ap (take c.args.block) same))
+    (λ none. absurd (c.if-all_differing_bits-eq0.false none), λ same. back.1 (ap (drop last) same))
