@@ -1,6 +1,7 @@
 //! A quoted value without its backslashes, in a buffer of the caller's own.
 
 ghost use Rattle.std.specs.Prelude.{◌≡◌, ◌++◌, OnOk};
+ghost use Rattle.std.specs.Vec.{vec_items};
 ghost use Rattle.mime_examples.specs.Unescaped.{unescaped};
 
 use std::alloc::AllocError;
@@ -8,7 +9,7 @@ use std::alloc::AllocError;
 /// Adds what a value means to a buffer: each quoted pair as the byte after its backslash (RFC 7230,
 /// 3.2.6). A plain value has no backslash, and means itself.
 pub fn unescape(value: &str, buffer: &mut Vec<u8>) -> Result<(), AllocError>
-    ensures { OnOk result (buffer.new ≡ buffer.old ++ unescaped value.now) }
+    ensures { OnOk result (vec_items buffer.new ≡ vec_items buffer.old ++ unescaped value.now) }
 {
     let bytes = value.as_bytes();
     let mut is_paired = false;

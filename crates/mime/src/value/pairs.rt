@@ -94,6 +94,10 @@ fn gap_of(list: &str) -> usize
     let bytes = list.as_bytes();
     let mut gap = 0;
     while gap < bytes.len() {
+        // Most bytes are told by one comparison.
+        if bytes[gap] > b' ' {
+            return gap;
+        }
         if !is_space(bytes[gap]) {
             return gap;
         }
