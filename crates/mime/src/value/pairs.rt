@@ -138,7 +138,7 @@ fn cut_value<'a>(whole: usize, name: &'a str, text: &'a str) -> Pair<'a>
 
 /// The first pair of a list.
 #[tactic(auto, unfolding(crate::specs::Pairs::cut_of))]
-#[inline]
+#[inline(always)]
 pub(crate) fn cut<'a>(list: &'a str) -> Pair<'a>
     ensures name { result.name.now ≡ (cut_of list.entry.now).name }
     ensures head { result.head ≡ (cut_of list.entry.now).head }
