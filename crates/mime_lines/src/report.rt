@@ -57,6 +57,7 @@ fn push_line(alloc: Global, report: &mut String, line: &[u8], mode: Mode) -> Res
 }
 
 /// Adds the report on a line that is a text.
+#[inline(always)]
 fn push_text(alloc: Global, report: &mut String, text: &str, mode: Mode) -> Result<(), AllocError>
     ensures { OnOk result ((rows : List ℕ) × ReportsLine mode text.now rows × (string_bytes report.new ≡ string_bytes report.old ++ rows)) }
 {
