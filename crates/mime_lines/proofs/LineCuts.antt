@@ -1,10 +1,11 @@
 -- How lines are cut off one by one.
-use Rattle.std.proofs.Common.{suc, min, ◌-◌, ◌≡◌, ℕ, ◌+◌, ◌<◌, ◌≤◌, Bool, true, false, cond, not, List, [], ◌∷◌, ◌++◌, length, take, drop, refl, ap, sym, ◌∙◌, arith, nat_eq, Option, Some, None, ◌||◌, zero-add, length-drop}
-use Rattle.std.proofs.lemmas.List.{take-append-drop, take_rest, drop-drop, length-take-le}
+use Rattle.std.proofs.Common.{suc, min, ◌-◌, ◌≡◌, ℕ, ◌+◌, ◌<◌, ◌≤◌, Bool, true, false, cond, not, List, [], ◌∷◌, ◌++◌, length, take, drop, refl, ap, sym, ◌∙◌, arith, nat_eq, Option, Some, None, slice_get, ◌||◌, zero-add, length-drop}
+use Rattle.std.proofs.lemmas.List.{take-append-drop, take_rest, take_all, drop_all, drop-drop, length-take-le}
 use Rattle.std.proofs.lemmas.Bool.{true≢false}
 use Rattle.std.specs.Option.{unwrap_or}
 use Rattle.std.specs.List.{list_any, position_or_len, onto_first}
 use Rattle.std.proofs.lemmas.List.Sums.{prefix_len-le-length}
+use Rattle.mime.proofs.CharBorders.{slice_get-place_from}
 use Rattle.mime_lines.specs.Report.{lines_of}
 use Rattle.std.proofs.lemmas.Bool.Decides.{nat_tests}
 use Rattle.std.proofs.lemmas.Grind.{common_steps}
@@ -37,6 +38,23 @@ front-lines false n b (c ∷ bytes) cut none = ap (onto_first b) (cut (omega ari
 pub lines_of-first : (bytes : List ℕ) → 0 < length bytes → lines_of bytes ≡ take (position_or_len (λ b. nat_eq b 10) bytes) bytes ∷ lines_of (drop (position_or_len (λ b. nat_eq b 10) bytes + 1) bytes)
 lines_of-first [] h = absurd (omega arith)
 lines_of-first (b ∷ bytes) h = front-lines (nat_eq b 10) (position_or_len (λ b. nat_eq b 10) bytes) b bytes (lines_of-first bytes) (λ e. omega (arith, prefix_len-le-length (λ b. not (nat_eq b 10)) bytes))
+
+-- a line that ends before the end of the bytes ends with byte 10
+pub line_end-found : (bytes : List ℕ) (end : ℕ) → end ≡ position_or_len (λ b. nat_eq b 10) bytes → end < length bytes → slice_get bytes end ≡ Some 10
+line_end-found bytes end is within =
+    slice_get-place_from 0 10 bytes end (is ∙ sym (zero-add (position_or_len (λ b. nat_eq b 10) bytes))) within
+
+-- the first line, and the lines after its end, where these are known
+pub lines_of-cut : (bytes front rest : List ℕ) (end : ℕ) → 0 < length bytes → end ≡ position_or_len (λ b. nat_eq b 10) bytes
+    → front ≡ take end bytes → rest ≡ drop (end + 1) bytes → lines_of bytes ≡ front ∷ lines_of rest
+lines_of-cut bytes front rest end some is front_is rest_is =
+    lines_of-first bytes some ∙ ap (λ n. take n bytes ∷ lines_of (drop (n + 1) bytes)) (sym is) ∙ cc (front_is, rest_is)
+
+-- where no line ends the whole is one line
+pub lines_of-last : (bytes : List ℕ) (end : ℕ) → 0 < length bytes → end ≡ position_or_len (λ b. nat_eq b 10) bytes → length bytes ≤ end
+    → lines_of bytes ≡ bytes ∷ []
+lines_of-last bytes end some is past =
+    lines_of-cut bytes bytes [] end some is (sym (take_all end bytes past)) (sym (drop_all (end + 1) bytes (omega arith)))
 
 -- what stands after a position that may be the end
 pub drop-after : (n : ℕ) (xs : List ℕ) → drop (n + 1) xs ≡ take (length xs - min (n + 1) (length xs)) (drop (min (n + 1) (length xs)) xs)

@@ -93,14 +93,37 @@ fn line_len(input: &[u8]) -> usize
         .unwrap_or(input.len())
 }
 
+/// Where the first line of an input ends: whole steps are passed first.
+fn line_end(input: &[u8]) -> usize
+    ensures line { result ≡ position_or_len (λ byte. byte == 10) input.now }
+    ensures within { result ≤ length input.now }
+{
+    let passed = passed_len(input);
+    passed + line_len(&input[passed..])
+}
+
 /// The first line of an input that isn't empty, and what stands after its end.
 pub(crate) fn first_line(input: &[u8]) -> (&[u8], &[u8])
     requires { 0 < length input.now }
     ensures lines { lines_of input.now ≡ result.0.now ∷ lines_of result.1.now }
     ensures shorter { length result.1.now < length input.now }
 {
-    let passed = passed_len(input);
-    let end = passed + line_len(&input[passed..]);
+    let end = line_end(input);
     let next = (end + 1).min(input.len());
     (&input[..end], &input[next..])
+}
+
+/// The first line of a text that isn't empty, and what stands after its end. The end of a line is an
+/// ASCII byte: both are texts.
+pub(crate) fn first_text_line(text: &str) -> (&str, &str)
+    requires { 0 < length text.now }
+    ensures lines { lines_of text.now ≡ result.0.now ∷ lines_of result.1.now }
+    ensures shorter { length result.1.now < length text.now }
+{
+    let end = line_end(text.as_bytes());
+    if end < text.len() {
+        (&text[..end], &text[end + 1..])
+    } else {
+        (text, "")
+    }
 }

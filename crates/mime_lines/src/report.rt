@@ -3,13 +3,37 @@
 ghost use Rattle.std.specs.Prelude.{◌≡◌, ℕ, List, ◌++◌, OnOk, IfOk, string_bytes};
 ghost use Rattle.mime_lines.specs.Report.{row, param_rows, value_rows, ReportsText, ReportsLine, IsReportOf};
 
-use crate::input::first_line;
+use crate::input::{first_line, first_text_line};
 use crate::mode::Mode;
 use mime::{Bad, Mime, MimeIter, ParseError};
 use std::alloc::{AllocError, Global};
 
-/// The report on an input.
+/// The report on an input. Where all of it is a text, its lines need no test of their own.
 pub(crate) fn report_of(alloc: Global, input: &[u8], mode: Mode) -> Result<String, AllocError>
+    ensures { IfOk result (λ report. IsReportOf mode input.now (string_bytes report)) }
+{
+    match str::from_utf8(input) {
+        Ok(text) => report_of_text(alloc, text, mode),
+        Err(_) => report_of_bytes(alloc, input, mode),
+    }
+}
+
+/// The report on an input that is a text.
+fn report_of_text(alloc: Global, text: &str, mode: Mode) -> Result<String, AllocError>
+    ensures { IfOk result (λ report. IsReportOf mode text.now (string_bytes report)) }
+{
+    let mut report = String::new(alloc);
+    let mut rest = text;
+    while !rest.is_empty() {
+        let (line, more) = first_text_line(rest);
+        push_text(alloc, &mut report, line, mode)?;
+        rest = more;
+    }
+    Ok(report)
+}
+
+/// The report on any input.
+fn report_of_bytes(alloc: Global, input: &[u8], mode: Mode) -> Result<String, AllocError>
     ensures { IfOk result (λ report. IsReportOf mode input.now (string_bytes report)) }
 {
     let mut report = String::new(alloc);
@@ -26,9 +50,17 @@ pub(crate) fn report_of(alloc: Global, input: &[u8], mode: Mode) -> Result<Strin
 fn push_line(alloc: Global, report: &mut String, line: &[u8], mode: Mode) -> Result<(), AllocError>
     ensures { OnOk result ((rows : List ℕ) × ReportsLine mode line.now rows × (string_bytes report.new ≡ string_bytes report.old ++ rows)) }
 {
-    let Ok(text) = str::from_utf8(line) else {
-        return push_row(report, "not text", "");
-    };
+    match str::from_utf8(line) {
+        Ok(text) => push_text(alloc, report, text, mode),
+        Err(_) => push_row(report, "not text", ""),
+    }
+}
+
+/// Adds the report on a line that is a text.
+#[inline(always)]
+fn push_text(alloc: Global, report: &mut String, text: &str, mode: Mode) -> Result<(), AllocError>
+    ensures { OnOk result ((rows : List ℕ) × ReportsLine mode text.now rows × (string_bytes report.new ≡ string_bytes report.old ++ rows)) }
+{
     match mode {
         Mode::Parts => push_reading(alloc, report, text),
         Mode::List => push_items(alloc, report, text),

@@ -232,6 +232,16 @@ fn reports_each_line(rt: HostRuntime) -> Result<(), Fail> {
         (b"\n", NO_SLASH),
         (b"\xff\n", "not text\n"),
         (
+            b"\xc3\xa9\na/b;p=\"\xc3\xa9\"\n",
+            "bad mime parse error: an invalid token was encountered, C3 at position 0\n\
+             ok a/b;p=\"é\"\ntype a\nsubtype b\nparam p=é\n",
+        ),
+        (
+            b"\xc3\xa9\na/b;p=\"\xc3\xa9\"\n\xa9",
+            "bad mime parse error: an invalid token was encountered, C3 at position 0\n\
+             ok a/b;p=\"é\"\ntype a\nsubtype b\nparam p=é\nnot text\n",
+        ),
+        (
             b"a/b;p\n\xc3",
             "bad mime parse error: an equals sign (=) was missing between a parameter and its value\nnot text\n",
         ),
@@ -267,6 +277,7 @@ fn reports_the_items_of_each_line(rt: HostRuntime) -> Result<(), Fail> {
         (b"a/b, c/d\r\ne/f", "ok a/b\nok c/d\nok e/f\n"),
         (b"", ""),
         (b"\n\n", ""),
+        (b"\xc3\xa9, a/b\n\xc3\xa9\nc/d", "ok a/b\nok c/d\n"),
         (b"\xff\na/b", "not text\nok a/b\n"),
         (b"x, a/b\n, \xc3\n", "bad x\nok a/b\nnot text\n"),
         (
