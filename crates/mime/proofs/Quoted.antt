@@ -1,8 +1,8 @@
 -- What stands between quotes: it is taken byte by byte, what was taken and awaits no more is content, a cut finds its end.
-use Rattle.std.proofs.Common.{◌≡◌, ◌≢◌, ℕ, suc, ◌+◌, ◌<◌, ◌≤◌, Bool, true, false, List, [], ◌∷◌, ◌++◌, length, get_or, drop, refl, sym, ap, ◌∙◌, subst, ne_eqb, arith, cond}
+use Rattle.std.proofs.Common.{◌≡◌, ◌≢◌, ℕ, zero, suc, ◌+◌, ◌<◌, ◌≤◌, Bool, true, false, List, [], ◌∷◌, ◌++◌, length, get_or, drop, refl, sym, ap, ◌∙◌, subst, ne_eqb, arith, cond}
 use Rattle.std.specs.Prelude.{IsTrue, IsFalse, ◌==◌, ◌&&◌, not}
 use Rattle.std.specs.Char.{to_ascii_lowercase}
-use Rattle.std.specs.List.{list_all}
+use Rattle.std.specs.List.{list_all, position_or_len}
 use Rattle.std.proofs.lemmas.List.{drop_more, drop_all}
 use Rattle.std.specs.Str.{IsUtf8, IsCharBoundary}
 use Rattle.std.proofs.lemmas.Str.{IsCharBoundary-before_ascii, IsCharBoundary-after_ascii}
@@ -11,6 +11,7 @@ use Rattle.std.proofs.lemmas.Bool.Decides.{nat_tests}
 use Rattle.mime.specs.Bytes.{is_quoted_byte, is_quoted_text_byte, quote_byte, backslash_byte}
 use Rattle.mime.specs.Grammar.{IsContent, no_byte, text_byte, quoted_pair}
 use Rattle.mime.specs.Values.{lowered}
+use Rattle.mime.specs.Pairs.{first_place}
 use Rattle.mime.specs.Quoted.{awaits_first, awaits_next, takes, takes_all, awaits_behind, IsOpenContent, continues, len_from, content_len}
 
 -- ---- one byte
@@ -296,3 +297,36 @@ pub search_past_pair : (text : List ℕ) (place whole : ℕ) → place + len_fro
 search_past_pair text place whole e within backslash =
     let at = rw backslash at (len_from-at text place (omega arith)) in
     omega (arith, e, at, ap (len_from true) (drop_more text (place + 1) 0 within))
+
+-- ---- the first quote
+
+-- a byte before the first quote is no backslash, so none is awaited after it
+awaits_next-not_backslash : (awaiting : Bool) (b : ℕ) → b ≢ backslash_byte → awaits_next awaiting b ≡ false
+awaits_next-not_backslash true b other = refl
+awaits_next-not_backslash false b other = ne_eqb b backslash_byte other
+
+not_quote-closes_not : (awaiting : Bool) (b : ℕ) → b == quote_byte ≡ false → not awaiting && b == quote_byte ≡ false
+not_quote-closes_not true b other = refl
+not_quote-closes_not false b other = other
+
+-- the first quote closes, where no byte is awaited at it: where no backslash stands before it
+first_quote : (awaiting : Bool) (text : List ℕ) (n : ℕ) → n ≡ position_or_len (λ b. b == quote_byte) text → (n ≡ 0 → awaiting ≡ false)
+    → ((m : ℕ) → suc m ≡ n → get_or text m 0 ≢ backslash_byte) → len_from awaiting text ≡ n
+first_quote awaiting [] n e free before = sym e
+first_quote awaiting (b ∷ text) n e free before = go (first_quote (awaits_next awaiting b) text) (b == quote_byte) refl n e free before
+  where
+    go : ((n : ℕ) → n ≡ position_or_len (λ b. b == quote_byte) text → (n ≡ 0 → awaits_next awaiting b ≡ false)
+        → ((m : ℕ) → suc m ≡ n → get_or text m 0 ≢ backslash_byte) → len_from (awaits_next awaiting b) text ≡ n)
+        → (closes : Bool) → b == quote_byte ≡ closes → (n : ℕ) → n ≡ cond (not closes) (1 + position_or_len (λ b. b == quote_byte) text) 0
+        → (n ≡ 0 → awaiting ≡ false) → ((m : ℕ) → suc m ≡ n → get_or (b ∷ text) m 0 ≢ backslash_byte) → len_from awaiting (b ∷ text) ≡ n
+    go behind true quote zero e free before = rw (free refl, quote) refl
+    go behind true quote (suc n) e free before = absurd (omega (arith, e))
+    go behind false other zero e free before = absurd (omega (arith, e))
+    go behind false other (suc n) e free before =
+        cond-false (not awaiting && b == quote_byte) _ _ (not_quote-closes_not awaiting b other)
+        ∙ ap suc (behind n (omega (arith, e)) (λ none. awaits_next-not_backslash awaiting b (before 0 (ap suc (sym none))))
+        (λ m same. before (suc m) (ap suc same)))
+
+pub content_len-first_quote : (text : List ℕ) (n : ℕ) → n ≡ first_place 0 quote_byte text
+    → ((m : ℕ) → suc m ≡ n → get_or text m 0 ≢ backslash_byte) → n ≡ content_len text
+content_len-first_quote text n e before = sym (first_quote awaits_first text n (omega (arith, e)) (λ _. refl) before)

@@ -54,6 +54,11 @@ fn split_from<'a>(text: &'a str, from: usize, byte: u8) -> (&'a str, &'a str)
 fn content_len(text: &[u8]) -> usize
     ensures { result ≡ len_of text.now }
 {
+    let quote = place_from(text, 0, b'"');
+    if quote == 0 || text[quote - 1] != b'\\' {
+        // No backslash stands before it, so nothing pairs it.
+        return quote;
+    }
     let mut place = 0;
     while place < text.len() {
         let byte = text[place];
@@ -92,6 +97,10 @@ fn gap_of(list: &str) -> usize
     ensures border { IsCharBoundary list.now result }
 {
     let bytes = list.as_bytes();
+    if bytes.len() > 1 && bytes[0] == b' ' && bytes[1] > b' ' {
+        // Most lists begin with one space.
+        return 1;
+    }
     let mut gap = 0;
     while gap < bytes.len() {
         // Most bytes are told by one comparison.

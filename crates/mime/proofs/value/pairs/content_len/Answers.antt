@@ -1,7 +1,11 @@
 -- Quoted text was passed, or another byte, or a backslash and the byte that it pairs.
-use Rattle.std.proofs.Common.{arith, sym, ◌∙◌}
-use Rattle.mime.proofs.Quoted.{not_quote, not_backslash, search_past, search_past_last, search_past_pair}
+use Rattle.std.proofs.Common.{◌≢◌, arith, get_or, sym, subst, ◌∙◌}
+use Rattle.std.specs.Prelude.{◌==◌, not}
+use Rattle.std.proofs.lemmas.List.Sums.{prefix_len-le-length}
+use Rattle.mime.specs.Bytes.{quote_byte, backslash_byte}
+use Rattle.mime.proofs.Quoted.{not_quote, not_backslash, search_past, search_past_last, search_past_pair, content_len-first_quote}
 use Rattle.mime.proofs.value.pairs.content_len.Goals as goal
+use Rattle.mime.proofs.value.pairs.content_len.Goals.{then-quote-eq0-via-then-quote-eq0, then-quote-eq0-via-else-quote-eq0+then-text-quote-ne92}
 use Rattle.mime.proofs.value.pairs.content_len.Goals.{then-not-is_quoted_text_byte+else-byte-eq34+then-byte-eq92+then-place-text, then-not-is_quoted_text_byte+else-byte-eq34+else-byte-eq92, else-byte-eq92-via-then-byte-eq92+else-place-text, else-byte-eq92-via-else-byte-eq92, else-not-is_quoted_text_byte}
 
 pub loop-place-preserved : goal.loop-place-preserved
@@ -21,4 +25,20 @@ loop-place-preserved c =
       | else-not-is_quoted_text_byte w ↦
           let is_text = sym c.is_quoted_text_byte.ensures ∙ w.if-not-is_quoted_text_byte.false in
           rw w.place-is (search_past text place _ so_far c.loop-place-test.true (not_quote _ is_text) (not_backslash _ is_text))
+    ]
+
+pub bounds-text-quote : goal.bounds-text-quote
+bounds-text-quote c =
+    omega (arith, c.place_from-quote.ensures, prefix_len-le-length (λ b. not (b == quote_byte)) c.args.text.now, c.if-quote-eq0.false)
+
+pub returns-then-quote-eq0 : goal.returns-then-quote-eq0
+returns-then-quote-eq0 c =
+    let text = c.args.text.now in
+    let quote = c.place_from-quote.result in
+    elim c.then-quote-eq0.branch [
+      | then-quote-eq0-via-then-quote-eq0 w ↦
+          content_len-first_quote text quote c.place_from-quote.ensures (λ m same. absurd (omega (arith, same, w.if-quote-eq0.true)))
+      | then-quote-eq0-via-else-quote-eq0+then-text-quote-ne92 w ↦
+          content_len-first_quote text quote c.place_from-quote.ensures (λ m same.
+          subst (λ at. get_or text at 0 ≢ backslash_byte) (omega (arith, same)) w.if-text-quote-ne92.true)
     ]

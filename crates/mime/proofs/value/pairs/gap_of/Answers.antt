@@ -19,3 +19,8 @@ loop-gap-preserved c =
       passed = omega (arith, prefix_len-drop_yes is_space list gap 0 within space);
       border = IsCharBoundary-after_ascii list gap c.utf8.list within (grind (arith, nat_tests, space));
     }
+
+pub returns-then-bytes-gt32-clause-border : goal.returns-then-bytes-gt32-clause-border
+returns-then-bytes-gt32-clause-border c =
+    let list = c.args.list.now in
+    IsCharBoundary-after_ascii list 0 c.utf8.list (omega arith) (grind (arith, nat_tests, c.if-bytes-eq32.true))
