@@ -1,6 +1,5 @@
 -- What is tried on all 256 bytes holds of each.
 use Rattle.std.proofs.Common.{◌≡◌, ℕ, Bool, true, false, ◌<◌, List, [], ◌∷◌, nat_eq, nat_lt, bit_or, length, take, refl, sym, ap, subst, ◌∙◌, arith, zero-add}
-use Rattle.std.specs.Prelude.{IsTrue}
 use Rattle.std.specs.Char.{to_ascii_lowercase}
 use Rattle.std.specs.List.{list_all, range_with_len, slice_index}
 use Rattle.std.proofs.lemmas.Bool.Decides.{nat_tests}
