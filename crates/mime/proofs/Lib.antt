@@ -9,6 +9,7 @@ pub mod Spelling
 pub mod Readings
 pub mod Viability
 pub mod OneFault
+pub mod EachByte
 pub mod ForeignBytes
 pub mod Borders
 pub mod StandardFacts

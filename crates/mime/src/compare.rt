@@ -7,7 +7,7 @@ ghost use Rattle.mime.specs.KeptText.{IsKeptPair, IsListAfter, IsAcceptedAt, IsL
 ghost use Rattle.mime.specs.Values.{lowered, lowered_value, is_charset};
 
 use crate::bytes::is_token;
-use crate::name::eq_ignoring_case;
+use crate::name::{CASE, are_alike, eq_ignoring_case};
 use crate::scan::{ByteReader, Places, Verdict, scan};
 use crate::value::Mime;
 use crate::value::pairs::{Pair, cut};
@@ -20,13 +20,14 @@ fn alike(kept: &str, text: &str) -> bool
     eq_ignoring_case(kept.as_bytes(), text.as_bytes())
 }
 
-/// Whether two texts begin with the same byte, but for case.
+/// Whether two texts begin with the same byte, but for the bit that tells a small letter from its capital. So no
+/// text is refused that begins alike in another case.
 #[inline(always)]
 fn begin_alike(kept: &[u8], text: &[u8]) -> bool
     requires { 0 < length kept.now }
     ensures { lowered (take 1 kept.now) ≡ lowered (take 1 text.now) → IsTrue result }
 {
-    !text.is_empty() && kept[0].to_ascii_lowercase() == text[0].to_ascii_lowercase()
+    !text.is_empty() && kept[0] | CASE == text[0] | CASE
 }
 
 /// Whether a text goes on with a semicolon after this essence, in any case.
@@ -121,7 +122,7 @@ fn is_accepted_at(text: &str, end: usize, count: usize) -> bool
 }
 
 /// Whether the only parameter is a charset, written as ` charset=utf-8` is.
-#[inline]
+#[inline(always)]
 fn is_lone_charset(mime: &Mime) -> bool
     ensures { IsTrue result → IsLoneCharset mime.now.media.pairs }
 {
@@ -132,7 +133,7 @@ fn is_lone_charset(mime: &Mime) -> bool
     if list.len() < 9 || list.as_bytes()[8] != b'=' {
         return false;
     }
-    &list[..9] == " charset="
+    &list[..8] == " charset"
 }
 
 /// Whether a text is a value with parameters, part by part: a value can be written in more than one
@@ -175,43 +176,50 @@ fn has_one_form(kept: &str, essence: &str, text: &str) -> bool
         && is_token(kept[kept.len() - 1])
 }
 
-/// Whether a text is a value whose only parameter is a charset.
-#[inline(never)]
+/// Whether a text is a value whose only parameter is a charset. One comparison decides, unless the text may
+/// be written in another form.
+#[inline(always)]
 fn eq_lone_charset(mime: &Mime, s: &str) -> bool
     requires some { mime.now.media.pairs ≢ [] }
     requires lone { IsLoneCharset mime.now.media.pairs }
     ensures { IsTrue result ↔ TextIs mime.now.media s.now }
 {
+    let kept = mime.as_str();
     // All of it ignores case.
-    if alike(mime.as_str(), s) {
+    if are_alike(kept.as_bytes(), s.as_bytes()) {
+        return true;
+    }
+    if has_one_form(kept, mime.essence_str(), s) {
+        return false;
+    }
+    eq_by_parts(mime, s)
+}
+
+/// Whether a text that begins as the kept one does is a value with parameters. What can be answered without its
+/// parts comes first: a lone charset in a text of the kept length, and the kept text. It isn't compiled into its
+/// caller, which has read the first byte: there that byte wouldn't be read with the 15 after it, in one step.
+#[inline(never)]
+fn eq_begun(mime: &Mime, s: &str) -> bool
+    requires { mime.now.media.pairs ≢ [] }
+    ensures { IsTrue result ↔ TextIs mime.now.media s.now }
+{
+    let kept = mime.as_str();
+    if kept.len() == s.len() && is_lone_charset(mime) {
+        return eq_lone_charset(mime, s);
+    }
+    if kept == s {
         return true;
     }
     eq_by_parts(mime, s)
 }
 
-/// Whether a text is a value with parameters. What can be answered without its parts comes first: the kept
-/// text, a text that begins otherwise, and a lone charset where one comparison decides.
-#[inline(never)]
+/// Whether a text is a value with parameters.
+#[inline(always)]
 fn eq_with_parameters(mime: &Mime, s: &str) -> bool
     requires { mime.now.media.pairs ≢ [] }
     ensures { IsTrue result ↔ TextIs mime.now.media s.now }
 {
-    let kept = mime.as_str();
-    if kept == s {
-        return true;
-    }
-    if !begin_alike(kept.as_bytes(), s.as_bytes()) {
-        return false;
-    }
-    if is_lone_charset(mime) {
-        if kept.len() == s.len() {
-            if has_one_form(kept, mime.essence_str(), s) {
-                return alike(kept, s);
-            }
-            return eq_lone_charset(mime, s);
-        }
-    }
-    eq_by_parts(mime, s)
+    begin_alike(mime.as_str().as_bytes(), s.as_bytes()) && eq_begun(mime, s)
 }
 
 /// Whether a text is a value without parameters.

@@ -33,6 +33,11 @@ static EQUAL: &[(&str, &str)] = &[
     ("text/plain;  charset=utf-8", "Text/Plain;  Charset=Utf-8"),
     ("a/b; charset=utf-9", "a/b; CHARSET=\"UTF-9\""),
     ("a/b; CHARSET=\"UTF-9\"", "a/b; charset=utf-9"),
+    ("a/b; charset=x", "A/B; CHARSET=X"),
+    (
+        "application/javascript; charset=utf-8",
+        "Application/JavaScript; Charset=UTF-8",
+    ),
     // As long as the kept text, but in another form.
     ("text/plain; charset=utf-8", "TEXT/PLAIN;charset=UTF-8;"),
     ("text/plain;charset=utf-8;", "text/plain; charset=utf-8"),
@@ -153,6 +158,13 @@ static UNEQUAL: &[(&str, &str)] = &[
     ("text/plain; charset=utf-8", "text/plain; charset=utf-9"),
     ("text/plain; charset=utf-8", "next/plain; charset=utf-8"),
     ("text/plain; charset=utf-8", "text/plaim; charset=utf-8"),
+    (
+        "application/javascript; charset=utf-8",
+        "application/javascripx; charset=utf-8",
+    ),
+    // First bytes that differ as a letter and its capital do, but are none.
+    ("^a/b; charset=x", "~a/b; charset=x"),
+    ("^a/b; p=x", "~a/b; p=x"),
     ("text/plain; charset=utf-8", "text/plain; charsex=utf-8"),
     ("text/plain; charset=utf-8", "text/plain;  charset=utf8"),
     ("text/plain; charset=utf-8", "text/plain; charset=utf8;"),

@@ -1,11 +1,10 @@
 -- Bytes that are the same but for case differ in no bit but a letter's: tried on all pairs of bytes.
-use Rattle.std.proofs.Common.{◌≡◌, ◌↔◌, ◌<◌, ◌-◌, ℕ, Bool, true, false, cond, nat_eq, bit_and, bit_or, refl, sym, ap, subst, ◌∙◌, arith, zero-add}
+use Rattle.std.proofs.Common.{◌≡◌, ◌↔◌, ◌<◌, ◌-◌, ℕ, Bool, true, false, cond, nat_eq, bit_and, bit_or, refl, sym, ap, subst, ◌∙◌, arith}
 use Rattle.std.specs.Int.Bits.{bit_xor}
 use Rattle.std.specs.Char.{to_ascii_lowercase, is_ascii_lowercase}
 use Rattle.std.specs.List.{list_all, range_with_len}
 use Rattle.std.proofs.lemmas.Bool.Decides.{nat_tests}
-use Rattle.std.proofs.lemmas.List.Sums.{AllPass-from_list_all}
-use Rattle.std.proofs.lemmas.List.FromFn.{get_or-range_with_len}
+use Rattle.mime.proofs.EachByte.{at_byte}
 use Rattle.mime.proofs.name.differing_bits.Goals as goal
 use Rattle.mime.proofs.name.differing_bits.Goals.{then-is_ascii_lowercase, else-is_ascii_lowercase}
 
@@ -25,12 +24,6 @@ agrees x y = nat_eq (cond (nat_eq (bits_of x y) 0) 1 0) (cond (nat_eq (to_ascii_
 agrees_at_all : list_all (λ x. list_all (agrees x) (range_with_len 0 256)) (range_with_len 0 256) ≡ true
 unfolding agrees bits_of case_of
 agrees_at_all = refl
-
--- what holds of all bytes holds of each
-at_byte : (p : ℕ → Bool) (b : ℕ) → b < 256 → list_all p (range_with_len 0 256) ≡ true → p b ≡ true
-at_byte p b within all =
-    subst (λ x. p x ≡ true) (get_or-range_with_len 0 256 b 0 within ∙ zero-add b)
-    (AllPass-from_list_all p (range_with_len 0 256) all b 0 within)
 
 -- so one test is the other
 both_ways : (x y : ℕ) → agrees x y ≡ true → (bits_of x y ≡ 0) ↔ (to_ascii_lowercase x ≡ to_ascii_lowercase y)
