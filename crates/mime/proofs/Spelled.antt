@@ -1,13 +1,13 @@
 -- A parameter list that is checked while its pairs are cut: what each cut tells of it, and of a text that has it.
-use Rattle.std.proofs.Common.{◌≡◌, ◌≢◌, ℕ, suc, ◌+◌, ◌<◌, Bool, true, false, List, [], ◌∷◌, ◌++◌, length, take, drop, Option, Some, None, MatchOption, slice_get, refl, sym, ap, ◌∙◌, subst, arith, append-nil, append_assoc, length-append, length-drop}
+use Rattle.std.proofs.Common.{◌≡◌, ◌≢◌, ℕ, suc, ◌+◌, Bool, true, false, List, [], ◌∷◌, ◌++◌, length, take, drop, Option, Some, None, MatchOption, refl, sym, ap, ◌∙◌, subst, arith, append-nil, append_assoc, length-append, length-drop}
 use Rattle.std.specs.List.{list_all, prefix_len}
 use Rattle.std.proofs.lemmas.Bool.{and_parts, and_from, cond-true, cond-false}
 use Rattle.std.proofs.lemmas.List.{take-append-drop, drop_more}
 use Rattle.std.proofs.lemmas.List.Folds.{length-prefix_len}
 use Rattle.std.proofs.lemmas.Option.{slice_get_within, get_or_from_slice_get}
 use Rattle.mime.specs.Bytes.{is_token_byte, is_quoted_text_byte, semicolon_byte, equals_byte, quote_byte}
-use Rattle.mime.specs.Grammar.{Parameter, plain, quoted, Parameters, blank, final, more, no_list, listed, SyntaxTree, text_of, text_of_parameter, text_of_list, is_space, AreTokenBytes, IsToken, IsContent, no_byte, text_byte, AreParameters}
-use Rattle.mime.specs.Values.{MediaType, Reads, value_of, essence_of, pair_of, pairs_of_list}
+use Rattle.mime.specs.Grammar.{plain, quoted, Parameters, blank, final, more, no_list, listed, SyntaxTree, text_of, text_of_parameter, text_of_list, is_space, AreTokenBytes, IsToken, IsContent, no_byte, text_byte, AreParameters}
+use Rattle.mime.specs.Values.{MediaType, Reads, value_of, essence_of, pairs_of_list}
 use Rattle.mime.specs.Comparison.{HasNoSemicolon}
 use Rattle.mime.specs.Scanning.{places_of}
 use Rattle.mime.specs.Pairs.{PairCut, leading_spaces, cut_of}
