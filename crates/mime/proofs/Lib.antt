@@ -38,6 +38,7 @@ pub mod Joining
 pub mod Constants
 pub mod SmallLetters
 pub mod TextComparison
+pub mod Spelled
 pub mod OneForm
 -- the cut, and runs of the iterator
 pub mod Cuts

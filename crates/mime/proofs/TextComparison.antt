@@ -242,7 +242,7 @@ HasNoSemicolon-lowered [] = refl
 HasNoSemicolon-lowered (b ∷ text) = rw (semicolon-lower b, HasNoSemicolon-lowered text) refl
 
 -- an accepted text without a semicolon is an essence
-bare_tree : (tree : SyntaxTree) → HasNoSemicolon (text_of tree) → text_of tree ≡ essence_of tree
+pub bare_tree : (tree : SyntaxTree) → HasNoSemicolon (text_of tree) → text_of tree ≡ essence_of tree
 bare_tree tree bare = go tree.tail (subst HasNoSemicolon (text_of-essence tree) bare)
   where
     go : (tail : Tail) → HasNoSemicolon (essence_of tree ++ text_of_tail tail) → tree.top ++ (slash_byte ∷ (tree.sub ++ text_of_tail tail)) ≡ essence_of tree
@@ -254,7 +254,7 @@ bare_tree tree bare = go tree.tail (subst HasNoSemicolon (text_of-essence tree) 
         second false is = absurd cc
 
 -- a text whose small letters are the kept text, which has no semicolon, is the value
-text_is-from_lowered : (text kept : List ℕ) (value : MediaType) → Reads kept value → value.pairs ≡ [] → lowered text ≡ value.essence
+pub text_is-from_lowered : (text kept : List ℕ) (value : MediaType) → Reads kept value → value.pairs ≡ [] → lowered text ≡ value.essence
     → TextIs value text
 text_is-from_lowered text kept value reads none is =
     let low = read-low_essence kept value reads in

@@ -19,6 +19,7 @@ pub mod Remaining
 pub mod Quoted
 pub mod Scanning
 pub mod Pairs
+pub mod Spelled
 pub mod KeptText
 pub mod Orders
 pub mod AtomPlaces

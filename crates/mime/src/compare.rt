@@ -4,6 +4,7 @@ ghost use Rattle.std.specs.Prelude.{◌≡◌, ◌≢◌, ◌↔◌, ◌<◌, Is
 ghost use Rattle.mime.specs.Comparison.{TextIs};
 ghost use Rattle.mime.specs.Pairs.{pairs_within};
 ghost use Rattle.mime.specs.KeptText.{IsKeptPair, IsListAfter, IsAcceptedAt, IsLowPair, AreLowPairs, lowered_pair, IsLoneCharset, HasOneForm};
+ghost use Rattle.mime.specs.Spelled.{HasParameters};
 ghost use Rattle.mime.specs.Values.{lowered, lowered_value, is_charset};
 
 use crate::bytes::is_token;
@@ -11,6 +12,7 @@ use crate::name::{CASE, are_alike, eq_ignoring_case};
 use crate::scan::{ByteReader, Places, Verdict, scan};
 use crate::value::Mime;
 use crate::value::pairs::{Pair, cut};
+use crate::value::spelled::{Checked, cut_checked};
 
 /// Whether two texts are the same but for case.
 #[inline(always)]
@@ -40,7 +42,26 @@ fn is_list_after(essence: &str, text: &str) -> bool
     end < text.len() && text[end] == b';' && eq_ignoring_case(essence.as_bytes(), &text[..end])
 }
 
-/// The same, where it is known whether the text is alike to one that does.
+/// Whether a text has the length of a kept one and begins its list as that does, but for case. Most such
+/// texts are in the kept text's form, and most others aren't: so this chooses the way, and decides nothing.
+#[inline(always)]
+fn is_in_form(kept: &str, essence: &str, text: &str) -> bool {
+    let next = essence.len() + 1;
+    let kept = kept.as_bytes();
+    let text = text.as_bytes();
+    kept.len() == text.len() && next < kept.len() && kept[next] == text[next].to_ascii_lowercase()
+}
+
+/// Whether a text in a kept one's form is the same but for case.
+#[inline(always)]
+fn is_recased(in_form: bool, kept: &str, text: &str) -> bool
+    ensures { IsTrue result → lowered kept.now ≡ lowered text.now }
+{
+    in_form && alike(kept, text)
+}
+
+/// Whether a text goes on with a semicolon after this essence, where it is known whether the text is alike
+/// to one that does.
 #[inline(always)]
 fn has_list(is_alike: bool, essence: &str, text: &str) -> bool
     requires { IsTrue is_alike → IsListAfter essence.now text.now }
@@ -74,30 +95,35 @@ fn is_value(name: &str, kept: &str, text: &str) -> bool
 
 /// Whether a pair is a kept one.
 #[inline]
-fn is_pair(kept: Pair<'_>, pair: Pair<'_>) -> bool
+fn is_pair(kept: Pair<'_>, pair: Checked<'_>) -> bool
     requires { IsLowPair (kept.name.now, kept.value.now) }
     ensures { IsTrue result ↔ IsKeptPair (kept.entry.name.now, kept.entry.value.now) (pair.entry.name.now, pair.entry.value.now) }
 {
     is_name(kept.name, pair.name) && is_value(kept.name, kept.value, pair.value)
 }
 
-/// Whether the first `count` pairs of a list are those of a kept one.
-fn are_pairs(kept: &str, list: &str, count: usize) -> bool
+/// Whether the first `count` pairs of a list are those of a kept one; and whether the list is known to be
+/// well-formed and to have no more, if that is to be checked on the way.
+#[inline]
+fn are_pairs(kept: &str, list: &str, count: usize, check: bool) -> (bool, bool)
     requires { AreLowPairs (pairs_within count kept.now) }
-    ensures { IsTrue result ↔ (pairs_within count kept.now ≡ map lowered_pair (pairs_within count list.now)) }
+    ensures same { IsTrue result.0 ↔ (pairs_within count kept.now ≡ map lowered_pair (pairs_within count list.now)) }
+    ensures known { IsTrue result.1 → HasParameters list.now count }
 {
     let mut left = kept;
     let mut right = list;
+    let mut known = check;
     for _ in 0..count {
         let one = cut(left);
-        let other = cut(right);
+        let other = cut_checked(right, known);
         if !is_pair(one, other) {
-            return false;
+            return (false, false);
         }
+        known &= other.is_parameter;
         left = one.rest;
         right = other.rest;
     }
-    true
+    (true, known && right.is_empty())
 }
 
 /// Whether so many pairs stand after a semicolon at this position.
@@ -137,8 +163,9 @@ fn is_lone_charset(mime: &Mime) -> bool
 }
 
 /// Whether a text is a value with parameters, part by part: a value can be written in more than one
-/// way. The text is scanned only where its parts are the value's, and it isn't the kept text in
-/// another case, which is accepted as the kept text is.
+/// way. The kept text in another case is accepted as the kept text is. A text in another form is checked
+/// while it is compared. The scan is left for texts whose parts are the value's, but which neither tells
+/// to be accepted.
 #[inline(never)]
 fn eq_by_parts(mime: &Mime, s: &str) -> bool
     requires { mime.now.media.pairs ≢ [] }
@@ -146,14 +173,20 @@ fn eq_by_parts(mime: &Mime, s: &str) -> bool
 {
     let kept = mime.as_str();
     let essence = mime.essence_str();
-    let is_alike = alike(kept, s);
+    let in_form = is_in_form(kept, essence, s);
+    let is_alike = is_recased(in_form, kept, s);
     if !has_list(is_alike, essence, s) {
         return false;
     }
-    if !are_pairs(mime.list(), &s[essence.len() + 1..], mime.count()) {
+    let list = &s[essence.len() + 1..];
+    let (same, known) = are_pairs(mime.list(), list, mime.count(), !in_form);
+    if !same {
         return false;
     }
     if is_alike {
+        return true;
+    }
+    if known {
         return true;
     }
     is_accepted_at(s, essence.len(), mime.count())

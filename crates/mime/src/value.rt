@@ -14,6 +14,7 @@ ghost use Rattle.mime.specs.Owner.{bytes_of};
 mod kept;
 pub(crate) mod pairs;
 mod params;
+pub(crate) mod spelled;
 mod traits;
 mod walks;
 

@@ -92,7 +92,7 @@ fn split_content<'a>(text: &'a str) -> (&'a str, &'a str)
 
 /// How many spaces and tabs begin the list.
 #[inline]
-fn gap_of(list: &str) -> usize
+pub(crate) fn gap_of(list: &str) -> usize
     ensures gap { result ≡ leading_spaces list.now }
     ensures border { IsCharBoundary list.now result }
 {

@@ -1,16 +1,18 @@
 -- A text is the value where its list and its pairs are, and it is accepted.
-use Rattle.std.proofs.Common.{◌∙◌, sym, ap, refl, subst, lit<}
-use Rattle.mime.specs.KeptText.{AreLowPairs}
+use Rattle.std.proofs.Common.{◌+◌, ◌∙◌, length, drop, sym, ap, refl, subst, lit<}
+use Rattle.mime.specs.KeptText.{IsListAfter, AreLowPairs}
 use Rattle.mime.specs.Pairs.{pairs_within}
+use Rattle.mime.specs.Spelled.{HasParameters}
 use Rattle.mime.proofs.CharBorders.{boundary_behind}
 use Rattle.mime.proofs.Parts.{read-low_pairs}
 use Rattle.mime.proofs.TextComparison.{text_is-parts, text_is-from_parts, accepted_at-case, IsListAfter-case, pairs-told}
+use Rattle.mime.proofs.Spelled.{accepted_at-parameters}
 use Rattle.mime.proofs.compare.eq_by_parts.Goals as goal
 
 pub has_list-requires : goal.has_list-requires
 has_list-requires c = λ is.
     rw c.essence_str-essence.ensures
-    (IsListAfter-case _ _ c.args.mime.now.media c.as_str-kept.ensures.reads c.requires (c.alike-is_alike.ensures.0 is))
+    (IsListAfter-case _ _ c.args.mime.now.media c.as_str-kept.ensures.reads c.requires (c.is_recased-is_alike.ensures is))
 
 pub returns-then-not-has_list : goal.returns-then-not-has_list
 returns-then-not-has_list c = (
@@ -19,22 +21,42 @@ returns-then-not-has_list c = (
       (text_is-parts _ _ c.args.mime.now.media c.as_str-kept.ensures.reads c.requires is).list) in cc),
 )
 
-pub range_from-requires : goal.range_from-requires
-range_from-requires c = λ _. boundary_behind _ _ _ c.utf8.s (c.has_list.ensures.0 c.if-not-has_list.false).0 (lit< tt)
+pub range_from-list-requires : goal.range_from-list-requires
+range_from-list-requires c = λ _. boundary_behind _ _ _ c.utf8.s (c.has_list.ensures.0 c.if-not-has_list.false).0 (lit< tt)
 
-pub are_pairs-requires : goal.are_pairs-requires
-are_pairs-requires c =
+pub are_pairs-same-requires : goal.are_pairs-same-requires
+are_pairs-same-requires c =
     subst AreLowPairs (sym (ap (λ n. pairs_within n c.list.result.now) c.count.ensures ∙ c.list.ensures))
     (read-low_pairs _ c.args.mime.now.media c.as_str-kept.ensures.reads)
 
-pub returns-then-not-are_pairs : goal.returns-then-not-are_pairs
-returns-then-not-are_pairs c =
+pub returns-then-not-same : goal.returns-then-not-same
+returns-then-not-same c =
     let value = c.args.mime.now.media in
     let pairs =
-    pairs-told _ value c.args.s.now _ _ _ _ c.are_pairs.ensures c.count.ensures c.list.ensures c.range_from.ensures.value
+    pairs-told _ value c.args.s.now _ _ _ _ c.are_pairs-same.ensures.same c.count.ensures c.list.ensures c.range_from-list.ensures.value
     c.essence_str-essence.ensures in (
       λ bad. absurd cc,
       λ is. absurd (let told = pairs.1 (text_is-parts _ _ value c.as_str-kept.ensures.reads c.requires is).pairs in cc),
+    )
+
+pub returns-then-known : goal.returns-then-known
+returns-then-known c =
+    let value = c.args.mime.now.media in
+    let reads = c.as_str-kept.ensures.reads in
+    let list = subst (λ essence. IsListAfter essence c.args.s.now) c.essence_str-essence.ensures (c.has_list.ensures.0 c.if-not-has_list.false) in
+    let behind = c.range_from-list.ensures.value ∙ ap (λ e. drop (length e + 1) c.args.s.now) c.essence_str-essence.ensures in
+    let has =
+    subst (HasParameters (drop (length value.essence + 1) c.args.s.now)) c.count.ensures
+    (subst (λ l. HasParameters l c.count.result) behind (c.are_pairs-same.ensures.known c.if-known.true)) in
+    let pairs =
+    pairs-told _ value c.args.s.now _ _ _ _ c.are_pairs-same.ensures.same c.count.ensures c.list.ensures c.range_from-list.ensures.value
+    c.essence_str-essence.ensures in (
+      λ _. text_is-from_parts _ _ value reads c.requires (record {
+        list = list;
+        pairs = pairs.0 c.if-not-same.false;
+        accepted = accepted_at-parameters _ _ value _ reads list has;
+      }),
+      λ _. refl,
     )
 
 pub returns-then-is_alike : goal.returns-then-is_alike
@@ -42,12 +64,12 @@ returns-then-is_alike c =
     let value = c.args.mime.now.media in
     let reads = c.as_str-kept.ensures.reads in
     let pairs =
-    pairs-told _ value c.args.s.now _ _ _ _ c.are_pairs.ensures c.count.ensures c.list.ensures c.range_from.ensures.value
+    pairs-told _ value c.args.s.now _ _ _ _ c.are_pairs-same.ensures.same c.count.ensures c.list.ensures c.range_from-list.ensures.value
     c.essence_str-essence.ensures in (
       λ _. text_is-from_parts _ _ value reads c.requires (record {
         list = rw (← c.essence_str-essence.ensures) (c.has_list.ensures.0 c.if-not-has_list.false);
-        pairs = pairs.0 c.if-not-are_pairs.false;
-        accepted = accepted_at-case _ _ value reads c.requires (c.alike-is_alike.ensures.0 c.if-is_alike.true);
+        pairs = pairs.0 c.if-not-same.false;
+        accepted = accepted_at-case _ _ value reads c.requires (c.is_recased-is_alike.ensures c.if-is_alike.true);
       }),
       λ _. refl,
     )
@@ -57,11 +79,11 @@ returns c =
     let value = c.args.mime.now.media in
     let reads = c.as_str-kept.ensures.reads in
     let pairs =
-    pairs-told _ value c.args.s.now _ _ _ _ c.are_pairs.ensures c.count.ensures c.list.ensures c.range_from.ensures.value
+    pairs-told _ value c.args.s.now _ _ _ _ c.are_pairs-same.ensures.same c.count.ensures c.list.ensures c.range_from-list.ensures.value
     c.essence_str-essence.ensures in (
       λ is. text_is-from_parts _ _ value reads c.requires (record {
         list = rw (← c.essence_str-essence.ensures) (c.has_list.ensures.0 c.if-not-has_list.false);
-        pairs = pairs.0 c.if-not-are_pairs.false;
+        pairs = pairs.0 c.if-not-same.false;
         accepted = rw (← c.essence_str-essence.ensures, ← c.count-2.ensures) (c.is_accepted_at.ensures.0 is);
       }),
       λ is. c.is_accepted_at.ensures.1 (rw (c.essence_str-essence.ensures, c.count-2.ensures)
