@@ -76,7 +76,7 @@ fn is_name(kept: &str, text: &str) -> bool
     requires { lowered kept.now ≡ kept.now }
     ensures { IsTrue result ↔ (kept.now ≡ lowered text.now) }
 {
-    kept == text || alike(kept, text)
+    alike(kept, text)
 }
 
 /// Whether a text is the kept value of a kept name: in any case under `charset`, else byte for byte.

@@ -8,7 +8,6 @@ use Rattle.mime.specs.Printed.{error_text}
 use Rattle.mime.specs.Cut.{CutItem, good, bad, Cut}
 use Rattle.mime.specs.declared.scan.fault.ParseError.{ParseError}
 use Rattle.mime_lines.specs.declared.mode.Mode.{Mode}
-use Rattle.mime_lines.specs.declared.mode.Mode.TheVariants.{Parts}
 
 -- byte 10 ends a line; what comes after the last one is a line if it isn't empty
 abbrev pub lines_of : List ℕ → List (List ℕ)
