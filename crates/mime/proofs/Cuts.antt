@@ -158,10 +158,10 @@ pub record HasCut (text : List ℕ) : Type 0 where
   pub cut : Cut text items rest
 
 -- the items of a piece, whichever they are
-items_of : (piece : List ℕ) → IsAccepted piece ⊎ IsRefused piece → (first : List CutItem) × ItemsOf piece first
-items_of piece (inl accepted) = (_, is_read accepted.0 accepted.1)
-items_of [] (inr is) = (_, is_empty refl)
-items_of (b ∷ piece) (inr is) = (_, is_refused is (λ e. absurd (omega (arith, ap length e))))
+has_items : (piece : List ℕ) → IsAccepted piece ⊎ IsRefused piece → (first : List CutItem) × ItemsOf piece first
+has_items piece (inl accepted) = (_, is_read accepted.0 accepted.1)
+has_items [] (inr is) = (_, is_empty refl)
+has_items (b ∷ piece) (inr is) = (_, is_refused is (λ e. absurd (omega (arith, ap length e))))
 
 cut_within : (n : ℕ) (text : List ℕ) → length text < n → HasCut text
 cut_within zero text below = absurd (omega arith)
@@ -175,7 +175,7 @@ cut_within (suc n) text below = onward (viable_or_split text) (cut_within n)
     onward (is_viable viable) cuts = ended viable (accepted_or_refused text)
     onward (is_split p c l split) cuts =
         let size = split-size text p c l split in
-        let first = items_of p (accepted_or_refused p) in
+        let first = has_items p (accepted_or_refused p) in
         let others = cuts l (omega (arith, size.0, size.1)) in
         record { items = _; rest = _; cut = goes_on text p c l first.0 others.items others.rest split first.1 others.cut }
 

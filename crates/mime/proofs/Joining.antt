@@ -26,13 +26,13 @@ front free more count held is within =
     rw is (take-append-add held (replicate free 0) more ∙ ap (λ zeros. held ++ zeros) (take-replicate {X = ℕ} more free 0 within))
 
 -- a name, the byte 255, a value and the byte 255, up to a whole word, are the pair's run
-pub joined : (name value one other : List ℕ) → one ≡ name → other ≡ value → pair_count (name, value) < 64
+pub joined_pair : (name value one other : List ℕ) → one ≡ name → other ≡ value → pair_count (name, value) < 64
     → take (length name + 1 + length value + 8 - (length name + 1 + length value) % 8)
     (set (take (length name + 1) (set (one ++ drop (length name) (replicate 64 0)) (length name) 255)
     ++ (other ++ drop (length name + 1 + length value - (length name + 1)) (drop (length name + 1) (set (one ++ drop (length name) (replicate 64 0)) (length name) 255))))
     (length name + 1 + length value) 255)
     ≡ pair_run (name, value)
-joined name value one other first second short =
+joined_pair name value one other first second short =
     let marked : length (name ++ 255 ∷ []) ≡ length name + 1 = length-append name (255 ∷ []) in
     let filled : length (name ++ 255 ∷ [] ++ value) ≡ length name + 1 + length value = length-append (name ++ 255 ∷ []) value ∙ ap (λ n. n + length value) marked in
     let ended : length (name ++ 255 ∷ [] ++ value ++ 255 ∷ []) ≡ length name + 1 + length value + 1 =

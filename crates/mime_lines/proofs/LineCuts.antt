@@ -61,14 +61,14 @@ pub drop-after : (n : ℕ) (xs : List ℕ) → drop (n + 1) xs ≡ take (length 
 drop-after n xs = grind (arith, common_steps)
 
 -- one more byte in front of bytes that were passed
-passed_more : (is_end any : Bool) (n l m : ℕ) → (is_end || any) ≡ false → (any ≡ false → n ≡ l + m) → cond (not is_end) (1 + n) 0 ≡ suc l + m
-passed_more true any n l m none rest = absurd (true≢false none)
-passed_more false any n l m none rest = omega (arith, rest none)
+one_more_passed : (is_end any : Bool) (n l m : ℕ) → (is_end || any) ≡ false → (any ≡ false → n ≡ l + m) → cond (not is_end) (1 + n) 0 ≡ suc l + m
+one_more_passed true any n l m none rest = absurd (true≢false none)
+one_more_passed false any n l m none rest = omega (arith, rest none)
 
 -- bytes without an end of a line are passed
 passed_all : (p : ℕ → Bool) (xs ys : List ℕ) → list_any p xs ≡ false → position_or_len p (xs ++ ys) ≡ length xs + position_or_len p ys
 passed_all p [] ys none = sym (zero-add (position_or_len p ys))
-passed_all p (x ∷ xs) ys none = passed_more (p x) (list_any p xs) (position_or_len p (xs ++ ys)) (length xs) (position_or_len p ys) none (passed_all p xs ys)
+passed_all p (x ∷ xs) ys none = one_more_passed (p x) (list_any p xs) (position_or_len p (xs ++ ys)) (length xs) (position_or_len p ys) none (passed_all p xs ys)
 
 -- so many bytes more are passed, of those that come after so many
 pub passed_onward : (p : ℕ → Bool) (xs : List ℕ) (n k j : ℕ) → j ≡ k → n + k ≤ length xs → list_any p (take j (drop n xs)) ≡ false
@@ -81,7 +81,7 @@ passed_onward p xs n k j size within none at =
     omega (arith, at, cut, passed_all p front (drop j (drop n xs)) none, length-take-le j (drop n xs) room, rest)
 
 -- the end of a line after what was passed is that of the whole
-pub passed_end : (p : ℕ → Bool) (xs rest : List ℕ) (n m : ℕ) → rest ≡ take (length xs - n) (drop n xs) → n ≤ length xs
+pub end_after_passed : (p : ℕ → Bool) (xs rest : List ℕ) (n m : ℕ) → rest ≡ take (length xs - n) (drop n xs) → n ≤ length xs
     → position_or_len p xs ≡ n + position_or_len p (drop n xs) → m ≡ position_or_len p rest → n + m ≡ position_or_len p xs
-passed_end p xs rest n m is within at found =
+end_after_passed p xs rest n m is within at found =
     omega (arith, at, found, ap (position_or_len p) (is ∙ take_rest xs n))
