@@ -101,6 +101,8 @@ fn texts_of_1000000_bytes(rt: HostRuntime) -> Result<(), Fail> {
         (("a/b;p=", b'x', ""), ("a/b;p=", b'x', ""), 1),
         (("a/b;P=", b'X', ";Q=Y"), ("a/b;p=", b'X', ";q=Y"), 2),
         (("a/b;p=\"", b',', "\""), ("a/b;p=\"", b',', "\""), 1),
+        // Quoted pairs: each backslash takes in the next.
+        (("a/b;p=\"", b'\\', "\""), ("a/b;p=\"", b'\\', "\""), 1),
         // The value of a charset, in small letters.
         (("a/b;charset=", b'C', ""), ("a/b;charset=", b'c', ""), 1),
         (
