@@ -2,25 +2,25 @@
 use Rattle.std.specs.Prelude.{ℕ, zero, suc, ◌+◌, Bool, true, false, IsTrue, List, [], ◌∷◌, take, drop, if◌then◌else◌, ◌==◌, ◌&&◌, not}
 use Rattle.mime.specs.Bytes.{is_quoted_byte, quote_byte, backslash_byte}
 
--- at the start of a value: whether the next byte can't close it
+-- whether a byte is awaited, one that can't close the value: at its start none is
 abbrev pub awaits_first : Bool
 awaits_first = false
 
--- after one more byte: the next one can't close it if this one is a backslash that no backslash pairs
+-- and after one more byte: one is after a backslash that doesn't end a pair
 abbrev pub awaits_next : Bool → ℕ → Bool
 awaits_next awaiting b = not awaiting && b == backslash_byte
 
--- whether the content goes on with a byte, which can't close it or may
+-- whether the value takes a byte, an awaited one (`true`) or another
 abbrev pub takes : Bool → ℕ → Bool
 takes true b = is_quoted_byte b
 takes false b = is_quoted_byte b && not (b == quote_byte)
 
--- whether it goes on with byte after byte
+-- whether it takes byte after byte
 abbrev pub takes_all : Bool → List ℕ → Bool
 takes_all awaiting [] = true
 takes_all awaiting (b ∷ bytes) = takes awaiting b && takes_all (awaits_next awaiting b) bytes
 
--- whether the byte after them can't close it
+-- whether a byte is awaited after them
 abbrev pub awaits_behind : Bool → List ℕ → Bool
 awaits_behind awaiting [] = awaiting
 awaits_behind awaiting (b ∷ bytes) = awaits_behind (awaits_next awaiting b) bytes
@@ -29,7 +29,7 @@ awaits_behind awaiting (b ∷ bytes) = awaits_behind (awaits_next awaiting b) by
 abbrev pub IsOpenContent : List ℕ → Type 0
 IsOpenContent content = IsTrue (takes_all awaits_first content)
 
--- whether such content goes on with a byte; a quote that it doesn't take closes it
+-- whether such content takes one more byte; a quote that it doesn't take closes it
 abbrev pub continues : List ℕ → ℕ → Bool
 continues content b = takes (awaits_behind awaits_first content) b
 

@@ -45,7 +45,7 @@ GivesItem old (Some (Err NoMemory)) new = NeedsMemory old.left × HasEnded new �
 pub record IsNext (old : Iteration) (result : Option (Result OwnedMedia Bad)) (new : Iteration) : Type 0 where
   -- it gives the first item of the cut of what was left, none if there is no item, or out of memory
   pub item : GivesItem old result new
-  -- the text stays
+  -- the text stays the same
   pub text : new.text ≡ old.text
   -- the steps are at most twice the bytes of the text,
   pub few : new.steps ≤ 2 * length new.text
