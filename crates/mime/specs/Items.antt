@@ -22,11 +22,11 @@ item_of (name, value) = record {
 abbrev pub items_of : List (List ℕ × List ℕ) → List Item
 items_of pairs = map item_of pairs
 
--- a text that ignores case has no ASCII capital
+-- a text has no ASCII capital if it ignores case
 abbrev pub IsLowIf : Bool → List ℕ → Type 0
 IsLowIf ignores_case text = ignores_case ≡ true → lowered text ≡ text
 
--- an item's name and its value keep that rule
+-- an item's name and its value have no ASCII capitals where their flags say that they ignore case
 abbrev pub IsLowItem : Item → Type 0
 IsLowItem item = IsLowIf item.name_ignores_case item.name × IsLowIf item.value_ignores_case item.value
 

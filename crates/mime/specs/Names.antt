@@ -1,4 +1,4 @@
--- Names: a text with a flag that says whether it ignores ASCII case; when a name is a text; and the constants.
+-- Names, each a text with a flag that says whether it ignores ASCII case: when a name equals a text, and the constants.
 use Rattle.std.specs.Prelude.{◌≡◌, ℕ, Bool, true, false, List, [], ◌∷◌, codes}
 use Rattle.mime.specs.Values.{lowered}
 

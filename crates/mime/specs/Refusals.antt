@@ -1,4 +1,4 @@
--- How a text is refused: which texts may still become a media type, how far a text may, and its one fault.
+-- How a text is refused: which texts may still become a media type, up to where a text may, and its one fault.
 use Rattle.std.specs.Prelude.{◌≡◌, ◌≢◌, ℕ, ◌<◌, ◌≤◌, List, [], ◌∷◌, ◌++◌, length, take, slice_get, Option, Some, None, MatchOption, codes}
 use Rattle.mime.specs.Bytes.{slash_byte, equals_byte}
 use Rattle.mime.specs.Values.{IsAccepted}
@@ -15,8 +15,8 @@ pub record IsFront (text : List ℕ) (count : ℕ) : Type 0 where
   pub viable : IsViable (take count text)
   pub longest : (n : ℕ) → count < n → n ≤ length text → ¬ (IsViable (take n text))
 
--- what completes a text that ends after its type, after its slash, after a parameter's name, after its equals sign, or in
--- an open quoted value
+-- the bytes that complete a text with this fault, which lacks at its end a slash, a subtype, a parameter's equals sign, its
+-- value, or its closing quote
 abbrev pub completion_of : ParseError → Option (List ℕ)
 completion_of MissingSlash = Some (codes "x/x")
 completion_of MissingSubtype = Some (codes "x")
@@ -25,7 +25,7 @@ completion_of MissingValue = Some (codes "x")
 completion_of MissingQuote = Some (codes "x\"")
 completion_of other = None
 
--- the byte that such a text ends in, for the two faults that have the same completion
+-- the byte that a text with this fault ends in, for the two faults that have the same completion
 abbrev pub last_byte_of : ParseError → Option ℕ
 last_byte_of MissingSubtype = Some slash_byte
 last_byte_of MissingValue = Some equals_byte
