@@ -33,21 +33,21 @@ take-essence tree =
     ap (take (length tree.top + 1 + length tree.sub)) (text_of-essence tree)
     ∙ take_at (essence_of tree) (text_of_tail tree.tail) _ (length-essence_of tree)
 
--- a text is what ends in its semicolon, and what follows it
+-- a text is its head, which ends in the semicolon, and the rest
 semicolon_split : (top sub behind : List ℕ) → top ++ (slash_byte ∷ (sub ++ (semicolon_byte ∷ behind))) ≡ head_text top sub ++ behind
 semicolon_split top sub behind = simp append_assoc
 
--- the length of the text up to its semicolon, with it
+-- the length of the head
 length-head_text : (top sub : List ℕ) → length (head_text top sub) ≡ length top + 1 + length sub + 1
 length-head_text top sub =
     omega (arith, length-append top (slash_byte ∷ (sub ++ (semicolon_byte ∷ []))), length-append sub (semicolon_byte ∷ []))
 
--- the text up to its semicolon, with it
+-- the head of a text
 take-to_semicolon : (top sub behind : List ℕ)
     → take (length top + 1 + length sub + 1) (top ++ (slash_byte ∷ (sub ++ (semicolon_byte ∷ behind)))) ≡ head_text top sub
 take-to_semicolon top sub behind = ap (take _) (semicolon_split top sub behind) ∙ take_at _ behind _ (length-head_text top sub)
 
--- the list after the semicolon
+-- the rest of a text after its head
 pub drop-to_semicolon : (top sub behind : List ℕ)
     → drop (length top + 1 + length sub + 1) (top ++ (slash_byte ∷ (sub ++ (semicolon_byte ∷ behind)))) ≡ behind
 drop-to_semicolon top sub behind = ap (drop _) (semicolon_split top sub behind) ∙ drop_at _ behind _ (length-head_text top sub)

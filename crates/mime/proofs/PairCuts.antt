@@ -14,7 +14,7 @@ use Rattle.mime.proofs.Utf8.{IsLoweredInPart, same, small, joined, length-in_par
 abbrev IsEnd : List ℕ → List ℕ → Type 0
 IsEnd end list = (n : ℕ) × (end ≡ drop n list)
 
--- an end of an end is one
+-- an end of an end of a list is an end of the list
 IsEnd-trans : (end middle list : List ℕ) → IsEnd end middle → IsEnd middle list → IsEnd end list
 IsEnd-trans end middle list first second =
     (second.0 + first.0, first.1 ∙ ap (drop first.0) second.1 ∙ drop-drop first.0 second.0 list)

@@ -51,7 +51,7 @@ pub record IsDeadAt (text : List ℕ) (pos byte : ℕ) : Type 0 where
   pub front : IsFront text pos
   pub there : slice_get text pos ≡ Some byte
 
--- the fault of a refused text; `NoMemory` is none
+-- the fault of a refused text; `NoMemory` isn't one
 abbrev pub IsFault : List ℕ → ParseError → Type 0
 IsFault text (InvalidToken pos byte) = IsDeadAt text pos byte
 IsFault text fault = Lacks text fault

@@ -50,7 +50,7 @@ pub lines_of-cut : (bytes front rest : List ℕ) (end : ℕ) → 0 < length byte
 lines_of-cut bytes front rest end some is front_is rest_is =
     lines_of-first bytes some ∙ ap (λ n. take n bytes ∷ lines_of (drop (n + 1) bytes)) (sym is) ∙ cc (front_is, rest_is)
 
--- where no line ends the whole is one line
+-- bytes in which no line ends are one line
 pub lines_of-last : (bytes : List ℕ) (end : ℕ) → 0 < length bytes → end ≡ position_or_len (λ b. nat_eq b 10) bytes → length bytes ≤ end
     → lines_of bytes ≡ bytes ∷ []
 lines_of-last bytes end some is past =
