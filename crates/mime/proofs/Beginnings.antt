@@ -24,12 +24,12 @@ use Rattle.mime.proofs.Viability.{accepted_is_viable}
 
 -- ---- the first character of a text
 
--- the first byte
+-- the first byte is passed
 pub passed_first : (text : List ℕ) → 0 < length text → PassedTo text 1
 passed_first [] some = absurd (omega arith)
 passed_first (b ∷ bytes) some = record { first = b; following = []; spelled = refl; of_class = refl; counted = refl }
 
--- one more that follows
+-- one more byte that follows it is passed
 pub passed_more : (text : List ℕ) (end : ℕ) → PassedTo text end → end < length text
     → IsTrue (is_following_byte (get_or text end 0)) → PassedTo text (end + 1)
 passed_more text end p within follows = let after : suc end ≡ end + 1 = omega arith in record {
@@ -106,7 +106,7 @@ passes-whole text places steps (is, has) =
       under_way = subst (IsUnderWay text [] false) (sym is) (under_way-viable text (accepted_is_viable text accepted));
     }
 
--- an unfinished one has none
+-- an unfinished text has no piece
 pub passes-unfinished : (text : List ℕ) (fault : ParseError) (steps : ℕ) → Judges text steps (Unfinished fault)
     → PassesPiece text [] None [] steps
 passes-unfinished text fault steps (is, fault_is, viable) = record {
@@ -119,7 +119,7 @@ passes-unfinished text fault steps (is, fault_is, viable) = record {
   under_way = subst (IsUnderWay text [] false) (sym is) (under_way-viable text viable);
 }
 
--- a character that can't follow ends it
+-- a character that can't follow ends the piece
 passes-split : (text piece character left : List ℕ) (places : Option Places) → IsSplit text piece character left
     → MatchOption places (IsRefused piece) (λ p. HasPlaces piece p) → PassesPiece text piece places left (length piece + 1)
 passes-split text piece character left places split is =

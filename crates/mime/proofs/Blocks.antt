@@ -1,4 +1,4 @@
--- Texts that are compared block by block: bits taken together, and blocks that lap over each other.
+-- Texts that are compared block by block: bits taken together, and blocks that overlap.
 use Rattle.std.proofs.Common.{◌≡◌, ◌↔◌, ℕ, ◌-◌, ◌≤◌, IsTrue, nat_eq, List, ◌++◌, length, take, drop, bit_or, sym, ap, ◌∙◌, arith}
 use Rattle.std.proofs.lemmas.Bool.Decides.{nat_tests}
 use Rattle.std.proofs.lemmas.List.{take-append-drop, take_rest, take-take}
@@ -20,11 +20,11 @@ together n m P Q Whole first second whole parts = (
 pub no_bit : (n : ℕ) (P : Type 0) → (n ≡ 0) ↔ P → IsTrue (nat_eq n 0) ↔ P
 no_bit n P told = (λ yes. told.0 (grind (arith, nat_tests)), λ p. let none = told.1 p in grind (arith, nat_tests))
 
--- a test of two texts is one of others that equal them
+-- a test of two texts is a test of two texts that equal them
 moved : (n : ℕ) (a b c d : List ℕ) → a ≡ c → b ≡ d → (n ≡ 0) ↔ (a ≡ b) → (n ≡ 0) ↔ (c ≡ d)
 moved n a b c d one other told = (λ none. sym one ∙ told.0 none ∙ other, λ same. told.1 (one ∙ same ∙ sym other))
 
--- a test of two blocks, of the lowered texts
+-- a test of two blocks is a test of the blocks of the lowered texts
 pub of_block : (n : ℕ) (a b : List ℕ) (from count block : ℕ) → count ≡ block
     → (n ≡ 0) ↔ (lowered (take count (drop from a)) ≡ lowered (take count (drop from b)))
     → (n ≡ 0) ↔ (take block (drop from (lowered a)) ≡ take block (drop from (lowered b)))
@@ -33,7 +33,7 @@ of_block n a b from count block is = moved n _ _ _ _ (lowering a) (lowering b)
     lowering : (text : List ℕ) → lowered (take count (drop from text)) ≡ take block (drop from (lowered text))
     lowering text = rw is (lowered-take block (drop from text) ∙ ap (take block) (lowered-drop from text))
 
--- and of the last one
+-- and so is a test of the last blocks
 pub of_last : (n : ℕ) (a b : List ℕ) (from : ℕ)
     → (n ≡ 0) ↔ (lowered (take (length a - from) (drop from a)) ≡ lowered (take (length b - from) (drop from b)))
     → (n ≡ 0) ↔ (drop from (lowered a) ≡ drop from (lowered b))

@@ -34,7 +34,7 @@ foreign-from_high b high = record {
   quote = grind (arith, nat_tests);
 }
 
--- one that an open quoted value doesn't take begins a character
+-- a byte past ASCII that an open quoted value doesn't take begins a character
 high-untaken : (begun : Begun) (b : ℕ) → IsOpen begun → grow begun b ≡ None → 128 ≤ b → 192 ≤ b
 high-untaken begun b quotes dead high =
     takes-high (awaits_behind awaits_first quotes.content) b

@@ -19,7 +19,7 @@ pub boundary_behind : (text : List ℕ) (at b : ℕ) → IsUtf8 text → slice_g
 boundary_behind text at b utf8 there small =
     IsCharBoundary-after_ascii text at utf8 (slice_get_within text at b there) (omega (arith, get_or_from_slice_get text at b 0 there))
 
--- the byte that was looked for stands where it was found
+-- the byte is at the position found
 pub slice_get-place_from : (from byte : ℕ) (text : List ℕ) (place : ℕ) → place ≡ first_place from byte text → place < length text
     → slice_get text place ≡ Some byte
 slice_get-place_from from byte text place is within =

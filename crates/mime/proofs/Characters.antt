@@ -13,15 +13,15 @@ use Rattle.mime.specs.Cut.{is_following_byte, IsCharacter}
 use Rattle.mime.specs.CutLaws.{PassesOneCharacter}
 use Rattle.mime.proofs.Borders.{front_ends_between_characters}
 
--- a byte that doesn't follow begins a character
+-- a byte past ASCII that isn't from 128 to 191 is 192 or above
 begins-high : (b : ℕ) → IsFalse (is_following_byte b) → 128 ≤ b → 192 ≤ b
 begins-high b begins high = grind (arith, nat_tests, begins, high)
 
--- one that follows doesn't
+-- a byte that only follows is from 128 to 191
 following-low : (b : ℕ) → IsTrue (is_following_byte b) → (128 ≤ b) × (b < 192)
 following-low b follows = (grind (arith, nat_tests, follows), grind (arith, nat_tests, follows))
 
--- a text may be cut behind a character
+-- a text may be cut after a character
 character-border : (c l : List ℕ) → IsCharacter c l → IsCharBoundary (c ++ l) (length c)
 character-border [] l one = absurd one
 character-border (a ∷ f) [] one = (omega (arith, length-append (a ∷ f) []), λ within high. absurd (omega (arith, length-append (a ∷ f) [])))
@@ -37,7 +37,7 @@ of_run class f i all within =
     ⊎_elim (λ is. is) (λ isnt. absurd (both_ways (list_all class f) (list_all_at class f i 0 within isnt) all))
     (cases_Bool (class (get_or f i 0)))
 
--- between its bytes it may not
+-- between the bytes of a character a text may not be cut
 no-border : (b : ℕ) (f : List ℕ) (i : ℕ) → IsTrue (list_all is_following_byte f) → 1 ≤ i → i < length (b ∷ f)
     → IsCharBoundary (b ∷ f) i → ⊥
 no-border b f zero all above within border = absurd (omega arith)
@@ -46,7 +46,7 @@ no-border b f (suc i) all above within border =
     let high = border.1 within low.0 in
     omega (arith, low.1, high)
 
--- it is one
+-- the bytes of a character in valid UTF-8 are one character
 single : (c l : List ℕ) → IsCharacter c l → IsUtf8 c → (char : ℕ) × (c ≡ encode_utf8 char)
 single [] l one utf8 = absurd one
 single (b ∷ f) l one utf8 = by_chars utf8.0 utf8.1.1

@@ -1,4 +1,4 @@
--- The constant media types are kept as their places say.
+-- The constant media types are kept with their positions.
 use Rattle.std.proofs.Common.{ℕ, List, [], ◌∷◌, refl, codes}
 use Rattle.mime.specs.Bytes.{is_token_byte, space_byte}
 use Rattle.mime.specs.Grammar.{plain, final, no_list, listed, SyntaxTree}
@@ -8,11 +8,11 @@ use Rattle.mime.specs.AtomPlaces.{atom_places}
 use Rattle.mime.specs.declared.atoms.Atom.{Atom}
 use Rattle.mime.specs.declared.atoms.Atom.TheVariants.{STAR_STAR, TEXT_STAR, TEXT_PLAIN, TEXT_PLAIN_UTF_8, TEXT_HTML, TEXT_HTML_UTF_8, TEXT_CSS, TEXT_CSS_UTF_8, TEXT_JAVASCRIPT, TEXT_XML, TEXT_EVENT_STREAM, TEXT_CSV, TEXT_CSV_UTF_8, TEXT_TAB_SEPARATED_VALUES, TEXT_TAB_SEPARATED_VALUES_UTF_8, TEXT_VCARD, IMAGE_STAR, IMAGE_JPEG, IMAGE_GIF, IMAGE_PNG, IMAGE_BMP, IMAGE_SVG, FONT_WOFF, FONT_WOFF2, APPLICATION_JSON, APPLICATION_JAVASCRIPT, APPLICATION_JAVASCRIPT_UTF_8, APPLICATION_WWW_FORM_URLENCODED, APPLICATION_OCTET_STREAM, APPLICATION_MSGPACK, APPLICATION_PDF, MULTIPART_FORM_DATA}
 
--- a type and a subtype alone
+-- a tree of a type and a subtype alone
 abbrev essence_tree : List ℕ → List ℕ → SyntaxTree
 essence_tree top sub = record { top = top; sub = sub; tail = no_list }
 
--- and a charset
+-- a tree with a charset too
 abbrev charset_tree : List ℕ → List ℕ → SyntaxTree
 charset_tree top sub = record { top = top; sub = sub; tail = listed (final (space_byte ∷ []) (plain (codes "charset") (codes "utf-8"))) }
 

@@ -1,4 +1,4 @@
--- A comma ends what stands before it, and leaves what comes after it as it is.
+-- A comma ends whatever precedes it, and leaves what comes after it as it is.
 use Rattle.std.proofs.Common.{◌≡◌, ℕ, suc, ◌≤◌, List, [], ◌∷◌, ◌++◌, length, take, drop, Some, None, refl, sym, ap, ◌∙◌, subst, arith, ◌⊎◌, inl, inr, append_assoc, length-append}
 use Rattle.std.proofs.lemmas.List.{take-append-le, take-append-drop, take-take}
 use Rattle.std.proofs.lemmas.Bool.{and_parts, cond-false}
@@ -116,7 +116,7 @@ comma-dead text begun walked closed =
     ]
     (grow-foreign begun comma_byte comma-foreign)
 
--- a viable text is split from what a comma parts it from
+-- a viable text that a comma follows is split at the comma
 comma-split : (text bytes : List ℕ) (rest : Following bytes) → IsViable text → ¬ (IsUnclosed text)
     → IsSplit (text ++ (comma_byte ∷ bytes)) text (comma_byte ∷ rest.following) rest.left
 comma-split text bytes rest viable closed =
@@ -174,7 +174,7 @@ items-from_rest : (rest : List ℕ) → IsRefused rest → ItemsOf rest (items_o
 items-from_rest [] is = is_empty refl
 items-from_rest (b ∷ rest) is = is_refused is (λ e. absurd (omega (arith, ap length e)))
 
--- a comma ends what stands before it
+-- a comma ends whatever precedes it
 pub comma_contains : CommaContains
 comma_contains before after items others rest end (whole t v reads) closed cut =
     comma-cut t after (good t v ∷ []) others end (accepted_is_viable t (v, reads)) (accepted-closed t (v, reads)) (is_read v reads) cut

@@ -43,7 +43,7 @@ kept-essence x text reads none =
     go [] none = refl
     go (pair ∷ pairs) none = absurd (omega arith)
 
--- the list behind the semicolon holds the pairs
+-- the list after the semicolon has the pairs
 pub kept_list : (text list : List ℕ) (places : Places) (semicolon : ℕ) (kept : OwnedMedia) {fixed : Bool} → IsKept text places
     → record { media = media_of text places; fixed = fixed } ≡ kept → places.semicolon ≡ Some semicolon → list ≡ drop (semicolon + 1) text
     → pairs_within (length kept.media.pairs) list ≡ kept.media.pairs

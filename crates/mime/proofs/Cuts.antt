@@ -271,7 +271,7 @@ pieces-empty text pieces end (next t p c l others e split found) is =
 pub takes-empty : (n : ℕ) → TakesSteps [] n → n ≡ 0
 takes-empty n takes = takes.counted ∙ pieces-empty [] takes.pieces takes.end takes.cut refl
 
--- a text has one number of them
+-- a text has one list of pieces
 pieces_unique : (text : List ℕ) (pieces : List (List ℕ × List ℕ)) (end : List ℕ) → Pieces text pieces end
     → (others : List (List ℕ × List ℕ)) (stop : List ℕ) → Pieces text others stop → (others ≡ pieces) × (stop ≡ end)
 pieces_unique text pieces end (last t viable) others stop (last u too) = (refl, refl)

@@ -1,4 +1,4 @@
--- A byte of no class and no mark of the grammar leads on within a quoted value alone.
+-- A byte of no class and no mark of the grammar leads on only within a quoted value.
 use Rattle.std.proofs.Common.{◌≡◌, ℕ, Bool, false, List, [], ◌∷◌, ◌++◌, Option, Some, None, refl, sym, ◌∙◌, subst}
 use Rattle.std.proofs.lemmas.Bool.{cond_both, cond-false}
 use Rattle.std.specs.Prelude.{IsFalse, MatchOption, if◌then◌else◌, ◌==◌}
@@ -8,7 +8,7 @@ use Rattle.mime.specs.Grammar.{is_space}
 use Rattle.mime.specs.Quoted.{continues}
 use Rattle.mime.proofs.Begun.{Closed, Begun, in_type, in_subtype, in_list, ListPlace, in_spaces, in_name, in_value, in_quotes, behind_quotes, list_at, grow, grow_place, grow_list}
 
--- no token byte, no space and no mark
+-- a foreign byte: no token byte, no space and no mark
 pub record IsForeign (b : ℕ) : Type 0 where
   pub token : IsFalse (is_token_byte b)
   pub space : IsFalse (is_space b)
@@ -17,7 +17,7 @@ pub record IsForeign (b : ℕ) : Type 0 where
   pub equals : IsFalse (b == equals_byte)
   pub quote : IsFalse (b == quote_byte)
 
--- the tree was begun up to an open quoted value
+-- the begun tree ends in an open quoted value
 pub record IsOpen (begun : Begun) : Type 0 where
   pub top : List ℕ
   pub sub : List ℕ
@@ -27,7 +27,7 @@ pub record IsOpen (begun : Begun) : Type 0 where
   pub content : List ℕ
   pub is : begun ≡ in_list top sub (list_at closed (in_quotes spaces name content))
 
--- the open quoted value of a place
+-- a state in open quotes is in an open quoted value
 open_at : (top sub : List ℕ) (closed : Closed) (n name content : List ℕ)
     → IsOpen (in_list top sub (list_at closed (in_quotes n name content)))
 open_at top sub closed n name content =
@@ -39,7 +39,7 @@ neither : {X : Type 0} (P : X → Type 0) (first second : Bool) (x y : Option X)
 neither P first second x y fails fails_too =
     subst (λ o. MatchOption o (Unit {0}) P) (sym (cond-false first x _ fails ∙ cond-false second y None fails_too)) tt
 
--- from a place of a list it leads nowhere, or from open quotes into open quotes
+-- from a state of a list a foreign byte leads nowhere, or from open quotes into open quotes
 grow_place-foreign : (top sub : List ℕ) (closed : Closed) (place : ListPlace) (b : ℕ) → IsForeign b
     → MatchOption (grow_place closed place b) (Unit {0})
     (λ next. IsOpen (in_list top sub (list_at closed place)) × IsOpen (in_list top sub next))
@@ -55,7 +55,7 @@ grow_place-foreign top sub closed (in_quotes n name content) b foreign =
     (λ fails. neither _ false _ None _ refl foreign.quote)
 grow_place-foreign top sub closed (behind_quotes n name content m) b foreign = neither _ _ _ _ _ foreign.space foreign.semicolon
 
--- so does it from any begun tree
+-- so it does from any begun tree
 pub grow-foreign : (begun : Begun) (b : ℕ) → IsForeign b
     → MatchOption (grow begun b) (Unit {0}) (λ next. IsOpen begun × IsOpen next)
 grow-foreign (in_type []) b foreign = neither _ (is_token_byte b) false _ None foreign.token refl

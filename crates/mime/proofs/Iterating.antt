@@ -31,7 +31,7 @@ seen i = record { text = i.text.now; left = i.left.now; starved = i.starved; ste
 
 -- ---- the search
 
--- it begins
+-- the search begins
 pub looking-first : (old : Iteration) → IsLooking old old
 looking-first old = record {
   passed = record {

@@ -19,35 +19,35 @@ use Rattle.mime.proofs.ListText.{pairs_within-text_of_list, lowered_within-text_
 abbrev tree_with : List ℕ → List ℕ → Tail → SyntaxTree
 tree_with top sub tail = record { top = top; sub = sub; tail = tail }
 
--- the essence of a tree in its text
+-- the text of a tree is its essence and what follows that
 pub text_of-essence : (tree : SyntaxTree) → text_of tree ≡ essence_of tree ++ text_of_tail tree.tail
 text_of-essence tree = sym (append_assoc tree.top (slash_byte ∷ tree.sub) (text_of_tail tree.tail))
 
--- where the essence of a tree ends
+-- the length of a tree's essence
 pub length-essence_of : (tree : SyntaxTree) → length (essence_of tree) ≡ length tree.top + 1 + length tree.sub
 length-essence_of tree = omega (arith, length-append tree.top (slash_byte ∷ tree.sub))
 
--- the essence is what stands before that position
+-- the essence is the text before that position
 pub take-essence : (tree : SyntaxTree) → take (length tree.top + 1 + length tree.sub) (text_of tree) ≡ essence_of tree
 take-essence tree =
     ap (take (length tree.top + 1 + length tree.sub)) (text_of-essence tree)
     ∙ take_at (essence_of tree) (text_of_tail tree.tail) _ (length-essence_of tree)
 
--- the text with its semicolon, and after it
+-- a text is its head, which ends in the semicolon, and the rest
 semicolon_split : (top sub behind : List ℕ) → top ++ (slash_byte ∷ (sub ++ (semicolon_byte ∷ behind))) ≡ head_text top sub ++ behind
 semicolon_split top sub behind = simp append_assoc
 
--- how long the text with its semicolon is
+-- the length of the head
 length-head_text : (top sub : List ℕ) → length (head_text top sub) ≡ length top + 1 + length sub + 1
 length-head_text top sub =
     omega (arith, length-append top (slash_byte ∷ (sub ++ (semicolon_byte ∷ []))), length-append sub (semicolon_byte ∷ []))
 
--- the text with its semicolon
+-- the head of a text
 take-to_semicolon : (top sub behind : List ℕ)
     → take (length top + 1 + length sub + 1) (top ++ (slash_byte ∷ (sub ++ (semicolon_byte ∷ behind)))) ≡ head_text top sub
 take-to_semicolon top sub behind = ap (take _) (semicolon_split top sub behind) ∙ take_at _ behind _ (length-head_text top sub)
 
--- the list after it
+-- the rest of a text after its head
 pub drop-to_semicolon : (top sub behind : List ℕ)
     → drop (length top + 1 + length sub + 1) (top ++ (slash_byte ∷ (sub ++ (semicolon_byte ∷ behind)))) ≡ behind
 drop-to_semicolon top sub behind = ap (drop _) (semicolon_split top sub behind) ∙ drop_at _ behind _ (length-head_text top sub)
@@ -86,7 +86,7 @@ keeps_as tree kept text well holds spelled valued = record {
   valued = valued ∙ value_of-lowering kept ∙ sym (value_of-lowering (lowered_tree kept) ∙ ap value_of_low (lowered_tree-lowered_tree kept));
 }
 
--- the text up to the semicolon lowered, and the list after it pair by pair
+-- the lowered text of a tree with a list: lowered up to the semicolon, and then pair by pair
 whole_text : (top sub : List ℕ) (list : Parameters) → AreParameters list
     → text_of (lowered_tree (tree_with top sub (listed list)))
     ≡ lowered (take (length top + 1 + length sub + 1) (text_of (tree_with top sub (listed list))))
@@ -100,7 +100,7 @@ whole_text top sub list well =
       lowered-append sub (semicolon_byte ∷ []),
     ) (simp append_assoc)
 
--- the essence lowered
+-- the lowered text of a tree without a list: the essence lowered
 essence_text : (top sub text : List ℕ) → text ≡ top ++ (slash_byte ∷ sub)
     → text_of (lowered_tree (tree_with top sub no_list)) ≡ lowered text
 essence_text top sub text is = rw (is, lowered-append top (slash_byte ∷ sub), append-nil (lowered sub)) refl
@@ -121,7 +121,7 @@ keeps_parts top sub (listed (final n p)) top_well sub_well well =
 keeps_parts top sub (listed (more n p rest)) top_well sub_well well =
     keeps_as _ (tree_with top sub (listed (more n p rest))) _ (top_well, sub_well, well) tt (whole_text top sub (more n p rest) well) refl
 
--- the same, told by the places of a tree
+-- the same, by the positions that the tree gives
 pub keeps-tree : (tree : SyntaxTree) → IsWellFormed tree
     → Keeps tree (kept_text_of (places_of tree).pairs (places_of tree).semicolon (text_of tree)) (kept_places (places_of tree))
 keeps-tree tree well = keeps_parts tree.top tree.sub tree.tail well.0 well.1 well.2
@@ -137,7 +137,7 @@ media_whole top sub list well kept =
     ap (pairs_within (length (pairs_of_list list))) (drop-to_semicolon top sub (text_of_list list)) ∙ pairs_within-text_of_list list well in
     cc
 
--- the value of a kept tree is what its text and its places give
+-- the value of a kept tree is what its text and its positions give
 media_parts : (top sub : List ℕ) (tail : Tail) → IsTail tail → HoldsParameter tail
     → value_of_low (tree_with top sub tail) ≡ media_of (text_of (tree_with top sub tail)) (places_of (tree_with top sub tail))
 media_parts top sub no_list well holds =
@@ -162,11 +162,11 @@ reads-from_kept text places is_kept = record {
   valued = media_of-kept text places is_kept;
 }
 
--- what a text that keeps a tree gives is the tree's value
+-- a text that keeps a tree gives the tree's value
 pub kept_media : (tree : SyntaxTree) (text : List ℕ) (places : Places) → Keeps tree text places → value_of tree ≡ media_of text places
 kept_media tree text places keeps = keeps.valued ∙ media_of-kept text places keeps.is_kept
 
--- what holds of the text and the places of a tree holds of an accepted text
+-- what holds of the text and the positions of a tree holds of an accepted text
 at_tree : (P : List ℕ → Places → Type 0) (text : List ℕ) (places : Places) (has : HasPlaces text places)
     → P (text_of has.tree) (places_of has.tree) → P text places
 at_tree P text places has here = subst (λ x. P x places) has.spelled (subst (P (text_of has.tree)) has.placed here)
@@ -200,7 +200,7 @@ kept_is_read text value reads =
     let is = sym reads.valued ∙ kept_media reads.tree _ _ keeps in
     subst (λ (v : MediaType). Reads v.kept v) (sym is) (reads-from_kept _ _ keeps.is_kept)
 
--- the semicolon stands where the places of a tree say
+-- the semicolon is at the position that the tree gives
 semicolon-there : (top sub : List ℕ) (tail : Tail) (s : ℕ) → semicolon_of (length top + 1 + length sub) tail ≡ Some s
     → slice_get (text_of (tree_with top sub tail)) s ≡ Some semicolon_byte
 semicolon-there top sub no_list s is = absurd cc
@@ -210,7 +210,7 @@ semicolon-there top sub (listed list) s is =
     ap (λ t. slice_get t s) (text_of-essence tree)
     ∙ slice_get-front (essence_of tree) semicolon_byte (text_of_list list) s (omega (arith, place, length-essence_of tree))
 
--- so it does in an accepted text
+-- so it is in an accepted text
 pub slice_get-semicolon : (text : List ℕ) (places : Places) (s : ℕ) → HasPlaces text places → places.semicolon ≡ Some s
     → slice_get text s ≡ Some semicolon_byte
 slice_get-semicolon text places s has is =

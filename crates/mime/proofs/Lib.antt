@@ -1,4 +1,4 @@
--- facts of bytes, and what stands between quotes
+-- facts of bytes, and quoted content
 pub mod Classes
 pub mod ByteAt
 pub mod Quoted

@@ -48,7 +48,7 @@ pub equals_walked : {closed : List (List ℕ × Parameter)} {spaces name : List 
     → ListReaches old now None (record { closed = closed; place = in_value spaces name [] })
 equals_walked {b = b} r f e = list_byte r (cond-false (is_token_byte b) _ _ f ∙ cond-true _ _ _ (eq-eqb b equals_byte e))
 
--- what stands between its quotes
+-- its quoted content
 pub quotes_walked : {closed : List (List ℕ × Parameter)} {spaces name : List ℕ} {old mid from new : Remaining} {b : ℕ} {stop : Option ℕ}
     → ListReaches old mid None (record { closed = closed; place = in_value spaces name [] }) → GivesFirst mid from (Some b) → b ≡ quote_byte
     → (q : PassesContent from new stop) → ListReaches old new stop (record { closed = closed; place = in_quotes spaces name q.run })

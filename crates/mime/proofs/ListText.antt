@@ -25,7 +25,7 @@ run_to class (x ∷ run) b behind all out =
     let parts = and_parts (class x) (list_all class run) all in
     cond-true (class x) _ 0 parts.0 ∙ omega (arith, run_to class run b behind parts.1 out)
 
--- a byte is looked for up to where it follows, or up to the end
+-- the search for a byte passes a run without it, up to the byte or to the end
 place_to : (byte : ℕ) (run follow rest : List ℕ) → list_all (is_other byte) run ≡ true → IsFollow byte follow rest
     → prefix_len (is_other byte) (run ++ follow) ≡ length run
 place_to byte run follow rest all (marked _) = run_to (is_other byte) run byte rest all (grind (arith, nat_tests))
@@ -34,7 +34,7 @@ place_to byte (x ∷ run) follow rest all nothing =
     let parts = and_parts (is_other byte x) (list_all (is_other byte) run) all in
     cond-true (is_other byte x) _ 0 parts.0 ∙ omega (arith, place_to byte run [] [] parts.1 nothing)
 
--- what stands before it
+-- the text before it
 before_to : (byte : ℕ) (run follow rest : List ℕ) → list_all (is_other byte) run ≡ true → IsFollow byte follow rest
     → before_byte 0 byte (run ++ follow) ≡ run
 before_to byte run follow rest all follows = take_at run follow _ (omega (arith, place_to byte run follow rest all follows))
@@ -48,7 +48,7 @@ drop_past byte run follow rest n follows long =
     past follow rest nothing = refl
     past follow rest (marked _) = refl
 
--- what stands after it
+-- the text after it
 behind_to : (byte : ℕ) (run follow rest : List ℕ) → list_all (is_other byte) run ≡ true → IsFollow byte follow rest
     → behind_byte 0 byte (run ++ follow) ≡ rest
 behind_to byte run follow rest all follows =
@@ -99,12 +99,12 @@ cut_of-named n name behind white is =
       behind_to equals_byte name (equals_byte ∷ behind) behind others (marked behind),
     )
 
--- what stands before the value of a parameter
+-- the text before the value of a parameter
 abbrev pub head_of : Parameter → List ℕ
 head_of (plain name value) = name ++ (equals_byte ∷ [])
 head_of (quoted name content n) = name ++ (equals_byte ∷ quote_byte ∷ [])
 
--- and what stands after it
+-- the text after it
 abbrev end_of : Parameter → List ℕ
 end_of (plain name value) = []
 end_of (quoted name content n) = quote_byte ∷ n
@@ -154,7 +154,7 @@ pairs_within-text_of_list (more n p rest) (white, well, others) =
     (cut_of-parameter n p _ (text_of_list rest) white well (marked _))
     ∙ ap (λ pairs. pair_of p ∷ pairs) (pairs_within-text_of_list rest others)
 
--- spaces are small
+-- spaces are their own lowering
 lowered-spaces : (bytes : List ℕ) → AreSpaces bytes → lowered bytes ≡ bytes
 lowered-spaces [] white = refl
 lowered-spaces (b ∷ bytes) white =
@@ -169,7 +169,7 @@ lowered_parameter-parts : (p : Parameter) (behind : List ℕ)
 lowered_parameter-parts (plain name value) behind = rw (lowered-append name (equals_byte ∷ [])) (simp append_assoc)
 lowered_parameter-parts (quoted name content n) behind = rw (lowered-append name (equals_byte ∷ quote_byte ∷ [])) (simp append_assoc)
 
--- the text of a list, its first parameter apart, lowered pair by pair
+-- a list lowered pair by pair: its first parameter, and then the rest
 lowered_within-parameter : (count : ℕ) (n : List ℕ) (p : Parameter) (between rest : List ℕ) → AreSpaces n → IsParameter p
     → IsFollow semicolon_byte (between ++ rest) rest
     → lowered_within (suc count) (n ++ (text_of_parameter p ++ (between ++ rest)))

@@ -1,4 +1,4 @@
--- What lowering leaves as it is: lengths, cuts, classes of bytes, places; and lowering twice is lowering once.
+-- What lowering leaves as it is: lengths, cuts, classes of bytes, positions; and lowering twice is lowering once.
 use Rattle.std.proofs.Common.{◌≡◌, ℕ, ◌+◌, true, false, cond, List, [], ◌∷◌, ◌++◌, length, take, drop, refl, sym, ap, ◌∙◌, arith}
 use Rattle.std.specs.Prelude.{◌==◌}
 use Rattle.std.specs.Char.{to_ascii_lowercase}
@@ -13,12 +13,12 @@ use Rattle.mime.specs.Scanning.{places_of, semicolon_of}
 use Rattle.mime.proofs.Quoted.{IsContent-lowered}
 use Rattle.mime.proofs.Classes.{list_all-wider}
 
--- twice is once
+-- lowering twice is lowering once
 pub lowered-lowered : (text : List ℕ) → lowered (lowered text) ≡ lowered text
 lowered-lowered [] = refl
 lowered-lowered (b ∷ text) = cc (lowercase-lowercase b, lowered-lowered text)
 
--- a text keeps its length
+-- a lowered text keeps its length
 pub length-lowered : (text : List ℕ) → length (lowered text) ≡ length text
 length-lowered text = length-map text to_ascii_lowercase
 
@@ -26,15 +26,15 @@ length-lowered text = length-map text to_ascii_lowercase
 pub lowered-append : (front back : List ℕ) → lowered (front ++ back) ≡ lowered front ++ lowered back
 lowered-append front back = map-append to_ascii_lowercase front back
 
--- so is what stands before a position
+-- so is the text before a position
 pub lowered-take : (n : ℕ) (text : List ℕ) → lowered (take n text) ≡ take n (lowered text)
 lowered-take n text = sym (take-map to_ascii_lowercase n text)
 
--- and what stands after it
+-- and the text after it
 pub lowered-drop : (n : ℕ) (text : List ℕ) → lowered (drop n text) ≡ drop n (lowered text)
 lowered-drop n text = sym (drop-map to_ascii_lowercase n text)
 
--- a token byte stays one
+-- a lowered token byte is a token byte
 is_token_byte-lowercase : (b : ℕ) → is_token_byte b ≡ true → is_token_byte (to_ascii_lowercase b) ≡ true
 unfolding is_token_byte
 is_token_byte-lowercase b member = grind (arith, nat_tests)
@@ -50,7 +50,7 @@ pub IsToken-lowered : (bytes : List ℕ) → IsToken bytes → IsToken (lowered 
 IsToken-lowered [] token = token
 IsToken-lowered (b ∷ bytes) token = AreTokenBytes-lowered (b ∷ bytes) token
 
--- what holds of a value and of its lowering holds of it under any name
+-- what holds of a value and of its lowering holds of it under any parameter's name
 pub lowered_value-either : (P : List ℕ → Type 0) (name value : List ℕ) → P value → P (lowered value) → P (lowered_value name value)
 lowered_value-either P name value same small =
     elim (is_charset name) as (λ b. P (cond b (lowered value) value)) [ true ↦ small | false ↦ same ]

@@ -22,21 +22,21 @@ use Rattle.mime.proofs.Spelling.{before_equals, begun-from_walk, spelled-from_wa
 use Rattle.mime.proofs.Readings.{walk-accepted}
 use Rattle.mime.proofs.Viability.{accepted-from_complete, completes, completes-from_accepted, walk_from-open, lacks-from_walk, viable-from_lacks, walk-from_viable, not_viable-at_dead, whole_front-from_walk, front_unique, stop-from_walk, dead-from_stop}
 
--- ---- what a begun tree lacks, it lacks alone
+-- ---- a begun tree lacks one thing only
 
--- a completion that fails is none
+-- a completion that fails completes nothing
 never : {X : Type 0} → IsTrue false → X
 never fails = absurd (false≢true fails)
 
--- nor does it help that the text ends in some byte
+-- nor does it if the text ends in some byte
 nor : {X E : Type 0} → IsTrue false → E → X
 nor fails ends = never fails
 
--- the fault is what the place says, and no text may end there
+-- the fault is what the state says, and no text may end there
 abbrev IsOwn : Begun → ParseError → Type 0
 IsOwn begun fault = (fault ≡ lacking begun) × (tree_of begun ≡ None)
 
--- each of the five is tried
+-- each of the five faults is tried
 own-by_fault : (text : List ℕ) (begun : Begun) → walk text ≡ Some begun
     → (IsTrue (completes begun (codes "x/x")) → IsOwn begun MissingSlash)
     → (IsTrue (completes begun (codes "x")) → EndsIn text slash_byte → IsOwn begun MissingSubtype)
@@ -77,7 +77,7 @@ not_completes-open : {X : Type 0} (top sub : List ℕ) (closed : Closed) (n name
 not_completes-open top sub closed n name content more all passes =
     never (sym (ap (λ o. is_some (option_and_then tree_of o)) (walk_from-open top sub closed n name content more all)) ∙ passes)
 
--- what a text lacks is what its place says
+-- a text lacks only what the state at its end says
 lacks_own : (text : List ℕ) (begun : Begun) → walk text ≡ Some begun → (fault : ParseError) → Lacks text fault → IsOwn begun fault
 unfolding is_token_byte
 lacks_own text (in_type []) walked = own-by_fault text _ walked (λ passes. (refl, refl)) nor never nor never
@@ -134,13 +134,13 @@ completed_is_refused text fault lacks accepted =
     let found = walk-accepted text accepted in
     none-some found.1 (sym (lacks_own text found.0 found.2.0 fault lacks).1 ∙ found.2.1)
 
--- a text lacks one thing at most
+-- a text lacks at most one thing
 lacks_unique : (text : List ℕ) (first second : ParseError) → Lacks text first → Lacks text second → first ≡ second
 lacks_unique text first second one two =
     let reached = walk-from_viable text (viable-from_lacks text first one) in
     (lacks_own text reached.0 reached.1 first one).0 ∙ sym (lacks_own text reached.0 reached.1 second two).0
 
--- a refused text that can be walked lacks what its place says
+-- a refused text that can be walked lacks what the state at its end says
 lacks-from_refused : (text : List ℕ) (begun : Begun) → walk text ≡ Some begun → IsRefused text → Lacks text (lacking begun)
 lacks-from_refused text begun walked refused = reached (tree_of begun) refl
   where
@@ -162,7 +162,7 @@ pub fault-from_lacks : (text : List ℕ) (fault : ParseError) → Lacks text fau
 fault-from_lacks text (InvalidToken pos byte) lacks = absurd lacks.0
 fault-from_lacks text other lacks = lacks
 
--- a byte is at fault at one place
+-- a text has at most one position at fault
 dead_unique : (text : List ℕ) (pos at byte there : ℕ) → IsDeadAt text pos byte → IsDeadAt text at there
     → InvalidToken pos byte ≡ InvalidToken at there
 dead_unique text pos at byte there first second =

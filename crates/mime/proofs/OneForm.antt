@@ -61,7 +61,7 @@ last_parameter n (quoted name content m) white (named, is, blanks) = record {
   );
 }
 
--- one that a semicolon follows, and spaces
+-- a parameter that a semicolon follows, and spaces
 inner_parameter : (n : List ℕ) (p : Parameter) (m : List ℕ) → AreSpaces n → IsParameter p → AreSpaces m
     → OneParameter (n ++ (text_of_parameter p ++ (semicolon_byte ∷ m))) (pair_of p)
 inner_parameter n (plain name value) m white (named, token) blanks = record {
@@ -180,7 +180,7 @@ at_list : (head list : List ℕ) (i n : ℕ) → n ≡ length head + (i + 1) →
 at_list head list i n is =
     slice_get-behind head (semicolon_byte ∷ list) (i + 1) n is ∙ slice_get-behind (semicolon_byte ∷ []) list i (i + 1) (omega arith)
 
--- one space at most stands before a letter at the second position
+-- at most one space precedes a letter at the second position
 small_gap : (gap behind : List ℕ) → AreSpaces gap → slice_get (gap ++ behind) 1 ≡ Some 99 → length gap ≤ 1
 small_gap [] behind white at = omega arith
 small_gap (s ∷ []) behind white at = omega arith
@@ -190,7 +190,7 @@ small_gap (s ∷ (t ∷ gap)) behind white at =
     let letter : t ≡ 99 = same_Some t 99 (sym (slice_get-front (s ∷ []) t (gap ++ behind) 1 (omega arith)) ∙ at) in
     absurd (true≢false (sym space ∙ ap is_space letter))
 
--- and one at least where a space stands at the first
+-- and at least one if the first byte is a space
 some_gap : (gap name behind : List ℕ) → IsToken name → slice_get (gap ++ (name ++ behind)) 0 ≡ Some space_byte → 1 ≤ length gap
 some_gap (s ∷ gap) name behind named at = omega arith
 some_gap [] [] behind named at = absurd named

@@ -10,12 +10,12 @@ use Rattle.mime.specs.Comparison.{Same, IsListBefore, IsTextBefore, IsPairBefore
 use Rattle.mime.specs.Laws.{OneOf}
 use Rattle.mime.specs.Orders.{tells_media, same_from_cmp, pair_cmp_total, media_cmp_total}
 
--- an answer that is the order's tells what the order tells
+-- what an answer of the order says: the first comes before the second, they are equal, or the second comes first
 pub tells_answer : (x y : MediaType) (answer : Ordering) → answer ≡ media_cmp x y
     → MatchOrdering answer (Before x y) (Same x y) (Before y x)
 tells_answer x y answer is = subst (λ order. MatchOrdering order (Before x y) (Same x y) (Before y x)) (sym is) (tells_media x y)
 
--- two orders of which the first answers less, or equal and the second less
+-- where the first order finds equal and the second less, the two find less
 then-less : (a b : Ordering) → a ≡ Equal → b ≡ Less → ordering_then a b ≡ Less
 then-less a b equal less = ap (λ o. ordering_then o b) equal ∙ less
 
@@ -72,11 +72,11 @@ pub Before-transitive : (x y z : MediaType) → Before x y → Before y z → Be
 Before-transitive x y z first second =
     subst (λ o. MatchOrdering o (Before x z) (Same x z) (Before z x)) (media_cmp_total.trans x y z (less-media x y first) (less-media y z second)) (tells_media x z)
 
--- what the order finds equal is
+-- two values are equal exactly where the order finds them equal
 pub eq_by_cmp-tells : (x y : MediaType) → IsTrue (eq_by_cmp media_cmp x y) ↔ Same x y
 eq_by_cmp-tells x y = (same_from_cmp x y, λ same. ap is_eq (equal-media x y same))
 
--- a test that tells what is equal answers as the order does
+-- a test that holds exactly of equal values answers as the order does
 pub eq_by_cmp-same : (x y : MediaType) (answer : Bool) → IsTrue answer ↔ Same x y → answer ≡ eq_by_cmp media_cmp x y
 eq_by_cmp-same x y answer tells = go answer (eq_by_cmp media_cmp x y) tells (eq_by_cmp-tells x y)
   where

@@ -1,4 +1,4 @@
--- What reading a text answers: an accepted text has places, a refused one a fault, and `*/*` is never copied.
+-- What reading a text answers: an accepted text has positions, a refused one a fault, and `*/*` is never copied.
 use Rattle.std.proofs.Common.{◌≡◌, ℕ, List, [], ◌∷◌, refl, sym, ap, ◌∙◌, subst}
 use Rattle.std.specs.Prelude.{◌≢◌, Result, Ok, Err, IfErr, codes}
 use Rattle.mime.specs.Bytes.{is_token_byte}
@@ -14,7 +14,7 @@ use Rattle.mime.proofs.Readings.{one_tree}
 use Rattle.mime.proofs.Viability.{refused-at_dead}
 use Rattle.mime.proofs.OneFault.{completed_is_refused}
 
--- a text with places is accepted
+-- a text with positions of its parts is accepted
 pub accepted-from_places : (text : List ℕ) (places : Places) → HasPlaces text places → IsAccepted text
 accepted-from_places text places has =
     (value_of has.tree, record { tree = has.tree; well_formed = has.well_formed; spelled = has.spelled; valued = refl })

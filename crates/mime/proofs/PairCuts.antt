@@ -1,4 +1,4 @@
--- What a cut of any list is: what stands before its first value, that value, what stands between, and the rest.
+-- What a cut of any list is: the bytes before its first value, that value, the bytes between, and the rest.
 use Rattle.std.proofs.Common.{◌≡◌, ℕ, zero, suc, ◌+◌, ◌-◌, ◌≤◌, List, [], ◌∷◌, ◌++◌, length, take, drop, refl, sym, ap, ◌∙◌, subst, arith, append-nil, append_assoc, length-append}
 use Rattle.std.specs.Prelude.{◌==◌}
 use Rattle.std.proofs.lemmas.Bool.{cond_both}
@@ -10,11 +10,11 @@ use Rattle.mime.specs.Pairs.{PairCut, first_place, before_byte, behind_byte, cut
 use Rattle.mime.proofs.Lowering.{lowered_value-either}
 use Rattle.mime.proofs.Utf8.{IsLoweredInPart, same, small, joined, length-in_part}
 
--- the second list, without some of its first bytes, is the first
+-- the first list is the second without some of its first bytes
 abbrev IsEnd : List ℕ → List ℕ → Type 0
 IsEnd end list = (n : ℕ) × (end ≡ drop n list)
 
--- an end of an end is one
+-- an end of an end of a list is an end of the list
 IsEnd-trans : (end middle list : List ℕ) → IsEnd end middle → IsEnd middle list → IsEnd end list
 IsEnd-trans end middle list first second =
     (second.0 + first.0, first.1 ∙ ap (drop first.0) second.1 ∙ drop-drop first.0 second.0 list)
@@ -101,7 +101,7 @@ first_lowered-in_part list lies =
     (joined _ _ _ _ (lowered_value-either (IsLoweredInPart cut.value) cut.name cut.value (same cut.value) (small cut.value))
     (same lies.middle))
 
--- so the rest stays where it was
+-- so the rest keeps its position
 length-first_lowered : (list : List ℕ) (lies : LiesIn list (cut_of list))
     → length (first_lowered list lies) + length (cut_of list).rest ≡ length list
 length-first_lowered list lies =

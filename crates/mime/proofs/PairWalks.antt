@@ -1,4 +1,4 @@
--- Two parameter lists walked side by side: what the pairs so far leave to be told.
+-- Two parameter lists walked side by side: what the pairs so far leave to the others.
 use Rattle.std.proofs.Common.{◌≡◌, ◌↔◌, ℕ, zero, suc, ◌+◌, ◌-◌, ◌<◌, ◌≤◌, List, [], ◌∷◌, ◌++◌, length, refl, sym, ap, ◌∙◌, subst, arith, ◌⊎◌, inl, inr, ⊎_elim, true, false, map}
 use Rattle.std.specs.declared.cmp.Ordering.{Ordering}
 use Rattle.std.specs.declared.cmp.Ordering.TheVariants.{Less, Equal, Greater}
@@ -37,7 +37,7 @@ pairs_within-next count counter list more =
 abbrev first_pair : List ℕ → List ℕ × List ℕ
 first_pair list = ((cut_of list).name, (cut_of list).value)
 
--- pairs that are the same leave it to the others
+-- where the first pairs are the same, the others decide
 pub decides-next : (W : Type 0) (count counter : ℕ) (left right : List ℕ) → counter < count
     → (pairs_within (count - counter) left ≡ pairs_within (count - counter) right) ↔ W
     → (cut_of left).name ≡ (cut_of right).name → (cut_of left).value ≡ (cut_of right).value
@@ -49,7 +49,7 @@ decides-next W count counter left right more decides names values =
       λ w. (cons_parts (sym one ∙ decides.1 w ∙ other)).1,
     )
 
--- pairs that differ tell that the lists do
+-- where they differ, the lists do
 pub decides-other : (W : Type 0) (count counter : ℕ) (left right : List ℕ) → counter < count
     → (pairs_within (count - counter) left ≡ pairs_within (count - counter) right) ↔ W
     → ¬ (((cut_of left).name ≡ (cut_of right).name) × ((cut_of left).value ≡ (cut_of right).value)) → ¬ W
@@ -66,7 +66,7 @@ slice_cmp-next : (count number counter : ℕ) (left right : List ℕ) → counte
 slice_cmp-next count number counter left right more others =
     rw (pairs_within-next count counter left more, pairs_within-next number counter right others)
 
--- pairs that are equal leave it to the others
+-- where the first pairs are equal, the others decide
 pub order-next : (answer order : Ordering) (count number counter : ℕ) (left right : List ℕ) → counter < count → counter < number
     → slice_cmp pair_cmp (pairs_within (count - counter) left) (pairs_within (number - counter) right) ≡ order
     → answer ≡ pair_cmp (first_pair left) (first_pair right) → is_ne answer ≡ false
@@ -82,7 +82,7 @@ order-next answer order count number counter left right more others decides is e
     go Equal equal = refl
     go Greater equal = absurd cc
 
--- pairs that aren't decide
+-- where they aren't, they decide
 pub order-other : (answer order : Ordering) (count number counter : ℕ) (left right : List ℕ) → counter < count → counter < number
     → slice_cmp pair_cmp (pairs_within (count - counter) left) (pairs_within (number - counter) right) ≡ order
     → answer ≡ pair_cmp (first_pair left) (first_pair right) → is_ne answer ≡ true
@@ -147,7 +147,7 @@ feed-end write state whole count counter list ended feeds =
     none : count - counter ≡ 0 → 0 ≡ count - counter
     none e = sym e
 
--- the same against pairs in small letters: pairs that are the same leave it to the others
+-- the same against pairs in small letters: where the first pairs are the same, the others decide
 pub lowered-next : (W : Type 0) (count counter : ℕ) (left right : List ℕ) → counter < count
     → (pairs_within (count - counter) left ≡ map lowered_pair (pairs_within (count - counter) right)) ↔ W
     → first_pair left ≡ lowered_pair (first_pair right)
@@ -159,7 +159,7 @@ lowered-next W count counter left right more decides first =
       λ w. (cons_parts (sym one ∙ decides.1 w ∙ other)).1,
     )
 
--- and pairs that differ tell that the lists do
+-- where they differ, the lists do
 pub lowered-other : (W : Type 0) (count counter : ℕ) (left right : List ℕ) → counter < count
     → (pairs_within (count - counter) left ≡ map lowered_pair (pairs_within (count - counter) right)) ↔ W
     → ¬ (((cut_of left).name ≡ lowered (cut_of right).name) × ((cut_of left).value ≡ lowered_value (cut_of right).name (cut_of right).value)) → ¬ W

@@ -1,4 +1,4 @@
--- The parts of a value that was read: where its essence may be cut, and what is small.
+-- The parts of a value that was read: where its essence may be cut, and what is in small letters.
 use Rattle.std.proofs.Common.{◌≡◌, ℕ, zero, suc, ◌+◌, ◌<◌, ◌≤◌, true, List, [], ◌∷◌, length, take, drop, Option, Some, None, refl, sym, ap, ◌∙◌, subst, arith, lit<}
 use Rattle.std.specs.Prelude.{unwrap_or, slice_get, IsUtf8, IsTrue, codes}
 use Rattle.std.specs.List.{AllByRecursion}
@@ -23,7 +23,7 @@ use Rattle.mime.proofs.Pluses.{plus_is_last}
 
 -- ---- where the essence may be cut
 
--- the slash stands in the essence
+-- the slash lies in the essence
 slash_in : (text essence : List ℕ) (value : MediaType) → Reads text value → essence ≡ value.essence
     → slice_get essence value.slash ≡ Some slash_byte
 slash_in text essence value reads is =
@@ -35,12 +35,12 @@ pub subtype_start : (text essence : List ℕ) (value : MediaType) → Reads text
     → IsCharBoundary essence (value.slash + 1)
 subtype_start text essence value reads is utf8 = boundary_behind essence _ slash_byte utf8 (slash_in text essence value reads is) (lit< tt)
 
--- the plus stands in the essence, after the subtype's first byte
+-- the plus lies in the essence, after the subtype's first byte
 record PlusIn (essence : List ℕ) (slash plus : ℕ) : Type 0 where
   above : slash + 1 < plus
   there : slice_get essence plus ≡ Some plus_byte
 
--- so say the places of a value that was read
+-- so it does in a value that was read
 plus_in : (text essence : List ℕ) (value : MediaType) (plus : ℕ) → Reads text value → essence ≡ value.essence → value.plus ≡ Some plus
     → PlusIn essence value.slash plus
 plus_in text essence value plus reads is found =
@@ -63,17 +63,17 @@ suffix_start text essence value plus reads is utf8 found =
     let at = plus_in text essence value plus reads is found in
     (slice_get_within essence plus plus_byte at.there, boundary_behind essence plus plus_byte utf8 at.there (lit< tt))
 
--- ---- what is small
+-- ---- what is in small letters
 
--- what stands before a position in a small text is small
+-- the text before a position in a text of small letters
 pub low_take : (n : ℕ) (text : List ℕ) → lowered text ≡ text → lowered (take n text) ≡ take n text
 low_take n text low = lowered-take n text ∙ ap (take n) low
 
--- and what stands after it
+-- the text after it
 pub low_drop : (n : ℕ) (text : List ℕ) → lowered text ≡ text → lowered (drop n text) ≡ drop n text
 low_drop n text low = lowered-drop n text ∙ ap (drop n) low
 
--- the essence of a value that was read is small
+-- the essence of a value that was read
 pub read-low_essence : (text : List ℕ) (value : MediaType) → Reads text value → lowered value.essence ≡ value.essence
 read-low_essence text value reads =
     let top = lowered reads.tree.top in
@@ -81,7 +81,7 @@ read-low_essence text value reads =
     subst (λ (v : MediaType). lowered v.essence ≡ v.essence) reads.valued
     (lowered-append top (slash_byte ∷ sub) ∙ rw (lowered-lowered reads.tree.top, lowered-lowered reads.tree.sub) refl)
 
--- a lowered value under `charset` is small
+-- the value of a `charset`
 low_value : (name value : List ℕ) → IsTrue (is_charset (lowered name)) → lowered (lowered_value name value) ≡ lowered_value name value
 low_value name value charset =
     sym (cond-true (is_charset (lowered name)) (lowered (lowered_value name value)) (lowered_value name value) charset)
@@ -109,13 +109,13 @@ read-low_pairs text value reads = subst (λ (v : MediaType). AreLowPairs v.pairs
 
 -- ---- the items of pairs
 
--- so their items are small where their flags are set
+-- the items of low pairs are in small letters where their flags are set
 pub items_of-low : (pairs : List (List ℕ × List ℕ)) → AreLowPairs pairs → AllByRecursion IsLowItem (items_of pairs)
 items_of-low [] low = tt
 items_of-low ((name, value) ∷ pairs) ((named, valued), others) =
     ((λ _. named, λ is. valued (subst (λ n. bytes_eq n (codes "charset") ≡ true) (sym named) is)), items_of-low pairs others)
 
--- those of the pairs after a kept text's semicolon too
+-- so are those of the pairs after a kept text's semicolon
 pub kept-low_items : (text list : List ℕ) (places : Places) (semicolon : ℕ) → IsKept text places
     → places.semicolon ≡ Some semicolon → list ≡ drop (semicolon + 1) text
     → AllByRecursion IsLowItem (items_of (pairs_within places.pairs list))
@@ -124,11 +124,11 @@ kept-low_items text list places semicolon is_kept is behind =
     let low = subst (λ s. AreLowPairs (pairs_behind places.pairs s text)) is (read-low_pairs text _ reads) in
     items_of-low _ (rw behind low)
 
--- a count of pairs cut from a list is their number
+-- as many pairs are cut from a list as the count says
 pub length-pairs_within : (count : ℕ) (list : List ℕ) → length (pairs_within count list) ≡ count
 length-pairs_within zero list = refl
 length-pairs_within (suc count) list = ap suc (length-pairs_within count (cut_of list).rest)
 
--- and the number of their items
+-- and as many items
 pub length-items_of : (count : ℕ) (list : List ℕ) → length (items_of (pairs_within count list)) ≡ count
 length-items_of count list = length-map (pairs_within count list) item_of ∙ length-pairs_within count list

@@ -92,7 +92,7 @@ taking_run {run} p g taken = record {
   given = given_then p.given g;
 }
 
--- a test that says so tells that a backslash stopped a pass
+-- where the test holds, a backslash stopped the pass
 is_backslash : (stop : Option ℕ) → option_eq eqb stop (Some backslash_byte) ≡ true → stop ≡ Some backslash_byte
 is_backslash None test = absurd (true≢false (sym test))
 is_backslash (Some b) test = ap Some (eqb-true b backslash_byte test)
@@ -114,7 +114,7 @@ pub taking_paired : {old mid new : Remaining} {b : ℕ} → Taking true old mid 
     → IsTrue (is_quoted_byte b) → Taking false old new
 taking_paired {b} p g fits = taking_run p (given_whole g.0) (and_from (is_quoted_byte b) true fits refl)
 
--- the text ended after a backslash, or a byte stood there that it doesn't pair
+-- the text ended after a backslash, or a byte came that it doesn't pair
 pub content_pair : {old mid new : Remaining} {stop : Option ℕ} → Taking true old mid → GivesFirst mid new stop
     → MatchOption stop (new.left ≡ []) (λ b. IsFalse (is_quoted_byte b)) → PassesContent old new stop
 content_pair p g stopped = record {

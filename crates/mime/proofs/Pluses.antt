@@ -1,4 +1,4 @@
--- Where the last plus of a value stands.
+-- The position of the last plus of a value.
 use Rattle.std.proofs.Common.{◌≡◌, ℕ, suc, ◌+◌, ◌-◌, ◌<◌, List, [], ◌∷◌, ◌++◌, length, drop, Option, Some, None, refl, sym, ap, ◌∙◌, subst, arith, ⊎_elim}
 use Rattle.std.specs.Prelude.{slice_get, MatchOption, if◌then◌else◌, ◌==◌}
 use Rattle.std.specs.Option.{option_or}
@@ -10,7 +10,7 @@ use Rattle.mime.specs.Laws.{HasNoPlusFrom, PlusIsLast}
 use Rattle.mime.proofs.ByteAt.{slice_get-behind}
 use Rattle.mime.proofs.Lowering.{length-lowered}
 
--- the last plus of a text from a position on, if one stands there
+-- the last plus of a text from a position on, if there is one
 abbrev IsLastPlus : List ℕ → ℕ → ℕ → Option ℕ → Type 0
 IsLastPlus text below from found =
     MatchOption found (HasNoPlusFrom text from)

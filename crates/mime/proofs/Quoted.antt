@@ -1,4 +1,4 @@
--- What stands between quotes: it is taken byte by byte, what was taken and awaits no more is content, a cut finds its end.
+-- Quoted content: it is taken byte by byte, what was taken and awaits no more is content, and a cut finds its end.
 use Rattle.std.proofs.Common.{◌≡◌, ◌≢◌, ℕ, zero, suc, ◌+◌, ◌<◌, ◌≤◌, Bool, true, false, List, [], ◌∷◌, ◌++◌, length, get_or, drop, refl, sym, ap, ◌∙◌, subst, ne_eqb, arith, cond}
 use Rattle.std.specs.Prelude.{IsTrue, IsFalse, ◌==◌, ◌&&◌, not}
 use Rattle.std.specs.Char.{to_ascii_lowercase}
@@ -27,7 +27,7 @@ awaits_next-letter : (awaiting : Bool) → awaits_next awaiting 120 ≡ false
 awaits_next-letter true = refl
 awaits_next-letter false = refl
 
--- a byte past ASCII that isn't taken goes on no character
+-- a byte past ASCII that isn't taken is 192 or above
 pub takes-high : (awaiting : Bool) (b : ℕ) → IsFalse (takes awaiting b) → 128 ≤ b → 192 ≤ b
 unfolding is_quoted_byte
 takes-high true b not_taken high = grind (arith, nat_tests)
@@ -39,7 +39,7 @@ unfolding is_quoted_byte
 takes-of_lowercase true b = grind (arith, nat_tests)
 takes-of_lowercase false b = grind (arith, nat_tests)
 
--- and awaits as much after either
+-- and after either a byte is awaited, or after neither
 awaits_next-lowercase : (awaiting : Bool) (b : ℕ) → awaits_next awaiting (to_ascii_lowercase b) ≡ awaits_next awaiting b
 awaits_next-lowercase true b = refl
 awaits_next-lowercase false b = grind (arith, nat_tests)
@@ -128,7 +128,7 @@ IsContent-taken content all done = content_from false content all done
 
 -- ---- byte after byte
 
--- bytes after others
+-- whether a byte is awaited after joined bytes, and whether they are taken
 pub awaits_behind-append : (awaiting : Bool) (run more : List ℕ)
     → awaits_behind awaiting (run ++ more) ≡ awaits_behind (awaits_behind awaiting run) more
 awaits_behind-append awaiting [] more = refl
@@ -161,7 +161,7 @@ awaits_behind-text (b ∷ run) all =
     let parts = and_parts (is_quoted_text_byte b) (list_all is_quoted_text_byte run) all in
     ap (λ (awaiting : Bool). awaits_behind awaiting run) (awaits_next-text b parts.0) ∙ awaits_behind-text run parts.1
 
--- where a quote doesn't continue it, none is awaited and it is content
+-- open content that a quote doesn't continue is content
 pub IsContent-closed : (content : List ℕ) (b : ℕ) → IsOpenContent content → IsFalse (continues content b) → IsTrue (b == quote_byte)
     → IsContent content
 IsContent-closed content b all stopped same =
@@ -172,7 +172,7 @@ IsContent-closed content b all stopped same =
 pub content-closed : (content : List ℕ) → IsContent content → IsFalse (continues content quote_byte)
 content-closed content is = takes-quote (awaits_behind awaits_first content) ∙ content-awaits content is
 
--- what lacks a quote takes the bytes of each completion, and a letter before a quote
+-- an open quoted value takes the bytes of each completion, and a letter before a quote
 pub takes_all-equals_letter : (awaiting : Bool) → IsTrue (takes_all awaiting (61 ∷ 120 ∷ []))
 unfolding is_quoted_byte
 takes_all-equals_letter true = refl
@@ -188,7 +188,7 @@ unfolding is_quoted_byte
 takes_all-letter_slash_letter true = refl
 takes_all-letter_slash_letter false = refl
 
--- a letter before a quote closes it
+-- a quote after a letter closes the value
 pub closed-letter : (content : List ℕ) → IsFalse (continues (content ++ 120 ∷ []) quote_byte)
 closed-letter content =
     takes-quote (awaits_behind awaits_first (content ++ 120 ∷ []))
@@ -210,7 +210,7 @@ awaits_behind-lowered awaiting (b ∷ bytes) =
     ap (λ (a : Bool). awaits_behind a (lowered bytes)) (awaits_next-lowercase awaiting b)
     ∙ awaits_behind-lowered (awaits_next awaiting b) bytes
 
--- a byte goes on behind open content as its small letter does behind lowered content
+-- a byte continues open content as its small letter continues the lowered content
 pub continues-lowered : (content : List ℕ) (b : ℕ) → continues (lowered content) (to_ascii_lowercase b) ≡ continues content b
 continues-lowered content b =
     rw (awaits_behind-lowered awaits_first content) (takes-of_lowercase (awaits_behind awaits_first content) b)
@@ -239,7 +239,7 @@ pub content_len-content : (content behind : List ℕ) → IsContent content
 content_len-content content behind is =
     len_from-run awaits_first content behind (content-taken content is) (content-awaits content is)
 
--- in any text a quote stands there, or the text ends
+-- in any text that position has a quote or is the end
 quote_at_len : (awaiting : Bool) (text : List ℕ) → len_from awaiting text < length text
     → get_or text (len_from awaiting text) 0 ≡ quote_byte
 quote_at_len awaiting [] within = absurd (omega arith)
@@ -309,7 +309,7 @@ not_quote-closes_not : (awaiting : Bool) (b : ℕ) → b == quote_byte ≡ false
 not_quote-closes_not true b other = refl
 not_quote-closes_not false b other = other
 
--- the first quote closes, where no byte is awaited at it: where no backslash stands before it
+-- the first quote closes, if no byte is awaited at it: if no backslash precedes it
 first_quote : (awaiting : Bool) (text : List ℕ) (n : ℕ) → n ≡ position_or_len (λ b. b == quote_byte) text → (n ≡ 0 → awaiting ≡ false)
     → ((m : ℕ) → suc m ≡ n → get_or text m 0 ≢ backslash_byte) → len_from awaiting text ≡ n
 first_quote awaiting [] n e free before = sym e

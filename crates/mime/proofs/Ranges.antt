@@ -11,7 +11,7 @@ use Rattle.mime.proofs.PairCuts.{LiesIn, cut_of-lies, first_lowered, lowered_fir
 abbrev lowered_range : ℕ → ℕ → List ℕ → List ℕ
 lowered_range from to bytes = take from bytes ++ (lowered (slice_range bytes from to) ++ drop to bytes)
 
--- only what stands between the positions is lowered
+-- only the bytes between the positions are lowered
 lowered_range-middle : (from to : ℕ) (bytes front middle back : List ℕ) → bytes ≡ front ++ (middle ++ back)
     → length front ≡ from → from + length middle ≡ to → lowered_range from to bytes ≡ front ++ (lowered middle ++ back)
 lowered_range-middle from to bytes front middle back e at end =
@@ -47,7 +47,7 @@ lowered_first-charset list charset =
     (length-lowered lies.front ∙ sym lies.head) refl
     ∙ sym (lowered_first-joined list lies ∙ rw small (simp append_assoc))
 
--- the bytes are some that are done and the list that is left; with so many pairs of it lowered they come to the whole
+-- the bytes are those that are done and the list that is left; with `count` pairs of the list lowered they are the whole
 pub record IsLoweredTo (bytes left : List ℕ) (count : ℕ) (whole : List ℕ) : Type 0 where
   pub done : List ℕ
   pub parts : bytes ≡ done ++ left

@@ -25,18 +25,18 @@ accepted-from_walk text begun tree walked complete =
 
 -- ---- the text of a tree is walked to it
 
--- the place that a parameter at the end of a list leads to
+-- the state that a parameter at the end of a list leads to
 abbrev place_of : List ℕ → Parameter → ListPlace
 place_of n (plain name value) = in_value n name value
 place_of n (quoted name content m) = behind_quotes n name content m
 
--- the begun list that a list after closed parameters leads to
+-- the begun list that a parameter list after closed parameters leads to
 abbrev begun_of : Closed → Parameters → BegunList
 begun_of closed (blank n) = list_at closed (in_spaces n)
 begun_of closed (final n parameter) = list_at closed (place_of n parameter)
 begun_of closed (more n parameter rest) = begun_of ((n, parameter) ∷ closed) rest
 
--- the list that a list leads to is that list
+-- the begun list that a parameter list leads to ends as that list
 ended_list-begun_of : (closed : Closed) (list : Parameters) → AreParameters list
     → ended_list (begun_of closed list) ≡ Some (with_closed closed list)
 ended_list-begun_of closed (blank n) fine = refl
@@ -51,7 +51,7 @@ unfolding is_token_byte
 grow-semicolon top [] token = absurd token
 grow-semicolon top (s ∷ sub) token = refl
 
--- a name after spaces, and what follows its equals sign
+-- the walk over a name and its equals sign, after spaces
 walk_list-named : (closed : Closed) (n name rest : List ℕ) → IsToken name
     → walk_list (list_at closed (in_spaces n)) (name ++ (equals_byte ∷ rest)) ≡ walk_list (list_at closed (in_value n name [])) rest
 unfolding is_token_byte
@@ -63,7 +63,7 @@ walk_list-named closed n (b ∷ name) rest token =
     ∙ walk_list-append_some (list_at closed (in_name n (b ∷ []))) (list_at closed (in_name n (b ∷ name))) name (equals_byte ∷ rest)
     (walk_list-name closed n b [] name parts.1)
 
--- a plain value
+-- the walk over a plain value
 walk_list-plain : (closed : Closed) (n name value : List ℕ) → IsToken value
     → walk_list (list_at closed (in_value n name [])) value ≡ at_place closed (in_value n name value)
 walk_list-plain closed n name [] token = absurd token
@@ -73,7 +73,7 @@ walk_list-plain closed n name (v ∷ value) token =
     (cond-true (is_token_byte v) _ _ parts.0)
     ∙ walk_list-value closed n name v [] value parts.1
 
--- a quoted value with the spaces after it
+-- the walk over a quoted value with the spaces after it
 walk_list-quoted : (closed : Closed) (n name content m : List ℕ) → IsContent content → AreSpaces m
     → walk_list (list_at closed (in_value n name [])) (quote_byte ∷ (content ++ (quote_byte ∷ m)))
     ≡ at_place closed (behind_quotes n name content m)
@@ -85,7 +85,7 @@ walk_list-quoted closed n name content m fine white =
     (cond-false (continues content quote_byte) _ _ (content-closed content fine))
     ∙ walk_list-behind_quotes closed n name content [] m white
 
--- a parameter
+-- the walk over a parameter
 walk_list-parameter : (closed : Closed) (n : List ℕ) (parameter : Parameter) → IsParameter parameter
     → walk_list (list_at closed (in_spaces n)) (text_of_parameter parameter) ≡ at_place closed (place_of n parameter)
 walk_list-parameter closed n (plain name value) fine =
@@ -94,7 +94,7 @@ walk_list-parameter closed n (quoted name content m) fine =
     walk_list-named closed n name (quote_byte ∷ (content ++ (quote_byte ∷ m))) fine.0
     ∙ walk_list-quoted closed n name content m fine.1 fine.2
 
--- a semicolon after a whole parameter
+-- a semicolon after a whole parameter closes it
 grow_place-closed : (closed : Closed) (n : List ℕ) (parameter : Parameter) → IsParameter parameter
     → grow_place closed (place_of n parameter) semicolon_byte ≡ close closed n parameter
 unfolding is_token_byte
@@ -102,7 +102,7 @@ grow_place-closed closed n (plain name []) fine = absurd fine.1
 grow_place-closed closed n (plain name (v ∷ value)) fine = refl
 grow_place-closed closed n (quoted name content m) fine = refl
 
--- the text of a list
+-- the walk over the text of a list
 walk_list-text : (closed : Closed) (list : Parameters) → AreParameters list
     → walk_list (list_at closed (in_spaces [])) (text_of_list list) ≡ Some (begun_of closed list)
 walk_list-text closed (blank n) fine = walk_list-spaces closed [] n fine
@@ -118,7 +118,7 @@ walk_list-text closed (more n parameter rest) fine =
     ∙ ap (option_and_then (λ next. walk_list next (text_of_list rest))) (grow_place-closed closed n parameter fine.1)
     ∙ walk_list-text ((n, parameter) ∷ closed) rest fine.2
 
--- type and slash
+-- the walk over a type and its slash
 pub walk-slash : (top rest : List ℕ) → IsToken top → walk (top ++ (slash_byte ∷ rest)) ≡ walk_from (in_subtype top []) rest
 unfolding is_token_byte
 walk-slash [] rest token = absurd token
@@ -126,7 +126,7 @@ walk-slash (t ∷ top) rest token =
     let parts = and_parts (is_token_byte t) (list_all is_token_byte top) token in
     walk_from-append_some (in_type []) (in_type (t ∷ top)) (t ∷ top) (slash_byte ∷ rest) (walk-type t top parts.0 parts.1)
 
--- subtype
+-- the walk over a subtype
 pub walk_from-sub : (top sub : List ℕ) → IsToken sub → walk_from (in_subtype top []) sub ≡ Some (in_subtype top sub)
 walk_from-sub top [] token = absurd token
 walk_from-sub top (s ∷ sub) token =
@@ -134,7 +134,7 @@ walk_from-sub top (s ∷ sub) token =
     walk_from-step (in_subtype top []) (in_subtype top (s ∷ [])) s sub (cond-true (is_token_byte s) _ _ parts.0)
     ∙ walk_from-subtype top s [] sub parts.1
 
--- type, subtype and semicolon
+-- the walk over a type, a subtype and the semicolon
 pub walk-head : (top sub rest : List ℕ) → IsToken top → IsToken sub
     → walk (top ++ (slash_byte ∷ (sub ++ (semicolon_byte ∷ rest)))) ≡ walk_from (in_list top sub begun_list) rest
 walk-head top sub rest top_token sub_token =

@@ -54,7 +54,7 @@ abbrev small_closed : List (List ℕ × Parameter) → List (List ℕ × Paramet
 small_closed [] = []
 small_closed ((n, p) ∷ closed) = (lowered n, small_parameter p) ∷ small_closed closed
 
--- what is read of the next one, in small letters
+-- the state after them, in small letters
 abbrev small_place : ListPlace → ListPlace
 small_place (in_spaces n) = in_spaces (lowered n)
 small_place (in_name n name) = in_name (lowered n) (lowered name)
@@ -114,7 +114,7 @@ grow-small (in_list top sub list) b =
     go None = refl
     go (Some next) = refl
 
--- so does what follows, if the byte may stand there
+-- so does what follows, if the byte may occur
 small_onward : (text : List ℕ) (begun : Begun) (b : ℕ)
     → ((next : Begun) → walk_from (small_begun next) (lowered text) ≡ option_map small_begun (walk_from next text))
     → (next : Option Begun)
@@ -133,7 +133,7 @@ small_parameters (blank n) = blank (lowered n)
 small_parameters (final n p) = final (lowered n) (small_parameter p)
 small_parameters (more n p rest) = more (lowered n) (small_parameter p) (small_parameters rest)
 
--- what stands after its subtype, in small letters
+-- what follows its subtype, in small letters
 abbrev small_tail : Tail → Tail
 small_tail no_list = no_list
 small_tail (listed list) = listed (small_parameters list)
@@ -203,11 +203,11 @@ case_tree text tree well is =
 abbrev small_pair : List ℕ × List ℕ → List ℕ × List ℕ
 small_pair (name, value) = (lowered name, lowered value)
 
--- a value as it is kept, in small letters
+-- a value as it is kept, lowered, is the value lowered
 pub lowered-lowered_value : (name value : List ℕ) → lowered (lowered_value name value) ≡ lowered value
 lowered-lowered_value name value = lowered_value-either (λ v. lowered v ≡ lowered value) name value refl (lowered-lowered value)
 
--- the pairs of a list as they are kept, in small letters
+-- the pairs of a list as they are kept, lowered, are those of the list in small letters
 pairs-small_list : (list : Parameters) → map small_pair (pairs_of_list (lowered_list list)) ≡ pairs_of_list (small_parameters list)
 pairs-small_list (blank n) = refl
 pairs-small_list (final n (plain name value)) = cc (lowered-lowered name, lowered-lowered_value name value)
@@ -243,7 +243,7 @@ pub case_read-count : (text : List ℕ) (value : MediaType) (is : CaseRead text 
 case_read-count text value is =
     sym (length-map value.pairs small_pair) ∙ ap length is.pairs ∙ length-map is.read.pairs small_pair
 
--- of two charsets as they are kept that are the same but for case each is the other
+-- two charsets as they are kept are the same if they are the same but for case
 lone_charset-same : (pairs others : List (List ℕ × List ℕ)) → IsLoneCharset pairs → AreLowPairs pairs → AreLowPairs others
     → map small_pair pairs ≡ map small_pair others → pairs ≡ others
 lone_charset-same pairs others (name, content, lone, charset) low also same =

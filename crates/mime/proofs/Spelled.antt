@@ -1,4 +1,4 @@
--- A parameter list that is checked while its pairs are cut: what each cut tells of it, and of a text that has it.
+-- A parameter list that is checked while its pairs are cut: what each cut says of it, and of a text that has it.
 use Rattle.std.proofs.Common.{◌≡◌, ◌≢◌, ℕ, suc, ◌+◌, Bool, true, false, List, [], ◌∷◌, ◌++◌, length, take, drop, Option, Some, None, MatchOption, refl, sym, ap, ◌∙◌, subst, arith, append-nil, append_assoc, length-append, length-drop}
 use Rattle.std.specs.List.{list_all, prefix_len}
 use Rattle.std.proofs.lemmas.Bool.{and_parts, and_from, cond-true, cond-false}
@@ -50,12 +50,12 @@ IsContent-text (b ∷ bytes) all =
     let parts = and_parts (is_quoted_text_byte b) (list_all is_quoted_text_byte bytes) all in
     text_byte b bytes parts.0 (IsContent-text bytes parts.1)
 
--- the front of a text that is of token bytes, and isn't empty
+-- the token bytes that a text begins with are a token, if there is one
 token_front : (text front : List ℕ) → front ≡ take (prefix_len is_token_byte text) text → length front ≢ 0 → IsToken front
 token_front text front is some =
     IsToken-from_bytes front (ap (list_all is_token_byte) is ∙ list_all-prefix is_token_byte text) some
 
--- a token up to its semicolon or the end
+-- a value that is a token, up to its semicolon or the end
 pub value-plain : (text value rest : List ℕ) (end : ℕ) → end ≡ prefix_len is_token_byte text → end ≢ 0
     → IsCutAt semicolon_byte text end value rest → BeginsWithValue text value rest
 value-plain text value rest end passed some cut =
@@ -70,7 +70,7 @@ value-plain text value rest end passed some cut =
       spelled = λ name. append_assoc name (equals_byte ∷ value) cut.follow ∙ ap (λ x. name ++ (equals_byte ∷ x)) cut.joined;
     }
 
--- quoted text between quotes, up to its semicolon or the end
+-- a value of quoted text in quotes, up to its semicolon or the end
 pub value-quoted : (text first content value others before rest : List ℕ) (end : ℕ) → first ≡ take 0 text → first ++ (quote_byte ∷ content) ≡ text
     → end ≡ prefix_len is_quoted_text_byte content → value ≡ take end content → value ++ (quote_byte ∷ others) ≡ content
     → IsCutAt semicolon_byte others 0 before rest → BeginsWithValue text value rest
@@ -118,7 +118,7 @@ cut_of-spelled list name value rest b =
 
 -- ---- the whole list
 
--- so many parameters were passed: with those of what is left they make the list
+-- `count` parameters were passed: with those of what is left they make the list
 abbrev pub Passed : List ℕ → List ℕ → ℕ → Type 0
 Passed list rest count =
     (tail : Parameters) → AreParameters tail → text_of_list tail ≡ rest → HasParameters list (count + length (pairs_of_list tail))

@@ -43,7 +43,7 @@ abbrev pub AreClosed : Closed → Type 0
 AreClosed [] = Unit {0}
 AreClosed (item ∷ closed) = AreSpaces item.0 × IsParameter item.1 × AreClosed closed
 
--- what stands after the last semicolon is well formed so far
+-- the text after the last semicolon is well formed so far
 abbrev pub IsPlace : ListPlace → Type 0
 IsPlace (in_spaces n) = AreSpaces n
 IsPlace (in_name n name) = AreSpaces n × IsToken name
@@ -56,7 +56,7 @@ pub record IsBegunList (list : BegunList) : Type 0 where
   pub closed : AreClosed list.closed
   pub place : IsPlace list.place
 
--- a type, a subtype and a begun list that are
+-- a type, a subtype and a begun list that are well formed so far
 pub record IsBegunTail (t s : List ℕ) (begun : BegunList) : Type 0 where
   pub top : IsToken t
   pub sub : IsToken s
@@ -70,18 +70,18 @@ IsBegun (in_list top sub list) = IsBegunTail top sub list
 
 -- ---- a walk spells what it walked
 
--- one more byte of a class
+-- bytes of a class with one more byte of the class are of the class
 list_all-push : (class : ℕ → Bool) (xs : List ℕ) (b : ℕ) → IsTrue (list_all class xs) → IsTrue (class b)
     → IsTrue (list_all class (xs ++ (b ∷ [])))
 list_all-push class xs b all passes =
     list_all-append class xs (b ∷ []) ∙ and_from _ _ all (and_from (class b) true passes refl)
 
--- a token with one more byte
+-- a token with one more token byte is a token
 IsToken-push : (name : List ℕ) (b : ℕ) → IsToken name → IsTrue (is_token_byte b) → IsToken (name ++ (b ∷ []))
 IsToken-push [] b token passes = absurd token
 IsToken-push (c ∷ name) b token passes = list_all-push is_token_byte (c ∷ name) b token passes
 
--- for `simp`, which doesn't compute it
+-- how a list with a first byte is joined, for `simp`, which doesn't compute it
 cons-append : (b : ℕ) (xs ys : List ℕ) → (b ∷ xs) ++ ys ≡ b ∷ (xs ++ ys)
 cons-append b xs ys = refl
 
@@ -103,11 +103,11 @@ by_class P class mark b x y passes marked =
 abbrev Lengthens : List ℕ → ℕ → BegunList → Type 0
 Lengthens text b next = IsBegunList next × (text_of_begun_list next ≡ text ++ (b ∷ []))
 
--- a begun list of well formed parts
+-- a begun list of well-formed parts
 placed : {closed : Closed} {place : ListPlace} → AreClosed closed → IsPlace place → IsBegunList (list_at closed place)
 placed before here = record { closed = before; place = here }
 
--- each way on from a place lengthens the text by its byte
+-- each byte that may come at a state lengthens the text by itself
 grow_place-lengthens : (closed : Closed) (place : ListPlace) (b : ℕ) → AreClosed closed → IsPlace place
     → MatchOption (grow_place closed place b) (Unit {0}) (Lengthens (text_of_closed closed ++ text_of_place place) b)
 grow_place-lengthens closed (in_spaces n) b before here =
@@ -141,7 +141,7 @@ grow_place-lengthens closed (behind_quotes n name content m) b before here =
 abbrev Grows : List ℕ → ℕ → Begun → Type 0
 Grows text b next = IsBegun next × (text_of_begun next ≡ text ++ (b ∷ []))
 
--- each way on lengthens the text by its byte
+-- each byte that may come at a begun tree lengthens the text by itself
 grow-lengthens : (begun : Begun) (b : ℕ) → IsBegun begun → MatchOption (grow begun b) (Unit {0}) (Grows (text_of_begun begun) b)
 grow-lengthens (in_type []) b here =
     cond_both (is_token_byte b) _ _ (λ o. MatchOption o (Unit {0}) (Grows [] b))
@@ -186,11 +186,11 @@ begun-from_walk text begun walked = (walk_from-lengthens (in_type []) text begun
 pub spelled-from_walk : (text : List ℕ) (begun : Begun) → walk text ≡ Some begun → text_of_begun begun ≡ text
 spelled-from_walk text begun walked = (walk_from-lengthens (in_type []) text begun refl walked).1
 
--- one that ends in a subtype, after its slash
+-- a text that ends in a subtype, cut after its slash
 pub text-in_subtype : (top sub : List ℕ) → (top ++ (slash_byte ∷ [])) ++ sub ≡ text_of_begun (in_subtype top sub)
 text-in_subtype top sub = simp regroup
 
--- one that ends in a value, after its equals sign
+-- a text that ends in a value, cut after its equals sign: the text before that sign
 abbrev pub before_equals : List ℕ → List ℕ → Closed → List ℕ → List ℕ → List ℕ
 before_equals top sub closed n name =
     top ++ (slash_byte ∷ (sub ++ (semicolon_byte ∷ (text_of_closed closed ++ (n ++ name)))))
@@ -202,7 +202,7 @@ text-in_value top sub closed n name value = simp regroup
 
 -- ---- a tree that may end is spelled
 
--- the list that closed parameters and the rest make
+-- the text of the closed parameters and then of the rest
 text_of_list-with_closed : (closed : Closed) (rest : Parameters)
     → text_of_list (with_closed closed rest) ≡ text_of_closed closed ++ text_of_list rest
 text_of_list-with_closed [] rest = refl
@@ -216,7 +216,7 @@ AreParameters-with_closed [] rest before here = here
 AreParameters-with_closed (item ∷ closed) rest before here =
     AreParameters-with_closed closed (more item.0 item.1 rest) before.2 (before.0, before.1, here)
 
--- what a list is that ends at a place spells what stands there
+-- a list that ends in a state spells that state's text
 ended-spelled : (place : ListPlace) → IsPlace place
     → MatchOption (ended place) (Unit {0}) (λ rest. AreParameters rest × (text_of_list rest ≡ text_of_place place))
 ended-spelled (in_spaces n) fine = (fine, refl)

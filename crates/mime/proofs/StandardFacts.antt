@@ -81,7 +81,7 @@ paired_capital =
     reads (codes "a") (codes "b") (listed (final [] (quoted (codes "charset") (codes "\\U") [])))
     (refl, refl, (refl, (refl, IsContent-taken (codes "\\U") refl refl, refl)))
 
--- a tab stands in a quoted value
+-- a tab may occur in a quoted value
 tab_in_quotes : Reads (codes "a/b;p=\"" ++ (195 ∷ 169 ∷ 9 ∷ codes "\""))
     (media (codes "a/b") 1 None ((codes "p", 195 ∷ 169 ∷ 9 ∷ []) ∷ []) (codes "a/b;p=\"" ++ (195 ∷ 169 ∷ 9 ∷ codes "\"")))
 unfolding is_token_byte is_quoted_byte
@@ -89,7 +89,7 @@ tab_in_quotes =
     reads (codes "a") (codes "b") (listed (final [] (quoted (codes "p") (195 ∷ 169 ∷ 9 ∷ []) [])))
     (refl, refl, (refl, (refl, IsContent-taken (195 ∷ 169 ∷ 9 ∷ []) refl refl, refl)))
 
--- tabs stand where spaces do
+-- a tab is allowed wherever a space is
 tabs_beside_parameters : Reads (codes "a/b;" ++ (9 ∷ codes "p=\"x\"" ++ (9 ∷ codes ";q=1")))
     (media (codes "a/b") 1 None ((codes "p", codes "x") ∷ (codes "q", codes "1") ∷ [])
     (codes "a/b;" ++ (9 ∷ codes "p=\"x\"" ++ (9 ∷ codes ";q=1"))))
@@ -107,7 +107,7 @@ quoted_bytes =
     reads (codes "a") (codes "b") (listed (final [] (quoted (codes "p") (195 ∷ 169 ∷ codes ";,") [])))
     (refl, refl, (refl, (refl, IsContent-taken (195 ∷ 169 ∷ codes ";,") refl refl, refl)))
 
--- spaces may stand after a quoted value, and a name may come twice
+-- spaces may follow a quoted value, and a name may come twice
 spaces_after_quotes : Reads (codes "A/B; P=\"x\" ;p=2")
     (media (codes "a/b") 1 None ((codes "p", codes "x") ∷ (codes "p", codes "2") ∷ []) (codes "a/b; p=\"x\" ;p=2"))
 unfolding is_token_byte is_quoted_byte
@@ -161,12 +161,12 @@ lone_backslash : IsFault (codes "a/b;p=\"\\") MissingQuote
 unfolding is_token_byte is_quoted_byte
 lone_backslash = quote_fault-from_walk (codes "a/b;p=\"\\") (codes "a") (codes "b") [] [] (codes "p") (codes "\\") refl
 
--- no space stands in a type
+-- a type has no space
 space_in_type : IsFault (codes "a b") (InvalidToken 1 32)
 unfolding is_token_byte
 space_in_type = dead-from_walk (codes "a") (codes "b") 32 _ refl refl
 
--- no slash stands in a subtype
+-- a subtype has no slash
 second_slash : IsFault (codes "a//") (InvalidToken 2 47)
 unfolding is_token_byte
 second_slash = dead-from_walk (codes "a/") [] 47 _ refl refl
@@ -181,37 +181,37 @@ semicolon_after_empty_value : IsFault (codes "a/b;p=;") (InvalidToken 6 59)
 unfolding is_token_byte
 semicolon_after_empty_value = dead-from_walk (codes "a/b;p=") [] 59 _ refl refl
 
--- no space stands after a name
+-- no space follows a name
 space_after_name : IsFault (codes "a/b;p ") (InvalidToken 5 32)
 unfolding is_token_byte
 space_after_name = dead-from_walk (codes "a/b;p") [] 32 _ refl refl
 
--- spaces and tabs alone stand after a quoted value
+-- only spaces and tabs may follow a quoted value
 text_after_quotes : IsFault (codes "a/b;p=\"x\"junk") (InvalidToken 9 106)
 unfolding is_token_byte is_quoted_byte
 text_after_quotes = dead-from_walk (codes "a/b;p=\"x\"") (codes "unk") 106 _ refl refl
 
--- and after an empty one
+-- or an empty one
 text_after_empty_quotes : IsFault (codes "a/b;p=\"\"x\"") (InvalidToken 8 120)
 unfolding is_token_byte is_quoted_byte
 text_after_empty_quotes = dead-from_walk (codes "a/b;p=\"\"") (codes "\"") 120 _ refl refl
 
--- no control but the tab stands in a quoted value
+-- no control but the tab may occur in a quoted value
 control_in_quotes : IsFault (codes "a/b;p=\"" ++ (195 ∷ 169 ∷ 1 ∷ codes "\"")) (InvalidToken 9 1)
 unfolding is_token_byte is_quoted_byte
 control_in_quotes = dead-from_walk (codes "a/b;p=\"" ++ (195 ∷ 169 ∷ [])) (codes "\"") 1 _ refl refl
 
--- nor after a backslash
+-- nor may one after a backslash
 control_after_backslash : IsFault (codes "a/b;p=\"\\" ++ (13 ∷ [])) (InvalidToken 8 13)
 unfolding is_token_byte is_quoted_byte
 control_after_backslash = dead-from_walk (codes "a/b;p=\"\\") [] 13 _ refl refl
 
--- no tab stands before the first semicolon
+-- no tab precedes the first semicolon
 tab_before_semicolon : IsFault (codes "a/b" ++ (9 ∷ codes ";p=x")) (InvalidToken 3 9)
 unfolding is_token_byte
 tab_before_semicolon = dead-from_walk (codes "a/b") (codes ";p=x") 9 _ refl refl
 
--- nor after a plain value
+-- nor does one follow a plain value
 tab_after_plain_value : IsFault (codes "a/b;p=x" ++ (9 ∷ [])) (InvalidToken 7 9)
 unfolding is_token_byte
 tab_after_plain_value = dead-from_walk (codes "a/b;p=x") [] 9 _ refl refl

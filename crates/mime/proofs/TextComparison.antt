@@ -1,4 +1,4 @@
--- A text against a value: what a text has that is one, and what it needs.
+-- A text against a value: what a text has that is equal to the value, and what suffices.
 use Rattle.std.proofs.Common.{◌≡◌, ℕ, ◌+◌, Bool, true, false, cond, List, [], ◌∷◌, ◌++◌, length, take, drop, Some, map, refl, sym, ap, ◌∙◌, subst, ◌↔◌, append-nil}
 use Rattle.std.specs.Prelude.{◌≢◌, ◌==◌, ◌&&◌, not, codes}
 use Rattle.std.proofs.lemmas.List.{length-map, nil_from_length, take-append-drop}
@@ -23,7 +23,7 @@ use Rattle.mime.proofs.SmallLetters.{semicolon-lower, case_read, case_read-count
 
 -- ---- what an accepted text with parameters is read as
 
--- a value's essence is its tree's in small letters
+-- a value's essence is its tree's, lowered
 pub essence-lowered : (tree : SyntaxTree) → (value_of tree).essence ≡ lowered (essence_of tree)
 essence-lowered tree = sym (lowered-append tree.top (slash_byte ∷ tree.sub))
 
@@ -100,13 +100,13 @@ accepted_at text value reads some =
           counted = sym (length-value_pairs list) ∙ ap (λ (v : MediaType). length v.pairs) valued;
         }
 
--- the same position and number, told in other words
+-- the same position and the same number, written in another way
 IsAcceptedAt-same : (text : List ℕ) {end also count number : ℕ} → end ≡ also → count ≡ number → IsAcceptedAt text end count
     → IsAcceptedAt text also number
 IsAcceptedAt-same text {end} {also} {count} {number} ends counts is =
     subst (λ n. IsAcceptedAt text n number) ends (subst (IsAcceptedAt text end) counts is)
 
--- an accepted text has its parts at one position each
+-- each part of an accepted text has one position
 pub one_places : (text : List ℕ) (first second : Places) → HasPlaces text first → HasPlaces text second → first ≡ second
 one_places text first second has also =
     sym has.placed ∙ ap places_of (one_tree has.tree also.tree has.well_formed also.well_formed (has.spelled ∙ sym also.spelled)) ∙ also.placed
@@ -118,7 +118,7 @@ IsAccepted-at text end count is =
 
 -- ---- a text against a value with pairs
 
--- what a text has that is a value with pairs
+-- what a text has that is equal to a value with pairs
 pub record TextParts (value : MediaType) (text : List ℕ) : Type 0 where
   pub list : IsListAfter value.essence text
   pub pairs : value.pairs ≡ map lowered_pair (pairs_within (length value.pairs) (drop (length value.essence + 1) text))
@@ -141,7 +141,7 @@ text_is-parts kept text value reads some is =
       accepted = at;
     }
 
--- and such a text is the value
+-- and a text that has it is equal to the value
 pub text_is-from_parts : (kept text : List ℕ) (value : MediaType) → Reads kept value → value.pairs ≢ [] → TextParts value text
     → TextIs value text
 text_is-from_parts kept text value reads some parts =
@@ -153,7 +153,7 @@ text_is-from_parts kept text value reads some parts =
       bare = λ none. absurd (some none);
     }
 
--- the kept text is the value
+-- the kept text is equal to the value
 pub text_is-kept : (kept text : List ℕ) (value : MediaType) → Reads kept value → value.pairs ≢ [] → kept ≡ text → TextIs value text
 text_is-kept kept text value reads some is = record {
   read = value;
@@ -180,7 +180,7 @@ IsListAfter-case kept text value reads some is =
     let own = text_is-parts text text found.read found.reads pairs (text_is-kept text text found.read found.reads pairs refl) in
     subst (λ essence. IsListAfter essence text) (sym found.essence) own.list
 
--- and it is the value, where the only parameter is a charset
+-- and it is equal to the value, where the only parameter is a charset
 pub text_is-lone_charset : (kept text : List ℕ) (value : MediaType) → Reads kept value → value.pairs ≢ [] → lowered kept ≡ lowered text
     → IsLoneCharset value.pairs → TextIs value text
 text_is-lone_charset kept text value reads some is lone =
@@ -192,7 +192,7 @@ text_is-lone_charset kept text value reads some is lone =
       bare = λ none. absurd (some none);
     }
 
--- the pairs of a kept list against those of another, told of the value and the text
+-- the pairs of a kept list against those of another, said of the value and the text
 pub pairs-told : (W : Type 0) (value : MediaType) (text kept_list list essence : List ℕ) (count : ℕ)
     → W ↔ (pairs_within count kept_list ≡ map lowered_pair (pairs_within count list))
     → count ≡ length value.pairs → pairs_within (length value.pairs) kept_list ≡ value.pairs → list ≡ drop (length essence + 1) text
@@ -229,13 +229,13 @@ lone_charset list pairs one kept is =
 
 -- ---- a text against a value without pairs
 
--- no semicolon stands in the essence of a tree
+-- the essence of a tree has no semicolon
 bare_essence : (top sub : List ℕ) → IsToken top → IsToken sub → HasNoSemicolon (top ++ (slash_byte ∷ sub))
 bare_essence top sub token sub_token =
     list_all-append (λ b. not (b == semicolon_byte)) top (slash_byte ∷ sub)
     ∙ cc (are_other-token semicolon_byte semicolon_is_no_token top (AreTokenBytes-from_token top token), are_other-token semicolon_byte semicolon_is_no_token sub (AreTokenBytes-from_token sub sub_token))
 
--- small letters leave semicolons alone
+-- lowering keeps semicolons
 HasNoSemicolon-lowered : (text : List ℕ)
     → list_all (λ b. not (b == semicolon_byte)) (lowered text) ≡ list_all (λ b. not (b == semicolon_byte)) text
 HasNoSemicolon-lowered [] = refl
@@ -253,7 +253,7 @@ bare_tree tree bare = go tree.tail (subst HasNoSemicolon (text_of-essence tree) 
         second true is = absurd cc
         second false is = absurd cc
 
--- a text whose small letters are the kept text, which has no semicolon, is the value
+-- a text that, lowered, is the essence of a value without pairs is equal to the value
 pub text_is-from_lowered : (text kept : List ℕ) (value : MediaType) → Reads kept value → value.pairs ≡ [] → lowered text ≡ value.essence
     → TextIs value text
 text_is-from_lowered text kept value reads none is =
@@ -270,7 +270,7 @@ text_is-from_lowered text kept value reads none is =
       bare = λ _. sym (HasNoSemicolon-lowered text) ∙ ap (list_all _) (is ∙ sym essence) ∙ HasNoSemicolon-lowered (essence_of tree) ∙ bare;
     }
 
--- a value without pairs: a text is it exactly where its small letters are the kept text
+-- a text is equal to a value without pairs exactly where, lowered, it is the kept text
 pub text_is-bare : (kept : List ℕ) (value : MediaType) → Reads kept value → value.pairs ≡ []
     → (text : List ℕ) → TextIs value text ↔ (lowered text ≡ value.kept)
 text_is-bare kept value reads none text =
@@ -283,7 +283,7 @@ text_is-bare kept value reads none text =
       λ low. text_is-from_lowered text kept value reads none low,
     )
 
--- exactly where it is the kept text but for case
+-- that is exactly where it is the kept text but for case
 pub text_is-kept_case : (kept text : List ℕ) (value : MediaType) → Reads kept value → kept ≡ value.kept → value.pairs ≡ []
     → TextIs value text ↔ (lowered kept ≡ lowered text)
 text_is-kept_case kept text value reads is none =

@@ -19,7 +19,7 @@ use Rattle.mime.proofs.Verdicts.{Reaches, reaches_run, reaches_byte}
 pub none_walked : {old new : Remaining} {first : Option ℕ} → GivesFirst old new first → Reaches (in_type []) old new first (in_type [])
 none_walked g = record { run = []; given = g.0; walked = refl }
 
--- a type
+-- a type was walked
 pub type_walked : {old mid new : Remaining} {b : ℕ} {stop : Option ℕ} → GivesFirst old mid (Some b) → is_token_byte b ≡ true
     → (q : Passes is_token_byte mid new stop) → Reaches (in_type []) old new stop (in_type (b ∷ q.run))
 type_walked {b = b} g f q = record {
@@ -28,7 +28,7 @@ type_walked {b = b} g f q = record {
   walked = walk-type b q.run f q.of_class;
 }
 
--- a subtype after the slash
+-- a subtype was walked after the slash
 pub subtype_walked : {old mid from new : Remaining} {top : List ℕ} {b : ℕ} {stop : Option ℕ}
     → Reaches (in_type []) old mid None (in_subtype top []) → GivesFirst mid from (Some b) → is_token_byte b ≡ true
     → (q : Passes is_token_byte from new stop) → Reaches (in_type []) old new stop (in_subtype top (b ∷ q.run))
@@ -36,7 +36,7 @@ subtype_walked {top = top} {b = b} r g f q =
     reaches_run (reaches_byte (reaches_run r g.0 refl) (cond-true (is_token_byte b) _ _ f)) q.given
     (walk_from-subtype top b [] q.run q.of_class)
 
--- after the subtype, with the byte after it, if any
+-- the subtype was passed, with the byte after it, if any
 pub record Subtyped (top : List ℕ) (b : ℕ) (plus : Option ℕ) (old now : Remaining) (stop : Option ℕ) : Type 0 where
   pub others : List ℕ
   pub walked : Reaches (in_type []) old now stop (in_subtype top (b ∷ others))
@@ -44,11 +44,11 @@ pub record Subtyped (top : List ℕ) (b : ℕ) (plus : Option ℕ) (old now : Re
   pub plussed : plus ≡ last_plus (length top + 2) others
   pub counted : now.count ≡ old.count + (length top + 2 + length others + length (option_to_list stop))
 
--- the places of a text that ends in its subtype
+-- the positions of a text that ends in its subtype
 abbrev pub essence_places : ℕ → Option ℕ → Places
 essence_places slash plus = record { slash = slash; plus = plus; semicolon = None; pairs = 0 }
 
--- are those of its parts
+-- they are those of its parts
 pub essence_is : (slash : ℕ) (plus : Option ℕ) (top others : List ℕ) → slash ≡ length top → plus ≡ last_plus (length top + 2) others
     → essence_places slash plus ≡ essence_places (length top) (last_plus (length top + 2) others)
 essence_is slash plus top others e f = rw (e, f)

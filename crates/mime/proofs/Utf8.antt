@@ -55,7 +55,7 @@ lowered-parts front back partly is =
       lowered-drop n partly ∙ ap (drop n) whole ∙ drop_at (lowered front) (lowered back) n size,
     )
 
--- bytes above ASCII are told by their lowering
+-- a text with the lowering of bytes past ASCII is these bytes
 high_stays : (text partly : List ℕ) → lowered partly ≡ lowered text → ((k : ℕ) → k < length text → 128 ≤ get_or text k 0) → partly ≡ text
 high_stays [] [] is high = refl
 high_stays [] (c ∷ partly) is high = absurd cc
@@ -67,7 +67,7 @@ high_stays (b ∷ text) (c ∷ partly) is high =
     let rest : partly ≡ text = high_stays text partly (cc) (λ k l. high (suc k) (omega arith)) in
     cc
 
--- a character of ASCII with the same lowering is in UTF-8
+-- a text with the lowering of an ASCII character is in UTF-8
 of_ascii : (c : ℕ) (partly : List ℕ) → c < 128 → lowered partly ≡ lowered (c ∷ []) → IsUtf8 partly
 of_ascii c [] ascii is = absurd cc
 of_ascii c (b ∷ []) ascii is =
@@ -75,7 +75,7 @@ of_ascii c (b ∷ []) ascii is =
     IsUtf8-from_ascii (b ∷ []) (IsAscii-cons b [] (grind (arith, nat_tests)) IsAscii-nil)
 of_ascii c (b ∷ d ∷ partly) ascii is = absurd cc
 
--- so is any character
+-- so is one with the lowering of any character
 of_character : (c : ℕ) (partly : List ℕ) → scalar c ≡ true → lowered partly ≡ lowered (encode c) → IsUtf8 partly
 of_character c partly is low = ⊎_elim
     (λ ascii. of_ascii c partly ascii (low ∙ ap lowered (encode_ascii c ascii)))
@@ -88,7 +88,7 @@ of_character c partly is low = ⊎_elim
         (λ enough. enough)
         (cases_lt (get_or (encode c) k 0) 128)
 
--- so are characters
+-- so is one with the lowering of characters
 of_characters : (characters partly : List ℕ) → scalars characters ≡ true → lowered partly ≡ lowered (encodes characters) → IsUtf8 partly
 of_characters [] [] are is = IsUtf8-nil
 of_characters [] (b ∷ partly) are is = absurd cc

@@ -1,4 +1,4 @@
--- The verdict of the position where the scanner stops: what was walked to it, and what a text is that ends there.
+-- The scanner's verdict where it stops: what was walked up to there, and what a text is that ends there.
 use Rattle.std.proofs.Common.{◌≡◌, ℕ, ◌+◌, List, [], ◌∷◌, ◌++◌, length, Option, Some, None, MatchOption, refl, sym, ap, ◌∙◌, subst, arith, append-nil}
 use Rattle.std.specs.Option.{option_map}
 use Rattle.std.proofs.lemmas.List.{take_at}
@@ -20,13 +20,13 @@ use Rattle.mime.proofs.OneFault.{fault-from_lacks}
 
 -- ---- what was walked
 
--- one begun tree leads to another by the bytes given; one more byte may have been given
+-- the bytes given lead from one begun tree to another; one byte more may have been given
 pub record Reaches (start : Begun) (old now : Remaining) (stop : Option ℕ) (begun : Begun) : Type 0 where
   pub run : List ℕ
   pub given : Given old now run stop
   pub walked : walk_from start run ≡ Some begun
 
--- a run more
+-- one more run
 pub reaches_run : {start begun next : Begun} {old mid new : Remaining} {stop : Option ℕ} {run : List ℕ}
     → Reaches start old mid None begun → Given mid new run stop → walk_from begun run ≡ Some next → Reaches start old new stop next
 reaches_run {start} {begun} {run = run} r g e = record {
@@ -35,7 +35,7 @@ reaches_run {start} {begun} {run = run} r g e = record {
   walked = walk_from-append_some start begun r.run run r.walked ∙ e;
 }
 
--- the byte after it more
+-- the byte after it
 pub reaches_byte : {start begun next : Begun} {old now : Remaining} {b : ℕ}
     → Reaches start old now (Some b) begun → grow begun b ≡ Some next → Reaches start old now None next
 reaches_byte {start} {begun} {b = b} r e = record {
@@ -44,24 +44,24 @@ reaches_byte {start} {begun} {b = b} r e = record {
   walked = walk_from-append_some start begun r.run (b ∷ []) r.walked ∙ rw e;
 }
 
--- a list leads to another, after any type and subtype
+-- the bytes given lead from the start of a list to a begun list, after any type and subtype
 abbrev pub ListReaches : Remaining → Remaining → Option ℕ → BegunList → Type 0
 ListReaches old now stop list = (top sub : List ℕ) → Reaches (in_list top sub begun_list) old now stop (in_list top sub list)
 
--- a run more in a list
+-- one more run in a list
 pub list_run : {list next : BegunList} {old mid new : Remaining} {stop : Option ℕ} {run : List ℕ}
     → ListReaches old mid None list → Given mid new run stop → walk_list list run ≡ Some next → ListReaches old new stop next
 list_run {list} {run = run} r g e = λ top sub.
     reaches_run (r top sub) g (walk_from-in_list top sub list run ∙ ap (option_map (in_list top sub)) e)
 
--- the byte after it more
+-- the byte after it
 pub list_byte : {list next : BegunList} {old now : Remaining} {b : ℕ}
     → ListReaches old now (Some b) list → grow_list list b ≡ Some next → ListReaches old now None next
 list_byte r e = λ top sub. reaches_byte (r top sub) (ap (option_map (in_list top sub)) e)
 
 -- ---- a text that ends at a begun tree
 
--- the verdict at a byte that can't stand where it does, or at the end
+-- the verdict at a byte that can't follow, or at the end
 abbrev pub verdict_at : Option ℕ → Option Places → ParseError → Verdict
 verdict_at None None fault = Unfinished fault
 verdict_at None (Some places) fault = Accepted places
@@ -71,20 +71,20 @@ verdict_at (Some b) places fault = Stopped b places
 lacking-fault : (text : List ℕ) (begun : Begun) → walk text ≡ Some begun → tree_of begun ≡ None → IsFault text (lacking begun)
 lacking-fault text begun w e = fault-from_lacks text (lacking begun) (lacks-from_walk text begun w e)
 
--- a text that is walked to a complete tree has that tree's places
+-- a text that is walked to a complete tree has that tree's positions
 has_places : (text : List ℕ) (begun : Begun) (tree : SyntaxTree) → walk text ≡ Some begun → tree_of begun ≡ Some tree
     → HasPlaces text (places_of tree)
 has_places text begun tree w e =
     let found = accepted-from_walk text begun tree w e in
     record { tree = tree; well_formed = found.0; spelled = found.1; placed = refl }
 
--- it is judged by the tree that it makes, if any
+-- a text that is walked is judged by the tree that it makes, if any
 judged : (text : List ℕ) (begun : Begun) (tree : Option SyntaxTree) → walk text ≡ Some begun → tree_of begun ≡ tree
     → Judges text (length text) (verdict_at None (option_map places_of tree) (lacking begun))
 judged text begun None w e = (refl, lacking-fault text begun w e, viable-from_walk text begun w)
 judged text begun (Some tree) w e = (refl, has_places text begun tree w e)
 
--- so is what stands before a byte that leads nowhere
+-- so is the text before a byte that leads nowhere
 judged_before : (text : List ℕ) (begun : Begun) (tree : Option SyntaxTree) → walk text ≡ Some begun → tree_of begun ≡ tree
     → MatchOption (option_map places_of tree) (IsRefused text) (λ places. HasPlaces text places)
 judged_before text begun None w e = refused-from_walk text begun w e
@@ -118,13 +118,13 @@ scans_at {now = now} {stop = Some b} {begun = begun} places r dead e =
 
 -- ---- a text that ends at a begun list
 
--- closed parameters each count
+-- how many pairs the closed parameters and the rest have
 length-with_closed : (closed : List (List ℕ × Parameter)) (rest : Parameters)
     → length (pairs_of_list (with_closed closed rest)) ≡ length closed + length (pairs_of_list rest)
 length-with_closed [] rest = omega arith
 length-with_closed ((n, parameter) ∷ closed) rest = length-with_closed closed (more n parameter rest) ∙ omega arith
 
--- the places of a text that ends in a list, if it may, with those before the list
+-- the positions of a text that ends in a list, if it may end there, with those before the list
 abbrev pub places_of_list : Places → BegunList → Option Places
 places_of_list head list =
     option_map (λ rest. record head { pairs = head.pairs + (length list.closed + length (pairs_of_list rest)) })

@@ -1,4 +1,4 @@
--- How far a text may still become a media type, and what it lacks, read off the begun tree that it is walked to.
+-- Which texts may still become a media type, and what such a text lacks, read off the begun tree that it is walked to.
 use Rattle.std.proofs.Common.{◌≡◌, ℕ, Bool, suc, ◌+◌, ◌-◌, List, [], ◌∷◌, ◌++◌, length, take, Option, Some, None, refl, sym, ap, ◌∙◌, subst, arith, append_assoc, append-nil, length-append, ⊎_elim, codes}
 use Rattle.std.proofs.Math.Seq.{take-append_seam, take-append-add, take-length}
 use Rattle.std.proofs.lemmas.Bool.{cases_order}
@@ -34,7 +34,7 @@ accepted-from_complete text begun tree walked complete =
 abbrev pub completes : Begun → List ℕ → Bool
 completes begun more = is_some (option_and_then tree_of (walk_from begun more))
 
--- one that does makes the text an accepted one
+-- a continuation that does makes the text an accepted one
 pub accepted-from_completes : (text more : List ℕ) (begun : Begun) → walk text ≡ Some begun → IsTrue (completes begun more)
     → IsAccepted (text ++ more)
 accepted-from_completes text more begun walked passes =
@@ -65,7 +65,7 @@ walk_from-open top sub closed n name content more all =
     walk_from-in_list top sub (list_at closed (in_quotes n name content)) more
     ∙ ap (option_map (in_list top sub)) (walk_list-open closed n name content more all)
 
--- a letter and a quote complete it
+-- a letter and a quote complete an open quoted value
 completes-open_quotes : (top sub : List ℕ) (closed : Closed) (n name content : List ℕ)
     → IsTrue (completes (in_list top sub (list_at closed (in_quotes n name content))) (codes "x\""))
 completes-open_quotes top sub closed n name content =
@@ -76,7 +76,7 @@ completes-open_quotes top sub closed n name content =
     ∙ ap (λ o. is_some (option_and_then tree_of (option_and_then (λ next. walk_from next []) (option_map (in_list top sub) o))))
     (cond-false (continues (content ++ (120 ∷ [])) quote_byte) _ _ (closed-letter content))
 
--- a text that may not end where it ends lacks what its place says
+-- a text that may not end where it ends lacks what the state at its end says
 pub lacks-from_walk : (text : List ℕ) (begun : Begun) → walk text ≡ Some begun → tree_of begun ≡ None → Lacks text (lacking begun)
 unfolding is_token_byte
 lacks-from_walk text (in_type []) walked unfinished =
@@ -126,14 +126,14 @@ viable-from_walk text begun walked = reached (tree_of begun) refl
     reached None unfinished = viable-from_lacks text (lacking begun) (lacks-from_walk text begun walked unfinished)
     reached (Some tree) complete = accepted_is_viable text (accepted-from_complete text begun tree walked complete)
 
--- a text that can't be walked may not
+-- a text that can't be walked isn't viable
 pub not_viable-from_walk : (text : List ℕ) → walk text ≡ None → IsViable text → ⊥
 not_viable-from_walk text stopped viable =
     stopped-from_walk (text ++ viable.0)
     (walk_by-append grow (in_type []) text viable.0 ∙ ap (option_and_then (λ next. walk_from next viable.0)) stopped)
     viable.1
 
--- a text that may still become a media type can be walked
+-- a viable text can be walked
 pub walk-from_viable : (text : List ℕ) → IsViable text → (begun : Begun) × (walk text ≡ Some begun)
 walk-from_viable text viable = reached (walk text) refl
   where
@@ -141,11 +141,11 @@ walk-from_viable text viable = reached (walk text) refl
     reached None stopped = absurd (not_viable-from_walk text stopped viable)
     reached (Some begun) walked = (begun, walked)
 
--- the empty text may still become a media type
+-- the empty text is viable
 pub empty_is_viable : EmptyIsViable
 empty_is_viable = viable-from_walk [] (in_type []) refl
 
--- so may what a text begins with that may
+-- each beginning of a viable text is viable
 pub front_of_viable_is_viable : FrontOfViableIsViable
 front_of_viable_is_viable front more viable =
     (more ++ viable.0, subst IsAccepted (append_assoc front more viable.0) viable.1)
@@ -181,7 +181,7 @@ front-from_walk front rest b begun walked dead = record {
       (walk-dead front (take (n - suc (length front)) rest) b begun walked dead) (subst IsViable text viable);
 }
 
--- a text has one front
+-- a text has at most one front
 pub front_unique : (text : List ℕ) (m n : ℕ) → IsFront text m → IsFront text n → m ≡ n
 front_unique text m n first second =
     ⊎_elim (λ same. same)
@@ -191,30 +191,30 @@ front_unique text m n first second =
 
 -- ---- the fault
 
--- the text ends in its type
+-- the fault of a text that ends in its type
 pub slash_fault-from_walk : (text top : List ℕ) → walk text ≡ Some (in_type top) → IsFault text MissingSlash
 slash_fault-from_walk text top walked = lacks-from_walk text (in_type top) walked refl
 
--- the text ends in its slash
+-- the fault of a text that ends in its slash
 pub subtype_fault-from_walk : (text top : List ℕ) → walk text ≡ Some (in_subtype top []) → IsFault text MissingSubtype
 subtype_fault-from_walk text top walked = lacks-from_walk text (in_subtype top []) walked refl
 
--- the text ends in a parameter's name
+-- the fault of a text that ends in a parameter's name
 pub equal_fault-from_walk : (text top sub : List ℕ) (closed : Closed) (n name : List ℕ)
     → walk text ≡ Some (in_list top sub (list_at closed (in_name n name))) → IsFault text MissingEqual
 equal_fault-from_walk text top sub closed n name walked = lacks-from_walk text _ walked refl
 
--- the text ends in a parameter's equals sign
+-- the fault of a text that ends in a parameter's equals sign
 pub value_fault-from_walk : (text top sub : List ℕ) (closed : Closed) (n name : List ℕ)
     → walk text ≡ Some (in_list top sub (list_at closed (in_value n name []))) → IsFault text MissingValue
 value_fault-from_walk text top sub closed n name walked = lacks-from_walk text _ walked refl
 
--- the text ends in an open quoted value
+-- the fault of a text that ends in an open quoted value
 pub quote_fault-from_walk : (text top sub : List ℕ) (closed : Closed) (n name content : List ℕ)
     → walk text ≡ Some (in_list top sub (list_at closed (in_quotes n name content))) → IsFault text MissingQuote
 quote_fault-from_walk text top sub closed n name content walked = lacks-from_walk text _ walked refl
 
--- the text goes on by a byte that leads nowhere
+-- the fault of a text that goes on with a byte that leads nowhere
 pub dead-from_walk : (front rest : List ℕ) (b : ℕ) (begun : Begun) → walk front ≡ Some begun → grow begun b ≡ None
     → IsFault (front ++ (b ∷ rest)) (InvalidToken (length front) b)
 dead-from_walk front rest b begun walked dead = record {

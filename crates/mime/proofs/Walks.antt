@@ -1,4 +1,4 @@
--- What a walk over a joined text or over a run of one class comes to.
+-- What a walk over a joined text or over a run of one class leads to.
 use Rattle.std.proofs.Common.{◌≡◌, ℕ, Bool, List, [], ◌∷◌, ◌++◌, Option, Some, None, refl, sym, ap, ◌∙◌, subst, append_assoc, append-nil}
 use Rattle.std.proofs.lemmas.Bool.{and_parts, cond-true}
 use Rattle.std.specs.Prelude.{IsTrue}
@@ -32,7 +32,7 @@ walk_by-append_some : {S : Type 0} (step : S → ℕ → Option S) (state next :
 walk_by-append_some step state next xs ys e =
     walk_by-append step state xs ys ∙ ap (option_and_then (λ s. walk_by step s ys)) e
 
--- a place that each byte of a class lengthens takes a run of the class
+-- a state that each byte of a class lengthens takes a run of the class
 walk_by-run : {S : Type 0} (step : S → ℕ → Option S) (class : ℕ → Bool) (place : List ℕ → S)
     → ((taken : List ℕ) (b : ℕ) → IsTrue (class b) → step (place taken) b ≡ Some (place (taken ++ (b ∷ []))))
     → (taken run : List ℕ) → IsTrue (list_all class run) → walk_by step (place taken) run ≡ Some (place (taken ++ run))
@@ -45,12 +45,12 @@ walk_by-run step class place takes taken (b ∷ run) all =
 
 -- ---- from a begun tree
 
--- it takes a step and goes on
+-- a walk takes a step and goes on
 pub walk_from-step : (begun next : Begun) (b : ℕ) (bytes : List ℕ) → grow begun b ≡ Some next
     → walk_from begun (b ∷ bytes) ≡ walk_from next bytes
 walk_from-step = walk_by-step grow
 
--- and goes on from where the first part led
+-- a walk goes on from where the first part led
 pub walk_from-append_some : (begun next : Begun) (xs ys : List ℕ) → walk_from begun xs ≡ Some next
     → walk_from begun (xs ++ ys) ≡ walk_from next ys
 walk_from-append_some = walk_by-append_some grow
@@ -79,7 +79,7 @@ walk_from-subtype top s =
 
 -- ---- within a list
 
--- the walk goes on from where the first part led
+-- a walk goes on from where the first part led
 pub walk_list-append_some : (list next : BegunList) (xs ys : List ℕ) → walk_list list xs ≡ Some next
     → walk_list list (xs ++ ys) ≡ walk_list next ys
 walk_list-append_some = walk_by-append_some grow_list

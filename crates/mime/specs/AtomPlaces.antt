@@ -4,15 +4,15 @@ use Rattle.mime.specs.declared.atoms.Atom.{Atom}
 use Rattle.mime.specs.declared.atoms.Atom.TheVariants.{STAR_STAR, TEXT_STAR, TEXT_PLAIN, TEXT_PLAIN_UTF_8, TEXT_HTML, TEXT_HTML_UTF_8, TEXT_CSS, TEXT_CSS_UTF_8, TEXT_JAVASCRIPT, TEXT_XML, TEXT_EVENT_STREAM, TEXT_CSV, TEXT_CSV_UTF_8, TEXT_TAB_SEPARATED_VALUES, TEXT_TAB_SEPARATED_VALUES_UTF_8, TEXT_VCARD, IMAGE_STAR, IMAGE_JPEG, IMAGE_GIF, IMAGE_PNG, IMAGE_BMP, IMAGE_SVG, FONT_WOFF, FONT_WOFF2, APPLICATION_JSON, APPLICATION_JAVASCRIPT, APPLICATION_JAVASCRIPT_UTF_8, APPLICATION_WWW_FORM_URLENCODED, APPLICATION_OCTET_STREAM, APPLICATION_MSGPACK, APPLICATION_PDF, MULTIPART_FORM_DATA}
 use Rattle.mime.specs.declared.scan.Places.{Places}
 
--- of a text without a suffix and without a parameter
+-- the positions in a text without a suffix and without a parameter
 abbrev pub bare_places : ℕ → Places
 bare_places slash = record { slash = slash; plus = None; semicolon = None; pairs = 0 }
 
--- of a text with a charset alone
+-- the positions in a text with a charset alone
 abbrev pub charset_places : ℕ → ℕ → Places
 charset_places slash semicolon = record { slash = slash; plus = None; semicolon = Some semicolon; pairs = 1 }
 
--- where the parts of a constant's text are
+-- the positions of the parts of a constant's text
 abbrev pub atom_places : Atom → Places
 atom_places STAR_STAR = bare_places 1
 atom_places TEXT_STAR = bare_places 4

@@ -38,7 +38,7 @@ atom_text APPLICATION_MSGPACK = codes "application/msgpack"
 atom_text APPLICATION_PDF = codes "application/pdf"
 atom_text MULTIPART_FORM_DATA = codes "multipart/form-data"
 
--- the texts of the constants, in their order; the last is the old spelling of `TEXT_JAVASCRIPT`
+-- the texts of the constants, in the order of `atom_constants`; the last is that of `TEXT_JAVSCRIPT`, the old spelling
 abbrev pub atom_table : List (List ℕ)
 atom_table =
     codes "*/*" ∷ codes "text/*" ∷ codes "text/plain" ∷ codes "text/plain; charset=utf-8" ∷ codes "text/html"

@@ -15,7 +15,7 @@ OneCut =
     → (items : List CutItem) × (rest : List ℕ) × Cut text items rest
     × ((others : List CutItem) (left : List ℕ) → Cut text others left → (others ≡ items) × (left ≡ rest))
 
--- pieces and characters, one after the other
+-- the text of the pieces, with the character after each, and of the last piece
 abbrev pub text_of_pieces : List (List ℕ × List ℕ) → List ℕ → List ℕ
 text_of_pieces [] end = end
 text_of_pieces ((piece, character) ∷ pieces) end = piece ++ (character ++ text_of_pieces pieces end)
@@ -31,24 +31,24 @@ CutWritesText =
 abbrev pub OneCount : Type 0
 OneCount = (text : List ℕ) → (steps : ℕ) × TakesSteps text steps × ((other : ℕ) → TakesSteps text other → other ≡ steps)
 
--- a rest that a comma follows is an item if it isn't empty
+-- the items of a rest that a comma follows: the rest as a bad piece, or none if it is empty
 abbrev pub items_of_rest : List ℕ → List CutItem
 items_of_rest [] = []
 items_of_rest (b ∷ rest) = bad (b ∷ rest) ∷ []
 
--- A comma ends what stands before it, unless that is an open quoted value, and what comes after it is cut as it is alone.
+-- A comma ends whatever precedes it, unless that is an open quoted value, and what comes after it is cut as it is alone.
 abbrev pub CommaContains : Type 0
 CommaContains =
     (before after : List ℕ) (items others : List CutItem) (rest end : List ℕ) → Cut before items rest → ¬ (IsUnclosed rest)
     → Cut after others end → Cut (before ++ (comma_byte ∷ after)) (items ++ (items_of_rest rest ++ others)) end
 
--- the kept texts with a comma and a space between each and the next
+-- the kept texts of the values, with a comma and a space between each and the next
 abbrev pub joined : List MediaType → List ℕ
 joined [] = []
 joined (value ∷ []) = value.kept
 joined (value ∷ next ∷ values) = value.kept ++ (comma_byte ∷ space_byte ∷ joined (next ∷ values))
 
--- some text is read as the value
+-- the value was read: some text is read as it
 abbrev pub IsRead : MediaType → Type 0
 IsRead value = (text : List ℕ) × Reads text value
 
@@ -56,11 +56,11 @@ IsRead value = (text : List ℕ) × Reads text value
 abbrev pub kept_item : MediaType → CutItem
 kept_item value = good value.kept value
 
--- Values that were read come back from their joined kept texts, and nothing else does.
+-- The joined kept texts of values that were read are cut into these values, and nothing else.
 abbrev pub JoinedComesBack : Type 0
 JoinedComesBack = (values : List MediaType) → AllByRecursion IsRead values → Cut (joined values) (map kept_item values) []
 
--- In a text of valid UTF-8 what is passed is one character, between texts of valid UTF-8.
+-- In a text of valid UTF-8 what is passed after a piece is one character, and the texts before and after it are valid UTF-8.
 abbrev pub PassesOneCharacter : Type 0
 PassesOneCharacter =
     (text piece character left : List ℕ) → IsUtf8 text → IsSplit text piece character left

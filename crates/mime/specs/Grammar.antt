@@ -1,4 +1,4 @@
--- What the text of a media type is: its trees, the text of each, and which are well formed
+-- The grammar of media types: the syntax trees, the text of each, and which trees are well formed
 -- (RFC 7231, 3.1.1.1, with the departures that docs/DIFFERENCES.md lists).
 use Rattle.std.specs.Prelude.{ℕ, List, [], ◌∷◌, ◌++◌, ◌==◌, ◌||◌, Bool, IsTrue}
 use Rattle.std.specs.List.{list_all}
@@ -69,22 +69,22 @@ pub data IsContent : List ℕ → Type 0 where
   text_byte : (b : ℕ) (content : List ℕ) → IsTrue (is_quoted_text_byte b) → IsContent content → IsContent (b ∷ content)
   quoted_pair : (b : ℕ) (content : List ℕ) → IsTrue (is_quoted_byte b) → IsContent content → IsContent (backslash_byte ∷ b ∷ content)
 
--- a parameter
+-- a parameter is well formed: its name is a token, and its value a token or quoted content, with only spaces after the quotes
 abbrev pub IsParameter : Parameter → Type 0
 IsParameter (plain name value) = IsToken name × IsToken value
 IsParameter (quoted name content n) = IsToken name × IsContent content × AreSpaces n
 
--- a parameter list
+-- a parameter list is well formed: its spaces are spaces, and its parameters are well formed
 abbrev pub AreParameters : Parameters → Type 0
 AreParameters (blank n) = AreSpaces n
 AreParameters (final n parameter) = AreSpaces n × IsParameter parameter
 AreParameters (more n parameter rest) = AreSpaces n × IsParameter parameter × AreParameters rest
 
--- what follows the subtype
+-- what follows the subtype is well formed: nothing, or a semicolon and a well-formed parameter list
 abbrev pub IsTail : Tail → Type 0
 IsTail no_list = Unit {0}
 IsTail (listed parameters) = AreParameters parameters
 
--- a well-formed tree
+-- a tree is well formed: its type and its subtype are tokens, and its tail is well formed
 abbrev pub IsWellFormed : SyntaxTree → Type 0
 IsWellFormed tree = IsToken tree.top × IsToken tree.sub × IsTail tree.tail

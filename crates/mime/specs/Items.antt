@@ -1,16 +1,16 @@
--- What callers see of parameters: each as two names, one with the parameter's name and one with its value.
+-- What callers see of a parameter: two names, one with the parameter's name and one with its value.
 use Rattle.std.specs.Prelude.{◌≡◌, ℕ, Bool, true, List, [], ◌∷◌, map, codes, Option, Some, None}
 use Rattle.std.specs.Str.{bytes_eq}
 use Rattle.mime.specs.Values.{lowered}
 
--- a name and a value, each with its flag "ignores case"
+-- a parameter's name and its value, each with a flag that says whether it ignores ASCII case
 pub record Item : Type 0 where
   pub name : List ℕ
   pub name_ignores_case : Bool
   pub value : List ℕ
   pub value_ignores_case : Bool
 
--- the name ignores case; the value does exactly if the name is `charset`
+-- the item of a pair: its name ignores case, and its value does exactly if the name is `charset`
 abbrev pub item_of : List ℕ × List ℕ → Item
 item_of (name, value) = record {
   name = name;
@@ -22,15 +22,15 @@ item_of (name, value) = record {
 abbrev pub items_of : List (List ℕ × List ℕ) → List Item
 items_of pairs = map item_of pairs
 
--- a name that ignores case holds no ASCII capital
+-- a text has no ASCII capital if it ignores case
 abbrev pub IsLowIf : Bool → List ℕ → Type 0
 IsLowIf ignores_case text = ignores_case ≡ true → lowered text ≡ text
 
--- neither name of an item breaks that
+-- an item's name and its value have no ASCII capitals where their flags say that they ignore case
 abbrev pub IsLowItem : Item → Type 0
 IsLowItem item = IsLowIf item.name_ignores_case item.name × IsLowIf item.value_ignores_case item.value
 
--- the value of the first item whose name a key accepts, or none where it accepts none
+-- what is found: the value and its flag of the first item whose name a key accepts, or none if it accepts no name
 abbrev pub IsFirstAccepted : (List ℕ → Bool → Type 0) → List Item → Option (List ℕ × Bool) → Type 0
 IsFirstAccepted Accepts [] found = found ≡ None
 IsFirstAccepted Accepts (item ∷ items) found =

@@ -20,7 +20,7 @@ OneReading = (text : List ℕ) (first second : MediaType) → Reads text first �
 abbrev pub EmptyIsViable : Type 0
 EmptyIsViable = IsViable []
 
--- What a viable text begins with is viable.
+-- Each beginning of a viable text is viable.
 abbrev pub FrontOfViableIsViable : Type 0
 FrontOfViableIsViable = (front more : List ℕ) → IsViable (front ++ more) → IsViable front
 
@@ -28,17 +28,17 @@ FrontOfViableIsViable = (front more : List ℕ) → IsViable (front ++ more) →
 abbrev pub AcceptedIsViable : Type 0
 AcceptedIsViable = (text : List ℕ) → IsAccepted text → IsViable text
 
--- Exactly one of five things is missing from a viable refused text: its completion makes the text an accepted one.
+-- A viable refused text lacks exactly one of five things: the completion of that one makes it an accepted text.
 abbrev pub OneCompletion : Type 0
 OneCompletion =
     (text : List ℕ) → IsViable text → IsRefused text
     → (fault : ParseError) × Lacks text fault × ((other : ParseError) → Lacks text other → other ≡ fault)
 
--- A text that lacks one of them is refused.
+-- A text that lacks something is refused.
 abbrev pub CompletedIsRefused : Type 0
 CompletedIsRefused = (text : List ℕ) (fault : ParseError) → Lacks text fault → IsRefused text
 
--- Nothing makes a text that isn't viable an accepted one.
+-- A text that isn't viable is refused, whatever follows it.
 abbrev pub NoCompletion : Type 0
 NoCompletion = (text more : List ℕ) → ¬ (IsViable text) → IsRefused (text ++ more)
 
@@ -56,7 +56,7 @@ OneFront = (text : List ℕ) → (count : ℕ) × IsFront text count × ((other 
 abbrev pub FrontEndsBetweenCharacters : Type 0
 FrontEndsBetweenCharacters = (text : List ℕ) (count : ℕ) → IsUtf8 text → IsFront text count → IsCharBoundary text count
 
--- no plus stands in the text from a position on
+-- the text has no plus at position `from` or later, in bytes from 0
 abbrev pub HasNoPlusFrom : List ℕ → ℕ → Type 0
 HasNoPlusFrom text from = (place : ℕ) → from ≤ place → slice_get text place ≢ Some plus_byte
 
@@ -79,15 +79,15 @@ OneOf first second =
     ⊎ ((Same first second × ¬ (Before first second) × ¬ (Before second first))
     ⊎ (Before second first × ¬ (Same first second) × ¬ (Before first second)))
 
--- Of two values the first comes before the second, or they are equal, or the second comes before the first.
+-- Of two values exactly one is so: the first comes before the second, they are equal, the second comes before the first.
 abbrev pub OneOrder : Type 0
 OneOrder = (first second : MediaType) → OneOf first second
 
--- What comes before a value comes before all that comes after it.
+-- A value that comes before another comes before all values that come after that one.
 abbrev pub BeforeIsTransitive : Type 0
 BeforeIsTransitive = (first second third : MediaType) → Before first second → Before second third → Before first third
 
--- A text is a value without parameters exactly where the text in small letters is the kept text.
+-- A text is equal to a value without parameters exactly where the text, lowered, is the kept text.
 abbrev pub BareTextIs : Type 0
 BareTextIs =
     (text : List ℕ) (value : MediaType) → Reads text value → value.pairs ≡ []

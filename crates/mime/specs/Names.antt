@@ -1,13 +1,13 @@
--- Names: a text with a flag that says whether it ignores case, how names compare, and the constants.
+-- Names, each a text with a flag that says whether it ignores ASCII case: when a name equals a text, and the constants.
 use Rattle.std.specs.Prelude.{◌≡◌, ℕ, Bool, true, false, List, [], ◌∷◌, codes}
 use Rattle.mime.specs.Values.{lowered}
 
--- a name is a text: without regard to ASCII case where it ignores case, else byte for byte
+-- a name is equal to a text: if it ignores case (`true`), without regard to ASCII case, else byte for byte
 abbrev pub NameIs : List ℕ → Bool → List ℕ → Type 0
 NameIs name true text = lowered name ≡ lowered text
 NameIs name false text = name ≡ text
 
--- the texts of the constants, in their order; each ignores case
+-- the texts of the constants, in the order of `name_constants`; each ignores case
 abbrev pub name_table : List (List ℕ)
 name_table =
     codes "*" ∷ codes "text" ∷ codes "image" ∷ codes "audio" ∷ codes "video"

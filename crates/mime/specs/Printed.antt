@@ -1,15 +1,15 @@
--- How a refusal is printed.
+-- How an error is printed.
 use Rattle.std.specs.Prelude.{ℕ, true, List, ◌++◌, codes}
 use Rattle.std.specs.Fmt.{digits, decimal}
 use Rattle.mime.specs.declared.scan.fault.ParseError.{ParseError}
 use Rattle.mime.specs.declared.scan.fault.ParseError.TheVariants.{MissingSlash, MissingSubtype, MissingEqual, MissingValue, MissingQuote, InvalidToken, NoMemory}
 
--- a byte in capital hexadecimal without leading zeros, and its position in decimal
+-- a byte in capital hexadecimal without leading zeros, and its position (in bytes from 0) in decimal
 abbrev pub token_text : ℕ → ℕ → List ℕ
 token_text pos byte =
     codes "an invalid token was encountered, " ++ (digits 16 true byte ++ (codes " at position " ++ decimal pos))
 
--- what a fault prints
+-- what a `ParseError` prints
 abbrev pub fault_text : ParseError → List ℕ
 fault_text MissingSlash = codes "a slash (/) was missing between the type and subtype"
 fault_text MissingSubtype = codes "a subtype was missing behind the slash (/)"
@@ -19,6 +19,6 @@ fault_text MissingQuote = codes "a quote (\") was missing from a parameter value
 fault_text (InvalidToken pos byte) = token_text pos byte
 fault_text NoMemory = codes "memory ran out"
 
--- what the error of a refused text prints
+-- what a `FromStrError` prints
 abbrev pub error_text : ParseError → List ℕ
 error_text fault = codes "mime parse error: " ++ fault_text fault

@@ -1,16 +1,16 @@
--- Private. What stands between quotes, byte by byte: which byte may come next, and where it ends.
+-- Private. Quoted content, byte by byte: which byte may come next, and where the content ends.
 use Rattle.std.specs.Prelude.{ℕ, zero, suc, ◌+◌, Bool, true, false, IsTrue, List, [], ◌∷◌, take, drop, if◌then◌else◌, ◌==◌, ◌&&◌, not}
 use Rattle.mime.specs.Bytes.{is_quoted_byte, quote_byte, backslash_byte}
 
--- whether a byte must come that can't close the value, at its start
+-- whether a byte is awaited, one that can't close the value: at its start none is
 abbrev pub awaits_first : Bool
 awaits_first = false
 
--- and after one more byte: after a backslash that isn't itself the second byte of a pair
+-- and after one more byte: one is after a backslash that doesn't end a pair
 abbrev pub awaits_next : Bool → ℕ → Bool
 awaits_next awaiting b = not awaiting && b == backslash_byte
 
--- whether the value takes a byte
+-- whether the value takes a byte, an awaited one (`true`) or another
 abbrev pub takes : Bool → ℕ → Bool
 takes true b = is_quoted_byte b
 takes false b = is_quoted_byte b && not (b == quote_byte)
@@ -20,20 +20,20 @@ abbrev pub takes_all : Bool → List ℕ → Bool
 takes_all awaiting [] = true
 takes_all awaiting (b ∷ bytes) = takes awaiting b && takes_all (awaits_next awaiting b) bytes
 
--- whether it awaits one after them
+-- whether a byte is awaited after them
 abbrev pub awaits_behind : Bool → List ℕ → Bool
 awaits_behind awaiting [] = awaiting
 awaits_behind awaiting (b ∷ bytes) = awaits_behind (awaits_next awaiting b) bytes
 
--- what may stand after an opening quote
+-- what may follow an opening quote
 abbrev pub IsOpenContent : List ℕ → Type 0
 IsOpenContent content = IsTrue (takes_all awaits_first content)
 
--- whether a byte may follow it there; else a quote closes it
+-- whether such content takes one more byte; a quote that it doesn't take closes it
 abbrev pub continues : List ℕ → ℕ → Bool
 continues content b = takes (awaits_behind awaits_first content) b
 
--- how many bytes stand before the quote that closes, or in all
+-- the number of bytes before the closing quote, or of all bytes if there is none
 abbrev pub len_from : Bool → List ℕ → ℕ
 len_from awaiting [] = zero
 len_from awaiting (b ∷ bytes) =
@@ -42,7 +42,7 @@ len_from awaiting (b ∷ bytes) =
 abbrev pub content_len : List ℕ → ℕ
 content_len text = len_from awaits_first text
 
--- the content that a text begins with, and what stands after its closing quote
+-- the content that a text begins with, and the text after its closing quote
 abbrev pub content_of : List ℕ → List ℕ
 content_of text = take (content_len text) text
 

@@ -12,7 +12,7 @@ use Rattle.mime.specs.Runs.{Iteration, IsNext}
 use Rattle.mime.specs.declared.iter.Bad.{Bad}
 use Rattle.mime.specs.declared.iter.Bad.TheVariants.{Piece, NoMemory}
 
--- what was given are the items in order
+-- what a run gave is the items in order, or the first of them and then out of memory:
 pub data AreGiven : List (Result OwnedMedia Bad) → List CutItem → Type 0 where
   none_left : AreGiven [] []
   -- a media type for a good piece,
@@ -31,8 +31,8 @@ RunGivesCut =
     (first : Iteration) (given : List (Result OwnedMedia Bad)) → Drains IsNext first given
     → (items : List CutItem) (rest : List ℕ) → Cut first.left items rest → AreGiven given items
 
--- A run over a text with a comma gives the items of what stands before it, the rest of that, and then the items of what
--- comes after it, unless the rest is an open quoted value.
+-- A run over a text with a comma gives the items of the text before it, the rest of that, and then the items of the text
+-- after it, unless the rest is an open quoted value.
 abbrev pub CommaContainsOnRuns : Type 0
 CommaContainsOnRuns =
     (before after : List ℕ) (items others : List CutItem) (rest end : List ℕ) → Cut before items rest → ¬ (IsUnclosed rest)

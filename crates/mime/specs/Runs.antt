@@ -5,18 +5,18 @@ use Rattle.mime.specs.Cut.{CutItem, good, bad, Cut, TakesSteps}
 use Rattle.mime.specs.declared.iter.Bad.{Bad}
 use Rattle.mime.specs.declared.iter.Bad.TheVariants.{Piece, NoMemory}
 
--- the whole text, what is left of it, whether it ran out of memory, and the steps that were taken
+-- a `MimeIter`: the whole text, what is left of it, whether memory ran out, and the steps so far
 pub record Iteration : Type 0 where
   pub text : List ℕ
   pub left : List ℕ
   pub starved : Bool
   pub steps : ℕ
 
--- it has ended where nothing is left
+-- it has ended: nothing is left
 abbrev pub HasEnded : Iteration → Type 0
 HasEnded i = i.left ≡ []
 
--- the cut of the text is this item, and then the cut of what is left
+-- the first item of the text's cut is this one, and the others are those of the cut of what is left
 abbrev pub IsFirstItem : List ℕ → CutItem → List ℕ → Type 0
 IsFirstItem text item left = (items : List CutItem) (rest : List ℕ) → Cut left items rest → Cut text (item ∷ items) rest
 
@@ -33,7 +33,7 @@ pub record NeedsMemory (text : List ℕ) : Type 0 where
 abbrev pub HasNoItem : List ℕ → Type 0
 HasNoItem text = (rest : List ℕ) × Cut text [] rest
 
--- what is given: an item, none, or that it ran out of memory
+-- what a call gives: none, a media type, a bad piece, or out of memory
 abbrev pub GivesItem : Iteration → Option (Result OwnedMedia Bad) → Iteration → Type 0
 GivesItem old None new = HasNoItem old.left × HasEnded new × (new.starved ≡ old.starved)
 GivesItem old (Some (Ok mime)) new =
@@ -41,15 +41,15 @@ GivesItem old (Some (Ok mime)) new =
 GivesItem old (Some (Err (Piece piece))) new = IsFirstItem old.left (bad piece.now) new.left × (new.starved ≡ old.starved)
 GivesItem old (Some (Err NoMemory)) new = NeedsMemory old.left × HasEnded new × (new.starved ≡ true)
 
--- one call of `next`
+-- one call of `next` makes the old iterator the new one, and returns the result
 pub record IsNext (old : Iteration) (result : Option (Result OwnedMedia Bad)) (new : Iteration) : Type 0 where
-  -- the first item of the cut of what was left, or none where it has none, or out of memory
+  -- it gives the first item of the cut of what was left, none if there is no item, or out of memory
   pub item : GivesItem old result new
-  -- the text is the same
+  -- the text stays the same
   pub text : new.text ≡ old.text
-  -- the steps are at most twice the bytes,
+  -- the steps are at most twice the bytes of the text,
   pub few : new.steps ≤ 2 * length new.text
-  -- and at the end, unless it ran out of memory, exactly those that the text takes
+  -- and at the end, unless memory ran out, exactly those that the text takes
   pub exact : HasEnded new → new.starved ≡ false → TakesSteps new.text new.steps
-  -- what has ended stays so
+  -- an iterator that has ended gives none, and stays as it is
   pub stays : HasEnded old → (result ≡ None) × (new ≡ old)

@@ -5,7 +5,7 @@ use Rattle.std.specs.Option.{option_or, option_map}
 use Rattle.mime.specs.Bytes.{slash_byte, plus_byte}
 use Rattle.mime.specs.Grammar.{Parameter, plain, quoted, Parameters, blank, final, more, Tail, no_list, listed, SyntaxTree, text_of, IsWellFormed}
 
--- the text with its ASCII capitals made small
+-- the text with each ASCII capital replaced by its small letter
 abbrev pub lowered : List ℕ → List ℕ
 lowered text = str_to_ascii_lowercase text
 
@@ -13,11 +13,11 @@ lowered text = str_to_ascii_lowercase text
 abbrev pub is_charset : List ℕ → Bool
 is_charset name = bytes_eq (lowered name) (codes "charset")
 
--- a value is lowered exactly under `charset`
+-- a parameter's value, lowered if the parameter's name is `charset`
 abbrev pub lowered_value : List ℕ → List ℕ → List ℕ
 lowered_value name value = if is_charset name then lowered value else value
 
--- a parameter, a list and a tail with all lowered that ignores case
+-- a parameter, a list and a tail with each name lowered, and each value that belongs to a `charset`
 abbrev pub lowered_parameter : Parameter → Parameter
 lowered_parameter (plain name value) = plain (lowered name) (lowered_value name value)
 lowered_parameter (quoted name content n) = quoted (lowered name) (lowered_value name content) n
@@ -31,16 +31,16 @@ abbrev pub lowered_tail : Tail → Tail
 lowered_tail no_list = no_list
 lowered_tail (listed parameters) = listed (lowered_list parameters)
 
--- the tree with all lowered that ignores case
+-- the tree with its type, its subtype, each name and each value of a `charset` lowered
 abbrev pub lowered_tree : SyntaxTree → SyntaxTree
 lowered_tree tree = record { top = lowered tree.top; sub = lowered tree.sub; tail = lowered_tail tree.tail }
 
--- name and content of a parameter, without its quotes
+-- a parameter's name and value; a quoted value is taken without its quotes, and with its backslashes
 abbrev pub pair_of : Parameter → List ℕ × List ℕ
 pair_of (plain name value) = (name, value)
 pair_of (quoted name content n) = (name, content)
 
--- the pairs of a list and of a tail, in the text's order
+-- the pairs of name and value of a list and of a tail, in the text's order
 abbrev pub pairs_of_list : Parameters → List (List ℕ × List ℕ)
 pairs_of_list (blank n) = []
 pairs_of_list (final n parameter) = pair_of parameter ∷ []
@@ -50,12 +50,12 @@ abbrev pub pairs_of_tail : Tail → List (List ℕ × List ℕ)
 pairs_of_tail no_list = []
 pairs_of_tail (listed parameters) = pairs_of_list parameters
 
--- the last position of a plus in bytes of which the first stands at a position
+-- the position of the last plus in bytes that begin at position `at`, in bytes from 0, if there is one
 abbrev pub last_plus : ℕ → List ℕ → Option ℕ
 last_plus at [] = None
 last_plus at (b ∷ bytes) = option_or (last_plus (at + 1) bytes) (if b == plus_byte then Some at else None)
 
--- what a media type is: its essence with the positions of the slash and of the suffix's plus, its
+-- what a media type is: its essence, the positions in it of the slash and of the suffix's plus (in bytes from 0), its
 -- parameters as pairs of name and value, and its kept text, which is what printing gives
 pub record MediaType : Type 0 where
   pub essence : List ℕ
@@ -64,11 +64,11 @@ pub record MediaType : Type 0 where
   pub pairs : List (List ℕ × List ℕ)
   pub kept : List ℕ
 
--- type, slash and subtype
+-- the essence: type, slash and subtype
 abbrev pub essence_of : SyntaxTree → List ℕ
 essence_of tree = tree.top ++ (slash_byte ∷ tree.sub)
 
--- the whole text where there is a parameter, else the essence
+-- the kept text of a tree with these pairs: its whole text if there is a pair, else its essence
 abbrev pub kept_text : List (List ℕ × List ℕ) → SyntaxTree → List ℕ
 kept_text [] tree = essence_of tree
 kept_text (pair ∷ pairs) tree = text_of tree
@@ -86,22 +86,22 @@ value_of tree =
       kept = kept_text pairs low;
     }
 
--- the text is read as the value
+-- the text is read as the value: a well-formed tree has this text and this value
 pub record Reads (text : List ℕ) (value : MediaType) : Type 0 where
   pub tree : SyntaxTree
   pub well_formed : IsWellFormed tree
   pub spelled : text_of tree ≡ text
   pub valued : value_of tree ≡ value
 
--- the text is read as some value
+-- the text is accepted: it is read as some value
 abbrev pub IsAccepted : List ℕ → Type 0
 IsAccepted text = (value : MediaType) × Reads text value
 
--- the text is read as none
+-- the text is refused: it is read as no value
 abbrev pub IsRefused : List ℕ → Type 0
 IsRefused text = ¬ (IsAccepted text)
 
--- the parts of a value: the type, the subtype without its suffix, and the suffix
+-- the parts of a value: the type, the subtype without its suffix, and the suffix if there is one
 abbrev pub type_of : MediaType → List ℕ
 type_of value = take value.slash value.essence
 
@@ -111,7 +111,7 @@ subtype_of value = slice_range value.essence (value.slash + 1) (unwrap_or value.
 abbrev pub suffix_of : MediaType → Option (List ℕ)
 suffix_of value = option_map (λ place. drop (place + 1) value.essence) value.plus
 
--- a value as its owner has it; a fixed one is cloned without memory
+-- what a `Mime` holds: a value, and whether it is fixed, so that a clone takes no memory
 pub record OwnedMedia : Type 0 where
   pub media : MediaType
   pub fixed : Bool

@@ -3,7 +3,7 @@ use Rattle.std.specs.Prelude.{List, ℕ, Bool}
 use Rattle.mime.specs.Items.{Item}
 use Rattle.mime.specs.declared.name.Name.{Name}
 
--- two names as an item
+-- two names, a parameter's and its value's, as an item
 abbrev pub item_seen : Name × Name → Item
 item_seen (name, value) = record {
   name = name.text.now;

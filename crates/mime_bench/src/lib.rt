@@ -84,7 +84,7 @@ pub extern "C" fn mime_bench_name_eq(name: &[u8], text: &[u8], times: usize) -> 
         text: name,
         ignores_case: true,
     };
-    // What is compared turns on the answer before, so that no comparison is left out.
+    // Each text depends on the answer before, so the compiler leaves no comparison out.
     let mut same = 0usize;
     let mut against = text;
     for _ in 0..times {

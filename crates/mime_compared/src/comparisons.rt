@@ -22,7 +22,7 @@ fn digits_of(mime: &Mime) -> u64 {
     state.finish()
 }
 
-/// Texts that are read as equal values.
+/// Pairs of texts that are read as equal values.
 static EQUAL: &[(&str, &str)] = &[
     ("a/b", "A/B"),
     ("text/event-stream;       ", "text/event-stream"),
@@ -50,7 +50,7 @@ static EQUAL: &[(&str, &str)] = &[
     ),
 ];
 
-/// Whether a set that has the one value says that it has the other, of either kind of set.
+/// Whether a hash set and an ordered set that have the one value say that they have the other.
 fn found(alloc: Global, one: Mime, other: &Mime) -> Result<(bool, bool), Fail> {
     let mut hashed = HashSet::new(alloc);
     hashed.insert(one.clone()?)?;
@@ -59,7 +59,7 @@ fn found(alloc: Global, one: Mime, other: &Mime) -> Result<(bool, bool), Fail> {
     Ok((hashed.contains(other), ordered.contains(other)))
 }
 
-/// The answers of equality and order, both ways, and whether both feed the same, to two hashers.
+/// Checks equality, order and two hashes of two values, in both directions.
 fn check_values(rt: &impl Abort, first: &Mime, second: &Mime, order: Ordering) {
     let same = order == Ordering::Equal;
     let is = *first == *second && *second == *first;
@@ -143,10 +143,10 @@ fn unequal_values(rt: HostRuntime) -> Result<(), Fail> {
         ("a/b; charset=utf-8", "a/b; charset=utf-9"),
         ("a/b;p=x;q=y", "a/b;p=x;q=z"),
         ("a/b;p=x;q=y", "a/b;q=y;p=x"),
-        // As in one run of bytes, but cut in other places.
+        // The same bytes in one run, cut at other positions.
         ("a/b;p=xq", "a/b;px=q"),
         ("a/b;p=\"x;q=y\"", "a/b;p=x;q=y"),
-        // No backslash is taken out.
+        // Backslashes are compared like other bytes.
         ("a/b;p=\"\\x\"", "a/b;p=x"),
         ("a/b;p=\"\\\\\"", "a/b;p=\"\\\"\""),
     ];

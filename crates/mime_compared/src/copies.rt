@@ -5,7 +5,7 @@ use std::alloc::AllocError;
 use std::process::Abort;
 use std::test::Fail;
 
-/// Two values are equal, with the same kept text.
+/// Checks that two values are equal, with the same kept text.
 fn check_same(rt: &impl Abort, first: &Mime, second: &Mime) {
     assert!(rt; *first == *second, "{first} and {second}");
     assert_eq!(rt; first.as_str(), second.as_str());

@@ -102,7 +102,7 @@ fn names_against_texts(rt: HostRuntime) {
         (TEXT, "tex", false),
         (TEXT, "texts", false),
         (UTF_8, "UTF-8", true),
-        // Of two bytes that differ by 32 only letters are the same.
+        // Two bytes that differ by 32 are the same only if they are letters.
         (UTF_8, "utf\r8", false),
         (EXACT_ABC, "ABC", true),
         (EXACT_ABC, "abc", false),
@@ -115,7 +115,7 @@ fn names_against_texts(rt: HostRuntime) {
 
 #[test]
 fn names_in_their_order(rt: HostRuntime) -> Result<(), Fail> {
-    // By the bytes of the text, and then by the flag, false first.
+    // By the bytes of the text, and then by the flag, `false` first.
     let ordered = [
         exact(""),
         exact("TEXT"),
@@ -138,7 +138,7 @@ fn names_in_their_order(rt: HostRuntime) -> Result<(), Fail> {
 
 #[test]
 fn a_value_that_was_read(rt: HostRuntime) -> Result<(), Fail> {
-    // That of `p` is case-sensitive.
+    // The value of `p` is case-sensitive.
     let mime = Mime::from_str(rt.alloc(), "a/b;p=ABC")?;
     let value = mime.get_param(TextKey("p")).ok_or("no p")?;
     assert!(rt; value == value && value == exact("ABC"));
@@ -146,7 +146,7 @@ fn a_value_that_was_read(rt: HostRuntime) -> Result<(), Fail> {
     Ok(())
 }
 
-/// Two texts of each length up to 40 bytes, of which one has each ASCII byte at each place.
+/// Two texts of each length up to 40 bytes, of which one has each ASCII byte at each position.
 #[test]
 fn case_is_ignored_as_std_ignores_it(rt: HostRuntime) {
     let text = *b"AZ@[`{azMimeMIMEmime0123456789-+.!#$%^_'";

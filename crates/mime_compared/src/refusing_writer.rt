@@ -1,4 +1,4 @@
-//! What is printed answers what its writer answers.
+//! Printing fails exactly where the writer does.
 
 use mime::{Mime, Name, ParseError};
 use std::alloc::Global;
@@ -21,7 +21,7 @@ impl Write for Room {
     }
 }
 
-/// A value is printed where there is room for all of it, and refused where there is less.
+/// Checks that a value is printed where there is room for all of it, and refused where there is less.
 fn check_rooms<D: fmt::Display>(rt: &impl Abort, alloc: Global, value: &D) -> Result<(), Fail> {
     let text = format!(in alloc; "{value}")?;
     for room in 0..=text.len() {
@@ -35,7 +35,7 @@ fn check_rooms<D: fmt::Display>(rt: &impl Abort, alloc: Global, value: &D) -> Re
     Ok(())
 }
 
-/// The quoted form of a name, as what is printed.
+/// A name that prints its quoted form.
 #[derive(Clone, Copy)]
 struct Quoted<'a>(Name<'a>);
 

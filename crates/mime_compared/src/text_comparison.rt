@@ -148,7 +148,7 @@ static UNEQUAL: &[(&str, &str)] = &[
     ("a/b;p=x;q=y", "a/b;p=x;q=z"),
     ("a/b;p=x;q=y", "a/b;q=y;p=x"),
     ("a/b;q=y;p=x", "A/B; P=\"x\"; Q=\"y\""),
-    // As in one run of bytes, but cut in other places.
+    // The same bytes in one run, cut at other positions.
     ("a/b;p=xq", "a/b;px=q"),
     ("a/b;px=q", "a/b;p=xq"),
     ("a/b;p=\"x;q=y\"", "a/b;p=x;q=y"),
@@ -162,7 +162,7 @@ static UNEQUAL: &[(&str, &str)] = &[
         "application/javascript; charset=utf-8",
         "application/javascripx; charset=utf-8",
     ),
-    // First bytes that differ as a letter and its capital do, but are none.
+    // First bytes that differ as a letter and its capital do, but are no letters.
     ("^a/b; charset=x", "~a/b; charset=x"),
     ("^a/b; p=x", "~a/b; p=x"),
     ("text/plain; charset=utf-8", "text/plain; charsex=utf-8"),
@@ -242,8 +242,8 @@ const ALPHABET: [u8; 8] = *b"aA/;=\"\\ ";
 /// How many texts over the alphabet have 0, 1, .. and 6 bytes.
 const COUNTS: [u32; 7] = [1, 8, 64, 512, 4_096, 32_768, 262_144];
 
-/// Compares a text with each value: the answer is that of reading it, if it is accepted, and of
-/// comparing the two values; but where a value has no parameters, a text with a semicolon isn't it.
+/// Compares a text with each value. The answer is that of reading it, if it is accepted, and of
+/// comparing the two values; but a value without parameters equals no text with a semicolon.
 fn check(rt: &impl Abort, alloc: Global, values: &[Mime; 5], bytes: &[u8]) -> Result<u32, Fail> {
     let text = str::from_utf8(bytes)?;
     let read = match Mime::from_str(alloc, text) {
@@ -270,8 +270,8 @@ fn check(rt: &impl Abort, alloc: Global, values: &[Mime; 5], bytes: &[u8]) -> Re
     Ok(equal)
 }
 
-/// Checks the texts that are these bytes and then any of the alphabet, at most 6: how often a text
-/// was a value.
+/// Checks the texts that begin with these bytes and go on with at most 6 of the alphabet. Gives
+/// how often a text equalled a value.
 fn check_all(
     rt: &impl Abort,
     alloc: Global,

@@ -12,7 +12,7 @@ use std::io::Read;
 use std::process::ExitCode;
 use std::{env, io};
 
-/// What is done.
+/// What the program does.
 #[derive(Clone, Copy)]
 enum Task {
     /// The table is printed.

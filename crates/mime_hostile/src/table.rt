@@ -4,7 +4,7 @@ use mime::{Bad, Mime, MimeIter, ParseError, TextKey};
 use std::alloc::AllocError;
 use std::io;
 
-/// Texts with a character past ASCII, a quote, a backslash or a control where none may stand, or where it closes nothing.
+/// Texts with a character past ASCII, a quote, a backslash or a control where none may occur, or where it closes nothing.
 const MALICIOUS: [&str; 14] = [
     "é/b",
     "a/é",
@@ -22,7 +22,7 @@ const MALICIOUS: [&str; 14] = [
     "a/b;p=\"x\x7F\"",
 ];
 
-/// A text many times.
+/// A text repeated, between a first and a last one.
 fn repeated(
     rt: &HostRuntime,
     first: &str,
@@ -57,7 +57,7 @@ fn print_text(rt: &HostRuntime, name: &str, text: &str) -> io::Result<()> {
     println!(rt; "  steps {}", iter.steps())
 }
 
-/// Prints how many of the bytes below 32 are refused in a quoted value, each where it stands: all but the tab.
+/// Prints how many of the bytes below 32 are refused in a quoted value, each at its position: all but the tab.
 fn print_controls(rt: &HostRuntime) -> io::Result<()> {
     let mut refused = 0u32;
     for byte in 0..32u8 {

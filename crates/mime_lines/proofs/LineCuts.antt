@@ -19,7 +19,7 @@ unwrap_or-within n bound h = grind (arith, nat_tests)
 pub unwrap_or-position : (p : ℕ → Bool) (xs : List ℕ) (r : Option ℕ) → r ≡ cond (ltb (position_or_len p xs) (length xs)) (Some (position_or_len p xs)) None → unwrap_or r (length xs) ≡ position_or_len p xs
 unwrap_or-position p xs r e = ap (λ found. unwrap_or found (length xs)) e ∙ unwrap_or-within (position_or_len p xs) (length xs) (prefix_len-le-length (λ x. not (p x)) xs)
 
--- taking one more from one more
+-- a first line with one more byte in front of it
 front-shift : (n b : ℕ) (xs : List ℕ) → (b ∷ take n xs) ∷ lines_of (drop (n + 1) xs) ≡ take (1 + n) (b ∷ xs) ∷ lines_of (drop (1 + n + 1) (b ∷ xs))
 front-shift n b xs =
     let s : 1 + n ≡ suc n = omega arith in
@@ -50,13 +50,13 @@ pub lines_of-cut : (bytes front rest : List ℕ) (end : ℕ) → 0 < length byte
 lines_of-cut bytes front rest end some is front_is rest_is =
     lines_of-first bytes some ∙ ap (λ n. take n bytes ∷ lines_of (drop (n + 1) bytes)) (sym is) ∙ cc (front_is, rest_is)
 
--- where no line ends the whole is one line
+-- bytes in which no line ends are one line
 pub lines_of-last : (bytes : List ℕ) (end : ℕ) → 0 < length bytes → end ≡ position_or_len (λ b. nat_eq b 10) bytes → length bytes ≤ end
     → lines_of bytes ≡ bytes ∷ []
 lines_of-last bytes end some is past =
     lines_of-cut bytes bytes [] end some is (sym (take_all end bytes past)) (sym (drop_all (end + 1) bytes (omega arith)))
 
--- what stands after a position that may be the end
+-- the bytes after a position that may be the end
 pub drop-after : (n : ℕ) (xs : List ℕ) → drop (n + 1) xs ≡ take (length xs - min (n + 1) (length xs)) (drop (min (n + 1) (length xs)) xs)
 drop-after n xs = grind (arith, common_steps)
 
@@ -70,7 +70,7 @@ passed_all : (p : ℕ → Bool) (xs ys : List ℕ) → list_any p xs ≡ false �
 passed_all p [] ys none = sym (zero-add (position_or_len p ys))
 passed_all p (x ∷ xs) ys none = one_more_passed (p x) (list_any p xs) (position_or_len p (xs ++ ys)) (length xs) (position_or_len p ys) none (passed_all p xs ys)
 
--- so many bytes more are passed, of those that come after so many
+-- after the first `n` bytes the next `k` are passed too
 pub passed_onward : (p : ℕ → Bool) (xs : List ℕ) (n k j : ℕ) → j ≡ k → n + k ≤ length xs → list_any p (take j (drop n xs)) ≡ false
     → position_or_len p xs ≡ n + position_or_len p (drop n xs) → position_or_len p xs ≡ (n + k) + position_or_len p (drop (n + k) xs)
 passed_onward p xs n k j size within none at =

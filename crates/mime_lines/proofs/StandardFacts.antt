@@ -20,7 +20,7 @@ last_line_without_end = refl
 line_with_return : lines_of (codes "a\r\nb\n") ≡ codes "a\r" ∷ codes "b" ∷ []
 line_with_return = refl
 
--- an empty subtype leaves a space at the end of its row
+-- the row of an empty text ends with a space
 empty_row : row (codes "subtype ") [] ≡ codes "subtype \n"
 empty_row = refl
 

@@ -9,7 +9,7 @@ use Rattle.mime.specs.Cut.{CutItem, good, bad, Cut}
 use Rattle.mime.specs.declared.scan.fault.ParseError.{ParseError}
 use Rattle.mime_lines.specs.declared.mode.Mode.{Mode}
 
--- byte 10 ends a line; what comes after the last one is a line if it isn't empty
+-- the lines of bytes: byte 10 ends a line, and what comes after the last byte 10 is a line if it isn't empty
 abbrev pub lines_of : List ℕ → List (List ℕ)
 lines_of [] = []
 lines_of (byte ∷ bytes) = if byte == 10 then [] ∷ lines_of bytes else onto_first byte (lines_of bytes)
@@ -26,7 +26,7 @@ abbrev pub param_rows : List (List ℕ × List ℕ) → List ℕ
 param_rows [] = []
 param_rows ((name, value) ∷ pairs) = row (codes "param ") (name ++ (codes "=" ++ value)) ++ param_rows pairs
 
--- what is written of a value: its kept text, its parts, and each parameter
+-- the rows of a value: its kept text, its type, its subtype, its suffix if there is one, and each parameter
 abbrev pub value_rows : MediaType → List ℕ
 value_rows value =
     row (codes "ok ") value.kept
@@ -35,7 +35,7 @@ value_rows value =
     ++ (suffix_row (suffix_of value)
     ++ param_rows value.pairs)))
 
--- what is written of an item of a list: the kept text of a media type, or a piece that is none
+-- the row of an item of a list: the kept text of a media type, or a bad piece
 abbrev pub item_row : CutItem → List ℕ
 item_row (good piece value) = row (codes "ok ") value.kept
 item_row (bad piece) = row (codes "bad ") piece
@@ -44,7 +44,7 @@ abbrev pub item_rows : List CutItem → List ℕ
 item_rows [] = []
 item_rows (item ∷ items) = item_row item ++ item_rows items
 
--- what is written of a text: by its parts the value that it is read as or its fault, as a list the items of its cut
+-- what is written of a text: in mode `Parts` the rows of its value, or its fault; in mode `List` the rows of its cut's items
 pub data ReportsText : Mode → List ℕ → List ℕ → Type 0 where
   read : {text : List ℕ} (value : MediaType) → Reads text value → ReportsText Mode.Parts text (value_rows value)
   refused : {text : List ℕ} (fault : ParseError) → IsFault text fault → ReportsText Mode.Parts text (row (codes "bad ") (error_text fault))
@@ -61,6 +61,6 @@ pub data ReportsLines : Mode → List (List ℕ) → List ℕ → Type 0 where
   line_more : {mode : Mode} {line : List ℕ} {lines : List (List ℕ)} {rows more : List ℕ}
       → ReportsLine mode line rows → ReportsLines mode lines more → ReportsLines mode (line ∷ lines) (rows ++ more)
 
--- the text is the report of these bytes
+-- the text is the report on these bytes
 abbrev pub IsReportOf : Mode → List ℕ → List ℕ → Type 0
 IsReportOf mode bytes text = ReportsLines mode (lines_of bytes) text

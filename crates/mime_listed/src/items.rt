@@ -1,11 +1,11 @@
-//! The items of texts, in rows: each item, and the steps at the end.
+//! The items of texts in one line each, and the steps at the end.
 
 use mime::{Bad, Mime, MimeIter};
 use std::alloc::{AllocError, Global};
 use std::process::Abort;
 use std::test::Fail;
 
-/// What an item is, and its text.
+/// The kind of an item, and its text.
 fn row_of<'a>(item: &'a Result<Mime, Bad<'_>>) -> (&'a str, &'a str) {
     match item {
         Ok(mime) => ("ok ", mime.as_str()),
@@ -21,7 +21,7 @@ pub(crate) fn push_item(row: &mut String, kind: &str, text: &str) -> Result<(), 
     row.push_str("|")
 }
 
-/// The next item, between two looks at the size hint, which is the same at every moment.
+/// The next item. Checks that the size hint is the same before it and after it.
 fn next_item<'a>(rt: &impl Abort, iter: &mut MimeIter<'a>) -> Option<Result<Mime, Bad<'a>>> {
     assert_eq!(rt; iter.size_hint(), (0, None));
     let item = iter.next();
@@ -29,7 +29,7 @@ fn next_item<'a>(rt: &impl Abort, iter: &mut MimeIter<'a>) -> Option<Result<Mime
     item
 }
 
-/// All items that are left, and then `None` twice.
+/// All items that are left. Checks that `None` comes twice after them.
 fn rest_of(rt: &impl Abort, alloc: Global, iter: &mut MimeIter<'_>) -> Result<String, AllocError> {
     let mut row = String::new(alloc);
     for _ in 0..100_000usize {
@@ -54,7 +54,7 @@ pub(crate) fn items_of(
     Ok((row, iter.steps()))
 }
 
-/// Tells whether a text has these items and takes these steps.
+/// Checks that a text has these items and takes this number of steps.
 fn check(
     rt: &impl Abort,
     alloc: Global,
@@ -212,7 +212,7 @@ fn a_clone_goes_on_by_itself(rt: HostRuntime) -> Result<(), Fail> {
     assert_eq!(rt; (iter.steps(), clone.steps()), (4, 11));
     assert_eq!(rt; rest_of(&rt, alloc, &mut iter)?.as_str(), "bad x|ok c/d|");
     assert_eq!(rt; iter.steps(), 11);
-    // The item was kept while both went on.
+    // The first item was kept while both iterators went on.
     let first = first.ok_or("an item")?;
     assert_eq!(rt; row_of(&first), ("ok ", "a/b"));
     Ok(())

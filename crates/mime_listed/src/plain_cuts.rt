@@ -11,7 +11,7 @@ const ALPHABET: [char; 9] = ['a', '/', ';', '=', '"', '\\', ' ', ',', 'é'];
 /// How many texts over the alphabet have 0, 1, .. and 5 characters.
 const COUNTS: [u32; 6] = [1, 9, 81, 729, 6_561, 59_049];
 
-/// Whether a completion makes the text an accepted one.
+/// Whether one of the completions makes the text an accepted one.
 fn is_viable(alloc: Global, front: &str) -> Result<bool, AllocError> {
     let mut text = String::new(alloc);
     for completion in ["", "x/x", "=x", "x", "x\""] {
@@ -47,8 +47,8 @@ fn push_piece(alloc: Global, row: &mut String, piece: &str) -> Result<(), AllocE
     }
 }
 
-/// The items of the plain cut, and how many bytes its pieces have, with one for each character
-/// between them.
+/// The items of the plain cut, and its steps: one for each byte of a piece, and one for each
+/// character between pieces.
 fn plain_cut(alloc: Global, text: &str) -> Result<(String, u128), AllocError> {
     let mut row = String::new(alloc);
     let mut steps = 0u128;

@@ -30,7 +30,7 @@ fn fixed_values_are_copied_without_memory(rt: HostRuntime) -> Result<(), Fail> {
     Ok(())
 }
 
-/// How two values compare, and whether they hash alike.
+/// Checks how two values compare, and whether they hash alike.
 fn check_order(rt: &impl Abort, first: &Mime, second: &Mime, order: Ordering) {
     let same = order == Ordering::Equal;
     assert_eq!(rt; first.cmp(second), order);

@@ -60,7 +60,7 @@ fn reads_without_memory(rt: HostRuntime) -> Result<(), Fail> {
     Ok(())
 }
 
-/// Parts and parameters of a value, with the values of two keys.
+/// Checks the parts and the parameters of a value, and the values of two keys.
 fn check_parts(rt: &impl Abort, read: &Mime) {
     let parts = (read.type_(), read.subtype(), read.suffix());
     assert!(rt; parts == (TEXT, PLAIN, None));
@@ -121,7 +121,7 @@ fn one_request_for_each_text(rt: HostRuntime) -> Result<(), Fail> {
     Ok(())
 }
 
-/// What an item is, by its first letter and what it holds; `-` for none.
+/// The first letter of an item's kind, and its text; `-` for none.
 fn shown<'a>(item: &'a Option<Result<Mime, Bad<'_>>>) -> (char, &'a str) {
     match item {
         None => ('-', ""),
@@ -131,7 +131,7 @@ fn shown<'a>(item: &'a Option<Result<Mime, Bad<'_>>>) -> (char, &'a str) {
     }
 }
 
-/// The next items are these, by their letters and texts.
+/// Checks that the next items are these, by their letters and texts.
 fn check_items(rt: &impl Abort, iter: &mut MimeIter<'_>, expected: &[(char, &str)]) {
     for item in expected {
         assert_eq!(rt; shown(&iter.next()), *item);
@@ -143,13 +143,13 @@ fn iterates_without_memory(rt: HostRuntime) -> Result<(), Fail> {
     let alloc = rt.alloc();
     let blocks = all_memory(alloc)?;
     let mut iter = MimeIter::new(alloc, "e, */*, a/b, */*");
-    // Bad pieces and `*/*` ask for none, and a clone doesn't either.
+    // Bad pieces and `*/*` ask for no memory, and neither does a clone.
     check_items(&rt, &mut iter, &[('b', "e"), ('o', "*/*")]);
     let mut clone = iter.clone()?;
-    // Every other media type asks, and being refused is the end.
+    // Every other media type asks for memory; if that is refused, the iterator ends.
     check_items(&rt, &mut iter, &[('n', ""), ('-', ""), ('-', "")]);
     drop(blocks);
-    // With memory again the end stays the end, and what has not ended goes on.
+    // With memory again, an iterator that ended stays ended, and another goes on.
     check_items(&rt, &mut iter, &[('-', "")]);
     check_items(&rt, &mut clone, &[('o', "a/b"), ('o', "*/*"), ('-', "")]);
     Ok(())

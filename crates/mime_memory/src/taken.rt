@@ -9,7 +9,7 @@ const LARGEST: usize = 1 << 46;
 /// How many blocks are kept at most.
 const BLOCKS: usize = 1 << 17;
 
-/// All memory, in blocks from the largest to the smallest that were to be had. While it is held,
+/// All memory, in blocks from the largest to the smallest that could be taken. While it is held,
 /// every request is refused.
 pub(crate) fn all_memory(alloc: Global) -> Result<Vec<Vec<u8>>, Fail> {
     let mut blocks = Vec::with_capacity(alloc, BLOCKS)?;

@@ -1,4 +1,4 @@
-//! The constant media types: their texts and parts, and that they are what their texts are read as.
+//! The constant media types: their texts and parts, and that their texts are read as them.
 
 use crate::described::parts_of;
 use mime::{
@@ -123,7 +123,7 @@ fn constants_are_what_their_texts_are_read_as(rt: HostRuntime) -> Result<(), Fai
         let mime = atom.mime();
         let is = read == mime && mime == read && mime.cmp(&read) == Ordering::Equal;
         assert!(rt; is, "{atom:?}");
-        // It is in neither set yet, and then what was read finds it.
+        // Neither set has it yet; once inserted, it is found by the value that was read.
         let is_new = hashed.insert(atom.mime())? && ordered.insert(mime)?;
         assert!(rt; is_new, "{atom:?} is another's");
         let found = hashed.contains(&read) && ordered.contains(&read);

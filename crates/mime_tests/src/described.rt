@@ -1,4 +1,4 @@
-//! A reading in one line, for tables.
+//! A media type in one line, for tables.
 
 use mime::{FromStrError, Mime};
 use std::alloc::{AllocError, Global};

@@ -48,7 +48,7 @@ fn faults_are_printed(rt: HostRuntime) -> Result<(), Fail> {
     Ok(())
 }
 
-/// A text is refused with this fault, which prints so.
+/// Checks that a text is refused with this fault, which prints these words.
 fn check_fault(
     rt: &impl Abort,
     alloc: Global,
@@ -113,7 +113,7 @@ fn many_commas_after_a_quote(rt: HostRuntime) -> Result<(), Fail> {
 #[test]
 fn the_byte_where_no_media_type_goes_on(rt: HostRuntime) -> Result<(), Fail> {
     static CASES: &[(&str, usize, u8, &str)] = &[
-        // An empty subtype or value, and white space, in the wrong place.
+        // An empty part, or white space, where none is allowed.
         ("a b", 1, 0x20, "20 at position 1"),
         ("no slash", 2, 0x20, "20 at position 2"),
         ("f o o / bar", 1, 0x20, "20 at position 1"),

@@ -9,7 +9,7 @@ use std::test::Fail;
 /// What a text begins with, the letter that it goes on with, and its end.
 type Ends = (&'static str, u8, &'static str);
 
-/// A text of this length.
+/// A text of `len` bytes with these ends.
 fn stretched(alloc: Global, len: usize, (front, letter, back): Ends) -> Result<String, Fail> {
     let count = len.saturating_sub(front.len()).saturating_sub(back.len());
     let letters = vec![in alloc; letter; count]?;
@@ -29,7 +29,7 @@ fn is_only_item(alloc: Global, text: &str, mime: &Mime) -> bool {
     is_first && iter.next().is_none() && iter.steps() == text.len() as u128
 }
 
-/// The text of this length is read, with this kept text and so many parameters.
+/// Checks that the text of this length is read, with this kept text and this number of parameters.
 fn check_long(
     rt: &impl Abort,
     alloc: Global,

@@ -19,7 +19,7 @@ fn check_parts(rt: &impl Abort, alloc: Global, mime: &Mime, expected: &str) -> R
 #[test]
 fn accepted_texts_have_their_parameters(rt: HostRuntime) -> Result<(), Fail> {
     static CASES: &[(&str, &str)] = &[
-        // Names are lowered, and values exactly under `charset`.
+        // Names are lowered; of the values only that of a `charset` is.
         (
             "TEXT/PLAIN; CHARSET=UTF-8; FOO=BAR",
             "text/plain; charset=utf-8; foo=BAR | text | plain | - | text/plain | charset~utf-8 | foo=BAR",
@@ -55,7 +55,7 @@ fn accepted_texts_have_their_parameters(rt: HostRuntime) -> Result<(), Fail> {
             "text/plain;charset=\"utf-8\"   ",
             "text/plain;charset=\"utf-8\"    | text | plain | - | text/plain | charset~utf-8",
         ),
-        // A charset in quotes, or before another parameter, is found where it stands.
+        // A charset in quotes, or before another parameter, is found wherever it is.
         (
             "text/html; charset=\"utf-8\"; q=1",
             "text/html; charset=\"utf-8\"; q=1 | text | html | - | text/html | charset~utf-8 | q=1",
@@ -74,7 +74,7 @@ fn accepted_texts_have_their_parameters(rt: HostRuntime) -> Result<(), Fail> {
         ),
         // Duplicates are kept.
         ("a/b;p=1;P=2", "a/b;p=1;p=2 | a | b | - | a/b | p=1 | p=2"),
-        // A quoted value may be empty, and holds the tab and any byte but a quote and other controls.
+        // A quoted value may be empty, or have tabs and any bytes but quotes, backslashes and controls.
         ("a/b;p=\"\"", "a/b;p=\"\" | a | b | - | a/b | p="),
         (
             "a/b;p=\"\" ;q=\"\"",
@@ -86,7 +86,7 @@ fn accepted_texts_have_their_parameters(rt: HostRuntime) -> Result<(), Fail> {
             "a/b;p=\"x;y\";q=z",
             "a/b;p=\"x;y\";q=z | a | b | - | a/b | p=x;y | q=z",
         ),
-        // After a backslash it holds any of them, a quote too. Both bytes stay.
+        // After a backslash it may have these, a quote or a backslash. Both bytes are kept.
         (
             "a/b;p=\" = \\\\\"",
             "a/b;p=\" = \\\\\" | a | b | - | a/b | p= = \\\\",
@@ -104,7 +104,7 @@ fn accepted_texts_have_their_parameters(rt: HostRuntime) -> Result<(), Fail> {
             "a/b;charset=\"\\U\"",
             "a/b;charset=\"\\u\" | a | b | - | a/b | charset~\\u",
         ),
-        // A tab stands where a space does.
+        // A tab may replace a space.
         (
             "a/b;\tp=\"x\"\t;q=1",
             "a/b;\tp=\"x\"\t;q=1 | a | b | - | a/b | p=x | q=1",
@@ -113,7 +113,7 @@ fn accepted_texts_have_their_parameters(rt: HostRuntime) -> Result<(), Fail> {
     for &(text, expected) in CASES {
         let mime = Mime::from_str(rt.alloc(), text)?;
         check_parts(&rt, rt.alloc(), &mime, expected)?;
-        // What is kept is read again as the same.
+        // The kept text is read again as the same value.
         let again = Mime::from_str(rt.alloc(), mime.as_str())?;
         check_parts(&rt, rt.alloc(), &again, expected)?;
     }
@@ -172,7 +172,7 @@ fn constants_and_texts_are_keys(rt: HostRuntime) -> Result<(), Fail> {
     ];
     for &text in TEXTS {
         let mime = Mime::from_str(rt.alloc(), text)?;
-        // The value is the name `utf-8` in its flag too.
+        // The value equals the name `utf-8`, so it has that name's flag too.
         let found = (mime.get_param(CHARSET), mime.get_param(TextKey("Charset")));
         assert!(rt; found == (Some(UTF_8), Some(UTF_8)), "{text}");
         let is_utf8 = found.0.is_some_and(|value| name_eq_str(&value, "utf-8"));
@@ -224,7 +224,7 @@ fn values_ignore_case_under_charset_alone(rt: HostRuntime) -> Result<(), Fail> {
 
 #[test]
 fn a_value_as_a_key(rt: HostRuntime) -> Result<(), Fail> {
-    // It accepts a name of its text only where it ignores case too.
+    // A value is a key for the parameter of its text only if it ignores case, as names do.
     static CASES: &[(&str, &str, Option<&str>)] = &[
         ("a/b;charset=x;x=1", "charset", Some("1")),
         ("a/b;k=x;x=1", "k", None),
@@ -238,7 +238,7 @@ fn a_value_as_a_key(rt: HostRuntime) -> Result<(), Fail> {
     Ok(())
 }
 
-/// The parameters have this length, and then there is no more, however often one asks.
+/// Checks that there are `expected` parameters, and after them none, however often one asks.
 fn check_count(rt: &impl Abort, mime: &Mime, expected: usize) {
     let mut params = mime.params();
     for taken in 0..expected {
@@ -273,7 +273,7 @@ fn parameters_are_counted_and_end(rt: HostRuntime) -> Result<(), Fail> {
     Ok(())
 }
 
-/// How many parameters there are; each is `p=x`.
+/// How many parameters there are. Checks that each is `p=x`.
 pub(crate) fn count_of_p(rt: &impl Abort, mime: &Mime) -> u64 {
     let mut count = 0u64;
     for (name, value) in mime.params() {

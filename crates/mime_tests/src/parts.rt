@@ -7,7 +7,7 @@ use mime::{
 };
 use std::test::Fail;
 
-/// The bytes of a token (RFC 7230, 3.2.6), from the first to the last of each run.
+/// The bytes of a token (RFC 7230, 3.2.6): the first and the last byte of each run.
 const TOKEN_RUNS: [(u8, u8); 9] = [
     (0x21, 0x21),
     (0x23, 0x27),
@@ -20,10 +20,10 @@ const TOKEN_RUNS: [(u8, u8); 9] = [
     (0x7E, 0x7E),
 ];
 
-/// The second bytes of a quoted-pair.
+/// The second bytes of a quoted-pair: the first and the last byte of each run.
 const QUOTED_RUNS: [(u8, u8); 3] = [(0x09, 0x09), (0x20, 0x7E), (0x80, 0xFF)];
 
-/// The bytes of a quoted value that stand by themselves.
+/// The bytes of quoted text (qdtext): the first and the last byte of each run.
 const QUOTED_TEXT_RUNS: [(u8, u8); 5] = [
     (0x09, 0x09),
     (0x20, 0x21),

@@ -52,18 +52,18 @@ fn check(rt: &impl Abort, alloc: Global, text: &mut Vec<u8>) -> Result<(), Fail>
         Some(ParseError::MissingEqual) => [false, false, true, false, false],
         Some(ParseError::MissingValue) => [false, false, false, true, false],
         Some(ParseError::MissingQuote) => [false, false, false, false, true],
-        // An accepted text has none of them, nor has one with a dead byte.
+        // An accepted text lacks nothing, and one with an invalid byte can't be completed.
         _ => [false; 5],
     };
     assert!(rt; completed == expected, "{text:?}");
     if let Some(ParseError::InvalidToken { pos, byte }) = fault {
         assert!(rt; pos < text.len() && text[pos] == byte, "{text:?}");
         if pos + 1 < text.len() {
-            // The bytes up to and including this one have the same fault.
+            // The bytes up to the invalid one, with it, have the same fault.
             let dead = fault_of(rt, alloc, &text[..pos + 1])?;
             assert!(rt; dead == fault, "{text:?}");
         } else {
-            // Those before it have another or none.
+            // The bytes before it have another fault, or none.
             let front = fault_of(rt, alloc, &text[..pos])?;
             assert!(rt;
                 !matches!(front, Some(ParseError::InvalidToken { .. })),

@@ -1,4 +1,4 @@
--- The kept text is the value.
+-- The kept text is equal to the value.
 use Rattle.std.proofs.Common.{◌∙◌, sym, refl}
 use Rattle.std.specs.Cmp.Lexicographic.{same_text}
 use Rattle.mime.proofs.TextComparison.{text_is-kept}

@@ -1,4 +1,4 @@
--- A text is the value where its list and its pairs are, and it is accepted.
+-- A text is equal to the value where it has the value's essence and its pairs, and is accepted.
 use Rattle.std.proofs.Common.{◌+◌, ◌∙◌, length, drop, sym, ap, refl, subst, lit<}
 use Rattle.mime.specs.KeptText.{IsListAfter, AreLowPairs}
 use Rattle.mime.specs.Pairs.{pairs_within}

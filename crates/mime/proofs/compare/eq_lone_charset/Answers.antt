@@ -1,4 +1,4 @@
--- A lone charset in another case is the value; a text that has one form is it in no other way.
+-- The kept text in another case is equal to a value with a lone charset; of texts in one form no other is.
 use Rattle.std.proofs.Common.{◌∙◌, sym, ap, refl, subst}
 use Rattle.mime.specs.Values.{lowered}
 use Rattle.mime.specs.KeptText.{HasOneForm}

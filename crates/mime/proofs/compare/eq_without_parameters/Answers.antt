@@ -1,4 +1,4 @@
--- Without pairs a text is the value where it is the kept text but for case.
+-- Without pairs a text is equal to the value where it is the kept text but for case.
 use Rattle.mime.proofs.TextComparison.{text_is-kept_case}
 use Rattle.mime.proofs.compare.eq_without_parameters.Goals as goal
 

@@ -1,4 +1,4 @@
--- What a viable text begins with is viable.
+-- Each beginning of a viable text is viable.
 use Rattle.mime.proofs.Viability.{front_of_viable_is_viable}
 use Rattle.mime.proofs.laws.front_of_viable_is_viable.Goals as goal
 

@@ -1,4 +1,4 @@
--- The test of the order, and what it tells.
+-- The test of the order, and what it says.
 use Rattle.mime.proofs.Ordering.{eq_by_cmp-tells}
 use Rattle.mime.proofs.laws.mime_equality.Goals as goal
 

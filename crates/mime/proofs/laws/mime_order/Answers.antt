@@ -1,4 +1,4 @@
--- What the order tells.
+-- What the order says.
 use Rattle.mime.specs.Orders.{tells_media}
 use Rattle.mime.proofs.laws.mime_order.Goals as goal
 

@@ -1,4 +1,4 @@
--- Nothing makes a text that is not viable an accepted one.
+-- A text that isn't viable is refused, whatever follows it.
 use Rattle.mime.proofs.laws.no_completion.Goals as goal
 
 pub returns : goal.returns

@@ -1,4 +1,4 @@
--- Exactly one completion makes a viable refused text an accepted one.
+-- A viable refused text lacks exactly one thing.
 use Rattle.mime.proofs.OneFault.{one_completion}
 use Rattle.mime.proofs.laws.one_completion.Goals as goal
 

@@ -1,4 +1,4 @@
--- The law of Ordering.
+-- Of two values one comes before the other, or they are equal.
 use Rattle.mime.proofs.Ordering.{one_order}
 use Rattle.mime.proofs.laws.one_order.Goals as goal
 

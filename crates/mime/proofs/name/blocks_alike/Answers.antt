@@ -1,4 +1,4 @@
--- Texts are alike exactly where their blocks are, of which the last may lap over the one before.
+-- Texts are alike exactly where their blocks are, of which the last may overlap the one before.
 use Rattle.std.proofs.Common.{◌≡◌, ℕ, ◌+◌, ◌-◌, List, ◌++◌, length, take, drop, sym, ap, ◌∙◌, arith}
 use Rattle.std.proofs.Math.Seq.{take-add}
 use Rattle.mime.specs.Values.{lowered}

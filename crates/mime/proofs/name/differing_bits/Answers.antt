@@ -8,7 +8,7 @@ use Rattle.mime.proofs.EachByte.{at_byte}
 use Rattle.mime.proofs.name.differing_bits.Goals as goal
 use Rattle.mime.proofs.name.differing_bits.Goals.{then-is_ascii_lowercase, else-is_ascii_lowercase}
 
--- the bit that the case of a letter is told by
+-- the bit in which the cases of a letter differ, if the byte is a letter
 case_of : ℕ → ℕ
 case_of x = cond (is_ascii_lowercase (bit_or x 32)) 32 0
 

@@ -1,4 +1,4 @@
--- The constant's text is kept as its places say.
+-- Each constant is kept with these positions.
 use Rattle.mime.proofs.Constants.{kept_atom}
 use Rattle.mime.proofs.atoms.Atom.mime.Goals as goal
 

@@ -1,4 +1,4 @@
--- The list begins behind the semicolon, and holds as many pairs as are counted.
+-- The list begins after the semicolon, and has as many pairs as are counted.
 use Rattle.std.proofs.Common.{◌∙◌, ap, drop, ◌+◌, subst, lit<}
 use Rattle.std.specs.Str.{IsUtf8}
 use Rattle.mime.proofs.CharBorders.{boundary_behind}

@@ -1,4 +1,4 @@
--- The list begins after the semicolon, and its items are small.
+-- The list begins after the semicolon, and its items are in small letters where they ignore case.
 use Rattle.std.proofs.Common.{◌∙◌, ap, drop, ◌+◌, subst, lit<}
 use Rattle.std.specs.Str.{IsUtf8}
 use Rattle.mime.proofs.CharBorders.{boundary_behind}

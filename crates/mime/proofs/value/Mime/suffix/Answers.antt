@@ -1,4 +1,4 @@
--- The suffix begins at a character of the essence, and is small.
+-- The suffix begins at a character of the essence, and is in small letters.
 use Rattle.std.proofs.Common.{ap, sym, ◌∙◌, arith}
 use Rattle.mime.proofs.KeptText.{reads-from_kept}
 use Rattle.mime.proofs.Parts.{suffix_start, read-low_essence, low_drop}

@@ -1,4 +1,4 @@
--- The pairs so far are lowered, and the list that is left stands after them.
+-- The pairs so far are lowered, and the remaining list follows them.
 use Rattle.std.proofs.Common.{◌-◌}
 use Rattle.std.specs.Str.{IsUtf8}
 use Rattle.mime.specs.Pairs.{lowered_within}
