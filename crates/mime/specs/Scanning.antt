@@ -66,14 +66,14 @@ pub record Scans (old new : Remaining) (verdict : Verdict) : Type 0 where
   pub counted : new.count ≡ old.count + count
   pub judged : Judges old.left count verdict
 
--- what stands between quotes was passed, and the byte that ends it
+-- quoted content was passed, and the byte that ends it
 pub record PassesContent (old new : Remaining) (stop : Option ℕ) : Type 0 where
   pub run : List ℕ
   pub of_class : IsOpenContent run
   pub given : Given old new run stop
   pub stopped : MatchOption stop (new.left ≡ []) (λ b. IsFalse (continues run b))
 
--- the rest of a subtype was passed, of which the first byte stands at a position; its last plus
+-- the rest of a subtype was passed, whose first byte is at a position; its last plus
 pub record PassesSubtype (at : ℕ) (old new : Remaining) (answer : Option ℕ × Option ℕ) : Type 0 where
   pub passes : Passes is_token_byte old new answer.1
   pub plus : answer.0 ≡ last_plus at passes.run
