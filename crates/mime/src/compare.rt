@@ -8,7 +8,7 @@ ghost use Rattle.mime.specs.Spelled.{HasParameters};
 ghost use Rattle.mime.specs.Values.{lowered, lowered_value, is_charset};
 
 use crate::bytes::is_token;
-use crate::name::{CASE, are_alike, eq_ignoring_case};
+use crate::name::{CASE_BIT, are_alike, eq_ignoring_case};
 use crate::scan::{ByteReader, Places, Verdict, scan};
 use crate::value::Mime;
 use crate::value::pairs::{Pair, cut};
@@ -29,7 +29,7 @@ fn begin_alike(kept: &[u8], text: &[u8]) -> bool
     requires { 0 < length kept.now }
     ensures { lowered (take 1 kept.now) ≡ lowered (take 1 text.now) → IsTrue result }
 {
-    !text.is_empty() && kept[0] | CASE == text[0] | CASE
+    !text.is_empty() && kept[0] | CASE_BIT == text[0] | CASE_BIT
 }
 
 /// Whether a text goes on with a semicolon after this essence, in any case.

@@ -36,7 +36,7 @@ struct Passed<'a> {
 
 /// Whether a byte begins no character.
 #[inline(always)]
-fn is_following(byte: u8) -> bool
+fn is_continuation_byte(byte: u8) -> bool
     ensures { result ≡ is_following_byte byte }
 {
     byte >= 128 && byte < 192
@@ -50,7 +50,7 @@ fn after_character(text: &str) -> &str
 {
     let bytes = text.as_bytes();
     let mut end = 1;
-    while end < bytes.len() && is_following(bytes[end]) {
+    while end < bytes.len() && is_continuation_byte(bytes[end]) {
         end += 1;
     }
     &text[end..]

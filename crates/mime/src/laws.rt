@@ -33,8 +33,7 @@ use crate::name::constants::{
 };
 use crate::value::Mime;
 use std::alloc::AllocError;
-use std::cmp::Ordering;
-use std::hash::{Hash, Hasher};
+use std::hash::Hash;
 
 /// A text is spelled by at most one well-formed tree: `a/b;p=x` only by the one with type `a`, subtype `b` and a
 /// plain parameter (RFC 7231, 3.1.1.1).

@@ -52,7 +52,7 @@ impl fmt::Debug for Name<'_> {
 }
 
 /// The bit that tells a small ASCII letter from its capital.
-pub(crate) const CASE: u8 = 0x20;
+pub(crate) const CASE_BIT: u8 = 0x20;
 
 /// The bits in which two bytes differ, apart from the one that tells a capital from its small letter
 /// where the first is an ASCII letter: none where the bytes are the same but for case.
@@ -60,8 +60,8 @@ pub(crate) const CASE: u8 = 0x20;
 fn differing_bits(x: u8, y: u8) -> u8
     ensures { (result ≡ 0) ↔ (to_ascii_lowercase x ≡ to_ascii_lowercase y) }
 {
-    let case = if (x | CASE).is_ascii_lowercase() {
-        CASE
+    let case = if (x | CASE_BIT).is_ascii_lowercase() {
+        CASE_BIT
     } else {
         0
     };

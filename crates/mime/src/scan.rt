@@ -13,7 +13,7 @@ pub use crate::scan::fault::{FromStrError, ParseError};
 pub(crate) use crate::scan::reader::ByteReader;
 
 /// The parts of an accepted text: their positions, in bytes from 0, and the number of its parameters.
-#[derive(Clone, Copy, PartialEq, Debug)]
+#[derive(Clone, Copy)]
 pub(crate) struct Places {
     pub(crate) slash: usize,
     pub(crate) plus: Option<usize>,
@@ -22,7 +22,7 @@ pub(crate) struct Places {
 }
 
 /// What one pass over a text finds.
-#[derive(Clone, Copy, PartialEq, Debug)]
+#[derive(Clone, Copy)]
 pub(crate) enum Verdict {
     /// It is accepted.
     Accepted(Places),
