@@ -142,8 +142,7 @@ fn is_accepted_at(text: &str, end: usize, count: usize) -> bool
     let mut reader = ByteReader::new(text, 0);
     match scan(&mut reader) {
         Verdict::Accepted(places) => is_list_at(places, end, count),
-        Verdict::Unfinished(_) => false,
-        Verdict::Stopped(_, _) => false,
+        _ => false,
     }
 }
 
@@ -183,18 +182,12 @@ fn eq_by_parts(mime: &Mime, s: &str) -> bool
     if !same {
         return false;
     }
-    if is_alike {
-        return true;
-    }
-    if known {
-        return true;
-    }
-    is_accepted_at(s, essence.len(), mime.count())
+    is_alike || known || is_accepted_at(s, essence.len(), mime.count())
 }
 
-/// Whether a text is as long as a kept one, both lists begin with a space, after which the kept list has a `c`, and
-/// the kept text ends with a token byte. If the kept list has one parameter, such a text is its value in one form
-/// alone.
+/// Whether a text is as long as a kept one, both lists begin with a space, after which the kept list has a `c`, as of
+/// `charset`, and the kept text ends with a token byte. If the kept list has one parameter, such a text is its value
+/// in one form alone.
 #[inline(always)]
 fn has_one_form(kept: &str, essence: &str, text: &str) -> bool
     ensures { IsTrue result → HasOneForm kept.now essence.now text.now }

@@ -39,7 +39,7 @@ struct Passed<'a> {
 fn is_continuation_byte(byte: u8) -> bool
     ensures { result ≡ is_following_byte byte }
 {
-    byte >= 128 && byte < 192
+    (128..192).contains(&byte)
 }
 
 /// What comes after the first character of a text.
