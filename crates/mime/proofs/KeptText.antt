@@ -6,7 +6,7 @@ use Rattle.mime.specs.Bytes.{slash_byte, semicolon_byte}
 use Rattle.mime.specs.Grammar.{Parameters, blank, final, more, Tail, no_list, listed, SyntaxTree, text_of, text_of_tail, text_of_list, IsToken, AreParameters, IsTail, IsWellFormed}
 use Rattle.mime.specs.Values.{MediaType, Reads, value_of, essence_of, kept_text, lowered, lowered_tree, last_plus, pairs_of_list, pairs_of_tail}
 use Rattle.mime.specs.Pairs.{pairs_within, lowered_within}
-use Rattle.mime.specs.Scanning.{HasPlaces, places_of, semicolon_of, head_text}
+use Rattle.mime.specs.Scanning.{HasPlaces, places_of, semicolon_of, before_list}
 use Rattle.mime.specs.KeptText.{media_of, HoldsParameter, IsKept, kept_text_of, kept_places}
 use Rattle.mime.specs.declared.scan.Places.{Places}
 use Rattle.mime.proofs.ByteAt.{slice_get-front}
@@ -34,23 +34,24 @@ take-essence tree =
     ∙ take_at (essence_of tree) (text_of_tail tree.tail) _ (length-essence_of tree)
 
 -- a text is its head, which ends in the semicolon, and the rest
-semicolon_split : (top sub behind : List ℕ) → top ++ (slash_byte ∷ (sub ++ (semicolon_byte ∷ behind))) ≡ head_text top sub ++ behind
+semicolon_split : (top sub behind : List ℕ)
+    → top ++ (slash_byte ∷ (sub ++ (semicolon_byte ∷ behind))) ≡ text_of (before_list top sub) ++ behind
 semicolon_split top sub behind = simp append_assoc
 
 -- the length of the head
-length-head_text : (top sub : List ℕ) → length (head_text top sub) ≡ length top + 1 + length sub + 1
-length-head_text top sub =
+length-before_list : (top sub : List ℕ) → length (text_of (before_list top sub)) ≡ length top + 1 + length sub + 1
+length-before_list top sub =
     omega (arith, length-append top (slash_byte ∷ (sub ++ (semicolon_byte ∷ []))), length-append sub (semicolon_byte ∷ []))
 
 -- the head of a text
 take-to_semicolon : (top sub behind : List ℕ)
-    → take (length top + 1 + length sub + 1) (top ++ (slash_byte ∷ (sub ++ (semicolon_byte ∷ behind)))) ≡ head_text top sub
-take-to_semicolon top sub behind = ap (take _) (semicolon_split top sub behind) ∙ take_at _ behind _ (length-head_text top sub)
+    → take (length top + 1 + length sub + 1) (top ++ (slash_byte ∷ (sub ++ (semicolon_byte ∷ behind)))) ≡ text_of (before_list top sub)
+take-to_semicolon top sub behind = ap (take _) (semicolon_split top sub behind) ∙ take_at _ behind _ (length-before_list top sub)
 
 -- the rest of a text after its head
 pub drop-to_semicolon : (top sub behind : List ℕ)
     → drop (length top + 1 + length sub + 1) (top ++ (slash_byte ∷ (sub ++ (semicolon_byte ∷ behind)))) ≡ behind
-drop-to_semicolon top sub behind = ap (drop _) (semicolon_split top sub behind) ∙ drop_at _ behind _ (length-head_text top sub)
+drop-to_semicolon top sub behind = ap (drop _) (semicolon_split top sub behind) ∙ drop_at _ behind _ (length-before_list top sub)
 
 -- the value of a tree that is its own lowering
 abbrev pub value_of_low : SyntaxTree → MediaType

@@ -8,7 +8,7 @@ use Rattle.mime.specs.Values.{last_plus}
 use Rattle.mime.specs.Remaining.{Remaining}
 use Rattle.mime.specs.declared.scan.Places.{Places}
 use Rattle.mime.specs.declared.scan.Verdict.{Verdict}
-use Rattle.mime.specs.Scanning.{Given, GivesFirst, Passes, head_places, ScansList, Scans}
+use Rattle.mime.specs.Scanning.{Given, GivesFirst, Passes, places_of, before_list, ScansList, Scans}
 use Rattle.mime.proofs.Begun.{in_type, in_subtype, in_list, begun_list}
 use Rattle.mime.proofs.Passing.{given_then, given_whole}
 use Rattle.mime.proofs.Spelling.{walk_from-lengthens}
@@ -55,7 +55,7 @@ essence_is slash plus top others e f = rw (e, f)
 
 -- the answer on the list is the answer on the text
 pub scans_list : {old mid new : Remaining} {top sub : List ℕ} {head : Places} {verdict : Verdict}
-    → Reaches (in_type []) old mid None (in_list top sub begun_list) → head ≡ head_places top sub
+    → Reaches (in_type []) old mid None (in_list top sub begun_list) → head ≡ places_of (before_list top sub)
     → ScansList head mid new verdict → Scans old new verdict
 scans_list {old} {mid} {top = top} {sub = sub} r e scans =
     let found = walk_from-lengthens (in_type []) r.run (in_list top sub begun_list) refl r.walked in

@@ -2,11 +2,11 @@
 use Rattle.std.proofs.Common.{◌≡◌, ℕ, ◌+◌, List, [], ◌∷◌, ◌++◌, length, Option, Some, None, MatchOption, refl, sym, ap, ◌∙◌, subst, arith, append-nil}
 use Rattle.std.specs.Option.{option_map}
 use Rattle.std.proofs.lemmas.List.{take_at}
-use Rattle.mime.specs.Grammar.{Parameter, Parameters, more, listed, SyntaxTree}
+use Rattle.mime.specs.Grammar.{Parameter, Parameters, more, listed, SyntaxTree, text_of}
 use Rattle.mime.specs.Values.{pairs_of_list, IsRefused}
 use Rattle.mime.specs.Refusals.{IsFault}
 use Rattle.mime.specs.Remaining.{Remaining}
-use Rattle.mime.specs.Scanning.{Given, places_of, HasPlaces, Judges, head_text, head_places, ScansList, Scans}
+use Rattle.mime.specs.Scanning.{Given, places_of, HasPlaces, Judges, before_list, ScansList, Scans}
 use Rattle.mime.specs.declared.scan.Places.{Places}
 use Rattle.mime.specs.declared.scan.fault.ParseError.{ParseError}
 use Rattle.mime.specs.declared.scan.Verdict.{Verdict}
@@ -132,16 +132,17 @@ places_of_list head list =
 
 -- they are those of its tree
 places_of_list-tree : (top sub : List ℕ) (list : BegunList)
-    → places_of_list (head_places top sub) list ≡ option_map places_of (tree_of (in_list top sub list))
+    → places_of_list (places_of (before_list top sub)) list ≡ option_map places_of (tree_of (in_list top sub list))
 places_of_list-tree top sub list = at_end (ended list.place)
   where
     at_end : (end : Option Parameters)
-        → option_map (λ rest. record (head_places top sub) { pairs = 0 + (length list.closed + length (pairs_of_list rest)) }) end
+        → option_map
+        (λ rest. record (places_of (before_list top sub)) { pairs = 0 + (length list.closed + length (pairs_of_list rest)) }) end
         ≡ option_map places_of
         (option_map (λ rest. record { top = top; sub = sub; tail = listed rest }) (option_map (with_closed list.closed) end))
     at_end None = refl
     at_end (Some rest) =
-        ap (λ n. Some (record (head_places top sub) { pairs = n })) (omega (arith, length-with_closed list.closed rest))
+        ap (λ n. Some (record (places_of (before_list top sub)) { pairs = n })) (omega (arith, length-with_closed list.closed rest))
 
 -- a byte that leads nowhere in a list leads nowhere
 stopped_in_list : (top sub left : List ℕ) (list : BegunList) (stop : Option ℕ)
@@ -156,7 +157,7 @@ pub list_scans_at : {head : Places} {old new : Remaining} {stop : Option ℕ} {l
     → places ≡ places_of_list head list → ScansList head old new (verdict_at stop places (lacking_list list.place))
 list_scans_at {new = new} {stop = stop} {list = list} places r stopped e = λ start top sub top_token sub_token head_is given.
     let before : Reaches (in_type []) start _ None (in_list top sub begun_list) = record {
-      run = head_text top sub;
+      run = text_of (before_list top sub);
       given = given;
       walked = walk-head top sub [] top_token sub_token;
     } in

@@ -2,8 +2,8 @@
 use Rattle.std.specs.Prelude.{◌≡◌, ℕ, ◌+◌, Bool, IsTrue, IsFalse, List, [], ◌∷◌, ◌++◌, length, take, drop, Option, Some, None, MatchOption}
 use Rattle.std.specs.Option.{option_to_list}
 use Rattle.std.specs.List.{list_all}
-use Rattle.mime.specs.Bytes.{is_token_byte, slash_byte, semicolon_byte}
-use Rattle.mime.specs.Grammar.{Tail, no_list, listed, SyntaxTree, text_of, IsToken, IsWellFormed}
+use Rattle.mime.specs.Bytes.{is_token_byte}
+use Rattle.mime.specs.Grammar.{blank, Tail, no_list, listed, SyntaxTree, text_of, IsToken, IsWellFormed}
 use Rattle.mime.specs.Values.{last_plus, pairs_of_tail, IsRefused}
 use Rattle.mime.specs.Refusals.{IsViable, IsFault}
 use Rattle.mime.specs.declared.scan.Places.{Places}
@@ -66,32 +66,24 @@ pub record Scans (old new : Remaining) (verdict : Verdict) : Type 0 where
   pub counted : new.count ≡ old.count + count
   pub judged : Judges old.left count verdict
 
--- what stands between quotes was passed, and the byte that ends it
+-- quoted content was passed, and the byte that ends it
 pub record PassesContent (old new : Remaining) (stop : Option ℕ) : Type 0 where
   pub run : List ℕ
   pub of_class : IsOpenContent run
   pub given : Given old new run stop
   pub stopped : MatchOption stop (new.left ≡ []) (λ b. IsFalse (continues run b))
 
--- the rest of a subtype was passed, of which the first byte stands at a position; its last plus
+-- the rest of a subtype was passed, whose first byte is at a position; its last plus
 pub record PassesSubtype (at : ℕ) (old new : Remaining) (answer : Option ℕ × Option ℕ) : Type 0 where
   pub passes : Passes is_token_byte old new answer.1
   pub plus : answer.0 ≡ last_plus at passes.run
 
--- the text of a type and a subtype with the semicolon after it, and the positions of its parts
-abbrev pub head_text : List ℕ → List ℕ → List ℕ
-head_text top sub = top ++ (slash_byte ∷ (sub ++ (semicolon_byte ∷ [])))
-
-abbrev pub head_places : List ℕ → List ℕ → Places
-head_places top sub = record {
-  slash = length top;
-  plus = last_plus (length top + 2) (drop 1 sub);
-  semicolon = Some (length top + 1 + length sub);
-  pairs = 0;
-}
+-- the tree of the text before a list: a type, a subtype and a semicolon
+abbrev pub before_list : List ℕ → List ℕ → SyntaxTree
+before_list top sub = record { top = top; sub = sub; tail = listed (blank []) }
 
 -- the scanner's answer on a parameter list is its answer on each text that the list ends
 abbrev pub ScansList : Places → Remaining → Remaining → Verdict → Type 0
 ScansList head old new verdict =
-    (start : Remaining) (top sub : List ℕ) → IsToken top → IsToken sub → head ≡ head_places top sub
-    → Given start old (head_text top sub) None → Scans start new verdict
+    (start : Remaining) (top sub : List ℕ) → IsToken top → IsToken sub → head ≡ places_of (before_list top sub)
+    → Given start old (text_of (before_list top sub)) None → Scans start new verdict

@@ -10,6 +10,9 @@ use crate::value::Mime;
 
 /// A constant media type (RFC 7231, 3.1.1.1): [`Atom::mime`] gives its value, [`Atom::text`] its text. It can be
 /// matched and copied, and takes no memory: `TEXT_PLAIN.mime()` is the media type `text/plain`.
+///
+/// IANA's registry of media types (RFC 6838) says what most of them mean. Those with a `*` are media ranges
+/// (RFC 7231, 5.3.2).
 #[derive(Clone, Copy, PartialEq, Eq, Debug)]
 #[allow(non_camel_case_types)]
 pub enum Atom {
@@ -184,7 +187,8 @@ fn charset(text: &'static str, slash: usize, semicolon: usize) -> Constant
 }
 
 impl Atom {
-    /// The one table of the constants: each text with the positions of its slash and its semicolon.
+    /// The one table of the constants: each text with the positions of its slash, its plus and its semicolon, and the
+    /// number of its parameters.
     #[inline]
     fn constant(self) -> Constant
         ensures text { result.text.now ≡ atom_text self }
@@ -245,8 +249,8 @@ impl Atom {
         self.constant().text
     }
 
-    /// The media type that its text is read as. It asks for no memory, and neither does cloning it:
-    /// `TEXT_PLAIN_UTF_8.mime()` is equal to what `text/plain;charset="utf-8"` is read as.
+    /// The media type that its text is read as (RFC 7231, 3.1.1.1). It asks for no memory, and neither does cloning
+    /// it: `TEXT_PLAIN_UTF_8.mime()` is equal to what `text/plain;charset="utf-8"` is read as.
     pub fn mime(self) -> Mime
         ensures reads { Reads (atom_text self) result.media }
         ensures kept { result.media.kept ≡ atom_text self }

@@ -9,7 +9,7 @@ const T: bool = true;
 
 const F: bool = false;
 
-/// Whether each byte may stand in a token.
+/// Whether each byte may occur in a token.
 static TOKEN: [bool; 256] = [
     F, F, F, F, F, F, F, F, F, F, F, F, F, F, F, F, F, F, F, F, F, F, F, F, F, F, F, F, F, F, F, F,
     F, T, F, T, T, T, T, T, F, F, T, T, F, T, T, F, T, T, T, T, T, T, T, T, T, T, F, F, F, F, F, F,
@@ -33,7 +33,7 @@ static QUOTED: [bool; 256] = [
     T, T, T, T, T, T, T, T, T, T, T, T, T, T, T, T, T, T, T, T, T, T, T, T, T, T, T, T, T, T, T, T,
 ];
 
-/// Whether each byte may stand by itself in a quoted value.
+/// Whether each byte may occur in a quoted value without a backslash before it.
 static QUOTED_TEXT: [bool; 256] = [
     F, F, F, F, F, F, F, F, F, T, F, F, F, F, F, F, F, F, F, F, F, F, F, F, F, F, F, F, F, F, F, F,
     T, T, F, T, T, T, T, T, T, T, T, T, T, T, T, T, T, T, T, T, T, T, T, T, T, T, T, T, T, T, T, T,
@@ -45,7 +45,7 @@ static QUOTED_TEXT: [bool; 256] = [
     T, T, T, T, T, T, T, T, T, T, T, T, T, T, T, T, T, T, T, T, T, T, T, T, T, T, T, T, T, T, T, T,
 ];
 
-/// Whether a byte may stand in a token: a type, a subtype, a parameter's name, an unquoted value
+/// Whether a byte may occur in a token: a type, a subtype, a parameter's name, an unquoted value
 /// (tchar of RFC 7230, 3.2.6). `is_token(b'+')` is true, `is_token(b' ')` is false.
 #[inline(always)]
 pub fn is_token(b: u8) -> bool
@@ -54,7 +54,7 @@ pub fn is_token(b: u8) -> bool
     TOKEN[b as usize]
 }
 
-/// Whether a byte is a space or a tab, as may stand before a parameter and after a quoted value.
+/// Whether a byte is a space or a tab, which may precede a parameter and follow a quoted value.
 #[inline(always)]
 pub(crate) fn is_space(b: u8) -> bool
     ensures { result ≡ is_space_byte b }
@@ -71,8 +71,8 @@ pub fn is_quoted_byte(b: u8) -> bool
     QUOTED[b as usize]
 }
 
-/// Whether a byte may stand by itself in a quoted value (qdtext of RFC 7230, 3.2.6): any quoted byte
-/// but the quote and the backslash. `is_quoted_text_byte(b';')` is true.
+/// Whether a byte may occur in a quoted value without a backslash before it (qdtext of RFC 7230, 3.2.6): any byte
+/// that may follow a backslash, but the quote and the backslash. `is_quoted_text_byte(b';')` is true.
 #[inline(always)]
 pub fn is_quoted_text_byte(b: u8) -> bool
     ensures { result ≡ is_quoted_text b }

@@ -8,7 +8,7 @@ ghost use Rattle.mime.specs.Spelled.{HasParameters};
 ghost use Rattle.mime.specs.Values.{lowered, lowered_value, is_charset};
 
 use crate::bytes::is_token;
-use crate::name::{CASE, are_alike, eq_ignoring_case};
+use crate::name::{CASE_BIT, are_alike, eq_ignoring_case};
 use crate::scan::{ByteReader, Places, Verdict, scan};
 use crate::value::Mime;
 use crate::value::pairs::{Pair, cut};
@@ -29,7 +29,7 @@ fn begin_alike(kept: &[u8], text: &[u8]) -> bool
     requires { 0 < length kept.now }
     ensures { lowered (take 1 kept.now) ≡ lowered (take 1 text.now) → IsTrue result }
 {
-    !text.is_empty() && kept[0] | CASE == text[0] | CASE
+    !text.is_empty() && kept[0] | CASE_BIT == text[0] | CASE_BIT
 }
 
 /// Whether a text goes on with a semicolon after this essence, in any case.
@@ -60,8 +60,8 @@ fn is_recased(in_form: bool, kept: &str, text: &str) -> bool
     in_form && alike(kept, text)
 }
 
-/// Whether a text goes on with a semicolon after this essence, where it is known whether the text is alike
-/// to one that does.
+/// Whether a text goes on with a semicolon after this essence, in any case. It does if `is_alike`: then the text is
+/// known to be the kept one but for case.
 #[inline(always)]
 fn has_list(is_alike: bool, essence: &str, text: &str) -> bool
     requires { IsTrue is_alike → IsListAfter essence.now text.now }
@@ -126,7 +126,7 @@ fn are_pairs(kept: &str, list: &str, count: usize, check: bool) -> (bool, bool)
     (true, known && right.is_empty())
 }
 
-/// Whether so many pairs stand after a semicolon at this position.
+/// Whether a semicolon is at this position and so many parameters follow.
 #[inline(always)]
 fn is_list_at(places: Places, end: usize, count: usize) -> bool
     ensures { IsTrue result ↔ ((places.semicolon ≡ Some end) × (places.pairs ≡ count)) }
@@ -142,8 +142,7 @@ fn is_accepted_at(text: &str, end: usize, count: usize) -> bool
     let mut reader = ByteReader::new(text, 0);
     match scan(&mut reader) {
         Verdict::Accepted(places) => is_list_at(places, end, count),
-        Verdict::Unfinished(_) => false,
-        Verdict::Stopped(_, _) => false,
+        _ => false,
     }
 }
 
@@ -183,17 +182,12 @@ fn eq_by_parts(mime: &Mime, s: &str) -> bool
     if !same {
         return false;
     }
-    if is_alike {
-        return true;
-    }
-    if known {
-        return true;
-    }
-    is_accepted_at(s, essence.len(), mime.count())
+    is_alike || known || is_accepted_at(s, essence.len(), mime.count())
 }
 
-/// Whether a text is as long as a kept one, both lists begin with a space, and the kept one ends with
-/// a token byte. If the kept list has one parameter, such a text is its value in one form alone.
+/// Whether a text is as long as a kept one, both lists begin with a space, after which the kept list has a `c`, as of
+/// `charset`, and the kept text ends with a token byte. If the kept list has one parameter, such a text is its value
+/// in one form alone.
 #[inline(always)]
 fn has_one_form(kept: &str, essence: &str, text: &str) -> bool
     ensures { IsTrue result → HasOneForm kept.now essence.now text.now }

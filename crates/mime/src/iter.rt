@@ -36,10 +36,10 @@ struct Passed<'a> {
 
 /// Whether a byte begins no character.
 #[inline(always)]
-fn is_following(byte: u8) -> bool
+fn is_continuation_byte(byte: u8) -> bool
     ensures { result ≡ is_following_byte byte }
 {
-    byte >= 128 && byte < 192
+    (128..192).contains(&byte)
 }
 
 /// What comes after the first character of a text.
@@ -50,7 +50,7 @@ fn after_character(text: &str) -> &str
 {
     let bytes = text.as_bytes();
     let mut end = 1;
-    while end < bytes.len() && is_following(bytes[end]) {
+    while end < bytes.len() && is_continuation_byte(bytes[end]) {
         end += 1;
     }
     &text[end..]
@@ -97,11 +97,12 @@ fn pass<'a>(text: &'a str, from: u128) -> Passed<'a>
 /// The text is cut into the longest pieces that some media type begins with. Each ends before a
 /// character that can't follow it, such as the comma of a list; that character is passed. A piece
 /// is a media type or a bad piece; an empty one is no item, and neither is a last piece that is
-/// unfinished. So a bad entry leaves those after it as they are. No byte is read twice.
+/// unfinished. So a bad entry doesn't change the entries after its comma, unless it ends in an open quoted value. No
+/// byte is read twice.
 ///
 /// Over `text/html, invalid, a/b; q=1` it gives `text/html`, the bad piece `invalid`, and
-/// `a/b; q=1`. Over `a/b ; q=1` it gives `a/b` and the bad piece `q`, since no space may stand
-/// before the semicolon. Over `invalid` alone it gives nothing, since that could still become a media type.
+/// `a/b; q=1`. Over `a/b ; q=1` it gives `a/b` and the bad piece `q`, since no space may precede the
+/// semicolon. Over `invalid` alone it gives nothing, since that could still become a media type.
 #[derive(Clone, Drop)]
 pub struct MimeIter<'a> {
     alloc: Global,
@@ -193,7 +194,7 @@ impl<'a> Iterator for MimeIter<'a> {
     }
 }
 
-/// Prints the word `MimeIter`.
+/// Its text is open: it may change between versions.
 impl fmt::Debug for MimeIter<'_> {
     fn fmt<W: fmt::Write>(&self, f: &mut fmt::Formatter<W>) -> fmt::Result {
         f.write_str("MimeIter")

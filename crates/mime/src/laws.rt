@@ -1,5 +1,5 @@
-//! The laws of the definitions, as calls: each does nothing and ensures its law, so a caller that calls it has the
-//! law in its proof. Some give the constants, or show what traits do. docs/LAWS.md lists all claims.
+//! The laws of the definitions, as calls: a caller that calls one has its law in its proof. Most do nothing;
+//! `atom_constants` and `name_constants` give the constants, and `iter_clone` a clone. docs/LAWS.md lists all claims.
 
 ghost use Rattle.std.specs.Prelude.{◌≡◌, ◌↔◌, IsTrue, IfOk, IsOk, map};
 ghost use Rattle.std.specs.Cmp.Lexicographic.{slice_cmp};
@@ -33,8 +33,7 @@ use crate::name::constants::{
 };
 use crate::value::Mime;
 use std::alloc::AllocError;
-use std::cmp::Ordering;
-use std::hash::{Hash, Hasher};
+use std::hash::Hash;
 
 /// A text is spelled by at most one well-formed tree: `a/b;p=x` only by the one with type `a`, subtype `b` and a
 /// plain parameter (RFC 7231, 3.1.1.1).
@@ -62,13 +61,14 @@ pub fn accepted_is_viable()
     ensures { AcceptedIsViable }
 {}
 
-/// Exactly one of five things is missing from a viable refused text: its completion makes the text
-/// an accepted one.
+/// Exactly one of five things is missing from a viable refused text, and its completion makes the text an accepted
+/// one: `a/b;p` lacks an equals sign and a value, and `a/b;p=x` is accepted.
 pub fn one_completion()
     ensures { OneCompletion }
 {}
 
-/// A text that lacks one of them is refused.
+/// A text that lacks a slash, a subtype, an equals sign, a value or a closing quote is refused: `text/`, which lacks
+/// a subtype.
 pub fn completed_is_refused()
     ensures { CompletedIsRefused }
 {}
@@ -104,8 +104,8 @@ pub fn kept_is_read()
     ensures { KeptIsRead }
 {}
 
-/// Of two values the first comes before the second, or they are equal, or the second comes before
-/// the first: `a/b` comes before `a/b;p=1`, and that before `a/c`.
+/// Of two values exactly one is true: the first comes before the second, they are equal, or the second comes before
+/// the first. `a/b` comes before `a/b;p=1`, and that before `a/c`.
 pub fn one_order()
     ensures { OneOrder }
 {}
@@ -198,7 +198,7 @@ pub fn one_count()
     ensures { OneCount }
 {}
 
-/// A comma ends what stands before it, unless that is an open quoted value, and what comes after it
+/// A comma ends whatever precedes it, unless that is an open quoted value, and what comes after it
 /// is cut as it is alone: `e f, a/b` has the item `a/b`, as `a/b` alone has.
 pub fn comma_contains()
     ensures { CommaContains }
@@ -216,9 +216,9 @@ pub fn run_gives_cut()
     ensures { RunGivesCut }
 {}
 
-/// A run over a text with a comma gives the items of what stands before it, the rest of that, and
-/// the items of what comes after it, unless the rest is an open quoted value: over `e, c/d` it gives the bad
-/// piece `e`, which is the rest of `e` alone, and `c/d`.
+/// A run over a text with a comma gives the items of the text before the comma, the rest of that, and the items of
+/// the text after the comma, unless the rest is an open quoted value: over `e, c/d` it gives the bad piece `e`, which
+/// is the rest of `e` alone, and `c/d`.
 pub fn comma_contains_on_runs()
     ensures { CommaContainsOnRuns }
 {}

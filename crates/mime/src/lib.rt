@@ -23,12 +23,19 @@
 //! # Errors
 //! A text that isn't a media type is refused with its one fault, a [`ParseError`]: what is missing at its
 //! end, or the first byte that no media type could have there, with its position. Positions count bytes from
-//! 0. A broken entry of a list is [`Bad::Piece`], and those after it are read all the same.
+//! 0. A piece of a list that isn't a media type is [`Bad::Piece`]. A bad entry doesn't change the entries after its
+//! comma, unless it ends in an open quoted value. A last entry that isn't a media type, but could still become one,
+//! is no item.
 //!
 //! # Memory
-//! A call that allocates takes the allocator first, or is `clone`, and its error says when memory ran out.
-//! `Mime::from_str`, `clone` of a `Mime` and each media type of a `MimeIter` ask for memory once; `*/*` and the
-//! constants never do, and nothing else does.
+//! `Mime::from_str` and `MimeIter::new` take the allocator. Reading a media type, `clone` of a `Mime`, and each
+//! media type that a `MimeIter` gives ask for memory once, and have an error for running out of it. Refused texts,
+//! `*/*` and the constants never ask, and nothing else does.
+//!
+//! # Standards
+//! The grammar is that of RFC 7231 and RFC 7230, with the departures that docs/DIFFERENCES.md lists. RFC 9110
+//! (8.3.1, 5.6.4, 5.6.6) took their place in 2022. There a parameter may be missing after any semicolon, here after
+//! the last one alone: `a/b;` is read, `a/b;;p=x` isn't.
 //!
 //! # Left out
 //! What a media type means: ranges, weights, choosing by `Accept`, escapes in quoted values, extensions of

@@ -52,7 +52,7 @@ impl fmt::Debug for Name<'_> {
 }
 
 /// The bit that tells a small ASCII letter from its capital.
-pub(crate) const CASE: u8 = 0x20;
+pub(crate) const CASE_BIT: u8 = 0x20;
 
 /// The bits in which two bytes differ, apart from the one that tells a capital from its small letter
 /// where the first is an ASCII letter: none where the bytes are the same but for case.
@@ -60,8 +60,8 @@ pub(crate) const CASE: u8 = 0x20;
 fn differing_bits(x: u8, y: u8) -> u8
     ensures { (result ≡ 0) ↔ (to_ascii_lowercase x ≡ to_ascii_lowercase y) }
 {
-    let case = if (x | CASE).is_ascii_lowercase() {
-        CASE
+    let case = if (x | CASE_BIT).is_ascii_lowercase() {
+        CASE_BIT
     } else {
         0
     };
@@ -69,7 +69,7 @@ fn differing_bits(x: u8, y: u8) -> u8
 }
 
 /// The bits in which two byte strings of one length differ, taken over all their bytes, as
-/// `differing_bits` takes them. The loop doesn't end early: over a known length it is one step of the processor.
+/// `differing_bits` takes them. The loop doesn't end early: over a known length it is a few vector instructions.
 #[inline(always)]
 fn all_differing_bits(a: &[u8], b: &[u8]) -> u8
     requires same_length { length a.now ≡ length b.now }
@@ -97,8 +97,8 @@ fn ends_alike(a: &[u8], b: &[u8], block: usize) -> bool
         && all_differing_bits(&a[..block], &b[..block]) == 0
 }
 
-/// The same of longer ones, in blocks of 16 bytes, up to the first block that differs. The last may
-/// overlap the one before.
+/// Whether two byte strings of one length, at least 16, are the same but for the case of ASCII letters, by blocks
+/// of 16 bytes, up to the first block that differs. The last block may overlap the one before.
 #[inline(always)]
 fn blocks_alike(a: &[u8], b: &[u8]) -> bool
     requires same_length { length a.now ≡ length b.now }
@@ -139,7 +139,7 @@ pub(crate) fn are_alike(a: &[u8], b: &[u8]) -> bool
     all_differing_bits(a, b) == 0
 }
 
-/// The same, by a call.
+/// Whether two byte strings are the same but for the case of ASCII letters, by a call.
 #[inline(never)]
 pub(crate) fn eq_ignoring_case(a: &[u8], b: &[u8]) -> bool
     ensures { IsTrue result ↔ (lowered a.now ≡ lowered b.now) }
@@ -163,8 +163,8 @@ pub trait ParamKey: Drop {
     /// The names that the key accepts, by text and flag.
     ghost Accepts: { Self → List ℕ → Bool → Type 0 };
 
-    /// Whether the key accepts a parameter's name, which is given in small letters with its flag set:
-    /// `TextKey("P")` accepts `p`.
+    /// Whether the key accepts a parameter's name: `TextKey("P")` accepts `p`. `get_param` gives it the name in
+    /// small letters, with the flag `true`.
     fn accepts(&self, name: Name<'_>) -> bool
         ensures { IsTrue result ↔ Accepts self.now name.entry.text.now name.entry.ignores_case };
 }
@@ -183,7 +183,7 @@ impl ParamKey for TextKey<'_> {
 }
 
 /// A name as a key accepts the names that are equal to it, in text and flag: [`CHARSET`](crate::CHARSET)
-/// accepts `charset`.
+/// accepts `charset`. A `Name` with an ASCII capital, or with the flag `false`, finds no parameter.
 impl ParamKey for Name<'_> {
     ghost Accepts = { λ key name ignores_case. (name ≡ key.text.now) × (ignores_case ≡ key.ignores_case) };
 

@@ -12,8 +12,8 @@ use crate::bytes::{is_quoted_byte, is_quoted_text_byte, is_space, is_token};
 pub use crate::scan::fault::{FromStrError, ParseError};
 pub(crate) use crate::scan::reader::ByteReader;
 
-/// Where the parts of an accepted text are, in bytes from 0.
-#[derive(Clone, Copy, PartialEq, Debug)]
+/// The parts of an accepted text: their positions, in bytes from 0, and the number of its parameters.
+#[derive(Clone, Copy)]
 pub(crate) struct Places {
     pub(crate) slash: usize,
     pub(crate) plus: Option<usize>,
@@ -22,7 +22,7 @@ pub(crate) struct Places {
 }
 
 /// What one pass over a text finds.
-#[derive(Clone, Copy, PartialEq, Debug)]
+#[derive(Clone, Copy)]
 pub(crate) enum Verdict {
     /// It is accepted.
     Accepted(Places),
@@ -59,7 +59,7 @@ fn spaces(reader: &mut ByteReader<'_>) -> Option<u8>
     None
 }
 
-/// Passes the bytes of a quoted value that stand by themselves, and gives the byte that ends them.
+/// Passes quoted text (qdtext of RFC 7230, 3.2.6), and gives the byte that ends it.
 #[inline(always)]
 fn quoted_text(reader: &mut ByteReader<'_>) -> Option<u8>
     ensures { Passes is_quoted_text reader.old reader.new result }
@@ -72,8 +72,8 @@ fn quoted_text(reader: &mut ByteReader<'_>) -> Option<u8>
     None
 }
 
-/// Passes what stands between the quotes of a value, and gives the byte that ends it: a quote closes
-/// the value, unless a backslash stands before it that isn't itself paired.
+/// Passes a quoted value's content, and gives the byte that ends it: a quote closes it unless an unpaired
+/// backslash precedes it.
 #[inline(always)]
 fn content(reader: &mut ByteReader<'_>) -> Option<u8>
     ensures { PassesContent reader.old reader.new result }
@@ -97,7 +97,7 @@ fn subtype(reader: &mut ByteReader<'_>, from: u128) -> (Option<usize>, Option<u8
     requires fits { reader.old.count + length reader.old.left < from + 2 ^ 64 }
     ensures { PassesSubtype (reader.old.count - from) reader.old reader.new result }
 {
-    // 0 where there is none yet: the type stands there.
+    // 0 means none yet: position 0 is in the type.
     let mut plus = 0;
     let stop = loop {
         let Some(byte) = reader.next() else {

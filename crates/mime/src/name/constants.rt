@@ -123,7 +123,7 @@ pub const WWW_FORM_URLENCODED: Name<'static> = Name {
     ignores_case: true,
 };
 
-/// The subtype `msgpack`, as in `application/msgpack`.
+/// The subtype `msgpack`, as in `application/msgpack` (the MessagePack format).
 pub const MSGPACK: Name<'static> = Name {
     text: "msgpack",
     ignores_case: true,
@@ -165,7 +165,7 @@ pub const BMP: Name<'static> = Name {
     ignores_case: true,
 };
 
-/// The subtype `gif`, as in `image/gif` (RFC 2046).
+/// The subtype `gif`, as in `image/gif` (RFC 2046, 3).
 pub const GIF: Name<'static> = Name {
     text: "gif",
     ignores_case: true,

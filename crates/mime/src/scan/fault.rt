@@ -1,4 +1,4 @@
-//! How a refusal is told to a caller, and what it prints.
+//! How a refusal is reported, and what it prints.
 
 ghost use Rattle.std.specs.Prelude.{◌≡◌, ◌<◌, true, Some};
 ghost use Rattle.std.specs.Fmt.{digit_glyph, digits, DisplaysOnOk};
@@ -11,7 +11,7 @@ use std::marker::Model;
 /// Why a text isn't read as a media type (RFC 7231, 3.1.1.1).
 #[derive(Clone, Copy, PartialEq, Eq, Debug)]
 pub enum ParseError {
-    /// The text ends in its type: a `/` and a subtype are missing, as in `text`.
+    /// The text ends in its type, as in `text`, or is empty: at least a `/` and a subtype are missing.
     MissingSlash,
     /// The text ends in its slash: a subtype is missing, as in `text/`.
     MissingSubtype,
@@ -19,9 +19,11 @@ pub enum ParseError {
     MissingEqual,
     /// The text ends in a parameter's equals sign: a value is missing, as in `a/b;p=`.
     MissingValue,
-    /// The text ends in a quoted value: its closing `"` is missing, as in `a/b;p="x`.
+    /// The text ends in a quoted value: its closing `"` is missing, as in `a/b;p="x`. After an unpaired backslash, as
+    /// in `a/b;p="\`, the byte after it is missing too.
     MissingQuote,
-    /// No media type begins with the bytes up to and including this one, as the space in `a b`.
+    /// Some media type begins with the bytes before this one, and none with the bytes up to and including it, as the
+    /// space in `a b`.
     InvalidToken {
         /// The position of the byte, in bytes from 0.
         pos: usize,
@@ -56,7 +58,7 @@ fn write_byte<W: fmt::Write>(f: &mut fmt::Formatter<W>, byte: u8) -> fmt::Result
     f.write_char(hex_digit(byte % 16))
 }
 
-/// Writes which byte can't stand where.
+/// Writes the invalid byte and its position.
 fn write_token<W: fmt::Write>(f: &mut fmt::Formatter<W>, pos: usize, byte: u8) -> fmt::Result
     ensures { DisplaysOnOk W.write_str_gives f.old result (Some (token_text pos byte)) f.new }
 {
@@ -65,8 +67,8 @@ fn write_token<W: fmt::Write>(f: &mut fmt::Formatter<W>, pos: usize, byte: u8) -
     write!(f, " at position {pos}")
 }
 
-/// Prints what is missing, or the byte in capital hexadecimal with its position in decimal. A width is
-/// ignored.
+/// Prints what is missing, or the byte in capital hexadecimal with its position in decimal, or that memory ran out. A
+/// width is ignored.
 ///
 /// `text/;` is refused with `an invalid token was encountered, 3B at position 5`.
 impl fmt::Display for ParseError {
@@ -97,7 +99,7 @@ impl fmt::Display for ParseError {
 
 impl Error for ParseError {}
 
-/// Why a text isn't read as a media type: the error of `Mime::from_str`. That of `text` prints
+/// Why a text isn't read as a media type (RFC 7231, 3.1.1.1): the error of `Mime::from_str`. That of `text` prints
 /// `mime parse error: a slash (/) was missing between the type and subtype`.
 #[derive(Debug, Drop)]
 pub struct FromStrError {

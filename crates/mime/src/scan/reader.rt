@@ -1,6 +1,6 @@
 //! A reader of a text's bytes, which counts those it gave.
 
-ghost use Rattle.std.specs.Prelude.{◌≡◌, ◌+◌, ◌<◌, ◌^◌, ◌∷◌, [], length, MatchOption};
+ghost use Rattle.std.specs.Prelude.{◌≡◌, ◌+◌, ◌<◌, ◌^◌, length};
 ghost use Rattle.mime.specs.Scanning.{GivesFirst};
 
 use std::marker::Model;

@@ -1,5 +1,6 @@
 -- A text is equal to the value where it has the value's essence and its pairs, and is accepted.
-use Rattle.std.proofs.Common.{◌+◌, ◌∙◌, length, drop, sym, ap, refl, subst, lit<}
+use Rattle.std.proofs.Common.{◌+◌, ◌∙◌, length, drop, sym, ap, subst, lit<, ⊎_elim, rules}
+use Rattle.std.specs.Prelude.{IsTrue}
 use Rattle.mime.specs.KeptText.{IsListAfter, AreLowPairs}
 use Rattle.mime.specs.Pairs.{pairs_within}
 use Rattle.mime.specs.Spelled.{HasParameters}
@@ -45,37 +46,23 @@ returns-then-known c =
     let reads = c.as_str-kept.ensures.reads in
     let list = subst (λ essence. IsListAfter essence c.args.s.now) c.essence_str-essence.ensures (c.has_list.ensures.0 c.if-not-has_list.false) in
     let behind = c.range_from-list.ensures.value ∙ ap (λ e. drop (length e + 1) c.args.s.now) c.essence_str-essence.ensures in
-    let has =
+    let has : IsTrue c.are_pairs-same.result.1 → HasParameters (drop (length value.essence + 1) c.args.s.now) (length value.pairs) = λ known.
     subst (HasParameters (drop (length value.essence + 1) c.args.s.now)) c.count.ensures
-    (subst (λ l. HasParameters l c.count.result) behind (c.are_pairs-same.ensures.known c.if-known.true)) in
+    (subst (λ l. HasParameters l c.count.result) behind (c.are_pairs-same.ensures.known known)) in
     let pairs =
     pairs-told _ value c.args.s.now _ _ _ _ c.are_pairs-same.ensures.same c.count.ensures c.list.ensures c.range_from-list.ensures.value
     c.essence_str-essence.ensures in (
       λ _. text_is-from_parts _ _ value reads c.requires (record {
         list = list;
         pairs = pairs.0 c.if-not-same.false;
-        accepted = accepted_at-parameters _ _ value _ reads list has;
+        accepted = ⊎_elim (λ alike. accepted_at-case _ _ value reads c.requires (c.is_recased-is_alike.ensures alike))
+            (λ known. accepted_at-parameters _ _ value _ reads list (has known.1)) c.if-known.either;
       }),
-      λ _. refl,
+      λ _. search rules,
     )
 
-pub returns-then-is_alike : goal.returns-then-is_alike
-returns-then-is_alike c =
-    let value = c.args.mime.now.media in
-    let reads = c.as_str-kept.ensures.reads in
-    let pairs =
-    pairs-told _ value c.args.s.now _ _ _ _ c.are_pairs-same.ensures.same c.count.ensures c.list.ensures c.range_from-list.ensures.value
-    c.essence_str-essence.ensures in (
-      λ _. text_is-from_parts _ _ value reads c.requires (record {
-        list = rw (← c.essence_str-essence.ensures) (c.has_list.ensures.0 c.if-not-has_list.false);
-        pairs = pairs.0 c.if-not-same.false;
-        accepted = accepted_at-case _ _ value reads c.requires (c.is_recased-is_alike.ensures c.if-is_alike.true);
-      }),
-      λ _. refl,
-    )
-
-pub returns : goal.returns
-returns c =
+pub returns-else-known : goal.returns-else-known
+returns-else-known c =
     let value = c.args.mime.now.media in
     let reads = c.as_str-kept.ensures.reads in
     let pairs =
@@ -84,8 +71,8 @@ returns c =
       λ is. text_is-from_parts _ _ value reads c.requires (record {
         list = rw (← c.essence_str-essence.ensures) (c.has_list.ensures.0 c.if-not-has_list.false);
         pairs = pairs.0 c.if-not-same.false;
-        accepted = rw (← c.essence_str-essence.ensures, ← c.count-2.ensures) (c.is_accepted_at.ensures.0 is);
+        accepted = rw (← c.essence_str-essence.ensures, ← c.count-else-known.ensures) (c.is_accepted_at.ensures.0 is);
       }),
-      λ is. c.is_accepted_at.ensures.1 (rw (c.essence_str-essence.ensures, c.count-2.ensures)
+      λ is. c.is_accepted_at.ensures.1 (rw (c.essence_str-essence.ensures, c.count-else-known.ensures)
           (text_is-parts _ _ value reads c.requires is).accepted),
     )

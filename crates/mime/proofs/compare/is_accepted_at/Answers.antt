@@ -1,13 +1,21 @@
 -- The scanner finds the positions of an accepted text, and a text has one of each.
-use Rattle.std.proofs.Common.{◌∙◌, ap, subst}
+use Rattle.std.proofs.Common.{◌≢◌, ℕ, List, ◌∙◌, refl, ap, subst}
 use Rattle.mime.specs.Values.{IsRefused}
-use Rattle.mime.specs.Refusals.{IsFault}
-use Rattle.mime.specs.Scanning.{HasPlaces}
+use Rattle.mime.specs.Scanning.{HasPlaces, Judges}
 use Rattle.mime.specs.declared.scan.Places.{Places}
+use Rattle.mime.specs.declared.scan.Verdict.{Verdict}
+use Rattle.mime.specs.declared.scan.Verdict.TheVariants.{Accepted, Unfinished, Stopped}
 use Rattle.mime.proofs.Outcomes.{refused-from_fault}
 use Rattle.mime.proofs.TextComparison.{one_places, IsAccepted-at}
 use Rattle.mime.proofs.Viability.{refused-at_dead}
 use Rattle.mime.proofs.compare.is_accepted_at.Goals as goal
+
+-- a text that isn't judged to be accepted is refused
+refused-not_accepted : (text : List ℕ) (count : ℕ) (verdict : Verdict) → Judges text count verdict
+    → ((places : Places) → verdict ≢ Accepted places) → IsRefused text
+refused-not_accepted text count (Accepted places) judged other = absurd (other places refl)
+refused-not_accepted text count (Unfinished fault) judged other = refused-from_fault _ _ judged.1
+refused-not_accepted text count (Stopped byte places) judged other = refused-at_dead _ _ _ judged.2.fault
 
 pub returns-in-Accepted : goal.returns-in-Accepted
 returns-in-Accepted c =
@@ -18,12 +26,7 @@ returns-in-Accepted c =
           c.is_list_at.ensures.1 (ap (λ (p : Places). p.semicolon) one ∙ is.semicolon, ap (λ (p : Places). p.pairs) one ∙ is.counted),
     )
 
-pub returns-in-Unfinished : goal.returns-in-Unfinished
-returns-in-Unfinished c =
-    let fault = subst (λ text. IsFault text c.in-Unfinished.field-0) c.new-reader.ensures.left c.in-Unfinished.ensures.judged.1 in
-    (λ bad. absurd cc, λ is. absurd (refused-from_fault _ _ fault (IsAccepted-at _ _ _ is)))
-
-pub returns-in-Stopped : goal.returns-in-Stopped
-returns-in-Stopped c =
-    let refused = subst IsRefused c.new-reader.ensures.left (refused-at_dead _ _ _ c.in-Stopped.ensures.judged.2.fault) in
-    (λ bad. absurd cc, λ is. absurd (refused (IsAccepted-at _ _ _ is)))
+pub returns-in_default : goal.returns-in_default
+returns-in_default c =
+    let judged = subst (λ text. Judges text c.scan.ensures.count c.scan.result) c.new-reader.ensures.left c.scan.ensures.judged in
+    (λ bad. absurd cc, λ is. absurd (refused-not_accepted _ _ _ judged c.in_default.not-Accepted (IsAccepted-at _ _ _ is)))

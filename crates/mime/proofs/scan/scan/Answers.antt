@@ -4,7 +4,7 @@ use Rattle.std.proofs.lemmas.Bool.{cond-true, cond-false}
 use Rattle.mime.specs.Bytes.{slash_byte, semicolon_byte}
 use Rattle.mime.specs.Values.{last_plus}
 use Rattle.mime.specs.declared.scan.Places.{Places}
-use Rattle.mime.specs.Scanning.{head_places}
+use Rattle.mime.specs.Scanning.{places_of, before_list}
 use Rattle.mime.proofs.Begun.{in_type, in_subtype}
 use Rattle.mime.proofs.Passing.{given_sum}
 use Rattle.mime.proofs.Verdicts.{Reaches, reaches_run, reaches_byte, scans_at}
@@ -128,6 +128,6 @@ returns c =
     (cond-false _ _ _ s.stopped ∙ cond-true _ _ _ (eq-eqb _ semicolon_byte (rw c.in-Some-eq59.field-0-is at c.in-Some-eq59.field-0-test))))
     (ap (λ (places : Places). record places { semicolon = Some (c.count-2.result - c.count-from.result - 1) })
     (essence_is _ _ (c.in-Some.first ∷ c.in-Some-eq47.ensures.run) s.others (slash_is here.After-count) s.plussed)
-    ∙ ap (λ (at : ℕ). record (head_places (c.in-Some.first ∷ c.in-Some-eq47.ensures.run) sub) { semicolon = Some at })
+    ∙ ap (λ (at : ℕ). record (places_of (before_list (c.in-Some.first ∷ c.in-Some-eq47.ensures.run) sub)) { semicolon = Some at })
     (omega (arith, s.counted, c.count-2.ensures.count, c.count-from.ensures.count)))
     c.parameters.ensures
