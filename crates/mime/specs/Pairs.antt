@@ -10,14 +10,14 @@ use Rattle.mime.specs.Values.{lowered, lowered_value}
 abbrev pub first_place : ℕ → ℕ → List ℕ → ℕ
 first_place from byte text = from + position_or_len (λ b. b == byte) (drop from text)
 
--- what stands before that position, and what stands after it
+-- the text before that position, and the text after it
 abbrev pub before_byte : ℕ → ℕ → List ℕ → List ℕ
 before_byte from byte text = take (first_place from byte text) text
 
 abbrev pub behind_byte : ℕ → ℕ → List ℕ → List ℕ
 behind_byte from byte text = drop (first_place from byte text + 1) text
 
--- the first pair of a list: its name, how many bytes stand before its value, its value without
+-- the first pair of a list: its name, the number of bytes before its value, its value without
 -- quotes, and the list after its semicolon
 pub record PairCut : Type 0 where
   pub name : List ℕ
@@ -26,7 +26,7 @@ pub record PairCut : Type 0 where
   pub rest : List ℕ
 
 -- after the equals sign: a quoted value, or a plain one.
--- What stands before it is counted as what it leaves of the whole length, so it lies within the list
+-- The length before it is the whole length less the remaining length, so it lies within the list
 abbrev pub cut_behind_equals : ℕ → List ℕ → List ℕ → PairCut
 cut_behind_equals whole name [] = record { name = name; head = whole; value = []; rest = [] }
 cut_behind_equals whole name (b ∷ bytes) =

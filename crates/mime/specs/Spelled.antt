@@ -9,7 +9,7 @@ pub data IsFollow (byte : ℕ) : List ℕ → List ℕ → Type 0 where
   nothing : IsFollow byte [] []
   marked : (rest : List ℕ) → IsFollow byte (byte ∷ rest) rest
 
--- the text is cut at a position, where the byte stands, or where it ends
+-- the text is cut at a position that has the byte or is the end
 pub record IsCutAt (byte : ℕ) (text : List ℕ) (place : ℕ) (before rest : List ℕ) : Type 0 where
   pub follow : List ℕ
   pub follows : IsFollow byte follow rest

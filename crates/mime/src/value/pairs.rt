@@ -12,9 +12,9 @@ use crate::bytes::{is_quoted_text_byte, is_space};
 #[derive(Clone, Copy)]
 pub(crate) struct Pair<'a> {
     pub(crate) name: &'a str,
-    /// How many bytes stand before the value.
+    /// The number of bytes before the value.
     pub(crate) head: usize,
-    /// The value without its quotes.
+    /// The value without its quotes; backslashes stay: `\"x` for `"\"x"`.
     pub(crate) value: &'a str,
     pub(crate) rest: &'a str,
 }
@@ -34,7 +34,7 @@ fn place_from(text: &[u8], from: usize, byte: u8) -> usize
     place
 }
 
-/// What stands before that position, and what stands after it.
+/// The text before the first such byte, and the text after it; all and nothing if there is none.
 #[inline]
 fn split_from<'a>(text: &'a str, from: usize, byte: u8) -> (&'a str, &'a str)
     requires { byte < 128 }
@@ -49,19 +49,20 @@ fn split_from<'a>(text: &'a str, from: usize, byte: u8) -> (&'a str, &'a str)
     }
 }
 
-/// Where what stands between quotes ends: at the first quote that no backslash pairs, or with the text.
+/// The content's length in bytes: up to the first unpaired quote, or to the end.
 #[inline]
 fn content_len(text: &[u8]) -> usize
     ensures { result ≡ len_of text.now }
 {
     let quote = place_from(text, 0, b'"');
     if quote == 0 || text[quote - 1] != b'\\' {
-        // No backslash stands before it, so nothing pairs it.
+        // No backslash precedes it, so nothing pairs it.
         return quote;
     }
     let mut place = 0;
     while place < text.len() {
         let byte = text[place];
+        // One look at a table passes most bytes.
         if !is_quoted_text_byte(byte) {
             if byte == b'"' {
                 return place;
@@ -76,7 +77,7 @@ fn content_len(text: &[u8]) -> usize
     place
 }
 
-/// What stands between quotes, and what stands after the one that closes.
+/// The quoted content, and the text after its closing quote.
 #[inline]
 fn split_content<'a>(text: &'a str) -> (&'a str, &'a str)
     ensures content { result.0.now ≡ content_of text.entry.now }
@@ -103,7 +104,7 @@ pub(crate) fn gap_of(list: &str) -> usize
     }
     let mut gap = 0;
     while gap < bytes.len() {
-        // Most bytes are told by one comparison.
+        // One comparison decides most bytes.
         if bytes[gap] > b' ' {
             return gap;
         }
@@ -115,8 +116,8 @@ pub(crate) fn gap_of(list: &str) -> usize
     gap
 }
 
-/// The pair of a name, from what stands after its equals sign in a list of so many bytes: a quoted
-/// value or a plain one.
+/// The pair of a name, cut from the text after its equals sign, with a quoted value or a plain one. `whole` is the
+/// list's length in bytes.
 #[inline]
 fn cut_value<'a>(whole: usize, name: &'a str, text: &'a str) -> Pair<'a>
     requires { length text.now ≤ whole }

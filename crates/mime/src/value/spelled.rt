@@ -19,7 +19,7 @@ pub(crate) struct Checked<'a> {
     pub(crate) is_parameter: bool,
 }
 
-/// How many bytes of a token begin the text.
+/// The number of leading bytes that are a token.
 #[inline]
 fn token_len(text: &str) -> usize
     ensures { result ≡ prefix_len is_token_byte text.now }
@@ -35,7 +35,7 @@ fn token_len(text: &str) -> usize
     len
 }
 
-/// How many bytes that stand by themselves in a quoted value begin the text.
+/// The number of leading bytes that are quoted text.
 #[inline]
 fn quoted_text_len(text: &str) -> usize
     ensures { result ≡ prefix_len is_quoted_text text.now }
@@ -51,7 +51,7 @@ fn quoted_text_len(text: &str) -> usize
     len
 }
 
-/// What stands before a position and after it, if this byte stands there.
+/// The text before and after a position, if this byte is there.
 #[inline]
 fn split_at_byte<'a>(text: &'a str, place: usize, byte: u8) -> Option<(&'a str, &'a str)>
     requires { byte < 128 }
@@ -64,7 +64,7 @@ fn split_at_byte<'a>(text: &'a str, place: usize, byte: u8) -> Option<(&'a str, 
     }
 }
 
-/// The same with a semicolon there, or where the text ends.
+/// The text before and after a position that has a semicolon or is the end.
 #[inline]
 fn split_value<'a>(text: &'a str, end: usize) -> Option<(&'a str, &'a str)>
     ensures { MatchOption result (Unit {0}) (λ parts. IsCutAt 59 text.entry.now end parts.0.now parts.1.now) }
@@ -93,7 +93,8 @@ fn value_of<'a>(text: &'a str) -> Option<(&'a str, &'a str)>
     split_value(text, end)
 }
 
-/// The first pair of a list, if it is a parameter whose value is one of those.
+/// The first pair of a list, if it is a parameter whose value is a token, or quoted text without a backslash and
+/// without spaces after it.
 #[inline]
 fn parameter_of<'a>(list: &'a str) -> Option<Checked<'a>>
     ensures { MatchOption result (Unit {0}) (λ pair. BeginsWithPair list.entry.now pair.name.now pair.value.now pair.rest.now) }
