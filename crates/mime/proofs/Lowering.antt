@@ -113,7 +113,7 @@ last_plus-lowered at (b ∷ bytes) =
     rw (plus, last_plus-lowered (at + 1) bytes)
 
 -- a list keeps the number of its pairs
-length-pairs_lowered : (list : Parameters) → length (pairs_of_list (lowered_list list)) ≡ length (pairs_of_list list)
+pub length-pairs_lowered : (list : Parameters) → length (pairs_of_list (lowered_list list)) ≡ length (pairs_of_list list)
 length-pairs_lowered (blank n) = refl
 length-pairs_lowered (final n p) = refl
 length-pairs_lowered (more n p rest) = omega (arith, length-pairs_lowered rest)

@@ -13,12 +13,10 @@ use Rattle.mime.specs.Values.{MediaType, Reads, lowered, is_charset, lowered_val
 use Rattle.mime.specs.Laws.{HasNoPlusFrom}
 use Rattle.mime.specs.Pairs.{cut_of, pairs_within}
 use Rattle.mime.specs.Items.{item_of, items_of, IsLowItem}
-use Rattle.mime.specs.KeptText.{IsKept, IsLowPair, AreLowPairs, pairs_behind}
-use Rattle.mime.specs.declared.scan.Places.{Places}
+use Rattle.mime.specs.KeptText.{IsLowPair, AreLowPairs}
 use Rattle.mime.proofs.ByteAt.{slice_get-front}
 use Rattle.mime.proofs.CharBorders.{boundary_before, boundary_behind}
 use Rattle.mime.proofs.Lowering.{lowered-lowered, length-lowered, lowered-append, lowered-take, lowered-drop, lowered_value-lowered}
-use Rattle.mime.proofs.KeptText.{reads-from_kept}
 use Rattle.mime.proofs.Pluses.{plus_is_last}
 
 -- ---- where the essence may be cut
@@ -114,15 +112,6 @@ pub items_of-low : (pairs : List (List ℕ × List ℕ)) → AreLowPairs pairs �
 items_of-low [] low = tt
 items_of-low ((name, value) ∷ pairs) ((named, valued), others) =
     ((λ _. named, λ is. valued (subst (λ n. bytes_eq n (codes "charset") ≡ true) (sym named) is)), items_of-low pairs others)
-
--- those of the pairs after a kept text's semicolon too
-pub kept-low_items : (text list : List ℕ) (places : Places) (semicolon : ℕ) → IsKept text places
-    → places.semicolon ≡ Some semicolon → list ≡ drop (semicolon + 1) text
-    → AllByRecursion IsLowItem (items_of (pairs_within places.pairs list))
-kept-low_items text list places semicolon is_kept is behind =
-    let reads = reads-from_kept text places is_kept in
-    let low = subst (λ s. AreLowPairs (pairs_behind places.pairs s text)) is (read-low_pairs text _ reads) in
-    items_of-low _ (rw behind low)
 
 -- a count of pairs cut from a list is their number
 pub length-pairs_within : (count : ℕ) (list : List ℕ) → length (pairs_within count list) ≡ count

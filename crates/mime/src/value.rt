@@ -4,8 +4,8 @@ ghost use Rattle.std.specs.Prelude.{◌≡◌, ◌≢◌, true, IfOk, IfErr, IsO
 ghost use Rattle.std.specs.List.{AllByRecursion};
 ghost use Rattle.mime.specs.Values.{Reads, IsAccepted, lowered, type_of, subtype_of, suffix_of};
 ghost use Rattle.mime.specs.Refusals.{Explains};
-ghost use Rattle.mime.specs.Items.{items_of, IsLowItem, IsFirstAccepted};
-ghost use Rattle.mime.specs.Views.{name_seen};
+ghost use Rattle.mime.specs.Items.{items_of, IsLowIf, IsLowItem, IsFirstAccepted};
+ghost use Rattle.mime.specs.Views.{name_seen, name_text};
 ghost use Rattle.mime.specs.Scanning.{HasPlaces};
 ghost use Rattle.mime.specs.Pairs.{pairs_within};
 ghost use Rattle.mime.specs.KeptText.{IsKept, media_of};
@@ -171,7 +171,7 @@ impl Mime {
     /// The suffix, after the subtype's last `+` that isn't its first byte, in small letters:
     /// `xml` in `image/svg+xml`, nothing in `a/b+`, and none in `a/+xml` (RFC 6838, 4.2.8).
     pub fn suffix(&self) -> Option<Name<'_>>
-        ensures text { option_map (λ name. name.text.now) result ≡ suffix_of self.now.media }
+        ensures text { option_map name_text result ≡ suffix_of self.now.media }
         ensures flag { IfSome result (λ name. name.ignores_case ≡ true) }
         ensures low { IfSome result (λ name. lowered name.text.now ≡ name.text.now) }
     {
@@ -211,10 +211,7 @@ impl Mime {
         ensures items { result ≡ items_of self.now.media.pairs }
         ensures low { AllByRecursion IsLowItem result }
     {
-        match self.places.semicolon {
-            None => Params::new("", 0),
-            Some(semicolon) => Params::new(&self.text.as_str()[semicolon + 1..], self.places.pairs),
-        }
+        Params::new(self.list(), self.places.pairs)
     }
 
     /// How many parameters there are.
@@ -242,7 +239,7 @@ impl Mime {
     /// `a/b;p="\"x"` is `\"x`. It asks for no memory.
     pub fn get_param<K: ParamKey>(&self, key: K) -> Option<Name<'_>>
         ensures found { IsFirstAccepted (K.Accepts key) (items_of self.now.media.pairs) (option_map name_seen result) }
-        ensures low { IfSome result (λ name. name.ignores_case ≡ true → lowered name.text.now ≡ name.text.now) }
+        ensures low { IfSome result (λ name. IsLowIf name.ignores_case name.text.now) }
     {
         for (name, value) in self.params() {
             if key.accepts(name) {

@@ -34,8 +34,9 @@ fn position_of(text: &[u8], byte: u8) -> usize
     position
 }
 
-/// The text before the ASCII byte at a position, and the text after it; all of it and nothing at the end.
-#[inline]
+/// The text before the ASCII byte at a position, and the text after it; all of it and nothing at the end. With
+/// `#[inline]` alone short walks took up to a tenth more.
+#[inline(always)]
 fn split_around<'a>(text: &'a str, position: usize) -> (&'a str, &'a str)
     requires { position < length text.now → slice_index text.now position < 128 }
     ensures before { result.0.now ≡ take position text.entry.now }
@@ -109,10 +110,7 @@ pub(crate) fn gap_of(list: &str) -> usize
     let mut gap = 0;
     while gap < bytes.len() {
         // One comparison decides most bytes.
-        if bytes[gap] > b' ' {
-            return gap;
-        }
-        if !is_space(bytes[gap]) {
+        if bytes[gap] > b' ' || !is_space(bytes[gap]) {
             return gap;
         }
         gap += 1;

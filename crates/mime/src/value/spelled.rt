@@ -2,7 +2,7 @@
 
 ghost use Rattle.std.specs.Prelude.{◌≡◌, ◌<◌, ◌∷◌, ◌++◌, IsTrue, MatchOption, take};
 ghost use Rattle.std.specs.List.{prefix_len};
-ghost use Rattle.mime.specs.Bytes.{is_token_byte, is_quoted_text_byte as is_quoted_text};
+ghost use Rattle.mime.specs.Bytes.{is_token_byte, is_quoted_text_byte as is_quoted_text, semicolon_byte};
 ghost use Rattle.mime.specs.Pairs.{cut_of};
 ghost use Rattle.mime.specs.Spelled.{IsCutAt, BeginsWithValue, BeginsWithPair};
 
@@ -53,12 +53,12 @@ fn quoted_text_len(text: &str) -> usize
 
 /// The text before and after a position, if this byte is there.
 #[inline]
-fn split_at_byte<'a>(text: &'a str, place: usize, byte: u8) -> Option<(&'a str, &'a str)>
+fn split_at_byte<'a>(text: &'a str, position: usize, byte: u8) -> Option<(&'a str, &'a str)>
     requires { byte < 128 }
-    ensures { MatchOption result (Unit {0}) (λ parts. (parts.0.now ≡ take place text.entry.now) × (parts.0.now ++ (byte ∷ parts.1.now) ≡ text.entry.now)) }
+    ensures { MatchOption result (Unit {0}) (λ parts. (parts.0.now ≡ take position text.entry.now) × (parts.0.now ++ (byte ∷ parts.1.now) ≡ text.entry.now)) }
 {
-    if place < text.len() && text.as_bytes()[place] == byte {
-        Some((&text[..place], &text[place + 1..]))
+    if position < text.len() && text.as_bytes()[position] == byte {
+        Some((&text[..position], &text[position + 1..]))
     } else {
         None
     }
@@ -67,7 +67,7 @@ fn split_at_byte<'a>(text: &'a str, place: usize, byte: u8) -> Option<(&'a str, 
 /// The text before and after a position that has a semicolon or is the end.
 #[inline]
 fn split_value<'a>(text: &'a str, end: usize) -> Option<(&'a str, &'a str)>
-    ensures { MatchOption result (Unit {0}) (λ parts. IsCutAt 59 text.entry.now end parts.0.now parts.1.now) }
+    ensures { MatchOption result (Unit {0}) (λ parts. IsCutAt semicolon_byte text.entry.now end parts.0.now parts.1.now) }
 {
     if end == text.len() {
         return Some((text, ""));
