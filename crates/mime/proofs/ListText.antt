@@ -36,7 +36,7 @@ place_to byte (x ∷ run) follow rest all nothing =
 
 -- the text before it
 before_to : (byte : ℕ) (run follow rest : List ℕ) → list_all (is_other byte) run ≡ true → IsFollow byte follow rest
-    → before_byte 0 byte (run ++ follow) ≡ run
+    → before_byte byte (run ++ follow) ≡ run
 before_to byte run follow rest all follows = take_at run follow _ (omega (arith, place_to byte run follow rest all follows))
 
 -- what is left after a run and a byte
@@ -50,7 +50,7 @@ drop_past byte run follow rest n follows long =
 
 -- the text after it
 behind_to : (byte : ℕ) (run follow rest : List ℕ) → list_all (is_other byte) run ≡ true → IsFollow byte follow rest
-    → behind_byte 0 byte (run ++ follow) ≡ rest
+    → behind_byte byte (run ++ follow) ≡ rest
 behind_to byte run follow rest all follows =
     drop_past byte run follow rest _ follows (omega (arith, place_to byte run follow rest all follows))
 
@@ -74,8 +74,8 @@ cut_value-quoted whole name content n follow rest is white follows =
     let place = content_len-content content (n ++ follow) is in
     let value : content_of bytes ≡ content = take_at content (quote_byte ∷ (n ++ follow)) (content_len bytes) (sym place) in
     let after : behind_content bytes ≡ n ++ follow = drop_past quote_byte content _ _ (content_len bytes) (marked _) (sym place) in
-    let behind : behind_byte 0 semicolon_byte (behind_content bytes) ≡ rest =
-    ap (behind_byte 0 semicolon_byte) after
+    let behind : behind_byte semicolon_byte (behind_content bytes) ≡ rest =
+    ap (behind_byte semicolon_byte) after
     ∙ behind_to semicolon_byte n follow rest (are_other-spaces semicolon_byte refl n white) follows in
     cc
 

@@ -1,7 +1,8 @@
 -- What lowering leaves as it is: lengths, cuts, classes of bytes, positions; and lowering twice is lowering once.
 use Rattle.std.proofs.Common.{◌≡◌, ℕ, ◌+◌, true, false, cond, List, [], ◌∷◌, ◌++◌, length, take, drop, refl, sym, ap, ◌∙◌, arith}
-use Rattle.std.specs.Prelude.{◌==◌}
+use Rattle.std.specs.Prelude.{◌==◌, IsTrue}
 use Rattle.std.specs.Char.{to_ascii_lowercase}
+use Rattle.std.proofs.lemmas.Bool.{cond-true}
 use Rattle.std.proofs.lemmas.Bool.Decides.{nat_tests}
 use Rattle.std.proofs.lemmas.List.{map-append, length-map, take-map, drop-map}
 use Rattle.std.proofs.lemmas.List.Folds.{list_all-map}
@@ -10,6 +11,7 @@ use Rattle.mime.specs.Bytes.{is_token_byte}
 use Rattle.mime.specs.Grammar.{Parameter, plain, quoted, Parameters, blank, final, more, Tail, no_list, listed, SyntaxTree, AreTokenBytes, IsToken, IsContent, IsParameter, AreParameters, IsTail, IsWellFormed}
 use Rattle.mime.specs.Values.{lowered, is_charset, lowered_value, lowered_parameter, lowered_list, lowered_tail, lowered_tree, last_plus, pairs_of_list, pairs_of_tail}
 use Rattle.mime.specs.Scanning.{places_of, semicolon_of}
+use Rattle.mime.specs.KeptText.{IsLowPair}
 use Rattle.mime.proofs.Quoted.{IsContent-lowered}
 use Rattle.mime.proofs.Classes.{list_all-wider}
 
@@ -85,6 +87,14 @@ lowered_value-lowered name value =
     (λ b. cond b (lowered (cond b (lowered value) value)) (cond b (lowered value) value) ≡ cond b (lowered value) value)
     [ true ↦ lowered-lowered value | false ↦ refl ])
 
+-- the parts of a pair that is its own lowering
+pub low_pair-parts : (name value : List ℕ) → IsLowPair (name, value)
+    → (lowered name ≡ name) × (IsTrue (is_charset name) → lowered value ≡ value)
+low_pair-parts name value low = (
+  ap (λ pair. pair.0) low,
+  λ charset. sym (cond-true (is_charset name) (lowered value) value charset) ∙ ap (λ pair. pair.1) low,
+)
+
 -- a lowered parameter is its own lowering
 lowered_parameter-lowered : (p : Parameter) → lowered_parameter (lowered_parameter p) ≡ lowered_parameter p
 lowered_parameter-lowered (plain name value) = cc (lowered-lowered name, lowered_value-lowered name value)
@@ -113,7 +123,7 @@ last_plus-lowered at (b ∷ bytes) =
     rw (plus, last_plus-lowered (at + 1) bytes)
 
 -- a list keeps the number of its pairs
-length-pairs_lowered : (list : Parameters) → length (pairs_of_list (lowered_list list)) ≡ length (pairs_of_list list)
+pub length-pairs_lowered : (list : Parameters) → length (pairs_of_list (lowered_list list)) ≡ length (pairs_of_list list)
 length-pairs_lowered (blank n) = refl
 length-pairs_lowered (final n p) = refl
 length-pairs_lowered (more n p rest) = omega (arith, length-pairs_lowered rest)

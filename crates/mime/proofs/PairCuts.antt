@@ -6,7 +6,7 @@ use Rattle.std.proofs.lemmas.List.{take_at, drop_at, drop-drop, take-append-drop
 use Rattle.mime.specs.Bytes.{semicolon_byte, equals_byte, quote_byte}
 use Rattle.mime.specs.Values.{lowered, lowered_value}
 use Rattle.mime.specs.Quoted.{content_len, behind_content}
-use Rattle.mime.specs.Pairs.{PairCut, first_place, before_byte, behind_byte, cut_behind_equals, leading_spaces, without_gap, cut_of, lowered_first, lowered_within}
+use Rattle.mime.specs.Pairs.{PairCut, first_position, before_byte, behind_byte, cut_behind_equals, leading_spaces, without_gap, cut_of, lowered_first, lowered_within}
 use Rattle.mime.proofs.Lowering.{lowered_value-either}
 use Rattle.mime.proofs.Utf8.{IsLoweredInPart, same, small, joined, length-in_part}
 
@@ -50,14 +50,14 @@ cut_value-lies list name (b ∷ bytes) end =
     (λ _. lies_from_end list bytes name _ (content_len bytes)
     (IsEnd-trans bytes (b ∷ bytes) list (1, refl) end)
     (IsEnd-trans _ (behind_content bytes) _ (_, refl) (1, sym (drop-drop 1 (content_len bytes) bytes))))
-    (λ _. lies_from_end list (b ∷ bytes) name _ _ end (1, sym (drop-drop 1 (first_place 0 semicolon_byte (b ∷ bytes)) (b ∷ bytes))))
+    (λ _. lies_from_end list (b ∷ bytes) name _ _ end (1, sym (drop-drop 1 (first_position semicolon_byte (b ∷ bytes)) (b ∷ bytes))))
 
 -- the cut of any list lies in it
 pub cut_of-lies : (list : List ℕ) → LiesIn list (cut_of list)
 unfolding cut_of
 cut_of-lies list =
     let body = without_gap list in
-    cut_value-lies list (before_byte 0 equals_byte body) (behind_byte 0 equals_byte body)
+    cut_value-lies list (before_byte equals_byte body) (behind_byte equals_byte body)
     (IsEnd-trans _ body list (_, refl) (leading_spaces list, refl))
 
 -- the first value and the rest lie apart within the list

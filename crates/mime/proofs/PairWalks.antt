@@ -13,7 +13,7 @@ use Rattle.std.proofs.lemmas.List.{nil_from_length}
 use Rattle.mime.specs.Orders.{pair_input, media_input}
 use Rattle.mime.specs.Comparison.{pair_cmp}
 use Rattle.mime.specs.Pairs.{cut_of, pairs_within}
-use Rattle.mime.specs.Values.{MediaType, lowered, lowered_value}
+use Rattle.mime.specs.Values.{MediaType}
 use Rattle.mime.specs.KeptText.{IsLowPair, AreLowPairs, lowered_pair}
 
 -- equal lists have the same first and the same others
@@ -162,11 +162,11 @@ lowered-next W count counter left right more decides first =
 -- where they differ, the lists do
 pub lowered-other : (W : Type 0) (count counter : ℕ) (left right : List ℕ) → counter < count
     → (pairs_within (count - counter) left ≡ map lowered_pair (pairs_within (count - counter) right)) ↔ W
-    → ¬ (((cut_of left).name ≡ lowered (cut_of right).name) × ((cut_of left).value ≡ lowered_value (cut_of right).name (cut_of right).value)) → ¬ W
+    → ¬ (first_pair left ≡ lowered_pair (first_pair right)) → ¬ W
 lowered-other W count counter left right more decides differ w =
     let one = pairs_within-next count counter left more in
     let other = ap (map lowered_pair) (pairs_within-next count counter right more) in
-    differ (first_parts (sym one ∙ decides.1 w ∙ other))
+    differ (cons_parts (sym one ∙ decides.1 w ∙ other)).0
 
 -- the first of what is left is low, and so are the others
 pub low-next : (count counter : ℕ) (list : List ℕ) → counter < count → AreLowPairs (pairs_within (count - counter) list)

@@ -1,24 +1,21 @@
 -- The parts of a value that was read: where its essence may be cut, and what is in small letters.
 use Rattle.std.proofs.Common.{◌≡◌, ℕ, zero, suc, ◌+◌, ◌<◌, ◌≤◌, true, List, [], ◌∷◌, length, take, drop, Option, Some, None, refl, sym, ap, ◌∙◌, subst, arith, lit<}
-use Rattle.std.specs.Prelude.{unwrap_or, slice_get, IsUtf8, IsTrue, codes}
+use Rattle.std.specs.Prelude.{unwrap_or, slice_get, IsUtf8, codes}
 use Rattle.std.specs.List.{AllByRecursion}
 use Rattle.std.specs.Str.{IsCharBoundary, bytes_eq}
-use Rattle.std.proofs.lemmas.Bool.{cond-true}
 use Rattle.std.proofs.lemmas.List.{length-map}
 use Rattle.std.proofs.lemmas.Option.{slice_get_within, MatchOption-at_some}
 use Rattle.std.proofs.lemmas.Str.{IsCharBoundary-end}
 use Rattle.mime.specs.Bytes.{slash_byte, plus_byte}
 use Rattle.mime.specs.Grammar.{Parameter, plain, quoted, Parameters, blank, final, more, Tail, no_list, listed}
-use Rattle.mime.specs.Values.{MediaType, Reads, lowered, is_charset, lowered_value, lowered_parameter, lowered_list, lowered_tail, pair_of, pairs_of_list, pairs_of_tail}
+use Rattle.mime.specs.Values.{MediaType, Reads, lowered, lowered_parameter, lowered_list, lowered_tail, pair_of, pairs_of_list, pairs_of_tail}
 use Rattle.mime.specs.Laws.{HasNoPlusFrom}
 use Rattle.mime.specs.Pairs.{cut_of, pairs_within}
 use Rattle.mime.specs.Items.{item_of, items_of, IsLowItem}
-use Rattle.mime.specs.KeptText.{IsKept, IsLowPair, AreLowPairs, pairs_behind}
-use Rattle.mime.specs.declared.scan.Places.{Places}
+use Rattle.mime.specs.KeptText.{IsLowPair, AreLowPairs}
 use Rattle.mime.proofs.ByteAt.{slice_get-front}
 use Rattle.mime.proofs.CharBorders.{boundary_before, boundary_behind}
-use Rattle.mime.proofs.Lowering.{lowered-lowered, length-lowered, lowered-append, lowered-take, lowered-drop, lowered_value-lowered}
-use Rattle.mime.proofs.KeptText.{reads-from_kept}
+use Rattle.mime.proofs.Lowering.{lowered-lowered, length-lowered, lowered-append, lowered-take, lowered-drop, lowered_value-lowered, low_pair-parts}
 use Rattle.mime.proofs.Pluses.{plus_is_last}
 
 -- ---- where the essence may be cut
@@ -81,16 +78,10 @@ read-low_essence text value reads =
     subst (λ (v : MediaType). lowered v.essence ≡ v.essence) reads.valued
     (lowered-append top (slash_byte ∷ sub) ∙ rw (lowered-lowered reads.tree.top, lowered-lowered reads.tree.sub) refl)
 
--- the value of a `charset`
-low_value : (name value : List ℕ) → IsTrue (is_charset (lowered name)) → lowered (lowered_value name value) ≡ lowered_value name value
-low_value name value charset =
-    sym (cond-true (is_charset (lowered name)) (lowered (lowered_value name value)) (lowered_value name value) charset)
-    ∙ lowered_value-lowered name value
-
 -- the pair of a lowered parameter is low
 low_pair : (p : Parameter) → IsLowPair (pair_of (lowered_parameter p))
-low_pair (plain name value) = (lowered-lowered name, low_value name value)
-low_pair (quoted name content n) = (lowered-lowered name, low_value name content)
+low_pair (plain name value) = cc (lowered-lowered name, lowered_value-lowered name value)
+low_pair (quoted name content n) = cc (lowered-lowered name, lowered_value-lowered name content)
 
 -- so are the pairs of a lowered list
 low_pairs : (list : Parameters) → AreLowPairs (pairs_of_list (lowered_list list))
@@ -112,17 +103,9 @@ read-low_pairs text value reads = subst (λ (v : MediaType). AreLowPairs v.pairs
 -- the items of low pairs are in small letters where their flags are set
 pub items_of-low : (pairs : List (List ℕ × List ℕ)) → AreLowPairs pairs → AllByRecursion IsLowItem (items_of pairs)
 items_of-low [] low = tt
-items_of-low ((name, value) ∷ pairs) ((named, valued), others) =
-    ((λ _. named, λ is. valued (subst (λ n. bytes_eq n (codes "charset") ≡ true) (sym named) is)), items_of-low pairs others)
-
--- so are those of the pairs after a kept text's semicolon
-pub kept-low_items : (text list : List ℕ) (places : Places) (semicolon : ℕ) → IsKept text places
-    → places.semicolon ≡ Some semicolon → list ≡ drop (semicolon + 1) text
-    → AllByRecursion IsLowItem (items_of (pairs_within places.pairs list))
-kept-low_items text list places semicolon is_kept is behind =
-    let reads = reads-from_kept text places is_kept in
-    let low = subst (λ s. AreLowPairs (pairs_behind places.pairs s text)) is (read-low_pairs text _ reads) in
-    items_of-low _ (rw behind low)
+items_of-low ((name, value) ∷ pairs) (low, others) =
+    let parts = low_pair-parts name value low in
+    ((λ _. parts.0, λ is. parts.1 (subst (λ n. bytes_eq n (codes "charset") ≡ true) (sym parts.0) is)), items_of-low pairs others)
 
 -- as many pairs are cut from a list as the count says
 pub length-pairs_within : (count : ℕ) (list : List ℕ) → length (pairs_within count list) ≡ count

@@ -4,14 +4,12 @@ use Rattle.std.specs.Prelude.{IsTrue, IsFalse, ◌==◌, ◌&&◌, not}
 use Rattle.std.specs.Char.{to_ascii_lowercase}
 use Rattle.std.specs.List.{list_all, position_or_len}
 use Rattle.std.proofs.lemmas.List.{drop_more, drop_all}
-use Rattle.std.specs.Str.{IsUtf8, IsCharBoundary}
-use Rattle.std.proofs.lemmas.Str.{IsCharBoundary-before_ascii, IsCharBoundary-after_ascii}
 use Rattle.std.proofs.lemmas.Bool.{and_parts, and_from, cond-false, eqb-true, true≢false}
 use Rattle.std.proofs.lemmas.Bool.Decides.{nat_tests}
 use Rattle.mime.specs.Bytes.{is_quoted_byte, is_quoted_text_byte, quote_byte, backslash_byte}
 use Rattle.mime.specs.Grammar.{IsContent, no_byte, text_byte, quoted_pair}
 use Rattle.mime.specs.Values.{lowered}
-use Rattle.mime.specs.Pairs.{first_place}
+use Rattle.mime.specs.Pairs.{first_position}
 use Rattle.mime.specs.Quoted.{awaits_first, awaits_next, takes, takes_all, awaits_behind, IsOpenContent, continues, len_from, content_len}
 
 -- ---- one byte
@@ -252,18 +250,9 @@ quote_at_len awaiting (b ∷ text) within =
     go true same n behind within = same refl
     go false same n behind within = behind (omega (arith, within))
 
--- so a text may be cut there
-pub IsCharBoundary-content : (text : List ℕ) (place : ℕ) → place ≡ content_len text → place < length text → IsCharBoundary text place
-IsCharBoundary-content text place e within =
-    let at : get_or text place 0 ≡ quote_byte = rw e (quote_at_len awaits_first text (omega arith)) in
-    IsCharBoundary-before_ascii text place within (omega arith)
-
--- and after the quote
-pub IsCharBoundary-behind_content : (text : List ℕ) (place : ℕ) → IsUtf8 text → place ≡ content_len text → place < length text
-    → IsCharBoundary text (place + 1)
-IsCharBoundary-behind_content text place utf8 e within =
-    let at : get_or text place 0 ≡ quote_byte = rw e (quote_at_len awaits_first text (omega arith)) in
-    IsCharBoundary-after_ascii text place utf8 within (omega arith)
+-- so it does at the content's end
+pub get_or-content_len : (text : List ℕ) (n : ℕ) → n ≡ content_len text → n < length text → get_or text n 0 ≡ quote_byte
+get_or-content_len text n e within = rw e (quote_at_len awaits_first text (omega (arith, e, within)))
 
 -- ---- the search for that end, position by position
 
@@ -327,6 +316,6 @@ first_quote awaiting (b ∷ text) n e free before = go (first_quote (awaits_next
         ∙ ap suc (behind n (omega (arith, e)) (λ none. awaits_next-not_backslash awaiting b (before 0 (ap suc (sym none))))
         (λ m same. before (suc m) (ap suc same)))
 
-pub content_len-first_quote : (text : List ℕ) (n : ℕ) → n ≡ first_place 0 quote_byte text
+pub content_len-first_quote : (text : List ℕ) (n : ℕ) → n ≡ first_position quote_byte text
     → ((m : ℕ) → suc m ≡ n → get_or text m 0 ≢ backslash_byte) → n ≡ content_len text
-content_len-first_quote text n e before = sym (first_quote awaits_first text n (omega (arith, e)) (λ _. refl) before)
+content_len-first_quote text n e before = sym (first_quote awaits_first text n e (λ _. refl) before)

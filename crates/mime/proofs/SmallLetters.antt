@@ -11,7 +11,7 @@ use Rattle.mime.specs.Values.{MediaType, Reads, value_of, lowered, lowered_value
 use Rattle.mime.specs.Comparison.{Same}
 use Rattle.mime.specs.KeptText.{AreLowPairs, IsLoneCharset}
 use Rattle.mime.proofs.Begun.{ListPlace, in_spaces, in_name, in_value, in_quotes, behind_quotes, BegunList, Begun, in_type, in_subtype, in_list, grow_place, grow_list, grow, walk_from, walk, tree_of, with_closed}
-use Rattle.mime.proofs.Lowering.{lowered-append, lowered-lowered, lowered_value-either}
+use Rattle.mime.proofs.Lowering.{lowered-append, lowered-lowered, lowered_value-either, low_pair-parts}
 use Rattle.mime.proofs.PairWalks.{cons_parts}
 use Rattle.mime.proofs.Parts.{read-low_pairs}
 use Rattle.mime.proofs.Quoted.{continues-lowered}
@@ -255,9 +255,11 @@ lone_charset-same pairs others (name, content, lone, charset) low also same =
     go (other ∷ (one ∷ others)) low also same = absurd cc
     go (other ∷ []) low also same =
         let pair = (cons_parts same).0 in
-        let names : name ≡ other.0 = sym low.0.0 ∙ ap (λ p. p.0) pair ∙ also.0.0 in
+        let first = low_pair-parts name content low.0 in
+        let second = low_pair-parts other.0 other.1 also.0 in
+        let names : name ≡ other.0 = sym first.0 ∙ ap (λ p. p.0) pair ∙ second.0 in
         let contents : content ≡ other.1 =
-        sym (low.0.1 charset) ∙ ap (λ p. p.1) pair ∙ also.0.1 (subst (λ n. is_charset n ≡ true) names charset) in
+        sym (first.1 charset) ∙ ap (λ p. p.1) pair ∙ second.1 (subst (λ n. is_charset n ≡ true) names charset) in
         λ i. (names i, contents i) ∷ []
 
 -- a text that is read as a value with a lone charset, but for case, is read as one equal to it

@@ -123,10 +123,6 @@ abbrev pub Passed : List ℕ → List ℕ → ℕ → Type 0
 Passed list rest count =
     (tail : Parameters) → AreParameters tail → text_of_list tail ≡ rest → HasParameters list (count + length (pairs_of_list tail))
 
--- none was passed
-pub passed-none : (list : List ℕ) → Passed list list 0
-passed-none list = λ tail well is. record { parameters = tail; well_formed = well; spelled = is; counted = omega arith }
-
 -- no parameter has the empty text
 no_parameter : (tail : Parameters) → text_of_list tail ≡ [] → length (pairs_of_list tail) ≡ 0
 no_parameter (blank n) is = refl

@@ -1,7 +1,7 @@
 -- A text against a value: what a text has that is equal to the value, and what suffices.
 use Rattle.std.proofs.Common.{◌≡◌, ℕ, ◌+◌, Bool, true, false, cond, List, [], ◌∷◌, ◌++◌, length, take, drop, Some, map, refl, sym, ap, ◌∙◌, subst, ◌↔◌, append-nil}
 use Rattle.std.specs.Prelude.{◌≢◌, ◌==◌, ◌&&◌, not, codes}
-use Rattle.std.proofs.lemmas.List.{length-map, nil_from_length, take-append-drop}
+use Rattle.std.proofs.lemmas.List.{nil_from_length, take-append-drop}
 use Rattle.std.specs.List.{list_all}
 use Rattle.std.proofs.lemmas.List.Folds.{list_all-append}
 use Rattle.mime.specs.Bytes.{slash_byte, semicolon_byte, quote_byte}
@@ -16,7 +16,7 @@ use Rattle.mime.proofs.Classes.{AreTokenBytes-from_token, are_other-token, semic
 use Rattle.mime.proofs.Counts.{kept-essence}
 use Rattle.mime.proofs.KeptText.{text_of-essence, take-essence, drop-to_semicolon, length-essence_of, slice_get-semicolon, kept_is_read}
 use Rattle.mime.proofs.ListText.{pairs_within-text_of_list}
-use Rattle.mime.proofs.Lowering.{lowered-append, length-lowered}
+use Rattle.mime.proofs.Lowering.{lowered-append, length-lowered, length-pairs_lowered}
 use Rattle.mime.proofs.Parts.{read-low_essence}
 use Rattle.mime.proofs.Readings.{one_tree, one_reading}
 use Rattle.mime.proofs.SmallLetters.{semicolon-lower, case_read, case_read-count, case_read-lone_charset}
@@ -38,10 +38,6 @@ pairs_of_list-lowered (more n (quoted name content m) rest) = ap (λ pairs. lowe
 -- so the essence is as long as its tree's
 length-value_essence : (tree : SyntaxTree) → length (value_of tree).essence ≡ length tree.top + 1 + length tree.sub
 length-value_essence tree = ap length (essence-lowered tree) ∙ length-lowered (essence_of tree) ∙ length-essence_of tree
-
--- and there are as many pairs
-length-value_pairs : (list : Parameters) → length (pairs_of_list (lowered_list list)) ≡ length (pairs_of_list list)
-length-value_pairs list = ap length (pairs_of_list-lowered list) ∙ length-map (pairs_of_list list) lowered_pair
 
 -- the value of an accepted text that has a semicolon, by its positions
 record ReadAt (text : List ℕ) (end count : ℕ) : Type 0 where
@@ -97,7 +93,7 @@ accepted_at text value reads some =
           places = places_of tree;
           has = record { tree = tree; well_formed = well; spelled = spelled; placed = refl };
           semicolon = ap Some (sym (length-value_essence tree) ∙ ap (λ (v : MediaType). length v.essence) valued);
-          counted = sym (length-value_pairs list) ∙ ap (λ (v : MediaType). length v.pairs) valued;
+          counted = sym (length-pairs_lowered list) ∙ ap (λ (v : MediaType). length v.pairs) valued;
         }
 
 -- the same position and the same number, written in another way

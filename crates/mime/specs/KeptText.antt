@@ -1,6 +1,6 @@
 -- Private. The kept text of a value, with the positions of its parts.
 use Rattle.std.specs.Prelude.{◌≡◌, ℕ, zero, suc, ◌+◌, ◌-◌, List, [], ◌∷◌, ◌++◌, length, take, drop, Option, Some, None, unwrap_or, IsTrue, slice_get}
-use Rattle.std.specs.List.{slice_index}
+use Rattle.std.specs.List.{slice_index, AllByRecursion}
 use Rattle.mime.specs.Bytes.{is_token_byte, semicolon_byte, space_byte}
 use Rattle.mime.specs.Grammar.{Tail, no_list, listed, blank, final, more, SyntaxTree, text_of, IsWellFormed}
 use Rattle.mime.specs.Values.{MediaType, lowered, is_charset, lowered_value, lowered_tree}
@@ -55,21 +55,20 @@ kept_text_of (suc pairs) None text = lowered text
 kept_text_of (suc pairs) (Some semicolon) text =
     lowered (take (semicolon + 1) text) ++ lowered_within (suc pairs) (drop (semicolon + 1) text)
 
--- a pair as it is kept: its name is small, and its value is where the name is `charset`
-abbrev pub IsLowPair : List ℕ × List ℕ → Type 0
-IsLowPair pair = (lowered pair.0 ≡ pair.0) × (IsTrue (is_charset pair.0) → lowered pair.1 ≡ pair.1)
-
-abbrev pub AreLowPairs : List (List ℕ × List ℕ) → Type 0
-AreLowPairs [] = Unit {0}
-AreLowPairs (pair ∷ pairs) = IsLowPair pair × AreLowPairs pairs
-
 -- a pair as it is read: its name in small letters, and its value too where the name is `charset`
 abbrev pub lowered_pair : List ℕ × List ℕ → List ℕ × List ℕ
 lowered_pair (name, value) = (lowered name, lowered_value name value)
 
+-- a pair as it is kept: lowering changes nothing of it
+abbrev pub IsLowPair : List ℕ × List ℕ → Type 0
+IsLowPair pair = lowered_pair pair ≡ pair
+
+abbrev pub AreLowPairs : List (List ℕ × List ℕ) → Type 0
+AreLowPairs pairs = AllByRecursion IsLowPair pairs
+
 -- a pair as it is kept is that of a pair as it is written
 abbrev pub IsKeptPair : List ℕ × List ℕ → List ℕ × List ℕ → Type 0
-IsKeptPair kept pair = (kept.0 ≡ lowered pair.0) × (kept.1 ≡ lowered_value pair.0 pair.1)
+IsKeptPair kept pair = kept ≡ lowered_pair pair
 
 -- a text that goes on with a semicolon after this essence, in any case
 abbrev pub IsListAfter : List ℕ → List ℕ → Type 0

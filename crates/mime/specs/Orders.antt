@@ -83,7 +83,7 @@ same_from_cmp x y = go (media_cmp x y) (tells_media x y)
 abbrev pub pair_end : ℕ → List ℕ
 pair_end count = 255 ∷ replicate (7 - count % 8) 0
 
--- how many bytes of a pair stand before its end: its name, the byte 255, and its value
+-- the number of bytes of a pair before its end: its name, the byte 255, and its value
 abbrev pub pair_count : List ℕ × List ℕ → ℕ
 pair_count pair = length pair.0 + 1 + length pair.1
 

@@ -6,18 +6,18 @@ use Rattle.mime.specs.Grammar.{is_space}
 use Rattle.mime.specs.Quoted.{content_of, behind_content}
 use Rattle.mime.specs.Values.{lowered, lowered_value}
 
--- the first position of a byte from a position on, or the text's end
-abbrev pub first_place : ℕ → ℕ → List ℕ → ℕ
-first_place from byte text = from + position_or_len (λ b. b == byte) (drop from text)
+-- the first position of a byte, or the text's end
+abbrev pub first_position : ℕ → List ℕ → ℕ
+first_position byte text = position_or_len (λ b. b == byte) text
 
--- what stands before that position, and what stands after it
-abbrev pub before_byte : ℕ → ℕ → List ℕ → List ℕ
-before_byte from byte text = take (first_place from byte text) text
+-- the text before that position, and the text after it
+abbrev pub before_byte : ℕ → List ℕ → List ℕ
+before_byte byte text = take (first_position byte text) text
 
-abbrev pub behind_byte : ℕ → ℕ → List ℕ → List ℕ
-behind_byte from byte text = drop (first_place from byte text + 1) text
+abbrev pub behind_byte : ℕ → List ℕ → List ℕ
+behind_byte byte text = drop (first_position byte text + 1) text
 
--- the first pair of a list: its name, how many bytes stand before its value, its value without
+-- the first pair of a list: its name, the number of bytes before its value, its value without
 -- quotes, and the list after its semicolon
 pub record PairCut : Type 0 where
   pub name : List ℕ
@@ -26,7 +26,7 @@ pub record PairCut : Type 0 where
   pub rest : List ℕ
 
 -- after the equals sign: a quoted value, or a plain one.
--- What stands before it is counted as what it leaves of the whole length, so it lies within the list
+-- The length before it is the whole length less the remaining length, so it lies within the list
 abbrev pub cut_behind_equals : ℕ → List ℕ → List ℕ → PairCut
 cut_behind_equals whole name [] = record { name = name; head = whole; value = []; rest = [] }
 cut_behind_equals whole name (b ∷ bytes) =
@@ -35,13 +35,13 @@ cut_behind_equals whole name (b ∷ bytes) =
       name = name;
       head = whole - length bytes;
       value = content_of bytes;
-      rest = behind_byte 0 semicolon_byte (behind_content bytes);
+      rest = behind_byte semicolon_byte (behind_content bytes);
     }
     else record {
       name = name;
       head = whole - length (b ∷ bytes);
-      value = before_byte 0 semicolon_byte (b ∷ bytes);
-      rest = behind_byte 0 semicolon_byte (b ∷ bytes);
+      value = before_byte semicolon_byte (b ∷ bytes);
+      rest = behind_byte semicolon_byte (b ∷ bytes);
     }
 
 -- the spaces before the first name, and the list without them
@@ -54,7 +54,7 @@ without_gap list = drop (leading_spaces list) list
 unfoldable pub cut_of : List ℕ → PairCut
 cut_of list =
     let body = without_gap list in
-    cut_behind_equals (length list) (before_byte 0 equals_byte body) (behind_byte 0 equals_byte body)
+    cut_behind_equals (length list) (before_byte equals_byte body) (behind_byte equals_byte body)
 
 -- the first so many pairs
 abbrev pub pairs_within : ℕ → List ℕ → List (List ℕ × List ℕ)

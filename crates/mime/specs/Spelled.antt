@@ -9,11 +9,11 @@ pub data IsFollow (byte : ℕ) : List ℕ → List ℕ → Type 0 where
   nothing : IsFollow byte [] []
   marked : (rest : List ℕ) → IsFollow byte (byte ∷ rest) rest
 
--- the text is cut at a position, where the byte stands, or where it ends
-pub record IsCutAt (byte : ℕ) (text : List ℕ) (place : ℕ) (before rest : List ℕ) : Type 0 where
+-- the text is cut at a position that has the byte or is the end
+pub record IsCutAt (byte : ℕ) (text : List ℕ) (position : ℕ) (before rest : List ℕ) : Type 0 where
   pub follow : List ℕ
   pub follows : IsFollow byte follow rest
-  pub is : before ≡ take place text
+  pub is : before ≡ take position text
   pub joined : before ++ follow ≡ text
 
 -- the text after an equals sign is a value, up to its semicolon or the end

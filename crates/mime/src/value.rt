@@ -4,8 +4,8 @@ ghost use Rattle.std.specs.Prelude.{◌≡◌, ◌≢◌, true, IfOk, IfErr, IsO
 ghost use Rattle.std.specs.List.{AllByRecursion};
 ghost use Rattle.mime.specs.Values.{Reads, IsAccepted, lowered, type_of, subtype_of, suffix_of};
 ghost use Rattle.mime.specs.Refusals.{Explains};
-ghost use Rattle.mime.specs.Items.{items_of, IsLowItem, IsFirstAccepted};
-ghost use Rattle.mime.specs.Views.{name_seen};
+ghost use Rattle.mime.specs.Items.{items_of, IsLowIf, IsLowItem, IsFirstAccepted};
+ghost use Rattle.mime.specs.Views.{name_seen, name_text};
 ghost use Rattle.mime.specs.Scanning.{HasPlaces};
 ghost use Rattle.mime.specs.Pairs.{pairs_within};
 ghost use Rattle.mime.specs.KeptText.{IsKept, media_of};
@@ -71,16 +71,18 @@ impl Model for Mime {
 
 impl Mime {
     /// Reads a media type from the whole of `s` (RFC 7231, 3.1.1.1, with the departures that
-    /// docs/DIFFERENCES.md lists). It asks for memory once, for the kept text, and never for `*/*`.
+    /// docs/DIFFERENCES.md lists). It asks for memory once, for the kept text, if `s` is a media type other
+    /// than `*/*`, and else never.
     ///
     /// `TEXT/PLAIN; CHARSET=UTF-8; FOO=BAR` is kept as `text/plain; charset=utf-8; foo=BAR`, and
     /// `text/plain; ` as `text/plain`.
     ///
     /// # Errors
-    /// The one fault of a text that isn't a media type: what is missing at its end, as `MissingEqual` for
-    /// `a/b;p`, or else the position (in bytes, from 0) of the first byte that no media type could have
-    /// there, as 5 for `text/;`. It takes no memory. [`ParseError::NoMemory`] comes only for a media type,
-    /// and never for `*/*`.
+    /// The one fault of a text that isn't a media type: what is missing at its end (`MissingSlash`,
+    /// `MissingSubtype`, `MissingEqual`, `MissingValue` or `MissingQuote`), as `MissingEqual` for `a/b;p`, or
+    /// else the position (`InvalidToken`, in bytes, from 0) of the first byte that no media type could have
+    /// there, as 5 for `text/;`. Reporting a fault takes no memory. [`ParseError::NoMemory`] comes only for a
+    /// media type, and never for `*/*`.
     pub fn from_str(alloc: Global, s: &str) -> Result<Mime, FromStrError>
         // What is read has the value that the text is read as.
         ensures read { IfOk result (λ mime. Reads s.now mime.media) }
@@ -125,7 +127,7 @@ impl Mime {
         }
     }
 
-    /// The media type of a text that is kept as it stands, with the positions of its parts.
+    /// The media type of a static text already in kept form, with the positions of its parts.
     #[inline(always)]
     pub(crate) fn fixed(text: &'static str, places: Places) -> Mime
         requires { IsKept text.now places }
@@ -169,7 +171,7 @@ impl Mime {
     /// The suffix, after the subtype's last `+` that isn't its first byte, in small letters:
     /// `xml` in `image/svg+xml`, nothing in `a/b+`, and none in `a/+xml` (RFC 6838, 4.2.8).
     pub fn suffix(&self) -> Option<Name<'_>>
-        ensures text { option_map (λ name. name.text.now) result ≡ suffix_of self.now.media }
+        ensures text { option_map name_text result ≡ suffix_of self.now.media }
         ensures flag { IfSome result (λ name. name.ignores_case ≡ true) }
         ensures low { IfSome result (λ name. lowered name.text.now ≡ name.text.now) }
     {
@@ -204,14 +206,12 @@ impl Mime {
 
     /// The parameters, in the text's order and with duplicates, as pairs of a name and a value
     /// without its quotes (RFC 7231, 3.1.1.1): `p` with `1` and `p` with `;` for `a/b;p=1;P=";"`.
+    /// Backslashes stay: the value of `a/b;p="\"x"` is `\"x`.
     pub fn params(&self) -> Params<'_>
         ensures items { result ≡ items_of self.now.media.pairs }
         ensures low { AllByRecursion IsLowItem result }
     {
-        match self.places.semicolon {
-            None => Params::new("", 0),
-            Some(semicolon) => Params::new(&self.text.as_str()[semicolon + 1..], self.places.pairs),
-        }
+        Params::new(self.list(), self.places.pairs)
     }
 
     /// How many parameters there are.
@@ -235,10 +235,11 @@ impl Mime {
 
     /// The value of the first parameter whose name the key accepts, or none if it accepts none:
     /// `TextKey("P")` finds `1` in `a/b;p=1;P=2`, and `CHARSET` finds `utf-8` in
-    /// `text/html; Charset="UTF-8"` (RFC 7231, 3.1.1.1). It asks for no memory.
+    /// `text/html; Charset="UTF-8"` (RFC 7231, 3.1.1.1). The value is without its quotes. Backslashes stay: that of
+    /// `a/b;p="\"x"` is `\"x`. It asks for no memory.
     pub fn get_param<K: ParamKey>(&self, key: K) -> Option<Name<'_>>
         ensures found { IsFirstAccepted (K.Accepts key) (items_of self.now.media.pairs) (option_map name_seen result) }
-        ensures low { IfSome result (λ name. name.ignores_case ≡ true → lowered name.text.now ≡ name.text.now) }
+        ensures low { IfSome result (λ name. IsLowIf name.ignores_case name.text.now) }
     {
         for (name, value) in self.params() {
             if key.accepts(name) {

@@ -5,7 +5,7 @@ use Rattle.std.proofs.lemmas.Bool.{true≢false}
 use Rattle.std.specs.Option.{unwrap_or}
 use Rattle.std.specs.List.{list_any, position_or_len, onto_first}
 use Rattle.std.proofs.lemmas.List.Sums.{prefix_len-le-length}
-use Rattle.mime.proofs.CharBorders.{slice_get-place_from}
+use Rattle.mime.proofs.CharBorders.{slice_get-first_position}
 use Rattle.mime_lines.specs.Report.{lines_of}
 use Rattle.std.proofs.lemmas.Bool.Decides.{nat_tests}
 use Rattle.std.proofs.lemmas.Grind.{common_steps}
@@ -41,8 +41,7 @@ lines_of-first (b ∷ bytes) h = front-lines (nat_eq b 10) (position_or_len (λ 
 
 -- a line that ends before the end of the bytes ends with byte 10
 pub line_end-found : (bytes : List ℕ) (end : ℕ) → end ≡ position_or_len (λ b. nat_eq b 10) bytes → end < length bytes → slice_get bytes end ≡ Some 10
-line_end-found bytes end is within =
-    slice_get-place_from 0 10 bytes end (is ∙ sym (zero-add (position_or_len (λ b. nat_eq b 10) bytes))) within
+line_end-found bytes end is within = slice_get-first_position 10 bytes end is within
 
 -- the first line, and the lines after its end, where these are known
 pub lines_of-cut : (bytes front rest : List ℕ) (end : ℕ) → 0 < length bytes → end ≡ position_or_len (λ b. nat_eq b 10) bytes

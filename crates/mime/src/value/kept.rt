@@ -18,6 +18,7 @@ fn has_capital(text: &str) -> bool
     ensures { IsFalse result ↔ (lowered text.now ≡ text.now) }
 {
     let mut found = false;
+    // Without an early exit, several bytes are tested at a time.
     for byte in text.as_bytes() {
         found |= byte.is_ascii_uppercase();
     }
@@ -100,6 +101,7 @@ pub(crate) fn keep_text(alloc: Global, text: &str, places: Places) -> Result<Str
     }
     let mut bytes = Vec::from_slice(alloc, text.as_bytes())?;
     lower_text(&mut bytes, text, semicolon, places.pairs);
+    // SAFETY: these are the bytes of a text, of which only ASCII capitals were made small: so they are UTF-8.
     Ok(unsafe { String::from_utf8_unchecked(bytes) })
 }
 

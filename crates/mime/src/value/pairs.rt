@@ -1,9 +1,9 @@
 //! The pairs of a parameter list, cut one by one from the left.
 
-ghost use Rattle.std.specs.Prelude.{◌≡◌, ◌<◌, ◌≤◌, length};
+ghost use Rattle.std.specs.Prelude.{◌≡◌, ◌+◌, ◌<◌, ◌≤◌, length, take, drop, slice_index};
 ghost use Rattle.std.specs.Str.{IsCharBoundary};
 ghost use Rattle.mime.specs.Pairs.{before_byte, behind_byte, cut_of};
-ghost use Rattle.mime.specs.Pairs.{leading_spaces, first_place, cut_behind_equals};
+ghost use Rattle.mime.specs.Pairs.{leading_spaces, first_position, cut_behind_equals};
 ghost use Rattle.mime.specs.Quoted.{content_of, behind_content, content_len as len_of};
 
 use crate::bytes::{is_quoted_text_byte, is_space};
@@ -12,82 +12,88 @@ use crate::bytes::{is_quoted_text_byte, is_space};
 #[derive(Clone, Copy)]
 pub(crate) struct Pair<'a> {
     pub(crate) name: &'a str,
-    /// How many bytes stand before the value.
+    /// The number of bytes before the value.
     pub(crate) head: usize,
-    /// The value without its quotes.
+    /// The value without its quotes; backslashes stay: `\"x` for `"\"x"`.
     pub(crate) value: &'a str,
     pub(crate) rest: &'a str,
 }
 
-/// The first position of a byte from a position on, or the end.
+/// The first position of a byte, or the end.
 #[inline]
-fn place_from(text: &[u8], from: usize, byte: u8) -> usize
-    ensures { result ≡ first_place from byte text.now }
+fn position_of(text: &[u8], byte: u8) -> usize
+    ensures { result ≡ first_position byte text.now }
 {
-    let mut place = from;
-    while place < text.len() {
-        if text[place] == byte {
-            return place;
+    let mut position = 0;
+    while position < text.len() {
+        if text[position] == byte {
+            return position;
         }
-        place += 1;
+        position += 1;
     }
-    place
+    position
 }
 
-/// What stands before that position, and what stands after it.
-#[inline]
-fn split_from<'a>(text: &'a str, from: usize, byte: u8) -> (&'a str, &'a str)
-    requires { byte < 128 }
-    ensures before { result.0.now ≡ before_byte from byte text.entry.now }
-    ensures behind { result.1.now ≡ behind_byte from byte text.entry.now }
+/// The text before the ASCII byte at a position, and the text after it; all of it and nothing at the end. With
+/// `#[inline]` alone short walks took up to a tenth more.
+#[inline(always)]
+fn split_around<'a>(text: &'a str, position: usize) -> (&'a str, &'a str)
+    requires { position < length text.now → slice_index text.now position < 128 }
+    ensures before { result.0.now ≡ take position text.entry.now }
+    ensures behind { result.1.now ≡ drop (position + 1) text.entry.now }
 {
-    let place = place_from(text.as_bytes(), from, byte);
-    if place < text.len() {
-        (&text[..place], &text[place + 1..])
+    if position < text.len() {
+        (&text[..position], &text[position + 1..])
     } else {
         (text, "")
     }
 }
 
-/// Where what stands between quotes ends: at the first quote that no backslash pairs, or with the text.
+/// The text before the first such byte, and the text after it; all of it and nothing if there is none.
+#[inline]
+fn split_at_first<'a>(text: &'a str, byte: u8) -> (&'a str, &'a str)
+    requires { byte < 128 }
+    ensures before { result.0.now ≡ before_byte byte text.entry.now }
+    ensures behind { result.1.now ≡ behind_byte byte text.entry.now }
+{
+    split_around(text, position_of(text.as_bytes(), byte))
+}
+
+/// The content's length in bytes: up to the first unpaired quote, or to the end.
 #[inline]
 fn content_len(text: &[u8]) -> usize
     ensures { result ≡ len_of text.now }
 {
-    let quote = place_from(text, 0, b'"');
+    let quote = position_of(text, b'"');
     if quote == 0 || text[quote - 1] != b'\\' {
-        // No backslash stands before it, so nothing pairs it.
+        // No backslash precedes it, so nothing pairs it.
         return quote;
     }
-    let mut place = 0;
-    while place < text.len() {
-        let byte = text[place];
+    let mut position = 0;
+    while position < text.len() {
+        let byte = text[position];
+        // One look at a table passes most bytes.
         if !is_quoted_text_byte(byte) {
             if byte == b'"' {
-                return place;
+                return position;
             }
-            if byte == b'\\' && place + 1 < text.len() {
+            if byte == b'\\' && position + 1 < text.len() {
                 // The byte that it pairs closes nothing.
-                place += 1;
+                position += 1;
             }
         }
-        place += 1;
+        position += 1;
     }
-    place
+    position
 }
 
-/// What stands between quotes, and what stands after the one that closes.
+/// The quoted content, and the text after its closing quote; all of it and nothing if there is none.
 #[inline]
 fn split_content<'a>(text: &'a str) -> (&'a str, &'a str)
     ensures content { result.0.now ≡ content_of text.entry.now }
     ensures behind { result.1.now ≡ behind_content text.entry.now }
 {
-    let place = content_len(text.as_bytes());
-    if place < text.len() {
-        (&text[..place], &text[place + 1..])
-    } else {
-        (text, "")
-    }
+    split_around(text, content_len(text.as_bytes()))
 }
 
 /// How many spaces and tabs begin the list.
@@ -103,11 +109,8 @@ pub(crate) fn gap_of(list: &str) -> usize
     }
     let mut gap = 0;
     while gap < bytes.len() {
-        // Most bytes are told by one comparison.
-        if bytes[gap] > b' ' {
-            return gap;
-        }
-        if !is_space(bytes[gap]) {
+        // One comparison decides most bytes.
+        if bytes[gap] > b' ' || !is_space(bytes[gap]) {
             return gap;
         }
         gap += 1;
@@ -115,8 +118,8 @@ pub(crate) fn gap_of(list: &str) -> usize
     gap
 }
 
-/// The pair of a name, from what stands after its equals sign in a list of so many bytes: a quoted
-/// value or a plain one.
+/// The pair of a name, cut from the text after its equals sign, with a quoted value or a plain one. `whole` is the
+/// list's length in bytes.
 #[inline]
 fn cut_value<'a>(whole: usize, name: &'a str, text: &'a str) -> Pair<'a>
     requires { length text.now ≤ whole }
@@ -128,7 +131,7 @@ fn cut_value<'a>(whole: usize, name: &'a str, text: &'a str) -> Pair<'a>
     if !text.is_empty() && text.as_bytes()[0] == b'"' {
         let content = &text[1..];
         let (value, others) = split_content(content);
-        let (_, rest) = split_from(others, 0, b';');
+        let (_, rest) = split_at_first(others, b';');
         return Pair {
             name,
             head: whole - content.len(),
@@ -136,7 +139,7 @@ fn cut_value<'a>(whole: usize, name: &'a str, text: &'a str) -> Pair<'a>
             rest,
         };
     }
-    let (value, rest) = split_from(text, 0, b';');
+    let (value, rest) = split_at_first(text, b';');
     Pair {
         name,
         head: whole - text.len(),
@@ -155,6 +158,6 @@ pub(crate) fn cut<'a>(list: &'a str) -> Pair<'a>
     ensures rest { result.rest.now ≡ (cut_of list.entry.now).rest }
 {
     let gap = gap_of(list);
-    let (name, behind) = split_from(&list[gap..], 0, b'=');
-    cut_value(list.len(), name, behind)
+    let (name, text) = split_at_first(&list[gap..], b'=');
+    cut_value(list.len(), name, text)
 }

@@ -14,7 +14,8 @@ use std::marker::Model;
 
 /// The parameters of a media type that are still to come, in the text's order: an iterator over
 /// pairs of a name and a value. A name ignores case; a value does exactly if its name is `charset`.
-/// Those of `a/b;P=X` give the name `p` with the value `X` (RFC 7231, 3.1.1.1).
+/// Those of `a/b;P=X` give the name `p` with the value `X` (RFC 7231, 3.1.1.1). A value is without its quotes.
+/// Backslashes stay: the value of `a/b;p="\"x"` is `\"x`.
 /// The size hint is the number left, twice. It walks the kept text, and asks for no memory.
 #[derive(Drop)]
 pub struct Params<'a> {
@@ -77,7 +78,7 @@ impl<'a> Iterator for Params<'a> {
     }
 }
 
-/// Prints the word `Params`.
+/// Prints the word `Params`, as a test checks; no clause says so.
 impl fmt::Debug for Params<'_> {
     fn fmt<W: fmt::Write>(&self, f: &mut fmt::Formatter<W>) -> fmt::Result {
         f.write_str("Params")

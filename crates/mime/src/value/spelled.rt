@@ -2,7 +2,7 @@
 
 ghost use Rattle.std.specs.Prelude.{◌≡◌, ◌<◌, ◌∷◌, ◌++◌, IsTrue, MatchOption, take};
 ghost use Rattle.std.specs.List.{prefix_len};
-ghost use Rattle.mime.specs.Bytes.{is_token_byte, is_quoted_text_byte as is_quoted_text};
+ghost use Rattle.mime.specs.Bytes.{is_token_byte, is_quoted_text_byte as is_quoted_text, semicolon_byte};
 ghost use Rattle.mime.specs.Pairs.{cut_of};
 ghost use Rattle.mime.specs.Spelled.{IsCutAt, BeginsWithValue, BeginsWithPair};
 
@@ -19,7 +19,7 @@ pub(crate) struct Checked<'a> {
     pub(crate) is_parameter: bool,
 }
 
-/// How many bytes of a token begin the text.
+/// The number of leading bytes that are a token.
 #[inline]
 fn token_len(text: &str) -> usize
     ensures { result ≡ prefix_len is_token_byte text.now }
@@ -35,7 +35,7 @@ fn token_len(text: &str) -> usize
     len
 }
 
-/// How many bytes that stand by themselves in a quoted value begin the text.
+/// The number of leading bytes that are quoted text.
 #[inline]
 fn quoted_text_len(text: &str) -> usize
     ensures { result ≡ prefix_len is_quoted_text text.now }
@@ -51,23 +51,23 @@ fn quoted_text_len(text: &str) -> usize
     len
 }
 
-/// What stands before a position and after it, if this byte stands there.
+/// The text before and after a position, if this byte is there.
 #[inline]
-fn split_at_byte<'a>(text: &'a str, place: usize, byte: u8) -> Option<(&'a str, &'a str)>
+fn split_at_byte<'a>(text: &'a str, position: usize, byte: u8) -> Option<(&'a str, &'a str)>
     requires { byte < 128 }
-    ensures { MatchOption result (Unit {0}) (λ parts. (parts.0.now ≡ take place text.entry.now) × (parts.0.now ++ (byte ∷ parts.1.now) ≡ text.entry.now)) }
+    ensures { MatchOption result (Unit {0}) (λ parts. (parts.0.now ≡ take position text.entry.now) × (parts.0.now ++ (byte ∷ parts.1.now) ≡ text.entry.now)) }
 {
-    if place < text.len() && text.as_bytes()[place] == byte {
-        Some((&text[..place], &text[place + 1..]))
+    if position < text.len() && text.as_bytes()[position] == byte {
+        Some((&text[..position], &text[position + 1..]))
     } else {
         None
     }
 }
 
-/// The same with a semicolon there, or where the text ends.
+/// The text before and after a position that has a semicolon or is the end.
 #[inline]
 fn split_value<'a>(text: &'a str, end: usize) -> Option<(&'a str, &'a str)>
-    ensures { MatchOption result (Unit {0}) (λ parts. IsCutAt 59 text.entry.now end parts.0.now parts.1.now) }
+    ensures { MatchOption result (Unit {0}) (λ parts. IsCutAt semicolon_byte text.entry.now end parts.0.now parts.1.now) }
 {
     if end == text.len() {
         return Some((text, ""));
@@ -93,7 +93,8 @@ fn value_of<'a>(text: &'a str) -> Option<(&'a str, &'a str)>
     split_value(text, end)
 }
 
-/// The first pair of a list, if it is a parameter whose value is one of those.
+/// The first pair of a list, if it is a parameter whose value is a token, or quoted text without a backslash and
+/// without spaces after it.
 #[inline]
 fn parameter_of<'a>(list: &'a str) -> Option<Checked<'a>>
     ensures { MatchOption result (Unit {0}) (λ pair. BeginsWithPair list.entry.now pair.name.now pair.value.now pair.rest.now) }

@@ -27,6 +27,7 @@ fn same(first: &Mime, second: &Mime) -> bool
     if first.as_str() == second.as_str() {
         return true;
     }
+    // Without parameters the text is the essence, and the essences differ.
     if first.count() == 0 {
         return false;
     }
@@ -73,7 +74,7 @@ fn feed<H: Hasher>(mime: &Mime, state: &mut H)
     ensures { state.new ≡ fold H.write state.old (media_input mime.now.media) }
 {
     let essence = mime.essence_str().as_bytes();
-    // A fresh hasher takes an essence alone in whole words.
+    // Only for speed, since `feed_pairs` feeds nothing then: a fresh hasher takes an essence alone in whole words.
     if mime.count() == 0 {
         state.write(essence);
         return;
@@ -135,7 +136,8 @@ impl Ord for Mime {
 }
 
 /// Feeds a hasher the parameters and the essence, so equal values feed it the same: `a/b; p="x"` and
-/// `A/B;P=x` do. Which bytes are fed is open. It asks for no memory.
+/// `A/B;P=x` do. The bytes may change between versions; rely only on equal values feeding the same. It asks for no
+/// memory.
 impl Hash for Mime {
     ghost hash_input = { λ mime. media_input mime.media };
 

@@ -68,8 +68,14 @@ pub(crate) fn order_pairs(first: &str, count: usize, second: &str, number: usize
 /// How many bytes are joined before they are fed to a hasher.
 const JOINED: usize = 64;
 
-/// What ends a pair that is fed: a byte that no text has, and zeros up to a whole word.
-const END: [u8; 8] = [0xff, 0, 0, 0, 0, 0, 0, 0];
+/// The number of bytes in a word of a hasher.
+const WORD: usize = 8;
+
+/// The byte after a name and after a value that are fed. No text has it.
+const MARK: u8 = 0xff;
+
+/// What ends a pair that is fed: that byte, and zeros up to a whole word.
+const END: [u8; WORD] = [MARK, 0, 0, 0, 0, 0, 0, 0];
 
 /// Feeds a short pair to a hasher in one piece.
 #[inline]
@@ -81,10 +87,10 @@ fn feed_joined<H: Hasher>(name: &[u8], value: &[u8], state: &mut H)
     let middle = name.len();
     let end = middle + 1 + value.len();
     run[..middle].copy_from_slice(name);
-    run[middle] = 0xff;
+    run[middle] = MARK;
     run[middle + 1..end].copy_from_slice(value);
-    run[end] = 0xff;
-    state.write(&run[..end + 8 - end % 8]);
+    run[end] = MARK;
+    state.write(&run[..end + WORD - end % WORD]);
 }
 
 /// Feeds a long pair to a hasher, part by part.
@@ -93,10 +99,10 @@ fn feed_apart<H: Hasher>(name: &[u8], value: &[u8], state: &mut H)
     ensures { state.new ≡ fold H.write state.old (pair_parts (name.now, value.now)) }
 {
     state.write(name);
-    state.write_u8(0xff);
+    state.write_u8(MARK);
     state.write(value);
     let count = name.len() + 1 + value.len();
-    state.write(&END[..8 - count % 8]);
+    state.write(&END[..WORD - count % WORD]);
 }
 
 /// Feeds a pair to a hasher.

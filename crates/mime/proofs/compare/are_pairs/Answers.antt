@@ -15,10 +15,8 @@ pub returns-then-not-is_pair-clause-same : goal.returns-then-not-is_pair-clause-
 returns-then-not-is_pair-clause-same c = (
   λ bad. absurd cc,
   λ same. absurd (lowered-other _ c.args.count c.loop.counter c.loop.left.now c.loop.right.now c.loop-test.true c.loop.invariant.decides
-      (λ alike. let told = c.is_pair.ensures.1 (
-        cc (alike.0, c.cut-one.ensures.name, c.cut_checked-other.ensures.name),
-        cc (alike.1, c.cut-one.ensures.value, c.cut_checked-other.ensures.name, c.cut_checked-other.ensures.value),
-      ) in absurd cc) same),
+      (λ alike. let told = c.is_pair.ensures.1 (cc (alike, c.cut-one.ensures.name, c.cut-one.ensures.value, c.cut_checked-other.ensures.name, c.cut_checked-other.ensures.value)) in
+          absurd cc) same),
 )
 
 pub loop-preserved : goal.loop-preserved
@@ -30,7 +28,7 @@ loop-preserved c =
       low = rw c.cut-one.ensures.rest (low-next c.args.count c.loop.counter c.loop.left.now c.loop-test.true c.loop.invariant.low).1;
       decides = rw (c.cut-one.ensures.rest, c.cut_checked-other.ensures.rest)
           (lowered-next _ c.args.count c.loop.counter c.loop.left.now c.loop.right.now c.loop-test.true c.loop.invariant.decides
-          (cc (alike.0, alike.1, c.cut-one.ensures.name, c.cut_checked-other.ensures.name, c.cut-one.ensures.value, c.cut_checked-other.ensures.value)));
+          (cc (alike, c.cut-one.ensures.name, c.cut_checked-other.ensures.name, c.cut-one.ensures.value, c.cut_checked-other.ensures.value)));
       passed = λ known.
           let parts = and_parts c.loop.known c.cut_checked-other.result.is_parameter known in
           passed-more _ _ _ _ _ c.loop.counter (c.loop.invariant.passed parts.0) (c.cut_checked-other.ensures.parameter parts.1);

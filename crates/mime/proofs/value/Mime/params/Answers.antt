@@ -1,17 +1,20 @@
--- The list begins after the semicolon, and its items are in small letters where they ignore case.
-use Rattle.std.proofs.Common.{◌∙◌, ap, drop, ◌+◌, subst, lit<}
-use Rattle.std.specs.Str.{IsUtf8}
-use Rattle.mime.proofs.CharBorders.{boundary_behind}
-use Rattle.mime.proofs.KeptText.{kept-semicolon}
-use Rattle.mime.proofs.Parts.{kept-low_items}
+-- The items are those of the pairs of the list, and are in small letters where they ignore case.
+use Rattle.std.proofs.Common.{ap, ◌∙◌, length, subst}
+use Rattle.mime.specs.Values.{OwnedMedia}
+use Rattle.mime.specs.Items.{items_of}
+use Rattle.mime.specs.KeptText.{AreLowPairs}
+use Rattle.mime.specs.Pairs.{pairs_within}
+use Rattle.mime.proofs.Counts.{kept-count}
+use Rattle.mime.proofs.KeptText.{reads-from_kept}
+use Rattle.mime.proofs.Parts.{read-low_pairs, items_of-low}
 use Rattle.mime.proofs.value.Mime.params.Goals as goal
 
-pub range_from-requires : goal.range_from-requires
-range_from-requires c = λ _.
-    rw c.as_str.ensures
-    (boundary_behind _ _ _ (subst IsUtf8 c.as_str.ensures c.as_str.utf8) (kept-semicolon _ _ _ c.self.invariant c.in-Some.is) (lit< tt))
+pub returns-clause-items : goal.returns-clause-items
+returns-clause-items c =
+    let count = kept-count _ _ c.self.invariant ∙ ap (λ kept. length kept.media.pairs) c.self.view_is in
+    c.new.ensures ∙ ap items_of (ap (λ n. pairs_within n c.list.result.now) count ∙ c.list.ensures)
 
-pub returns-in-Some-clause-low : goal.returns-in-Some-clause-low
-returns-in-Some-clause-low c =
-    let list = c.range_from.ensures.value ∙ ap (drop (c.in-Some.semicolon + 1)) c.as_str.ensures in
-    rw c.new-in-Some.ensures (kept-low_items _ _ _ _ c.self.invariant c.in-Some.is list)
+pub returns-clause-low : goal.returns-clause-low
+returns-clause-low c =
+    let low = subst (λ (kept : OwnedMedia). AreLowPairs kept.media.pairs) c.self.view_is (read-low_pairs _ _ (reads-from_kept _ _ c.self.invariant)) in
+    rw (returns-clause-items c) (items_of-low _ low)

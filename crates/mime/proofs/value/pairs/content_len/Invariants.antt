@@ -3,8 +3,8 @@ use Rattle.std.proofs.Common.{◌≡◌, ◌+◌, ◌-◌, false, length, drop}
 use Rattle.mime.specs.Quoted.{content_len as len_of, len_from}
 use Rattle.mime.proofs.value.pairs.content_len.Given as goal
 
-abbrev pub invariant-loop-place : goal.invariant-loop-place
-invariant-loop-place l = l.place + len_from false (drop l.place l.text) ≡ len_of l.text
+abbrev pub invariant-loop-position : goal.invariant-loop-position
+invariant-loop-position l = l.position + len_from false (drop l.position l.text) ≡ len_of l.text
 
-abbrev pub decreases-loop-place : goal.decreases-loop-place
-decreases-loop-place l = length l.text - l.place
+abbrev pub decreases-loop-position : goal.decreases-loop-position
+decreases-loop-position l = length l.text - l.position

@@ -1,6 +1,7 @@
 -- Nothing follows at the end, else the semicolon does.
 use Rattle.std.proofs.Common.{[], ◌∷◌, append-nil, arith, sym}
 use Rattle.std.proofs.lemmas.List.{take_all}
+use Rattle.mime.specs.Bytes.{semicolon_byte}
 use Rattle.mime.specs.Spelled.{nothing, marked}
 use Rattle.mime.proofs.Spelled.{MatchOption-mapped}
 use Rattle.mime.proofs.value.spelled.split_value.Goals as goal
@@ -16,4 +17,4 @@ returns-then-end-text c = record {
 pub returns : goal.returns
 returns c =
     MatchOption-mapped c.split_at_byte.result
-    (λ parts is. record { follow = 59 ∷ parts.1.now; follows = marked parts.1.now; is = is.0; joined = is.1 }) c.split_at_byte.ensures
+    (λ parts is. record { follow = semicolon_byte ∷ parts.1.now; follows = marked parts.1.now; is = is.0; joined = is.1 }) c.split_at_byte.ensures
