@@ -16,7 +16,7 @@ returns-then-not-is_pair-clause-same c = (
   λ bad. absurd cc,
   λ same. absurd (lowered-other _ c.args.count c.loop.counter c.loop.left.now c.loop.right.now c.loop-test.true c.loop.invariant.decides
       (λ alike. let told = c.is_pair.ensures.1 (cc (alike, c.cut-one.ensures.name, c.cut-one.ensures.value, c.cut_checked-other.ensures.name, c.cut_checked-other.ensures.value)) in
-          absurd cc) same),
+      absurd cc) same),
 )
 
 pub loop-preserved : goal.loop-preserved
