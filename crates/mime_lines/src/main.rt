@@ -27,6 +27,7 @@ use std::process::ExitCode;
 /// name of the program.
 fn asked_mode(mut arguments: Args) -> Option<Mode>
     ensures parts { into_iter_len arguments ≤ 1 → result ≡ Some Mode.Parts }
+    // The argument after the program's name says which mode.
     ensures named { into_iter_len arguments ≡ 2
         → IsSomeAnd (slice_get (into_iter_items arguments) 1) (λ word. result ≡ mode_named (string_bytes word)) }
     ensures other { 2 < into_iter_len arguments → result ≡ None }
