@@ -3,8 +3,8 @@ use Rattle.std.proofs.Common.{◌≡◌, ℕ, List, [], ◌∷◌, ◌++◌, ref
 use Rattle.mime.specs.Items.{Item, items_of}
 use Rattle.std.specs.Str.{IsUtf8}
 use Rattle.mime.specs.Cut.{CutItem, Cut}
-use Rattle.mime.specs.Runs.{IsFirstItem, HasNoItem}
-use Rattle.mime_lines.specs.Report.{row, param_rows, lines_of, item_row, item_rows, ReportsText, ReportsLine, ReportsLines}
+use Rattle.mime.specs.Runs.{HasNoItem}
+use Rattle.mime_lines.specs.Report.{row, param_rows, lines_of, item_rows, ReportsText, ReportsLine, ReportsLines}
 use Rattle.mime_lines.specs.Report.ReportsText.{listed}
 use Rattle.mime_lines.specs.Report.ReportsLine.{is_text}
 use Rattle.mime_lines.specs.Report.ReportsLines.{no_more, line_more}
@@ -61,19 +61,6 @@ ReportsLines-end mode input (byte ∷ rest) report none whole = absurd (omega ar
 pub record IsListing (text left old new : List ℕ) : Type 0 where
   pub onward : (items : List CutItem) (rest : List ℕ) → Cut left items rest
       → (all : List CutItem) × Cut text all rest × (old ++ item_rows all ≡ new ++ item_rows items)
-
--- nothing is added yet
-pub listing-first : (text old : List ℕ) → IsListing text text old old
-listing-first text old = record { onward = λ items rest cut. (items, cut, refl) }
-
--- the first item of what is left is added
-pub listing-more : (text left old new after more : List ℕ) (item : CutItem) → IsListing text left old new → IsFirstItem left item after
-    → more ≡ new ++ item_row item → IsListing text after old more
-listing-more text left old new after more item listing first added = record {
-  onward = λ items rest cut.
-      let all = listing.onward (item ∷ items) rest (first items rest cut) in
-      (all.0, all.1, all.2 ∙ sym (append_assoc new (item_row item) (item_rows items)) ∙ ap (λ t. t ++ item_rows items) (sym added));
-}
 
 -- where no item is left the text is reported
 pub listing-end : (text left old new : List ℕ) → IsListing text left old new → HasNoItem left

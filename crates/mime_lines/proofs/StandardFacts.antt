@@ -1,7 +1,9 @@
--- Worked examples of lines and rows, by computation, so that a wrong definition doesn't check.
+-- Worked examples of lines, rows and arguments, by computation, so that a wrong definition doesn't check.
 use Rattle.std.proofs.Common.{◌≡◌, [], ◌∷◌, refl, codes}
 use Rattle.std.specs.Prelude.{Some, None}
 use Rattle.mime.specs.Cut.{good, bad}
+use Rattle.mime_lines.specs.declared.mode.Mode.{Mode}
+use Rattle.mime_lines.specs.Program.{mode_named}
 use Rattle.mime_lines.specs.Report.{lines_of, row, value_rows, item_rows}
 
 -- no bytes have no line
@@ -45,3 +47,11 @@ rows_of_items :
     )
     ≡ codes "bad invalid\nok text/html\n"
 rows_of_items = refl
+
+-- one word names a mode
+list_names_a_mode : mode_named (codes "list") ≡ Some Mode.List
+list_names_a_mode = refl
+
+-- and only in small letters
+capitals_name_no_mode : mode_named (codes "LIST") ≡ None
+capitals_name_no_mode = refl

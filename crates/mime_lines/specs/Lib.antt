@@ -1,2 +1,3 @@
--- the trusted page
+-- the trusted pages
 pub mod Report
+pub mod Program

@@ -1,12 +1,13 @@
 //! What the program reads from and writes to: a source, a sink, and a device that is one of them.
 
-ghost use Rattle.std.specs.Prelude.{◌≡◌, List, ℕ, Bool, true, Option, OnOk, OnErr, ⊤};
+ghost use Rattle.std.specs.Prelude.{◌≡◌, List, ℕ, Bool, true, Option, Ok, IsErr, MatchResult, OnOk, OnErr, ⊤};
 ghost use Rattle.std.specs.Io.{ReadsAtMost};
 ghost use Rattle.std.specs.Io.KnownBytes.{ReadConsumes, Appends, Keeps};
 
+use std::io;
 use std::io::{Read, Write};
 
-/// A read, a write or a flush failed: that of a full disk, say. Why it failed isn't told.
+/// A read, a write or a flush failed, as a write to a full disk does. The cause isn't reported.
 #[derive(Clone, Copy, PartialEq, Eq, Debug)]
 pub struct Failed;
 
@@ -63,19 +64,32 @@ pub struct Device<T> {
     pub failed: bool,
 }
 
+impl<T> Device<T> {
+    /// The answer of an inner call. Its failure sets the mark.
+    fn marked<V>(&mut self, answer: io::Result<V>) -> Result<V, Failed>
+        ensures inner { self.new.inner ≡ self.old.inner }
+        ensures answer { MatchResult answer (λ value. result ≡ Ok value) (λ _. IsErr result) }
+        ensures failed { OnErr answer (self.new.failed ≡ true) }
+        ensures unfailed { OnOk answer (self.new.failed ≡ self.old.failed) }
+    {
+        match answer {
+            Ok(value) => Ok(value),
+            Err(_) => {
+                self.failed = true;
+                Err(Failed)
+            }
+        }
+    }
+}
+
 impl<T: Read> Source for Device<T> {
     ghost left = { λ device. T.remaining device.inner };
 
     ghost has_failed = { λ device. device.failed };
 
     fn read(&mut self, buf: &mut [u8]) -> Result<usize, Failed> {
-        match self.inner.read(buf) {
-            Ok(count) => Ok(count),
-            Err(_) => {
-                self.failed = true;
-                Err(Failed)
-            }
-        }
+        let answer = self.inner.read(buf);
+        self.marked(answer)
     }
 }
 
@@ -85,22 +99,12 @@ impl<T: Write> Sink for Device<T> {
     ghost has_failed = { λ device. device.failed };
 
     fn write_all(&mut self, bytes: &[u8]) -> Result<(), Failed> {
-        match self.inner.write_all(bytes) {
-            Ok(()) => Ok(()),
-            Err(_) => {
-                self.failed = true;
-                Err(Failed)
-            }
-        }
+        let answer = self.inner.write_all(bytes);
+        self.marked(answer)
     }
 
     fn flush(&mut self) -> Result<(), Failed> {
-        match self.inner.flush() {
-            Ok(()) => Ok(()),
-            Err(_) => {
-                self.failed = true;
-                Err(Failed)
-            }
-        }
+        let answer = self.inner.flush();
+        self.marked(answer)
     }
 }

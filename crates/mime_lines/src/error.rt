@@ -1,8 +1,10 @@
 //! Why a run stops before its end.
 
+ghost use Rattle.std.specs.Prelude.{Some};
+
 use std::fmt;
 
-/// Why a run stops before its end. It prints as two words at most: `TooLong` as `too long`.
+/// Why a run stops before its end.
 #[derive(Clone, Copy, PartialEq, Eq, Debug)]
 pub enum RunError {
     /// A read failed, whatever the cause.
@@ -15,7 +17,12 @@ pub enum RunError {
     NoMemory,
 }
 
+/// Prints one word or two, `TooLong` as `too long`. A width is ignored.
 impl fmt::Display for RunError {
+    ghost use Rattle.mime_lines.specs.Program.{stop_text};
+
+    ghost output = { λ error. Some (stop_text error) };
+
     fn fmt<W: fmt::Write>(&self, f: &mut fmt::Formatter<W>) -> fmt::Result {
         f.write_str(match self {
             RunError::Read => "read",

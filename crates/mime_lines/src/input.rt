@@ -1,8 +1,9 @@
 //! What the program takes in: all bytes of a source up to a limit, and their lines.
 
-ghost use Rattle.std.specs.Prelude.{◌≡◌, ◌≢◌, ℕ, List, ◌<◌, ◌≤◌, ◌∷◌, ◌==◌, ◌+◌, length, drop, true, OnOk, IfOk, IfErr};
+ghost use Rattle.std.specs.Prelude.{◌≡◌, ◌≢◌, ℕ, List, ◌<◌, ◌≤◌, ◌∷◌, ◌==◌, ◌+◌, length, drop, true, OnOk, IfOk};
 ghost use Rattle.std.specs.List.{list_any, position_or_len};
 ghost use Rattle.std.specs.Io.KnownBytes.{Consumes, IsAtEnd};
+ghost use Rattle.mime_lines.specs.Program.{limit};
 ghost use Rattle.mime_lines.specs.Report.{lines_of};
 
 use crate::device::Source;
@@ -23,13 +24,13 @@ pub(crate) fn read_to_limit<S: Source>(alloc: Global, source: &mut S) -> Result<
     // What was left is read to its end, within the limit.
     ensures bytes { IfOk result (λ input. Consumes (S.left source.old) (S.left source.new) input.items) }
     ensures end { OnOk result (IsAtEnd (S.left source.new)) }
-    ensures limit { IfOk result (λ input. length input.items ≤ 1048576) }
+    ensures limit { IfOk result (λ input. length input.items ≤ limit) }
     // The source fails exactly where the answer is `Read`.
     ensures read { result ≡ Err RunError.Read → S.has_failed source.new ≡ true }
     ensures unfailed { result ≢ Err RunError.Read → S.has_failed source.new ≡ S.has_failed source.old }
     // The byte after the limit was given where the answer is `TooLong`.
     ensures too_long { result ≡ Err RunError.TooLong
-        → (bytes : List ℕ) × Consumes (S.left source.old) (S.left source.new) bytes × (length bytes ≡ 1048577) }
+        → (bytes : List ℕ) × Consumes (S.left source.old) (S.left source.new) bytes × (length bytes ≡ limit + 1) }
     // The answer is never `Write`.
     ensures no_write { result ≢ Err RunError.Write }
 {
@@ -37,24 +38,21 @@ pub(crate) fn read_to_limit<S: Source>(alloc: Global, source: &mut S) -> Result<
     let mut block = [0u8; BLOCK];
     loop {
         let room = (LIMIT + 1 - input.len()).min(BLOCK);
-        let count = match source.read(&mut block[..room]) {
-            Ok(count) => count,
-            Err(_) => return Err(RunError::Read),
-        };
+        let count = source.read(&mut block[..room]).map_err(|_| RunError::Read)?;
         if count == 0 {
             return Ok(input);
         }
         if count > LIMIT - input.len() {
             return Err(RunError::TooLong);
         }
-        if input.extend_from_slice(&block[..count]).is_err() {
-            return Err(RunError::NoMemory);
-        }
+        input
+            .extend_from_slice(&block[..count])
+            .map_err(|_| RunError::NoMemory)?;
     }
 }
 
 /// Whether a line ends among some bytes. The loop doesn't end early: over a known length it is a few
-/// steps of the processor.
+/// instructions.
 #[inline(always)]
 fn has_line_end(bytes: &[u8]) -> bool
     ensures { result ≡ list_any (λ byte. byte == 10) bytes.now }
@@ -82,7 +80,7 @@ fn passed_len(input: &[u8]) -> usize
     passed
 }
 
-/// How many bytes stand before the first end of a line, or before the end of the input.
+/// The number of bytes before the first line feed, or of the whole input.
 fn line_len(input: &[u8]) -> usize
     ensures line { result ≡ position_or_len (λ byte. byte == 10) input.now }
     ensures within { result ≤ length input.now }
@@ -102,7 +100,7 @@ fn line_end(input: &[u8]) -> usize
     passed + line_len(&input[passed..])
 }
 
-/// The first line of an input that isn't empty, and what stands after its end.
+/// The first line of a nonempty input, and the rest after its line feed.
 pub(crate) fn first_line(input: &[u8]) -> (&[u8], &[u8])
     requires { 0 < length input.now }
     ensures lines { lines_of input.now ≡ result.0.now ∷ lines_of result.1.now }
@@ -113,8 +111,8 @@ pub(crate) fn first_line(input: &[u8]) -> (&[u8], &[u8])
     (&input[..end], &input[next..])
 }
 
-/// The first line of a text that isn't empty, and what stands after its end. The end of a line is an
-/// ASCII byte: both are texts.
+/// The first line of a nonempty text, and the rest after its line feed. A line feed is an ASCII byte, so
+/// both are texts.
 pub(crate) fn first_text_line(text: &str) -> (&str, &str)
     requires { 0 < length text.now }
     ensures lines { lines_of text.now ≡ result.0.now ∷ lines_of result.1.now }

@@ -1,7 +1,8 @@
 //! One run of the program, from a source to a sink.
 
-ghost use Rattle.std.specs.Prelude.{◌≡◌, ◌≢◌, ℕ, List, ◌≤◌, length, true, OnOk, IfErr};
+ghost use Rattle.std.specs.Prelude.{◌≡◌, ◌≢◌, ℕ, List, ◌≤◌, ◌+◌, length, true, OnOk, IfErr};
 ghost use Rattle.std.specs.Io.KnownBytes.{Consumes, Appends, IsAtEnd};
+ghost use Rattle.mime_lines.specs.Program.{limit};
 ghost use Rattle.mime_lines.specs.Report.{IsReportOf};
 
 use crate::device::{Sink, Source};
@@ -11,8 +12,9 @@ use crate::mode::Mode;
 use crate::report::report_of;
 use std::alloc::Global;
 
-/// Reads a source to its end, and then writes the report of what it read to a sink. From `a/b` it
-/// writes the three lines `ok a/b`, `type a` and `subtype b`.
+/// Reads a source to its end, and then writes the report of what it read to a sink. For `a/b` that is
+/// the three lines `ok a/b`, `type a` and `subtype b` by [`Mode::Parts`], and `ok a/b` alone by
+/// [`Mode::List`].
 ///
 /// # Errors
 /// `Read` and `Write` where the source or the sink fails; nothing is tried twice. `TooLong` for more
@@ -28,7 +30,7 @@ pub fn run<S: Source, T: Sink>(
     // It has written the report of these bytes, nothing else, and passed it on. All this holds too of
     // a source or a sink that doesn't tell its bytes.
     ensures whole { OnOk result ((bytes : List ℕ) × (text : List ℕ)
-        × Consumes (S.left source.old) (S.left source.new) bytes × (length bytes ≤ 1048576)
+        × Consumes (S.left source.old) (S.left source.new) bytes × (length bytes ≤ limit)
         × IsReportOf mode bytes text × Appends (T.held sink.old) (T.held sink.new) text) }
     ensures end { OnOk result (IsAtEnd (S.left source.new)) }
     ensures passed_on { OnOk result (T.IsPassedOn sink.new) }
@@ -39,7 +41,7 @@ pub fn run<S: Source, T: Sink>(
     ensures sink_unfailed { result ≢ Err RunError.Write → T.has_failed sink.new ≡ T.has_failed sink.old }
     // The byte after the limit was given where the answer is `TooLong`.
     ensures too_long { result ≡ Err RunError.TooLong
-        → (bytes : List ℕ) × Consumes (S.left source.old) (S.left source.new) bytes × (length bytes ≡ 1048577) }
+        → (bytes : List ℕ) × Consumes (S.left source.old) (S.left source.new) bytes × (length bytes ≡ limit + 1) }
     // Nothing is written before the whole report is there.
     ensures untouched { IfErr result (λ error. error ≢ RunError.Write → sink.new ≡ sink.old) }
 {

@@ -1,9 +1,10 @@
 //! Reads media types, one a line or, with the argument `list`, lists of them, and reports on each.
 #![tactic(auto)]
 
-ghost use Rattle.std.specs.Prelude.{◌≡◌, ◌≢◌, ◌<◌, ◌≤◌, Some, None, OnOk, OnErr, codes};
+ghost use Rattle.std.specs.Prelude.{◌≡◌, ◌<◌, ◌≤◌, Some, None, IsSomeAnd, OnOk, OnErr, slice_get, string_bytes};
 ghost use Rattle.std.specs.Process.{exit_status};
-ghost use Rattle.std.specs.Vec.Iter.{into_iter_len};
+ghost use Rattle.std.specs.Vec.Iter.{into_iter_items, into_iter_len};
+ghost use Rattle.mime_lines.specs.Program.{mode_named};
 
 mod device;
 mod error;
@@ -26,7 +27,9 @@ use std::process::ExitCode;
 /// name of the program.
 fn asked_mode(mut arguments: Args) -> Option<Mode>
     ensures parts { into_iter_len arguments ≤ 1 → result ≡ Some Mode.Parts }
-    ensures list { result ≡ Some Mode.List → into_iter_len arguments ≡ 2 }
+    // The argument after the program's name says which mode.
+    ensures named { into_iter_len arguments ≡ 2
+        → IsSomeAnd (slice_get (into_iter_items arguments) 1) (λ word. result ≡ mode_named (string_bytes word)) }
     ensures other { 2 < into_iter_len arguments → result ≡ None }
 {
     if arguments.len() > 2 {
@@ -41,8 +44,7 @@ fn asked_mode(mut arguments: Args) -> Option<Mode>
 
 /// The mode that an argument names.
 fn named_mode(word: &str) -> Option<Mode>
-    ensures list { word.now ≡ codes "list" → result ≡ Some Mode.List }
-    ensures other { word.now ≢ codes "list" → result ≡ None }
+    ensures { result ≡ mode_named word.now }
 {
     if word == "list" {
         Some(Mode::List)
