@@ -11,17 +11,13 @@ use std::alloc::AllocError;
 pub fn unescape(value: &str, buffer: &mut Vec<u8>) -> Result<(), AllocError>
     ensures { OnOk result (vec_items buffer.new ≡ vec_items buffer.old ++ unescaped value.now) }
 {
-    let bytes = value.as_bytes();
     let mut is_paired = false;
-    let mut place = 0;
-    while place < bytes.len() {
-        let byte = bytes[place];
+    for &byte in value.as_bytes() {
         let begins_pair = !is_paired && byte == b'\\';
         if !begins_pair {
             buffer.push(byte)?;
         }
         is_paired = begins_pair;
-        place += 1;
     }
     Ok(())
 }
@@ -48,7 +44,7 @@ mod tests {
             unescape(value.text, &mut buffer)?;
             assert_eq!(rt; str::from_utf8(buffer.as_slice())?, want, "{text}");
         }
-        // What stands in the buffer stays, and so does a backslash with nothing after it.
+        // What the buffer has stays; a final backslash adds nothing.
         unescape("\\x\\", &mut buffer)?;
         assert_eq!(rt; str::from_utf8(buffer.as_slice())?, "\\\\xé\tx");
         Ok(())
