@@ -17,12 +17,12 @@ pub enum HeaderError {
     NotRead(FromStrError),
 }
 
-/// The media type of a header's value, which a connection gives as bytes, without the spaces around it
-/// (RFC 7230, 3.2).
+/// The media type of a header's value: its bytes as a connection gives them, without the white space
+/// around them (RFC 7230, 3.2.4).
 pub fn header_value(alloc: Global, value: &[u8]) -> Result<Mime, HeaderError>
     // What is read has the value that the bytes are read as.
     ensures read { IfOk result (λ mime. Reads value.now mime.media) }
-    // `NotText` says that they aren't UTF-8, and any other answer that they are.
+    // `NotText` says that the bytes aren't UTF-8, and any other answer that they are.
     ensures not_text { result ≡ Err HeaderError.NotText → ¬ (IsUtf8 value.now) }
     ensures text { result ≢ Err HeaderError.NotText → IsUtf8 value.now }
     // `NotRead` has the fault of their text, or says that memory ran out.
