@@ -1,10 +1,12 @@
-//! A form's boundary, byte for byte.
+//! A form's boundary, byte for byte, read and written.
 
-ghost use Rattle.std.specs.Prelude.{◌≡◌, ◌≤◌, ◌<◌, ◌⊎◌, ℕ, List, Bool, Option, Some, IsSome, IfSome, MatchOption, length, codes, option_map};
+ghost use Rattle.std.specs.Prelude.{◌≡◌, ◌≤◌, ◌<◌, ◌⊎◌, ◌++◌, ℕ, List, Bool, Option, Some, IsSome, IfSome, MatchOption, length, codes, option_map};
+ghost use Rattle.mime.specs.Values.{Reads};
 ghost use Rattle.mime.specs.Names.{NameIs};
 ghost use Rattle.mime.specs.Items.{items_of, IsFirstAccepted};
 
 use mime::{Mime, TextKey};
+use std::alloc::Global;
 
 /// The boundary between the parts of a form's body (RFC 7578, 4.1), byte for byte as it was sent
 /// but for its quotes; none where the media type isn't a form's, or where its first `boundary` is missing,
@@ -30,6 +32,25 @@ pub fn form_boundary(mime: &Mime) -> Option<&str>
         return None;
     }
     Some(boundary)
+}
+
+/// A form's media type with this boundary; none where a form can't have this boundary, or memory ran out.
+pub fn form_with_boundary(alloc: Global, boundary: &str) -> Option<Mime>
+    // It is what this text is read as,
+    ensures read { IfSome result (λ mime.
+        Reads (codes "multipart/form-data; boundary=\"" ++ (boundary.now ++ codes "\"")) mime.media) }
+    // and its first parameter `boundary` has this value, byte for byte.
+    ensures boundary { IfSome result (λ mime. (value : List ℕ × Bool)
+        × IsFirstAccepted (λ name flag. NameIs name flag (codes "boundary")) (items_of mime.media.pairs) (Some value)
+        × (value.0 ≡ boundary.now)) }
+{
+    let text = format!(in alloc; "multipart/form-data; boundary=\"{boundary}\"").ok()?;
+    let mime = Mime::from_str(alloc, &text).ok()?;
+    if form_boundary(&mime) == Some(boundary) {
+        Some(mime)
+    } else {
+        None
+    }
 }
 
 #[cfg(test)]
@@ -61,6 +82,28 @@ mod tests {
         ] {
             let mime = Mime::from_str(rt.alloc(), text)?;
             assert_eq!(rt; form_boundary(&mime), want, "at {text}");
+        }
+        Ok(())
+    }
+
+    #[test]
+    fn a_form_is_made_with_its_boundary(rt: HostRuntime) -> Result<(), Fail> {
+        for (boundary, want) in [
+            ("AbC", Some("multipart/form-data; boundary=\"AbC\"")),
+            ("a b", Some("multipart/form-data; boundary=\"a b\"")),
+            // Nothing in it ends the value and goes on.
+            ("x\"; charset=\"y", None),
+            ("x\"", None),
+            ("x\\", None),
+            ("x\ny", None),
+            ("", None),
+        ] {
+            let mime = form_with_boundary(rt.alloc(), boundary);
+            assert_eq!(rt;
+                mime.as_ref().map(|mime| mime.as_str()),
+                want,
+                "at {boundary}"
+            );
         }
         Ok(())
     }

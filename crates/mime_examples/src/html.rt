@@ -17,6 +17,9 @@ fn is_html(mime: &Mime) -> bool
 }
 
 /// Whether some entry of an `Accept` header names HTML (RFC 7231, 5.3.2), whatever its weight is.
+///
+/// # Errors
+/// `AllocError` where memory runs out.
 pub fn names_html(alloc: Global, accept: &str) -> Result<bool, AllocError>
     // It says whether some item of the header's cut does.
     ensures { IfOk result (λ yes. (items : List CutItem) × (rest : List ℕ)

@@ -13,7 +13,6 @@ pub mod header;
 pub mod html;
 pub mod json;
 pub mod key;
-pub mod making;
 pub mod reader;
 pub mod unescape;
 pub mod utf8;

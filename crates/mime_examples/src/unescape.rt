@@ -8,6 +8,9 @@ use std::alloc::AllocError;
 
 /// Adds what a value means to a buffer: each quoted pair as the byte after its backslash (RFC 7230,
 /// 3.2.6). A plain value has no backslash, and means itself.
+///
+/// # Errors
+/// `AllocError` where memory runs out. Part of what the value means may have been added by then.
 pub fn unescape(value: &str, buffer: &mut Vec<u8>) -> Result<(), AllocError>
     ensures { OnOk result (vec_items buffer.new ≡ vec_items buffer.old ++ unescaped value.now) }
 {
