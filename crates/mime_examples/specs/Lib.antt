@@ -1,1 +1,2 @@
+pub mod Html
 pub mod Unescaped

@@ -2,7 +2,7 @@
 use Rattle.std.specs.Prelude.{ℕ, Bool, true, false, List, [], ◌∷◌, if◌then◌else◌, ◌==◌, ◌&&◌, not}
 use Rattle.mime.specs.Bytes.{backslash_byte}
 
--- the rest of a value after a backslash that begins a pair (`true`), or not
+-- what the rest of a value means, after a backslash that begins a pair, or not
 abbrev pub unescaped_from : Bool → List ℕ → List ℕ
 unescaped_from paired [] = []
 unescaped_from paired (b ∷ bytes) =

@@ -1,9 +1,9 @@
 //! What to answer for each fault.
 
-ghost use Rattle.std.specs.Prelude.{◌≡◌, ◌≢◌, ◌↔◌, Some};
-ghost use Rattle.mime.specs.Values.{IsAccepted, IsRefused};
+ghost use Rattle.std.specs.Prelude.{◌≡◌, ◌≢◌, ◌↔◌, ◌⊎◌, Some, None, IfSome, codes};
+ghost use Rattle.mime.specs.Values.{MediaType, Reads, IsAccepted, IsRefused};
 
-use mime::{APPLICATION_JSON, Mime, ParseError};
+use mime::{Mime, ParseError};
 use std::alloc::Global;
 
 /// The status that answers a `Content-Type` with this fault: 400 where it is no media type
@@ -23,18 +23,24 @@ pub fn status_of(fault: &ParseError) -> u16
     }
 }
 
-/// The status that refuses a request by its `Content-Type`, or none where it is JSON: 415 for a
-/// media type that isn't supported (RFC 7231, 6.5.13).
+/// The status that refuses a request by its `Content-Type`, or none where that is `application/json`,
+/// whatever its parameters are: 415 for any other media type (RFC 7231, 6.5.13).
 pub fn refusal(alloc: Global, content_type: &str) -> Option<u16>
+    // JSON alone is taken.
+    ensures taken { result ≡ None
+        → (value : MediaType) × Reads content_type.now value × (value.essence ≡ codes "application/json") }
     // 400 is answered exactly for what is no media type,
     ensures malformed { (result ≡ Some 400) ↔ IsRefused content_type.now }
-    // and 415 and 503 for nothing else than a media type.
-    ensures unsupported { result ≡ Some 415 → IsAccepted content_type.now }
+    // 415 only for another media type, and 503 only for a media type.
+    ensures unsupported { result ≡ Some 415
+        → (value : MediaType) × Reads content_type.now value × (value.essence ≢ codes "application/json") }
     ensures memory { result ≡ Some 503 → IsAccepted content_type.now }
+    // No other status is answered.
+    ensures known { IfSome result (λ status. (status ≡ 400) ⊎ ((status ≡ 415) ⊎ (status ≡ 503))) }
 {
     match Mime::from_str(alloc, content_type) {
         Ok(mime) => {
-            if mime == APPLICATION_JSON.mime() {
+            if mime.essence_str() == "application/json" {
                 None
             } else {
                 Some(415)
@@ -53,8 +59,11 @@ mod tests {
         for (content_type, want) in [
             ("application/json", None),
             ("Application/JSON;", None),
+            ("application/json; charset=utf-8", None),
+            ("Application/JSON;q=1", None),
             ("text/plain", Some(415)),
-            ("application/json; charset=utf-8", Some(415)),
+            ("application/problem+json", Some(415)),
+            ("text/plain; a=\"application/json\"", Some(415)),
             ("json", Some(400)),
             ("application/", Some(400)),
             ("application/json;q", Some(400)),

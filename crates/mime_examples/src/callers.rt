@@ -11,6 +11,9 @@ use mime::{FromStrError, Mime, TextKey};
 use std::alloc::Global;
 
 /// Whether a content type has a suffix, as `image/svg+xml` has.
+///
+/// # Errors
+/// `FromStrError` has the text's one fault, or says that memory ran out, here and below.
 pub fn has_suffix(alloc: Global, text: &str) -> Result<bool, FromStrError>
     ensures explained { IfErr result (λ error. Explains text.now error) }
     ensures told { IfOk result (λ yes. (value : MediaType) × Reads text.now value × (yes ≡ is_some (suffix_of value))) }

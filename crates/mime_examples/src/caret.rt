@@ -4,7 +4,10 @@ use mime::{FromStrError, ParseError};
 use std::alloc::{AllocError, Global};
 
 /// A line with a caret under the character at which a refused text goes wrong, or after its end
-/// where something is missing.
+/// where something is missing or memory ran out.
+///
+/// # Errors
+/// `AllocError` where memory runs out.
 pub fn caret_line(alloc: Global, text: &str, error: &FromStrError) -> Result<String, AllocError> {
     let mut line = String::new(alloc);
     for (at, _) in text.char_indices() {
@@ -26,7 +29,7 @@ mod tests {
     use std::test::Fail;
 
     #[test]
-    fn a_caret_stands_under_the_fault(rt: HostRuntime) -> Result<(), Fail> {
+    fn a_caret_is_under_the_fault(rt: HostRuntime) -> Result<(), Fail> {
         for (text, want) in [
             ("text plain", "    ^"),
             ("text", "    ^"),

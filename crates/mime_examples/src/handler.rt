@@ -5,12 +5,16 @@ use mime::{APPLICATION_JSON, APPLICATION_WWW_FORM_URLENCODED, Mime};
 /// What a server does with a body.
 #[derive(Clone, Copy, PartialEq, Eq, Debug)]
 pub enum Handler {
+    /// It reads the body as JSON.
     Json,
+    /// It reads the body as the fields of a form.
     Form,
+    /// It takes no such body.
     Refuse,
 }
 
-/// The handler of a body, chosen by comparing its media type with constants.
+/// The handler of a body, chosen by comparing its media type with constants. One with any parameter
+/// equals neither, and is refused.
 pub fn handler_of(mime: &Mime) -> Handler {
     if *mime == APPLICATION_JSON.mime() {
         return Handler::Json;

@@ -14,10 +14,8 @@ pub fn is_json(mime: &Mime) -> bool
     if mime.essence_str() == "application/json" {
         return true;
     }
-    match mime.suffix() {
-        Some(suffix) => suffix.as_str() == "json",
-        None => false,
-    }
+    mime.suffix()
+        .is_some_and(|suffix| suffix.as_str() == "json")
 }
 
 #[cfg(test)]

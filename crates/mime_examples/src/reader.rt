@@ -2,7 +2,8 @@
 
 use mime::{APPLICATION_JSON, APPLICATION_WWW_FORM_URLENCODED, TEXT_PLAIN_UTF_8, mime_eq_str};
 
-/// Which reader takes a body, by its `Content-Type` alone and without memory.
+/// Which reader takes a body, by its `Content-Type` alone and without memory: `bytes` where it is none
+/// of three media types.
 pub fn reader_of(content_type: &str) -> &'static str {
     let readers = [
         (APPLICATION_JSON, "json"),

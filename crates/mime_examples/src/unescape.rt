@@ -8,20 +8,19 @@ use std::alloc::AllocError;
 
 /// Adds what a value means to a buffer: each quoted pair as the byte after its backslash (RFC 7230,
 /// 3.2.6). A plain value has no backslash, and means itself.
+///
+/// # Errors
+/// `AllocError` where memory runs out. Part of what the value means may have been added by then.
 pub fn unescape(value: &str, buffer: &mut Vec<u8>) -> Result<(), AllocError>
     ensures { OnOk result (vec_items buffer.new ≡ vec_items buffer.old ++ unescaped value.now) }
 {
-    let bytes = value.as_bytes();
     let mut is_paired = false;
-    let mut place = 0;
-    while place < bytes.len() {
-        let byte = bytes[place];
+    for &byte in value.as_bytes() {
         let begins_pair = !is_paired && byte == b'\\';
         if !begins_pair {
             buffer.push(byte)?;
         }
         is_paired = begins_pair;
-        place += 1;
     }
     Ok(())
 }
@@ -48,7 +47,7 @@ mod tests {
             unescape(value.text, &mut buffer)?;
             assert_eq!(rt; str::from_utf8(buffer.as_slice())?, want, "{text}");
         }
-        // What stands in the buffer stays, and so does a backslash with nothing after it.
+        // What the buffer has stays; a final backslash adds nothing.
         unescape("\\x\\", &mut buffer)?;
         assert_eq!(rt; str::from_utf8(buffer.as_slice())?, "\\\\xé\tx");
         Ok(())

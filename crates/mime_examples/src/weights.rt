@@ -20,6 +20,9 @@ pub fn weight_of(mime: &Mime) -> &str
 }
 
 /// Every good entry of an `Accept` header with its weight.
+///
+/// # Errors
+/// `AllocError` where memory runs out.
 pub fn weights(alloc: Global, accept: &str) -> Result<Vec<(Mime, String)>, AllocError> {
     let mut weights = Vec::new(alloc);
     for item in MimeIter::new(alloc, accept) {

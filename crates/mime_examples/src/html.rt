@@ -1,0 +1,60 @@
+//! Does an `Accept` header name HTML?
+
+ghost use Rattle.std.specs.Prelude.{◌≡◌, List, ℕ, IfOk};
+ghost use Rattle.std.specs.List.{list_any};
+ghost use Rattle.mime.specs.Cut.{CutItem, Cut};
+ghost use Rattle.mime_examples.specs.Html.{is_html_essence, is_html_item};
+
+use mime::{Bad, Mime, MimeIter};
+use std::alloc::{AllocError, Global};
+
+/// Whether an entry is `text/html`, `text/*` or `*/*`, whatever its parameters are.
+fn is_html(mime: &Mime) -> bool
+    ensures { result ≡ is_html_essence mime.now.media.essence }
+{
+    let essence = mime.essence_str();
+    essence == "text/html" || essence == "text/*" || essence == "*/*"
+}
+
+/// Whether some entry of an `Accept` header names HTML (RFC 7231, 5.3.2), whatever its weight is.
+///
+/// # Errors
+/// `AllocError` where memory runs out.
+pub fn names_html(alloc: Global, accept: &str) -> Result<bool, AllocError>
+    // It says whether some item of the header's cut does.
+    ensures { IfOk result (λ yes. (items : List CutItem) × (rest : List ℕ)
+        × Cut accept.now items rest × (yes ≡ list_any is_html_item items)) }
+{
+    let mut found = false;
+    for item in MimeIter::new(alloc, accept) {
+        match item {
+            Ok(mime) => found |= is_html(&mime),
+            Err(Bad::Piece(_)) => {}
+            Err(Bad::NoMemory) => return Err(AllocError),
+        }
+    }
+    Ok(found)
+}
+
+#[cfg(test)]
+mod tests {
+    use super::*;
+    use std::test::Fail;
+
+    #[test]
+    fn html_is_found_among_the_entries(rt: HostRuntime) -> Result<(), Fail> {
+        for (accept, want) in [
+            ("text/html", true),
+            ("application/json, invalid, TEXT/HTML;level=1", true),
+            ("text/*;q=0.3, image/png", true),
+            ("image/png, */*", true),
+            ("application/json, invalid, text/plain", false),
+            ("text/html-x, application/text/html", false),
+            ("text/html;q", false),
+            ("", false),
+        ] {
+            assert_eq!(rt; names_html(rt.alloc(), accept)?, want, "at {accept}");
+        }
+        Ok(())
+    }
+}

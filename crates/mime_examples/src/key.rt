@@ -1,0 +1,54 @@
+//! A key of your own.
+
+ghost use Rattle.std.specs.Prelude.{◌≡◌, ◌⊎◌, ℕ, List, Bool, Option, codes, option_map, unwrap_or};
+ghost use Rattle.mime.specs.Names.{NameIs};
+ghost use Rattle.mime.specs.Items.{items_of, IsFirstAccepted};
+
+use mime::{Mime, Name, ParamKey, name_eq_str};
+
+/// The key that accepts either of two names, in any case.
+#[derive(Clone, Copy)]
+pub struct EitherKey<'k>(pub &'k str, pub &'k str);
+
+impl ParamKey for EitherKey<'_> {
+    ghost Accepts = { λ key name ignores_case. NameIs name ignores_case key.0.now ⊎ NameIs name ignores_case key.1.now };
+
+    fn accepts(&self, name: Name<'_>) -> bool {
+        name_eq_str(&name, self.0) || name_eq_str(&name, self.1)
+    }
+}
+
+/// The quality of a media type as it is written: the value of its first parameter `q` or `qs`, or `1` where
+/// it has none (RFC 7231, 5.3.1).
+pub fn quality_of(mime: &Mime) -> &str
+    ensures { (found : Option (List ℕ × Bool))
+        × IsFirstAccepted (λ name flag. NameIs name flag (codes "q") ⊎ NameIs name flag (codes "qs")) (items_of mime.now.media.pairs) found
+        × (result.now ≡ unwrap_or (option_map (λ value. value.0) found) (codes "1")) }
+{
+    match mime.get_param(EitherKey("q", "qs")) {
+        Some(quality) => quality.as_str(),
+        None => "1",
+    }
+}
+
+#[cfg(test)]
+mod tests {
+    use super::*;
+    use std::test::Fail;
+
+    #[test]
+    fn the_first_of_either_name_is_found(rt: HostRuntime) -> Result<(), Fail> {
+        for (text, want) in [
+            ("text/html; q=0.5", "0.5"),
+            ("text/html; level=1; QS=0.7", "0.7"),
+            ("text/html; qs=0.7; q=0.5", "0.7"),
+            ("text/html; q=0.5; qs=0.7", "0.5"),
+            ("text/html; qsx=1", "1"),
+            ("text/html", "1"),
+        ] {
+            let mime = Mime::from_str(rt.alloc(), text)?;
+            assert_eq!(rt; quality_of(&mime), want, "at {text}");
+        }
+        Ok(())
+    }
+}
