@@ -1,0 +1,84 @@
+"""How the tools of this folder run commands: each has a time limit, and none outlives the tool that began it."""
+
+import contextlib
+import os
+import shlex
+import shutil
+import signal
+import subprocess
+
+# How many seconds rt may take for one command, and a program for one input. Both take far less.
+RT_SECONDS, PROGRAM_SECONDS = 20 * 60, 60
+
+_running = set()
+_is_ended = False
+
+
+class Ended(Exception):
+    """Nothing is begun any more, since the tool was told to end."""
+
+
+def run(words, seconds, given=None, **how):
+    """Runs a command on these bytes, or on nothing, as subprocess.run does. What takes longer is ended, with all that it
+    began, and is a TimeoutError."""
+    how = {"stdin": subprocess.DEVNULL if given is None else subprocess.PIPE, **how}
+    process = subprocess.Popen(words, start_new_session=True, **how)
+    _running.add(process)
+    try:
+        if _is_ended:
+            raise Ended
+        output, errors = process.communicate(given, seconds)
+        if _is_ended:
+            raise Ended
+        return subprocess.CompletedProcess(words, process.returncode, output, errors)
+    except subprocess.TimeoutExpired:
+        raise TimeoutError(f"`{shlex.join(map(str, words))}` took longer than {seconds} s, and was ended") from None
+    finally:
+        if process.returncode is None:
+            _end(process)
+        _running.discard(process)
+
+
+def _end(process):
+    _signal(process, signal.SIGTERM)
+    with contextlib.suppress(subprocess.TimeoutExpired):
+        process.wait(5)
+    _signal(process, signal.SIGKILL)
+    process.wait()
+
+
+def _signal(process, number):
+    """It goes to all that the process began, too: they are one group."""
+    with contextlib.suppress(ProcessLookupError):
+        os.killpg(process.pid, number)
+
+
+def end_on_signals():
+    """Lets SIGTERM and SIGINT end a tool as an error does, so that its folders are removed, and with it what it runs."""
+    for number in (signal.SIGTERM, signal.SIGINT):
+        signal.signal(number, _end_all)
+
+
+def _end_all(number, _frame):
+    global _is_ended
+    _is_ended = True
+    for it in (signal.SIGTERM, signal.SIGINT):
+        signal.signal(it, signal.SIG_IGN)
+    for process in list(_running):
+        _signal(process, signal.SIGTERM)
+    raise SystemExit(128 + number)
+
+
+def is_there(command, *packages):
+    """Whether a command can be run. Where it is missing, Debian's packages that have it are installed, if they can be."""
+    if shutil.which(command):
+        return True
+    print(f"{command} is missing: apt-get installs {' '.join(packages)}", flush=True)
+    said = ""
+    with contextlib.suppress(OSError):
+        run(["apt-get", "update", "-qq"], RT_SECONDS, stdout=subprocess.DEVNULL, stderr=subprocess.DEVNULL)
+        said = run(["apt-get", "install", "-y", "-qq", "--no-install-recommends", *packages], RT_SECONDS,
+                   stdout=subprocess.PIPE, stderr=subprocess.STDOUT, errors="replace").stdout
+    if not shutil.which(command):
+        print(f"{said[-600:]}\n{command} is needed, and could not be installed: install it (on Debian: {' '.join(packages)})".lstrip())
+    return bool(shutil.which(command))
