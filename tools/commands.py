@@ -65,7 +65,8 @@ def _end_all(number, _frame):
     for it in (signal.SIGTERM, signal.SIGINT):
         signal.signal(it, signal.SIG_IGN)
     for process in list(_running):
-        _signal(process, signal.SIGTERM)
+        if process.returncode is None:
+            _signal(process, signal.SIGTERM)
     raise SystemExit(128 + number)
 
 
