@@ -126,7 +126,7 @@ fn are_pairs(kept: &str, list: &str, count: usize, check: bool) -> (bool, bool)
     (true, known && right.is_empty())
 }
 
-/// Whether a semicolon is at this position and so many parameters follow.
+/// Whether there is a semicolon at this position, and this many parameters after it.
 #[inline(always)]
 fn is_list_at(places: Places, end: usize, count: usize) -> bool
     ensures { IsTrue result ↔ ((places.semicolon ≡ Some end) × (places.pairs ≡ count)) }
@@ -134,7 +134,7 @@ fn is_list_at(places: Places, end: usize, count: usize) -> bool
     places.semicolon == Some(end) && places.pairs == count
 }
 
-/// Whether a text is accepted, with a semicolon after so many bytes and so many parameters after it.
+/// Whether a text is accepted that has a semicolon at this position, and this many parameters after it.
 #[inline(never)]
 fn is_accepted_at(text: &str, end: usize, count: usize) -> bool
     ensures { IsTrue result ↔ IsAcceptedAt text.now end count }
@@ -163,8 +163,8 @@ fn is_lone_charset(mime: &Mime) -> bool
 
 /// Whether a text is a value with parameters, part by part: a value can be written in more than one
 /// way. The kept text in another case is accepted as the kept text is. A text in another form is checked
-/// while it is compared. The scan is left for texts whose parts are the value's, but which neither tells
-/// to be accepted.
+/// while it is compared. The scan is left for texts whose parts are the value's, where neither shows that
+/// they are accepted.
 #[inline(never)]
 fn eq_by_parts(mime: &Mime, s: &str) -> bool
     requires { mime.now.media.pairs ≢ [] }

@@ -13,7 +13,7 @@ pub struct Failed;
 
 /// What can be read from: a [`Device`] over standard input, for example.
 pub trait Source {
-    /// The bytes that are left to read, where they are told.
+    /// The bytes that are left to read; none where the source doesn't say.
     ghost left: { Self → Option (List ℕ) };
     /// The mark "has failed".
     ghost has_failed: { Self → Bool };
@@ -30,14 +30,14 @@ pub trait Source {
 
 /// What can be written to: a [`Device`] over standard output, for example.
 pub trait Sink {
-    /// The bytes that it holds, where they are told.
+    /// The bytes that it holds; none where the sink doesn't say.
     ghost held: { Self → Option (List ℕ) };
     /// The mark "has failed".
     ghost has_failed: { Self → Bool };
-    /// All that was written is passed on, where that is told.
+    /// All that was written is passed on; true where the sink doesn't say.
     ghost IsPassedOn: { Self → Type 0 } = { λ _. ⊤ };
 
-    /// Writes all of the bytes. How many were written before a failure isn't told.
+    /// Writes all of the bytes. After a failure it isn't known how many were written.
     fn write_all(&mut self, bytes: &[u8]) -> Result<(), Failed>
         ensures bytes { OnOk result (Appends (held self.old) (held self.new) bytes.now) }
         // A failure sets the mark, and nothing else changes it.

@@ -73,7 +73,7 @@ fn main(rt: HostRuntime) -> ExitCode {
     ended(&rt, outcome)
 }
 
-/// The status that a run ends with. Where it stopped, standard error is told why.
+/// The status that a run ends with. Where it stopped, the reason is printed on standard error.
 fn ended(rt: &impl Eprint, outcome: Result<(), RunError>) -> ExitCode
     ensures done { OnOk outcome (exit_status result ≡ 0) }
     ensures stopped { OnErr outcome (exit_status result ≡ 1) }
