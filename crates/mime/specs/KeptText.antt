@@ -89,7 +89,7 @@ HasOneForm kept essence text =
     × (slice_get text (length essence + 1) ≡ Some space_byte)
     × IsTrue (is_token_byte (slice_index kept (length kept - 1)))
 
--- an accepted text with a semicolon after so many bytes, and so many parameters after it
+-- an accepted text with a semicolon at position `end`, and `count` parameters after it
 pub record IsAcceptedAt (text : List ℕ) (end count : ℕ) : Type 0 where
   pub places : Places
   pub has : HasPlaces text places

@@ -79,7 +79,7 @@ same_from_cmp x y = go (media_cmp x y) (tells_media x y)
     go Equal told is = told
     go Greater told is = absurd (true≢false (sym is))
 
--- what ends a pair of so many bytes that is fed: the byte 255, which no UTF-8 has, and zeros up to a whole word
+-- what is fed after a pair of `count` bytes: the byte 255, which no UTF-8 has, and zeros up to a whole word
 abbrev pub pair_end : ℕ → List ℕ
 pair_end count = 255 ∷ replicate (7 - count % 8) 0
 

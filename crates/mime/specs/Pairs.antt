@@ -56,7 +56,7 @@ cut_of list =
     let body = without_gap list in
     cut_behind_equals (length list) (before_byte equals_byte body) (behind_byte equals_byte body)
 
--- the first so many pairs
+-- the first pairs of a list, up to this number
 abbrev pub pairs_within : ℕ → List ℕ → List (List ℕ × List ℕ)
 pairs_within zero list = []
 pairs_within (suc count) list = ((cut_of list).name, (cut_of list).value) ∷ pairs_within count (cut_of list).rest
@@ -67,7 +67,7 @@ lowered_first list =
     let cut = cut_of list in
     lowered (take cut.head list) ++ (lowered_value cut.name cut.value ++ drop (cut.head + length cut.value) list)
 
--- the list with its first so many pairs lowered so
+-- the list with this number of its first pairs lowered in this way
 abbrev pub lowered_within : ℕ → List ℕ → List ℕ
 lowered_within zero list = list
 lowered_within (suc count) list =

@@ -54,7 +54,7 @@ pub record IsStopped (text : List ℕ) (pos byte : ℕ) (places : Option Places)
   pub fault : IsFault text (InvalidToken pos byte)
   pub before : MatchOption places (IsRefused (take pos text)) (λ p. HasPlaces (take pos text) p)
 
--- what the scanner finds in a text, after so many bytes
+-- what the scanner finds in a text, after it was given `count` bytes
 abbrev pub Judges : List ℕ → ℕ → Verdict → Type 0
 Judges text count (Accepted places) = (count ≡ length text) × HasPlaces text places
 Judges text count (Unfinished fault) = (count ≡ length text) × IsFault text fault × IsViable text

@@ -36,7 +36,7 @@ pub record BeginsWithPair (list name value rest : List ℕ) : Type 0 where
   pub follows : IsFollow semicolon_byte follow rest
   pub spelled : spaces ++ (text_of_parameter parameter ++ follow) ≡ list
 
--- the list is one of so many parameters
+-- the list has `count` parameters
 pub record HasParameters (list : List ℕ) (count : ℕ) : Type 0 where
   pub parameters : Parameters
   pub well_formed : AreParameters parameters

@@ -12,7 +12,7 @@ use Rattle.mime.specs.declared.scan.Places.{Places}
 abbrev pub IsAfterCharacter : List ℕ → List ℕ → Type 0
 IsAfterCharacter text left = (character : List ℕ) × (text ≡ character ++ left) × IsCharacter character left
 
--- a character's first byte and so many that follow it were passed
+-- a character's `end` bytes were passed: the first, and those that follow it
 pub record PassedTo (text : List ℕ) (end : ℕ) : Type 0 where
   pub first : ℕ
   pub following : List ℕ
@@ -20,7 +20,7 @@ pub record PassedTo (text : List ℕ) (end : ℕ) : Type 0 where
   pub of_class : IsTrue (list_all is_following_byte following)
   pub counted : end ≡ length following + 1
 
--- what was read of a text before what is left, by so many steps
+-- what was read of a text before what is left, and the steps that this took
 pub record IsUnderWay (text left : List ℕ) (starved : Bool) (steps : ℕ) : Type 0 where
   pub few : steps + length left ≤ length text
   pub exact : starved ≡ false → (n : ℕ) → TakesSteps left n → TakesSteps text (steps + n)
@@ -36,7 +36,7 @@ IsFirstPiece text piece None left = IsFirstItem text (bad piece) left
 IsFirstPiece text piece (Some places) left =
     HasPlaces piece places × ((value : MediaType) → Reads piece value → IsFirstItem text (good piece value) left)
 
--- the first piece of a text was passed, with the character after it, in so many steps
+-- the first piece of a text was passed, with the character after it, and the steps that this took
 pub record PassesPiece (text piece : List ℕ) (places : Option Places) (left : List ℕ) (steps : ℕ) : Type 0 where
   pub empty : piece ≡ [] → PassesOn text left
   pub item : piece ≢ [] → IsFirstPiece text piece places left

@@ -388,7 +388,7 @@ fn an_endless_input_is_too_long(rt: HostRuntime) {
     }
 }
 
-/// The writer has room for so many bytes: a run that failed wrote all of them, and only its sink has failed.
+/// The writer has room for this many bytes: a run that failed wrote all of them, and only its sink has failed.
 fn check_ended(rt: &impl Abort, ended: &Outcome, room: usize, answer: Result<(), RunError>) {
     assert_eq!(rt; ended.answer, answer, "{room} bytes");
     assert_eq!(rt; ended.written.len(), room);
