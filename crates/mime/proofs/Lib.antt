@@ -21,6 +21,7 @@ pub mod TextScan
 -- the kept text
 pub mod CharBorders
 pub mod Lowering
+pub mod Marks
 pub mod Blocks
 pub mod Utf8
 pub mod PairCuts
@@ -38,8 +39,8 @@ pub mod Joining
 pub mod Constants
 pub mod SmallLetters
 pub mod TextComparison
-pub mod Spelled
-pub mod OneForm
+pub mod FirstDifference
+pub mod Differences
 -- the cut, and runs of the iterator
 pub mod Cuts
 pub mod Containment

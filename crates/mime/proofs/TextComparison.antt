@@ -167,15 +167,6 @@ accepted_at-case kept text value reads some is =
     IsAcceptedAt-same text (ap length (sym found.essence)) (sym counted)
     (accepted_at text found.read found.reads (λ none. some (nil_from_length value.pairs (counted ∙ ap length none))))
 
--- it goes on with a semicolon after the essence
-pub IsListAfter-case : (kept text : List ℕ) (value : MediaType) → Reads kept value → value.pairs ≢ [] → lowered kept ≡ lowered text
-    → IsListAfter value.essence text
-IsListAfter-case kept text value reads some is =
-    let found = case_read text kept value reads (sym is) in
-    let pairs : found.read.pairs ≢ [] = λ none. some (nil_from_length value.pairs (case_read-count text value found ∙ ap length none)) in
-    let own = text_is-parts text text found.read found.reads pairs (text_is-kept text text found.read found.reads pairs refl) in
-    subst (λ essence. IsListAfter essence text) (sym found.essence) own.list
-
 -- and it is equal to the value, where the only parameter is a charset
 pub text_is-lone_charset : (kept text : List ℕ) (value : MediaType) → Reads kept value → value.pairs ≢ [] → lowered kept ≡ lowered text
     → IsLoneCharset value.pairs → TextIs value text

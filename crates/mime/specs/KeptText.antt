@@ -1,7 +1,7 @@
 -- Private. The kept text of a value, with the positions of its parts.
-use Rattle.std.specs.Prelude.{◌≡◌, ℕ, zero, suc, ◌+◌, ◌-◌, List, [], ◌∷◌, ◌++◌, length, take, drop, Option, Some, None, unwrap_or, IsTrue, slice_get}
-use Rattle.std.specs.List.{slice_index, AllByRecursion}
-use Rattle.mime.specs.Bytes.{is_token_byte, semicolon_byte, space_byte}
+use Rattle.std.specs.Prelude.{◌≡◌, ℕ, zero, suc, ◌+◌, List, [], ◌∷◌, ◌++◌, length, take, drop, Option, Some, None, unwrap_or, IsTrue, slice_get}
+use Rattle.std.specs.List.{AllByRecursion}
+use Rattle.mime.specs.Bytes.{semicolon_byte}
 use Rattle.mime.specs.Grammar.{Tail, no_list, listed, blank, final, more, SyntaxTree, text_of, IsWellFormed}
 use Rattle.mime.specs.Values.{MediaType, lowered, is_charset, lowered_value, lowered_tree}
 use Rattle.mime.specs.Pairs.{pairs_within, lowered_within}
@@ -78,16 +78,6 @@ IsListAfter essence text =
 -- the pair is the only one, and a charset
 abbrev pub IsLoneCharset : List (List ℕ × List ℕ) → Type 0
 IsLoneCharset pairs = (name : List ℕ) × (content : List ℕ) × (pairs ≡ (name, content) ∷ []) × IsTrue (is_charset name)
-
--- the kept text has one space before its list's first name, which begins with a `c`, and ends with a token byte; another text
--- of its length has a space there
-abbrev pub HasOneForm : List ℕ → List ℕ → List ℕ → Type 0
-HasOneForm kept essence text =
-    (length kept ≡ length text)
-    × (slice_get kept (length essence + 1) ≡ Some space_byte)
-    × (slice_get kept (length essence + 2) ≡ Some 99)
-    × (slice_get text (length essence + 1) ≡ Some space_byte)
-    × IsTrue (is_token_byte (slice_index kept (length kept - 1)))
 
 -- an accepted text with a semicolon at position `end`, and `count` parameters after it
 pub record IsAcceptedAt (text : List ℕ) (end count : ℕ) : Type 0 where

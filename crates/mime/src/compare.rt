@@ -2,17 +2,15 @@
 
 ghost use Rattle.std.specs.Prelude.{◌≡◌, ◌≢◌, ◌↔◌, ◌<◌, IsTrue, Some, [], length, map, take};
 ghost use Rattle.mime.specs.Comparison.{TextIs};
-ghost use Rattle.mime.specs.Pairs.{pairs_within};
-ghost use Rattle.mime.specs.KeptText.{IsKeptPair, IsListAfter, IsAcceptedAt, IsLowPair, AreLowPairs, lowered_pair, IsLoneCharset, HasOneForm};
-ghost use Rattle.mime.specs.Spelled.{HasParameters};
+ghost use Rattle.mime.specs.Pairs.{IsEndOf, pairs_within};
+ghost use Rattle.mime.specs.KeptText.{IsKeptPair, IsListAfter, IsAcceptedAt, IsLowPair, AreLowPairs, lowered_pair, IsLoneCharset};
 ghost use Rattle.mime.specs.Values.{lowered, lowered_value, is_charset};
 
-use crate::bytes::is_token;
-use crate::name::{CASE_BIT, are_alike, eq_ignoring_case};
+use crate::difference::{Seen, look};
+use crate::name::eq_ignoring_case;
 use crate::scan::{ByteReader, Places, Verdict, scan};
 use crate::value::Mime;
 use crate::value::pairs::{Pair, cut};
-use crate::value::spelled::{Checked, cut_checked};
 
 /// Whether two texts are the same but for case.
 #[inline(always)]
@@ -20,16 +18,6 @@ fn alike(kept: &str, text: &str) -> bool
     ensures { IsTrue result ↔ (lowered kept.now ≡ lowered text.now) }
 {
     eq_ignoring_case(kept.as_bytes(), text.as_bytes())
-}
-
-/// Whether two texts begin with the same byte, but for the bit that tells a small letter from its capital. So no
-/// text is refused that begins alike in another case.
-#[inline(always)]
-fn begin_alike(kept: &[u8], text: &[u8]) -> bool
-    requires { 0 < length kept.now }
-    ensures { lowered (take 1 kept.now) ≡ lowered (take 1 text.now) → IsTrue result }
-{
-    !text.is_empty() && kept[0] | CASE_BIT == text[0] | CASE_BIT
 }
 
 /// Whether a text goes on with a semicolon after this essence, in any case.
@@ -40,34 +28,6 @@ fn is_list_after(essence: &str, text: &str) -> bool
     let end = essence.len();
     let text = text.as_bytes();
     end < text.len() && text[end] == b';' && eq_ignoring_case(essence.as_bytes(), &text[..end])
-}
-
-/// Whether a text has the length of a kept one and begins its list as that does, but for case. Most such
-/// texts are in the kept text's form, and most others aren't: so this chooses the way, and decides nothing.
-#[inline(always)]
-fn is_in_form(kept: &str, essence: &str, text: &str) -> bool {
-    let next = essence.len() + 1;
-    let kept = kept.as_bytes();
-    let text = text.as_bytes();
-    kept.len() == text.len() && next < kept.len() && kept[next] == text[next].to_ascii_lowercase()
-}
-
-/// Whether a text in a kept one's form is the same but for case.
-#[inline(always)]
-fn is_recased(in_form: bool, kept: &str, text: &str) -> bool
-    ensures { IsTrue result → lowered kept.now ≡ lowered text.now }
-{
-    in_form && alike(kept, text)
-}
-
-/// Whether a text goes on with a semicolon after this essence, in any case. It does if `is_alike`: then the text is
-/// known to be the kept one but for case.
-#[inline(always)]
-fn has_list(is_alike: bool, essence: &str, text: &str) -> bool
-    requires { IsTrue is_alike → IsListAfter essence.now text.now }
-    ensures { IsTrue result ↔ IsListAfter essence.now text.now }
-{
-    is_alike || is_list_after(essence, text)
 }
 
 /// Whether a text is a kept name, which has no capital, in any case.
@@ -95,35 +55,33 @@ fn is_value(name: &str, kept: &str, text: &str) -> bool
 
 /// Whether a pair is a kept one.
 #[inline]
-fn is_pair(kept: Pair<'_>, pair: Checked<'_>) -> bool
+fn is_pair(kept: Pair<'_>, pair: Pair<'_>) -> bool
     requires { IsLowPair (kept.name.now, kept.value.now) }
     ensures { IsTrue result ↔ IsKeptPair (kept.entry.name.now, kept.entry.value.now) (pair.entry.name.now, pair.entry.value.now) }
 {
     is_name(kept.name, pair.name) && is_value(kept.name, kept.value, pair.value)
 }
 
-/// Whether the first `count` pairs of a list are those of a kept one; and whether the list is known to be
-/// well-formed and to have no more, if that is to be checked on the way.
+/// Whether the first `count` pairs of a list are those of a kept one. Each is the end of a whole text.
 #[inline]
-fn are_pairs(kept: &str, list: &str, count: usize, check: bool) -> (bool, bool)
-    requires { AreLowPairs (pairs_within count kept.now) }
-    ensures same { IsTrue result.0 ↔ (pairs_within count kept.now ≡ map lowered_pair (pairs_within count list.now)) }
-    ensures known { IsTrue result.1 → HasParameters list.now count }
+fn are_pairs(whole: &str, kept: &str, text: &str, list: &str, count: usize) -> bool
+    requires low { AreLowPairs (pairs_within count kept.now) }
+    requires kept_end { IsEndOf kept.now whole.now }
+    requires list_end { IsEndOf list.now text.now }
+    ensures { IsTrue result ↔ (pairs_within count kept.now ≡ map lowered_pair (pairs_within count list.now)) }
 {
     let mut left = kept;
     let mut right = list;
-    let mut known = check;
     for _ in 0..count {
-        let one = cut(left);
-        let other = cut_checked(right, known);
+        let one = cut(whole, left);
+        let other = cut(text, right);
         if !is_pair(one, other) {
-            return (false, false);
+            return false;
         }
-        known &= other.is_parameter;
         left = one.rest;
         right = other.rest;
     }
-    (true, known && right.is_empty())
+    true
 }
 
 /// Whether there is a semicolon at this position, and this many parameters after it.
@@ -162,91 +120,52 @@ fn is_lone_charset(mime: &Mime) -> bool
 }
 
 /// Whether a text is a value with parameters, part by part: a value can be written in more than one
-/// way. The kept text in another case is accepted as the kept text is. A text in another form is checked
-/// while it is compared. The scan is left for texts whose parts are the value's, where neither shows that
-/// they are accepted.
+/// way. The kept text in another case is accepted as the kept text is. The scan is left for texts in another form whose
+/// parts are the value's.
 #[inline(never)]
-fn eq_by_parts(mime: &Mime, s: &str) -> bool
-    requires { mime.now.media.pairs ≢ [] }
+fn eq_by_parts(mime: &Mime, s: &str, is_alike: bool) -> bool
+    requires some { mime.now.media.pairs ≢ [] }
+    requires alike { IsTrue is_alike → lowered mime.now.media.kept ≡ lowered s.now }
     ensures { IsTrue result ↔ TextIs mime.now.media s.now }
 {
     let kept = mime.as_str();
     let essence = mime.essence_str();
-    let in_form = is_in_form(kept, essence, s);
-    let is_alike = is_recased(in_form, kept, s);
-    if !has_list(is_alike, essence, s) {
+    if !is_list_after(essence, s) {
         return false;
     }
     let list = &s[essence.len() + 1..];
-    let (same, known) = are_pairs(mime.list(), list, mime.count(), !in_form);
-    if !same {
+    if !are_pairs(kept, mime.list(), s, list, mime.count()) {
         return false;
     }
-    is_alike || known || is_accepted_at(s, essence.len(), mime.count())
+    is_alike || is_accepted_at(s, essence.len(), mime.count())
 }
 
-/// Whether a text is as long as a kept one, both lists begin with a space, after which the kept list has a `c`, as of
-/// `charset`, and the kept text ends with a token byte. If the kept list has one parameter, such a text is its value
-/// in one form alone.
+/// Whether a text that is the kept one but for case is a value with parameters. All of a lone charset ignores case.
 #[inline(always)]
-fn has_one_form(kept: &str, essence: &str, text: &str) -> bool
-    ensures { IsTrue result → HasOneForm kept.now essence.now text.now }
-{
-    let end = essence.len();
-    let kept = kept.as_bytes();
-    let text = text.as_bytes();
-    kept.len() == text.len()
-        && end + 2 < kept.len()
-        && kept[end + 1] == b' '
-        && kept[end + 2] == b'c'
-        && text[end + 1] == b' '
-        && is_token(kept[kept.len() - 1])
-}
-
-/// Whether a text is a value whose only parameter is a charset. One comparison decides, unless the text may
-/// be written in another form.
-#[inline(always)]
-fn eq_lone_charset(mime: &Mime, s: &str) -> bool
+fn eq_alike(mime: &Mime, s: &str) -> bool
     requires some { mime.now.media.pairs ≢ [] }
-    requires lone { IsLoneCharset mime.now.media.pairs }
+    requires alike { lowered mime.now.media.kept ≡ lowered s.now }
     ensures { IsTrue result ↔ TextIs mime.now.media s.now }
 {
     let kept = mime.as_str();
-    // All of it ignores case.
-    if are_alike(kept.as_bytes(), s.as_bytes()) {
+    if is_lone_charset(mime) {
         return true;
     }
-    if has_one_form(kept, mime.essence_str(), s) {
-        return false;
-    }
-    eq_by_parts(mime, s)
+    kept == s || eq_by_parts(mime, s, true)
 }
 
-/// Whether a text that begins as the kept one does is a value with parameters. What can be answered without its
-/// parts comes first: a lone charset in a text of the kept length, and the kept text. It isn't compiled into its
-/// caller, which has read the first byte: there that byte wouldn't be read with the 15 after it, in one step.
+/// Whether a text is a value with parameters. Most texts that aren't differ from the kept text where that tells.
 #[inline(never)]
-fn eq_begun(mime: &Mime, s: &str) -> bool
-    requires { mime.now.media.pairs ≢ [] }
-    ensures { IsTrue result ↔ TextIs mime.now.media s.now }
-{
-    let kept = mime.as_str();
-    if kept.len() == s.len() && is_lone_charset(mime) {
-        return eq_lone_charset(mime, s);
-    }
-    if kept == s {
-        return true;
-    }
-    eq_by_parts(mime, s)
-}
-
-/// Whether a text is a value with parameters.
-#[inline(always)]
 fn eq_with_parameters(mime: &Mime, s: &str) -> bool
     requires { mime.now.media.pairs ≢ [] }
     ensures { IsTrue result ↔ TextIs mime.now.media s.now }
 {
-    begin_alike(mime.as_str().as_bytes(), s.as_bytes()) && eq_begun(mime, s)
+    let kept = mime.as_str();
+    match look(kept, s) {
+        Seen::Apart => false,
+        Seen::Alike => eq_alike(mime, s),
+        Seen::Open => kept == s || eq_by_parts(mime, s, false),
+    }
 }
 
 /// Whether a text is a value without parameters.

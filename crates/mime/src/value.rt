@@ -7,14 +7,13 @@ ghost use Rattle.mime.specs.Refusals.{Explains};
 ghost use Rattle.mime.specs.Items.{items_of, IsLowIf, IsLowItem, IsFirstAccepted};
 ghost use Rattle.mime.specs.Views.{name_seen, name_text};
 ghost use Rattle.mime.specs.Scanning.{HasPlaces};
-ghost use Rattle.mime.specs.Pairs.{pairs_within};
+ghost use Rattle.mime.specs.Pairs.{IsEndOf, pairs_within};
 ghost use Rattle.mime.specs.KeptText.{IsKept, media_of};
 ghost use Rattle.mime.specs.Owner.{bytes_of};
 
 mod kept;
 pub(crate) mod pairs;
 mod params;
-pub(crate) mod spelled;
 mod traits;
 mod walks;
 
@@ -211,7 +210,7 @@ impl Mime {
         ensures items { result ≡ items_of self.now.media.pairs }
         ensures low { AllByRecursion IsLowItem result }
     {
-        Params::new(self.list(), self.places.pairs)
+        Params::new(self.as_str(), self.list(), self.places.pairs)
     }
 
     /// How many parameters there are.
@@ -225,7 +224,8 @@ impl Mime {
     /// The list of the parameters, as it is kept.
     #[inline(always)]
     pub(crate) fn list(&self) -> &str
-        ensures { pairs_within (length self.now.media.pairs) result.now ≡ self.now.media.pairs }
+        ensures pairs { pairs_within (length self.now.media.pairs) result.now ≡ self.now.media.pairs }
+        ensures end { IsEndOf result.now self.now.media.kept }
     {
         match self.places.semicolon {
             None => "",

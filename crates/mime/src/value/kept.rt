@@ -3,7 +3,7 @@
 ghost use Rattle.std.specs.Prelude.{◌≡◌, ◌+◌, ◌++◌, ◌≤◌, ◌↔◌, IsFalse, IfOk, take, drop, length, slice_get, slice_range, string_bytes};
 ghost use Rattle.mime.specs.Bytes.{semicolon_byte};
 ghost use Rattle.mime.specs.Values.{lowered, is_charset};
-ghost use Rattle.mime.specs.Pairs.{cut_of, lowered_first, lowered_within};
+ghost use Rattle.mime.specs.Pairs.{IsEndOf, cut_of, lowered_first, lowered_within};
 ghost use Rattle.mime.specs.Scanning.{HasPlaces};
 ghost use Rattle.mime.specs.KeptText.{kept_places, kept_text_of};
 
@@ -43,14 +43,16 @@ fn lower_range(bytes: &mut [u8], from: usize, to: usize)
     bytes[from..to].make_ascii_lowercase();
 }
 
-/// Lowers the first pair of a list, whose bytes these are, and gives the list after it.
+/// Lowers the first pair of a list, whose bytes these are, and gives the list after it. It is the end of a whole text.
 #[inline]
-fn lower_first<'a>(bytes: &mut [u8], list: &'a str) -> &'a str
-    requires { bytes.old ≡ list.now }
+fn lower_first<'a>(bytes: &mut [u8], whole: &str, list: &'a str) -> &'a str
+    requires same { bytes.old ≡ list.now }
+    requires end { IsEndOf list.now whole.now }
     ensures lowered { bytes.new ≡ lowered_first list.entry.now }
     ensures rest { result.now ≡ (cut_of list.entry.now).rest }
+    ensures end { IsEndOf result.now whole.now }
 {
-    let pair = cut(list);
+    let pair = cut(whole, list);
     lower_range(bytes, 0, pair.head);
     if names_charset(pair.name) {
         lower_range(bytes, pair.head, pair.head + pair.value.len());
@@ -58,16 +60,17 @@ fn lower_first<'a>(bytes: &mut [u8], list: &'a str) -> &'a str
     pair.rest
 }
 
-/// Lowers the first `count` pairs of a list, whose bytes these are.
+/// Lowers the first `count` pairs of a list, whose bytes these are. It is the end of a whole text.
 #[inline]
-fn lower_pairs(bytes: &mut [u8], list: &str, count: usize)
-    requires { bytes.old ≡ list.now }
+fn lower_pairs(bytes: &mut [u8], whole: &str, list: &str, count: usize)
+    requires same { bytes.old ≡ list.now }
+    requires end { IsEndOf list.now whole.now }
     ensures { bytes.new ≡ lowered_within count list.now }
 {
     let mut left = list;
     for _ in 0..count {
         let from = bytes.len() - left.len();
-        left = lower_first(&mut bytes[from..], left);
+        left = lower_first(&mut bytes[from..], whole, left);
     }
 }
 
@@ -80,7 +83,7 @@ fn lower_text(bytes: &mut [u8], text: &str, semicolon: usize, pairs: usize)
 {
     let list = semicolon + 1;
     lower_range(bytes, 0, list);
-    lower_pairs(&mut bytes[list..], &text[list..], pairs);
+    lower_pairs(&mut bytes[list..], text, &text[list..], pairs);
 }
 
 /// The kept text of an accepted text: only what ignores case is lowered, and an empty list is cut

@@ -4,7 +4,7 @@ ghost use Rattle.std.specs.Prelude.{◌≡◌, length, IfSome, Some};
 ghost use Rattle.std.specs.Iterator.{YieldsFirstBy, item_count, UpTo, at_most};
 ghost use Rattle.std.specs.Iterator.SizeHint.{IsWithinCount};
 ghost use Rattle.mime.specs.Items.{items_of};
-ghost use Rattle.mime.specs.Pairs.{pairs_within};
+ghost use Rattle.mime.specs.Pairs.{IsEndOf, pairs_within};
 ghost use Rattle.mime.specs.Views.{item_seen};
 
 use crate::name::Name;
@@ -19,6 +19,8 @@ use std::marker::Model;
 /// The size hint is the number left, twice. It walks the kept text, and asks for no memory.
 #[derive(Drop)]
 pub struct Params<'a> {
+    /// The text that the list ends.
+    whole: &'a str,
     list: &'a str,
     left: usize,
 }
@@ -26,19 +28,22 @@ pub struct Params<'a> {
 impl<'a> Model for Params<'a> {
     ghost use Rattle.std.specs.Prelude.{List};
     ghost use Rattle.mime.specs.Items.{Item, items_of};
-    ghost use Rattle.mime.specs.Pairs.{pairs_within};
+    ghost use Rattle.mime.specs.Pairs.{IsEndOf, pairs_within};
 
     ghost Value = { List Item };
 
     ghost view = { λ params. items_of (pairs_within params.left params.list.now) };
+
+    ghost invariant = { λ params. IsEndOf params.list.now params.whole.now };
 }
 
 impl<'a> Params<'a> {
-    /// The first `left` parameters of a list.
-    pub(crate) fn new(list: &'a str, left: usize) -> Params<'a>
+    /// The first `left` parameters of a list, which is the end of a whole text.
+    pub(crate) fn new(whole: &'a str, list: &'a str, left: usize) -> Params<'a>
+        requires { IsEndOf list.now whole.now }
         ensures { result ≡ items_of (pairs_within left list.now) }
     {
-        Params { list, left }
+        Params { whole, list, left }
     }
 }
 
@@ -54,7 +59,7 @@ impl<'a> Iterator for Params<'a> {
         if self.left == 0 {
             return None;
         }
-        let pair = cut(self.list);
+        let pair = cut(self.whole, self.list);
         self.left -= 1;
         self.list = pair.rest;
         let name = Name {

@@ -41,7 +41,13 @@ fn same_parts(first: &Mime, second: &Mime) -> bool
     ensures { IsTrue result ↔ Same first.now.media second.now.media }
 {
     first.essence_str() == second.essence_str()
-        && same_pairs(first.list(), second.list(), first.count())
+        && same_pairs(
+            first.as_str(),
+            first.list(),
+            second.as_str(),
+            second.list(),
+            first.count(),
+        )
 }
 
 /// How two values compare.
@@ -65,7 +71,14 @@ fn order_parts(first: &Mime, second: &Mime) -> Ordering
     if order.is_ne() {
         return order;
     }
-    order_pairs(first.list(), first.count(), second.list(), second.count())
+    order_pairs(
+        first.as_str(),
+        first.list(),
+        first.count(),
+        second.as_str(),
+        second.list(),
+        second.count(),
+    )
 }
 
 /// Feeds a hasher the parameters of a value, and then its essence.
@@ -79,7 +92,7 @@ fn feed<H: Hasher>(mime: &Mime, state: &mut H)
         state.write(essence);
         return;
     }
-    feed_pairs(mime.list(), mime.count(), state);
+    feed_pairs(mime.as_str(), mime.list(), mime.count(), state);
     state.write(essence);
 }
 

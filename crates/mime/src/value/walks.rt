@@ -5,7 +5,7 @@ ghost use Rattle.std.specs.Cmp.Lexicographic.{slice_cmp};
 ghost use Rattle.std.specs.List.{fold, flat_map};
 ghost use Rattle.mime.specs.Comparison.{pair_cmp};
 ghost use Rattle.mime.specs.Orders.{pair_run, pair_parts, pair_input};
-ghost use Rattle.mime.specs.Pairs.{pairs_within};
+ghost use Rattle.mime.specs.Pairs.{IsEndOf, pairs_within};
 
 use crate::value::pairs::{Pair, cut};
 use std::cmp::Ordering;
@@ -27,40 +27,51 @@ fn order_pair(one: Pair<'_>, other: Pair<'_>) -> Ordering
     one.name.cmp(other.name).then(one.value.cmp(other.value))
 }
 
-/// Whether the first `count` pairs of two lists are the same.
-pub(crate) fn same_pairs(first: &str, second: &str, count: usize) -> bool
+/// Whether the first `count` pairs of two lists are the same. Each is the end of a whole text.
+pub(crate) fn same_pairs(whole: &str, first: &str, other: &str, second: &str, count: usize) -> bool
+    requires first { IsEndOf first.now whole.now }
+    requires second { IsEndOf second.now other.now }
     ensures { IsTrue result ↔ (pairs_within count first.now ≡ pairs_within count second.now) }
 {
     let mut left = first;
     let mut right = second;
     for _ in 0..count {
-        let one = cut(left);
-        let other = cut(right);
-        if !same_pair(one, other) {
+        let one = cut(whole, left);
+        let two = cut(other, right);
+        if !same_pair(one, two) {
             return false;
         }
         left = one.rest;
-        right = other.rest;
+        right = two.rest;
     }
     true
 }
 
 /// How the first `count` pairs of one list and the first `number` of another compare: pair by pair,
-/// each by its name and then by its value.
-pub(crate) fn order_pairs(first: &str, count: usize, second: &str, number: usize) -> Ordering
+/// each by its name and then by its value. Each list is the end of a whole text.
+pub(crate) fn order_pairs(
+    whole: &str,
+    first: &str,
+    count: usize,
+    other: &str,
+    second: &str,
+    number: usize,
+) -> Ordering
+    requires first { IsEndOf first.now whole.now }
+    requires second { IsEndOf second.now other.now }
     ensures { result ≡ slice_cmp pair_cmp (pairs_within count first.now) (pairs_within number second.now) }
 {
     let mut left = first;
     let mut right = second;
     for _ in 0..count.min(number) {
-        let one = cut(left);
-        let other = cut(right);
-        let order = order_pair(one, other);
+        let one = cut(whole, left);
+        let two = cut(other, right);
+        let order = order_pair(one, two);
         if order.is_ne() {
             return order;
         }
         left = one.rest;
-        right = other.rest;
+        right = two.rest;
     }
     count.cmp(&number)
 }
@@ -119,13 +130,14 @@ fn feed_pair<H: Hasher>(pair: Pair<'_>, state: &mut H)
     }
 }
 
-/// Feeds the first `count` pairs of a list to a hasher.
-pub(crate) fn feed_pairs<H: Hasher>(list: &str, count: usize, state: &mut H)
+/// Feeds the first `count` pairs of a list, which is the end of a whole text, to a hasher.
+pub(crate) fn feed_pairs<H: Hasher>(whole: &str, list: &str, count: usize, state: &mut H)
+    requires { IsEndOf list.now whole.now }
     ensures { state.new ≡ fold H.write state.old (flat_map pair_input (pairs_within count list.now)) }
 {
     let mut left = list;
     for _ in 0..count {
-        let pair = cut(left);
+        let pair = cut(whole, left);
         feed_pair(pair, state);
         left = pair.rest;
     }

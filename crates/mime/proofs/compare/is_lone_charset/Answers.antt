@@ -19,5 +19,5 @@ returns c = λ is.
     let list = c.list-list.result.now in
     let byte : slice_index list 8 ≡ 61 = subst (λ l. slice_index l 8 ≡ 61) c.as_bytes.ensures.value c.if-as_bytes-ne61.false in
     let name : take 8 list ≡ codes " charset" = sym c.range.ensures.value ∙ same_text _ _ (sym is ∙ c.eq.ensures) in
-    lone_charset list c.args.mime.now.media.pairs (sym c.count.ensures ∙ c.if-count-ne1.false) c.list-list.ensures
+    lone_charset list c.args.mime.now.media.pairs (sym c.count.ensures ∙ c.if-count-ne1.false) c.list-list.ensures.pairs
     (take_more list 8 0 (omega arith) ∙ ap (λ front. front ++ (slice_index list 8 ∷ [])) name ∙ ap (λ b. codes " charset" ++ (b ∷ [])) byte)

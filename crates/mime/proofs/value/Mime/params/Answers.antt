@@ -12,7 +12,7 @@ use Rattle.mime.proofs.value.Mime.params.Goals as goal
 pub returns-clause-items : goal.returns-clause-items
 returns-clause-items c =
     let count = kept-count _ _ c.self.invariant ∙ ap (λ kept. length kept.media.pairs) c.self.view_is in
-    c.new.ensures ∙ ap items_of (ap (λ n. pairs_within n c.list.result.now) count ∙ c.list.ensures)
+    c.new.ensures ∙ ap items_of (ap (λ n. pairs_within n c.list.result.now) count ∙ c.list.ensures.pairs)
 
 pub returns-clause-low : goal.returns-clause-low
 returns-clause-low c =

@@ -7,6 +7,7 @@ pub loop-preserved : goal.loop-preserved
 loop-preserved g c =
     let more = c.loop-test.true in
     record {
+      end = c.cut-pair.ensures.end;
       utf8 = search rules;
       feeds = rw c.cut-pair.ensures.rest
           (feed-next g.H.Hasher.write c.loop.state c.feed_pair.new.state _ c.args.count c.loop.counter c.loop.left.now more

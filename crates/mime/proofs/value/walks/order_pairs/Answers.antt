@@ -8,7 +8,7 @@ returns-then-is_ne c =
     let more = c.loop-test.true in
     let e = c.min-end.ensures in
     order-other _ _ c.args.count c.args.number c.loop.counter c.loop.left.now c.loop.right.now (omega arith) (omega arith) c.loop.invariant.decides
-    (c.order_pair-order.ensures ∙ cc (c.cut-one.ensures.name, c.cut-one.ensures.value, c.cut-other.ensures.name, c.cut-other.ensures.value))
+    (c.order_pair-order.ensures ∙ cc (c.cut-one.ensures.name, c.cut-one.ensures.value, c.cut-two.ensures.name, c.cut-two.ensures.value))
     (sym c.is_ne.ensures ∙ c.if-is_ne.true)
 
 pub loop-preserved : goal.loop-preserved
@@ -16,11 +16,13 @@ loop-preserved c =
     let more = c.loop-test.true in
     let e = c.min-end.ensures in
     record {
+      first_end = c.cut-one.ensures.end;
+      second_end = c.cut-two.ensures.end;
       left = search rules;
       right = search rules;
-      decides = rw (c.cut-one.ensures.rest, c.cut-other.ensures.rest)
+      decides = rw (c.cut-one.ensures.rest, c.cut-two.ensures.rest)
           (order-next _ _ c.args.count c.args.number c.loop.counter c.loop.left.now c.loop.right.now (omega arith) (omega arith) c.loop.invariant.decides
-          (c.order_pair-order.ensures ∙ cc (c.cut-one.ensures.name, c.cut-one.ensures.value, c.cut-other.ensures.name, c.cut-other.ensures.value))
+          (c.order_pair-order.ensures ∙ cc (c.cut-one.ensures.name, c.cut-one.ensures.value, c.cut-two.ensures.name, c.cut-two.ensures.value))
           (sym c.is_ne.ensures ∙ c.if-is_ne.false));
     }
 
