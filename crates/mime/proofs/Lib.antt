@@ -33,9 +33,8 @@ pub mod Parts
 pub mod Outcomes
 -- comparison
 pub mod Ordering
-pub mod PairWalks
 pub mod Counts
-pub mod Joining
+pub mod HashBuffer
 pub mod Constants
 pub mod SmallLetters
 pub mod TextComparison

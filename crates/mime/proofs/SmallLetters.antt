@@ -9,10 +9,10 @@ use Rattle.mime.specs.Bytes.{is_token_byte, slash_byte, semicolon_byte, equals_b
 use Rattle.mime.specs.Grammar.{is_space, Parameter, plain, quoted, Parameters, blank, final, more, Tail, no_list, listed, SyntaxTree, text_of, IsWellFormed}
 use Rattle.mime.specs.Values.{MediaType, Reads, value_of, lowered, lowered_value, lowered_list, lowered_tail, is_charset, pairs_of_list, pairs_of_tail}
 use Rattle.mime.specs.Comparison.{Same}
-use Rattle.mime.specs.KeptText.{AreLowPairs, IsLoneCharset}
+use Rattle.mime.specs.KeptText.{AreLowPairs}
+use Rattle.mime.specs.TextParts.{IsLoneCharset}
 use Rattle.mime.proofs.Begun.{ListPlace, in_spaces, in_name, in_value, in_quotes, behind_quotes, BegunList, Begun, in_type, in_subtype, in_list, grow_place, grow_list, grow, walk_from, walk, tree_of, with_closed}
 use Rattle.mime.proofs.Lowering.{lowered-append, lowered-lowered, lowered_value-either, low_pair-parts}
-use Rattle.mime.proofs.PairWalks.{cons_parts}
 use Rattle.mime.proofs.Parts.{read-low_pairs}
 use Rattle.mime.proofs.Quoted.{continues-lowered}
 use Rattle.mime.proofs.Readings.{accepted-from_walk, walk-text_of}
@@ -242,6 +242,10 @@ case_read text kept value reads is =
 pub case_read-count : (text : List ℕ) (value : MediaType) (is : CaseRead text value) → length value.pairs ≡ length is.read.pairs
 case_read-count text value is =
     sym (length-map value.pairs small_pair) ∙ ap length is.pairs ∙ length-map is.read.pairs small_pair
+
+-- equal lists have the same first and the same others
+pub cons_parts : {X : Type 0} {x y : X} {xs ys : List X} → x ∷ xs ≡ y ∷ ys → (x ≡ y) × (xs ≡ ys)
+cons_parts is = (cc, cc)
 
 -- two charsets as they are kept are the same if they are the same but for case
 lone_charset-same : (pairs others : List (List ℕ × List ℕ)) → IsLoneCharset pairs → AreLowPairs pairs → AreLowPairs others

@@ -20,6 +20,7 @@ pub mod Quoted
 pub mod Scanning
 pub mod Pairs
 pub mod KeptText
+pub mod TextParts
 pub mod Difference
 pub mod Orders
 pub mod AtomPlaces

@@ -1,23 +1,23 @@
 //! A media type against a text, without memory.
 
-ghost use Rattle.std.specs.Prelude.{◌≡◌, ◌≢◌, ◌↔◌, ◌<◌, IsTrue, Some, [], length, map, take};
+ghost use Rattle.std.specs.Prelude.{◌≡◌, ◌≢◌, ◌↔◌, IsTrue, Some, [], map};
 ghost use Rattle.mime.specs.Comparison.{TextIs};
-ghost use Rattle.mime.specs.Pairs.{IsEndOf, pairs_within};
-ghost use Rattle.mime.specs.KeptText.{IsKeptPair, IsListAfter, IsAcceptedAt, IsLowPair, AreLowPairs, lowered_pair, IsLoneCharset};
-ghost use Rattle.mime.specs.Values.{lowered, lowered_value, is_charset};
+ghost use Rattle.mime.specs.KeptText.{AreLowPairs, IsLowPair, lowered_pair};
+ghost use Rattle.mime.specs.TextParts.{IsListAfter, IsAcceptedAt};
+ghost use Rattle.mime.specs.Values.{Reads, lowered};
 
 use crate::difference::{Seen, look};
 use crate::name::eq_ignoring_case;
 use crate::scan::{ByteReader, Places, Verdict, scan};
 use crate::value::Mime;
-use crate::value::pairs::{Pair, cut};
+use crate::value::pairs::{Pairs, is_charset};
 
 /// Whether two texts are the same but for case.
 #[inline(always)]
-fn alike(kept: &str, text: &str) -> bool
-    ensures { IsTrue result ↔ (lowered kept.now ≡ lowered text.now) }
+fn alike(one: &str, other: &str) -> bool
+    ensures { IsTrue result ↔ (lowered one.now ≡ lowered other.now) }
 {
-    eq_ignoring_case(kept.as_bytes(), text.as_bytes())
+    eq_ignoring_case(one.as_bytes(), other.as_bytes())
 }
 
 /// Whether a text goes on with a semicolon after this essence, in any case.
@@ -30,151 +30,92 @@ fn is_list_after(essence: &str, text: &str) -> bool
     end < text.len() && text[end] == b';' && eq_ignoring_case(essence.as_bytes(), &text[..end])
 }
 
-/// Whether a text is a kept name, which has no capital, in any case.
+/// Whether a text's name and value are a kept parameter's: the name in any case, and the value too under `charset`.
 #[inline]
-fn is_name(kept: &str, text: &str) -> bool
-    requires { lowered kept.now ≡ kept.now }
-    ensures { IsTrue result ↔ (kept.now ≡ lowered text.now) }
+fn is_pair(name: &str, value: &str, other: &str, content: &str) -> bool
+    requires { IsLowPair (name.now, value.now) }
+    ensures { IsTrue result ↔ ((name.now, value.now) ≡ lowered_pair (other.now, content.now)) }
 {
-    alike(kept, text)
-}
-
-/// Whether a text is the kept value of a kept name: in any case under `charset`, else byte for byte.
-#[inline]
-fn is_value(name: &str, kept: &str, text: &str) -> bool
-    requires low_name { lowered name.now ≡ name.now }
-    requires low { IsTrue (is_charset name.now) → lowered kept.now ≡ kept.now }
-    ensures { IsTrue result ↔ (kept.now ≡ lowered_value name.now text.now) }
-{
-    if name == "charset" {
-        is_name(kept, text)
+    if !alike(name, other) {
+        return false;
+    }
+    if is_charset(name) {
+        alike(value, content)
     } else {
-        kept == text
+        value == content
     }
 }
 
-/// Whether a pair is a kept one.
+/// Whether the pairs of a text are the kept ones, as they are read.
 #[inline]
-fn is_pair(kept: Pair<'_>, pair: Pair<'_>) -> bool
-    requires { IsLowPair (kept.name.now, kept.value.now) }
-    ensures { IsTrue result ↔ IsKeptPair (kept.entry.name.now, kept.entry.value.now) (pair.entry.name.now, pair.entry.value.now) }
+fn are_pairs(kept: Pairs<'_>, pairs: Pairs<'_>) -> bool
+    requires { AreLowPairs kept }
+    ensures { IsTrue result ↔ (kept.entry ≡ map lowered_pair pairs.entry) }
 {
-    is_name(kept.name, pair.name) && is_value(kept.name, kept.value, pair.value)
-}
-
-/// Whether the first `count` pairs of a list are those of a kept one. Each is the end of a whole text.
-#[inline]
-fn are_pairs(whole: &str, kept: &str, text: &str, list: &str, count: usize) -> bool
-    requires low { AreLowPairs (pairs_within count kept.now) }
-    requires kept_end { IsEndOf kept.now whole.now }
-    requires list_end { IsEndOf list.now text.now }
-    ensures { IsTrue result ↔ (pairs_within count kept.now ≡ map lowered_pair (pairs_within count list.now)) }
-{
-    let mut left = kept;
-    let mut right = list;
-    for _ in 0..count {
-        let one = cut(whole, left);
-        let other = cut(text, right);
-        if !is_pair(one, other) {
+    let mut others = pairs;
+    for (name, value) in kept {
+        let Some((other, content)) = others.next() else {
+            return false;
+        };
+        if !is_pair(name, value, other, content) {
             return false;
         }
-        left = one.rest;
-        right = other.rest;
     }
-    true
+    others.next().is_none()
 }
 
-/// Whether there is a semicolon at this position, and this many parameters after it.
+/// Whether the semicolon is at this position, and this many parameters follow it.
 #[inline(always)]
-fn is_list_at(places: Places, end: usize, count: usize) -> bool
-    ensures { IsTrue result ↔ ((places.semicolon ≡ Some end) × (places.pairs ≡ count)) }
+fn is_list_at(places: Places, semicolon: usize, count: usize) -> bool
+    ensures { IsTrue result ↔ ((places.semicolon ≡ Some semicolon) × (places.pairs ≡ count)) }
 {
-    places.semicolon == Some(end) && places.pairs == count
+    places.semicolon == Some(semicolon) && places.pairs == count
 }
 
-/// Whether a text is accepted that has a semicolon at this position, and this many parameters after it.
+/// Whether a text is accepted that has its semicolon at this position, and this many parameters.
 #[inline(never)]
-fn is_accepted_at(text: &str, end: usize, count: usize) -> bool
-    ensures { IsTrue result ↔ IsAcceptedAt text.now end count }
+fn is_accepted_at(text: &str, semicolon: usize, count: usize) -> bool
+    ensures { IsTrue result ↔ IsAcceptedAt text.now semicolon count }
 {
     let mut reader = ByteReader::new(text, 0);
     match scan(&mut reader) {
-        Verdict::Accepted(places) => is_list_at(places, end, count),
+        Verdict::Accepted(places) => is_list_at(places, semicolon, count),
         _ => false,
     }
 }
 
-/// Whether the only parameter is a charset, written as ` charset=utf-8` is.
-#[inline(always)]
-fn is_lone_charset(mime: &Mime) -> bool
-    ensures { IsTrue result → IsLoneCharset mime.now.media.pairs }
-{
-    if mime.count() != 1 {
-        return false;
-    }
-    let list = mime.list();
-    if list.len() < 9 || list.as_bytes()[8] != b'=' {
-        return false;
-    }
-    &list[..8] == " charset"
-}
-
-/// Whether a text is a value with parameters, part by part: a value can be written in more than one
-/// way. The kept text in another case is accepted as the kept text is. The scan is left for texts in another form whose
-/// parts are the value's.
+/// Whether a text is a value with parameters, part by part: it has the essence, and then the parameters. A text that is
+/// the kept one but for case is accepted as that is; another is scanned.
 #[inline(never)]
 fn eq_by_parts(mime: &Mime, s: &str, is_alike: bool) -> bool
+    requires reads { Reads mime.now.media.kept mime.now.media }
     requires some { mime.now.media.pairs ≢ [] }
     requires alike { IsTrue is_alike → lowered mime.now.media.kept ≡ lowered s.now }
     ensures { IsTrue result ↔ TextIs mime.now.media s.now }
 {
-    let kept = mime.as_str();
     let essence = mime.essence_str();
     if !is_list_after(essence, s) {
         return false;
     }
-    let list = &s[essence.len() + 1..];
-    if !are_pairs(kept, mime.list(), s, list, mime.count()) {
+    let end = essence.len();
+    if !are_pairs(mime.pairs(), Pairs::after(s, Some(end), mime.count())) {
         return false;
     }
-    is_alike || is_accepted_at(s, essence.len(), mime.count())
+    is_alike || is_accepted_at(s, end, mime.count())
 }
 
-/// Whether a text that is the kept one but for case is a value with parameters. All of a lone charset ignores case.
-#[inline(always)]
-fn eq_alike(mime: &Mime, s: &str) -> bool
-    requires some { mime.now.media.pairs ≢ [] }
-    requires alike { lowered mime.now.media.kept ≡ lowered s.now }
-    ensures { IsTrue result ↔ TextIs mime.now.media s.now }
-{
-    let kept = mime.as_str();
-    if is_lone_charset(mime) {
-        return true;
-    }
-    kept == s || eq_by_parts(mime, s, true)
-}
-
-/// Whether a text is a value with parameters. Most texts that aren't differ from the kept text where that tells.
+/// Whether a text is a value with parameters that isn't its kept text: not where it differs from that tellingly, and
+/// surely where it is that but for case and all of it ignores case. Else its parts decide.
 #[inline(never)]
-fn eq_with_parameters(mime: &Mime, s: &str) -> bool
+fn eq_otherwise(mime: &Mime, s: &str) -> bool
     requires { mime.now.media.pairs ≢ [] }
     ensures { IsTrue result ↔ TextIs mime.now.media s.now }
 {
-    let kept = mime.as_str();
-    match look(kept, s) {
+    match look(mime.as_str(), s) {
         Seen::Apart => false,
-        Seen::Alike => eq_alike(mime, s),
-        Seen::Open => kept == s || eq_by_parts(mime, s, false),
+        Seen::Alike => mime.pairs().is_lone_charset() || eq_by_parts(mime, s, true),
+        Seen::Open => eq_by_parts(mime, s, false),
     }
-}
-
-/// Whether a text is a value without parameters.
-#[inline(always)]
-fn eq_without_parameters(mime: &Mime, s: &str) -> bool
-    requires { mime.now.media.pairs ≡ [] }
-    ensures { IsTrue result ↔ TextIs mime.now.media s.now }
-{
-    alike(mime.as_str(), s)
 }
 
 /// Whether a text is read as a value equal to this one and, where this one has no parameter, has no
@@ -187,9 +128,9 @@ fn eq_without_parameters(mime: &Mime, s: &str) -> bool
 pub fn mime_eq_str(mime: &Mime, s: &str) -> bool
     ensures { IsTrue result ↔ TextIs mime.now.media s.now }
 {
+    let kept = mime.as_str();
     if mime.count() == 0 {
-        eq_without_parameters(mime, s)
-    } else {
-        eq_with_parameters(mime, s)
+        return alike(kept, s);
     }
+    kept == s || eq_otherwise(mime, s)
 }

@@ -116,9 +116,9 @@ fn blocks_alike(a: &[u8], b: &[u8]) -> bool
     all_differing_bits(&a[last..], &b[last..]) == 0
 }
 
-/// Whether two byte strings are the same but for the case of ASCII letters, compiled into its caller.
-#[inline(always)]
-fn are_alike(a: &[u8], b: &[u8]) -> bool
+/// Whether two byte strings are the same but for the case of ASCII letters.
+#[inline(never)]
+pub(crate) fn eq_ignoring_case(a: &[u8], b: &[u8]) -> bool
     ensures { IsTrue result ↔ (lowered a.now ≡ lowered b.now) }
 {
     if a.len() != b.len() {
@@ -137,14 +137,6 @@ fn are_alike(a: &[u8], b: &[u8]) -> bool
         return ends_alike(a, b, 4);
     }
     all_differing_bits(a, b) == 0
-}
-
-/// Whether two byte strings are the same but for the case of ASCII letters, by a call.
-#[inline(never)]
-pub(crate) fn eq_ignoring_case(a: &[u8], b: &[u8]) -> bool
-    ensures { IsTrue result ↔ (lowered a.now ≡ lowered b.now) }
-{
-    are_alike(a, b)
 }
 
 /// Whether a name is the text `s`: without regard to ASCII case where the name ignores it, else

@@ -1,13 +1,17 @@
 //! The pairs of a parameter list, cut one by one from the left.
 
-ghost use Rattle.std.specs.Prelude.{◌≡◌, ◌+◌, ◌<◌, ◌≤◌, length, take, drop, slice_index};
-ghost use Rattle.std.specs.Str.{IsCharBoundary};
+ghost use Rattle.std.specs.Iterator.{YieldsFirstBy, item_count, UpTo, at_most};
+ghost use Rattle.std.specs.Iterator.SizeHint.{IsWithinCount};
+ghost use Rattle.std.specs.Prelude.{◌≡◌, ◌+◌, ◌<◌, ◌≤◌, IsTrue, length, take, drop, codes, slice_get, slice_index, IfSome, Some};
+ghost use Rattle.std.specs.Str.{IsCharBoundary, bytes_eq};
 ghost use Rattle.mime.specs.Pairs.{IsEndOf, before_byte, behind_byte, cut_of, marks_of};
-ghost use Rattle.mime.specs.Pairs.{leading_spaces, first_position, cut_behind_equals};
+ghost use Rattle.mime.specs.Pairs.{leading_spaces, first_position, cut_behind_equals, pairs_behind, pair_seen};
 ghost use Rattle.mime.specs.Bytes.{semicolon_byte};
+ghost use Rattle.mime.specs.TextParts.{IsLoneCharset};
 ghost use Rattle.mime.specs.Quoted.{content_of, behind_content, content_len as len_of};
 
 use crate::bytes::{is_quoted_text_byte, is_space};
+use std::marker::Model;
 use std::simd::prelude::*;
 
 /// The first pair of a list, and the list after its semicolon.
@@ -19,6 +23,14 @@ pub(crate) struct Pair<'a> {
     /// The value without its quotes; backslashes stay: `\"x` for `"\"x"`.
     pub(crate) value: &'a str,
     pub(crate) rest: &'a str,
+}
+
+/// Whether a name in small letters is `charset`.
+#[inline(always)]
+pub(crate) fn is_charset(name: &str) -> bool
+    ensures { result ≡ bytes_eq name.now (codes "charset") }
+{
+    name == "charset"
 }
 
 /// How many bytes are looked at together.
@@ -251,4 +263,81 @@ pub(crate) fn cut<'a>(whole: &str, list: &'a str) -> Pair<'a>
     let gap = gap_of(list);
     let (name, text) = split_at_first(whole, &list[gap..], b'=');
     cut_value(whole, list.len(), name, text)
+}
+
+/// The pairs of a list that are still to come, each a name and a value. The list is the end of a whole text.
+#[derive(Drop)]
+pub(crate) struct Pairs<'a> {
+    whole: &'a str,
+    list: &'a str,
+    left: usize,
+}
+
+impl<'a> Model for Pairs<'a> {
+    ghost use Rattle.std.specs.Prelude.{List, ℕ};
+    ghost use Rattle.mime.specs.Pairs.{IsEndOf, pairs_within};
+
+    ghost Value = { List (List ℕ × List ℕ) };
+
+    ghost view = { λ pairs. pairs_within pairs.left pairs.list.now };
+
+    ghost invariant = { λ pairs. IsEndOf pairs.list.now pairs.whole.now };
+}
+
+impl<'a> Pairs<'a> {
+    /// The first `count` pairs after a text's semicolon, or none where it has no list.
+    #[inline(always)]
+    pub(crate) fn after(text: &'a str, semicolon: Option<usize>, count: usize) -> Pairs<'a>
+        requires { IfSome semicolon (λ at. slice_get text.now at ≡ Some semicolon_byte) }
+        ensures { result ≡ pairs_behind count semicolon text.now }
+    {
+        match semicolon {
+            None => Pairs {
+                whole: text,
+                list: "",
+                left: 0,
+            },
+            Some(at) => Pairs {
+                whole: text,
+                list: &text[at + 1..],
+                left: count,
+            },
+        }
+    }
+
+    /// Whether the only pair left is a charset, written as ` charset=utf-8` is.
+    #[inline(always)]
+    pub(crate) fn is_lone_charset(&self) -> bool
+        ensures { IsTrue result → IsLoneCharset self.now }
+    {
+        self.left == 1 && self.list.as_bytes().starts_with(b" charset=")
+    }
+}
+
+impl<'a> Iterator for Pairs<'a> {
+    type Item = (&'a str, &'a str);
+
+    ghost next_gives = { YieldsFirstBy pair_seen (λ pairs. pairs) };
+
+    ghost remaining = { item_count (λ pairs. pairs) };
+
+    #[inline(always)]
+    fn next(&mut self) -> Option<(&'a str, &'a str)> {
+        if self.left == 0 {
+            return None;
+        }
+        let pair = cut(self.whole, self.list);
+        self.left -= 1;
+        self.list = pair.rest;
+        Some((pair.name, pair.value))
+    }
+
+    #[inline(always)]
+    fn size_hint(&self) -> (usize, Option<usize>)
+        ensures lower { IsWithinCount result.0 (at_most (length self.now)) }
+        ensures upper { IfSome result.1 (UpTo (at_most (length self.now))) }
+        ensures exact { result ≡ (length self.now, Some (length self.now)) }
+    {
+        (self.left, Some(self.left))
+    }
 }

@@ -1,7 +1,7 @@
 -- What is joined is the pair's run.
 use Rattle.std.proofs.Common.{◌∙◌, ap}
-use Rattle.mime.proofs.Joining.{joined_pair}
-use Rattle.mime.proofs.value.walks.feed_joined.Goals as goal
+use Rattle.mime.proofs.HashBuffer.{joined_pair}
+use Rattle.mime.proofs.value.hashing.feed_joined.Goals as goal
 
 pub returns : goal.returns
 returns g c =
