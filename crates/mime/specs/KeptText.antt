@@ -42,13 +42,16 @@ kept_semicolon (suc pairs) semicolon = semicolon
 abbrev pub kept_places : Places → Places
 kept_places places = record places { semicolon = kept_semicolon places.pairs places.semicolon }
 
+-- a text lowered up to its semicolon, and then pair by pair
+abbrev pub with_pairs_lowered : ℕ → ℕ → List ℕ → List ℕ
+with_pairs_lowered pairs semicolon text =
+    lowered (take (semicolon + 1) text) ++ lowered_within pairs (drop (semicolon + 1) text)
+
 -- the kept text of an accepted text with its parts at these positions
 abbrev pub kept_text_of : ℕ → Option ℕ → List ℕ → List ℕ
-kept_text_of zero None text = lowered text
+kept_text_of pairs None text = lowered text
 kept_text_of zero (Some semicolon) text = lowered (take semicolon text)
-kept_text_of (suc pairs) None text = lowered text
-kept_text_of (suc pairs) (Some semicolon) text =
-    lowered (take (semicolon + 1) text) ++ lowered_within (suc pairs) (drop (semicolon + 1) text)
+kept_text_of (suc pairs) (Some semicolon) text = with_pairs_lowered (suc pairs) semicolon text
 
 -- a pair as it is read: its name in small letters, and its value too where the name is `charset`
 abbrev pub lowered_pair : List ℕ × List ℕ → List ℕ × List ℕ

@@ -18,7 +18,7 @@ mod traits;
 
 use crate::name::{Name, ParamKey};
 use crate::scan::{ByteReader, FromStrError, ParseError, Places, Verdict, scan};
-use crate::value::kept::{keep_places, keep_text};
+use crate::value::kept::keep;
 use crate::value::pairs::Pairs;
 pub use crate::value::params::Params;
 use std::alloc::Global;
@@ -117,10 +117,10 @@ impl Mime {
                 places,
             });
         }
-        match keep_text(alloc, s, places) {
-            Ok(text) => Ok(Mime {
+        match keep(alloc, s, places) {
+            Ok((text, places)) => Ok(Mime {
                 text: Text::Owned(text),
-                places: keep_places(places),
+                places,
             }),
             Err(_) => Err(FromStrError::new(ParseError::NoMemory)),
         }
