@@ -1,5 +1,6 @@
 -- facts of bytes, and quoted content
 pub mod Classes
+pub mod ByteTables
 pub mod ByteAt
 pub mod Quoted
 -- the grammar walked
