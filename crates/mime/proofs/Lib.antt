@@ -48,3 +48,5 @@ pub mod Beginnings
 pub mod Iterating
 pub mod RunProofs
 pub mod Characters
+-- laws on which no code rests
+pub mod LawProofs
