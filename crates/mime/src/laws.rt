@@ -15,7 +15,6 @@ ghost use Rattle.mime.specs.RunLaws.{RunGivesCut, PrintedListComesBack, CommaCon
 
 use crate::atoms::Atom;
 use crate::iter::{Bad, MimeIter};
-use crate::name::Name;
 use crate::name::constants::{
     APPLICATION, AUDIO, BASIC, BMP, BOUNDARY, CHARSET, CSS, CSV, EVENT_STREAM, FONT, FORM_DATA,
     GIF, HTML, IMAGE, JAVASCRIPT, JPEG, JSON, MESSAGE, MODEL, MP4, MPEG, MSGPACK, MULTIPART,
