@@ -1,7 +1,8 @@
 //! Media types one by one out of a text.
 
-ghost use Rattle.std.specs.Prelude.{◌≡◌, ◌+◌, ◌-◌, ◌<◌, ◌≤◌, ◌^◌, false, length};
-ghost use Rattle.std.specs.Iterator.{at_most};
+ghost use Rattle.std.specs.Prelude.{◌≡◌, ◌+◌, ◌-◌, ◌<◌, ◌≤◌, ◌^◌, false, length, IfSome, None};
+ghost use Rattle.std.specs.Iterator.{UpTo, at_most};
+ghost use Rattle.std.specs.Iterator.SizeHint.{IsWithinCount};
 ghost use Rattle.mime.specs.Cut.{is_following_byte};
 ghost use Rattle.mime.specs.Runs.{IsNext};
 ghost use Rattle.mime.specs.UnderWay.{IsAfterCharacter, PassesPiece, IsFound};
@@ -194,6 +195,15 @@ impl<'a> Iterator for MimeIter<'a> {
                 Some(Err(Bad::NoMemory))
             }
         }
+    }
+
+    fn size_hint(&self) -> (usize, Option<usize>)
+        ensures lower { IsWithinCount result.0 (at_most (length self.now.left)) }
+        ensures upper { IfSome result.1 (UpTo (at_most (length self.now.left))) }
+        // How many items are left isn't known before they are read.
+        ensures open { result ≡ (0, None) }
+    {
+        (0, None)
     }
 }
 
