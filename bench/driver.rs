@@ -666,14 +666,14 @@ fn grouped(number: u64) -> String {
 }
 
 impl Goal {
-    /// The goal, and whether it is missed.
+    /// The goal, with a word where a row misses it: a cost counts as the table has it, with two decimals.
     fn shown(self, here: &Cost, there: &Cost) -> String {
         let (text, cost, goal) = match self {
             Ratio(goal) => (format!("{goal:.2}"), here.instructions / there.instructions, goal),
             EachByte(goal) => (format!("{goal:.2} a byte"), here.each_byte(), goal),
             Open => return String::new(),
         };
-        if cost > goal { text + ", over" } else { text }
+        if (cost * 100.0).round() > (goal * 100.0).round() { text + ", over" } else { text }
     }
 }
 
