@@ -10,7 +10,7 @@ use Rattle.std.specs.Prelude.{min}
 use Rattle.std.specs.List.{fold, flat_map}
 use Rattle.std.proofs.lemmas.List.Sums.{fold-append}
 use Rattle.std.proofs.lemmas.List.{nil_from_length}
-use Rattle.mime.specs.Orders.{pair_input, media_input}
+use Rattle.mime.specs.HashInput.{pair_input, media_input}
 use Rattle.mime.specs.Comparison.{pair_cmp}
 use Rattle.mime.specs.Pairs.{cut_of, pairs_within}
 use Rattle.mime.specs.Values.{MediaType}

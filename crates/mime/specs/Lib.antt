@@ -21,7 +21,8 @@ pub mod Scanning
 pub mod Pairs
 pub mod Spelled
 pub mod KeptText
-pub mod Orders
+pub mod HashInput
+pub mod OrderLaws
 pub mod AtomPlaces
 pub mod Owner
 pub mod UnderWay

@@ -4,7 +4,7 @@ ghost use Rattle.std.specs.Prelude.{◌≡◌, ◌↔◌, ◌+◌, ◌<◌, IsTr
 ghost use Rattle.std.specs.Cmp.Lexicographic.{slice_cmp};
 ghost use Rattle.std.specs.List.{fold, flat_map};
 ghost use Rattle.mime.specs.Comparison.{pair_cmp};
-ghost use Rattle.mime.specs.Orders.{pair_run, pair_parts, pair_input};
+ghost use Rattle.mime.specs.HashInput.{pair_run, pair_parts, pair_input};
 ghost use Rattle.mime.specs.Pairs.{pairs_within};
 
 use crate::value::pairs::{Pair, cut};

@@ -2,7 +2,7 @@
 use Rattle.std.proofs.Common.{◌≡◌, ◌-◌}
 use Rattle.std.specs.Str.{IsUtf8}
 use Rattle.std.specs.List.{fold, flat_map}
-use Rattle.mime.specs.Orders.{pair_input}
+use Rattle.mime.specs.HashInput.{pair_input}
 use Rattle.mime.specs.Pairs.{pairs_within}
 use Rattle.mime.proofs.value.walks.feed_pairs.Given as goal
 
