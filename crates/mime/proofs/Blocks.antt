@@ -33,7 +33,7 @@ of_block n a b from count block is = moved n _ _ _ _ (lowering a) (lowering b)
     lowering : (text : List ℕ) → lowered (take count (drop from text)) ≡ take block (drop from (lowered text))
     lowering text = rw is (lowered-take block (drop from text) ∙ ap (take block) (lowered-drop from text))
 
--- and so is a test of the last blocks
+-- a test of the last blocks of two texts is a test of the last blocks of the lowered texts
 pub of_last : (n : ℕ) (a b : List ℕ) (from : ℕ)
     → (n ≡ 0) ↔ (lowered (take (length a - from) (drop from a)) ≡ lowered (take (length b - from) (drop from b)))
     → (n ≡ 0) ↔ (drop from (lowered a) ≡ drop from (lowered b))

@@ -2,7 +2,7 @@
 
 ghost use Rattle.std.specs.Prelude.{◌≡◌, ◌↔◌, ◌<◌, ◌≤◌, ◌+◌, length, IsTrue, List, ℕ, Bool, Some};
 ghost use Rattle.std.specs.Char.{to_ascii_lowercase};
-ghost use Rattle.std.specs.Fmt.{debug_str};
+ghost use Rattle.std.specs.Fmt.{debug_str, styled_text};
 ghost use Rattle.mime.specs.Names.{NameIs};
 ghost use Rattle.mime.specs.Values.{lowered};
 
@@ -37,6 +37,8 @@ impl<'a> Name<'a> {
 impl fmt::Display for Name<'_> {
     ghost output = { λ name. Some name.text.now };
 
+    ghost styled_output = { λ name spec. Some (styled_text spec name.text.now) };
+
     fn fmt<W: fmt::Write>(&self, f: &mut fmt::Formatter<W>) -> fmt::Result {
         fmt::Display::fmt(self.text, f)
     }
@@ -52,12 +54,12 @@ impl fmt::Debug for Name<'_> {
 }
 
 /// The bit that tells a small ASCII letter from its capital.
-pub(crate) const CASE_BIT: u8 = 0x20;
+const CASE_BIT: u8 = 0x20;
 
 /// The bits in which two bytes differ, apart from the one that tells a capital from its small letter
 /// where the first is an ASCII letter: none where the bytes are the same but for case.
 #[inline(always)]
-fn differing_bits(x: u8, y: u8) -> u8
+pub(crate) fn differing_bits(x: u8, y: u8) -> u8
     ensures { (result ≡ 0) ↔ (to_ascii_lowercase x ≡ to_ascii_lowercase y) }
 {
     let case = if (x | CASE_BIT).is_ascii_lowercase() {
@@ -116,9 +118,9 @@ fn blocks_alike(a: &[u8], b: &[u8]) -> bool
     all_differing_bits(&a[last..], &b[last..]) == 0
 }
 
-/// Whether two byte strings are the same but for the case of ASCII letters, compiled into its caller.
-#[inline(always)]
-pub(crate) fn are_alike(a: &[u8], b: &[u8]) -> bool
+/// Whether two byte strings are the same but for the case of ASCII letters.
+#[inline(never)]
+pub(crate) fn eq_ignoring_case(a: &[u8], b: &[u8]) -> bool
     ensures { IsTrue result ↔ (lowered a.now ≡ lowered b.now) }
 {
     if a.len() != b.len() {
@@ -137,14 +139,6 @@ pub(crate) fn are_alike(a: &[u8], b: &[u8]) -> bool
         return ends_alike(a, b, 4);
     }
     all_differing_bits(a, b) == 0
-}
-
-/// Whether two byte strings are the same but for the case of ASCII letters, by a call.
-#[inline(never)]
-pub(crate) fn eq_ignoring_case(a: &[u8], b: &[u8]) -> bool
-    ensures { IsTrue result ↔ (lowered a.now ≡ lowered b.now) }
-{
-    are_alike(a, b)
 }
 
 /// Whether a name is the text `s`: without regard to ASCII case where the name ignores it, else
