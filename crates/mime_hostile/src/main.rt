@@ -1,13 +1,15 @@
 //! What strangers send: prints a table of malicious texts, or does one thing with each line of standard input, between the
-//! lines `now` and `end` that it writes. Between them tools/refused_requests refuses one of its requests for memory.
+//! lines `now` and `end` that it writes. Between them tools/refused_requests refuses one of its requests for memory, and
+//! tools/largest_inputs counts what the longest texts cost.
 #![tactic(auto)]
 
 mod table;
 
 use crate::table::print_table;
-use mime::{Bad, Mime, MimeIter};
+use mime::{Bad, Mime, MimeIter, mime_eq_str};
 use std::alloc::Global;
 use std::env::Env;
+use std::hash::{DefaultHasher, Hash, Hasher};
 use std::io::Read;
 use std::process::ExitCode;
 use std::{env, io};
@@ -23,6 +25,8 @@ enum Task {
     Clone,
     /// The media types in it are taken one by one.
     Items,
+    /// It is compared with the line before.
+    Compare,
 }
 
 /// The task that the one argument names, or the table where there is none.
@@ -36,6 +40,7 @@ fn asked_task<R: Env + Alloc>(rt: &R) -> Option<Task> {
         "read" => Task::Read,
         "clone" => Task::Clone,
         "items" => Task::Items,
+        "compare" => Task::Compare,
         _ => return None,
     };
     if args.next().is_some() {
@@ -46,7 +51,7 @@ fn asked_task<R: Env + Alloc>(rt: &R) -> Option<Task> {
 
 fn main(rt: HostRuntime) -> ExitCode {
     let Some(task) = asked_task(&rt) else {
-        let _ = eprintln!(rt; "usage: mime_hostile [read|clone|items]");
+        let _ = eprintln!(rt; "usage: mime_hostile [read|clone|items|compare]");
         return ExitCode::from(2);
     };
     match done(&rt, task) {
@@ -62,13 +67,16 @@ fn done(rt: &HostRuntime, task: Task) -> io::Result<()> {
     if let Task::Table = task {
         return print_table(rt);
     }
+    let mut before = "";
     for text in input.as_str().split('\n') {
         match task {
             Task::Clone => clone(rt, text)?,
             Task::Items => items(rt, text)?,
+            Task::Compare => compare(rt, before, text)?,
             _ => read(rt, text)?,
         }
         println!(rt; "end")?;
+        before = text;
     }
     Ok(())
 }
@@ -108,4 +116,28 @@ fn items(rt: &HostRuntime, text: &str) -> io::Result<()> {
         }
     }
     Ok(())
+}
+
+/// Compares what two texts were read as: whether they are equal, in order and by their hashes, and the first with the other's text.
+fn compare(rt: &HostRuntime, first: &str, second: &str) -> io::Result<()> {
+    let (Ok(one), Ok(other)) = (
+        Mime::from_str(rt.alloc(), first),
+        Mime::from_str(rt.alloc(), second),
+    ) else {
+        return println!(rt; "not two media types");
+    };
+    let by_order = one.cmp(&other).is_eq();
+    let by_hash = hash_of(&one) == hash_of(&other);
+    let by_text = mime_eq_str(&one, second);
+    println!(rt;
+        "equal {}, by order {by_order}, by hash {by_hash}, by text {by_text}",
+        one == other
+    )
+}
+
+/// What a hasher makes of a media type.
+fn hash_of(mime: &Mime) -> u64 {
+    let mut hasher = DefaultHasher::new();
+    mime.hash(&mut hasher);
+    hasher.finish()
 }
