@@ -315,9 +315,9 @@ fn case_of_two(label: String, operation: Operation, text: Text, other: Text, goa
 fn everyday() -> Vec<Case> {
     let read = |(text, goal)| case(format!("read {text}"), Operation::Read, text, Ratio(goal));
     let look_up = |(name, text, goal)| {
-        case_of_two(format!("look up `{name}` in {text}"), Operation::LookUp, text, Given(name), Ratio(goal))
+        case_of_two(format!("look up `{name}` in {text}"), Operation::LookUp, text, Given(name), goal)
     };
-    let walk = |(text, goal)| case(format!("walk the parameters of {text}"), Operation::Walk, text, Ratio(goal));
+    let walk = |(text, goal)| case(format!("walk the parameters of {text}"), Operation::Walk, text, goal);
     let name_eq = |(name, text)| {
         let label = format!("compare `{name}` with `{text}`, ignoring case");
         case_of_two(label, Operation::NameEq, Given(name), Given(text), Open)
@@ -335,15 +335,15 @@ fn everyday() -> Vec<Case> {
     let label = "read a subtype of 10,000 bytes".to_string();
     let long = case(label, Operation::Read, Text::subtype(10_000), Ratio(0.65));
     let look_ups = [
-        ("charset", UTF_8, 0.55),
-        ("charset", TWO, 0.55),
-        ("boundary", TWO, 0.55),
-        ("missing", TWO, 0.90),
-        ("name00099", HUNDRED, 0.55),
-        ("missing", HUNDRED, 0.90),
-        ("q", SHORT, 0.55),
+        ("charset", UTF_8, Ratio(0.55)),
+        ("charset", TWO, Ratio(0.55)),
+        ("boundary", TWO, Ratio(0.55)),
+        ("missing", TWO, Ratio(0.90)),
+        ("name00099", HUNDRED, Ratio(0.55)),
+        ("missing", HUNDRED, Ratio(0.90)),
+        ("q", SHORT, Open),
     ];
-    let walks = [(UTF_8, 2.70), (TWO, 1.25), (QUOTED, 1.25), (SHORT, 2.70)];
+    let walks = [(UTF_8, Ratio(2.70)), (TWO, Ratio(1.25)), (QUOTED, Ratio(1.25)), (SHORT, Open)];
     let hundred = case(format!("walk {HUNDRED}"), Operation::Walk, HUNDRED, Ratio(1.25));
     let names = [("application-octet-stream", "Application-Octet-Stream"), ("charset", "Charset")];
     let readings = readings.into_iter().map(read).chain([long]);
@@ -456,10 +456,10 @@ fn growth() -> Vec<Case> {
 /// Quoted values of 1,000 bytes: of plain bytes, with a pair in every ten bytes, and of nothing but pairs.
 fn quoted_values() -> Vec<Case> {
     let mut cases = Vec::new();
-    for (what, content, goal) in [
-        ("plain bytes", "xxxxxxxxxx", EachByte(0.80)),
-        ("bytes with a pair in ten", "xxxxxxxx\\x", Open),
-        ("bytes in pairs", "\\x\\x\\x\\x\\x", Open),
+    for (what, content) in [
+        ("plain bytes", "xxxxxxxxxx"),
+        ("bytes with a pair in ten", "xxxxxxxx\\x"),
+        ("bytes in pairs", "\\x\\x\\x\\x\\x"),
     ] {
         let mut add = |verb: &str, operation, end, goal| {
             let text = Repeated(["a/b; p=\"", content, end], 100);
@@ -467,7 +467,7 @@ fn quoted_values() -> Vec<Case> {
         };
         add("read an open", Operation::Read, "", Open);
         add("read a", Operation::Read, "\"", Open);
-        add("walk past a", Operation::Walk, "\"", goal);
+        add("walk past a", Operation::Walk, "\"", EachByte(0.80));
     }
     cases
 }
