@@ -24,7 +24,7 @@ of_first W a b block told =
     let other = lowered-take block b in
     (λ w. sym one ∙ told.0 w ∙ other, λ same. told.1 (one ∙ same ∙ sym other))
 
--- and so is a test of the last bytes
+-- a test of the last bytes of two texts is one of the last bytes of their lowerings
 pub of_last : (W : Type 0) (a b : List ℕ) (from : ℕ)
     → W ↔ (lowered (take (length a - from) (drop from a)) ≡ lowered (take (length b - from) (drop from b)))
     → W ↔ (drop from (lowered a) ≡ drop from (lowered b))

@@ -91,6 +91,10 @@ split-size text p c l split = (
   character-size c l split.is_character,
 )
 
+-- a split text begins with its piece
+pub split-piece : (text p c l : List ℕ) → IsSplit text p c l → take (length p) text ≡ p
+split-piece text p c l split = ap (take (length p)) split.spelled ∙ take-append_seam p (c ++ l)
+
 -- what is split isn't viable
 pub split-not_viable : (text p c l : List ℕ) → IsSplit text p c l → IsViable text → ⊥
 split-not_viable text p c l split viable =

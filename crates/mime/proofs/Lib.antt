@@ -1,5 +1,6 @@
 -- facts of bytes, and quoted content
 pub mod Classes
+pub mod ByteTables
 pub mod ByteAt
 pub mod Quoted
 -- the grammar walked
@@ -48,3 +49,5 @@ pub mod Beginnings
 pub mod Iterating
 pub mod RunProofs
 pub mod Characters
+-- laws on which no code rests
+pub mod LawProofs

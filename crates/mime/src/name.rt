@@ -1,7 +1,7 @@
 //! Names: the parts of media types, how they compare, and the keys that look parameters up.
 
 ghost use Rattle.std.specs.Prelude.{◌≡◌, ◌↔◌, ◌<◌, ◌≤◌, ◌+◌, length, IsTrue, List, ℕ, Bool, Some};
-ghost use Rattle.std.specs.Fmt.{debug_str};
+ghost use Rattle.std.specs.Fmt.{debug_str, styled_text};
 ghost use Rattle.mime.specs.Names.{NameIs};
 ghost use Rattle.mime.specs.Values.{lowered};
 
@@ -36,6 +36,8 @@ impl<'a> Name<'a> {
 /// Prints the text, padded to a width where one is given: [`TEXT`](crate::TEXT) prints `text`.
 impl fmt::Display for Name<'_> {
     ghost output = { λ name. Some name.text.now };
+
+    ghost styled_output = { λ name spec. Some (styled_text spec name.text.now) };
 
     fn fmt<W: fmt::Write>(&self, f: &mut fmt::Formatter<W>) -> fmt::Result {
         fmt::Display::fmt(self.text, f)

@@ -1,6 +1,6 @@
 //! The parameters of a media type, one by one.
 
-ghost use Rattle.std.specs.Prelude.{◌≡◌, length, IfSome, Some};
+ghost use Rattle.std.specs.Prelude.{◌≡◌, codes, length, IfSome, Some};
 ghost use Rattle.std.specs.Iterator.{YieldsFirstBy, item_count, UpTo, at_most};
 ghost use Rattle.std.specs.Iterator.SizeHint.{IsWithinCount};
 ghost use Rattle.mime.specs.Items.{items_of};
@@ -72,8 +72,10 @@ impl<'a> Iterator for Params<'a> {
     }
 }
 
-/// Prints the word `Params`, as a test checks; no clause says so.
+/// Prints the word `Params`.
 impl fmt::Debug for Params<'_> {
+    ghost debug_output = { λ params. Some (codes "Params") };
+
     fn fmt<W: fmt::Write>(&self, f: &mut fmt::Formatter<W>) -> fmt::Result {
         f.write_str("Params")
     }

@@ -2,11 +2,12 @@
 
 ghost use Rattle.std.specs.Prelude.{◌≡◌, ◌↔◌, IsTrue, Some, true, refl};
 ghost use Rattle.std.specs.Cmp.{partial_equiv_from_equiv, partial_order_from_total, on_equiv, on_total, eq_by_cmp_equiv};
-ghost use Rattle.std.specs.Fmt.{debug_str};
+ghost use Rattle.std.specs.Fmt.{debug_str, styled_text};
 ghost use Rattle.std.specs.List.{fold};
 ghost use Rattle.std.specs.Ordering.{MatchOrdering, eq_by_cmp, on, as_partial_cmp};
 ghost use Rattle.mime.specs.Comparison.{Same, Before, media_cmp};
-ghost use Rattle.mime.specs.Orders.{media_cmp_total, same_from_cmp, media_input, media_input-same};
+ghost use Rattle.mime.specs.HashInput.{media_input};
+ghost use Rattle.mime.specs.OrderLaws.{media_cmp_total, same_from_cmp, media_input-same};
 
 use crate::value::hashing::feed_pairs;
 use crate::value::{Mime, Text};
@@ -168,6 +169,8 @@ impl Clone for Mime {
 /// Prints the kept text, padded to a width where one is given: `Text/Plain;` prints `text/plain`.
 impl fmt::Display for Mime {
     ghost output = { λ mime. Some mime.media.kept };
+
+    ghost styled_output = { λ mime spec. Some (styled_text spec mime.media.kept) };
 
     fn fmt<W: fmt::Write>(&self, f: &mut fmt::Formatter<W>) -> fmt::Result {
         fmt::Display::fmt(self.as_str(), f)
