@@ -69,14 +69,12 @@ macro_rules! operations {
         }
 
         impl Case {
-            /// Makes the operation on these texts so many times in one call.
-            fn run(&self, side: Side, texts: &Texts, times: usize) -> usize {
-                match (self.operation, side) {
+            /// Makes the operation of a count on these texts so many times in one call.
+            fn run(&self, count: &str, texts: &Texts, times: usize) -> usize {
+                match (self.operation, count) {
                     $(
-                        (Operation::$operation, Side::Here) => unsafe {
-                            here::$name($(Slice::of(&texts.$text),)+ times)
-                        },
-                        (Operation::$operation, Side::There) => there::$name($(&texts.$text,)+ times),
+                        (Operation::$operation, THERE) => there::$name($(&texts.$text,)+ times),
+                        (Operation::$operation, _) => unsafe { here::$name($(Slice::of(&texts.$text),)+ times) },
                     )*
                 }
             }
@@ -192,11 +190,11 @@ fn hidden<T: ?Sized>(value: &T) -> &T {
     kept
 }
 
-#[derive(Clone, Copy, PartialEq)]
-enum Side {
-    Here,
-    There,
-}
+// The counts of a case: on each side, and here of the reading of the same text with a comma after it, which is refused there:
+// the walk of the whole text, with nothing kept.
+const HERE: &str = "here";
+const THERE: &str = "there";
+const WALK: &str = "walk";
 
 /// A text, which is written where it is needed.
 #[derive(Clone, Copy, PartialEq)]
@@ -222,6 +220,7 @@ const TWO: Text = Given("multipart/form-data; charset=BASE64; boundary=ABCDEFG")
 const QUOTED: Text = Given("a/b; p=\"x;y\"; q=\"z\"");
 const SHORT: Text = Given("a/b;q=0.9");
 const HUNDRED: Text = Parameters(100);
+const NONE: Text = Given("");
 
 impl Text {
     fn subtype(length: usize) -> Text {
@@ -291,64 +290,63 @@ struct Case {
     goal: Goal,
 }
 
-/// The texts of a case.
+/// The texts of a case, written.
 struct Texts {
     text: String,
     other: String,
 }
 
 impl Case {
-    fn texts(&self) -> Texts {
-        Texts { text: self.text.written(), other: self.other.written() }
+    fn new(label: String, operation: Operation, [text, other]: [Text; 2], goal: Goal) -> Case {
+        Case { label, operation, text, other, goal }
     }
-}
 
-fn case(label: String, operation: Operation, text: Text, goal: Goal) -> Case {
-    case_of_two(label, operation, text, Given(""), goal)
-}
+    fn texts(&self, count: &str) -> Texts {
+        let comma = if count == WALK { "," } else { "" };
+        Texts { text: self.text.written() + comma, other: self.other.written() }
+    }
 
-fn case_of_two(label: String, operation: Operation, text: Text, other: Text, goal: Goal) -> Case {
-    Case { label, operation, text, other, goal }
+    fn counts(&self) -> &'static [&'static str] {
+        if self.operation == Operation::Read { &[WALK, HERE, THERE] } else { &[HERE, THERE] }
+    }
 }
 
 /// Everyday texts: reading, looking parameters up, walking them, and the comparison of a name.
 fn everyday() -> Vec<Case> {
-    let read = |(text, goal)| case(format!("read {text}"), Operation::Read, text, Ratio(goal));
-    let look_up = |(name, text, goal)| {
-        case_of_two(format!("look up `{name}` in {text}"), Operation::LookUp, text, Given(name), Ratio(goal))
+    let read = |text, goal| Case::new(format!("read {text}"), Operation::Read, [text, NONE], Ratio(goal));
+    let look_up = |name, text, goal| {
+        Case::new(format!("look up `{name}` in {text}"), Operation::LookUp, [text, Given(name)], goal)
     };
-    let walk = |(text, goal)| case(format!("walk the parameters of {text}"), Operation::Walk, text, Ratio(goal));
-    let name_eq = |(name, text)| {
-        let label = format!("compare `{name}` with `{text}`, ignoring case");
-        case_of_two(label, Operation::NameEq, Given(name), Given(text), Open)
+    let walk = |what, text, goal| Case::new(format!("walk {what}{text}"), Operation::Walk, [text, NONE], goal);
+    let name_eq = |name, text| {
+        Case::new(format!("compare {name} with {text}, ignoring case"), Operation::NameEq, [name, text], Open)
     };
-    let readings = [
-        (PLAIN, 0.90),
-        (UTF_8, 0.52),
-        (Given("IMAGE/X-Thing+XML"), 0.85),
-        (TWO, 0.52),
-        (QUOTED, 0.30),
-        (HUNDRED, 0.40),
-        (Given("*/*"), 1.20),
-        (Given("text/pl(in"), 0.84),
-    ];
-    let label = "read a subtype of 10,000 bytes".to_string();
-    let long = case(label, Operation::Read, Text::subtype(10_000), Ratio(0.65));
-    let look_ups = [
-        ("charset", UTF_8, 0.55),
-        ("charset", TWO, 0.55),
-        ("boundary", TWO, 0.55),
-        ("missing", TWO, 0.90),
-        ("name00099", HUNDRED, 0.55),
-        ("missing", HUNDRED, 0.90),
-        ("q", SHORT, 0.55),
-    ];
-    let walks = [(UTF_8, 2.70), (TWO, 1.25), (QUOTED, 1.25), (SHORT, 2.70)];
-    let hundred = case(format!("walk {HUNDRED}"), Operation::Walk, HUNDRED, Ratio(1.25));
-    let names = [("application-octet-stream", "Application-Octet-Stream"), ("charset", "Charset")];
-    let readings = readings.into_iter().map(read).chain([long]);
-    let walks = walks.into_iter().map(walk).chain([hundred]);
-    readings.chain(look_ups.into_iter().map(look_up)).chain(walks).chain(names.into_iter().map(name_eq)).collect()
+    let long = "read a subtype of 10,000 bytes".to_string();
+    vec![
+        read(PLAIN, 0.90),
+        read(UTF_8, 0.52),
+        read(Given("IMAGE/X-Thing+XML"), 0.85),
+        read(TWO, 0.52),
+        read(QUOTED, 0.30),
+        read(HUNDRED, 0.40),
+        read(Given("*/*"), 1.20),
+        read(Given("text/pl(in"), 0.84),
+        Case::new(long, Operation::Read, [Text::subtype(10_000), NONE], Ratio(0.65)),
+        look_up("charset", UTF_8, Ratio(0.55)),
+        look_up("charset", TWO, Ratio(0.55)),
+        look_up("boundary", TWO, Ratio(0.55)),
+        look_up("missing", TWO, Ratio(0.90)),
+        look_up("name00099", HUNDRED, Ratio(0.55)),
+        look_up("missing", HUNDRED, Ratio(0.90)),
+        look_up("q", SHORT, Open),
+        walk("the parameters of ", UTF_8, Ratio(2.70)),
+        walk("the parameters of ", TWO, Ratio(1.25)),
+        walk("the parameters of ", QUOTED, Ratio(1.25)),
+        walk("the parameters of ", SHORT, Open),
+        walk("", HUNDRED, Ratio(1.25)),
+        name_eq(Given("application-octet-stream"), Given("Application-Octet-Stream")),
+        name_eq(Given("charset"), Given("Charset")),
+    ]
 }
 
 /// The operations on values that were read before.
@@ -367,39 +365,40 @@ fn values() -> Vec<Case> {
     let mut cases = Vec::new();
     for (text, otherwise, [equal, equal_otherwise, order, hash]) in values {
         let mut add = |what: &str, operation, other, goal| {
-            cases.push(case_of_two(format!("{what} {text}"), operation, text, other, goal));
+            cases.push(Case::new(format!("{what} {text}"), operation, [text, other], goal));
         };
         add("equality, one text:", Operation::Equal, text, equal);
         add("equality, written otherwise:", Operation::Equal, otherwise, equal_otherwise);
         add("order, one text:", Operation::Order, text, order);
         add("order, written otherwise:", Operation::Order, otherwise, Open);
-        add("hash of", Operation::Hash, Given(""), hash);
-        add("copy and drop", Operation::Clone, Given(""), Ratio(0.80));
-        add("print", Operation::Print, Given(""), Ratio(0.75));
+        add("hash of", Operation::Hash, NONE, hash);
+        add("copy and drop", Operation::Clone, NONE, Ratio(0.80));
+        add("print", Operation::Print, NONE, Ratio(0.75));
     }
     let html = Given("text/html");
     let label = format!("equality, another essence: {PLAIN} and {html}");
-    cases.push(case_of_two(label, Operation::Equal, PLAIN, html, Open));
-    cases.push(case("copy and drop `*/*`".to_string(), Operation::Clone, Given("*/*"), Ratio(0.80)));
-    cases.push(case("a constant as a value".to_string(), Operation::Constant, PLAIN, Open));
+    cases.push(Case::new(label, Operation::Equal, [PLAIN, html], Open));
+    cases.push(Case::new("copy and drop `*/*`".to_string(), Operation::Clone, [Given("*/*"), NONE], Ratio(0.80)));
+    cases.push(Case::new("a constant as a value".to_string(), Operation::Constant, [PLAIN, NONE], Open));
     cases
 }
 
 /// The media types of lists one by one.
 fn lists() -> Vec<Case> {
-    let list = |(what, text, goal)| case(format!("the media types of {what}"), Operation::Items, text, goal);
-    let lists = [
-        ("an Accept header of five entries", Accept(5), Ratio(0.60)),
-        ("one of fifty", Accept(50), Ratio(0.60)),
-        ("one of 5,000", Accept(5_000), Open),
-        ("one of ten, every second broken", Broken(10), Open),
-        ("`text/plain`", PLAIN, Open),
-        ("1,000 commas", Repeated(["", ",", ""], 1_000), Open),
-        ("10,000 commas", Repeated(["", ",", ""], 10_000), Open),
-        ("1,000 times `é`", Repeated(["", "é", ""], 1_000), Open),
-        ("100,000 times `é`", Repeated(["", "é", ""], 100_000), Open),
-    ];
-    lists.into_iter().map(list).collect()
+    let list = |what: &str, text, goal| {
+        Case::new(format!("the media types of {what}"), Operation::Items, [text, NONE], goal)
+    };
+    vec![
+        list("an Accept header of five entries", Accept(5), Ratio(0.60)),
+        list("one of fifty", Accept(50), Ratio(0.60)),
+        list("one of 5,000", Accept(5_000), Open),
+        list("one of ten, every second broken", Broken(10), Open),
+        list("`text/plain`", PLAIN, Open),
+        list("1,000 commas", Repeated(["", ",", ""], 1_000), Open),
+        list("10,000 commas", Repeated(["", ",", ""], 10_000), Open),
+        list("1,000 times `é`", Repeated(["", "é", ""], 1_000), Open),
+        list("100,000 times `é`", Repeated(["", "é", ""], 100_000), Open),
+    ]
 }
 
 /// A value against texts: its own, the same in capitals, with another first byte, with another last
@@ -429,7 +428,7 @@ fn text_comparisons() -> Vec<Case> {
     ];
     let compared = |(value, text, goal)| {
         let label = format!("the value of {value} against the text `{text}`");
-        case_of_two(label, Operation::EqualText, value, Given(text), Ratio(goal))
+        Case::new(label, Operation::EqualText, [value, Given(text)], Ratio(goal))
     };
     comparisons.into_iter().map(compared).collect()
 }
@@ -439,7 +438,7 @@ fn growth() -> Vec<Case> {
     let mut cases = Vec::new();
     let mut add = |verb: &str, operation, text: fn(usize) -> Text, of: &str, sizes: &[usize], goal| {
         for &size in sizes {
-            cases.push(case(format!("{verb} {} {of}", grouped(size as u64)), operation, text(size), goal));
+            cases.push(Case::new(format!("{verb} {} {of}", grouped(size as u64)), operation, [text(size), NONE], goal));
         }
     };
     let counts = [100, 1_000, 10_000];
@@ -456,18 +455,18 @@ fn growth() -> Vec<Case> {
 /// Quoted values of 1,000 bytes: of plain bytes, with a pair in every ten bytes, and of nothing but pairs.
 fn quoted_values() -> Vec<Case> {
     let mut cases = Vec::new();
-    for (what, content, goal) in [
-        ("plain bytes", "xxxxxxxxxx", EachByte(0.80)),
-        ("bytes with a pair in ten", "xxxxxxxx\\x", Open),
-        ("bytes in pairs", "\\x\\x\\x\\x\\x", Open),
+    for (what, content) in [
+        ("plain bytes", "xxxxxxxxxx"),
+        ("bytes with a pair in ten", "xxxxxxxx\\x"),
+        ("bytes in pairs", "\\x\\x\\x\\x\\x"),
     ] {
         let mut add = |verb: &str, operation, end, goal| {
             let text = Repeated(["a/b; p=\"", content, end], 100);
-            cases.push(case(format!("{verb} quoted value of 1,000 {what}"), operation, text, goal));
+            cases.push(Case::new(format!("{verb} quoted value of 1,000 {what}"), operation, [text, NONE], goal));
         };
         add("read an open", Operation::Read, "", Open);
         add("read a", Operation::Read, "\"", Open);
-        add("walk past a", Operation::Walk, "\"", goal);
+        add("walk past a", Operation::Walk, "\"", EachByte(0.80));
     }
     cases
 }
@@ -475,27 +474,6 @@ fn quoted_values() -> Vec<Case> {
 /// Every operation that is measured, in the table's order.
 fn cases() -> Vec<Case> {
     [everyday(), values(), lists(), text_comparisons(), growth(), quoted_values()].into_iter().flatten().collect()
-}
-
-/// The counts that callgrind takes of a case: on each side, and here of the reading of the same text with a comma after it,
-/// which is refused there: the walk of the whole text, with nothing kept.
-const HERE: &str = "here";
-const THERE: &str = "there";
-const WALK: &str = "walk";
-
-impl Case {
-    /// The texts of a count.
-    fn texts_of(&self, count: &str) -> Texts {
-        let mut texts = self.texts();
-        if count == WALK {
-            texts.text.push(',');
-        }
-        texts
-    }
-
-    fn counts(&self) -> &'static [&'static str] {
-        if self.operation == Operation::Read { &[WALK, HERE, THERE] } else { &[HERE, THERE] }
-    }
 }
 
 // Callgrind's requests, as valgrind documents them.
@@ -528,7 +506,7 @@ fn stride(texts: &Texts) -> usize {
 /// Prints the name of each count, and says where the two sides answer differently.
 fn list() {
     for (number, case) in cases().iter().enumerate() {
-        let [here, there] = [Side::Here, Side::There].map(|side| case.run(side, &case.texts(), 1));
+        let [here, there] = [HERE, THERE].map(|count| case.run(count, &case.texts(count), 1));
         if here != there {
             eprintln!("{}: the answers differ: {here} here, {there} there", case.label);
         }
@@ -543,18 +521,17 @@ fn list() {
 fn take(name: &str) {
     let (number, count) = name.split_once('-').unwrap();
     let case = &cases()[number.parse::<usize>().unwrap()];
-    let texts = case.texts_of(count);
-    let side = if count == THERE { Side::There } else { Side::Here };
+    let texts = case.texts(count);
     let stride = stride(&texts);
     let labels = [1, 2, 3].map(|strides| CString::new(strides.to_string()).unwrap());
     // Until malloc's own lists are filled, the same request costs more or less.
     for _ in 0..stride {
-        case.run(side, &texts, 1);
+        case.run(count, &texts, 1);
     }
-    case.run(side, &texts, 3 * stride);
+    case.run(count, &texts, 3 * stride);
     ask_valgrind(ZERO_STATS, 0);
     for (strides, label) in (1..).zip(&labels) {
-        case.run(side, &texts, strides * stride);
+        case.run(count, &texts, strides * stride);
         ask_valgrind(DUMP_STATS_AT, label.as_ptr() as usize);
     }
 }
@@ -623,10 +600,10 @@ const REQUESTS: [&str; 5] = ["malloc", "calloc", "realloc", "posix_memalign", "a
 
 /// The time of an operation, in nanoseconds: of a call with many repetitions and of one with none,
 /// each the fastest of some, the difference.
-fn time(case: &Case, side: Side, texts: &Texts) -> f64 {
+fn time(case: &Case, count: &str, texts: &Texts) -> f64 {
     let run = |times: usize| {
         let start = Instant::now();
-        case.run(side, texts, times);
+        case.run(count, texts, times);
         start.elapsed()
     };
     let fastest = |times: usize| (0..15).map(|_| run(times)).min().unwrap();
@@ -643,13 +620,13 @@ fn time(case: &Case, side: Side, texts: &Texts) -> f64 {
 /// in turn with the other's.
 fn times(word: &str) {
     for case in cases().iter().filter(|case| case.label.contains(word)) {
-        let texts = case.texts();
+        let texts = case.texts(HERE);
         let times = (1_000_000 / texts.text.len()).clamp(1, 20_000);
         let mut best = [f64::MAX; 2];
         for _ in 0..400 {
-            for (best, side) in best.iter_mut().zip([Side::Here, Side::There]) {
+            for (best, count) in best.iter_mut().zip([HERE, THERE]) {
                 let start = Instant::now();
-                case.run(side, &texts, times);
+                case.run(count, &texts, times);
                 *best = best.min(start.elapsed().as_nanos() as f64 / times as f64);
             }
         }
@@ -677,28 +654,15 @@ impl Goal {
     }
 }
 
-const HEADS: [&str; 13] = [
-    "operation",
-    "instructions here",
-    "there",
-    "ratio",
-    "goal, at most",
-    "ratio with the reading before it",
-    "the walk alone, here",
-    "instructions a byte here",
-    "there",
-    "requests for memory here",
-    "there",
-    "ns here (noisy)",
-    "there (noisy)",
-];
+const HEAD: &str = "| operation | instructions here | there | ratio | goal, at most | \
+    ratio with the reading before it | the walk alone, here | instructions a byte here | there | \
+    requests for memory here | there | ns here (noisy) | there (noisy) |";
 
 fn table(folder: &str) {
     let cases = cases();
-    println!("| {} |", HEADS.join(" | "));
-    println!("|---|{}", "--:|".repeat(HEADS.len() - 1));
+    println!("{HEAD}\n|---|{}", "--:|".repeat(12));
     for (number, case) in cases.iter().enumerate() {
-        let texts = case.texts();
+        let texts = case.texts(HERE);
         let costs = |number| [HERE, THERE].map(|count| Cost::read(folder, number, count, &texts));
         let [here, there] = costs(number);
         let reads_before = matches!(case.operation, Operation::Walk | Operation::LookUp);
@@ -709,7 +673,7 @@ fn table(folder: &str) {
             format!("{ratio:.2}")
         });
         let has_walk = case.counts().contains(&WALK);
-        let walk = has_walk.then(|| Cost::read(folder, number, WALK, &case.texts_of(WALK)).shown());
+        let walk = has_walk.then(|| Cost::read(folder, number, WALK, &case.texts(WALK)).shown());
         let cells = [
             case.label.clone(),
             here.shown(),
@@ -722,8 +686,8 @@ fn table(folder: &str) {
             format!("{:.2}", there.each_byte()),
             here.requests.to_string(),
             there.requests.to_string(),
-            format!("{:.0}", time(case, Side::Here, &texts)),
-            format!("{:.0}", time(case, Side::There, &texts)),
+            format!("{:.0}", time(case, HERE, &texts)),
+            format!("{:.0}", time(case, THERE, &texts)),
         ];
         println!("| {} |", cells.join(" | "));
     }

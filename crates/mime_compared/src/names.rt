@@ -116,7 +116,7 @@ fn names_against_texts(rt: HostRuntime) {
 #[test]
 fn names_in_their_order(rt: HostRuntime) -> Result<(), Fail> {
     // By the bytes of the text, and then by the flag, `false` first.
-    static ORDERED: &[Name<'static>] = &[
+    let ordered = [
         exact(""),
         exact("TEXT"),
         exact("tex"),
@@ -125,8 +125,8 @@ fn names_in_their_order(rt: HostRuntime) -> Result<(), Fail> {
         exact("texts"),
         XML,
     ];
-    for (i, first) in ORDERED.iter().enumerate() {
-        for (j, second) in ORDERED.iter().enumerate() {
+    for (i, first) in ordered.iter().enumerate() {
+        for (j, second) in ordered.iter().enumerate() {
             assert_eq!(rt; first == second, i == j, "{first:?} and {second:?}");
             assert_eq!(rt; first.cmp(second), i.cmp(&j), "{first:?} and {second:?}");
         }

@@ -1,10 +1,11 @@
 //! What strangers send: reads each line of standard input, takes the media types in it, and prints what that gives. With an
 //! argument it does one thing with each line, between the lines `now` and `end` that it writes: between them
-//! tools/refused_requests refuses one of its requests for memory.
+//! tools/refused_requests refuses one of its requests for memory, and tools/largest_inputs counts what the longest texts cost.
 #![tactic(auto)]
 
-use mime::{Bad, Mime, MimeIter};
+use mime::{Bad, Mime, MimeIter, mime_eq_str};
 use std::env::Env;
+use std::hash::{DefaultHasher, Hash, Hasher};
 use std::io::Read;
 use std::process::ExitCode;
 use std::{env, io};
@@ -20,6 +21,8 @@ enum Task {
     Clone,
     /// The media types in it are taken one by one.
     Items,
+    /// It is compared with the line before.
+    Compare,
 }
 
 /// The task that the one argument names, or all where there is none.
@@ -33,6 +36,7 @@ fn asked_task<R: Env + Alloc>(rt: &R) -> Option<Task> {
         "read" => Task::Read,
         "clone" => Task::Clone,
         "items" => Task::Items,
+        "compare" => Task::Compare,
         _ => return None,
     };
     if args.next().is_some() {
@@ -43,7 +47,7 @@ fn asked_task<R: Env + Alloc>(rt: &R) -> Option<Task> {
 
 fn main(rt: HostRuntime) -> ExitCode {
     let Some(task) = asked_task(&rt) else {
-        let _ = eprintln!(rt; "usage: mime_hostile [read|clone|items]");
+        let _ = eprintln!(rt; "usage: mime_hostile [read|clone|items|compare]");
         return ExitCode::from(2);
     };
     match done(&rt, task) {
@@ -56,6 +60,7 @@ fn main(rt: HostRuntime) -> ExitCode {
 fn done(rt: &HostRuntime, task: Task) -> io::Result<()> {
     let mut input = String::new(rt.alloc());
     rt.stdin().read_to_string(&mut input)?;
+    let mut before = "";
     for text in input.as_str().split('\n') {
         match task {
             Task::All => all(rt, text)?,
@@ -64,8 +69,10 @@ fn done(rt: &HostRuntime, task: Task) -> io::Result<()> {
             Task::Items => {
                 items(rt, text)?;
             }
+            Task::Compare => compare(rt, before, text)?,
         }
         println!(rt; "end")?;
+        before = text;
     }
     Ok(())
 }
@@ -113,4 +120,28 @@ fn items(rt: &HostRuntime, text: &str) -> io::Result<u128> {
         }
     }
     Ok(iter.steps())
+}
+
+/// Compares what two texts were read as: whether they are equal, in order and by their hashes, and the first with the other's text.
+fn compare(rt: &HostRuntime, first: &str, second: &str) -> io::Result<()> {
+    let (Ok(one), Ok(other)) = (
+        Mime::from_str(rt.alloc(), first),
+        Mime::from_str(rt.alloc(), second),
+    ) else {
+        return println!(rt; "not two media types");
+    };
+    let by_order = one.cmp(&other).is_eq();
+    let by_hash = hash_of(&one) == hash_of(&other);
+    let by_text = mime_eq_str(&one, second);
+    println!(rt;
+        "equal {}, by order {by_order}, by hash {by_hash}, by text {by_text}",
+        one == other
+    )
+}
+
+/// What a hasher makes of a media type.
+fn hash_of(mime: &Mime) -> u64 {
+    let mut hasher = DefaultHasher::new();
+    mime.hash(&mut hasher);
+    hasher.finish()
 }
