@@ -34,6 +34,7 @@ pub mod Parts
 pub mod Outcomes
 -- comparison
 pub mod Ordering
+pub mod SameItems
 pub mod Counts
 pub mod HashBuffer
 pub mod Constants
