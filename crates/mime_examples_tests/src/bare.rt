@@ -1,5 +1,5 @@
 use mime::Mime;
-use mime_examples::bare::without_parameters;
+use mime_examples::bare::bare_of;
 use std::test::Fail;
 
 #[test]
@@ -11,7 +11,7 @@ fn parameters_are_dropped(rt: HostRuntime) -> Result<(), Fail> {
         ("a/b", "a/b"),
     ] {
         let mime = Mime::from_str(rt.alloc(), text)?;
-        let bare = without_parameters(rt.alloc(), &mime)?;
+        let bare = bare_of(rt.alloc(), &mime)?;
         assert_eq!(rt; bare.as_str(), want, "at {text}");
         assert_eq!(rt; bare.params().count(), 0, "at {text}");
     }
