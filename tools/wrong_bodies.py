@@ -58,16 +58,18 @@ class Edit:
         crate = re.match(r"crates/\w+/(?=must-fail/)", self.path)
         return f"{crate[0] if crate else ''}{self.said.get('file', '')}"
 
-    def applied(self, texts):
-        """The texts of files, by path, with the changes made. An old text must occur once."""
-        texts = dict(texts)
-        for file, old, new in self.changes:
-            text = texts.get(file) or text_of(file)
-            if text.count(old) != 1:
-                raise ValueError(f"{self.path}: {old!r} occurs {text.count(old)} times in {file}, and not once")
-            texts[file] = text.replace(old, new)
-        return texts
 
-    def lines(self):
-        """The lines that it changes, each as a file and a number."""
-        return {(file, text_of(file).split(old)[0].count("\n")) for file, old, _ in self.changes}
+def applied(changes, texts):
+    """The texts of files, by path, with changes made. An old text must occur once."""
+    texts = dict(texts)
+    for file, old, new in changes:
+        text = texts.get(file) or text_of(file)
+        if text.count(old) != 1:
+            raise ValueError(f"{old!r} occurs {text.count(old)} times in {file}, and not once")
+        texts[file] = text.replace(old, new)
+    return texts
+
+
+def lines_of(changes):
+    """The lines that are changed, each as a file and a number."""
+    return {(file, text_of(file).split(old)[0].count("\n")) for file, old, _ in changes}

@@ -6,4 +6,5 @@ use Rattle.std.proofs.lemmas.List.FromFn.{get_or-map-range_with_len}
 -- what a table holds for a byte is whether the byte is of the class, if the table is the class byte by byte
 pub in_table : (class : ℕ → Bool) (table : List Bool) → table ≡ map class (range_with_len 0 256) → (b : ℕ) → b < 256
     → get_or table b false ≡ class b
-in_table class table is b below = ap (λ t. get_or t b false) is ∙ get_or-map-range_with_len class 0 256 b b false (omega arith) (omega arith)
+in_table class table is b below =
+    ap (λ t. get_or t b false) is ∙ get_or-map-range_with_len class 0 256 b b false (omega arith) (omega arith)

@@ -18,13 +18,13 @@ abbrev tail_at : Option ℕ → Tail
 tail_at None = no_list
 tail_at (Some semicolon) = listed (final (space_byte ∷ []) (plain (codes "charset") (codes "utf-8")))
 
--- such a tail is well formed
+-- the tail of a constant's text is well formed
 is_tail : (semicolon : Option ℕ) → IsTail (tail_at semicolon)
 unfolding is_token_byte
 is_tail None = tt
 is_tail (Some semicolon) = (refl, (refl, refl))
 
--- such a tail holds a parameter if it is a list
+-- the tail of a constant's text holds a parameter if it is a list
 holds_parameter : (semicolon : Option ℕ) → HoldsParameter (tail_at semicolon)
 holds_parameter None = tt
 holds_parameter (Some semicolon) = tt
@@ -37,7 +37,7 @@ tree_in text = record {
   tail = tail_at (places_in text).semicolon;
 }
 
--- the text of such a tree is kept, if its tokens are and it has no ASCII capital
+-- a text is kept if it is that of the tree in it, which is well formed and its own lowering
 kept_by : (text : List ℕ) → IsToken (tree_in text).top → IsToken (tree_in text).sub → lowered_tree (tree_in text) ≡ tree_in text
     → text_of (tree_in text) ≡ text → places_of (tree_in text) ≡ places_in text → IsKept text (places_in text)
 kept_by text top sub low spelled placed = record {

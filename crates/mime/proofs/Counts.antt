@@ -36,7 +36,8 @@ same_from_text text other x y reads also is =
 -- without pairs the kept text is the essence
 pub kept-essence : (x : MediaType) (text : List ℕ) → Reads text x → length x.pairs ≡ 0 → x.kept ≡ x.essence
 kept-essence x text reads none =
-    subst (λ (value : MediaType). length value.pairs ≡ 0 → value.kept ≡ value.essence) reads.valued (go (pairs_of_tail (lowered_tree reads.tree).tail)) none
+    subst (λ (value : MediaType). length value.pairs ≡ 0 → value.kept ≡ value.essence) reads.valued
+    (go (pairs_of_tail (lowered_tree reads.tree).tail)) none
   where
     go : (pairs : List (List ℕ × List ℕ)) → length pairs ≡ 0
         → kept_text pairs (lowered_tree reads.tree) ≡ essence_of (lowered_tree reads.tree)

@@ -1,12 +1,13 @@
 -- The first mark of a difference: up to it texts are the same but for case.
-use Rattle.std.proofs.Common.{◌≡◌, ◌≢◌, ℕ, suc, ◌+◌, ◌-◌, ◌≤◌, ◌<◌, Bool, true, false, cond, List, [], ◌∷◌, ◌++◌, length, take, drop, set, get_or, refl, sym, ap, ◌∙◌, subst, inl, inr, length-drop, arith}
-use Rattle.std.specs.Prelude.{◌==◌, not}
+use Rattle.std.proofs.Common.{◌≡◌, ◌≢◌, ◌↔◌, ℕ, suc, ◌+◌, ◌-◌, ◌≤◌, ◌<◌, Bool, true, false, cond, List, [], ◌∷◌, ◌++◌, length, take, drop, set, get_or, refl, sym, ap, ◌∙◌, subst, inl, inr, length-drop, arith}
+use Rattle.std.specs.Prelude.{◌==◌, not, Option, None, Some, IfSome, IsTrue}
+use Rattle.std.specs.Option.{is_some}
 use Rattle.std.specs.Char.{to_ascii_lowercase}
 use Rattle.std.specs.Simd.Lanes.{zip2}
 use Rattle.std.proofs.Math.Seq.{take-add}
 use Rattle.std.proofs.lemmas.Bool.{eqb-true, eq-eqb, cases_lt}
 use Rattle.std.proofs.lemmas.Bool.Decides.{nat_tests}
-use Rattle.std.proofs.lemmas.List.{take_more, take_more_set, take-take, take_rest, take_all, length-take-le, get_or-take, get_or-drop}
+use Rattle.std.proofs.lemmas.List.{take_more, take_more_set, take-take, take_rest, take_all, length-take-le, get_or-take, get_or-drop, get_or-map}
 use Rattle.std.proofs.lemmas.List.Sums.{prefix_len-le-length, prefix_len_stops}
 use Rattle.std.proofs.lemmas.Simd.{length-zip2, get_or-zip2, leading_from_mask_l}
 use lib.Count.{count_trailing_zeros}
@@ -52,6 +53,10 @@ alike_to_mark (x ∷ xs) (y ∷ ys) = go (to_ascii_lowercase x == to_ascii_lower
         ≡ take (first_position 1 (cond same 0 1 ∷ zip2 difference xs ys)) (lowered (y ∷ ys))
     go true is rest = joined _ _ (first_position 1 (zip2 difference xs ys)) (lowered xs) (lowered ys) (eqb-true _ _ is) rest
     go false is rest = refl
+
+-- bytes are not marked exactly where they are the same but for case
+pub no_mark_at : (x y found : ℕ) → found ≡ difference x y → (found ≡ 0) ↔ (to_ascii_lowercase x ≡ to_ascii_lowercase y)
+no_mark_at x y found is = (λ none. grind (arith, nat_tests), λ same. is ∙ ap (λ b. cond b 0 1) (eq-eqb _ _ same))
 
 -- at a mark they differ
 differ_at_mark : (x y : ℕ) → difference x y ≡ 1 → to_ascii_lowercase x ≢ to_ascii_lowercase y
@@ -130,3 +135,16 @@ module _ (a b : List ℕ) (from : ℕ) (before : take from (lowered a) ≡ take 
     where
       at : (text : List ℕ) → get_or (take (length text - from) (drop from text)) n 0 ≡ get_or text (from + n) 0
       at text = ap (λ t. get_or t n 0) (take_rest text from) ∙ get_or-drop from text n 0
+
+-- texts of one length are the same but for case exactly where none is found
+pub none_found : (a b : List ℕ) (found : Option ℕ) (none : Bool) → is_some found ≡ not none → length a ≡ length b
+    → IfSome found (FirstDifference a b) → (found ≡ None → length a ≡ length b → lowered a ≡ lowered b)
+    → IsTrue none ↔ (lowered a ≡ lowered b)
+none_found a b None true is long d all = (λ _. all refl long, λ _. refl)
+none_found a b None false is long d all = absurd cc
+none_found a b (Some at) true is long d all = absurd cc
+none_found a b (Some at) false is long d all = (
+  λ bad. absurd cc,
+  λ same. absurd (d.differ (sym (get_or-map to_ascii_lowercase a at 0 0 d.within) ∙ ap (λ t. get_or t at 0) same
+      ∙ get_or-map to_ascii_lowercase b at 0 0 d.within_other)),
+)

@@ -3,7 +3,7 @@ use Rattle.std.proofs.Common.{◌≡◌, ℕ, suc, ◌+◌, ◌-◌, ◌%◌, �
 use Rattle.std.proofs.Math.ListN.{set}
 use Rattle.std.proofs.Math.Seq.{take-append-add}
 use Rattle.std.proofs.lemmas.List.{append_assoc, take_at, drop_at, set_at, drop-replicate, take-replicate, length-append}
-use Rattle.mime.specs.Orders.{pair_count, pair_run}
+use Rattle.mime.specs.HashInput.{pair_count, pair_run}
 
 -- a text copied in after what the buffer holds
 put-text : (free at count : ℕ) (held text : List ℕ) → length held ≡ at

@@ -209,7 +209,7 @@ text_of_list-with_closed [] rest = refl
 text_of_list-with_closed (item ∷ closed) rest =
     text_of_list-with_closed closed (more item.0 item.1 rest) ∙ simp regroup
 
--- that list is well formed if its parts are
+-- closed parameters and the rest are a well-formed list if each is well formed
 AreParameters-with_closed : (closed : Closed) (rest : Parameters) → AreClosed closed → AreParameters rest
     → AreParameters (with_closed closed rest)
 AreParameters-with_closed [] rest before here = here

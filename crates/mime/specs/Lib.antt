@@ -22,7 +22,8 @@ pub mod Pairs
 pub mod KeptText
 pub mod TextParts
 pub mod Difference
-pub mod Orders
+pub mod HashInput
+pub mod OrderLaws
 pub mod AtomPlaces
 pub mod Owner
 pub mod UnderWay

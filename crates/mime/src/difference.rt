@@ -2,20 +2,27 @@
 
 ghost use Rattle.std.specs.Prelude.{◌≡◌, ◌≤◌, IsTrue, IfSome, None, length, take};
 ghost use Rattle.std.specs.Simd.Lanes.{zip2};
-ghost use Rattle.mime.specs.Difference.{difference, is_telling as tells, FirstDifference, DifferTellingly};
+ghost use Rattle.mime.specs.Difference.{difference as mark, is_telling as tells, FirstDifference, DifferTellingly};
 ghost use Rattle.mime.specs.Values.{lowered};
 ghost use Rattle.mime.specs.declared.difference.Seen.TheVariants.{Alike, Apart};
 
 use crate::bytes::is_space;
-use crate::name::differing_bits;
 use crate::value::pairs::{BLOCK, marks};
 
-/// A mark where two bytes differ but for case.
+/// The bit that tells a small ASCII letter from its capital.
+const CASE_BIT: u8 = 0x20;
+
+/// A mark where two bytes differ but for case: 1, or else 0.
 #[inline(always)]
-fn mark(x: u8, y: u8) -> u8
-    ensures { result ≡ difference x y }
+pub(crate) fn difference(x: u8, y: u8) -> u8
+    ensures { result ≡ mark x y }
 {
-    if differing_bits(x, y) == 0 { 0 } else { 1 }
+    let case = if (x | CASE_BIT).is_ascii_lowercase() {
+        CASE_BIT
+    } else {
+        0
+    };
+    if (x ^ y) & !case == 0 { 0 } else { 1 }
 }
 
 /// A mark for each of the first 16 bytes that differ but for case.
@@ -23,12 +30,12 @@ fn mark(x: u8, y: u8) -> u8
 fn differences(a: &[u8], b: &[u8]) -> [u8; 16]
     requires room { 16 ≤ length a.now }
     requires other_room { 16 ≤ length b.now }
-    ensures { result ≡ zip2 difference (take 16 a.now) (take 16 b.now) }
+    ensures { result ≡ zip2 mark (take 16 a.now) (take 16 b.now) }
 {
     let mut found = [0; 16];
     let mut at = 0;
     while at < BLOCK {
-        found[at] = mark(a[at], b[at]);
+        found[at] = difference(a[at], b[at]);
         at += 1;
     }
     found
@@ -53,7 +60,7 @@ fn difference_in_block(a: &[u8], b: &[u8]) -> Option<usize>
 /// Where two texts of at least 16 bytes first differ but for case, if they do before one of them ends. The last block
 /// may overlap the one before.
 #[inline(always)]
-fn first_difference(a: &[u8], b: &[u8]) -> Option<usize>
+pub(crate) fn first_difference(a: &[u8], b: &[u8]) -> Option<usize>
     requires room { 16 ≤ length a.now }
     requires other_room { 16 ≤ length b.now }
     ensures some { IfSome result (FirstDifference a.now b.now) }

@@ -97,7 +97,7 @@ impl Mime {
             Verdict::Accepted(places) => Mime::of_accepted(alloc, s, places),
             Verdict::Unfinished(fault) => Err(FromStrError::new(fault)),
             Verdict::Stopped(byte, _) => {
-                let pos = (reader.count() - 1) as usize;
+                let pos = reader.position(0);
                 Err(FromStrError::new(ParseError::InvalidToken { pos, byte }))
             }
         }

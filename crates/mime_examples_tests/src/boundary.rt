@@ -35,6 +35,16 @@ fn a_form_is_made_with_its_boundary(rt: HostRuntime) -> Result<(), Fail> {
     for (boundary, want) in [
         ("AbC", Some("multipart/form-data; boundary=\"AbC\"")),
         ("a b", Some("multipart/form-data; boundary=\"a b\"")),
+        (
+            "0123456789012345678901234567890123456789012345678901234567890123456789",
+            Some(
+                "multipart/form-data; boundary=\"0123456789012345678901234567890123456789012345678901234567890123456789\"",
+            ),
+        ),
+        (
+            "01234567890123456789012345678901234567890123456789012345678901234567890",
+            None,
+        ),
         // Nothing in it ends the value and goes on.
         ("x\"; charset=\"y", None),
         ("x\"", None),

@@ -15,7 +15,7 @@ loop-at-preserved c =
       within = omega (arith, c.loop-at-test.true);
       long = search rules;
       so_far =
-          ap (λ m. take (n + 1) (slice_set c.loop-at.found n m)) c.mark.ensures
+          ap (λ m. take (n + 1) (slice_set c.loop-at.found n m)) c.difference.ensures
           ∙ one_more difference a b c.loop-at.found n (omega arith) (omega arith) (omega (arith, c.loop-at.invariant.long)) c.loop-at.invariant.so_far;
     }
 

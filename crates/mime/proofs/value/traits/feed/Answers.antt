@@ -2,7 +2,7 @@
 use Rattle.std.proofs.Common.{◌∙◌, ◌∷◌, ◌++◌, [], sym, ap}
 use Rattle.std.specs.List.{fold, flat_map}
 use Rattle.std.proofs.lemmas.List.{nil_from_length}
-use Rattle.mime.specs.Orders.{pair_input}
+use Rattle.mime.specs.HashInput.{pair_input}
 use Rattle.mime.proofs.value.traits.feed.Goals as goal
 
 pub returns-then-count-eq0 : goal.returns-then-count-eq0

@@ -118,6 +118,9 @@ fn texts_have_their_items(rt: HostRuntime) -> Result<(), AllocError> {
         ("a/b;p=\"", "", 7),
         ("a/b;p=\"\"\"", "ok a/b;p=\"\"|", 9),
         ("a/b;p=\"\"\"\"", "ok a/b;p=\"\"|", 10),
+        ("a/b;p=\"\\", "", 8),
+        ("a/b;p=\"\\\u{1}", "bad a/b;p=\"\\|", 9),
+        ("a/b;p=\"x\u{7F}\"", "bad a/b;p=\"x|", 10),
     ];
     for &(text, expected, steps) in ROWS {
         check(&rt, rt.alloc(), text, expected, steps)?;
@@ -133,12 +136,13 @@ fn long_texts_have_their_items(rt: HostRuntime) -> Result<(), AllocError> {
     let high = "é".repeat(alloc, 100_000)?;
     let entries = format!(in alloc; "{commas}application/json{gap}text/plain{commas}")?;
     let last = format!(in alloc; "{high}text/plain")?;
-    let quoted = format!(in alloc; "a/b;p=\"{commas}")?;
+    let content = ",".repeat(alloc, 100_000)?;
+    let quoted = format!(in alloc; "a/b;p=\"{content}")?;
     let two = "ok application/json|ok text/plain|";
     check(&rt, alloc, commas.as_str(), "", 10_000)?;
     check(&rt, alloc, entries.as_str(), two, 40_026)?;
     check(&rt, alloc, last.as_str(), "ok text/plain|", 100_010)?;
-    check(&rt, alloc, quoted.as_str(), "", 10_007)
+    check(&rt, alloc, quoted.as_str(), "", 100_007)
 }
 
 #[test]

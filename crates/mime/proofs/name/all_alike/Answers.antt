@@ -1,11 +1,12 @@
--- One more pair of bytes: they are lowered alike, or some bit differs from there on.
+-- One more pair of bytes: they are lowered alike, or one is marked from there on.
 use Rattle.std.proofs.Common.{◌≡◌, ℕ, ◌+◌, ◌<◌, List, [], ◌∷◌, ◌++◌, length, get_or, take, sym, ap, ◌∙◌, rules}
 use Rattle.std.specs.Char.{to_ascii_lowercase}
 use Rattle.std.proofs.lemmas.List.{map_more, same_from_push, length_push}
 use Rattle.std.proofs.lemmas.Slice.Zip.{zip_turn}
 use Rattle.mime.specs.Values.{lowered}
 use Rattle.mime.proofs.Blocks.{together}
-use Rattle.mime.proofs.name.all_differing_bits.Goals as goal
+use Rattle.mime.proofs.Differences.{no_mark_at}
+use Rattle.mime.proofs.name.all_alike.Goals as goal
 
 -- the lowerings with one byte more
 pushed : (a : List ℕ) (n m x : ℕ) → n < length a → m ≡ n + 1 → x ≡ get_or a n 0
@@ -27,6 +28,6 @@ loop-x-preserved c =
     (search rules) (search rules) c.loop-x.yielded_by (c.in-Some.x, c.in-Some.y) c.in-Some.is c.next.ensures.steps in
     let more_a = pushed a n m c.in-Some.x.now turn.0 next (turn.2 0) in
     let more_b = pushed b n m c.in-Some.y.now turn.1 next (turn.3 0) in
-    together c.loop-x.differing c.differing_bits-differing.result _ (x ≡ y) _ c.loop-x.invariant c.differing_bits-differing.ensures
+    together c.loop-x.marks c.difference-marks.result _ (x ≡ y) _ c.loop-x.invariant (no_mark_at c.in-Some.x.now c.in-Some.y.now _ c.difference-marks.ensures)
     (λ front last. let same : lowered (take n a) ++ (x ∷ []) ≡ lowered (take n b) ++ (y ∷ []) = cc in more_a ∙ same ∙ sym more_b)
     (λ whole. same_from_push (lowered (take n a)) (lowered (take n b)) x y (sym more_a ∙ whole ∙ more_b))
