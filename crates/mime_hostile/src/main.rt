@@ -25,7 +25,7 @@ enum Task {
     Clone,
     /// The media types in it are taken one by one.
     Items,
-    /// It is compared with the line before.
+    /// What is before its first tab is compared with the rest.
     Compare,
 }
 
@@ -67,16 +67,14 @@ fn done(rt: &HostRuntime, task: Task) -> io::Result<()> {
     if let Task::Table = task {
         return print_table(rt);
     }
-    let mut before = "";
     for text in input.as_str().split('\n') {
         match task {
             Task::Clone => clone(rt, text)?,
             Task::Items => items(rt, text)?,
-            Task::Compare => compare(rt, before, text)?,
+            Task::Compare => compare(rt, text)?,
             _ => read(rt, text)?,
         }
         println!(rt; "end")?;
-        before = text;
     }
     Ok(())
 }
@@ -118,8 +116,13 @@ fn items(rt: &HostRuntime, text: &str) -> io::Result<()> {
     Ok(())
 }
 
-/// Compares what two texts were read as: whether they are equal, in order and by their hashes, and the first with the other's text.
-fn compare(rt: &HostRuntime, first: &str, second: &str) -> io::Result<()> {
+/// Compares what two texts were read as, which a tab divides: whether they are equal, in order and by their hashes, and the
+/// first with the second's text.
+fn compare(rt: &HostRuntime, texts: &str) -> io::Result<()> {
+    println!(rt; "now")?;
+    let Some((first, second)) = texts.split_once('\t') else {
+        return println!(rt; "no tab");
+    };
     let (Ok(one), Ok(other)) = (
         Mime::from_str(rt.alloc(), first),
         Mime::from_str(rt.alloc(), second),
