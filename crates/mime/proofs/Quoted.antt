@@ -37,7 +37,7 @@ unfolding is_quoted_byte
 takes-of_lowercase true b = grind (arith, nat_tests)
 takes-of_lowercase false b = grind (arith, nat_tests)
 
--- and after either a byte is awaited, or after neither
+-- after a byte of a value another is awaited exactly if one is after its small letter
 awaits_next-lowercase : (awaiting : Bool) (b : ℕ) → awaits_next awaiting (to_ascii_lowercase b) ≡ awaits_next awaiting b
 awaits_next-lowercase true b = refl
 awaits_next-lowercase false b = grind (arith, nat_tests)
@@ -53,7 +53,7 @@ taken-closes_not false b taken = grind (arith, nat_tests)
 takes-text : (b : ℕ) → IsTrue (is_quoted_text_byte b) → IsTrue (takes false b)
 takes-text b text = grind (arith, nat_tests)
 
--- and awaits nothing
+-- quoted text awaits no byte
 awaits_next-text : (b : ℕ) → IsTrue (is_quoted_text_byte b) → awaits_next false b ≡ false
 awaits_next-text b text = grind (arith, nat_tests)
 
@@ -93,7 +93,7 @@ content-taken bytes (quoted_pair b content fits more) =
     and_from (takes false backslash_byte) _ takes-backslash
     (and_from (takes true b) (takes_all false content) fits (content-taken content more))
 
--- and awaits no more
+-- after content no byte is awaited
 content-awaits : (content : List ℕ) → IsContent content → awaits_behind awaits_first content ≡ false
 content-awaits bytes no_byte = refl
 content-awaits bytes (text_byte b content text more) =
@@ -250,7 +250,7 @@ quote_at_len awaiting (b ∷ text) within =
     go true same n behind within = same refl
     go false same n behind within = behind (omega (arith, within))
 
--- so it does at the content's end
+-- at the content's end there is a quote
 pub get_or-content_len : (text : List ℕ) (n : ℕ) → n ≡ content_len text → n < length text → get_or text n 0 ≡ quote_byte
 get_or-content_len text n e within = rw e (quote_at_len awaits_first text (omega (arith, e, within)))
 

@@ -1,5 +1,5 @@
 //! The laws of the definitions, as calls: a caller that calls one has its law in its proof. Most do nothing;
-//! `atom_constants` and `name_constants` give the constants, and `iter_clone` a clone. docs/LAWS.md lists all claims.
+//! `name_constants` gives the constant names, and `iter_clone` a clone. docs/LAWS.md lists all claims.
 
 ghost use Rattle.std.specs.Prelude.{◌≡◌, ◌↔◌, IsTrue, IfOk, IsOk, map};
 ghost use Rattle.std.specs.Cmp.Lexicographic.{slice_cmp};
@@ -8,29 +8,21 @@ ghost use Rattle.std.specs.Ordering.{MatchOrdering, ordering_then, bool_cmp, nat
 ghost use Rattle.mime.specs.Values.{OwnedMedia, lowered};
 ghost use Rattle.mime.specs.Names.{name_table};
 ghost use Rattle.mime.specs.Views.{name_text};
-ghost use Rattle.mime.specs.Laws.{OneTree, OneReading, EmptyIsViable, FrontOfViableIsViable, AcceptedIsViable, OneCompletion, CompletedIsRefused, NoCompletion, OneFault, OneFront, FrontEndsBetweenCharacters, PlusIsLast, KeptIsRead, OneOrder, BeforeIsTransitive, BareTextIs};
+ghost use Rattle.mime.specs.Laws.{OneTree, OneReading, EmptyIsViable, FrontOfViableIsViable, AcceptedIsViable, OneCompletion, CompletedIsRefused, NoCompletion, OneFault, OneFront, FrontEndsBetweenCharacters, FrontIsInUtf8, PlusIsLast, KeptIsRead, EssenceIsRead, OneOrder, BeforeIsTransitive, BareTextIs, KeptTextIs, OneAnswer};
 ghost use Rattle.mime.specs.Comparison.{Same, Before};
-ghost use Rattle.mime.specs.Atoms.{atom_text, atom_table};
-ghost use Rattle.mime.specs.CutLaws.{OneCut, CutWritesText, OneCount, CommaContains, JoinedComesBack, PassesOneCharacter};
+ghost use Rattle.mime.specs.CutLaws.{OneCut, CutHasItems, CutWritesText, OneCount, CommaContains, JoinedComesBack, PassesOneCharacter};
 ghost use Rattle.mime.specs.RunLaws.{RunGivesCut, PrintedListComesBack, CommaContainsOnRuns};
 
-use crate::atoms::{
-    APPLICATION_JAVASCRIPT, APPLICATION_JAVASCRIPT_UTF_8, APPLICATION_JSON, APPLICATION_MSGPACK,
-    APPLICATION_OCTET_STREAM, APPLICATION_PDF, APPLICATION_WWW_FORM_URLENCODED, Atom, FONT_WOFF,
-    FONT_WOFF2, IMAGE_BMP, IMAGE_GIF, IMAGE_JPEG, IMAGE_PNG, IMAGE_STAR, IMAGE_SVG,
-    MULTIPART_FORM_DATA, STAR_STAR, TEXT_CSS, TEXT_CSS_UTF_8, TEXT_CSV, TEXT_CSV_UTF_8,
-    TEXT_EVENT_STREAM, TEXT_HTML, TEXT_HTML_UTF_8, TEXT_JAVASCRIPT, TEXT_JAVSCRIPT, TEXT_PLAIN,
-    TEXT_PLAIN_UTF_8, TEXT_STAR, TEXT_TAB_SEPARATED_VALUES, TEXT_TAB_SEPARATED_VALUES_UTF_8,
-    TEXT_VCARD, TEXT_XML,
-};
-use crate::iter::MimeIter;
-use crate::name::Name;
+use crate::atoms::Atom;
+use crate::iter::{Bad, MimeIter};
 use crate::name::constants::{
     APPLICATION, AUDIO, BASIC, BMP, BOUNDARY, CHARSET, CSS, CSV, EVENT_STREAM, FONT, FORM_DATA,
     GIF, HTML, IMAGE, JAVASCRIPT, JPEG, JSON, MESSAGE, MODEL, MP4, MPEG, MSGPACK, MULTIPART,
     OCTET_STREAM, OGG, PDF, PLAIN, PNG, STAR, SVG, TEXT, UTF_8, VCARD, VIDEO, WOFF, WOFF2,
     WWW_FORM_URLENCODED, XML,
 };
+use crate::name::{Name, ParamKey, TextKey};
+use crate::scan::ParseError;
 use crate::value::Mime;
 use std::alloc::AllocError;
 use std::hash::Hash;
@@ -93,6 +85,12 @@ pub fn front_ends_between_characters()
     ensures { FrontEndsBetweenCharacters }
 {}
 
+/// In a text of valid UTF-8 the longest viable front is the same whether it may be completed by any bytes or only to a
+/// text of valid UTF-8: that of `a/b;p="é` is all of it, since `a/b;p="éx"` is accepted.
+pub fn front_is_in_utf8()
+    ensures { FrontIsInUtf8 }
+{}
+
 /// The plus of a value is the last one of its essence after the subtype's first byte, if there is one: that of
 /// `a/b+c+d` is at position 5 (RFC 6838, 4.2.8).
 pub fn plus_is_last()
@@ -102,6 +100,12 @@ pub fn plus_is_last()
 /// The kept text of a value that was read is read as the value: `a/b;p=X`, which is kept of `A/B;P=X`.
 pub fn kept_is_read()
     ensures { KeptIsRead }
+{}
+
+/// The essence of a value that was read is read as the value without its parameters: `text/html` as the value of
+/// `text/html; charset=utf-8` without its charset.
+pub fn essence_is_read()
+    ensures { EssenceIsRead }
 {}
 
 /// Of two values exactly one is true: the first comes before the second, they are equal, or the second comes before
@@ -121,6 +125,18 @@ pub fn bare_text_is()
     ensures { BareTextIs }
 {}
 
+/// A value is equal to the kept text of a value that was read exactly where the two values are equal: that of
+/// `a/b; p="x"` to the text `a/b;p=x`, which is kept of `A/B;P=x`.
+pub fn kept_text_is()
+    ensures { KeptTextIs }
+{}
+
+/// A key finds exactly one answer in a list of items, if it accepts each name or doesn't: `TextKey("P")` finds `1` in
+/// `a/b;p=1;p=2`, and nothing else.
+pub fn one_answer<K: ParamKey>(key: &K)
+    ensures { OneAnswer (K.Accepts key.now) }
+{}
+
 /// Two values are equal exactly where their essences and their pairs are the same: `a/b; p="x"` and `A/B;P=x`.
 pub fn mime_equality()
     ensures { (first second : OwnedMedia) → IsTrue (⟦<Mime as PartialEq>⟧.eq first second) ↔ Same first.media second.media }
@@ -136,50 +152,15 @@ pub fn equal_values_hash_alike()
     ensures { (first second : OwnedMedia) → Same first.media second.media → ⟦<Mime as Hash>⟧.hash_input first ≡ ⟦<Mime as Hash>⟧.hash_input second }
 {}
 
-/// The constant media types, in the order of their table, from `*/*` on.
-pub fn atom_constants() -> [Atom; 33]
-    ensures { map atom_text result ≡ atom_table }
-{
-    [
-        STAR_STAR,
-        TEXT_STAR,
-        TEXT_PLAIN,
-        TEXT_PLAIN_UTF_8,
-        TEXT_HTML,
-        TEXT_HTML_UTF_8,
-        TEXT_CSS,
-        TEXT_CSS_UTF_8,
-        TEXT_JAVASCRIPT,
-        TEXT_XML,
-        TEXT_EVENT_STREAM,
-        TEXT_CSV,
-        TEXT_CSV_UTF_8,
-        TEXT_TAB_SEPARATED_VALUES,
-        TEXT_TAB_SEPARATED_VALUES_UTF_8,
-        TEXT_VCARD,
-        IMAGE_STAR,
-        IMAGE_JPEG,
-        IMAGE_GIF,
-        IMAGE_PNG,
-        IMAGE_BMP,
-        IMAGE_SVG,
-        FONT_WOFF,
-        FONT_WOFF2,
-        APPLICATION_JSON,
-        APPLICATION_JAVASCRIPT,
-        APPLICATION_JAVASCRIPT_UTF_8,
-        APPLICATION_WWW_FORM_URLENCODED,
-        APPLICATION_OCTET_STREAM,
-        APPLICATION_MSGPACK,
-        APPLICATION_PDF,
-        MULTIPART_FORM_DATA,
-        TEXT_JAVSCRIPT,
-    ]
-}
-
 /// A text has exactly one cut: that of `a/b, e, c/d` has the items `a/b`, the bad piece `e`, and `c/d`.
 pub fn one_cut()
     ensures { OneCut }
+{}
+
+/// Each item of a cut is a piece that is read as its value, or a bad piece, which is viable, refused and not empty. The
+/// rest is viable and refused: over `a/b, e, c` the items are `a/b` and the bad piece `e`, and the rest is `c`.
+pub fn cut_has_items()
+    ensures { CutHasItems }
 {}
 
 /// A text is pieces, a character after each, and a last piece, which is accepted or the rest of the
@@ -188,7 +169,8 @@ pub fn cut_writes_text()
     ensures { CutWritesText }
 {}
 
-/// In a text of valid UTF-8 what is passed after a piece is one character: both bytes of the `é` of `a/bé`.
+/// In a text of valid UTF-8 what is passed after a piece is one character, a scalar value: both bytes of the `é` of
+/// `a/bé`.
 pub fn passes_one_character()
     ensures { PassesOneCharacter }
 {}
@@ -237,6 +219,48 @@ pub fn iter_clone<'a>(iter: &MimeIter<'a>) -> Result<MimeIter<'a>, AllocError>
     iter.clone()
 }
 
+/// The constant names, as a table: an array in the body of `name_constants` would be a statement a row for its proof.
+static NAMES: [Name<'static>; 38] = [
+    STAR,
+    TEXT,
+    IMAGE,
+    AUDIO,
+    VIDEO,
+    APPLICATION,
+    MULTIPART,
+    MESSAGE,
+    MODEL,
+    FONT,
+    PLAIN,
+    HTML,
+    XML,
+    JAVASCRIPT,
+    CSS,
+    CSV,
+    EVENT_STREAM,
+    VCARD,
+    JSON,
+    WWW_FORM_URLENCODED,
+    MSGPACK,
+    OCTET_STREAM,
+    PDF,
+    WOFF,
+    WOFF2,
+    FORM_DATA,
+    BMP,
+    GIF,
+    JPEG,
+    PNG,
+    SVG,
+    BASIC,
+    MPEG,
+    MP4,
+    OGG,
+    CHARSET,
+    BOUNDARY,
+    UTF_8,
+];
+
 /// The constant names, in the order of their table, from `*` on. Each has its text, ignores case, and holds no
 /// ASCII capital.
 pub fn name_constants() -> [Name<'static>; 38]
@@ -244,46 +268,7 @@ pub fn name_constants() -> [Name<'static>; 38]
     ensures flags { IsTrue (list_all (λ name. name.ignores_case) result) }
     ensures low { map (λ name. lowered (name_text name)) result ≡ map name_text result }
 {
-    [
-        STAR,
-        TEXT,
-        IMAGE,
-        AUDIO,
-        VIDEO,
-        APPLICATION,
-        MULTIPART,
-        MESSAGE,
-        MODEL,
-        FONT,
-        PLAIN,
-        HTML,
-        XML,
-        JAVASCRIPT,
-        CSS,
-        CSV,
-        EVENT_STREAM,
-        VCARD,
-        JSON,
-        WWW_FORM_URLENCODED,
-        MSGPACK,
-        OCTET_STREAM,
-        PDF,
-        WOFF,
-        WOFF2,
-        FORM_DATA,
-        BMP,
-        GIF,
-        JPEG,
-        PNG,
-        SVG,
-        BASIC,
-        MPEG,
-        MP4,
-        OGG,
-        CHARSET,
-        BOUNDARY,
-        UTF_8,
-    ]
+    *&NAMES
 }
 
 /// Names are equal if their texts and their flags are: `TEXT` isn't the name `text` whose flag is `false`.
@@ -310,4 +295,16 @@ pub fn name_clone()
     ensures same { (name copy : Name) → ⟦<Name<'static> as Clone>⟧.is_clone name copy
         → (copy.text.now ≡ name.text.now) × (copy.ignores_case ≡ name.ignores_case) }
     ensures always { (name : Name) → ⟦<Name<'static> as Clone>⟧.is_infallible name }
+{}
+
+/// A constant media type, a fault, a bad item and a key can always be copied and cloned, and the copy is the same.
+pub fn copies_are_same()
+    ensures atom { (value copy : Atom) → ⟦<Atom as Clone>⟧.is_clone value copy → copy ≡ value }
+    ensures atom_always { (value : Atom) → ⟦<Atom as Clone>⟧.is_infallible value }
+    ensures fault { (value copy : ParseError) → ⟦<ParseError as Clone>⟧.is_clone value copy → copy ≡ value }
+    ensures fault_always { (value : ParseError) → ⟦<ParseError as Clone>⟧.is_infallible value }
+    ensures bad { (value copy : Bad) → ⟦<Bad<'static> as Clone>⟧.is_clone value copy → copy ≡ value }
+    ensures bad_always { (value : Bad) → ⟦<Bad<'static> as Clone>⟧.is_infallible value }
+    ensures key { (value copy : TextKey) → ⟦<TextKey<'static> as Clone>⟧.is_clone value copy → copy ≡ value }
+    ensures key_always { (value : TextKey) → ⟦<TextKey<'static> as Clone>⟧.is_infallible value }
 {}
