@@ -1,16 +1,17 @@
 -- What is passed in a text of valid UTF-8 is one character.
-use Rattle.std.proofs.Common.{◌≡◌, ℕ, zero, suc, ◌+◌, ◌<◌, ◌≤◌, Bool, List, [], ◌∷◌, ◌++◌, length, take, drop, get_or, sym, ap, ◌∙◌, subst, arith, ⊎_elim, append-nil, length-append}
+use Rattle.std.proofs.Common.{◌≡◌, ℕ, zero, suc, ◌+◌, ◌<◌, ◌≤◌, Bool, true, List, [], ◌∷◌, ◌++◌, length, take, drop, get_or, sym, ap, ◌∙◌, subst, arith, ⊎_elim, append-nil, length-append}
 use Rattle.std.proofs.Math.Seq.{take-append_seam, drop-append_seam, get_or-append_seam}
-use Rattle.std.proofs.lemmas.Bool.{both_ways, cases_Bool}
+use Rattle.std.proofs.lemmas.Bool.{and_parts, both_ways, cases_Bool}
 use Rattle.std.proofs.lemmas.Bool.Decides.{nat_tests}
 use Rattle.std.proofs.lemmas.List.Folds.{list_all_at}
 use Rattle.std.proofs.lemmas.Str.{IsUtf8-take, IsUtf8-drop, IsCharBoundary-past_char, length-encode, len_utf8_bounds}
 use Rattle.std.specs.Prelude.{IsTrue, IsFalse}
 use Rattle.std.specs.List.{list_all}
-use Rattle.std.specs.Char.{encode_utf8, len_utf8}
+use Rattle.std.specs.Char.{IsScalar, encode_utf8, len_utf8}
 use Rattle.std.specs.Str.{IsUtf8, IsCharBoundary, encode_utf8_all}
 use Rattle.mime.specs.Cut.{is_following_byte, IsCharacter}
 use Rattle.mime.specs.CutLaws.{PassesOneCharacter}
+use lib.Utf8.{scalars, scalar}
 use Rattle.mime.proofs.Borders.{front_ends_between_characters}
 
 -- a byte past ASCII that isn't from 128 to 191 is 192 or above
@@ -47,14 +48,15 @@ no-border b f (suc i) all above within border =
     omega (arith, low.1, high)
 
 -- the bytes of a character in valid UTF-8 are one character
-single : (c l : List ℕ) → IsCharacter c l → IsUtf8 c → (char : ℕ) × (c ≡ encode_utf8 char)
+single : (c l : List ℕ) → IsCharacter c l → IsUtf8 c → (char : ℕ) × IsScalar char × (c ≡ encode_utf8 char)
 single [] l one utf8 = absurd one
-single (b ∷ f) l one utf8 = by_chars utf8.0 utf8.1.1
+single (b ∷ f) l one utf8 = by_chars utf8.0 utf8.1.0 utf8.1.1
   where
-    by_chars : (cs : List ℕ) → encode_utf8_all cs ≡ b ∷ f → (char : ℕ) × (b ∷ f ≡ encode_utf8 char)
-    by_chars [] e = absurd (omega (arith, ap length e))
-    by_chars (x ∷ []) e = (x, sym e ∙ append-nil (encode_utf8 x))
-    by_chars (x ∷ (y ∷ ys)) e =
+    by_chars : (cs : List ℕ) → scalars cs ≡ true → encode_utf8_all cs ≡ b ∷ f
+        → (char : ℕ) × IsScalar char × (b ∷ f ≡ encode_utf8 char)
+    by_chars [] are e = absurd (omega (arith, ap length e))
+    by_chars (x ∷ []) are e = (x, (and_parts (scalar x) (scalars []) are).0, sym e ∙ append-nil (encode_utf8 x))
+    by_chars (x ∷ (y ∷ ys)) are e =
         let rest = encode_utf8_all (y ∷ ys) in
         let bounds = len_utf8_bounds x in
         let more = len_utf8_bounds y in
@@ -77,4 +79,4 @@ passes_one_character text p c l utf8 split =
     let whole : IsUtf8 c = subst IsUtf8 (take-append_seam c l) (IsUtf8-take (c ++ l) (length c) others cut) in
     let left : IsUtf8 l = subst IsUtf8 (drop-append_seam c l) (IsUtf8-drop (c ++ l) (length c) others cut) in
     let one = single c l split.is_character whole in
-    (one.0, one.1, piece, left)
+    (one.0, one.1, one.2, piece, left)

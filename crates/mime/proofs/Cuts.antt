@@ -8,7 +8,7 @@ use Rattle.mime.specs.Grammar.{SyntaxTree}
 use Rattle.mime.specs.Values.{MediaType, Reads, IsAccepted, IsRefused}
 use Rattle.mime.specs.Refusals.{IsViable, IsFront}
 use Rattle.mime.proofs.Begun.{Begun, in_type, walk, tree_of}
-use Rattle.mime.proofs.PairWalks.{cons_parts}
+use Rattle.mime.proofs.SmallLetters.{cons_parts}
 use Rattle.mime.proofs.Readings.{one_reading, refused-from_walk, stopped-from_walk}
 use Rattle.mime.proofs.Viability.{accepted-from_complete, viable-from_walk, front-from_walk, front_unique, accepted_is_viable, empty_is_viable, stop-from_walk}
 use Rattle.mime.specs.Cut.{is_following_byte, BeginsCharacter, IsCharacter, IsSplit, CutItem, good, ItemsOf, is_read, is_refused, is_empty, Cut, whole, unfinished, goes_on, Pieces, last, next, steps_of, TakesSteps}
@@ -90,6 +90,10 @@ split-size text p c l split = (
   ap length split.spelled ∙ length-append p (c ++ l) ∙ ap (λ n. length p + n) (length-append c l),
   character-size c l split.is_character,
 )
+
+-- a split text begins with its piece
+pub split-piece : (text p c l : List ℕ) → IsSplit text p c l → take (length p) text ≡ p
+split-piece text p c l split = ap (take (length p)) split.spelled ∙ take-append_seam p (c ++ l)
 
 -- what is split isn't viable
 pub split-not_viable : (text p c l : List ℕ) → IsSplit text p c l → IsViable text → ⊥

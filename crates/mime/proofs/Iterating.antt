@@ -89,10 +89,11 @@ next-bad old new piece found =
 
 -- a media type,
 pub next-good : (old new : Iteration) (piece : Bor (List ℕ)) (places : Places) (mime : OwnedMedia)
-    → IsFound old (Some (piece, Some places)) new → Reads piece.now mime.media → IsNext old (Some (Ok mime)) new
-next-good old new piece places mime found reads =
+    → IsFound old (Some (piece, Some places)) new → Reads piece.now mime.media
+    → (piece.now ≡ codes "*/*" → mime.fixed ≡ true) → IsNext old (Some (Ok mime)) new
+next-good old new piece places mime found reads star =
     next-some old new new (piece, Some places) (Ok mime) found found.sound refl
-    (piece.now, found.gives.0.1 mime.media reads, found.starved)
+    (piece.now, found.gives.0.1 mime.media reads, star, found.starved)
 
 -- or out of memory, which ends the run
 pub next-starved : (old now new : Iteration) (piece : Bor (List ℕ)) (places : Places) → IsFound old (Some (piece, Some places)) now

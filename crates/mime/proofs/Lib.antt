@@ -22,6 +22,7 @@ pub mod TextScan
 -- the kept text
 pub mod CharBorders
 pub mod Lowering
+pub mod Marks
 pub mod Blocks
 pub mod Utf8
 pub mod PairCuts
@@ -33,14 +34,13 @@ pub mod Parts
 pub mod Outcomes
 -- comparison
 pub mod Ordering
-pub mod PairWalks
 pub mod Counts
-pub mod Joining
+pub mod HashBuffer
 pub mod Constants
 pub mod SmallLetters
 pub mod TextComparison
-pub mod Spelled
-pub mod OneForm
+pub mod FirstDifference
+pub mod Differences
 -- the cut, and runs of the iterator
 pub mod Cuts
 pub mod Containment
@@ -48,3 +48,5 @@ pub mod Beginnings
 pub mod Iterating
 pub mod RunProofs
 pub mod Characters
+-- laws on which no code rests
+pub mod LawProofs

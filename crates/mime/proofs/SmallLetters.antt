@@ -9,10 +9,10 @@ use Rattle.mime.specs.Bytes.{is_token_byte, slash_byte, semicolon_byte, equals_b
 use Rattle.mime.specs.Grammar.{is_space, Parameter, plain, quoted, Parameters, blank, final, more, Tail, no_list, listed, SyntaxTree, text_of, IsWellFormed}
 use Rattle.mime.specs.Values.{MediaType, Reads, value_of, lowered, lowered_value, lowered_list, lowered_tail, is_charset, pairs_of_list, pairs_of_tail}
 use Rattle.mime.specs.Comparison.{Same}
-use Rattle.mime.specs.KeptText.{AreLowPairs, IsLoneCharset}
+use Rattle.mime.specs.KeptText.{AreLowPairs}
+use Rattle.mime.specs.TextParts.{IsLoneCharset}
 use Rattle.mime.proofs.Begun.{ListPlace, in_spaces, in_name, in_value, in_quotes, behind_quotes, BegunList, Begun, in_type, in_subtype, in_list, grow_place, grow_list, grow, walk_from, walk, tree_of, with_closed}
 use Rattle.mime.proofs.Lowering.{lowered-append, lowered-lowered, lowered_value-either, low_pair-parts}
-use Rattle.mime.proofs.PairWalks.{cons_parts}
 use Rattle.mime.proofs.Parts.{read-low_pairs}
 use Rattle.mime.proofs.Quoted.{continues-lowered}
 use Rattle.mime.proofs.Readings.{accepted-from_walk, walk-text_of}
@@ -67,7 +67,7 @@ abbrev small_list : BegunList → BegunList
 small_list list = record { closed = small_closed list.closed; place = small_place list.place }
 
 -- what is read of a text, in small letters
-abbrev small_begun : Begun → Begun
+abbrev pub small_begun : Begun → Begun
 small_begun (in_type top) = in_type (lowered top)
 small_begun (in_subtype top sub) = in_subtype (lowered top) (lowered sub)
 small_begun (in_list top sub list) = in_list (lowered top) (lowered sub) (small_list list)
@@ -130,7 +130,7 @@ small_onward text begun b rest None = refl
 small_onward text begun b rest (Some next) = rest next
 
 -- a text and the text in small letters lead on alike
-walk_from-small : (begun : Begun) (text : List ℕ)
+pub walk_from-small : (begun : Begun) (text : List ℕ)
     → walk_from (small_begun begun) (lowered text) ≡ option_map small_begun (walk_from begun text)
 walk_from-small begun [] = refl
 walk_from-small begun (b ∷ text) = rw (grow-small begun b) (small_onward text begun b (λ next. walk_from-small next text) (grow begun b))
@@ -147,7 +147,7 @@ small_tail no_list = no_list
 small_tail (listed list) = listed (small_parameters list)
 
 -- a tree in small letters
-abbrev small_tree : SyntaxTree → SyntaxTree
+abbrev pub small_tree : SyntaxTree → SyntaxTree
 small_tree tree = record { top = lowered tree.top; sub = lowered tree.sub; tail = small_tail tree.tail }
 
 -- the parameters read whole and the others, in small letters
@@ -157,7 +157,7 @@ with_closed-small [] rest = refl
 with_closed-small ((n, p) ∷ closed) rest = with_closed-small closed (more n p rest)
 
 -- the tree of what is read, in small letters
-tree_of-small : (begun : Begun) → tree_of (small_begun begun) ≡ option_map small_tree (tree_of begun)
+pub tree_of-small : (begun : Begun) → tree_of (small_begun begun) ≡ option_map small_tree (tree_of begun)
 tree_of-small (in_type top) = refl
 tree_of-small (in_subtype top []) = refl
 tree_of-small (in_subtype top (s ∷ sub)) = refl
@@ -210,7 +210,7 @@ case_tree text tree well is =
 -- ---- values
 
 -- a pair in small letters
-abbrev small_pair : List ℕ × List ℕ → List ℕ × List ℕ
+abbrev pub small_pair : List ℕ × List ℕ → List ℕ × List ℕ
 small_pair (name, value) = (lowered name, lowered value)
 
 -- a value as it is kept, lowered, is the value lowered
@@ -227,7 +227,7 @@ pairs-small_list (more n (quoted name content m) rest) =
     cc (lowered-lowered name, lowered-lowered_value name content, pairs-small_list rest)
 
 -- the pairs of a tail in small letters
-pairs-small_tail : (tail : Tail) → map small_pair (pairs_of_tail (lowered_tail tail)) ≡ pairs_of_tail (small_tail tail)
+pub pairs-small_tail : (tail : Tail) → map small_pair (pairs_of_tail (lowered_tail tail)) ≡ pairs_of_tail (small_tail tail)
 pairs-small_tail no_list = refl
 pairs-small_tail (listed list) = pairs-small_list list
 
@@ -255,6 +255,10 @@ case_read text kept value reads is =
 pub case_read-count : (text : List ℕ) (value : MediaType) (is : CaseRead text value) → length value.pairs ≡ length is.read.pairs
 case_read-count text value is =
     sym (length-map value.pairs small_pair) ∙ ap length is.pairs ∙ length-map is.read.pairs small_pair
+
+-- equal lists have the same first and the same others
+pub cons_parts : {X : Type 0} {x y : X} {xs ys : List X} → x ∷ xs ≡ y ∷ ys → (x ≡ y) × (xs ≡ ys)
+cons_parts is = (cc, cc)
 
 -- two charsets as they are kept are the same if they are the same but for case
 lone_charset-same : (pairs others : List (List ℕ × List ℕ)) → IsLoneCharset pairs → AreLowPairs pairs → AreLowPairs others

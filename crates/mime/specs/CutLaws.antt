@@ -1,9 +1,9 @@
 -- The laws of the cut.
-use Rattle.std.specs.Prelude.{◌≡◌, ◌⊎◌, ℕ, List, [], ◌∷◌, ◌++◌, map}
+use Rattle.std.specs.Prelude.{◌≡◌, ◌≢◌, ◌⊎◌, ℕ, List, [], ◌∷◌, ◌++◌, map}
 use Rattle.std.specs.List.{AllByRecursion}
-use Rattle.mime.specs.Values.{MediaType, Reads, IsAccepted}
-use Rattle.mime.specs.Refusals.{IsUnclosed}
-use Rattle.std.specs.Char.{encode_utf8}
+use Rattle.mime.specs.Values.{MediaType, Reads, IsAccepted, IsRefused}
+use Rattle.mime.specs.Refusals.{IsViable, IsUnclosed}
+use Rattle.std.specs.Char.{IsScalar, encode_utf8}
 use Rattle.std.specs.Str.{IsUtf8}
 use Rattle.mime.specs.Bytes.{comma_byte, space_byte}
 use Rattle.mime.specs.Cut.{IsSplit, CutItem, good, bad, Cut, Pieces, TakesSteps}
@@ -14,6 +14,17 @@ OneCut =
     (text : List ℕ)
     → (items : List CutItem) × (rest : List ℕ) × Cut text items rest
     × ((others : List CutItem) (left : List ℕ) → Cut text others left → (others ≡ items) × (left ≡ rest))
+
+-- what an item is: a good piece is read as its value, and a bad one is viable, refused and not empty
+abbrev pub IsItem : CutItem → Type 0
+IsItem (good piece value) = Reads piece value
+IsItem (bad piece) = IsViable piece × IsRefused piece × (piece ≢ [])
+
+-- Each item of a cut is a piece that is read as its value, or a viable refused one that isn't empty. The rest is viable and refused.
+abbrev pub CutHasItems : Type 0
+CutHasItems =
+    (text : List ℕ) (items : List CutItem) (rest : List ℕ) → Cut text items rest
+    → AllByRecursion IsItem items × IsViable rest × IsRefused rest
 
 -- the text of the pieces, with the character after each, and of the last piece
 abbrev pub text_of_pieces : List (List ℕ × List ℕ) → List ℕ → List ℕ
@@ -60,8 +71,9 @@ kept_item value = good value.kept value
 abbrev pub JoinedComesBack : Type 0
 JoinedComesBack = (values : List MediaType) → AllByRecursion IsRead values → Cut (joined values) (map kept_item values) []
 
--- In a text of valid UTF-8 what is passed after a piece is one character, and the texts before and after it are valid UTF-8.
+-- In a text of valid UTF-8 what is passed after a piece is one character, a scalar value, and the texts before and after it are
+-- valid UTF-8.
 abbrev pub PassesOneCharacter : Type 0
 PassesOneCharacter =
     (text piece character left : List ℕ) → IsUtf8 text → IsSplit text piece character left
-    → (char : ℕ) × (character ≡ encode_utf8 char) × IsUtf8 piece × IsUtf8 left
+    → (char : ℕ) × IsScalar char × (character ≡ encode_utf8 char) × IsUtf8 piece × IsUtf8 left

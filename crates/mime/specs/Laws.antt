@@ -1,11 +1,12 @@
 -- The laws: what follows from the definitions alone.
-use Rattle.std.specs.Prelude.{◌≡◌, ◌≢◌, ℕ, ◌+◌, ◌<◌, ◌≤◌, ◌⊎◌, List, [], ◌++◌, slice_get, Some, MatchOption, ◌↔◌}
+use Rattle.std.specs.Prelude.{◌≡◌, ◌≢◌, ℕ, ◌+◌, ◌<◌, ◌≤◌, ◌⊎◌, Bool, List, [], ◌++◌, length, take, slice_get, Option, Some, MatchOption, ◌↔◌}
 use Rattle.std.specs.Str.{IsUtf8, IsCharBoundary}
 use Rattle.mime.specs.Bytes.{plus_byte}
 use Rattle.mime.specs.Grammar.{SyntaxTree, text_of, IsWellFormed}
 use Rattle.mime.specs.Values.{MediaType, Reads, IsAccepted, IsRefused, lowered}
 use Rattle.mime.specs.Comparison.{Same, Before, TextIs}
 use Rattle.mime.specs.Refusals.{IsViable, IsFront, Lacks, IsFault}
+use Rattle.mime.specs.Items.{Item, IsFirstAccepted}
 use Rattle.mime.specs.declared.scan.fault.ParseError.{ParseError}
 
 -- A text is spelled by at most one well-formed tree.
@@ -56,6 +57,21 @@ OneFront = (text : List ℕ) → (count : ℕ) × IsFront text count × ((other 
 abbrev pub FrontEndsBetweenCharacters : Type 0
 FrontEndsBetweenCharacters = (text : List ℕ) (count : ℕ) → IsUtf8 text → IsFront text count → IsCharBoundary text count
 
+-- some accepted text of valid UTF-8 begins with these bytes
+abbrev pub IsViableInUtf8 : List ℕ → Type 0
+IsViableInUtf8 front = (more : List ℕ) × IsUtf8 (front ++ more) × IsAccepted (front ++ more)
+
+-- the longest beginning of the text with which some accepted text of valid UTF-8 begins has this many bytes
+pub record IsFrontInUtf8 (text : List ℕ) (count : ℕ) : Type 0 where
+  pub within : count ≤ length text
+  pub viable : IsViableInUtf8 (take count text)
+  pub longest : (n : ℕ) → count < n → n ≤ length text → ¬ (IsViableInUtf8 (take n text))
+
+-- In a text of valid UTF-8 the longest viable front is the same whether it may be completed by any bytes or only to a text of
+-- valid UTF-8.
+abbrev pub FrontIsInUtf8 : Type 0
+FrontIsInUtf8 = (text : List ℕ) (count : ℕ) → IsUtf8 text → IsFront text count ↔ IsFrontInUtf8 text count
+
 -- the text has no plus at position `from` or later, in bytes from 0
 abbrev pub HasNoPlusFrom : List ℕ → ℕ → Type 0
 HasNoPlusFrom text from = (place : ℕ) → from ≤ place → slice_get text place ≢ Some plus_byte
@@ -71,6 +87,14 @@ PlusIsLast =
 -- The kept text of a value that was read is read as the value.
 abbrev pub KeptIsRead : Type 0
 KeptIsRead = (text : List ℕ) (value : MediaType) → Reads text value → Reads value.kept value
+
+-- the value without its parameters
+abbrev pub without_parameters : MediaType → MediaType
+without_parameters value = record value { pairs = []; kept = value.essence }
+
+-- The essence of a value that was read is read as the value without its parameters.
+abbrev pub EssenceIsRead : Type 0
+EssenceIsRead = (text : List ℕ) (value : MediaType) → Reads text value → Reads value.essence (without_parameters value)
 
 -- exactly one of the three: the first comes before the second, they are equal, the second comes before the first
 abbrev pub OneOf : MediaType → MediaType → Type 0
@@ -92,3 +116,18 @@ abbrev pub BareTextIs : Type 0
 BareTextIs =
     (text : List ℕ) (value : MediaType) → Reads text value → value.pairs ≡ []
     → (other : List ℕ) → TextIs value other ↔ (lowered other ≡ value.kept)
+
+-- A value is equal to the kept text of a value that was read exactly where the two values are equal.
+abbrev pub KeptTextIs : Type 0
+KeptTextIs = (text : List ℕ) (value : MediaType) → Reads text value → (other : MediaType) → TextIs other value.kept ↔ Same other value
+
+-- each name is accepted or isn't
+abbrev pub IsDecided : (List ℕ → Bool → Type 0) → Type 0
+IsDecided Accepts = (name : List ℕ) (ignores_case : Bool) → Accepts name ignores_case ⊎ ¬ (Accepts name ignores_case)
+
+-- A key finds exactly one answer in a list of items, if it accepts each name or doesn't.
+abbrev pub OneAnswer : (List ℕ → Bool → Type 0) → Type 0
+OneAnswer Accepts =
+    IsDecided Accepts → (items : List Item)
+    → (found : Option (List ℕ × Bool)) × IsFirstAccepted Accepts items found
+    × ((other : Option (List ℕ × Bool)) → IsFirstAccepted Accepts items other → other ≡ found)

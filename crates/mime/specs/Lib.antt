@@ -19,8 +19,9 @@ pub mod Remaining
 pub mod Quoted
 pub mod Scanning
 pub mod Pairs
-pub mod Spelled
 pub mod KeptText
+pub mod TextParts
+pub mod Difference
 pub mod HashInput
 pub mod OrderLaws
 pub mod AtomPlaces

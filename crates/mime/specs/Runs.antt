@@ -1,5 +1,5 @@
 -- How contracts see a `MimeIter`, and what one call of its `next` gives.
-use Rattle.std.specs.Prelude.{◌≡◌, ◌≢◌, ℕ, ◌*◌, ◌≤◌, Bool, true, false, List, [], ◌∷◌, length, Option, Some, None, Result, Ok, Err, codes}
+use Rattle.std.specs.Prelude.{◌≡◌, ◌≢◌, ℕ, ◌≤◌, Bool, true, false, List, [], ◌∷◌, length, Option, Some, None, Result, Ok, Err, codes}
 use Rattle.mime.specs.Values.{MediaType, OwnedMedia}
 use Rattle.mime.specs.Cut.{CutItem, good, bad, Cut, TakesSteps}
 use Rattle.mime.specs.declared.iter.Bad.{Bad}
@@ -33,11 +33,12 @@ pub record NeedsMemory (text : List ℕ) : Type 0 where
 abbrev pub HasNoItem : List ℕ → Type 0
 HasNoItem text = (rest : List ℕ) × Cut text [] rest
 
--- what a call gives: none, a media type, a bad piece, or out of memory
+-- what a call gives: none, a media type, which is fixed if its piece is `*/*`, a bad piece, or out of memory
 abbrev pub GivesItem : Iteration → Option (Result OwnedMedia Bad) → Iteration → Type 0
 GivesItem old None new = HasNoItem old.left × HasEnded new × (new.starved ≡ old.starved)
 GivesItem old (Some (Ok mime)) new =
-    (piece : List ℕ) × IsFirstItem old.left (good piece mime.media) new.left × (new.starved ≡ old.starved)
+    (piece : List ℕ) × IsFirstItem old.left (good piece mime.media) new.left
+    × (piece ≡ codes "*/*" → mime.fixed ≡ true) × (new.starved ≡ old.starved)
 GivesItem old (Some (Err (Piece piece))) new = IsFirstItem old.left (bad piece.now) new.left × (new.starved ≡ old.starved)
 GivesItem old (Some (Err NoMemory)) new = NeedsMemory old.left × HasEnded new × (new.starved ≡ true)
 
@@ -47,8 +48,8 @@ pub record IsNext (old : Iteration) (result : Option (Result OwnedMedia Bad)) (n
   pub item : GivesItem old result new
   -- the text stays the same
   pub text : new.text ≡ old.text
-  -- the steps are at most twice the bytes of the text,
-  pub few : new.steps ≤ 2 * length new.text
+  -- the steps are at most the bytes of the text,
+  pub few : new.steps ≤ length new.text
   -- and at the end, unless memory ran out, exactly those that the text takes
   pub exact : HasEnded new → new.starved ≡ false → TakesSteps new.text new.steps
   -- an iterator that has ended gives none, and stays as it is

@@ -1,7 +1,8 @@
 //! Media types one by one out of a text.
 
-ghost use Rattle.std.specs.Prelude.{◌≡◌, ◌+◌, ◌-◌, ◌*◌, ◌<◌, ◌≤◌, ◌^◌, false, length};
-ghost use Rattle.std.specs.Iterator.{at_most};
+ghost use Rattle.std.specs.Prelude.{◌≡◌, ◌+◌, ◌-◌, ◌<◌, ◌≤◌, ◌^◌, false, length, IfSome, None};
+ghost use Rattle.std.specs.Iterator.{UpTo, at_most};
+ghost use Rattle.std.specs.Iterator.SizeHint.{IsWithinCount};
 ghost use Rattle.mime.specs.Cut.{is_following_byte};
 ghost use Rattle.mime.specs.Runs.{IsNext};
 ghost use Rattle.mime.specs.UnderWay.{IsAfterCharacter, PassesPiece, IsFound};
@@ -97,8 +98,11 @@ fn pass<'a>(text: &'a str, from: u128) -> Passed<'a>
 /// The text is cut into the longest pieces that some media type begins with. Each ends before a
 /// character that can't follow it, such as the comma of a list; that character is passed. A piece
 /// is a media type or a bad piece; an empty one is no item, and neither is a last piece that is
-/// unfinished. So a bad entry doesn't change the entries after its comma, unless it ends in an open quoted value. No
-/// byte is read twice.
+/// unfinished. So a bad entry doesn't change the entries after its comma, unless it ends in an open quoted value. The
+/// scanner reads no byte twice.
+///
+/// A media type asks for memory once, for its kept text, but an entry `*/*` never does: like the `*/*` that
+/// [`Mime::from_str`] gives it is fixed, so that its clone takes no memory either.
 ///
 /// Over `text/html, invalid, a/b; q=1` it gives `text/html`, the bad piece `invalid`, and
 /// `a/b; q=1`. Over `a/b ; q=1` it gives `a/b` and the bad piece `q`, since no space may precede the
@@ -124,8 +128,8 @@ impl<'a> Model for MimeIter<'a> {
 }
 
 impl<'a> MimeIter<'a> {
-    /// An iterator over the media types of `s`, such as `text/html, */*;q=0.8`. Nothing is read yet. Each
-    /// media type will ask for memory once, for its kept text; `*/*` and bad pieces never do.
+    /// An iterator over the media types of `s`, such as `text/html, */*;q=0.8`. Nothing is read yet, and no memory
+    /// is asked for.
     pub fn new(alloc: Global, s: &'a str) -> MimeIter<'a>
         ensures text { result.text ≡ s.now }
         ensures left { result.left ≡ s.now }
@@ -143,10 +147,10 @@ impl<'a> MimeIter<'a> {
 
     /// How many bytes were read so far, those of the items that were given included: 43 for all of
     /// `application/json, invalid, application/json`, which are 16, 7 and 16 bytes and 4 characters
-    /// that were passed.
+    /// that were passed. It is never more than the text's length.
     pub fn steps(&self) -> u128
         ensures steps { result ≡ self.now.steps }
-        ensures few { result ≤ 2 * length self.now.text }
+        ensures few { result ≤ length self.now.text }
     {
         self.steps
     }
@@ -191,6 +195,15 @@ impl<'a> Iterator for MimeIter<'a> {
                 Some(Err(Bad::NoMemory))
             }
         }
+    }
+
+    fn size_hint(&self) -> (usize, Option<usize>)
+        ensures lower { IsWithinCount result.0 (at_most (length self.now.left)) }
+        ensures upper { IfSome result.1 (UpTo (at_most (length self.now.left))) }
+        // How many items are left isn't known before they are read.
+        ensures open { result ≡ (0, None) }
+    {
+        (0, None)
     }
 }
 

@@ -8,19 +8,21 @@ ghost use Rattle.std.specs.Ordering.{MatchOrdering, ordering_then, bool_cmp, nat
 ghost use Rattle.mime.specs.Values.{OwnedMedia, lowered};
 ghost use Rattle.mime.specs.Names.{name_table};
 ghost use Rattle.mime.specs.Views.{name_text};
-ghost use Rattle.mime.specs.Laws.{OneTree, OneReading, EmptyIsViable, FrontOfViableIsViable, AcceptedIsViable, OneCompletion, CompletedIsRefused, NoCompletion, OneFault, OneFront, FrontEndsBetweenCharacters, PlusIsLast, KeptIsRead, OneOrder, BeforeIsTransitive, BareTextIs};
+ghost use Rattle.mime.specs.Laws.{OneTree, OneReading, EmptyIsViable, FrontOfViableIsViable, AcceptedIsViable, OneCompletion, CompletedIsRefused, NoCompletion, OneFault, OneFront, FrontEndsBetweenCharacters, FrontIsInUtf8, PlusIsLast, KeptIsRead, EssenceIsRead, OneOrder, BeforeIsTransitive, BareTextIs, KeptTextIs, OneAnswer};
 ghost use Rattle.mime.specs.Comparison.{Same, Before};
-ghost use Rattle.mime.specs.CutLaws.{OneCut, CutWritesText, OneCount, CommaContains, JoinedComesBack, PassesOneCharacter};
+ghost use Rattle.mime.specs.CutLaws.{OneCut, CutHasItems, CutWritesText, OneCount, CommaContains, JoinedComesBack, PassesOneCharacter};
 ghost use Rattle.mime.specs.RunLaws.{RunGivesCut, PrintedListComesBack, CommaContainsOnRuns};
 
-use crate::iter::MimeIter;
-use crate::name::Name;
+use crate::atoms::Atom;
+use crate::iter::{Bad, MimeIter};
 use crate::name::constants::{
     APPLICATION, AUDIO, BASIC, BMP, BOUNDARY, CHARSET, CSS, CSV, EVENT_STREAM, FONT, FORM_DATA,
     GIF, HTML, IMAGE, JAVASCRIPT, JPEG, JSON, MESSAGE, MODEL, MP4, MPEG, MSGPACK, MULTIPART,
     OCTET_STREAM, OGG, PDF, PLAIN, PNG, STAR, SVG, TEXT, UTF_8, VCARD, VIDEO, WOFF, WOFF2,
     WWW_FORM_URLENCODED, XML,
 };
+use crate::name::{Name, ParamKey, TextKey};
+use crate::scan::ParseError;
 use crate::value::Mime;
 use std::alloc::AllocError;
 use std::hash::Hash;
@@ -83,6 +85,12 @@ pub fn front_ends_between_characters()
     ensures { FrontEndsBetweenCharacters }
 {}
 
+/// In a text of valid UTF-8 the longest viable front is the same whether it may be completed by any bytes or only to a
+/// text of valid UTF-8: that of `a/b;p="é` is all of it, since `a/b;p="éx"` is accepted.
+pub fn front_is_in_utf8()
+    ensures { FrontIsInUtf8 }
+{}
+
 /// The plus of a value is the last one of its essence after the subtype's first byte, if there is one: that of
 /// `a/b+c+d` is at position 5 (RFC 6838, 4.2.8).
 pub fn plus_is_last()
@@ -92,6 +100,12 @@ pub fn plus_is_last()
 /// The kept text of a value that was read is read as the value: `a/b;p=X`, which is kept of `A/B;P=X`.
 pub fn kept_is_read()
     ensures { KeptIsRead }
+{}
+
+/// The essence of a value that was read is read as the value without its parameters: `text/html` as the value of
+/// `text/html; charset=utf-8` without its charset.
+pub fn essence_is_read()
+    ensures { EssenceIsRead }
 {}
 
 /// Of two values exactly one is true: the first comes before the second, they are equal, or the second comes before
@@ -109,6 +123,18 @@ pub fn before_is_transitive()
 /// `text/plain`, and `text/plain;` isn't.
 pub fn bare_text_is()
     ensures { BareTextIs }
+{}
+
+/// A value is equal to the kept text of a value that was read exactly where the two values are equal: that of
+/// `a/b; p="x"` to the text `a/b;p=x`, which is kept of `A/B;P=x`.
+pub fn kept_text_is()
+    ensures { KeptTextIs }
+{}
+
+/// A key finds exactly one answer in a list of items, if it accepts each name or doesn't: `TextKey("P")` finds `1` in
+/// `a/b;p=1;p=2`, and nothing else.
+pub fn one_answer<K: ParamKey>(key: &K)
+    ensures { OneAnswer (K.Accepts key.now) }
 {}
 
 /// Two values are equal exactly where their essences and their pairs are the same: `a/b; p="x"` and `A/B;P=x`.
@@ -131,13 +157,20 @@ pub fn one_cut()
     ensures { OneCut }
 {}
 
+/// Each item of a cut is a piece that is read as its value, or a bad piece, which is viable, refused and not empty. The
+/// rest is viable and refused: over `a/b, e, c` the items are `a/b` and the bad piece `e`, and the rest is `c`.
+pub fn cut_has_items()
+    ensures { CutHasItems }
+{}
+
 /// A text is pieces, a character after each, and a last piece, which is accepted or the rest of the
 /// text's cut: `e,a/b` is the piece `e`, a comma, and the last piece `a/b`.
 pub fn cut_writes_text()
     ensures { CutWritesText }
 {}
 
-/// In a text of valid UTF-8 what is passed after a piece is one character: both bytes of the `é` of `a/bé`.
+/// In a text of valid UTF-8 what is passed after a piece is one character, a scalar value: both bytes of the `é` of
+/// `a/bé`.
 pub fn passes_one_character()
     ensures { PassesOneCharacter }
 {}
@@ -262,4 +295,16 @@ pub fn name_clone()
     ensures same { (name copy : Name) → ⟦<Name<'static> as Clone>⟧.is_clone name copy
         → (copy.text.now ≡ name.text.now) × (copy.ignores_case ≡ name.ignores_case) }
     ensures always { (name : Name) → ⟦<Name<'static> as Clone>⟧.is_infallible name }
+{}
+
+/// A constant media type, a fault, a bad item and a key can always be copied and cloned, and the copy is the same.
+pub fn copies_are_same()
+    ensures atom { (value copy : Atom) → ⟦<Atom as Clone>⟧.is_clone value copy → copy ≡ value }
+    ensures atom_always { (value : Atom) → ⟦<Atom as Clone>⟧.is_infallible value }
+    ensures fault { (value copy : ParseError) → ⟦<ParseError as Clone>⟧.is_clone value copy → copy ≡ value }
+    ensures fault_always { (value : ParseError) → ⟦<ParseError as Clone>⟧.is_infallible value }
+    ensures bad { (value copy : Bad) → ⟦<Bad<'static> as Clone>⟧.is_clone value copy → copy ≡ value }
+    ensures bad_always { (value : Bad) → ⟦<Bad<'static> as Clone>⟧.is_infallible value }
+    ensures key { (value copy : TextKey) → ⟦<TextKey<'static> as Clone>⟧.is_clone value copy → copy ≡ value }
+    ensures key_always { (value : TextKey) → ⟦<TextKey<'static> as Clone>⟧.is_infallible value }
 {}

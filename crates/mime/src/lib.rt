@@ -46,6 +46,7 @@
 mod atoms;
 mod bytes;
 mod compare;
+mod difference;
 mod iter;
 pub mod laws;
 mod name;

@@ -4,16 +4,25 @@
 
 pub mod accept;
 pub mod answer;
+pub mod bare;
+pub mod best;
 pub mod boundary;
 pub mod callers;
 pub mod caret;
+pub mod charset;
+pub mod document;
 pub mod extensions;
+pub mod files;
 pub mod handler;
 pub mod header;
 pub mod html;
 pub mod json;
 pub mod key;
+pub mod parts;
+pub mod plain;
+pub mod range;
 pub mod reader;
+pub mod semicolons;
 pub mod unescape;
 pub mod utf8;
 pub mod weights;

@@ -23,6 +23,8 @@ impl fmt::Display for RunError {
 
     ghost output = { λ error. Some (stop_text error) };
 
+    ghost styled_output = { λ error spec. Some (stop_text error) };
+
     fn fmt<W: fmt::Write>(&self, f: &mut fmt::Formatter<W>) -> fmt::Result {
         f.write_str(match self {
             RunError::Read => "read",

@@ -1,4 +1,4 @@
-//! Long texts are read as short ones are, in each branch of reading.
+//! Long texts are read, iterated and cloned as short ones are, in each branch of reading.
 
 use crate::parameters::count_of_p;
 use mime::{Mime, MimeIter};
@@ -47,6 +47,9 @@ fn check_long(
     assert_eq!(rt; hint, (params, Some(params)), "{front} .. {back}");
     let is_item = is_only_item(alloc, text.as_str(), &mime);
     assert!(rt; is_item, "{front} .. {back}");
+    let copy = mime.clone()?;
+    let is_copied = copy == mime && copy.as_str() == mime.as_str();
+    assert!(rt; is_copied, "{front} .. {back}");
     Ok(())
 }
 

@@ -61,6 +61,10 @@ fn accepted_texts_have_their_parameters(rt: HostRuntime) -> Result<(), Fail> {
             "text/html; charset=\"utf-8\"; q=1 | text | html | - | text/html | charset~utf-8 | q=1",
         ),
         (
+            "text/plain;charset=\"utf-8\"; foo=bar",
+            "text/plain;charset=\"utf-8\"; foo=bar | text | plain | - | text/plain | charset~utf-8 | foo=bar",
+        ),
+        (
             "text/plain;charset=\"utf-8\" ; foo=bar",
             "text/plain;charset=\"utf-8\" ; foo=bar | text | plain | - | text/plain | charset~utf-8 | foo=bar",
         ),

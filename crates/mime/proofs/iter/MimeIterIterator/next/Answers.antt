@@ -1,5 +1,5 @@
 -- The piece that was found is the item, as it is read.
-use Rattle.std.proofs.Common.{[], true, ap}
+use Rattle.std.proofs.Common.{[], true, ap, rules}
 use Rattle.mime.specs.Runs.{Iteration}
 use Rattle.mime.proofs.Iterating.{next-none, next-bad, next-good, next-starved}
 use Rattle.mime.proofs.iter.MimeIterIterator.next.Goals as goal
@@ -11,7 +11,7 @@ pub returns-in_default-places-clause-steps : goal.returns-in_default-places-clau
 returns-in_default-places-clause-steps c = next-bad _ _ _ (rw c.in_default-places.is at c.in-Some.ensures)
 
 pub returns-in-Ok-clause-steps : goal.returns-in-Ok-clause-steps
-returns-in-Ok-clause-steps c = next-good _ _ _ _ _ (rw c.in-Some-places.is at c.in-Some.ensures) c.in-Ok.ensures.read
+returns-in-Ok-clause-steps c = next-good _ _ _ _ _ (rw c.in-Some-places.is at c.in-Some.ensures) c.in-Ok.ensures.read (search rules)
 
 pub returns-in-Err-clause-steps : goal.returns-in-Err-clause-steps
 returns-in-Err-clause-steps c =

@@ -1,0 +1,20 @@
+use mime::Mime;
+use mime_examples::handler::{Handler, handler_of};
+use std::test::Fail;
+
+#[test]
+fn a_handler_is_chosen_by_constants(rt: HostRuntime) -> Result<(), Fail> {
+    for (text, want) in [
+        ("application/json", Handler::Json),
+        ("Application/JSON; q=1", Handler::Json),
+        ("application/x-www-form-urlencoded", Handler::Form),
+        ("application/json+xml", Handler::Refuse),
+        ("application/x-www-form-urlencoded+xml", Handler::Refuse),
+        ("application/problem+json", Handler::Refuse),
+        ("text/json", Handler::Refuse),
+    ] {
+        let mime = Mime::from_str(rt.alloc(), text)?;
+        assert_eq!(rt; handler_of(&mime), want, "at {text}");
+    }
+    Ok(())
+}
