@@ -32,8 +32,15 @@ fn same(first: &Mime, second: &Mime) -> bool
     if first.count() == 0 {
         return false;
     }
-    // A list of parameters can be written in more than one way.
-    order_parts(first, second).is_eq()
+    same_parts(first, second)
+}
+
+/// Whether two values are equal, part by part: a list of parameters can be written in more than one way.
+#[inline(never)]
+fn same_parts(first: &Mime, second: &Mime) -> bool
+    ensures { IsTrue result ↔ Same first.now.media second.now.media }
+{
+    first.essence_str() == second.essence_str() && first.pairs().eq(second.pairs())
 }
 
 /// How two values compare.
