@@ -40,23 +40,23 @@ class Edit:
     """A change of the crates' files, with what is said of it."""
 
     def __init__(self, path, kind):
-        self.path, self.name = path, os.path.basename(path).removesuffix(".edit")
-        self.said, self.changes = {}, []
+        self.name, self.is_twin = os.path.basename(path).removesuffix(".edit"), kind == "twins"
+        crate = re.match(r"crates/\w+/(?=must-fail/)", path)
+        said, self.changes = {}, []
         for line in text_of(path).split("\n"):
-            kind_of_line, _, text = line.partition(":")
-            self.said[kind_of_line] = text.removeprefix(" ")
-            if kind_of_line == "new":
-                self.changes.append((self.file(), self.said.pop("old", ""), self.said["new"]))
-        lacking = [it for it in (*NEEDED[kind], "file") if not self.said.get(it)]
-        if lacking or not self.changes or not all(old for _, old, _ in self.changes):
-            raise ValueError(f"{path}: it lacks {' and '.join(lacking) or 'old and new'}")
+            word, _, text = line.partition(":")
+            said[word] = text.removeprefix(" ")
+            if word == "new":
+                self.changes.append(((crate[0] if crate else "") + said.get("file", ""), said.pop("old", ""), said["new"]))
+        lacking = [it for it in (*NEEDED[kind], "file", "new") if it not in said]
+        if lacking or not all(old for _, old, _ in self.changes):
+            raise ValueError(f"{path}: it lacks {' and '.join(lacking) or 'a line old before a line new'}")
         if any(old == new for _, old, new in self.changes):
             raise ValueError(f"{path}: it changes a text into the same")
+        self.fn, self.clause, self.refused_by, self.why = (said.get(it, "") for it in ("fn", "clause", "refused by", "why"))
 
-    def file(self):
-        """The file that it changes, from the top of the repository."""
-        crate = re.match(r"crates/\w+/(?=must-fail/)", self.path)
-        return f"{crate[0] if crate else ''}{self.said.get('file', '')}"
+    def __str__(self):
+        return f"{'twin' if self.is_twin else 'edit'} {self.name}"
 
 
 def applied(changes, texts):

@@ -207,7 +207,7 @@ viable_unique text items others rest left (of_refused is) (of_accepted v reads) 
 viable_unique text items others rest left (of_refused is) (of_refused too) = (refl, refl)
 
 -- a piece has one list of items
-items_of_unique : (piece : List ℕ) (one two : List CutItem) → ItemsOf piece one → ItemsOf piece two → one ≡ two
+pub items_of_unique : (piece : List ℕ) (one two : List CutItem) → ItemsOf piece one → ItemsOf piece two → one ≡ two
 items_of_unique piece one two (is_read v reads) (is_read w again) = ap (λ x. good piece x ∷ []) (one_reading piece v w reads again)
 items_of_unique piece one two (is_read v reads) (is_refused is some) = absurd (is (v, reads))
 items_of_unique piece one two (is_read v reads) (is_empty e) = absurd (empty-refused (subst IsAccepted e (v, reads)))

@@ -103,8 +103,9 @@ pub cut_has_items : CutHasItems
 cut_has_items text items rest (whole t value reads) = ((reads, tt), empty_is_viable, empty-refused)
 cut_has_items text items rest (unfinished t viable is) = (tt, viable, is)
 cut_has_items text items rest (goes_on t p c l first others r split of_piece cut) =
+    let viable = subst IsViable (split-piece t p c l split) split.front.viable in
     let more = cut_has_items l others r cut in
-    (are_items-append first others (are_items-of p first (subst IsViable (split-piece t p c l split) split.front.viable) of_piece) more.0, more.1, more.2)
+    (are_items-append first others (are_items-of p first viable of_piece) more.0, more.1, more.2)
 
 -- ---- a front in valid UTF-8
 
@@ -123,7 +124,8 @@ completion-utf8 NoMemory = tt
 completed_in_utf8 : (front : List ℕ) (fault : ParseError) → IsUtf8 front → Lacks front fault → IsViableInUtf8 front
 completed_in_utf8 front fault utf8 lacks = by (completion_of fault) (completion-utf8 fault) lacks.0
   where
-    by : (o : Option (List ℕ)) → MatchOption o (Unit {0}) IsUtf8 → MatchOption o ⊥ (λ more. IsAccepted (front ++ more)) → IsViableInUtf8 front
+    by : (o : Option (List ℕ)) → MatchOption o (Unit {0}) IsUtf8 → MatchOption o ⊥ (λ more. IsAccepted (front ++ more))
+        → IsViableInUtf8 front
     by None ascii completed = absurd completed
     by (Some more) ascii completed = (more, IsUtf8-append front more utf8 ascii, completed)
 

@@ -3,6 +3,7 @@ pub mod Classes
 pub mod ByteTables
 pub mod ByteAt
 pub mod Quoted
+pub mod ContentEnds
 -- the grammar walked
 pub mod Begun
 pub mod Walks
@@ -13,7 +14,6 @@ pub mod OneFault
 pub mod EachByte
 pub mod ForeignBytes
 pub mod Borders
-pub mod StandardFacts
 -- the scanner
 pub mod Passing
 pub mod Verdicts
@@ -51,3 +51,12 @@ pub mod RunProofs
 pub mod Characters
 -- laws on which no code rests
 pub mod LawProofs
+-- texts, values and runs for which definitions and laws are true, and others for which they are false
+pub mod StandardFacts
+pub mod GrammarFacts
+pub mod ValueFacts
+pub mod ComparisonFacts
+pub mod RefusalFacts
+pub mod CutFacts
+pub mod RunFacts
+pub mod LawFacts

@@ -13,15 +13,15 @@ use Rattle.mime.proofs.Viability.{slash_fault-from_walk, subtype_fault-from_walk
 -- ---- accepted texts
 
 -- a value by its essence, the positions of slash and plus, its pairs and its kept text
-abbrev media : List ℕ → ℕ → Option ℕ → List (List ℕ × List ℕ) → List ℕ → MediaType
+abbrev pub media : List ℕ → ℕ → Option ℕ → List (List ℕ × List ℕ) → List ℕ → MediaType
 media essence slash plus pairs kept = record { essence = essence; slash = slash; plus = plus; pairs = pairs; kept = kept }
 
 -- a tree by its type, its subtype and its tail
-abbrev tree_from_parts : List ℕ → List ℕ → Tail → SyntaxTree
+abbrev pub tree_from_parts : List ℕ → List ℕ → Tail → SyntaxTree
 tree_from_parts top sub tail = record { top = top; sub = sub; tail = tail }
 
 -- a well-formed tree has its text read as its value
-reads : (top sub : List ℕ) (tail : Tail) → IsWellFormed (tree_from_parts top sub tail)
+pub reads : (top sub : List ℕ) (tail : Tail) → IsWellFormed (tree_from_parts top sub tail)
     → Reads (text_of (tree_from_parts top sub tail)) (value_of (tree_from_parts top sub tail))
 reads top sub tail fine = record { tree = tree_from_parts top sub tail; well_formed = fine; spelled = refl; valued = refl }
 
@@ -31,7 +31,7 @@ unfolding is_token_byte
 plus_first = reads (codes "a") (codes "+xml") no_list (refl, refl, tt)
 
 -- the last plus begins the suffix
-plus_twice : Reads (codes "a/b+c+d") (media (codes "a/b+c+d") 1 (Some 5) [] (codes "a/b+c+d"))
+pub plus_twice : Reads (codes "a/b+c+d") (media (codes "a/b+c+d") 1 (Some 5) [] (codes "a/b+c+d"))
 unfolding is_token_byte
 plus_twice = reads (codes "a") (codes "b+c+d") no_list (refl, refl, tt)
 
@@ -41,7 +41,7 @@ unfolding is_token_byte
 plus_last = reads (codes "a") (codes "b+") no_list (refl, refl, tt)
 
 -- type, subtype, names and a charset are lowered, other values are kept
-lowered_parts : Reads (codes "TEXT/PLAIN; CHARSET=UTF-8; FOO=BAR")
+pub lowered_parts : Reads (codes "TEXT/PLAIN; CHARSET=UTF-8; FOO=BAR")
     (media (codes "text/plain") 4 None ((codes "charset", codes "utf-8") ∷ (codes "foo", codes "BAR") ∷ [])
     (codes "text/plain; charset=utf-8; foo=BAR"))
 unfolding is_token_byte
@@ -125,22 +125,22 @@ empty_text : IsFault [] MissingSlash
 empty_text = slash_fault-from_walk [] [] refl
 
 -- a type alone
-no_slash : IsFault (codes "invalid") MissingSlash
+pub no_slash : IsFault (codes "invalid") MissingSlash
 unfolding is_token_byte
 no_slash = slash_fault-from_walk (codes "invalid") (codes "invalid") refl
 
 -- a type and its slash
-no_subtype : IsFault (codes "text/") MissingSubtype
+pub no_subtype : IsFault (codes "text/") MissingSubtype
 unfolding is_token_byte
 no_subtype = subtype_fault-from_walk (codes "text/") (codes "text") refl
 
 -- a parameter's name alone
-no_equals : IsFault (codes "a/b;p") MissingEqual
+pub no_equals : IsFault (codes "a/b;p") MissingEqual
 unfolding is_token_byte
 no_equals = equal_fault-from_walk (codes "a/b;p") (codes "a") (codes "b") [] [] (codes "p") refl
 
 -- a name and its equals sign
-no_value : IsFault (codes "a/b;p=") MissingValue
+pub no_value : IsFault (codes "a/b;p=") MissingValue
 unfolding is_token_byte
 no_value = value_fault-from_walk (codes "a/b;p=") (codes "a") (codes "b") [] [] (codes "p") refl
 
@@ -154,7 +154,7 @@ unfolding is_token_byte is_quoted_byte
 equals_in_quotes = quote_fault-from_walk (codes "a/b;p=\"=") (codes "a") (codes "b") [] [] (codes "p") (codes "=") refl
 
 -- a paired quote closes nothing
-no_quote : IsFault (codes "a/b;p=\"\\\"") MissingQuote
+pub no_quote : IsFault (codes "a/b;p=\"\\\"") MissingQuote
 unfolding is_token_byte is_quoted_byte
 no_quote = quote_fault-from_walk (codes "a/b;p=\"\\\"") (codes "a") (codes "b") [] [] (codes "p") (codes "\\\"") refl
 
@@ -164,7 +164,7 @@ unfolding is_token_byte is_quoted_byte
 lone_backslash = quote_fault-from_walk (codes "a/b;p=\"\\") (codes "a") (codes "b") [] [] (codes "p") (codes "\\") refl
 
 -- a type has no space
-space_in_type : IsFault (codes "a b") (InvalidToken 1 32)
+pub space_in_type : IsFault (codes "a b") (InvalidToken 1 32)
 unfolding is_token_byte
 space_in_type = dead-from_walk (codes "a") (codes "b") 32 _ refl refl
 

@@ -3,7 +3,7 @@ use std::test::Fail;
 
 #[test]
 fn good_entries_are_kept_and_bad_ones_named(rt: HostRuntime) -> Result<(), Fail> {
-    for (accept, want, want_bad) in [
+    static CASES: &[(&str, &str, &str)] = &[
         (
             "text/html, invalid, */*;q=0.8",
             "text/html|*/*;q=0.8|",
@@ -14,7 +14,8 @@ fn good_entries_are_kept_and_bad_ones_named(rt: HostRuntime) -> Result<(), Fail>
         ("text/html, a/b;p", "text/html|", ""),
         ("text/html, a/b;p,", "text/html|", "a/b;p|"),
         ("", "", ""),
-    ] {
+    ];
+    for &(accept, want, want_bad) in CASES {
         let entries = entries_of(rt.alloc(), accept)?;
         let mut good = String::new(rt.alloc());
         for mime in &entries.good {

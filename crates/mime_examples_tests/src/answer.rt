@@ -3,7 +3,7 @@ use mime_examples::answer::{refusal, status_of};
 
 #[test]
 fn each_fault_is_answered(rt: HostRuntime) {
-    for (content_type, want) in [
+    static CASES: &[(&str, Option<u16>)] = &[
         ("application/json", None),
         ("Application/JSON;", None),
         ("application/json; charset=utf-8", None),
@@ -19,7 +19,8 @@ fn each_fault_is_answered(rt: HostRuntime) {
         ("application/json;;", Some(400)),
         ("application json", Some(400)),
         ("", Some(400)),
-    ] {
+    ];
+    for &(content_type, want) in CASES {
         assert_eq!(rt;
             refusal(rt.alloc(), content_type),
             want,

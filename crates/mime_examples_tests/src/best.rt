@@ -4,7 +4,7 @@ use std::alloc::AllocError;
 
 #[test]
 fn weights_are_read_in_thousandths(rt: HostRuntime) {
-    for (weight, want) in [
+    static CASES: &[(&str, Option<u16>)] = &[
         ("1", Some(1000)),
         ("1.000", Some(1000)),
         ("0", Some(0)),
@@ -20,7 +20,8 @@ fn weights_are_read_in_thousandths(rt: HostRuntime) {
         ("2", None),
         ("high", None),
         ("", None),
-    ] {
+    ];
+    for &(weight, want) in CASES {
         assert_eq!(rt; thousandths(weight), want, "at {weight}");
     }
 }
@@ -28,7 +29,7 @@ fn weights_are_read_in_thousandths(rt: HostRuntime) {
 #[test]
 fn the_best_offer_is_found(rt: HostRuntime) -> Result<(), AllocError> {
     let offers = [TEXT_HTML.mime(), TEXT_PLAIN.mime(), APPLICATION_JSON.mime()];
-    for (accept, want) in [
+    static CASES: &[(&str, Option<&str>)] = &[
         ("*/*", Some("text/html")),
         ("application/json", Some("application/json")),
         (
@@ -50,7 +51,8 @@ fn the_best_offer_is_found(rt: HostRuntime) -> Result<(), AllocError> {
         ("*/*;q=0", None),
         ("image/*", None),
         ("", None),
-    ] {
+    ];
+    for &(accept, want) in CASES {
         let found: Option<&Mime> = best(rt.alloc(), accept, &offers)?;
         assert_eq!(rt; found.map(|mime| mime.as_str()), want, "at {accept}");
     }

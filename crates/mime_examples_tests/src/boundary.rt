@@ -4,7 +4,7 @@ use std::test::Fail;
 
 #[test]
 fn a_form_has_its_boundary(rt: HostRuntime) -> Result<(), Fail> {
-    for (text, want) in [
+    static CASES: &[(&str, Option<&str>)] = &[
         ("multipart/form-data; boundary=AbC", Some("AbC")),
         (
             "Multipart/Form-Data; charset=UTF-8; BOUNDARY=\"a b\"",
@@ -23,7 +23,8 @@ fn a_form_has_its_boundary(rt: HostRuntime) -> Result<(), Fail> {
         ),
         ("multipart/form-data", None),
         ("multipart/mixed; boundary=x", None),
-    ] {
+    ];
+    for &(text, want) in CASES {
         let mime = Mime::from_str(rt.alloc(), text)?;
         assert_eq!(rt; form_boundary(&mime), want, "at {text}");
     }
@@ -32,9 +33,19 @@ fn a_form_has_its_boundary(rt: HostRuntime) -> Result<(), Fail> {
 
 #[test]
 fn a_form_is_made_with_its_boundary(rt: HostRuntime) -> Result<(), Fail> {
-    for (boundary, want) in [
+    static CASES: &[(&str, Option<&str>)] = &[
         ("AbC", Some("multipart/form-data; boundary=\"AbC\"")),
         ("a b", Some("multipart/form-data; boundary=\"a b\"")),
+        (
+            "0123456789012345678901234567890123456789012345678901234567890123456789",
+            Some(
+                "multipart/form-data; boundary=\"0123456789012345678901234567890123456789012345678901234567890123456789\"",
+            ),
+        ),
+        (
+            "01234567890123456789012345678901234567890123456789012345678901234567890",
+            None,
+        ),
         (
             "0123456789012345678901234567890123456789012345678901234567890123456789",
             Some(
@@ -51,7 +62,8 @@ fn a_form_is_made_with_its_boundary(rt: HostRuntime) -> Result<(), Fail> {
         ("x\\", None),
         ("x\ny", None),
         ("", None),
-    ] {
+    ];
+    for &(boundary, want) in CASES {
         let mime = form_with_boundary(rt.alloc(), boundary);
         assert_eq!(rt;
             mime.as_ref().map(|mime| mime.as_str()),

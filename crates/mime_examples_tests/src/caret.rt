@@ -4,7 +4,7 @@ use std::test::Fail;
 
 #[test]
 fn a_caret_is_under_the_fault(rt: HostRuntime) -> Result<(), Fail> {
-    for (text, want) in [
+    static CASES: &[(&str, &str)] = &[
         ("text plain", "    ^"),
         ("text", "    ^"),
         ("", "^"),
@@ -12,7 +12,8 @@ fn a_caret_is_under_the_fault(rt: HostRuntime) -> Result<(), Fail> {
         ("a/b;é", "    ^"),
         ("a/b ;p=x", "   ^"),
         ("a/b;p=\"x", "        ^"),
-    ] {
+    ];
+    for &(text, want) in CASES {
         let error = Mime::from_str(rt.alloc(), text).err().ok_or("a fault")?;
         let line = caret_line(rt.alloc(), text, &error)?;
         assert_eq!(rt; line.as_str(), want, "at {text}");

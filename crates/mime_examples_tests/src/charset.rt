@@ -4,7 +4,7 @@ use std::test::Fail;
 
 #[test]
 fn a_charset_takes_the_place_of_the_parameters(rt: HostRuntime) -> Result<(), Fail> {
-    for (text, charset, want) in [
+    static CASES: &[(&str, &str, Option<&str>)] = &[
         ("text/html", "UTF-8", Some("text/html; charset=\"utf-8\"")),
         (
             "a/b+c; charset=x; p=q",
@@ -15,7 +15,8 @@ fn a_charset_takes_the_place_of_the_parameters(rt: HostRuntime) -> Result<(), Fa
         ("text/html", "x\"; p=\"y", None),
         ("text/html", "x\\", None),
         ("text/html", "x\ny", None),
-    ] {
+    ];
+    for &(text, charset, want) in CASES {
         let mime = Mime::from_str(rt.alloc(), text)?;
         let made = with_charset(rt.alloc(), &mime, charset);
         assert_eq!(rt;

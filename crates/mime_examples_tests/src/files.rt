@@ -3,7 +3,7 @@ use mime_examples::files::{is_compressible, type_of_file};
 
 #[test]
 fn a_file_has_a_type(rt: HostRuntime) {
-    for (name, want, compressible) in [
+    static CASES: &[(&str, Atom, bool)] = &[
         ("index.html", TEXT_HTML_UTF_8, true),
         ("a.b.HTM", TEXT_HTML_UTF_8, true),
         ("a.html.jpg", IMAGE_JPEG, false),
@@ -12,7 +12,8 @@ fn a_file_has_a_type(rt: HostRuntime) {
         ("a.xhtml", APPLICATION_OCTET_STREAM, true),
         ("a.", APPLICATION_OCTET_STREAM, true),
         ("", APPLICATION_OCTET_STREAM, true),
-    ] {
+    ];
+    for &(name, want, compressible) in CASES {
         let atom: Atom = type_of_file(name);
         assert_eq!(rt; atom, want, "at {name}");
         assert_eq!(rt; is_compressible(atom), compressible, "at {name}");

@@ -4,7 +4,7 @@ use std::test::Fail;
 
 #[test]
 fn a_handler_is_chosen_by_constants(rt: HostRuntime) -> Result<(), Fail> {
-    for (text, want) in [
+    static CASES: &[(&str, Handler)] = &[
         ("application/json", Handler::Json),
         ("Application/JSON; q=1", Handler::Json),
         ("application/x-www-form-urlencoded", Handler::Form),
@@ -12,7 +12,8 @@ fn a_handler_is_chosen_by_constants(rt: HostRuntime) -> Result<(), Fail> {
         ("application/x-www-form-urlencoded+xml", Handler::Refuse),
         ("application/problem+json", Handler::Refuse),
         ("text/json", Handler::Refuse),
-    ] {
+    ];
+    for &(text, want) in CASES {
         let mime = Mime::from_str(rt.alloc(), text)?;
         assert_eq!(rt; handler_of(&mime), want, "at {text}");
     }

@@ -3,14 +3,12 @@ use std::test::Fail;
 
 #[test]
 fn a_value_is_read_from_its_bytes(rt: HostRuntime) -> Result<(), Fail> {
-    for (value, want) in [
-        (
-            b"Text/Plain;Charset=UTF-8".as_slice(),
-            "text/plain;charset=utf-8",
-        ),
+    static CASES: &[(&[u8], &str)] = &[
+        (b"Text/Plain;Charset=UTF-8", "text/plain;charset=utf-8"),
         (b" \ta/b \t", "a/b"),
-        ("a/b;p=\"é\"".as_bytes(), "a/b;p=\"é\""),
-    ] {
+        (b"a/b;p=\"\xc3\xa9\"", "a/b;p=\"é\""),
+    ];
+    for &(value, want) in CASES {
         let mime = header_value(rt.alloc(), value).ok().ok_or("no value")?;
         assert_eq!(rt; mime.as_str(), want);
     }

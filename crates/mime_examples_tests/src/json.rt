@@ -4,7 +4,7 @@ use std::test::Fail;
 
 #[test]
 fn json_is_told(rt: HostRuntime) -> Result<(), Fail> {
-    for (text, want) in [
+    static CASES: &[(&str, bool)] = &[
         ("application/json", true),
         ("Application/JSON; charset=latin1", true),
         ("application/problem+json", true),
@@ -13,7 +13,8 @@ fn json_is_told(rt: HostRuntime) -> Result<(), Fail> {
         ("application/json-seq", false),
         ("text/plain; a=json", false),
         ("a/+json", false),
-    ] {
+    ];
+    for &(text, want) in CASES {
         let mime = Mime::from_str(rt.alloc(), text)?;
         assert_eq!(rt; is_json(&mime), want, "at {text}");
     }

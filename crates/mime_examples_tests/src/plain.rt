@@ -4,7 +4,7 @@ use std::test::Fail;
 
 #[test]
 fn plain_text_is_told(rt: HostRuntime) -> Result<(), Fail> {
-    for (text, want) in [
+    static CASES: &[(&str, bool)] = &[
         ("text/plain", true),
         ("TEXT/Plain; charset=latin1", true),
         ("text/plain+xml", true),
@@ -12,7 +12,8 @@ fn plain_text_is_told(rt: HostRuntime) -> Result<(), Fail> {
         ("text/plainer", false),
         ("application/plain", false),
         ("plain/text", false),
-    ] {
+    ];
+    for &(text, want) in CASES {
         let mime = Mime::from_str(rt.alloc(), text)?;
         assert_eq!(rt; is_plain(&mime), want, "at {text}");
     }

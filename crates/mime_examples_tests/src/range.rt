@@ -4,7 +4,7 @@ use std::test::Fail;
 
 #[test]
 fn a_range_covers_its_types(rt: HostRuntime) -> Result<(), Fail> {
-    for (range, text, want) in [
+    static CASES: &[(&str, &str, bool)] = &[
         ("*/*", "text/html", true),
         ("*/*; q=0.5", "image/svg+xml; p=q", true),
         ("text/*", "TEXT/html", true),
@@ -18,7 +18,8 @@ fn a_range_covers_its_types(rt: HostRuntime) -> Result<(), Fail> {
         ("image/svg", "image/svg+xml", false),
         ("text/*+xml", "text/a+xml", false),
         ("*/html", "text/html", false),
-    ] {
+    ];
+    for &(range, text, want) in CASES {
         let covered = covers(
             &Mime::from_str(rt.alloc(), range)?,
             &Mime::from_str(rt.alloc(), text)?,

@@ -4,7 +4,7 @@ use std::alloc::AllocError;
 
 #[test]
 fn white_space_before_semicolons_is_taken_out(rt: HostRuntime) -> Result<(), AllocError> {
-    for (value, want) in [
+    static CASES: &[(&str, &str)] = &[
         ("text/html ; q=0", "text/html; q=0"),
         ("a/b \t;p=x ; q=y, c/d ;r=s ", "a/b;p=x; q=y, c/d;r=s"),
         ("a/b;p=\"x ;y\" ;q=1", "a/b;p=\"x ;y\";q=1"),
@@ -15,7 +15,8 @@ fn white_space_before_semicolons_is_taken_out(rt: HostRuntime) -> Result<(), All
         ("é ;", "é;"),
         (" ; ", ";"),
         ("", ""),
-    ] {
+    ];
+    for &(value, want) in CASES {
         let tight = tightened(rt.alloc(), value)?;
         assert_eq!(rt; tight.as_str(), want, "at {value}");
     }

@@ -21,7 +21,7 @@ enum Task {
     Clone,
     /// The media types in it are taken one by one.
     Items,
-    /// It is compared with the line before.
+    /// What is before its first tab is compared with the rest.
     Compare,
 }
 
@@ -60,7 +60,6 @@ fn main(rt: HostRuntime) -> ExitCode {
 fn done(rt: &HostRuntime, task: Task) -> io::Result<()> {
     let mut input = String::new(rt.alloc());
     rt.stdin().read_to_string(&mut input)?;
-    let mut before = "";
     for text in input.as_str().split('\n') {
         match task {
             Task::All => all(rt, text)?,
@@ -69,10 +68,9 @@ fn done(rt: &HostRuntime, task: Task) -> io::Result<()> {
             Task::Items => {
                 items(rt, text)?;
             }
-            Task::Compare => compare(rt, before, text)?,
+            Task::Compare => compare(rt, text)?,
         }
         println!(rt; "end")?;
-        before = text;
     }
     Ok(())
 }
@@ -122,8 +120,13 @@ fn items(rt: &HostRuntime, text: &str) -> io::Result<u128> {
     Ok(iter.steps())
 }
 
-/// Compares what two texts were read as: whether they are equal, in order and by their hashes, and the first with the other's text.
-fn compare(rt: &HostRuntime, first: &str, second: &str) -> io::Result<()> {
+/// Compares what two texts were read as, which a tab divides: whether they are equal, in order and by their hashes, and the
+/// first with the second's text.
+fn compare(rt: &HostRuntime, texts: &str) -> io::Result<()> {
+    println!(rt; "now")?;
+    let Some((first, second)) = texts.split_once('\t') else {
+        return println!(rt; "no tab");
+    };
     let (Ok(one), Ok(other)) = (
         Mime::from_str(rt.alloc(), first),
         Mime::from_str(rt.alloc(), second),

@@ -1,10 +1,28 @@
--- Worked examples of lines, rows and arguments, by computation, so that a wrong definition doesn't check.
-use Rattle.std.proofs.Common.{◌≡◌, [], ◌∷◌, refl, codes}
+-- Lines, rows, reports and arguments of which each definition is true, and others of which it is false, so that a page that says less
+-- or more doesn't check.
+use Rattle.std.proofs.Common.{◌≡◌, ℕ, ◌*◌, List, [], ◌∷◌, map, length, refl, sym, ap, ◌∙◌, subst, arith, codes}
+use Rattle.std.proofs.Math.Seq.{take-length}
+use Rattle.std.proofs.lemmas.Option.{slice_get_within}
 use Rattle.std.specs.Prelude.{Some, None}
+use Rattle.std.specs.Str.{IsUtf8}
+use Rattle.mime.specs.Bytes.{is_token_byte}
+use Rattle.mime.specs.Grammar.{no_list}
+use Rattle.mime.specs.Values.{MediaType, Reads, IsRefused}
+use Rattle.mime.specs.Refusals.{IsFault, IsViable}
+use Rattle.mime.specs.Printed.{error_text}
 use Rattle.mime.specs.Cut.{good, bad}
+use Rattle.mime.specs.Laws.{OneReading, OneFault, CompletedIsRefused, AcceptedIsViable}
+use Rattle.mime.specs.CutLaws.{OneCut}
+use Rattle.mime.specs.declared.scan.fault.ParseError.{ParseError}
+use Rattle.mime.specs.declared.scan.fault.ParseError.TheVariants.{InvalidToken}
 use Rattle.mime_lines.specs.declared.mode.Mode.{Mode}
-use Rattle.mime_lines.specs.Program.{mode_named}
-use Rattle.mime_lines.specs.Report.{lines_of, row, value_rows, item_rows}
+use Rattle.mime_lines.specs.declared.error.RunError.TheVariants.{Read, Write, TooLong, NoMemory}
+use Rattle.mime_lines.specs.Program.{limit, mode_named, stop_text}
+use Rattle.mime_lines.specs.Report.{lines_of, row, suffix_row, param_rows, value_rows, item_rows, ReportsText, ReportsLine, ReportsLines, IsReportOf}
+use Rattle.mime_lines.specs.Report.ReportsText.{read, refused, listed}
+use Rattle.mime_lines.specs.Report.ReportsLine.{not_text, is_text}
+use Rattle.mime_lines.specs.Report.ReportsLines.{no_more, line_more}
+use lib.Utf8.{encode}
 
 -- no bytes have no line
 no_lines : lines_of [] ≡ []
@@ -55,3 +73,78 @@ list_names_a_mode = refl
 -- and only in small letters
 capitals_name_no_mode : mode_named (codes "LIST") ≡ None
 capitals_name_no_mode = refl
+
+-- the most bytes of an input
+limit_of_input : limit ≡ 1024 * 1024
+limit_of_input = refl
+
+-- what each error prints
+printed_errors : map stop_text (Read ∷ Write ∷ TooLong ∷ NoMemory ∷ []) ≡ codes "read" ∷ codes "write" ∷ codes "too long" ∷ codes "no memory" ∷ []
+printed_errors = refl
+
+-- a value without suffix and parameters has no row for them
+rows_left_out : (suffix_row None ≡ []) × (param_rows [] ≡ [])
+rows_left_out = (refl, refl)
+
+-- ---- reports
+
+-- the value of `a/b`
+abbrev plain_value : MediaType
+plain_value = record { essence = codes "a/b"; slash = 1; plus = None; pairs = []; kept = codes "a/b" }
+
+reads_text : Reads (codes "a/b") plain_value
+unfolding is_token_byte
+reads_text = record {
+  tree = record { top = codes "a"; sub = codes "b"; tail = no_list };
+  well_formed = (refl, refl, tt);
+  spelled = refl;
+  valued = refl;
+}
+
+-- the report on one line, by its parts
+report_of_line : IsReportOf Mode.Parts (codes "a/b\n") (codes "ok a/b\ntype a\nsubtype b\n")
+unfolding encode
+report_of_line = line_more (is_text (codes "a/b", (refl, refl)) (read plain_value reads_text)) no_more
+
+-- bytes that are no text are reported as such, and a text isn't
+report_of_bytes : (mode : Mode) → ¬ (IsUtf8 (255 ∷ [])) → ReportsLine mode (255 ∷ []) (codes "not text\n")
+report_of_bytes mode not_utf8 = not_text not_utf8
+
+-- a text with a fault is refused
+refused-from_fault : CompletedIsRefused → AcceptedIsViable → (text : List ℕ) (fault : ParseError) → IsFault text fault → IsRefused text
+refused-from_fault completed viable text (InvalidToken pos byte) dead = λ accepted.
+    dead.front.longest (length text) (slice_get_within text pos byte dead.there) (omega arith)
+    (subst IsViable (sym (take-length text)) (viable text accepted))
+refused-from_fault completed viable text fault lacks = completed text fault lacks
+
+-- the report on a text is one
+one_report : OneReading → OneFault → CompletedIsRefused → AcceptedIsViable → OneCut → (mode : Mode) (text first second : List ℕ)
+    → ReportsText mode text first → ReportsText mode text second → first ≡ second
+one_report reading one completed viable cut mode text first second (read value reads) (read other again) =
+    ap value_rows (reading text value other reads again)
+one_report reading one completed viable cut mode text first second (read value reads) (refused fault is) =
+    absurd (refused-from_fault completed viable text fault is (value, reads))
+one_report reading one completed viable cut mode text first second (refused fault is) (read value reads) =
+    absurd (refused-from_fault completed viable text fault is (value, reads))
+one_report reading one completed viable cut mode text first second (refused fault is) (refused other also) =
+    let only = one text (refused-from_fault completed viable text fault is) in
+    ap (λ it. row (codes "bad ") (error_text it)) (only.2 fault is ∙ sym (only.2 other also))
+one_report reading one completed viable cut mode text first second (listed items rest is) (listed others left also) =
+    let only = cut text in ap item_rows ((only.3 items rest is).0 ∙ sym (only.3 others left also).0)
+
+-- so is the report on a line: one that isn't text has no other
+one_report-line : (mode : Mode) (line first second : List ℕ)
+    → ((text rows others : List ℕ) → ReportsText mode text rows → ReportsText mode text others → rows ≡ others)
+    → ReportsLine mode line first → ReportsLine mode line second → first ≡ second
+one_report-line mode line first second one (not_text isnt) (not_text too) = refl
+one_report-line mode line first second one (not_text isnt) (is_text utf8 report) = absurd (isnt utf8)
+one_report-line mode line first second one (is_text utf8 report) (not_text isnt) = absurd (isnt utf8)
+one_report-line mode line first second one (is_text utf8 report) (is_text too other) = one line first second report other
+
+-- and on lines, one after another
+one_report-lines : (mode : Mode) (lines : List (List ℕ)) (first second : List ℕ)
+    → ((line rows others : List ℕ) → ReportsLine mode line rows → ReportsLine mode line others → rows ≡ others)
+    → ReportsLines mode lines first → ReportsLines mode lines second → first ≡ second
+one_report-lines mode lines first second one no_more no_more = refl
+one_report-lines mode lines first second one (line_more report more) (line_more other others) =
+    cc (one _ _ _ report other, one_report-lines mode _ _ _ one more others)

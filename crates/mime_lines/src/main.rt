@@ -9,6 +9,7 @@ ghost use Rattle.mime_lines.specs.Program.{mode_named};
 mod device;
 mod error;
 mod input;
+pub mod laws;
 mod lines;
 mod mode;
 mod report;

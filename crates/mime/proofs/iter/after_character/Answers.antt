@@ -9,7 +9,8 @@ loop-end-init c = rw c.as_bytes-bytes.ensures.value (passed_first _ c.requires, 
 
 pub loop-end-preserved : goal.loop-end-preserved
 loop-end-preserved c =
-    (passed_more _ _ c.loop-end.invariant.0 c.loop-end-test.true (sym c.is_continuation_byte.ensures ∙ c.if-is_continuation_byte.true), omega (arith, c.loop-end-test.true))
+    let follows = sym c.is_continuation_byte.ensures ∙ c.if-is_continuation_byte.true in
+    (passed_more _ _ c.loop-end.invariant.0 c.loop-end-test.true follows, omega (arith, c.loop-end-test.true))
 
 pub returns : goal.returns
 returns c =
