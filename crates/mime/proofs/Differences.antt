@@ -33,7 +33,8 @@ one_more f a b marks n room other_room within so_far =
     take_more_set marks n (f (get_or a n 0) (get_or b n 0)) within
     ∙ ap (λ t. t ++ (f (get_or a n 0) (get_or b n 0) ∷ [])) so_far
     ∙ sym (ap (λ t. zip2 f t (take (n + 1) b)) (take_more a n 0 room) ∙ ap (zip2 f _) (take_more b n 0 other_room)
-    ∙ zip2_push f (take n a) (take n b) (get_or a n 0) (get_or b n 0) (omega (arith, length-take-le n a, length-take-le n b, room, other_room)))
+    ∙ zip2_push f (take n a) (take n b) (get_or a n 0) (get_or b n 0)
+    (omega (arith, length-take-le n a, length-take-le n b, room, other_room)))
 
 -- one more byte
 joined : (x y n : ℕ) (xs ys : List ℕ) → x ≡ y → take n xs ≡ take n ys → take (1 + n) (x ∷ xs) ≡ take (1 + n) (y ∷ ys)
@@ -90,12 +91,20 @@ module _ (a b marks : List ℕ) (found : ℕ) (room : 16 ≤ length a) (other_ro
   pub first_mark : 0 < found → FirstDifference a b (count_trailing_zeros 64 found)
   first_mark some =
       let at : count_trailing_zeros 64 found ≡ first_position 1 marks =
-      ap (count_trailing_zeros 64) found_is ∙ sym (position-marked 1 marks 16 (omega (arith, long)) (omega arith) (omega (arith, some, found_is))) in
+      ap (count_trailing_zeros 64) found_is
+      ∙ sym (position-marked 1 marks 16 (omega (arith, long)) (omega arith) (omega (arith, some, found_is))) in
       let n = first_position 1 marks in
       let near : n < length marks =
       elim (cases_lt n (length marks)) [
         | inl near ↦ near
-        | inr far ↦ absurd (omega (arith, some, found_is, whole, all_pass (λ b. b == 1) marks (omega (arith, far, prefix_len-le-length (λ b. not (b == 1)) marks))))
+        | inr far ↦ absurd (omega (
+          arith,
+          some,
+          found_is,
+          whole,
+          all_pass (λ b. b == 1) marks
+              (omega (arith, far, prefix_len-le-length (λ b. not (b == 1)) marks)),
+        ))
       ] in
       let stop : get_or marks n 0 ≡ 1 =
       (let stops = prefix_len_stops (λ b. not (b == 1)) marks 0 near in grind (arith, nat_tests)) in
@@ -103,7 +112,8 @@ module _ (a b marks : List ℕ) (found : ℕ) (room : 16 ≤ length a) (other_ro
       cc (
         stop,
         ap (λ m. get_or m n 0) is,
-        get_or-zip2 mark (take 16 a) (take 16 b) n 0 0 0 (omega (arith, near, long, length-take-le 16 a room)) (omega (arith, near, long, length-take-le 16 b other_room)),
+        get_or-zip2 mark (take 16 a) (take 16 b) n 0 0 0 (omega (arith, near, long, length-take-le 16 a room))
+            (omega (arith, near, long, length-take-le 16 b other_room)),
         get_or-take 16 a n 0 (omega (arith, near, long)),
         get_or-take 16 b n 0 (omega (arith, near, long)),
       ) in
@@ -116,11 +126,13 @@ module _ (a b marks : List ℕ) (found : ℕ) (room : 16 ≤ length a) (other_ro
 
 -- after what is alike: more of it, or a difference
 module _ (a b : List ℕ) (from : ℕ) (before : take from (lowered a) ≡ take from (lowered b)) where
-  pub alike_onward : (n : ℕ) → take n (lowered (take (length a - from) (drop from a))) ≡ take n (lowered (take (length b - from) (drop from b)))
+  pub alike_onward : (n : ℕ) → take n (lowered (take (length a - from) (drop from a)))
+      ≡ take n (lowered (take (length b - from) (drop from b)))
       → take (from + n) (lowered a) ≡ take (from + n) (lowered b)
   alike_onward n block =
       take-add from n (lowered a) ∙ ap (λ t. t ++ take n (drop from (lowered a))) before
-      ∙ ap (λ t. take from (lowered b) ++ t) (ap (take n) (sym (ending a)) ∙ block ∙ ap (take n) (ending b)) ∙ sym (take-add from n (lowered b))
+      ∙ ap (λ t. take from (lowered b) ++ t) (ap (take n) (sym (ending a)) ∙ block ∙ ap (take n) (ending b))
+      ∙ sym (take-add from n (lowered b))
     where
       ending : (text : List ℕ) → lowered (take (length text - from) (drop from text)) ≡ drop from (lowered text)
       ending text = ap lowered (take_rest text from) ∙ lowered-drop from text

@@ -63,7 +63,8 @@ told-list : (list : Parameters) → AreParameters list → Begins (told (text_of
 told-list (blank n) white = record { rest = []; is = sym (append-nil (told n) ∙ told-spaces n white) }
 told-list (final n p) (white, well) = record {
   rest = semicolon_byte ∷ [];
-  is = sym (ap (λ t. t ++ (semicolon_byte ∷ [])) (told-append n (text_of_parameter p) ∙ ap (λ t. t ++ told (text_of_parameter p)) (told-spaces n white)
+  is = sym (ap (λ t. t ++ (semicolon_byte ∷ [])) (told-append n (text_of_parameter p)
+      ∙ ap (λ t. t ++ told (text_of_parameter p)) (told-spaces n white)
       ∙ told-parameter p well));
 }
 told-list (more n p others) (white, well, follow) =
@@ -73,12 +74,14 @@ told-list (more n p others) (white, well, follow) =
       is = ap (λ t. told_pair (pair_of (lowered_parameter p)) ++ (semicolon_byte ∷ t)) after.is
           ∙ sym (ap (λ t. t ++ after.rest) (told-append n (text_of_parameter p ++ (semicolon_byte ∷ text_of_list others))
           ∙ ap (λ t. t ++ told (text_of_parameter p ++ (semicolon_byte ∷ text_of_list others))) (told-spaces n white)
-          ∙ told-append (text_of_parameter p) (semicolon_byte ∷ text_of_list others) ∙ ap (λ t. t ++ (semicolon_byte ∷ told (text_of_list others))) (told-parameter p well))
+          ∙ told-append (text_of_parameter p) (semicolon_byte ∷ text_of_list others)
+          ∙ ap (λ t. t ++ (semicolon_byte ∷ told (text_of_list others))) (told-parameter p well))
           ∙ append_assoc (told_pair (pair_of (lowered_parameter p))) (semicolon_byte ∷ told (text_of_list others)) after.rest);
     }
 
 -- a tail tells what its pairs do
-told-tail : (tail : Tail) → IsTail tail → Begins (told (text_of_tail tail)) (semicolon_byte ∷ told_pairs (pairs_of_tail (lowered_tail tail)))
+told-tail : (tail : Tail) → IsTail tail
+    → Begins (told (text_of_tail tail)) (semicolon_byte ∷ told_pairs (pairs_of_tail (lowered_tail tail)))
 told-tail no_list well = record { rest = semicolon_byte ∷ []; is = refl }
 told-tail (listed list) well = let parts = told-list list well in record { rest = parts.rest; is = ap (λ t. semicolon_byte ∷ t) parts.is }
 
@@ -89,7 +92,8 @@ told-reads text value reads =
     let tail = told-tail tree.tail reads.well_formed.2 in
     let essence : told (value_of tree).essence ≡ told (essence_of tree) =
     ap told (essence-lowered tree) ∙ ap (filter is_telling) (lowered-lowered (essence_of tree)) in
-    subst (λ t. Begins (told t) (told_value value)) reads.spelled (subst (λ (v : MediaType). Begins (told (text_of tree)) (told_value v)) reads.valued (record {
+    subst (λ t. Begins (told t) (told_value value)) reads.spelled
+    (subst (λ (v : MediaType). Begins (told (text_of tree)) (told_value v)) reads.valued (record {
       rest = tail.rest;
       is = ap (λ t. told (value_of tree).essence ++ t) tail.is ∙ ap (λ t. t ++ (told (text_of_tail tree.tail) ++ tail.rest)) essence
           ∙ sym (ap (λ t. t ++ tail.rest) (ap told (text_of-essence tree) ∙ told-append (essence_of tree) (text_of_tail tree.tail))
@@ -101,7 +105,8 @@ told-at : (text : List ℕ) (n : ℕ) → n < length text → IsTrue (is_telling
     → told text ≡ filter is_telling (take n (lowered text)) ++ (to_ascii_lowercase (slice_index text n) ∷ told (drop (n + 1) text))
 told-at text n within tells =
     let b = to_ascii_lowercase (slice_index text n) in
-    let rest : drop n (lowered text) ≡ b ∷ lowered (drop (n + 1) text) = sym (lowered-drop n text) ∙ ap lowered (drop_more text n 0 within) in
+    let rest : drop n (lowered text) ≡ b ∷ lowered (drop (n + 1) text) = sym (lowered-drop n text)
+    ∙ ap lowered (drop_more text n 0 within) in
     ap (filter is_telling) (sym (take-append-drop n (lowered text)) ∙ ap (λ t. take n (lowered text) ++ t) rest)
     ∙ filter-append is_telling (take n (lowered text)) (b ∷ lowered (drop (n + 1) text))
     ∙ ap (λ t. filter is_telling (take n (lowered text)) ++ t) (cond-true (is_telling b) _ _ (grind (arith, nat_tests, tells)))

@@ -29,12 +29,14 @@ front free more count held is within =
 pub joined_pair : (name value one other : List ℕ) → one ≡ name → other ≡ value → pair_count (name, value) < 64
     → take (length name + 1 + length value + 8 - (length name + 1 + length value) % 8)
     (set (take (length name + 1) (set (one ++ drop (length name) (replicate 64 0)) (length name) 255)
-    ++ (other ++ drop (length name + 1 + length value - (length name + 1)) (drop (length name + 1) (set (one ++ drop (length name) (replicate 64 0)) (length name) 255))))
+    ++ (other ++ drop (length name + 1 + length value - (length name + 1))
+    (drop (length name + 1) (set (one ++ drop (length name) (replicate 64 0)) (length name) 255))))
     (length name + 1 + length value) 255)
     ≡ pair_run (name, value)
 joined_pair name value one other first second short =
     let marked : length (name ++ 255 ∷ []) ≡ length name + 1 = length-append name (255 ∷ []) in
-    let filled : length (name ++ 255 ∷ [] ++ value) ≡ length name + 1 + length value = length-append (name ++ 255 ∷ []) value ∙ ap (λ n. n + length value) marked in
+    let filled : length (name ++ 255 ∷ [] ++ value) ≡ length name + 1 + length value = length-append (name ++ 255 ∷ []) value
+    ∙ ap (λ n. n + length value) marked in
     let ended : length (name ++ 255 ∷ [] ++ value ++ 255 ∷ []) ≡ length name + 1 + length value + 1 =
     length-append (name ++ 255 ∷ [] ++ value) (255 ∷ []) ∙ ap (λ n. n + 1) filled in
     rw (
@@ -43,7 +45,10 @@ joined_pair name value one other first second short =
       drop-replicate {X = ℕ} (length name) 64 0,
       put-mark (64 - length name) (63 - length name) (length name) name refl (omega (arith, short)),
       put-text (63 - length name) (length name + 1) (length name + 1 + length value - (length name + 1)) (name ++ 255 ∷ []) value marked,
-      put-mark (63 - length name - (length name + 1 + length value - (length name + 1))) (63 - (length name + 1 + length value)) (length name + 1 + length value) (name ++ 255 ∷ [] ++ value) filled (omega (arith, short)),
-      front (63 - (length name + 1 + length value)) (7 - (length name + 1 + length value) % 8) (length name + 1 + length value + 8 - (length name + 1 + length value) % 8) (name ++ 255 ∷ [] ++ value ++ 255 ∷ []) (omega (arith, ended)) (omega (arith, short)),
+      put-mark (63 - length name - (length name + 1 + length value - (length name + 1))) (63 - (length name + 1 + length value))
+          (length name + 1 + length value) (name ++ 255 ∷ [] ++ value) filled (omega (arith, short)),
+      front (63 - (length name + 1 + length value)) (7 - (length name + 1 + length value) % 8)
+          (length name + 1 + length value + 8 - (length name + 1 + length value) % 8) (name ++ 255 ∷ [] ++ value ++ 255 ∷ [])
+          (omega (arith, ended)) (omega (arith, short)),
     )
     (simp append_assoc)

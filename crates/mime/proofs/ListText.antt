@@ -60,7 +60,8 @@ behind_to byte run follow rest all follows =
 
 -- a plain value is cut up to the semicolon or the end
 cut_value-plain : (whole : ℕ) (name value follow rest : List ℕ) → AreTokenBytes value → IsFollow semicolon_byte follow rest
-    → cut_behind_equals whole name (value ++ follow) ≡ record { name = name; head = whole - length (value ++ follow); value = value; rest = rest }
+    → cut_behind_equals whole name (value ++ follow)
+    ≡ record { name = name; head = whole - length (value ++ follow); value = value; rest = rest }
 cut_value-plain whole name [] follow rest all nothing = ap (λ n. record { name = name; head = n; value = []; rest = [] }) (omega arith)
 cut_value-plain whole name [] follow rest all (marked _) = refl
 cut_value-plain whole name (v ∷ value) follow rest all follows =

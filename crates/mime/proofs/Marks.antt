@@ -50,7 +50,8 @@ all_pass p (x ∷ xs) e = none_fails (p x) _ (length xs) _ (prefix_len-le-length
 
 -- the first bytes and the others
 split : (byte : ℕ) (text : List ℕ) (n : ℕ) → first_position byte text
-    ≡ cond (eqb (first_position byte (take n text)) (length (take n text))) (length (take n text) + first_position byte (drop n text)) (first_position byte (take n text))
+    ≡ cond (eqb (first_position byte (take n text)) (length (take n text))) (length (take n text) + first_position byte (drop n text))
+    (first_position byte (take n text))
 split byte text n =
     ap (first_position byte) (sym (take-append-drop n text)) ∙ prefix_len-append (λ b. not (b == byte)) (take n text) (drop n text)
 
@@ -110,7 +111,8 @@ module _ (byte found : ℕ) (whole text : List ℕ) (is : IsEndOf text whole) (l
       ≡ first_position byte text
   shown =
       ap (λ m. cond (eqb m 0) (length text) (count_trailing_zeros 64 m))
-      (ap (λ n. n / 2 ^ (16 - length text)) (found_is ∙ ap (marks_of byte) (last_bytes whole long)) ∙ marks-end byte whole text is long short)
+      (ap (λ n. n / 2 ^ (16 - length text)) (found_is ∙ ap (marks_of byte) (last_bytes whole long))
+      ∙ marks-end byte whole text is long short)
       ∙ first_set_mask_l (λ b. b == byte) text (length text) refl (omega (arith, short))
 
   pub position-end_none : found / 2 ^ (16 - length text) ≡ 0 → length text ≡ first_position byte text
@@ -122,7 +124,8 @@ module _ (byte found : ℕ) (whole text : List ℕ) (is : IsEndOf text whole) (l
 
 -- the next bytes are passed, where none is marked
 module _ (byte : ℕ) (text left : List ℕ) (is : IsEndOf left text) (room : 16 ≤ length left)
-    (none : marks_of byte (take 16 left) ≡ 0) (so_far : length text - length left + first_position byte left ≡ first_position byte text) where
+    (none : marks_of byte (take 16 left) ≡ 0)
+    (so_far : length text - length left + first_position byte left ≡ first_position byte text) where
   abbrev next : List ℕ
   next = take (length left - 16) (drop 16 left)
 

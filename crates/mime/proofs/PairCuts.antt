@@ -54,7 +54,8 @@ cut_value-lies list name (b ∷ bytes) end =
     (λ _. lies_from_end list (b ∷ bytes) name _ _ end (1, sym (drop-drop 1 (first_position semicolon_byte (b ∷ bytes)) (b ∷ bytes))))
 
 -- what is left behind it is an end of what the list is an end of
-pub cut_behind_equals-end : (size : ℕ) (name bytes whole : List ℕ) → IsEndOf bytes whole → IsEndOf (cut_behind_equals size name bytes).rest whole
+pub cut_behind_equals-end : (size : ℕ) (name bytes whole : List ℕ) → IsEndOf bytes whole
+    → IsEndOf (cut_behind_equals size name bytes).rest whole
 cut_behind_equals-end size name [] whole is = is
 cut_behind_equals-end size name (b ∷ bytes) whole is =
     cond_both (b == quote_byte) _ _ (λ (cut : PairCut). IsEndOf cut.rest whole)

@@ -34,7 +34,8 @@ pairs_of_list-lowered (blank n) = refl
 pairs_of_list-lowered (final n (plain name value)) = refl
 pairs_of_list-lowered (final n (quoted name content m)) = refl
 pairs_of_list-lowered (more n (plain name value) rest) = ap (λ pairs. lowered_pair (name, value) ∷ pairs) (pairs_of_list-lowered rest)
-pairs_of_list-lowered (more n (quoted name content m) rest) = ap (λ pairs. lowered_pair (name, content) ∷ pairs) (pairs_of_list-lowered rest)
+pairs_of_list-lowered (more n (quoted name content m) rest) = ap (λ pairs. lowered_pair (name, content) ∷ pairs)
+    (pairs_of_list-lowered rest)
 
 -- so the essence is as long as its tree's
 length-value_essence : (tree : SyntaxTree) → length (value_of tree).essence ≡ length tree.top + 1 + length tree.sub
@@ -106,7 +107,8 @@ IsAcceptedAt-same text {end} {also} {count} {number} ends counts is =
 -- each part of an accepted text has one position
 pub one_places : (text : List ℕ) (first second : Places) → HasPlaces text first → HasPlaces text second → first ≡ second
 one_places text first second has also =
-    sym has.placed ∙ ap places_of (one_tree has.tree also.tree has.well_formed also.well_formed (has.spelled ∙ sym also.spelled)) ∙ also.placed
+    sym has.placed ∙ ap places_of (one_tree has.tree also.tree has.well_formed also.well_formed (has.spelled ∙ sym also.spelled))
+    ∙ also.placed
 
 -- and it is accepted
 pub IsAccepted-at : (text : List ℕ) (end count : ℕ) → IsAcceptedAt text end count → IsAccepted text
@@ -122,7 +124,8 @@ pub record TextParts (value : MediaType) (text : List ℕ) : Type 0 where
   pub accepted : IsAcceptedAt text (length value.essence) (length value.pairs)
 
 -- it has them, and a text that has them is equal to the value
-pub text_is-by_parts : (kept text : List ℕ) (value : MediaType) → Reads kept value → value.pairs ≢ [] → TextIs value text ↔ TextParts value text
+pub text_is-by_parts : (kept text : List ℕ) (value : MediaType) → Reads kept value → value.pairs ≢ []
+    → TextIs value text ↔ TextParts value text
 text_is-by_parts kept text value reads some =
     let low = read-low_essence kept value reads in (
       λ is.
@@ -208,7 +211,10 @@ lone_charset list is =
 bare_essence : (top sub : List ℕ) → IsToken top → IsToken sub → HasNoSemicolon (top ++ (slash_byte ∷ sub))
 bare_essence top sub token sub_token =
     list_all-append (λ b. not (b == semicolon_byte)) top (slash_byte ∷ sub)
-    ∙ cc (are_other-token semicolon_byte semicolon_is_no_token top (AreTokenBytes-from_token top token), are_other-token semicolon_byte semicolon_is_no_token sub (AreTokenBytes-from_token sub sub_token))
+    ∙ cc (
+      are_other-token semicolon_byte semicolon_is_no_token top (AreTokenBytes-from_token top token),
+      are_other-token semicolon_byte semicolon_is_no_token sub (AreTokenBytes-from_token sub sub_token),
+    )
 
 -- lowering keeps semicolons
 HasNoSemicolon-lowered : (text : List ℕ)
@@ -220,9 +226,11 @@ HasNoSemicolon-lowered (b ∷ text) = rw (semicolon-lower b, HasNoSemicolon-lowe
 pub bare_tree : (tree : SyntaxTree) → HasNoSemicolon (text_of tree) → text_of tree ≡ essence_of tree
 bare_tree tree bare = go tree.tail (subst HasNoSemicolon (text_of-essence tree) bare)
   where
-    go : (tail : Tail) → HasNoSemicolon (essence_of tree ++ text_of_tail tail) → tree.top ++ (slash_byte ∷ (tree.sub ++ text_of_tail tail)) ≡ essence_of tree
+    go : (tail : Tail) → HasNoSemicolon (essence_of tree ++ text_of_tail tail)
+        → tree.top ++ (slash_byte ∷ (tree.sub ++ text_of_tail tail)) ≡ essence_of tree
     go no_list none = ap (λ x. tree.top ++ (slash_byte ∷ x)) (append-nil tree.sub)
-    go (listed list) none = absurd (second _ (sym (list_all-append (λ b. not (b == semicolon_byte)) (essence_of tree) (semicolon_byte ∷ text_of_list list)) ∙ none))
+    go (listed list) none =
+        absurd (second _ (sym (list_all-append (λ b. not (b == semicolon_byte)) (essence_of tree) (semicolon_byte ∷ text_of_list list)) ∙ none))
       where
         second : (a : Bool) → (a && false) ≡ true → ⊥
         second true is = absurd cc

@@ -23,7 +23,7 @@ pub(crate) fn difference(x: u8, y: u8) -> u8
     } else {
         0
     };
-    if (x ^ y) & !case == 0 { 0 } else { 1 }
+    u8::from((x ^ y) & !case != 0)
 }
 
 /// A mark for each of the first 16 bytes that differ but for case.

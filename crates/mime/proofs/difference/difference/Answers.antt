@@ -1,9 +1,10 @@
 -- Bytes that are the same but for case differ in no bit but a letter's: tried on all pairs of bytes.
-use Rattle.std.proofs.Common.{◌≡◌, ◌<◌, ◌-◌, ℕ, Bool, true, false, cond, nat_eq, bit_and, bit_or, refl, sym, ap, ◌∙◌, arith}
+use Rattle.std.proofs.Common.{◌≡◌, ◌<◌, ◌-◌, ℕ, Bool, true, false, not, cond, nat_eq, bit_and, bit_or, refl, sym, ap, ◌∙◌}
 use Rattle.std.specs.Int.Bits.{bit_xor}
 use Rattle.std.specs.Char.{is_ascii_lowercase}
 use Rattle.std.specs.List.{list_all, range_with_len}
-use Rattle.std.proofs.lemmas.Bool.{eqb-true, eq-eqb, ne_eqb, cond-true, cond-false}
+use Rattle.std.proofs.lemmas.Bool.{eqb-true}
+use mir.Val.{bool_byte}
 use Rattle.mime.specs.Marks.{mark}
 use Rattle.mime.proofs.EachByte.{at_byte}
 use Rattle.mime.proofs.difference.difference.Goals as goal
@@ -11,7 +12,7 @@ use Rattle.mime.proofs.difference.difference.Goals.{then-is_ascii_lowercase, els
 
 -- the mark of two bytes, as the code finds it: with the bit that tells a letter's cases, if the first is a letter
 abbrev found : ℕ → ℕ → ℕ → ℕ
-found case x y = cond (nat_eq (bit_and (bit_xor x y) (255 - case)) 0) 0 1
+found case x y = bool_byte (not (nat_eq (bit_and (bit_xor x y) (255 - case)) 0))
 
 case_of : ℕ → ℕ
 case_of x = cond (is_ascii_lowercase (bit_or x 32)) 32 0
@@ -35,20 +36,10 @@ chosen : (x : ℕ) (test : Bool) → test ≡ is_ascii_lowercase (bit_or x 32) �
 unfolding case_of
 chosen x test is = ap (λ b. cond b 32 0) is
 
-pub returns-then-x-y-eq0 : goal.returns-then-x-y-eq0
-returns-then-x-y-eq0 c =
-    let case : c.if-is_ascii_lowercase.case ≡ case_of c.args.x =
-    elim c.if-is_ascii_lowercase.branch [
+pub returns : goal.returns
+returns c =
+    c.from.ensures
+    ∙ marked c.args.x c.args.y _ c.ranges.x.fits c.ranges.y.fits (elim c.if-is_ascii_lowercase.branch [
       | then-is_ascii_lowercase w ↦ w.case-is ∙ chosen c.args.x true (sym w.if-is_ascii_lowercase.true ∙ c.is_ascii_lowercase.ensures.value)
       | else-is_ascii_lowercase w ↦ w.case-is ∙ chosen c.args.x false (sym w.if-is_ascii_lowercase.false ∙ c.is_ascii_lowercase.ensures.value)
-    ] in
-    sym (cond-true _ _ _ (eq-eqb _ _ c.if-x-y-eq0.true)) ∙ marked c.args.x c.args.y _ c.ranges.x.fits c.ranges.y.fits case
-
-pub returns-else-x-y-eq0 : goal.returns-else-x-y-eq0
-returns-else-x-y-eq0 c =
-    let case : c.if-is_ascii_lowercase.case ≡ case_of c.args.x =
-    elim c.if-is_ascii_lowercase.branch [
-      | then-is_ascii_lowercase w ↦ w.case-is ∙ chosen c.args.x true (sym w.if-is_ascii_lowercase.true ∙ c.is_ascii_lowercase.ensures.value)
-      | else-is_ascii_lowercase w ↦ w.case-is ∙ chosen c.args.x false (sym w.if-is_ascii_lowercase.false ∙ c.is_ascii_lowercase.ensures.value)
-    ] in
-    sym (cond-false _ _ _ (ne_eqb _ _ c.if-x-y-eq0.false)) ∙ marked c.args.x c.args.y _ c.ranges.x.fits c.ranges.y.fits case
+    ])

@@ -16,7 +16,8 @@ loop-at-preserved c =
       long = search rules;
       so_far =
           ap (λ m. take (n + 1) (slice_set c.loop-at.found n m)) c.difference.ensures
-          ∙ one_more mark a b c.loop-at.found n (omega arith) (omega arith) (omega (arith, c.loop-at.invariant.long)) c.loop-at.invariant.so_far;
+          ∙ one_more mark a b c.loop-at.found n (omega arith) (omega arith)
+          (omega (arith, c.loop-at.invariant.long)) c.loop-at.invariant.so_far;
     }
 
 pub returns : goal.returns

@@ -24,7 +24,8 @@ loop-from-preserved c = record {
 pub returns-in-Some-difference_in_block-clause-some : goal.returns-in-Some-difference_in_block-clause-some
 returns-in-Some-difference_in_block-clause-some c =
     let last = c.if-a-b.end - 16 in
-    let front = shorter (lowered c.args.a.now) (lowered c.args.b.now) last c.loop-from.from c.loop-from-test.false c.loop-from.invariant.same in
+    let front =
+    shorter (lowered c.args.a.now) (lowered c.args.b.now) last c.loop-from.from c.loop-from-test.false c.loop-from.invariant.same in
     difference_onward c.args.a.now c.args.b.now last front c.in-Some-difference_in_block.at c.in-Some-difference_in_block.ensures.some
 
 pub returns-in-None-difference_in_block-clause-none : goal.returns-in-None-difference_in_block-clause-none

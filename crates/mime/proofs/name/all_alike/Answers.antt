@@ -28,6 +28,7 @@ loop-x-preserved c =
     (search rules) (search rules) c.loop-x.yielded_by (c.in-Some.x, c.in-Some.y) c.in-Some.is c.next.ensures.steps in
     let more_a = pushed a n m c.in-Some.x.now turn.0 next (turn.2 0) in
     let more_b = pushed b n m c.in-Some.y.now turn.1 next (turn.3 0) in
-    together c.loop-x.marks c.difference-marks.result _ (x ≡ y) _ c.loop-x.invariant (no_mark_at c.in-Some.x.now c.in-Some.y.now _ c.difference-marks.ensures)
+    together c.loop-x.marks c.difference-marks.result _ (x ≡ y) _ c.loop-x.invariant
+    (no_mark_at c.in-Some.x.now c.in-Some.y.now _ c.difference-marks.ensures)
     (λ front last. let same : lowered (take n a) ++ (x ∷ []) ≡ lowered (take n b) ++ (y ∷ []) = cc in more_a ∙ same ∙ sym more_b)
     (λ whole. same_from_push (lowered (take n a)) (lowered (take n b)) x y (sym more_a ∙ whole ∙ more_b))

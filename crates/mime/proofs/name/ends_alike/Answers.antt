@@ -1,5 +1,5 @@
 -- Texts whose last and first blocks reach over the whole are alike exactly where those are.
-use Rattle.std.proofs.Common.{◌≡◌, ◌-◌, length, take, drop, ap, arith}
+use Rattle.std.proofs.Common.{◌-◌, length, take, drop, ap, arith}
 use Rattle.mime.specs.Values.{lowered}
 use Rattle.mime.proofs.Blocks.{of_first, of_last, lapped}
 use Rattle.mime.proofs.name.ends_alike.Goals as goal

@@ -1,5 +1,5 @@
 -- Each way out of the scanner.
-use Rattle.std.proofs.Common.{◌≡◌, ℕ, sym, ap, refl, ◌∙◌, ◌+◌, ◌-◌, ◌∷◌, [], length, Some, None, arith, ne_eqb, eq-eqb}
+use Rattle.std.proofs.Common.{◌≡◌, ℕ, sym, ap, refl, ◌∙◌, ◌+◌, ◌∷◌, [], length, Some, None, arith, ne_eqb, eq-eqb}
 use Rattle.std.proofs.lemmas.Bool.{cond-true, cond-false}
 use Rattle.mime.specs.Bytes.{slash_byte, semicolon_byte}
 use Rattle.mime.specs.Values.{last_plus}

@@ -3,7 +3,7 @@ use Rattle.std.proofs.Common.{ap, ◌∙◌, subst}
 use Rattle.mime.specs.Values.{OwnedMedia}
 use Rattle.mime.specs.KeptText.{AreLowPairs}
 use Rattle.mime.specs.Pairs.{pairs_behind}
-use Rattle.mime.proofs.KeptText.{kept-semicolon, reads-from_kept}
+use Rattle.mime.proofs.KeptText.{reads-from_kept}
 use Rattle.mime.proofs.Parts.{read-low_pairs}
 use Rattle.mime.proofs.value.Mime.pairs.Goals as goal
 

@@ -24,7 +24,8 @@ returns-clause-lowered c =
     elim c.if-names_charset.branch [
       | then-names_charset w ↦
           w.bytes-is ∙ w.lower_range-then-names_charset.ensures
-          ∙ rw (c.lower_range.ensures, c.requires.same, cut.head, cut.value) (lowered_first-charset list (sym charset ∙ w.if-names_charset.true))
+          ∙ rw (c.lower_range.ensures, c.requires.same, cut.head, cut.value)
+          (lowered_first-charset list (sym charset ∙ w.if-names_charset.true))
       | else-names_charset w ↦
           w.bytes-is ∙ c.lower_range.ensures
           ∙ rw (c.requires.same, cut.head) (lowered_first-plain list (sym charset ∙ w.if-names_charset.false))

@@ -10,7 +10,8 @@ pub returns-then-found-ne0 : goal.returns-then-found-ne0
 returns-then-found-ne0 c =
     let left = c.loop-left.left.now in
     let found = c.marks-found.ensures in
-    let at = ap (count_trailing_zeros 64) found ∙ sym (position-marked c.args.byte left 16 (omega arith) (omega arith) (omega (arith, found, c.if-found-ne0.true))) in
+    let at = ap (count_trailing_zeros 64) found
+    ∙ sym (position-marked c.args.byte left 16 (omega arith) (omega arith) (omega (arith, found, c.if-found-ne0.true))) in
     omega (arith, at, c.loop-left.invariant.onward)
 
 pub loop-left-preserved : goal.loop-left-preserved

@@ -8,4 +8,5 @@ pub returns : goal.returns
 returns c =
     let text = c.args.text.now in
     let found = c.marks-found.ensures in
-    ap (count_trailing_zeros 64) found ∙ sym (position-marked c.args.byte text 16 (omega arith) (omega arith) (omega (arith, found, c.if-found-eq0.false)))
+    ap (count_trailing_zeros 64) found
+    ∙ sym (position-marked c.args.byte text 16 (omega arith) (omega arith) (omega (arith, found, c.if-found-eq0.false)))

@@ -8,6 +8,7 @@ use Rattle.mime.proofs.value.traits.order_parts.Goals as goal
 
 pub returns : goal.returns
 returns c =
-    let lists = cmp_from_yields_List (λ x y. y ≡ x) _ pair_cmp _ c.cmp.ensures.ran (YieldsList-from_first pair_seen (λ p. p) _ c.pairs.ensures.pairs)
+    let lists = cmp_from_yields_List (λ x y. y ≡ x) _ pair_cmp _ c.cmp.ensures.ran
+    (YieldsList-from_first pair_seen (λ p. p) _ c.pairs.ensures.pairs)
     (λ it is. YieldsList-from_first pair_seen (λ p. p) _ (is ∙ c.pairs-2.ensures.pairs)) (λ x y. refl) in
     search rules

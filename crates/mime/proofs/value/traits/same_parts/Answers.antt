@@ -11,7 +11,8 @@ use Rattle.mime.proofs.SameItems.{same_items}
 use Rattle.mime.proofs.value.traits.same_parts.Goals as goal
 
 -- pairs of texts are the same where their names and their values are
-same_pair : (x y : Bor (List ℕ) × Bor (List ℕ)) → IsTrue (bytes_eq x.0.now y.0.now && bytes_eq x.1.now y.1.now) ↔ (pair_seen x ≡ pair_seen y)
+same_pair : (x y : Bor (List ℕ) × Bor (List ℕ))
+    → IsTrue (bytes_eq x.0.now y.0.now && bytes_eq x.1.now y.1.now) ↔ (pair_seen x ≡ pair_seen y)
 same_pair x y =
     let told = Decides-and _ _ (bytes_eq-Decides x.0.now y.0.now) (bytes_eq-Decides x.1.now y.1.now) in
     (λ yes. let both = told.0 yes in λ i. (both.0 i, both.1 i), λ same. told.1 (ap (λ p. p.0) same, ap (λ p. p.1) same))

@@ -8,4 +8,5 @@ pub returns : goal.returns
 returns c =
     let pairs = c.self.inside.pairs in
     let count : length pairs ≡ length c.args.self.now = sym (length-map pairs item_of) ∙ ap length c.self.view_is in
-    rw (c.size_hint.ensures.exact ∙ ap (λ n. (n, Some n)) count) (record { lower = λ _. omega arith; upper = (tt, omega arith); exact = refl })
+    rw (c.size_hint.ensures.exact ∙ ap (λ n. (n, Some n)) count)
+    (record { lower = λ _. omega arith; upper = (tt, omega arith); exact = refl })
