@@ -598,39 +598,29 @@ fn counts_of(file: &str) -> HashMap<u32, (f64, f64)> {
 /// The calls that ask for memory.
 const REQUESTS: [&str; 5] = ["malloc", "calloc", "realloc", "posix_memalign", "aligned_alloc"];
 
-/// The time of an operation, in nanoseconds: of a call with many repetitions and of one with none,
-/// each the fastest of some, the difference.
-fn time(case: &Case, count: &str, texts: &Texts) -> f64 {
-    let run = |times: usize| {
-        let start = Instant::now();
-        case.run(count, texts, times);
-        start.elapsed()
-    };
-    let fastest = |times: usize| (0..15).map(|_| run(times)).min().unwrap();
-    let none = fastest(0);
-    let mut times = 1;
-    while run(times) < 2 * none + Duration::from_millis(1) {
-        times *= 2;
-    }
-    let some = fastest(times).saturating_sub(none);
-    some.as_nanos() as f64 / times as f64
-}
-
-/// Prints the times of the operations whose label has the word: on each side the best of 400 calls,
-/// in turn with the other's.
-fn times(word: &str) {
-    for case in cases().iter().filter(|case| case.label.contains(word)) {
-        let texts = case.texts(HERE);
-        let times = (1_000_000 / texts.text.len()).clamp(1, 20_000);
-        let mut best = [f64::MAX; 2];
-        for _ in 0..400 {
-            for (best, count) in best.iter_mut().zip([HERE, THERE]) {
+/// The times of an operation here and there, in nanoseconds: of calls with many repetitions and of some with none, each the
+/// fastest of so many rounds in turn, the difference.
+fn times(case: &Case, rounds: usize) -> [f64; 2] {
+    let texts = case.texts(HERE);
+    let many = (1_000_000 / texts.text.len()).clamp(1, 20_000);
+    let mut fastest = [[Duration::MAX; 2]; 2];
+    for _ in 0..rounds {
+        for (count, fastest) in [HERE, THERE].iter().zip(&mut fastest) {
+            for (times, fastest) in [0, many].iter().zip(fastest) {
                 let start = Instant::now();
-                case.run(count, &texts, times);
-                *best = best.min(start.elapsed().as_nanos() as f64 / times as f64);
+                case.run(count, &texts, *times);
+                *fastest = start.elapsed().min(*fastest);
             }
         }
-        println!("{}: {:.2} ns here, {:.2} there", case.label, best[0], best[1]);
+    }
+    fastest.map(|[none, all]| all.saturating_sub(none).as_nanos() as f64 / many as f64)
+}
+
+/// Prints the times of the operations whose label has the word, taken longer.
+fn print_times(word: &str) {
+    for case in cases().iter().filter(|case| case.label.contains(word)) {
+        let [here, there] = times(case, 400);
+        println!("{}: {here:.2} ns here, {there:.2} there", case.label);
     }
 }
 
@@ -674,6 +664,7 @@ fn table(folder: &str) {
         });
         let has_walk = case.counts().contains(&WALK);
         let walk = has_walk.then(|| Cost::read(folder, number, WALK, &case.texts(WALK)).shown());
+        let [time_here, time_there] = times(case, 15);
         let cells = [
             case.label.clone(),
             here.shown(),
@@ -686,8 +677,8 @@ fn table(folder: &str) {
             format!("{:.2}", there.each_byte()),
             here.requests.to_string(),
             there.requests.to_string(),
-            format!("{:.0}", time(case, HERE, &texts)),
-            format!("{:.0}", time(case, THERE, &texts)),
+            format!("{time_here:.0}"),
+            format!("{time_there:.0}"),
         ];
         println!("| {} |", cells.join(" | "));
     }
@@ -700,7 +691,7 @@ fn main() {
         ["list"] => list(),
         ["take", count] => take(count),
         ["table", folder] => table(folder),
-        ["time", word] => times(word),
+        ["time", word] => print_times(word),
         _ => eprintln!("usage: driver list, driver take COUNT, driver table FOLDER, or driver time WORD"),
     }
 }

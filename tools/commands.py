@@ -95,7 +95,7 @@ def program(crate, backend="llvm", room=None):
     if _is_current(of_gate, crate):
         return of_gate
     print(f"{crate} is proved and built by the compiler {backend}, since rt ci left no program that is up to date", flush=True)
-    top = _copied(room, crate) if room else TOP
+    top = _copied(room, crate) if backend == "rattle" else TOP
     with contextlib.suppress(FileNotFoundError):
         os.remove(top + made)
     words = ["rt", "run", *(["--backend", "rattle"] if backend == "rattle" else [])]

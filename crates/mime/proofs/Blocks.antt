@@ -19,22 +19,22 @@ together n m P Q Whole first second whole parts = (
 -- a test of the first bytes of two texts is one of the first bytes of their lowerings
 pub of_first : (W : Type 0) (a b : List ℕ) (block : ℕ) → W ↔ (lowered (take block a) ≡ lowered (take block b))
     → W ↔ (take block (lowered a) ≡ take block (lowered b))
-of_first W a b block told =
+of_first W a b block says =
     let one = lowered-take block a in
     let other = lowered-take block b in
-    (λ w. sym one ∙ told.0 w ∙ other, λ same. told.1 (one ∙ same ∙ sym other))
+    (λ w. sym one ∙ says.0 w ∙ other, λ same. says.1 (one ∙ same ∙ sym other))
 
 -- a test of the last bytes of two texts is one of the last bytes of their lowerings
 pub of_last : (W : Type 0) (a b : List ℕ) (from : ℕ)
     → W ↔ (lowered (take (length a - from) (drop from a)) ≡ lowered (take (length b - from) (drop from b)))
     → W ↔ (drop from (lowered a) ≡ drop from (lowered b))
-of_last W a b from told = (λ w. sym (ending a) ∙ told.0 w ∙ ending b, λ same. told.1 (ending a ∙ same ∙ sym (ending b)))
+of_last W a b from says = (λ w. sym (ending a) ∙ says.0 w ∙ ending b, λ same. says.1 (ending a ∙ same ∙ sym (ending b)))
   where
     ending : (text : List ℕ) → lowered (take (length text - from) (drop from text)) ≡ drop from (lowered text)
     ending text = ap lowered (take_rest text from) ∙ lowered-drop from text
 
 -- texts that are the same up to a position, and from there or before on, are the same
 pub lapped : (a b : List ℕ) (n last : ℕ) → last ≤ n → take n a ≡ take n b → drop last a ≡ drop last b → a ≡ b
-lapped a b n last behind front back =
-    let shorter : take last a ≡ take last b = sym (take-take last n a behind) ∙ ap (take last) front ∙ take-take last n b behind in
+lapped a b n last after front back =
+    let shorter : take last a ≡ take last b = sym (take-take last n a after) ∙ ap (take last) front ∙ take-take last n b after in
     sym (take-append-drop last a) ∙ ap (λ t. t ++ drop last a) shorter ∙ ap (λ t. take last b ++ t) back ∙ take-append-drop last b

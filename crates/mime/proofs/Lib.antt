@@ -3,6 +3,7 @@ pub mod Classes
 pub mod ByteTables
 pub mod ByteAt
 pub mod Quoted
+pub mod ContentEnds
 -- the grammar walked
 pub mod Begun
 pub mod Walks

@@ -11,7 +11,7 @@ use Rattle.mime.specs.Grammar.{Parameter, plain, quoted, Parameters, blank, fina
 use Rattle.mime.specs.Values.{lowered, lowered_value, lowered_parameter, lowered_list, pair_of, pairs_of_list}
 use Rattle.mime.specs.Quoted.{content_len, content_of, behind_content}
 use Rattle.mime.specs.Pairs.{PairCut, before_byte, behind_byte, cut_behind_equals, leading_spaces, without_gap, cut_of, pairs_within, lowered_within}
-use Rattle.mime.proofs.Quoted.{content_len-content}
+use Rattle.mime.proofs.ContentEnds.{content_len-content}
 use Rattle.mime.proofs.Classes.{semicolon_is_no_token, equals_is_no_token, quote_is_no_token, token_byte-not, token_byte-not_space, is_other, are_other-token, are_other-spaces, AreTokenBytes-from_token}
 use Rattle.mime.proofs.Lowering.{lowered-append}
 use Rattle.mime.proofs.PairCuts.{lowered_within-first}

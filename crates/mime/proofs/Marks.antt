@@ -10,7 +10,8 @@ use Rattle.std.proofs.Math.Nat.{div-div-eq-div-mul, div-one, zero-div, pow-suc, 
 use Rattle.std.specs.List.{prefix_len}
 use Rattle.std.specs.Simd.Lanes.{mask_l}
 use lib.Count.{count_trailing_zeros}
-use Rattle.mime.specs.Pairs.{IsEndOf, first_position, marks_of}
+use Rattle.mime.specs.Marks.{marks_of}
+use Rattle.mime.specs.Pairs.{IsEndOf, first_position}
 
 -- a list is the end of itself
 pub end_itself : (xs : List ℕ) → IsEndOf xs xs

@@ -190,8 +190,8 @@ case_tree-walked text tree found begun whole walked same o is =
     go : (o : Option SyntaxTree) → tree_of begun ≡ o → option_map small_tree o ≡ Some (small_tree tree) → CaseTree text tree
     go None is small = absurd (none-some _ small)
     go (Some other) is small =
-        let told = accepted-from_walk text begun other walked is in
-        record { other = other; well_formed = told.0; spelled = told.1; same = same_Some (small_tree other) (small_tree tree) small }
+        let says = accepted-from_walk text begun other walked is in
+        record { other = other; well_formed = says.0; spelled = says.1; same = same_Some (small_tree other) (small_tree tree) small }
 
 -- a text that is an accepted one but for case has a tree that is the same but for case
 case_tree : (text : List ℕ) (tree : SyntaxTree) → IsWellFormed tree → lowered text ≡ lowered (text_of tree) → CaseTree text tree

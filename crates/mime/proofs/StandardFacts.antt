@@ -1,10 +1,12 @@
 -- Texts with what they are read as or why they are refused, by computation: a wrong rule does not check.
-use Rattle.std.proofs.Common.{ℕ, List, [], ◌∷◌, ◌++◌, Option, Some, None, refl, codes}
+use Rattle.std.proofs.Common.{ℕ, List, [], ◌∷◌, ◌++◌, Option, Some, None, refl, codes, arith, lit<}
 use Rattle.mime.specs.Bytes.{is_token_byte, is_quoted_byte}
 use Rattle.mime.specs.Grammar.{no_byte, plain, quoted, blank, final, more, Tail, no_list, listed, SyntaxTree, text_of, IsWellFormed}
 use Rattle.mime.specs.Values.{MediaType, value_of, Reads}
+use Rattle.mime.specs.Difference.{DifferTellingly}
 use Rattle.mime.specs.Refusals.{IsFault}
 use Rattle.mime.specs.declared.scan.fault.ParseError.TheVariants.{MissingSlash, MissingSubtype, MissingEqual, MissingValue, MissingQuote, InvalidToken}
+use Rattle.mime.proofs.FirstDifference.{told_apart}
 use Rattle.mime.proofs.Quoted.{IsContent-taken}
 use Rattle.mime.proofs.Viability.{slash_fault-from_walk, subtype_fault-from_walk, equal_fault-from_walk, value_fault-from_walk, quote_fault-from_walk, dead-from_walk}
 
@@ -220,3 +222,22 @@ tab_after_plain_value = dead-from_walk (codes "a/b;p=x") [] 9 _ refl refl
 line_end_after_semicolon : IsFault (codes "text/plain;" ++ (13 ∷ 10 ∷ codes "charset=utf-8")) (InvalidToken 11 13)
 unfolding is_token_byte
 line_end_after_semicolon = dead-from_walk (codes "text/plain;") (10 ∷ codes "charset=utf-8") 13 _ refl refl
+
+-- ---- first differences
+
+-- neither byte is a space, a tab or a quote
+first_difference_tells : DifferTellingly (codes "a/b;p=x") (codes "A/B;P=y")
+first_difference_tells = record {
+  at = 6;
+  first = record { within = lit< tt; within_other = lit< tt; alike = refl; differ = λ same. omega (arith, same) };
+  tells = refl;
+  also = refl;
+}
+
+-- a quote tells nothing: the values are equal
+quote_tells_nothing : ¬ (DifferTellingly (codes "a/b;p=x") (codes "a/b;p=\"x\""))
+unfolding is_token_byte is_quoted_byte
+quote_tells_nothing = λ d.
+    told_apart _ _ _ _ (reads (codes "a") (codes "b") (listed (final [] (plain (codes "p") (codes "x")))) (refl, refl, (refl, (refl, refl))))
+    (reads (codes "a") (codes "b") (listed (final [] (quoted (codes "p") (codes "x") [])))
+    (refl, refl, (refl, (refl, IsContent-taken (codes "x") refl refl, refl)))) d (refl, refl)

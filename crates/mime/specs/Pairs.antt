@@ -1,7 +1,6 @@
 -- Private. The pairs of a parameter list's text, cut one by one from the left.
-use Rattle.std.specs.Prelude.{◌≡◌, ℕ, zero, suc, ◌+◌, ◌-◌, List, [], ◌∷◌, ◌++◌, map, length, take, drop, Option, None, Some, if◌then◌else◌, ◌==◌}
+use Rattle.std.specs.Prelude.{◌≡◌, ℕ, zero, suc, ◌+◌, ◌-◌, List, [], ◌∷◌, ◌++◌, length, take, drop, Option, None, Some, if◌then◌else◌, ◌==◌}
 use Rattle.std.specs.Borrow.{Bor}
-use Rattle.std.specs.Simd.Lanes.{mask_l}
 use Rattle.std.specs.List.{prefix_len, position_or_len}
 use Rattle.mime.specs.Bytes.{semicolon_byte, equals_byte, quote_byte}
 use Rattle.mime.specs.Grammar.{is_space}
@@ -22,10 +21,6 @@ behind_byte byte text = drop (first_position byte text + 1) text
 -- the first list is the second without some of its first bytes
 abbrev pub IsEndOf : List ℕ → List ℕ → Type 0
 IsEndOf end whole = end ≡ drop (length whole - length end) whole
-
--- which bytes are this one, as a number: bit by bit from the lowest
-abbrev pub marks_of : ℕ → List ℕ → ℕ
-marks_of byte text = mask_l (map (λ b. b == byte) text)
 
 -- the first pair of a list: its name, the number of bytes before its value, its value without
 -- quotes, and the list after its semicolon

@@ -2,7 +2,8 @@
 
 ghost use Rattle.std.specs.Prelude.{◌≡◌, ◌≤◌, IsTrue, IfSome, None, length, take};
 ghost use Rattle.std.specs.Simd.Lanes.{zip2};
-ghost use Rattle.mime.specs.Difference.{difference as mark, is_telling as tells, FirstDifference, DifferTellingly};
+ghost use Rattle.mime.specs.Difference.{is_telling as tells, FirstDifference, DifferTellingly};
+ghost use Rattle.mime.specs.Marks.{mark};
 ghost use Rattle.mime.specs.Values.{lowered};
 ghost use Rattle.mime.specs.declared.difference.Seen.TheVariants.{Alike, Apart};
 

@@ -8,7 +8,7 @@ ghost use Rattle.std.specs.Ordering.{MatchOrdering, ordering_then, bool_cmp, nat
 ghost use Rattle.mime.specs.Values.{OwnedMedia, lowered};
 ghost use Rattle.mime.specs.Names.{name_table};
 ghost use Rattle.mime.specs.Views.{name_text};
-ghost use Rattle.mime.specs.Laws.{OneTree, OneReading, EmptyIsViable, FrontOfViableIsViable, AcceptedIsViable, OneCompletion, CompletedIsRefused, NoCompletion, OneFault, OneFront, FrontEndsBetweenCharacters, FrontIsInUtf8, PlusIsLast, KeptIsRead, EssenceIsRead, OneOrder, BeforeIsTransitive, BareTextIs, KeptTextIs, OneAnswer};
+ghost use Rattle.mime.specs.Laws.{OneTree, OneReading, EmptyIsViable, FrontOfViableIsViable, AcceptedIsViable, OneCompletion, CompletedIsRefused, NoCompletion, OneFault, OneFront, FrontEndsBetweenCharacters, FrontIsInUtf8, PlusIsLast, KeptIsRead, EssenceIsRead, OneOrder, BeforeIsTransitive, BareTextIs, KeptTextIs, OneAnswer, FirstDifferenceTells};
 ghost use Rattle.mime.specs.Comparison.{Same, Before};
 ghost use Rattle.mime.specs.CutLaws.{OneCut, CutHasItems, CutWritesText, OneCount, CommaContains, JoinedComesBack, PassesOneCharacter};
 ghost use Rattle.mime.specs.RunLaws.{RunGivesCut, PrintedListComesBack, CommaContainsOnRuns};
@@ -150,6 +150,12 @@ pub fn mime_order()
 /// Equal values feed a hasher the same: `a/b; p="x"` and `A/B;P=x`.
 pub fn equal_values_hash_alike()
     ensures { (first second : OwnedMedia) → Same first.media second.media → ⟦<Mime as Hash>⟧.hash_input first ≡ ⟦<Mime as Hash>⟧.hash_input second }
+{}
+
+/// Texts that first differ, but for case, where neither byte is a space, a tab or a quote, are not read as equal values:
+/// `a/b;p=x` and `A/B;P=y`. Where one has a quote, they may be: `a/b;p=x` and `a/b;p="x"`.
+pub fn first_difference_tells()
+    ensures { FirstDifferenceTells }
 {}
 
 /// A text has exactly one cut: that of `a/b, e, c/d` has the items `a/b`, the bad piece `e`, and `c/d`.
