@@ -12,21 +12,13 @@ use std::str;
 fn main() -> io::Result<()> {
     let mut input = Vec::new();
     io::stdin().read_to_end(&mut input)?;
-    let report = report_of(&input).expect("a String takes all that is written to it");
-    io::stdout().write_all(report.as_bytes())
-}
-
-/// The report on an input.
-fn report_of(input: &[u8]) -> Result<String, fmt::Error> {
     let mut report = String::new();
-    if input.is_empty() {
-        return Ok(report);
+    if !input.is_empty() {
+        for line in input.strip_suffix(b"\n").unwrap_or(&input).split(|byte| *byte == b'\n') {
+            push_line(&mut report, line).expect("a String takes all that is written to it");
+        }
     }
-    let lines = input.strip_suffix(b"\n").unwrap_or(input);
-    for line in lines.split(|byte| *byte == b'\n') {
-        push_line(&mut report, line)?;
-    }
-    Ok(report)
+    io::stdout().write_all(report.as_bytes())
 }
 
 /// Adds the report on a line.
@@ -36,10 +28,7 @@ fn push_line(report: &mut String, line: &[u8]) -> fmt::Result {
         return Ok(());
     };
     match text.parse::<Mime>() {
-        Ok(mime) => {
-            push_value(report, &mime);
-            Ok(())
-        }
+        Ok(mime) => Ok(push_value(report, &mime)),
         Err(error) => writeln!(report, "bad {error}"),
     }
 }

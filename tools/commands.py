@@ -2,10 +2,13 @@
 
 import contextlib
 import os
+import re
 import shlex
 import shutil
 import signal
 import subprocess
+
+TOP = os.path.dirname(os.path.dirname(os.path.realpath(__file__)))
 
 # How many seconds rt may take for one command, and a program for one input. Both take far less.
 RT_SECONDS, PROGRAM_SECONDS = 20 * 60, 60
@@ -70,16 +73,64 @@ def _end_all(number, _frame):
     raise SystemExit(128 + number)
 
 
-def is_there(command, *packages):
-    """Whether a command can be run. Where it is missing, Debian's packages that have it are installed, if they can be."""
-    if shutil.which(command):
+def instructions(words, given):
+    """How many instructions a whole run takes, by valgrind."""
+    words = ["valgrind", "--tool=callgrind", "--callgrind-out-file=/dev/null", *words]
+    said = run(words, RT_SECONDS, given, stdout=subprocess.DEVNULL, stderr=subprocess.PIPE).stderr
+    return int(re.search(rb"Collected : (\d+)", said)[1])
+
+
+def _is_found(what):
+    return bool(shutil.which(what)) or os.path.exists(what)
+
+
+def is_there(what, *packages):
+    """Whether a command can be run, or a file is there. Where not, Debian's packages that have it are installed, if they can be."""
+    if _is_found(what):
         return True
-    print(f"{command} is missing: apt-get installs {' '.join(packages)}", flush=True)
+    print(f"{what} is missing: apt-get installs {' '.join(packages)}", flush=True)
     said = ""
     with contextlib.suppress(OSError):
         run(["apt-get", "update", "-qq"], RT_SECONDS, stdout=subprocess.DEVNULL, stderr=subprocess.DEVNULL)
         said = run(["apt-get", "install", "-y", "-qq", "--no-install-recommends", *packages], RT_SECONDS,
                    stdout=subprocess.PIPE, stderr=subprocess.STDOUT, errors="replace").stdout
-    if not shutil.which(command):
-        print(f"{said[-600:]}\n{command} is needed, and could not be installed: install it (on Debian: {' '.join(packages)})".lstrip())
-    return bool(shutil.which(command))
+    if not _is_found(what):
+        print(f"{said[-600:]}\n{what} is needed, and could not be installed: install it (on Debian: {' '.join(packages)})".lstrip())
+    return _is_found(what)
+
+
+def program(crate, backend="llvm", room=None):
+    """The program of a crate as a compiler builds it: the one that rt ci proved, or else it is proved and built, LLVM's where it
+    belongs. Both compilers' programs have one path there, so the other's is built in a copy in the room."""
+    made = f"/crates/{crate}/out/{crate}"
+    of_gate = TOP + made + (".by-rattle" if backend == "rattle" else "")
+    if _is_current(of_gate, crate):
+        return of_gate
+    print(f"{crate} is proved and built by the compiler {backend}, since rt ci left no program that is up to date", flush=True)
+    top = _copied(room, crate) if backend == "rattle" else TOP
+    with contextlib.suppress(FileNotFoundError):
+        os.remove(top + made)
+    words = ["rt", "run", *(["--backend", "rattle"] if backend == "rattle" else [])]
+    done = run(words, RT_SECONDS, cwd=f"{top}/crates/{crate}", stdout=subprocess.PIPE, stderr=subprocess.STDOUT, errors="replace")
+    if not os.path.exists(top + made):
+        raise OSError(f"{crate} could not be built:\n{done.stdout[-3000:]}")
+    return top + made
+
+
+def _is_current(program, crate):
+    """Whether a program is newer than all that it is made of."""
+    folders = [f"{TOP}/crates/{it}/{part}" for it in ("mime", crate) for part in ("src", "specs", "proofs")]
+    files = [f"{at}/{name}" for folder in folders for at, _, names in os.walk(folder) for name in names]
+    return os.path.exists(program) and all(os.path.getmtime(it) < os.path.getmtime(program) for it in files)
+
+
+def _copied(room, crate):
+    """A copy of a crate and of the library, with the proofs that are there."""
+    top = f"{room}/repository"
+    for name in ("mime", crate):
+        if not os.path.exists(f"{top}/crates/{name}"):
+            shutil.copytree(f"{TOP}/crates/{name}", f"{top}/crates/{name}", ignore=shutil.ignore_patterns("must-fail"))
+    shutil.copy(f"{TOP}/HANDLES", top)
+    with open(f"{top}/crates.txt", "w", encoding="utf-8") as file:
+        file.write(f"mime:\n{crate}: mime\n")
+    return top

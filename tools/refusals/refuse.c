@@ -24,11 +24,10 @@ static int counting, refused, counts = -1;
 
 __attribute__((constructor)) static void begin(void)
 {
-    const char *at = getenv("REFUSE"), *from = getenv("REFUSE_FROM");
-    const char *to = getenv("REFUSE_COUNT");
+    const char *at = getenv("REFUSE"), *to = getenv("REFUSE_COUNT");
     refused_at = at ? atol(at) : 0;
     counts = to ? atoi(to) : -1;
-    counting = from && strcmp(from, "start") == 0;
+    counting = getenv("REFUSE_FROM") != NULL;
 }
 
 static void end_count(void)
@@ -51,54 +50,44 @@ static int refuses(void)
     return 1;
 }
 
-void *malloc(size_t size) { return refuses() ? NULL : __libc_malloc(size); }
+#define REQUEST(call, ...) \
+    { \
+        return refuses() ? NULL : call(__VA_ARGS__); \
+    }
 
-void *calloc(size_t count, size_t size) { return refuses() ? NULL : __libc_calloc(count, size); }
-
-void *realloc(void *block, size_t size) { return refuses() ? NULL : __libc_realloc(block, size); }
-
-void *aligned_alloc(size_t align, size_t size) { return refuses() ? NULL : __libc_memalign(align, size); }
-
-void *memalign(size_t align, size_t size) { return refuses() ? NULL : __libc_memalign(align, size); }
+void *malloc(size_t size) REQUEST(__libc_malloc, size)
+void *calloc(size_t count, size_t size) REQUEST(__libc_calloc, count, size)
+void *realloc(void *block, size_t size) REQUEST(__libc_realloc, block, size)
+void *aligned_alloc(size_t align, size_t size) REQUEST(__libc_memalign, align, size)
+void *memalign(size_t align, size_t size) REQUEST(__libc_memalign, align, size)
 
 int posix_memalign(void **block, size_t align, size_t size)
 {
-    if (refuses())
-        return ENOMEM;
-    *block = __libc_memalign(align, size);
+    *block = memalign(align, size);
     return *block ? 0 : ENOMEM;
 }
 
-static int is_line(const char *line, const void *bytes, size_t length)
+static int is_line(const char *line, struct iovec bytes)
 {
-    return length >= 3 && memcmp(bytes, line, 3) == 0 && (length == 3 || ((const char *)bytes)[3] == '\n');
+    const char *start = bytes.iov_base;
+    return bytes.iov_len >= 3 && memcmp(start, line, 3) == 0 && (bytes.iov_len == 3 || start[3] == '\n');
 }
 
 /* The line "now" begins a count, and the line "end" ends it. */
-static void seen(int fd, const void *bytes, size_t length)
+ssize_t writev(int fd, const struct iovec *parts, int count)
 {
-    if (fd != 1)
-        return;
-    if (is_line("now", bytes, length)) {
-        requests = 0;
-        refused = 0;
+    ssize_t done = syscall(SYS_writev, fd, parts, count);
+    if (fd == 1 && count > 0 && is_line("now", *parts)) {
+        requests = refused = 0;
         counting = 1;
-    } else if (is_line("end", bytes, length)) {
+    } else if (fd == 1 && count > 0 && is_line("end", *parts)) {
         end_count();
     }
+    return done;
 }
 
 ssize_t write(int fd, const void *bytes, size_t length)
 {
-    ssize_t done = syscall(SYS_write, fd, bytes, length);
-    seen(fd, bytes, length);
-    return done;
-}
-
-ssize_t writev(int fd, const struct iovec *parts, int count)
-{
-    ssize_t done = syscall(SYS_writev, fd, parts, count);
-    if (count > 0)
-        seen(fd, parts[0].iov_base, parts[0].iov_len);
-    return done;
+    struct iovec part = {(void *)bytes, length};
+    return writev(fd, &part, 1);
 }

@@ -12,7 +12,7 @@ use Rattle.mime.specs.Refusals.{IsViable, IsFront}
 use Rattle.mime.specs.Cut.{is_following_byte, BeginsCharacter, IsSplit, CutItem, good, bad, ItemsOf, is_read, is_refused, is_empty, Cut, whole, unfinished, goes_on, TakesSteps}
 use Rattle.mime.specs.Remaining.{Remaining}
 use Rattle.mime.specs.Scanning.{HasPlaces, IsStopped, Judges, Scans}
-use Rattle.mime.specs.UnderWay.{IsAfterCharacter, PassedTo, IsUnderWay, IsFirstPiece, PassesPiece}
+use Rattle.mime.specs.UnderWay.{IsAfterCharacter, IsUnderWay, IsFirstPiece, PassesPiece}
 use Rattle.mime.specs.declared.scan.fault.ParseError.{ParseError}
 use Rattle.mime.specs.declared.scan.Places.{Places}
 use Rattle.mime.specs.declared.scan.Verdict.{Verdict}
@@ -24,12 +24,20 @@ use Rattle.mime.proofs.Viability.{accepted_is_viable}
 
 -- ---- the first character of a text
 
+-- a character's `end` bytes were passed: the first, and those that follow it
+pub record PassedTo (text : List ℕ) (end : ℕ) : Type 0 where
+  pub first : ℕ
+  pub following : List ℕ
+  pub spelled : text ≡ first ∷ (following ++ drop end text)
+  pub of_class : IsTrue (list_all is_following_byte following)
+  pub counted : end ≡ length following + 1
+
 -- the first byte is passed
 pub passed_first : (text : List ℕ) → 0 < length text → PassedTo text 1
 passed_first [] some = absurd (omega arith)
 passed_first (b ∷ bytes) some = record { first = b; following = []; spelled = refl; of_class = refl; counted = refl }
 
--- one more byte that follows it is passed
+-- one more byte of a character is passed
 pub passed_more : (text : List ℕ) (end : ℕ) → PassedTo text end → end < length text
     → IsTrue (is_following_byte (get_or text end 0)) → PassedTo text (end + 1)
 passed_more text end p within follows = let after : suc end ≡ end + 1 = omega arith in record {
@@ -70,13 +78,13 @@ judged-from_scan old new text from steps verdict scans left begin end =
     subst (λ n. Judges text n verdict) count (subst (λ t. Judges t scans.count verdict) left scans.judged)
 
 -- where it stopped the text may be cut, and isn't at its end
-pub stopped-boundary : (text : List ℕ) (steps byte : ℕ) (places : Option Places) → IsUtf8 text → Judges text steps (Stopped byte places)
-    → IsCharBoundary text (steps - 1) × (0 < length (drop (steps - 1) text))
-stopped-boundary text steps byte places utf8 (pos, is, stopped) =
-    let at : pos ≡ steps - 1 = omega (arith, is) in
+pub stopped-boundary : (text : List ℕ) (steps at byte : ℕ) (places : Option Places) → IsUtf8 text
+    → Judges text steps (Stopped byte places) → at ≡ steps - 1 → IsCharBoundary text at × (0 < length (drop at text))
+stopped-boundary text steps at byte places utf8 (pos, is, stopped) is_at =
+    let same : pos ≡ at = omega (arith, is, is_at) in
     let within = slice_get_within text pos byte stopped.fault.there in (
-      subst (IsCharBoundary text) at (front_ends_between_characters text pos utf8 stopped.fault.front),
-      omega (arith, length-drop (steps - 1) text, at, within),
+      subst (IsCharBoundary text) same (front_ends_between_characters text pos utf8 stopped.fault.front),
+      omega (arith, length-drop at text, same, within),
     )
 
 -- a text that was read to its end
@@ -146,7 +154,7 @@ passes-split text piece character left places split is =
     first None is some = on (bad piece ∷ []) (is_refused is some)
     first (Some p) has some = (has, λ value reads. on (good piece value ∷ []) (is_read value reads))
 
--- so a text that the scanner stops at is split there
+-- a text is split where the scanner stops
 pub passes-stopped : (text piece rest left : List ℕ) (steps at byte : ℕ) (places : Option Places) → Judges text steps (Stopped byte places)
     → at ≡ steps - 1 → piece ≡ take at text → rest ≡ drop at text → IsAfterCharacter rest left
     → PassesPiece text piece places left steps

@@ -47,7 +47,7 @@ at_place closed place = Some (list_at closed place)
 abbrev pub close : Closed → List ℕ → Parameter → Option BegunList
 close closed n parameter = at_place ((n, parameter) ∷ closed) (in_spaces [])
 
--- one more byte at a state of a list, or none where no accepted text goes on so
+-- a state of a list after one more byte, or none where no accepted text goes on so
 abbrev pub grow_place : Closed → ListPlace → ℕ → Option BegunList
 grow_place closed (in_spaces n) b =
     if is_space b then at_place closed (in_spaces (n ++ (b ∷ [])))
@@ -68,11 +68,11 @@ grow_place closed (behind_quotes n name content m) b =
     if is_space b then at_place closed (behind_quotes n name content (m ++ (b ∷ [])))
     else (if b == semicolon_byte then close closed n (quoted name content m) else None)
 
--- one more byte of a begun list, or none
+-- a begun list after one more byte, or none
 abbrev pub grow_list : BegunList → ℕ → Option BegunList
 grow_list list b = grow_place list.closed list.place b
 
--- one more byte of a begun tree, or none
+-- a begun tree after one more byte, or none
 abbrev pub grow : Begun → ℕ → Option Begun
 grow (in_type []) b = if is_token_byte b then Some (in_type (b ∷ [])) else None
 grow (in_type (t ∷ top)) b =

@@ -18,12 +18,12 @@ use Rattle.mime.proofs.Viability.{whole_front-from_walk, front_unique, stop-from
 
 -- ---- a byte past ASCII is foreign to the grammar
 
--- it is no token byte
+-- a byte past ASCII is no token byte
 pub high_token : (b : ℕ) → 128 ≤ b → IsFalse (is_token_byte b)
 unfolding is_token_byte
 high_token b high = grind (arith, nat_tests)
 
--- nor a space, nor a mark
+-- a byte past ASCII is no token byte, no space and no mark
 foreign-from_high : (b : ℕ) → 128 ≤ b → IsForeign b
 foreign-from_high b high = record {
   token = high_token b high;

@@ -12,12 +12,12 @@ pub boundary_before : (text : List ℕ) (at b : ℕ) → slice_get text at ≡ S
 boundary_before text at b there small =
     IsCharBoundary-before_ascii text at (slice_get_within text at b there) (omega (arith, get_or_from_slice_get text at b 0 there))
 
--- and after it
+-- a text may be cut after an ASCII byte
 pub boundary_behind : (text : List ℕ) (at b : ℕ) → IsUtf8 text → slice_get text at ≡ Some b → b < 128 → IsCharBoundary text (at + 1)
 boundary_behind text at b utf8 there small =
     IsCharBoundary-after_ascii text at utf8 (slice_get_within text at b there) (omega (arith, get_or_from_slice_get text at b 0 there))
 
--- the byte is at the position found
+-- the byte that was looked for is at the position found
 pub slice_get-first_position : (byte : ℕ) (text : List ℕ) (position : ℕ) → position ≡ first_position byte text → position < length text
     → slice_get text position ≡ Some byte
 slice_get-first_position byte text position is within =

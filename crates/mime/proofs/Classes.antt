@@ -12,12 +12,12 @@ pub semicolon_is_no_token : IsFalse (is_token_byte semicolon_byte)
 unfolding is_token_byte
 semicolon_is_no_token = refl
 
--- nor is an equals sign
+-- an equals sign is no token byte
 pub equals_is_no_token : IsFalse (is_token_byte equals_byte)
 unfolding is_token_byte
 equals_is_no_token = refl
 
--- nor is a quote
+-- a quote is no token byte
 pub quote_is_no_token : IsFalse (is_token_byte quote_byte)
 unfolding is_token_byte
 quote_is_no_token = refl
@@ -53,7 +53,7 @@ pub are_other-token : (byte : ℕ) → is_token_byte byte ≡ false → (bytes :
     → list_all (is_other byte) bytes ≡ true
 are_other-token = are_other is_token_byte
 
--- nor is one that is no space among spaces
+-- a byte that is no space isn't among spaces
 pub are_other-spaces : (byte : ℕ) → is_space byte ≡ false → (bytes : List ℕ) → AreSpaces bytes → list_all (is_other byte) bytes ≡ true
 are_other-spaces = are_other is_space
 

@@ -1,53 +1,60 @@
 -- The constant media types are kept with their positions.
-use Rattle.std.proofs.Common.{ℕ, List, [], ◌∷◌, refl, codes}
+use Rattle.std.proofs.Common.{◌≡◌, ℕ, ◌+◌, List, [], ◌∷◌, length, take, drop, Option, Some, None, refl, codes}
+use Rattle.std.specs.Prelude.{unwrap_or}
 use Rattle.mime.specs.Bytes.{is_token_byte, space_byte}
-use Rattle.mime.specs.Grammar.{plain, final, no_list, listed, SyntaxTree}
-use Rattle.mime.specs.KeptText.{IsKept}
+use Rattle.mime.specs.Grammar.{plain, final, Tail, no_list, listed, SyntaxTree, text_of, IsToken, IsTail}
+use Rattle.mime.specs.Values.{lowered_tree}
+use Rattle.mime.specs.Scanning.{places_of}
+use Rattle.mime.specs.KeptText.{HoldsParameter, IsKept}
 use Rattle.mime.specs.Atoms.{atom_text}
-use Rattle.mime.specs.AtomPlaces.{atom_places}
+use Rattle.mime.specs.AtomPlaces.{places_in}
 use Rattle.mime.specs.declared.atoms.Atom.{Atom}
-use Rattle.mime.specs.declared.atoms.Atom.TheVariants.{STAR_STAR, TEXT_STAR, TEXT_PLAIN, TEXT_PLAIN_UTF_8, TEXT_HTML, TEXT_HTML_UTF_8, TEXT_CSS, TEXT_CSS_UTF_8, TEXT_JAVASCRIPT, TEXT_XML, TEXT_EVENT_STREAM, TEXT_CSV, TEXT_CSV_UTF_8, TEXT_TAB_SEPARATED_VALUES, TEXT_TAB_SEPARATED_VALUES_UTF_8, TEXT_VCARD, IMAGE_STAR, IMAGE_JPEG, IMAGE_GIF, IMAGE_PNG, IMAGE_BMP, IMAGE_SVG, FONT_WOFF, FONT_WOFF2, APPLICATION_JSON, APPLICATION_JAVASCRIPT, APPLICATION_JAVASCRIPT_UTF_8, APPLICATION_WWW_FORM_URLENCODED, APPLICATION_OCTET_STREAM, APPLICATION_MSGPACK, APPLICATION_PDF, MULTIPART_FORM_DATA}
+use Rattle.mime.specs.declared.atoms.Atom.TheVariants.{STAR_STAR, TEXT_JAVASCRIPT}
+use Rattle.mime.specs.declared.atoms.TheConstants.{TEXT_JAVSCRIPT}
+use Rattle.mime.specs.declared.scan.Places.{Places}
 
--- a tree of a type and a subtype alone
-abbrev essence_tree : List ℕ → List ℕ → SyntaxTree
-essence_tree top sub = record { top = top; sub = sub; tail = no_list }
+-- the tail of a constant's text: a charset where there is a semicolon
+abbrev tail_at : Option ℕ → Tail
+tail_at None = no_list
+tail_at (Some semicolon) = listed (final (space_byte ∷ []) (plain (codes "charset") (codes "utf-8")))
 
--- a tree with a charset too
-abbrev charset_tree : List ℕ → List ℕ → SyntaxTree
-charset_tree top sub = record { top = top; sub = sub; tail = listed (final (space_byte ∷ []) (plain (codes "charset") (codes "utf-8"))) }
-
--- each constant's text is that of such a tree
-pub kept_atom : (atom : Atom) → IsKept (atom_text atom) (atom_places atom)
+-- the tail of a constant's text is well formed
+is_tail : (semicolon : Option ℕ) → IsTail (tail_at semicolon)
 unfolding is_token_byte
-kept_atom STAR_STAR = record { tree = essence_tree (codes "*") (codes "*"); well_formed = (refl, refl, tt); low = refl; kept = tt; spelled = refl; placed = refl }
-kept_atom TEXT_STAR = record { tree = essence_tree (codes "text") (codes "*"); well_formed = (refl, refl, tt); low = refl; kept = tt; spelled = refl; placed = refl }
-kept_atom TEXT_PLAIN = record { tree = essence_tree (codes "text") (codes "plain"); well_formed = (refl, refl, tt); low = refl; kept = tt; spelled = refl; placed = refl }
-kept_atom TEXT_PLAIN_UTF_8 = record { tree = charset_tree (codes "text") (codes "plain"); well_formed = (refl, refl, (refl, (refl, refl))); low = refl; kept = tt; spelled = refl; placed = refl }
-kept_atom TEXT_HTML = record { tree = essence_tree (codes "text") (codes "html"); well_formed = (refl, refl, tt); low = refl; kept = tt; spelled = refl; placed = refl }
-kept_atom TEXT_HTML_UTF_8 = record { tree = charset_tree (codes "text") (codes "html"); well_formed = (refl, refl, (refl, (refl, refl))); low = refl; kept = tt; spelled = refl; placed = refl }
-kept_atom TEXT_CSS = record { tree = essence_tree (codes "text") (codes "css"); well_formed = (refl, refl, tt); low = refl; kept = tt; spelled = refl; placed = refl }
-kept_atom TEXT_CSS_UTF_8 = record { tree = charset_tree (codes "text") (codes "css"); well_formed = (refl, refl, (refl, (refl, refl))); low = refl; kept = tt; spelled = refl; placed = refl }
-kept_atom TEXT_JAVASCRIPT = record { tree = essence_tree (codes "text") (codes "javascript"); well_formed = (refl, refl, tt); low = refl; kept = tt; spelled = refl; placed = refl }
-kept_atom TEXT_XML = record { tree = essence_tree (codes "text") (codes "xml"); well_formed = (refl, refl, tt); low = refl; kept = tt; spelled = refl; placed = refl }
-kept_atom TEXT_EVENT_STREAM = record { tree = essence_tree (codes "text") (codes "event-stream"); well_formed = (refl, refl, tt); low = refl; kept = tt; spelled = refl; placed = refl }
-kept_atom TEXT_CSV = record { tree = essence_tree (codes "text") (codes "csv"); well_formed = (refl, refl, tt); low = refl; kept = tt; spelled = refl; placed = refl }
-kept_atom TEXT_CSV_UTF_8 = record { tree = charset_tree (codes "text") (codes "csv"); well_formed = (refl, refl, (refl, (refl, refl))); low = refl; kept = tt; spelled = refl; placed = refl }
-kept_atom TEXT_TAB_SEPARATED_VALUES = record { tree = essence_tree (codes "text") (codes "tab-separated-values"); well_formed = (refl, refl, tt); low = refl; kept = tt; spelled = refl; placed = refl }
-kept_atom TEXT_TAB_SEPARATED_VALUES_UTF_8 = record { tree = charset_tree (codes "text") (codes "tab-separated-values"); well_formed = (refl, refl, (refl, (refl, refl))); low = refl; kept = tt; spelled = refl; placed = refl }
-kept_atom TEXT_VCARD = record { tree = essence_tree (codes "text") (codes "vcard"); well_formed = (refl, refl, tt); low = refl; kept = tt; spelled = refl; placed = refl }
-kept_atom IMAGE_STAR = record { tree = essence_tree (codes "image") (codes "*"); well_formed = (refl, refl, tt); low = refl; kept = tt; spelled = refl; placed = refl }
-kept_atom IMAGE_JPEG = record { tree = essence_tree (codes "image") (codes "jpeg"); well_formed = (refl, refl, tt); low = refl; kept = tt; spelled = refl; placed = refl }
-kept_atom IMAGE_GIF = record { tree = essence_tree (codes "image") (codes "gif"); well_formed = (refl, refl, tt); low = refl; kept = tt; spelled = refl; placed = refl }
-kept_atom IMAGE_PNG = record { tree = essence_tree (codes "image") (codes "png"); well_formed = (refl, refl, tt); low = refl; kept = tt; spelled = refl; placed = refl }
-kept_atom IMAGE_BMP = record { tree = essence_tree (codes "image") (codes "bmp"); well_formed = (refl, refl, tt); low = refl; kept = tt; spelled = refl; placed = refl }
-kept_atom IMAGE_SVG = record { tree = essence_tree (codes "image") (codes "svg+xml"); well_formed = (refl, refl, tt); low = refl; kept = tt; spelled = refl; placed = refl }
-kept_atom FONT_WOFF = record { tree = essence_tree (codes "font") (codes "woff"); well_formed = (refl, refl, tt); low = refl; kept = tt; spelled = refl; placed = refl }
-kept_atom FONT_WOFF2 = record { tree = essence_tree (codes "font") (codes "woff2"); well_formed = (refl, refl, tt); low = refl; kept = tt; spelled = refl; placed = refl }
-kept_atom APPLICATION_JSON = record { tree = essence_tree (codes "application") (codes "json"); well_formed = (refl, refl, tt); low = refl; kept = tt; spelled = refl; placed = refl }
-kept_atom APPLICATION_JAVASCRIPT = record { tree = essence_tree (codes "application") (codes "javascript"); well_formed = (refl, refl, tt); low = refl; kept = tt; spelled = refl; placed = refl }
-kept_atom APPLICATION_JAVASCRIPT_UTF_8 = record { tree = charset_tree (codes "application") (codes "javascript"); well_formed = (refl, refl, (refl, (refl, refl))); low = refl; kept = tt; spelled = refl; placed = refl }
-kept_atom APPLICATION_WWW_FORM_URLENCODED = record { tree = essence_tree (codes "application") (codes "x-www-form-urlencoded"); well_formed = (refl, refl, tt); low = refl; kept = tt; spelled = refl; placed = refl }
-kept_atom APPLICATION_OCTET_STREAM = record { tree = essence_tree (codes "application") (codes "octet-stream"); well_formed = (refl, refl, tt); low = refl; kept = tt; spelled = refl; placed = refl }
-kept_atom APPLICATION_MSGPACK = record { tree = essence_tree (codes "application") (codes "msgpack"); well_formed = (refl, refl, tt); low = refl; kept = tt; spelled = refl; placed = refl }
-kept_atom APPLICATION_PDF = record { tree = essence_tree (codes "application") (codes "pdf"); well_formed = (refl, refl, tt); low = refl; kept = tt; spelled = refl; placed = refl }
-kept_atom MULTIPART_FORM_DATA = record { tree = essence_tree (codes "multipart") (codes "form-data"); well_formed = (refl, refl, tt); low = refl; kept = tt; spelled = refl; placed = refl }
+is_tail None = tt
+is_tail (Some semicolon) = (refl, (refl, refl))
+
+-- the tail of a constant's text holds a parameter if it is a list
+holds_parameter : (semicolon : Option ℕ) → HoldsParameter (tail_at semicolon)
+holds_parameter None = tt
+holds_parameter (Some semicolon) = tt
+
+-- the tree of a constant's text
+abbrev tree_in : List ℕ → SyntaxTree
+tree_in text = record {
+  top = take (places_in text).slash text;
+  sub = drop ((places_in text).slash + 1) (take (unwrap_or (places_in text).semicolon (length text)) text);
+  tail = tail_at (places_in text).semicolon;
+}
+
+-- a text is kept if it is that of the tree in it, which is well formed and its own lowering
+kept_by : (text : List ℕ) → IsToken (tree_in text).top → IsToken (tree_in text).sub → lowered_tree (tree_in text) ≡ tree_in text
+    → text_of (tree_in text) ≡ text → places_of (tree_in text) ≡ places_in text → IsKept text (places_in text)
+kept_by text top sub low spelled placed = record {
+  tree = tree_in text;
+  well_formed = (top, sub, is_tail (places_in text).semicolon);
+  low = low;
+  kept = holds_parameter (places_in text).semicolon;
+  spelled = spelled;
+  placed = placed;
+}
+
+-- each constant's text is kept: the second line is one case for each constant but the first
+pub kept_atom : (atom : Atom) → IsKept (atom_text atom) (places_in (atom_text atom))
+unfolding is_token_byte
+kept_atom STAR_STAR = kept_by (atom_text STAR_STAR) refl refl refl refl refl
+kept_atom atom = kept_by (atom_text atom) refl refl refl refl refl
+
+-- the old spelling of a constant's name is the same constant
+old_spelling : TEXT_JAVSCRIPT ≡ TEXT_JAVASCRIPT
+old_spelling = refl

@@ -1,11 +1,11 @@
 -- How many pairs a kept text holds, and what it is without one.
 use Rattle.std.proofs.Common.{◌≡◌, ℕ, Bool, ◌+◌, List, [], ◌∷◌, length, drop, Option, Some, None, refl, sym, ap, ◌∙◌, subst, arith}
 use Rattle.mime.specs.Grammar.{Tail, no_list, listed}
-use Rattle.mime.specs.Values.{MediaType, Reads, OwnedMedia, pairs_of_tail, lowered_tree, kept_text, essence_of}
+use Rattle.mime.specs.Values.{MediaType, Reads, pairs_of_tail, lowered_tree, kept_text, essence_of}
 use Rattle.mime.specs.Comparison.{Same}
-use Rattle.mime.specs.Pairs.{pairs_within}
+use Rattle.mime.specs.Pairs.{pairs_behind}
 use Rattle.mime.specs.Scanning.{semicolon_of}
-use Rattle.mime.specs.KeptText.{media_of, IsKept, pairs_behind}
+use Rattle.mime.specs.KeptText.{media_of, IsKept}
 use Rattle.mime.specs.declared.scan.Places.{Places}
 use Rattle.mime.proofs.Parts.{length-pairs_within}
 use Rattle.mime.proofs.Readings.{one_reading}
@@ -36,17 +36,10 @@ same_from_text text other x y reads also is =
 -- without pairs the kept text is the essence
 pub kept-essence : (x : MediaType) (text : List ℕ) → Reads text x → length x.pairs ≡ 0 → x.kept ≡ x.essence
 kept-essence x text reads none =
-    subst (λ (value : MediaType). length value.pairs ≡ 0 → value.kept ≡ value.essence) reads.valued (go (pairs_of_tail (lowered_tree reads.tree).tail)) none
+    subst (λ (value : MediaType). length value.pairs ≡ 0 → value.kept ≡ value.essence) reads.valued
+    (go (pairs_of_tail (lowered_tree reads.tree).tail)) none
   where
     go : (pairs : List (List ℕ × List ℕ)) → length pairs ≡ 0
         → kept_text pairs (lowered_tree reads.tree) ≡ essence_of (lowered_tree reads.tree)
     go [] none = refl
     go (pair ∷ pairs) none = absurd (omega arith)
-
--- the list after the semicolon has the pairs
-pub kept_list : (text list : List ℕ) (places : Places) (semicolon : ℕ) (kept : OwnedMedia) {fixed : Bool} → IsKept text places
-    → record { media = media_of text places; fixed = fixed } ≡ kept → places.semicolon ≡ Some semicolon → list ≡ drop (semicolon + 1) text
-    → pairs_within (length kept.media.pairs) list ≡ kept.media.pairs
-kept_list text list places semicolon kept is_kept seen is cut =
-    subst (λ (k : OwnedMedia). pairs_within (length k.media.pairs) list ≡ k.media.pairs) seen
-    (rw (← kept-count text places is_kept, cut) (ap (λ s. pairs_behind places.pairs s text) (sym is)))

@@ -8,7 +8,7 @@ use Rattle.mime.specs.Grammar.{SyntaxTree}
 use Rattle.mime.specs.Values.{MediaType, Reads, IsAccepted, IsRefused}
 use Rattle.mime.specs.Refusals.{IsViable, IsFront}
 use Rattle.mime.proofs.Begun.{Begun, in_type, walk, tree_of}
-use Rattle.mime.proofs.PairWalks.{cons_parts}
+use Rattle.mime.proofs.SmallLetters.{cons_parts}
 use Rattle.mime.proofs.Readings.{one_reading, refused-from_walk, stopped-from_walk}
 use Rattle.mime.proofs.Viability.{accepted-from_complete, viable-from_walk, front-from_walk, front_unique, accepted_is_viable, empty_is_viable, stop-from_walk}
 use Rattle.mime.specs.Cut.{is_following_byte, BeginsCharacter, IsCharacter, IsSplit, CutItem, good, ItemsOf, is_read, is_refused, is_empty, Cut, whole, unfinished, goes_on, Pieces, last, next, steps_of, TakesSteps}

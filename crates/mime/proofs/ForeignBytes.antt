@@ -55,7 +55,7 @@ grow_place-foreign top sub closed (in_quotes n name content) b foreign =
     (λ fails. neither _ false _ None _ refl foreign.quote)
 grow_place-foreign top sub closed (behind_quotes n name content m) b foreign = neither _ _ _ _ _ foreign.space foreign.semicolon
 
--- so it does from any begun tree
+-- from any begun tree a foreign byte leads nowhere, or from open quotes into open quotes
 pub grow-foreign : (begun : Begun) (b : ℕ) → IsForeign b
     → MatchOption (grow begun b) (Unit {0}) (λ next. IsOpen begun × IsOpen next)
 grow-foreign (in_type []) b foreign = neither _ (is_token_byte b) false _ None foreign.token refl

@@ -1,12 +1,12 @@
 -- One call of a `MimeIter`: pieces are passed up to the first that is an item, and that is given.
-use Rattle.std.proofs.Common.{◌≡◌, ◌≢◌, ℕ, Bool, true, false, List, [], Option, Some, None, Result, Ok, Err, refl, sym, ap, ◌∙◌, subst, arith, Bor}
+use Rattle.std.proofs.Common.{◌≡◌, ◌≢◌, ℕ, ◌≤◌, length, Bool, true, false, List, [], Option, Some, None, Result, Ok, Err, refl, sym, ap, ◌∙◌, subst, arith, Bor}
 use Rattle.std.specs.Prelude.{codes}
 use Rattle.std.proofs.lemmas.Bool.{true≢false}
 use Rattle.std.proofs.lemmas.Option.{none-some}
 use Rattle.mime.specs.Values.{OwnedMedia, Reads}
 use Rattle.mime.specs.Cut.{TakesSteps, Cut}
 use Rattle.mime.specs.Runs.{Iteration, GivesItem, IsNext}
-use Rattle.mime.specs.UnderWay.{IsUnderWay, IsSound, IsLooking, IsFound}
+use Rattle.mime.specs.UnderWay.{IsUnderWay, PassesOn, IsSound, IsFound}
 use Rattle.mime.specs.declared.iter.Bad.{Bad}
 use Rattle.mime.specs.declared.iter.Bad.TheVariants.{Piece, NoMemory}
 use Rattle.mime.specs.declared.iter.MimeIter.TheInside.{Inside}
@@ -24,6 +24,14 @@ under_way-starved text left starved steps kept = record {
   few = omega (arith, kept.few);
   exact = λ fed n takes. absurd (true≢false fed);
 }
+
+-- pieces without an item were passed since a call began
+pub record IsLooking (old now : Iteration) : Type 0 where
+  pub passed : PassesOn old.left now.left
+  pub starved : now.starved ≡ old.starved
+  pub text : now.text ≡ old.text
+  pub still : old.left ≡ [] → now ≡ old
+  pub less : length now.left ≤ length old.left
 
 -- a `MimeIter` as contracts see it
 abbrev pub seen : Inside → Iteration

@@ -7,11 +7,11 @@ use Rattle.mime.specs.Grammar.{Parameters, blank, final, more, Tail, no_list, li
 use Rattle.mime.specs.Values.{MediaType, Reads, value_of, essence_of, kept_text, lowered, lowered_tree, last_plus, pairs_of_list, pairs_of_tail}
 use Rattle.mime.specs.Pairs.{pairs_within, lowered_within}
 use Rattle.mime.specs.Scanning.{HasPlaces, places_of, semicolon_of, before_list}
-use Rattle.mime.specs.KeptText.{media_of, HoldsParameter, IsKept, kept_text_of, kept_places}
+use Rattle.mime.specs.KeptText.{media_of, HoldsParameter, IsKept, with_pairs_lowered, kept_text_of, kept_places}
 use Rattle.mime.specs.declared.scan.Places.{Places}
 use Rattle.mime.proofs.ByteAt.{slice_get-front}
 use Rattle.mime.proofs.Lowering.{length-lowered, lowered-append, lowered_tree-lowered_tree, IsWellFormed-lowered_tree, places_of-lowered_tree}
-use Rattle.mime.proofs.Utf8.{IsLoweredInPart, small, joined, low-in_part}
+use Rattle.mime.proofs.Utf8.{IsLoweredInPart, small, joined}
 use Rattle.mime.proofs.PairCuts.{lowered_within-in_part}
 use Rattle.mime.proofs.ListText.{pairs_within-text_of_list, lowered_within-text_of_list}
 
@@ -227,18 +227,8 @@ kept-semicolon text places s is_kept is =
 
 -- the kept text of a text with a pair is that text with some parts lowered
 pub kept-in_part : (count s : ℕ) (text : List ℕ)
-    → IsLoweredInPart text (lowered (take (s + 1) text) ++ lowered_within count (drop (s + 1) text))
+    → IsLoweredInPart text (with_pairs_lowered count s text)
 kept-in_part count s text =
-    subst (λ t. IsLoweredInPart t (lowered (take (s + 1) text) ++ lowered_within count (drop (s + 1) text)))
+    subst (λ t. IsLoweredInPart t (with_pairs_lowered count s text))
     (take-append-drop (s + 1) text)
     (joined _ _ _ _ (small (take (s + 1) text)) (lowered_within-in_part count (drop (s + 1) text)))
-
--- a text with a pair and without capitals is kept as it is
-pub lowered_text-low : (text : List ℕ) (places : Places) → lowered text ≡ text → 0 < places.pairs
-    → kept_text_of places.pairs places.semicolon text ≡ text
-lowered_text-low text places low pairs = go places.pairs places.semicolon pairs
-  where
-    go : (count : ℕ) (semicolon : Option ℕ) → 0 < count → kept_text_of count semicolon text ≡ text
-    go zero semicolon pairs = absurd (omega arith)
-    go (suc count) None pairs = low
-    go (suc count) (Some s) pairs = low-in_part text _ (kept-in_part (suc count) s text) low

@@ -1,7 +1,9 @@
 -- facts of bytes, and quoted content
 pub mod Classes
+pub mod ByteTables
 pub mod ByteAt
 pub mod Quoted
+pub mod ContentEnds
 -- the grammar walked
 pub mod Begun
 pub mod Walks
@@ -20,6 +22,7 @@ pub mod TextScan
 -- the kept text
 pub mod CharBorders
 pub mod Lowering
+pub mod Marks
 pub mod Blocks
 pub mod Utf8
 pub mod PairCuts
@@ -31,14 +34,14 @@ pub mod Parts
 pub mod Outcomes
 -- comparison
 pub mod Ordering
-pub mod PairWalks
+pub mod SameItems
 pub mod Counts
-pub mod Joining
+pub mod HashBuffer
 pub mod Constants
 pub mod SmallLetters
 pub mod TextComparison
-pub mod Spelled
-pub mod OneForm
+pub mod FirstDifference
+pub mod Differences
 -- the cut, and runs of the iterator
 pub mod Cuts
 pub mod Containment
@@ -48,12 +51,3 @@ pub mod RunProofs
 pub mod Characters
 -- laws on which no code rests
 pub mod LawProofs
--- texts, values and runs for which definitions and laws are true, and others for which they are false
-pub mod StandardFacts
-pub mod GrammarFacts
-pub mod ValueFacts
-pub mod ComparisonFacts
-pub mod RefusalFacts
-pub mod CutFacts
-pub mod RunFacts
-pub mod LawFacts

@@ -26,13 +26,13 @@ pub one_pair_more : (head places : Places) (n : ℕ) → places ≡ record head 
     → record places { pairs = places.pairs + 1 } ≡ record head { pairs = head.pairs + (n + 1) }
 one_pair_more head places n e = rw e (ap (λ (count : ℕ). record head { pairs = count }) (omega arith))
 
--- the spaces before a parameter
+-- the spaces before a parameter were walked
 pub spaces_walked : {head places : Places} {old mid new : Remaining} {stop : Option ℕ}
     → (t : Turn head places old mid) → (p : Passes is_space mid new stop)
     → ListReaches old new stop (record { closed = t.closed; place = in_spaces p.run })
 spaces_walked t p = list_run t.walked p.given (walk_list-spaces t.closed [] p.run p.of_class)
 
--- its name
+-- a parameter's name was walked
 pub name_walked : {head places : Places} {old mid from new : Remaining} {b : ℕ} {stop : Option ℕ}
     → (t : Turn head places old mid) → (p : Passes is_space mid from (Some b)) → is_token_byte b ≡ true
     → (q : Passes is_token_byte from new stop)
@@ -42,13 +42,13 @@ name_walked {b = b} t p f q =
     (list_byte (spaces_walked t p) (cond-false (is_space b) _ _ p.stopped ∙ cond-true (is_token_byte b) _ _ f))
     q.given (walk_list-name t.closed p.run b [] q.run q.of_class)
 
--- its equals sign
+-- a parameter's equals sign was walked
 pub equals_walked : {closed : List (List ℕ × Parameter)} {spaces name : List ℕ} {old now : Remaining} {b : ℕ}
     → ListReaches old now (Some b) (record { closed = closed; place = in_name spaces name }) → IsFalse (is_token_byte b) → b ≡ equals_byte
     → ListReaches old now None (record { closed = closed; place = in_value spaces name [] })
 equals_walked {b = b} r f e = list_byte r (cond-false (is_token_byte b) _ _ f ∙ cond-true _ _ _ (eq-eqb b equals_byte e))
 
--- its quoted content
+-- a parameter's quoted content was walked
 pub quotes_walked : {closed : List (List ℕ × Parameter)} {spaces name : List ℕ} {old mid from new : Remaining} {b : ℕ} {stop : Option ℕ}
     → ListReaches old mid None (record { closed = closed; place = in_value spaces name [] }) → GivesFirst mid from (Some b) → b ≡ quote_byte
     → (q : PassesContent from new stop) → ListReaches old new stop (record { closed = closed; place = in_quotes spaces name q.run })
@@ -77,7 +77,7 @@ only_semicolon : (class : ℕ → Bool) (left : List ℕ) (stop : Option ℕ) (g
 only_semicolon class left None go closed s = s
 only_semicolon class left (Some b) go closed s = λ ne. cond-false (class b) _ _ s ∙ cond-false _ _ _ (ne_eqb b semicolon_byte ne)
 
--- a plain value
+-- a plain value was walked
 pub valued_token : {closed : List (List ℕ × Parameter)} {spaces name : List ℕ} {old mid from new : Remaining} {b : ℕ} {stop : Option ℕ}
     → ListReaches old mid None (record { closed = closed; place = in_value spaces name [] }) → GivesFirst mid from (Some b)
     → is_token_byte b ≡ true → Passes is_token_byte from new stop → Valued closed spaces old mid new stop
@@ -93,7 +93,7 @@ valued_token {closed} {spaces} {name} {new = new} {b = b} {stop = stop} r g f q 
   less = omega (arith, given_sum g.0, given_sum q.given);
 }
 
--- a quoted value and the spaces after it
+-- a quoted value and the spaces after it were walked
 pub valued_quotes : {closed : List (List ℕ × Parameter)} {spaces name : List ℕ} {old mid from to new : Remaining} {b c : ℕ}
     {stop : Option ℕ}
     → ListReaches old mid None (record { closed = closed; place = in_value spaces name [] }) → GivesFirst mid from (Some b)

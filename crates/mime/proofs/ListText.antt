@@ -11,11 +11,15 @@ use Rattle.mime.specs.Grammar.{Parameter, plain, quoted, Parameters, blank, fina
 use Rattle.mime.specs.Values.{lowered, lowered_value, lowered_parameter, lowered_list, pair_of, pairs_of_list}
 use Rattle.mime.specs.Quoted.{content_len, content_of, behind_content}
 use Rattle.mime.specs.Pairs.{PairCut, before_byte, behind_byte, cut_behind_equals, leading_spaces, without_gap, cut_of, pairs_within, lowered_within}
-use Rattle.mime.specs.Spelled.{IsFollow, nothing, marked}
-use Rattle.mime.proofs.Quoted.{content_len-content}
+use Rattle.mime.proofs.ContentEnds.{content_len-content}
 use Rattle.mime.proofs.Classes.{semicolon_is_no_token, equals_is_no_token, quote_is_no_token, token_byte-not, token_byte-not_space, is_other, are_other-token, are_other-spaces, AreTokenBytes-from_token}
 use Rattle.mime.proofs.Lowering.{lowered-append}
 use Rattle.mime.proofs.PairCuts.{lowered_within-first}
+
+-- what may follow a run: nothing, or the byte and the rest
+pub data IsFollow (byte : ℕ) : List ℕ → List ℕ → Type 0 where
+  nothing : IsFollow byte [] []
+  marked : (rest : List ℕ) → IsFollow byte (byte ∷ rest) rest
 
 -- a run of a class ends at the first byte outside it
 run_to : (class : ℕ → Bool) (run : List ℕ) (b : ℕ) (behind : List ℕ) → list_all class run ≡ true → class b ≡ false

@@ -28,11 +28,11 @@ length-lowered text = length-map text to_ascii_lowercase
 pub lowered-append : (front back : List ℕ) → lowered (front ++ back) ≡ lowered front ++ lowered back
 lowered-append front back = map-append to_ascii_lowercase front back
 
--- so is the text before a position
+-- the text before a position is lowered alone
 pub lowered-take : (n : ℕ) (text : List ℕ) → lowered (take n text) ≡ take n (lowered text)
 lowered-take n text = sym (take-map to_ascii_lowercase n text)
 
--- and the text after it
+-- the text after a position is lowered alone
 pub lowered-drop : (n : ℕ) (text : List ℕ) → lowered (drop n text) ≡ drop n (lowered text)
 lowered-drop n text = sym (drop-map to_ascii_lowercase n text)
 
@@ -57,20 +57,20 @@ pub lowered_value-either : (P : List ℕ → Type 0) (name value : List ℕ) →
 lowered_value-either P name value same small =
     elim (is_charset name) as (λ b. P (cond b (lowered value) value)) [ true ↦ small | false ↦ same ]
 
--- a parameter stays well formed
+-- a lowered parameter is well formed
 IsParameter-lowered : (p : Parameter) → IsParameter p → IsParameter (lowered_parameter p)
 IsParameter-lowered (plain name value) (named, token) =
     (IsToken-lowered name named, lowered_value-either IsToken name value token (IsToken-lowered value token))
 IsParameter-lowered (quoted name content n) (named, is, white) =
     (IsToken-lowered name named, lowered_value-either IsContent name content is (IsContent-lowered content is), white)
 
--- so does a parameter list
+-- a lowered parameter list is well formed
 AreParameters-lowered : (list : Parameters) → AreParameters list → AreParameters (lowered_list list)
 AreParameters-lowered (blank n) white = white
 AreParameters-lowered (final n p) (white, well) = (white, IsParameter-lowered p well)
 AreParameters-lowered (more n p rest) (white, well, others) = (white, IsParameter-lowered p well, AreParameters-lowered rest others)
 
--- so does what follows the subtype
+-- what follows a lowered subtype is well formed
 IsTail-lowered : (tail : Tail) → IsTail tail → IsTail (lowered_tail tail)
 IsTail-lowered no_list well = tt
 IsTail-lowered (listed list) well = AreParameters-lowered list well
@@ -100,13 +100,13 @@ lowered_parameter-lowered : (p : Parameter) → lowered_parameter (lowered_param
 lowered_parameter-lowered (plain name value) = cc (lowered-lowered name, lowered_value-lowered name value)
 lowered_parameter-lowered (quoted name content n) = cc (lowered-lowered name, lowered_value-lowered name content)
 
--- so is a lowered parameter list
+-- a lowered parameter list is its own lowering
 lowered_list-lowered : (list : Parameters) → lowered_list (lowered_list list) ≡ lowered_list list
 lowered_list-lowered (blank n) = refl
 lowered_list-lowered (final n p) = ap (final n) (lowered_parameter-lowered p)
 lowered_list-lowered (more n p rest) = cc (lowered_parameter-lowered p, lowered_list-lowered rest)
 
--- so is what follows a lowered subtype
+-- what follows a lowered subtype is its own lowering
 lowered_tail-lowered : (tail : Tail) → lowered_tail (lowered_tail tail) ≡ lowered_tail tail
 lowered_tail-lowered no_list = refl
 lowered_tail-lowered (listed list) = ap listed (lowered_list-lowered list)
@@ -115,25 +115,25 @@ lowered_tail-lowered (listed list) = ap listed (lowered_list-lowered list)
 pub lowered_tree-lowered_tree : (tree : SyntaxTree) → lowered_tree (lowered_tree tree) ≡ lowered_tree tree
 lowered_tree-lowered_tree tree = cc (lowered-lowered tree.top, lowered-lowered tree.sub, lowered_tail-lowered tree.tail)
 
--- the last plus keeps its position
+-- lowering keeps the position of the last plus
 last_plus-lowered : (at : ℕ) (bytes : List ℕ) → last_plus at (lowered bytes) ≡ last_plus at bytes
 last_plus-lowered at [] = refl
 last_plus-lowered at (b ∷ bytes) =
     let plus : (to_ascii_lowercase b == 43) ≡ (b == 43) = grind (arith, nat_tests) in
     rw (plus, last_plus-lowered (at + 1) bytes)
 
--- a list keeps the number of its pairs
+-- a lowered list has as many pairs
 pub length-pairs_lowered : (list : Parameters) → length (pairs_of_list (lowered_list list)) ≡ length (pairs_of_list list)
 length-pairs_lowered (blank n) = refl
 length-pairs_lowered (final n p) = refl
 length-pairs_lowered (more n p rest) = omega (arith, length-pairs_lowered rest)
 
--- so does what follows the subtype
+-- what follows a lowered subtype has as many pairs
 length-tail_lowered : (tail : Tail) → length (pairs_of_tail (lowered_tail tail)) ≡ length (pairs_of_tail tail)
 length-tail_lowered no_list = refl
 length-tail_lowered (listed list) = length-pairs_lowered list
 
--- the semicolon keeps its position
+-- lowering keeps the position of the semicolon
 semicolon_of-lowered : (at : ℕ) (tail : Tail) → semicolon_of at (lowered_tail tail) ≡ semicolon_of at tail
 semicolon_of-lowered at no_list = refl
 semicolon_of-lowered at (listed list) = refl

@@ -28,7 +28,7 @@ use Rattle.mime.proofs.Viability.{accepted-from_complete, completes, completes-f
 never : {X : Type 0} → IsTrue false → X
 never fails = absurd (false≢true fails)
 
--- nor does it if the text ends in some byte
+-- a completion that fails completes nothing, whatever byte the text ends in
 nor : {X E : Type 0} → IsTrue false → E → X
 nor fails ends = never fails
 
@@ -84,7 +84,8 @@ lacks_own text (in_type []) walked = own-by_fault text _ walked (λ passes. (ref
 lacks_own text (in_type (t ∷ top)) walked = own-by_fault text _ walked (λ passes. (refl, refl)) nor never nor never
 lacks_own text (in_subtype top []) walked =
     own-by_fault text _ walked never (λ passes ends. (refl, refl)) never
-    (λ passes. ends_not (λ c. c == slash_byte) text top (slash_byte ∷ []) equals_byte (spelled-from_walk text _ walked) (omega arith) refl refl)
+    (λ passes.
+    ends_not (λ c. c == slash_byte) text top (slash_byte ∷ []) equals_byte (spelled-from_walk text _ walked) (omega arith) refl refl)
     never
 lacks_own text (in_subtype top (s ∷ sub)) walked =
     own-by_fault text _ walked never (λ passes. in_token slash_byte refl) never (λ passes. in_token equals_byte refl) never

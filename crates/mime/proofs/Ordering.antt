@@ -1,14 +1,66 @@
 -- The order of values: what comes before is less, and the laws of `Before` and `Same`.
-use Rattle.std.proofs.Common.{◌≡◌, ℕ, ◌<◌, inl, inr, Bool, true, false, IsTrue, ◌↔◌, List, [], ◌∷◌, refl, sym, ap, ◌∙◌, subst, true≢false}
+use Rattle.std.proofs.Common.{◌≡◌, ℕ, ◌<◌, ◌⊎◌, inl, inr, Bool, true, false, IsTrue, ◌↔◌, List, [], ◌∷◌, refl, sym, ap, ◌∙◌, subst, true≢false}
 use Rattle.std.specs.declared.cmp.Ordering.{Ordering}
 use Rattle.std.specs.declared.cmp.Ordering.TheVariants.{Less, Equal, Greater}
-use Rattle.std.specs.Cmp.{tied_itself, nat_cmp_is, nat_cmp_total}
+use Rattle.std.specs.Cmp.{tied_itself, nat_cmp_is, nat_cmp_total, ranked}
 use Rattle.std.specs.Cmp.Lexicographic.{slice_cmp, nat_list_cmp_total}
 use Rattle.std.specs.Ordering.{MatchOrdering, nat_cmp, ordering_then, is_eq, is_lt, eq_by_cmp, ordering_reverse}
 use Rattle.mime.specs.Values.{MediaType}
 use Rattle.mime.specs.Comparison.{Same, IsListBefore, IsTextBefore, IsPairBefore, Before, pair_cmp, media_cmp}
 use Rattle.mime.specs.Laws.{OneOf}
-use Rattle.mime.specs.Orders.{tells_media, same_from_cmp, pair_cmp_total, media_cmp_total}
+use Rattle.mime.specs.OrderLaws.{same_from_cmp, pair_cmp_total, media_cmp_total}
+
+-- what an answer of an order says
+abbrev pub Tells : {X : Type 0} → (X → X → Ordering) → (X → X → Type 0) → Type 0
+Tells {X} cmp IsLess = (x y : X) → MatchOrdering (cmp x y) (IsLess x y) (x ≡ y) (IsLess y x)
+
+-- what two orders say, one after the other
+tells_then : {X : Type 0} (x y : X) (P P' Q Q' R : Type 0) (a b : Ordering)
+    → MatchOrdering a P (x ≡ y) P' → MatchOrdering b Q R Q'
+    → MatchOrdering (ordering_then a b) (P ⊎ ((x ≡ y) × Q)) ((x ≡ y) × R) (P' ⊎ ((y ≡ x) × Q'))
+tells_then x y P P' Q Q' R Less b first second = inl first
+tells_then x y P P' Q Q' R Equal Less first second = inr (first, second)
+tells_then x y P P' Q Q' R Equal Equal first second = (first, second)
+tells_then x y P P' Q Q' R Equal Greater first second = inr (sym first, second)
+tells_then x y P P' Q Q' R Greater b first second = inl first
+
+-- what an order says, with what is equal in other words
+tells_equal : (P P' Q R : Type 0) (a : Ordering) → MatchOrdering a P Q P' → (Q → R) → MatchOrdering a P R P'
+tells_equal P P' Q R Less says by = says
+tells_equal P P' Q R Equal says by = by says
+tells_equal P P' Q R Greater says by = says
+
+-- the order of lists says what comes before, if that of their items does
+tells_lists : {X : Type 0} (cmp : X → X → Ordering) (IsLess : X → X → Type 0) → Tells cmp IsLess
+    → Tells (slice_cmp cmp) (IsListBefore IsLess)
+tells_lists cmp IsLess tells [] [] = refl
+tells_lists cmp IsLess tells [] (y ∷ ys) = tt
+tells_lists cmp IsLess tells (x ∷ xs) [] = tt
+tells_lists cmp IsLess tells (x ∷ xs) (y ∷ ys) =
+    tells_equal _ _ _ _ (ordering_then (cmp x y) (slice_cmp cmp xs ys))
+    (tells_then x y _ _ _ _ _ (cmp x y) (slice_cmp cmp xs ys) (tells x y) (tells_lists cmp IsLess tells xs ys))
+    (λ same i. same.0 i ∷ same.1 i)
+
+-- the order of bytes says which is less
+tells_bytes : Tells nat_cmp (λ x y. x < y)
+tells_bytes x y = ranked x y (nat_cmp x y) refl
+
+-- the order of texts says which comes before
+tells_texts : Tells (slice_cmp nat_cmp) IsTextBefore
+tells_texts = tells_lists nat_cmp (λ x y. x < y) tells_bytes
+
+-- the order of pairs says which comes before
+tells_pairs : Tells pair_cmp IsPairBefore
+tells_pairs x y =
+    tells_equal _ _ _ _ (pair_cmp x y)
+    (tells_then x.0 y.0 _ _ _ _ _ (slice_cmp nat_cmp x.0 y.0) (slice_cmp nat_cmp x.1 y.1) (tells_texts x.0 y.0) (tells_texts x.1 y.1))
+    (λ same i. (same.0 i, same.1 i))
+
+-- the order of values says which comes before
+pub tells_media : (x y : MediaType) → MatchOrdering (media_cmp x y) (Before x y) (Same x y) (Before y x)
+tells_media x y =
+    tells_then x.essence y.essence _ _ _ _ _ (slice_cmp nat_cmp x.essence y.essence) (slice_cmp pair_cmp x.pairs y.pairs)
+    (tells_texts x.essence y.essence) (tells_lists pair_cmp IsPairBefore tells_pairs x.pairs y.pairs)
 
 -- what an answer of the order says: the first comes before the second, they are equal, or the second comes first
 pub tells_answer : (x y : MediaType) (answer : Ordering) → answer ≡ media_cmp x y
@@ -29,21 +81,23 @@ less-lists cmp IsLess less same (x ∷ xs) (y ∷ ys) (inl first) = ap (λ o. or
 less-lists cmp IsLess less same (x ∷ xs) (y ∷ ys) (inr rest) =
     then-less (cmp x y) (slice_cmp cmp xs ys) (ap (cmp x) (sym rest.0) ∙ same x) (less-lists cmp IsLess less same xs ys rest.1)
 
+-- a lesser byte is less to the order
 less-bytes : (x y : ℕ) → x < y → nat_cmp x y ≡ Less
 less-bytes x y less = sym (nat_cmp_is x y Less less)
 
--- so is a text
+-- a text before another is less
 less-texts : (x y : List ℕ) → IsTextBefore x y → slice_cmp nat_cmp x y ≡ Less
 less-texts x y before = less-lists nat_cmp (λ x y. x < y) less-bytes (tied_itself nat_cmp_total) x y before
 
--- a pair
+-- a pair before another is less
 less-pairs : (x y : List ℕ × List ℕ) → IsPairBefore x y → pair_cmp x y ≡ Less
 less-pairs x y (inl name) = ap (λ o. ordering_then o (slice_cmp nat_cmp x.1 y.1)) (less-texts x.0 y.0 name)
 less-pairs x y (inr rest) =
-    then-less (slice_cmp nat_cmp x.0 y.0) (slice_cmp nat_cmp x.1 y.1) (ap (slice_cmp nat_cmp x.0) (sym rest.0) ∙ tied_itself nat_list_cmp_total x.0)
+    then-less (slice_cmp nat_cmp x.0 y.0) (slice_cmp nat_cmp x.1 y.1)
+    (ap (slice_cmp nat_cmp x.0) (sym rest.0) ∙ tied_itself nat_list_cmp_total x.0)
     (less-texts x.1 y.1 rest.1)
 
--- and a value
+-- a value before another is less
 less-media : (x y : MediaType) → Before x y → media_cmp x y ≡ Less
 less-media x y (inl essence) = ap (λ o. ordering_then o (slice_cmp pair_cmp x.pairs y.pairs)) (less-texts x.essence y.essence essence)
 less-media x y (inr rest) =
@@ -70,7 +124,8 @@ Before-not_both x y before back =
 -- a value before one that comes before a third comes before the third
 pub Before-transitive : (x y z : MediaType) → Before x y → Before y z → Before x z
 Before-transitive x y z first second =
-    subst (λ o. MatchOrdering o (Before x z) (Same x z) (Before z x)) (media_cmp_total.trans x y z (less-media x y first) (less-media y z second)) (tells_media x z)
+    subst (λ o. MatchOrdering o (Before x z) (Same x z) (Before z x))
+    (media_cmp_total.trans x y z (less-media x y first) (less-media y z second)) (tells_media x z)
 
 -- two values are equal exactly where the order finds them equal
 pub eq_by_cmp-tells : (x y : MediaType) → IsTrue (eq_by_cmp media_cmp x y) ↔ Same x y
@@ -90,8 +145,8 @@ pub one_order : (x y : MediaType) → OneOf x y
 one_order x y = go (media_cmp x y) (tells_media x y)
   where
     go : (order : Ordering) → MatchOrdering order (Before x y) (Same x y) (Before y x) → OneOf x y
-    go Less told = inl (told, Before-not_same x y told, Before-not_both x y told)
-    go Equal told =
-        inr (inl (told, (λ before. Before-not_same x y before told), (λ before. Before-not_same y x before (sym told.0, sym told.1))))
-    go Greater told =
-        inr (inr (told, (λ same. Before-not_same y x told (sym same.0, sym same.1)), Before-not_both y x told))
+    go Less says = inl (says, Before-not_same x y says, Before-not_both x y says)
+    go Equal says =
+        inr (inl (says, (λ before. Before-not_same x y before says), (λ before. Before-not_same y x before (sym says.0, sym says.1))))
+    go Greater says =
+        inr (inr (says, (λ same. Before-not_same y x says (sym same.0, sym same.1)), Before-not_both y x says))

@@ -34,7 +34,7 @@ refused-from_fault text other fault = completed_is_refused text other fault
 abbrev star_tree : SyntaxTree
 star_tree = record { top = 42 ∷ []; sub = 42 ∷ []; tail = no_list }
 
--- it is well formed
+-- the tree of `*/*` is well formed
 star_tree-IsWellFormed : IsWellFormed star_tree
 unfolding is_token_byte
 star_tree-IsWellFormed = (refl, refl, tt)
@@ -50,7 +50,7 @@ star-IsKept places has = record {
   placed = ap places_of (one_tree star_tree has.tree star_tree-IsWellFormed has.well_formed (sym has.spelled)) ∙ has.placed;
 }
 
--- and it is accepted
+-- `*/*` is accepted
 pub star-accepted : (text : List ℕ) → text ≡ 42 ∷ 47 ∷ 42 ∷ [] → IsAccepted text
 star-accepted text is =
     (value_of star_tree, record { tree = star_tree; well_formed = star_tree-IsWellFormed; spelled = sym is; valued = refl })

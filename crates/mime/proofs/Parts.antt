@@ -3,7 +3,6 @@ use Rattle.std.proofs.Common.{◌≡◌, ℕ, zero, suc, ◌+◌, ◌<◌, ◌�
 use Rattle.std.specs.Prelude.{unwrap_or, slice_get, IsUtf8, codes}
 use Rattle.std.specs.List.{AllByRecursion}
 use Rattle.std.specs.Str.{IsCharBoundary, bytes_eq}
-use Rattle.std.proofs.lemmas.List.{length-map}
 use Rattle.std.proofs.lemmas.Option.{slice_get_within, MatchOption-at_some}
 use Rattle.std.proofs.lemmas.Str.{IsCharBoundary-end}
 use Rattle.mime.specs.Bytes.{slash_byte, plus_byte}
@@ -11,7 +10,7 @@ use Rattle.mime.specs.Grammar.{Parameter, plain, quoted, Parameters, blank, fina
 use Rattle.mime.specs.Values.{MediaType, Reads, lowered, lowered_parameter, lowered_list, lowered_tail, pair_of, pairs_of_list, pairs_of_tail}
 use Rattle.mime.specs.Laws.{HasNoPlusFrom}
 use Rattle.mime.specs.Pairs.{cut_of, pairs_within}
-use Rattle.mime.specs.Items.{item_of, items_of, IsLowItem}
+use Rattle.mime.specs.Items.{items_of, IsLowItem}
 use Rattle.mime.specs.KeptText.{IsLowPair, AreLowPairs}
 use Rattle.mime.proofs.ByteAt.{slice_get-front}
 use Rattle.mime.proofs.CharBorders.{boundary_before, boundary_behind}
@@ -111,7 +110,3 @@ items_of-low ((name, value) ∷ pairs) (low, others) =
 pub length-pairs_within : (count : ℕ) (list : List ℕ) → length (pairs_within count list) ≡ count
 length-pairs_within zero list = refl
 length-pairs_within (suc count) list = ap suc (length-pairs_within count (cut_of list).rest)
-
--- and as many items
-pub length-items_of : (count : ℕ) (list : List ℕ) → length (items_of (pairs_within count list)) ≡ count
-length-items_of count list = length-map (pairs_within count list) item_of ∙ length-pairs_within count list

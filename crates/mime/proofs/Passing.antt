@@ -78,11 +78,11 @@ pub record Taking (awaiting : Bool) (old now : Remaining) : Type 0 where
   pub awaits : awaits_behind awaits_first run ≡ awaiting
   pub given : Given old now run None
 
--- no byte yet
+-- no content was given yet
 pub taking_none : (now : Remaining) → Taking false now now
 taking_none now = record { run = []; of_class = refl; awaits = refl; given = record { bytes = refl; counted = omega arith } }
 
--- more of it
+-- more content was given
 taking_run : {awaiting : Bool} {old mid new : Remaining} {run : List ℕ} → Taking awaiting old mid → Given mid new run None
     → IsTrue (takes_all awaiting run) → Taking (awaits_behind awaiting run) old new
 taking_run {run} p g taken = record {
@@ -109,7 +109,7 @@ taking_backslash {old} {mid} {new} {stop} p passes test =
     (takes_all-append false passes.run (backslash_byte ∷ []) (takes_all-text passes.run passes.of_class)
     (subst (λ awaiting. IsTrue (takes_all awaiting (backslash_byte ∷ []))) (sym text) takes_all-backslash)))
 
--- and the byte that it pairs
+-- a backslash was given, and the byte that it pairs
 pub taking_paired : {old mid new : Remaining} {b : ℕ} → Taking true old mid → GivesFirst mid new (Some b)
     → IsTrue (is_quoted_byte b) → Taking false old new
 taking_paired {b} p g fits = taking_run p (given_whole g.0) (and_from (is_quoted_byte b) true fits refl)
@@ -138,7 +138,8 @@ content_text {new = new} stop p passes other = record {
     closes = awaits_behind-append awaits_first p.run passes.run
         ∙ ap (λ (a : Bool). awaits_behind a passes.run) p.awaits ∙ awaits_behind-text passes.run passes.of_class
 
-    ends : (stop : Option ℕ) → MatchOption stop (new.left ≡ []) (λ b. IsFalse (is_quoted_text_byte b)) → option_eq eqb stop (Some backslash_byte) ≡ false
+    ends : (stop : Option ℕ) → MatchOption stop (new.left ≡ []) (λ b. IsFalse (is_quoted_text_byte b))
+        → option_eq eqb stop (Some backslash_byte) ≡ false
         → MatchOption stop (new.left ≡ []) (λ b. IsFalse (continues (p.run ++ passes.run) b))
     ends None stopped other = stopped
     ends (Some b) stopped other =

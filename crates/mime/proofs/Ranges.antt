@@ -18,7 +18,7 @@ lowered_range-middle from to bytes front middle back e at end =
     let rest : drop from bytes ≡ middle ++ back = ap (drop from) e ∙ drop_at front (middle ++ back) from at in
     let before : take from bytes ≡ front = ap (take from) e ∙ take_at front (middle ++ back) from at in
     let inner : slice_range bytes from to ≡ middle = ap (take (to - from)) rest ∙ take_at middle back (to - from) (omega arith) in
-    let behind : drop to bytes ≡ back =
+    let after : drop to bytes ≡ back =
     ap (drop to) (e ∙ sym (append_assoc front middle back))
     ∙ drop_at (front ++ middle) back to (omega (arith, length-append front middle)) in
     cc

@@ -9,10 +9,10 @@ use Rattle.mime.specs.Bytes.{is_token_byte, slash_byte, semicolon_byte, equals_b
 use Rattle.mime.specs.Grammar.{is_space, Parameter, plain, quoted, Parameters, blank, final, more, Tail, no_list, listed, SyntaxTree, text_of, IsWellFormed}
 use Rattle.mime.specs.Values.{MediaType, Reads, value_of, lowered, lowered_value, lowered_list, lowered_tail, is_charset, pairs_of_list, pairs_of_tail}
 use Rattle.mime.specs.Comparison.{Same}
-use Rattle.mime.specs.KeptText.{AreLowPairs, IsLoneCharset}
+use Rattle.mime.specs.KeptText.{AreLowPairs}
+use Rattle.mime.specs.TextParts.{IsLoneCharset}
 use Rattle.mime.proofs.Begun.{ListPlace, in_spaces, in_name, in_value, in_quotes, behind_quotes, BegunList, Begun, in_type, in_subtype, in_list, grow_place, grow_list, grow, walk_from, walk, tree_of, with_closed}
 use Rattle.mime.proofs.Lowering.{lowered-append, lowered-lowered, lowered_value-either, low_pair-parts}
-use Rattle.mime.proofs.PairWalks.{cons_parts}
 use Rattle.mime.proofs.Parts.{read-low_pairs}
 use Rattle.mime.proofs.Quoted.{continues-lowered}
 use Rattle.mime.proofs.Readings.{accepted-from_walk, walk-text_of}
@@ -67,7 +67,7 @@ abbrev small_list : BegunList → BegunList
 small_list list = record { closed = small_closed list.closed; place = small_place list.place }
 
 -- what is read of a text, in small letters
-abbrev small_begun : Begun → Begun
+abbrev pub small_begun : Begun → Begun
 small_begun (in_type top) = in_type (lowered top)
 small_begun (in_subtype top sub) = in_subtype (lowered top) (lowered sub)
 small_begun (in_list top sub list) = in_list (lowered top) (lowered sub) (small_list list)
@@ -77,7 +77,7 @@ some_if : {X Y : Type 0} (f : X → Y) (c : Bool) (x : X) → cond c (Some (f x)
 some_if f true x = refl
 some_if f false x = refl
 
--- the same of two tests, one after the other
+-- a function of what there is, if one of two tests says so
 some_of_two : {X Y : Type 0} (f : X → Y) (c d : Bool) (x y : X)
     → cond c (Some (f x)) (cond d (Some (f y)) None) ≡ option_map f (cond c (Some x) (cond d (Some y) None))
 some_of_two f true d x y = refl
@@ -87,43 +87,51 @@ some_of_two f false false x y = refl
 -- a byte and its small letter lead on alike in a list
 grow_place-small : (closed : List (List ℕ × Parameter)) (place : ListPlace) (b : ℕ)
     → grow_place (small_closed closed) (small_place place) (to_ascii_lowercase b) ≡ option_map small_list (grow_place closed place b)
-grow_place-small closed (in_spaces n) b = rw (space-lower b, token-lower b, ← lowered-append n (b ∷ [])) (some_of_two small_list (is_space b) (is_token_byte b) _ _)
+grow_place-small closed (in_spaces n) b =
+    rw (space-lower b, token-lower b, ← lowered-append n (b ∷ [])) (some_of_two small_list (is_space b) (is_token_byte b) _ _)
 grow_place-small closed (in_name n name) b =
     rw (token-lower b, equals-lower b, ← lowered-append name (b ∷ [])) (some_of_two small_list (is_token_byte b) (b == equals_byte) _ _)
-grow_place-small closed (in_value n name []) b = rw (token-lower b, quote-lower b) (some_of_two small_list (is_token_byte b) (b == quote_byte) _ _)
+grow_place-small closed (in_value n name []) b =
+    rw (token-lower b, quote-lower b) (some_of_two small_list (is_token_byte b) (b == quote_byte) _ _)
 grow_place-small closed (in_value n name (v ∷ value)) b =
-    rw (token-lower b, semicolon-lower b, ← lowered-append value (b ∷ [])) (some_of_two small_list (is_token_byte b) (b == semicolon_byte) _ _)
+    rw (token-lower b, semicolon-lower b, ← lowered-append value (b ∷ []))
+    (some_of_two small_list (is_token_byte b) (b == semicolon_byte) _ _)
 grow_place-small closed (in_quotes n name content) b =
-    rw (continues-lowered content b, quote-lower b, ← lowered-append content (b ∷ [])) (some_of_two small_list (continues content b) (b == quote_byte) _ _)
+    rw (continues-lowered content b, quote-lower b, ← lowered-append content (b ∷ []))
+    (some_of_two small_list (continues content b) (b == quote_byte) _ _)
 grow_place-small closed (behind_quotes n name content m) b =
     rw (space-lower b, semicolon-lower b, ← lowered-append m (b ∷ [])) (some_of_two small_list (is_space b) (b == semicolon_byte) _ _)
 
--- and in a whole text
+-- a byte leads on from any begun tree as its small letter does
 grow-small : (begun : Begun) (b : ℕ) → grow (small_begun begun) (to_ascii_lowercase b) ≡ option_map small_begun (grow begun b)
 grow-small (in_type []) b = rw (token-lower b) (some_if small_begun (is_token_byte b) _)
 grow-small (in_type (t ∷ top)) b =
     rw (token-lower b, slash-lower b, ← lowered-append top (b ∷ [])) (some_of_two small_begun (is_token_byte b) (b == slash_byte) _ _)
 grow-small (in_subtype top []) b = rw (token-lower b) (some_if small_begun (is_token_byte b) _)
 grow-small (in_subtype top (s ∷ sub)) b =
-    rw (token-lower b, semicolon-lower b, ← lowered-append sub (b ∷ [])) (some_of_two small_begun (is_token_byte b) (b == semicolon_byte) _ _)
+    rw (token-lower b, semicolon-lower b, ← lowered-append sub (b ∷ []))
+    (some_of_two small_begun (is_token_byte b) (b == semicolon_byte) _ _)
 grow-small (in_list top sub list) b =
     rw (grow_place-small list.closed list.place b) (go (grow_list list b))
   where
     go : (next : Option BegunList)
-        → option_map (in_list (lowered top) (lowered sub)) (option_map small_list next) ≡ option_map small_begun (option_map (in_list top sub) next)
+        → option_map (in_list (lowered top) (lowered sub)) (option_map small_list next)
+        ≡ option_map small_begun (option_map (in_list top sub) next)
     go None = refl
     go (Some next) = refl
 
--- so does what follows, if the byte may occur
+-- what follows a byte leads on as its small letters do, if the byte may occur
 small_onward : (text : List ℕ) (begun : Begun) (b : ℕ)
     → ((next : Begun) → walk_from (small_begun next) (lowered text) ≡ option_map small_begun (walk_from next text))
     → (next : Option Begun)
-    → option_and_then (λ n. walk_from n (lowered text)) (option_map small_begun next) ≡ option_map small_begun (option_and_then (λ n. walk_from n text) next)
+    → option_and_then (λ n. walk_from n (lowered text)) (option_map small_begun next)
+    ≡ option_map small_begun (option_and_then (λ n. walk_from n text) next)
 small_onward text begun b rest None = refl
 small_onward text begun b rest (Some next) = rest next
 
--- so a text and the text in small letters lead on alike
-walk_from-small : (begun : Begun) (text : List ℕ) → walk_from (small_begun begun) (lowered text) ≡ option_map small_begun (walk_from begun text)
+-- a text and the text in small letters lead on alike
+pub walk_from-small : (begun : Begun) (text : List ℕ)
+    → walk_from (small_begun begun) (lowered text) ≡ option_map small_begun (walk_from begun text)
 walk_from-small begun [] = refl
 walk_from-small begun (b ∷ text) = rw (grow-small begun b) (small_onward text begun b (λ next. walk_from-small next text) (grow begun b))
 
@@ -139,7 +147,7 @@ small_tail no_list = no_list
 small_tail (listed list) = listed (small_parameters list)
 
 -- a tree in small letters
-abbrev small_tree : SyntaxTree → SyntaxTree
+abbrev pub small_tree : SyntaxTree → SyntaxTree
 small_tree tree = record { top = lowered tree.top; sub = lowered tree.sub; tail = small_tail tree.tail }
 
 -- the parameters read whole and the others, in small letters
@@ -149,7 +157,7 @@ with_closed-small [] rest = refl
 with_closed-small ((n, p) ∷ closed) rest = with_closed-small closed (more n p rest)
 
 -- the tree of what is read, in small letters
-tree_of-small : (begun : Begun) → tree_of (small_begun begun) ≡ option_map small_tree (tree_of begun)
+pub tree_of-small : (begun : Begun) → tree_of (small_begun begun) ≡ option_map small_tree (tree_of begun)
 tree_of-small (in_type top) = refl
 tree_of-small (in_subtype top []) = refl
 tree_of-small (in_subtype top (s ∷ sub)) = refl
@@ -176,20 +184,22 @@ record CaseTree (text : List ℕ) (tree : SyntaxTree) : Type 0 where
 case_tree-walked : (text : List ℕ) (tree : SyntaxTree) (found begun : Begun) → tree_of found ≡ Some tree → walk text ≡ Some begun
     → small_begun begun ≡ small_begun found → (o : Option SyntaxTree) → tree_of begun ≡ o → CaseTree text tree
 case_tree-walked text tree found begun whole walked same o is =
-    go o is (sym (tree_of-small begun ∙ ap (option_map small_tree) is) ∙ ap tree_of same ∙ tree_of-small found ∙ ap (option_map small_tree) whole)
+    go o is
+    (sym (tree_of-small begun ∙ ap (option_map small_tree) is) ∙ ap tree_of same ∙ tree_of-small found ∙ ap (option_map small_tree) whole)
   where
     go : (o : Option SyntaxTree) → tree_of begun ≡ o → option_map small_tree o ≡ Some (small_tree tree) → CaseTree text tree
     go None is small = absurd (none-some _ small)
     go (Some other) is small =
-        let told = accepted-from_walk text begun other walked is in
-        record { other = other; well_formed = told.0; spelled = told.1; same = same_Some (small_tree other) (small_tree tree) small }
+        let says = accepted-from_walk text begun other walked is in
+        record { other = other; well_formed = says.0; spelled = says.1; same = same_Some (small_tree other) (small_tree tree) small }
 
--- so has every text that is an accepted one but for case
+-- a text that is an accepted one but for case has a tree that is the same but for case
 case_tree : (text : List ℕ) (tree : SyntaxTree) → IsWellFormed tree → lowered text ≡ lowered (text_of tree) → CaseTree text tree
 case_tree text tree well is =
     let found = walk-text_of tree well in
     go found.0 found.1.1 (walk text) refl
-    (sym (walk_from-small (in_type []) text) ∙ ap walk is ∙ walk_from-small (in_type []) (text_of tree) ∙ ap (option_map small_begun) found.1.0)
+    (sym (walk_from-small (in_type []) text) ∙ ap walk is
+    ∙ walk_from-small (in_type []) (text_of tree) ∙ ap (option_map small_begun) found.1.0)
   where
     go : (found : Begun) → tree_of found ≡ Some tree → (o : Option Begun) → walk text ≡ o
         → option_map small_begun o ≡ Some (small_begun found) → CaseTree text tree
@@ -200,7 +210,7 @@ case_tree text tree well is =
 -- ---- values
 
 -- a pair in small letters
-abbrev small_pair : List ℕ × List ℕ → List ℕ × List ℕ
+abbrev pub small_pair : List ℕ × List ℕ → List ℕ × List ℕ
 small_pair (name, value) = (lowered name, lowered value)
 
 -- a value as it is kept, lowered, is the value lowered
@@ -213,10 +223,11 @@ pairs-small_list (blank n) = refl
 pairs-small_list (final n (plain name value)) = cc (lowered-lowered name, lowered-lowered_value name value)
 pairs-small_list (final n (quoted name content m)) = cc (lowered-lowered name, lowered-lowered_value name content)
 pairs-small_list (more n (plain name value) rest) = cc (lowered-lowered name, lowered-lowered_value name value, pairs-small_list rest)
-pairs-small_list (more n (quoted name content m) rest) = cc (lowered-lowered name, lowered-lowered_value name content, pairs-small_list rest)
+pairs-small_list (more n (quoted name content m) rest) =
+    cc (lowered-lowered name, lowered-lowered_value name content, pairs-small_list rest)
 
--- and those of a tree
-pairs-small_tail : (tail : Tail) → map small_pair (pairs_of_tail (lowered_tail tail)) ≡ pairs_of_tail (small_tail tail)
+-- the pairs of a tail in small letters
+pub pairs-small_tail : (tail : Tail) → map small_pair (pairs_of_tail (lowered_tail tail)) ≡ pairs_of_tail (small_tail tail)
 pairs-small_tail no_list = refl
 pairs-small_tail (listed list) = pairs-small_list list
 
@@ -233,15 +244,21 @@ case_read text kept value reads is =
     record {
       read = value_of found.other;
       reads = record { tree = found.other; well_formed = found.well_formed; spelled = found.spelled; valued = refl };
-      essence = ap (λ (v : MediaType). v.essence) (sym reads.valued) ∙ ap (λ (t : SyntaxTree). t.top ++ (slash_byte ∷ t.sub)) (sym found.same);
+      essence =
+          ap (λ (v : MediaType). v.essence) (sym reads.valued) ∙ ap (λ (t : SyntaxTree). t.top ++ (slash_byte ∷ t.sub)) (sym found.same);
       pairs = ap (λ (v : MediaType). map small_pair v.pairs) (sym reads.valued)
-          ∙ pairs-small_tail reads.tree.tail ∙ ap (λ (t : SyntaxTree). pairs_of_tail t.tail) (sym found.same) ∙ sym (pairs-small_tail found.other.tail);
+          ∙ pairs-small_tail reads.tree.tail ∙ ap (λ (t : SyntaxTree). pairs_of_tail t.tail) (sym found.same)
+          ∙ sym (pairs-small_tail found.other.tail);
     }
 
--- so the two have equally many pairs
+-- a value has as many pairs as what a text that is its own but for case is read as
 pub case_read-count : (text : List ℕ) (value : MediaType) (is : CaseRead text value) → length value.pairs ≡ length is.read.pairs
 case_read-count text value is =
     sym (length-map value.pairs small_pair) ∙ ap length is.pairs ∙ length-map is.read.pairs small_pair
+
+-- equal lists have the same first and the same others
+pub cons_parts : {X : Type 0} {x y : X} {xs ys : List X} → x ∷ xs ≡ y ∷ ys → (x ≡ y) × (xs ≡ ys)
+cons_parts is = (cc, cc)
 
 -- two charsets as they are kept are the same if they are the same but for case
 lone_charset-same : (pairs others : List (List ℕ × List ℕ)) → IsLoneCharset pairs → AreLowPairs pairs → AreLowPairs others
@@ -263,7 +280,10 @@ lone_charset-same pairs others (name, content, lone, charset) low also same =
         λ i. (names i, contents i) ∷ []
 
 -- a text that is read as a value with a lone charset, but for case, is read as one equal to it
-pub case_read-lone_charset : (text kept : List ℕ) (value : MediaType) (is : CaseRead text value) → Reads kept value → IsLoneCharset value.pairs
+pub case_read-lone_charset : (text kept : List ℕ) (value : MediaType) (is : CaseRead text value) → Reads kept value
+    → IsLoneCharset value.pairs
     → Same value is.read
-case_read-lone_charset text kept value is reads lone =
-    (is.essence, lone_charset-same value.pairs is.read.pairs lone (read-low_pairs kept value reads) (read-low_pairs text is.read is.reads) is.pairs)
+case_read-lone_charset text kept value is reads lone = (
+  is.essence,
+  lone_charset-same value.pairs is.read.pairs lone (read-low_pairs kept value reads) (read-low_pairs text is.read is.reads) is.pairs,
+)

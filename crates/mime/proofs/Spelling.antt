@@ -82,14 +82,14 @@ IsToken-push [] b token passes = absurd token
 IsToken-push (c ∷ name) b token passes = list_all-push is_token_byte (c ∷ name) b token passes
 
 -- how a list with a first byte is joined, for `simp`, which doesn't compute it
-cons-append : (b : ℕ) (xs ys : List ℕ) → (b ∷ xs) ++ ys ≡ b ∷ (xs ++ ys)
+pub cons-append : (b : ℕ) (xs ys : List ℕ) → (b ∷ xs) ++ ys ≡ b ∷ (xs ++ ys)
 cons-append b xs ys = refl
 
 -- to group joined lists anew
-ruleset regroup = (append_assoc, append-nil, cons-append)
+pub ruleset regroup = (append_assoc, append-nil, cons-append)
 
 -- a byte of a class leads on one way, a mark another
-by_class : {X : Type 0} (P : ℕ → X → Type 0) (class : ℕ → Bool) (mark b : ℕ) (x y : X)
+pub by_class : {X : Type 0} (P : ℕ → X → Type 0) (class : ℕ → Bool) (mark b : ℕ) (x y : X)
     → (IsTrue (class b) → P b x) → (IsFalse (class mark) → P mark y)
     → MatchOption (if class b then Some x else (if b == mark then Some y else None)) (Unit {0}) (P b)
 by_class P class mark b x y passes marked =
@@ -209,7 +209,7 @@ text_of_list-with_closed [] rest = refl
 text_of_list-with_closed (item ∷ closed) rest =
     text_of_list-with_closed closed (more item.0 item.1 rest) ∙ simp regroup
 
--- that list is well formed if its parts are
+-- closed parameters and the rest are a well-formed list if each is well formed
 AreParameters-with_closed : (closed : Closed) (rest : Parameters) → AreClosed closed → AreParameters rest
     → AreParameters (with_closed closed rest)
 AreParameters-with_closed [] rest before here = here

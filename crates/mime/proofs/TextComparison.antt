@@ -10,7 +10,8 @@ use Rattle.mime.specs.Values.{MediaType, Reads, IsAccepted, value_of, essence_of
 use Rattle.mime.specs.Comparison.{TextIs, HasNoSemicolon}
 use Rattle.mime.specs.Pairs.{PairCut, cut_behind_equals, cut_of, pairs_within}
 use Rattle.mime.specs.Scanning.{HasPlaces, places_of, semicolon_of}
-use Rattle.mime.specs.KeptText.{lowered_pair, IsListAfter, IsAcceptedAt, IsLoneCharset}
+use Rattle.mime.specs.KeptText.{lowered_pair}
+use Rattle.mime.specs.TextParts.{IsListAfter, IsAcceptedAt, IsLoneCharset}
 use Rattle.mime.specs.declared.scan.Places.{Places}
 use Rattle.mime.proofs.Classes.{AreTokenBytes-from_token, are_other-token, semicolon_is_no_token}
 use Rattle.mime.proofs.Counts.{kept-essence}
@@ -65,7 +66,7 @@ read_at : (text : List ℕ) (end count : ℕ) → IsAcceptedAt text end count �
 read_at text end count is =
     subst (λ t. ReadAt t end count) is.has.spelled
     (go is.has.tree.top is.has.tree.sub is.has.tree.tail is.has.well_formed
-    (ap (λ (p : Places). p.semicolon) is.has.placed ∙ is.semicolon) (ap (λ (p : Places). p.pairs) is.has.placed ∙ is.counted))
+    (ap (λ (p : Places). p.semicolon) is.has.placed ∙ is.at) (ap (λ (p : Places). p.pairs) is.has.placed ∙ is.counted))
   where
     go : (top sub : List ℕ) (tail : Tail) → IsWellFormed (record { top = top; sub = sub; tail = tail })
         → semicolon_of (length top + 1 + length sub) tail ≡ Some end → length (pairs_of_tail tail) ≡ count
@@ -92,7 +93,7 @@ accepted_at text value reads some =
         record {
           places = places_of tree;
           has = record { tree = tree; well_formed = well; spelled = spelled; placed = refl };
-          semicolon = ap Some (sym (length-value_essence tree) ∙ ap (λ (v : MediaType). length v.essence) valued);
+          at = ap Some (sym (length-value_essence tree) ∙ ap (λ (v : MediaType). length v.essence) valued);
           counted = sym (length-pairs_lowered list) ∙ ap (λ (v : MediaType). length v.pairs) valued;
         }
 
@@ -120,34 +121,33 @@ pub record TextParts (value : MediaType) (text : List ℕ) : Type 0 where
   pub pairs : value.pairs ≡ map lowered_pair (pairs_within (length value.pairs) (drop (length value.essence + 1) text))
   pub accepted : IsAcceptedAt text (length value.essence) (length value.pairs)
 
-pub text_is-parts : (kept text : List ℕ) (value : MediaType) → Reads kept value → value.pairs ≢ [] → TextIs value text → TextParts value text
-text_is-parts kept text value reads some is =
-    let essence = is.same.0 in
-    let pairs = is.same.1 in
-    let at : IsAcceptedAt text (length value.essence) (length value.pairs) =
-    IsAcceptedAt-same text (ap length (sym essence)) (ap length (sym pairs)) (accepted_at text is.read is.reads (λ none. some (pairs ∙ none))) in
-    let read = read_at text (length value.essence) (length value.pairs) at in
-    let one : is.read ≡ read.value = one_reading text is.read read.value is.reads read.reads in
-    record {
-      list = (
-        slice_get-semicolon text at.places (length value.essence) at.has at.semicolon,
-        read-low_essence kept value reads ∙ essence ∙ ap (λ (v : MediaType). v.essence) one ∙ read.essence,
-      );
-      pairs = pairs ∙ ap (λ (v : MediaType). v.pairs) one ∙ read.pairs;
-      accepted = at;
-    }
-
--- and a text that has it is equal to the value
-pub text_is-from_parts : (kept text : List ℕ) (value : MediaType) → Reads kept value → value.pairs ≢ [] → TextParts value text
-    → TextIs value text
-text_is-from_parts kept text value reads some parts =
-    let read = read_at text (length value.essence) (length value.pairs) parts.accepted in
-    record {
-      read = read.value;
-      reads = read.reads;
-      same = (sym (read-low_essence kept value reads) ∙ parts.list.1 ∙ sym read.essence, parts.pairs ∙ sym read.pairs);
-      bare = λ none. absurd (some none);
-    }
+-- it has them, and a text that has them is equal to the value
+pub text_is-by_parts : (kept text : List ℕ) (value : MediaType) → Reads kept value → value.pairs ≢ [] → TextIs value text ↔ TextParts value text
+text_is-by_parts kept text value reads some =
+    let low = read-low_essence kept value reads in (
+      λ is.
+          let at : IsAcceptedAt text (length value.essence) (length value.pairs) =
+          IsAcceptedAt-same text (ap length (sym is.same.0)) (ap length (sym is.same.1))
+          (accepted_at text is.read is.reads (λ none. some (is.same.1 ∙ none))) in
+          let read = read_at text (length value.essence) (length value.pairs) at in
+          let one : is.read ≡ read.value = one_reading text is.read read.value is.reads read.reads in
+          record {
+            list = (
+              slice_get-semicolon text at.places (length value.essence) at.has at.at,
+              low ∙ is.same.0 ∙ ap (λ (v : MediaType). v.essence) one ∙ read.essence,
+            );
+            pairs = is.same.1 ∙ ap (λ (v : MediaType). v.pairs) one ∙ read.pairs;
+            accepted = at;
+          },
+      λ parts.
+          let read = read_at text (length value.essence) (length value.pairs) parts.accepted in
+          record {
+            read = read.value;
+            reads = read.reads;
+            same = (sym low ∙ parts.list.1 ∙ sym read.essence, parts.pairs ∙ sym read.pairs);
+            bare = λ none. absurd (some none);
+          },
+    )
 
 -- the kept text is equal to the value
 pub text_is-kept : (kept text : List ℕ) (value : MediaType) → Reads kept value → value.pairs ≢ [] → kept ≡ text → TextIs value text
@@ -167,15 +167,6 @@ accepted_at-case kept text value reads some is =
     IsAcceptedAt-same text (ap length (sym found.essence)) (sym counted)
     (accepted_at text found.read found.reads (λ none. some (nil_from_length value.pairs (counted ∙ ap length none))))
 
--- it goes on with a semicolon after the essence
-pub IsListAfter-case : (kept text : List ℕ) (value : MediaType) → Reads kept value → value.pairs ≢ [] → lowered kept ≡ lowered text
-    → IsListAfter value.essence text
-IsListAfter-case kept text value reads some is =
-    let found = case_read text kept value reads (sym is) in
-    let pairs : found.read.pairs ≢ [] = λ none. some (nil_from_length value.pairs (case_read-count text value found ∙ ap length none)) in
-    let own = text_is-parts text text found.read found.reads pairs (text_is-kept text text found.read found.reads pairs refl) in
-    subst (λ essence. IsListAfter essence text) (sym found.essence) own.list
-
 -- and it is equal to the value, where the only parameter is a charset
 pub text_is-lone_charset : (kept text : List ℕ) (value : MediaType) → Reads kept value → value.pairs ≢ [] → lowered kept ≡ lowered text
     → IsLoneCharset value.pairs → TextIs value text
@@ -187,17 +178,6 @@ text_is-lone_charset kept text value reads some is lone =
       same = case_read-lone_charset text kept value found reads lone;
       bare = λ none. absurd (some none);
     }
-
--- the pairs of a kept list against those of another, said of the value and the text
-pub pairs-told : (W : Type 0) (value : MediaType) (text kept_list list essence : List ℕ) (count : ℕ)
-    → W ↔ (pairs_within count kept_list ≡ map lowered_pair (pairs_within count list))
-    → count ≡ length value.pairs → pairs_within (length value.pairs) kept_list ≡ value.pairs → list ≡ drop (length essence + 1) text
-    → essence ≡ value.essence
-    → W ↔ (value.pairs ≡ map lowered_pair (pairs_within (length value.pairs) (drop (length value.essence + 1) text)))
-pairs-told W value text kept_list list essence count told counted kept cut is =
-    subst (λ pairs. W ↔ (pairs ≡ map lowered_pair (pairs_within (length value.pairs) (drop (length value.essence + 1) text)))) kept
-    (subst (λ n. W ↔ (pairs_within n kept_list ≡ map lowered_pair (pairs_within n (drop (length value.essence + 1) text)))) counted
-    (subst (λ l. W ↔ (pairs_within count kept_list ≡ map lowered_pair (pairs_within count l))) (cut ∙ ap (λ e. drop (length e + 1) text) is) told))
 
 -- ---- a lone charset
 
@@ -216,12 +196,11 @@ unfolding cut_of
 cut_of-charset behind = cut_value-name (length (codes " charset=" ++ behind)) (codes "charset") behind
 
 -- the only pair of such a list is a charset
-pub lone_charset : (list : List ℕ) (pairs : List (List ℕ × List ℕ)) → length pairs ≡ 1 → pairs_within (length pairs) list ≡ pairs
-    → take 9 list ≡ codes " charset=" → IsLoneCharset pairs
-lone_charset list pairs one kept is =
+pub lone_charset : (list : List ℕ) → take 9 list ≡ codes " charset=" → IsLoneCharset (pairs_within 1 list)
+lone_charset list is =
     let whole : list ≡ codes " charset=" ++ drop 9 list = sym (take-append-drop 9 list) ∙ ap (λ front. front ++ drop 9 list) is in
     let name = ap (λ l. (cut_of l).name) whole ∙ cut_of-charset (drop 9 list) in
-    ((cut_of list).name, (cut_of list).value, sym kept ∙ ap (λ n. pairs_within n list) one, subst (λ n. is_charset n ≡ true) (sym name) refl)
+    ((cut_of list).name, (cut_of list).value, refl, subst (λ n. is_charset n ≡ true) (sym name) refl)
 
 -- ---- a text against a value without pairs
 

@@ -48,7 +48,7 @@ pub record Subtyped (top : List ℕ) (b : ℕ) (plus : Option ℕ) (old now : Re
 abbrev pub essence_places : ℕ → Option ℕ → Places
 essence_places slash plus = record { slash = slash; plus = plus; semicolon = None; pairs = 0 }
 
--- they are those of its parts
+-- the positions of a text that ends in its subtype are those of its parts
 pub essence_is : (slash : ℕ) (plus : Option ℕ) (top others : List ℕ) → slash ≡ length top → plus ≡ last_plus (length top + 2) others
     → essence_places slash plus ≡ essence_places (length top) (last_plus (length top + 2) others)
 essence_is slash plus top others e f = rw (e, f)

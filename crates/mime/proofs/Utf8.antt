@@ -18,7 +18,7 @@ pub data IsLoweredInPart : List ℕ → List ℕ → Type 0 where
   joined : (front back low_front low_back : List ℕ) → IsLoweredInPart front low_front → IsLoweredInPart back low_back
       → IsLoweredInPart (front ++ back) (low_front ++ low_back)
 
--- it has the same lowering
+-- a text lowered in part has the same lowering
 lowered-in_part : (text partly : List ℕ) → IsLoweredInPart text partly → lowered partly ≡ lowered text
 lowered-in_part text partly (same _) = refl
 lowered-in_part text partly (small _) = lowered-lowered text
@@ -26,7 +26,7 @@ lowered-in_part text partly (joined front back low_front low_back first second) 
     lowered-append low_front low_back
     ∙ rw (lowered-in_part front low_front first, lowered-in_part back low_back second) (sym (lowered-append front back))
 
--- so it has the same length
+-- a text lowered in part has the same length
 pub length-in_part : (text partly : List ℕ) → IsLoweredInPart text partly → length partly ≡ length text
 length-in_part text partly lowers =
     sym (length-lowered partly) ∙ ap length (lowered-in_part text partly lowers) ∙ length-lowered text
@@ -36,7 +36,7 @@ low_parts : (front back : List ℕ) → lowered (front ++ back) ≡ front ++ bac
 low_parts [] back low = (refl, low)
 low_parts (b ∷ front) back low = let parts = low_parts front back (cc) in let first : lowered front ≡ front = parts.0 in (cc, parts.1)
 
--- and a text without capitals stays
+-- a text without capitals stays as it is, lowered in part
 pub low-in_part : (text partly : List ℕ) → IsLoweredInPart text partly → lowered text ≡ text → partly ≡ text
 low-in_part text partly (same _) low = refl
 low-in_part text partly (small _) low = low
@@ -75,7 +75,7 @@ of_ascii c (b ∷ []) ascii is =
     IsUtf8-from_ascii (b ∷ []) (IsAscii-cons b [] (grind (arith, nat_tests)) IsAscii-nil)
 of_ascii c (b ∷ d ∷ partly) ascii is = absurd cc
 
--- so is one with the lowering of any character
+-- a text with the lowering of a character is valid UTF-8
 of_character : (c : ℕ) (partly : List ℕ) → scalar c ≡ true → lowered partly ≡ lowered (encode c) → IsUtf8 partly
 of_character c partly is low = ⊎_elim
     (λ ascii. of_ascii c partly ascii (low ∙ ap lowered (encode_ascii c ascii)))
@@ -88,7 +88,7 @@ of_character c partly is low = ⊎_elim
         (λ enough. enough)
         (cases_lt (get_or (encode c) k 0) 128)
 
--- so is one with the lowering of characters
+-- a text with the lowering of characters is valid UTF-8
 of_characters : (characters partly : List ℕ) → scalars characters ≡ true → lowered partly ≡ lowered (encodes characters) → IsUtf8 partly
 of_characters [] [] are is = IsUtf8-nil
 of_characters [] (b ∷ partly) are is = absurd cc

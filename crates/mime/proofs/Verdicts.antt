@@ -26,7 +26,7 @@ pub record Reaches (start : Begun) (old now : Remaining) (stop : Option ℕ) (be
   pub given : Given old now run stop
   pub walked : walk_from start run ≡ Some begun
 
--- one more run
+-- one more run was given
 pub reaches_run : {start begun next : Begun} {old mid new : Remaining} {stop : Option ℕ} {run : List ℕ}
     → Reaches start old mid None begun → Given mid new run stop → walk_from begun run ≡ Some next → Reaches start old new stop next
 reaches_run {start} {begun} {run = run} r g e = record {
@@ -35,7 +35,7 @@ reaches_run {start} {begun} {run = run} r g e = record {
   walked = walk_from-append_some start begun r.run run r.walked ∙ e;
 }
 
--- the byte after it
+-- the byte after a run was given
 pub reaches_byte : {start begun next : Begun} {old now : Remaining} {b : ℕ}
     → Reaches start old now (Some b) begun → grow begun b ≡ Some next → Reaches start old now None next
 reaches_byte {start} {begun} {b = b} r e = record {
@@ -48,13 +48,13 @@ reaches_byte {start} {begun} {b = b} r e = record {
 abbrev pub ListReaches : Remaining → Remaining → Option ℕ → BegunList → Type 0
 ListReaches old now stop list = (top sub : List ℕ) → Reaches (in_list top sub begun_list) old now stop (in_list top sub list)
 
--- one more run in a list
+-- one more run in a list was given
 pub list_run : {list next : BegunList} {old mid new : Remaining} {stop : Option ℕ} {run : List ℕ}
     → ListReaches old mid None list → Given mid new run stop → walk_list list run ≡ Some next → ListReaches old new stop next
 list_run {list} {run = run} r g e = λ top sub.
     reaches_run (r top sub) g (walk_from-in_list top sub list run ∙ ap (option_map (in_list top sub)) e)
 
--- the byte after it
+-- the byte after a run in a list was given
 pub list_byte : {list next : BegunList} {old now : Remaining} {b : ℕ}
     → ListReaches old now (Some b) list → grow_list list b ≡ Some next → ListReaches old now None next
 list_byte r e = λ top sub. reaches_byte (r top sub) (ap (option_map (in_list top sub)) e)
@@ -84,7 +84,7 @@ judged : (text : List ℕ) (begun : Begun) (tree : Option SyntaxTree) → walk t
 judged text begun None w e = (refl, lacking-fault text begun w e, viable-from_walk text begun w)
 judged text begun (Some tree) w e = (refl, has_places text begun tree w e)
 
--- so is the text before a byte that leads nowhere
+-- the text before a byte that leads nowhere is judged by the tree that it makes, if any
 judged_before : (text : List ℕ) (begun : Begun) (tree : Option SyntaxTree) → walk text ≡ Some begun → tree_of begun ≡ tree
     → MatchOption (option_map places_of tree) (IsRefused text) (λ places. HasPlaces text places)
 judged_before text begun None w e = refused-from_walk text begun w e
@@ -130,7 +130,7 @@ places_of_list head list =
     option_map (λ rest. record head { pairs = head.pairs + (length list.closed + length (pairs_of_list rest)) })
     (ended list.place)
 
--- they are those of its tree
+-- the positions of a text that ends in a list are those of its tree
 places_of_list-tree : (top sub : List ℕ) (list : BegunList)
     → places_of_list (places_of (before_list top sub)) list ≡ option_map places_of (tree_of (in_list top sub list))
 places_of_list-tree top sub list = at_end (ended list.place)

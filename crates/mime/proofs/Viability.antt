@@ -48,7 +48,7 @@ accepted-from_completes text more begun walked passes =
         (λ last goes complete.
         accepted-from_complete (text ++ more) last tree (walk_from-append_some (in_type []) begun text more walked ∙ goes) complete)
 
--- and no other does
+-- what makes a walked text an accepted one completes its begun tree
 pub completes-from_accepted : (text more : List ℕ) (begun : Begun) → walk text ≡ Some begun → IsAccepted (text ++ more)
     → IsTrue (completes begun more)
 completes-from_accepted text more begun walked accepted =
@@ -118,7 +118,7 @@ viable-from_lacks text fault lacks =
 pub accepted_is_viable : AcceptedIsViable
 accepted_is_viable text accepted = ([], subst IsAccepted (sym (append-nil text)) accepted)
 
--- so is a text that can be walked
+-- a text that can be walked is viable
 pub viable-from_walk : (text : List ℕ) (begun : Begun) → walk text ≡ Some begun → IsViable text
 viable-from_walk text begun walked = reached (tree_of begun) refl
   where
@@ -228,7 +228,7 @@ not_viable-at_dead text pos byte dead viable =
     dead.front.longest (length text) (slice_get_within text pos byte dead.there) (omega arith)
     (subst IsViable (sym (take-length text)) viable)
 
--- so it is refused
+-- a text with a byte at fault is refused
 pub refused-at_dead : (text : List ℕ) (pos byte : ℕ) → IsDeadAt text pos byte → IsRefused text
 refused-at_dead text pos byte dead accepted = not_viable-at_dead text pos byte dead (accepted_is_viable text accepted)
 
@@ -262,7 +262,7 @@ stop-from_walk start (b ∷ bytes) stopped =
           }
     ]) refl stopped
 
--- and that byte is at fault
+-- the byte where a walk stops is at fault
 pub dead-from_stop : (text : List ℕ) (stop : Stop (in_type []) text) → IsDeadAt text (length stop.front) stop.byte
 dead-from_stop text stop =
     subst (λ t. IsDeadAt t (length stop.front) stop.byte) (sym stop.spelled)

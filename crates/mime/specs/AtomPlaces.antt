@@ -1,48 +1,19 @@
--- Private. Where the parts of the constant media types are.
-use Rattle.std.specs.Prelude.{ℕ, Some, None}
-use Rattle.mime.specs.declared.atoms.Atom.{Atom}
-use Rattle.mime.specs.declared.atoms.Atom.TheVariants.{STAR_STAR, TEXT_STAR, TEXT_PLAIN, TEXT_PLAIN_UTF_8, TEXT_HTML, TEXT_HTML_UTF_8, TEXT_CSS, TEXT_CSS_UTF_8, TEXT_JAVASCRIPT, TEXT_XML, TEXT_EVENT_STREAM, TEXT_CSV, TEXT_CSV_UTF_8, TEXT_TAB_SEPARATED_VALUES, TEXT_TAB_SEPARATED_VALUES_UTF_8, TEXT_VCARD, IMAGE_STAR, IMAGE_JPEG, IMAGE_GIF, IMAGE_PNG, IMAGE_BMP, IMAGE_SVG, FONT_WOFF, FONT_WOFF2, APPLICATION_JSON, APPLICATION_JAVASCRIPT, APPLICATION_JAVASCRIPT_UTF_8, APPLICATION_WWW_FORM_URLENCODED, APPLICATION_OCTET_STREAM, APPLICATION_MSGPACK, APPLICATION_PDF, MULTIPART_FORM_DATA}
+-- Private. Where the parts of a constant media type are.
+use Rattle.std.specs.Prelude.{ℕ, ◌==◌, List, length, Option, unwrap_or}
+use Rattle.std.specs.List.{position}
+use Rattle.std.specs.Option.{option_to_list}
+use Rattle.mime.specs.Bytes.{slash_byte, plus_byte, semicolon_byte}
 use Rattle.mime.specs.declared.scan.Places.{Places}
 
--- the positions in a text without a suffix and without a parameter
-abbrev pub bare_places : ℕ → Places
-bare_places slash = record { slash = slash; plus = None; semicolon = None; pairs = 0 }
+-- where a byte first occurs in a text
+abbrev first_of : ℕ → List ℕ → Option ℕ
+first_of byte text = position (λ b. b == byte) text
 
--- the positions in a text with a charset alone
-abbrev pub charset_places : ℕ → ℕ → Places
-charset_places slash semicolon = record { slash = slash; plus = None; semicolon = Some semicolon; pairs = 1 }
-
--- the positions of the parts of a constant's text
-abbrev pub atom_places : Atom → Places
-atom_places STAR_STAR = bare_places 1
-atom_places TEXT_STAR = bare_places 4
-atom_places TEXT_PLAIN = bare_places 4
-atom_places TEXT_PLAIN_UTF_8 = charset_places 4 10
-atom_places TEXT_HTML = bare_places 4
-atom_places TEXT_HTML_UTF_8 = charset_places 4 9
-atom_places TEXT_CSS = bare_places 4
-atom_places TEXT_CSS_UTF_8 = charset_places 4 8
-atom_places TEXT_JAVASCRIPT = bare_places 4
-atom_places TEXT_XML = bare_places 4
-atom_places TEXT_EVENT_STREAM = bare_places 4
-atom_places TEXT_CSV = bare_places 4
-atom_places TEXT_CSV_UTF_8 = charset_places 4 8
-atom_places TEXT_TAB_SEPARATED_VALUES = bare_places 4
-atom_places TEXT_TAB_SEPARATED_VALUES_UTF_8 = charset_places 4 25
-atom_places TEXT_VCARD = bare_places 4
-atom_places IMAGE_STAR = bare_places 5
-atom_places IMAGE_JPEG = bare_places 5
-atom_places IMAGE_GIF = bare_places 5
-atom_places IMAGE_PNG = bare_places 5
-atom_places IMAGE_BMP = bare_places 5
-atom_places IMAGE_SVG = record { slash = 5; plus = Some 9; semicolon = None; pairs = 0 }
-atom_places FONT_WOFF = bare_places 4
-atom_places FONT_WOFF2 = bare_places 4
-atom_places APPLICATION_JSON = bare_places 11
-atom_places APPLICATION_JAVASCRIPT = bare_places 11
-atom_places APPLICATION_JAVASCRIPT_UTF_8 = charset_places 11 22
-atom_places APPLICATION_WWW_FORM_URLENCODED = bare_places 11
-atom_places APPLICATION_OCTET_STREAM = bare_places 11
-atom_places APPLICATION_MSGPACK = bare_places 11
-atom_places APPLICATION_PDF = bare_places 11
-atom_places MULTIPART_FORM_DATA = bare_places 9
+-- the positions of the parts of a text with at most one plus and at most one parameter
+abbrev pub places_in : List ℕ → Places
+places_in text = record {
+  slash = unwrap_or (first_of slash_byte text) 0;
+  plus = first_of plus_byte text;
+  semicolon = first_of semicolon_byte text;
+  pairs = length (option_to_list (first_of semicolon_byte text));
+}

@@ -1,5 +1,5 @@
 -- The constant media types: the text of each.
-use Rattle.std.specs.Prelude.{ℕ, List, [], ◌∷◌, codes}
+use Rattle.std.specs.Prelude.{ℕ, List, codes}
 use Rattle.mime.specs.declared.atoms.Atom.{Atom}
 use Rattle.mime.specs.declared.atoms.Atom.TheVariants.{STAR_STAR, TEXT_STAR, TEXT_PLAIN, TEXT_PLAIN_UTF_8, TEXT_HTML, TEXT_HTML_UTF_8, TEXT_CSS, TEXT_CSS_UTF_8, TEXT_JAVASCRIPT, TEXT_XML, TEXT_EVENT_STREAM, TEXT_CSV, TEXT_CSV_UTF_8, TEXT_TAB_SEPARATED_VALUES, TEXT_TAB_SEPARATED_VALUES_UTF_8, TEXT_VCARD, IMAGE_STAR, IMAGE_JPEG, IMAGE_GIF, IMAGE_PNG, IMAGE_BMP, IMAGE_SVG, FONT_WOFF, FONT_WOFF2, APPLICATION_JSON, APPLICATION_JAVASCRIPT, APPLICATION_JAVASCRIPT_UTF_8, APPLICATION_WWW_FORM_URLENCODED, APPLICATION_OCTET_STREAM, APPLICATION_MSGPACK, APPLICATION_PDF, MULTIPART_FORM_DATA}
 
@@ -37,16 +37,3 @@ atom_text APPLICATION_OCTET_STREAM = codes "application/octet-stream"
 atom_text APPLICATION_MSGPACK = codes "application/msgpack"
 atom_text APPLICATION_PDF = codes "application/pdf"
 atom_text MULTIPART_FORM_DATA = codes "multipart/form-data"
-
--- the texts of the constants, in the order of `atom_constants`; the last is that of `TEXT_JAVSCRIPT`, the old spelling
-abbrev pub atom_table : List (List ℕ)
-atom_table =
-    codes "*/*" ∷ codes "text/*" ∷ codes "text/plain" ∷ codes "text/plain; charset=utf-8" ∷ codes "text/html"
-    ∷ codes "text/html; charset=utf-8" ∷ codes "text/css" ∷ codes "text/css; charset=utf-8" ∷ codes "text/javascript"
-    ∷ codes "text/xml" ∷ codes "text/event-stream" ∷ codes "text/csv" ∷ codes "text/csv; charset=utf-8"
-    ∷ codes "text/tab-separated-values" ∷ codes "text/tab-separated-values; charset=utf-8" ∷ codes "text/vcard"
-    ∷ codes "image/*" ∷ codes "image/jpeg" ∷ codes "image/gif" ∷ codes "image/png" ∷ codes "image/bmp"
-    ∷ codes "image/svg+xml" ∷ codes "font/woff" ∷ codes "font/woff2" ∷ codes "application/json"
-    ∷ codes "application/javascript" ∷ codes "application/javascript; charset=utf-8"
-    ∷ codes "application/x-www-form-urlencoded" ∷ codes "application/octet-stream" ∷ codes "application/msgpack"
-    ∷ codes "application/pdf" ∷ codes "multipart/form-data" ∷ codes "text/javascript" ∷ []

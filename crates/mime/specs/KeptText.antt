@@ -1,17 +1,12 @@
 -- Private. The kept text of a value, with the positions of its parts.
-use Rattle.std.specs.Prelude.{◌≡◌, ℕ, zero, suc, ◌+◌, ◌-◌, List, [], ◌∷◌, ◌++◌, length, take, drop, Option, Some, None, unwrap_or, IsTrue, slice_get}
-use Rattle.std.specs.List.{slice_index, AllByRecursion}
-use Rattle.mime.specs.Bytes.{is_token_byte, semicolon_byte, space_byte}
+use Rattle.std.specs.Prelude.{◌≡◌, ℕ, zero, suc, ◌+◌, List, [], ◌∷◌, ◌++◌, length, take, drop, Option, Some, None, unwrap_or}
+use Rattle.std.specs.List.{AllByRecursion}
+use Rattle.mime.specs.Bytes.{semicolon_byte}
 use Rattle.mime.specs.Grammar.{Tail, no_list, listed, blank, final, more, SyntaxTree, text_of, IsWellFormed}
-use Rattle.mime.specs.Values.{MediaType, lowered, is_charset, lowered_value, lowered_tree}
-use Rattle.mime.specs.Pairs.{pairs_within, lowered_within}
-use Rattle.mime.specs.Scanning.{HasPlaces, places_of}
+use Rattle.mime.specs.Values.{MediaType, lowered, lowered_value, lowered_tree}
+use Rattle.mime.specs.Pairs.{pairs_behind, lowered_within}
+use Rattle.mime.specs.Scanning.{places_of}
 use Rattle.mime.specs.declared.scan.Places.{Places}
-
--- the pairs after the semicolon
-abbrev pub pairs_behind : ℕ → Option ℕ → List ℕ → List (List ℕ × List ℕ)
-pairs_behind count None text = []
-pairs_behind count (Some semicolon) text = pairs_within count (drop (semicolon + 1) text)
 
 -- the value that a kept text and the positions of its parts give
 abbrev pub media_of : List ℕ → Places → MediaType
@@ -47,13 +42,16 @@ kept_semicolon (suc pairs) semicolon = semicolon
 abbrev pub kept_places : Places → Places
 kept_places places = record places { semicolon = kept_semicolon places.pairs places.semicolon }
 
+-- a text lowered up to its semicolon, and then pair by pair
+abbrev pub with_pairs_lowered : ℕ → ℕ → List ℕ → List ℕ
+with_pairs_lowered pairs semicolon text =
+    lowered (take (semicolon + 1) text) ++ lowered_within pairs (drop (semicolon + 1) text)
+
 -- the kept text of an accepted text with its parts at these positions
 abbrev pub kept_text_of : ℕ → Option ℕ → List ℕ → List ℕ
-kept_text_of zero None text = lowered text
+kept_text_of pairs None text = lowered text
 kept_text_of zero (Some semicolon) text = lowered (take semicolon text)
-kept_text_of (suc pairs) None text = lowered text
-kept_text_of (suc pairs) (Some semicolon) text =
-    lowered (take (semicolon + 1) text) ++ lowered_within (suc pairs) (drop (semicolon + 1) text)
+kept_text_of (suc pairs) (Some semicolon) text = with_pairs_lowered (suc pairs) semicolon text
 
 -- a pair as it is read: its name in small letters, and its value too where the name is `charset`
 abbrev pub lowered_pair : List ℕ × List ℕ → List ℕ × List ℕ
@@ -65,33 +63,3 @@ IsLowPair pair = lowered_pair pair ≡ pair
 
 abbrev pub AreLowPairs : List (List ℕ × List ℕ) → Type 0
 AreLowPairs pairs = AllByRecursion IsLowPair pairs
-
--- a pair as it is kept is that of a pair as it is written
-abbrev pub IsKeptPair : List ℕ × List ℕ → List ℕ × List ℕ → Type 0
-IsKeptPair kept pair = kept ≡ lowered_pair pair
-
--- a text that goes on with a semicolon after this essence, in any case
-abbrev pub IsListAfter : List ℕ → List ℕ → Type 0
-IsListAfter essence text =
-    (slice_get text (length essence) ≡ Some semicolon_byte) × (lowered essence ≡ lowered (take (length essence) text))
-
--- the pair is the only one, and a charset
-abbrev pub IsLoneCharset : List (List ℕ × List ℕ) → Type 0
-IsLoneCharset pairs = (name : List ℕ) × (content : List ℕ) × (pairs ≡ (name, content) ∷ []) × IsTrue (is_charset name)
-
--- the kept text has one space before its list's first name, which begins with a `c`, and ends with a token byte; another text
--- of its length has a space there
-abbrev pub HasOneForm : List ℕ → List ℕ → List ℕ → Type 0
-HasOneForm kept essence text =
-    (length kept ≡ length text)
-    × (slice_get kept (length essence + 1) ≡ Some space_byte)
-    × (slice_get kept (length essence + 2) ≡ Some 99)
-    × (slice_get text (length essence + 1) ≡ Some space_byte)
-    × IsTrue (is_token_byte (slice_index kept (length kept - 1)))
-
--- an accepted text with a semicolon at position `end`, and `count` parameters after it
-pub record IsAcceptedAt (text : List ℕ) (end count : ℕ) : Type 0 where
-  pub places : Places
-  pub has : HasPlaces text places
-  pub semicolon : places.semicolon ≡ Some end
-  pub counted : places.pairs ≡ count

@@ -5,6 +5,7 @@ use Rattle.mime.specs.Bytes.{plus_byte}
 use Rattle.mime.specs.Grammar.{SyntaxTree, text_of, IsWellFormed}
 use Rattle.mime.specs.Values.{MediaType, Reads, IsAccepted, IsRefused, lowered}
 use Rattle.mime.specs.Comparison.{Same, Before, TextIs}
+use Rattle.mime.specs.Difference.{DifferTellingly}
 use Rattle.mime.specs.Refusals.{IsViable, IsFront, Lacks, IsFault}
 use Rattle.mime.specs.Items.{Item, IsFirstAccepted}
 use Rattle.mime.specs.declared.scan.fault.ParseError.{ParseError}
@@ -131,3 +132,9 @@ OneAnswer Accepts =
     IsDecided Accepts → (items : List Item)
     → (found : Option (List ℕ × Bool)) × IsFirstAccepted Accepts items found
     × ((other : Option (List ℕ × Bool)) → IsFirstAccepted Accepts items other → other ≡ found)
+
+-- Texts whose first difference tells are not read as equal values.
+abbrev pub FirstDifferenceTells : Type 0
+FirstDifferenceTells =
+    (one other : List ℕ) (first second : MediaType) → Reads one first → Reads other second → DifferTellingly one other
+    → ¬ (Same first second)

@@ -3,6 +3,7 @@ pub mod Bytes
 pub mod Grammar
 pub mod Values
 pub mod Comparison
+pub mod Difference
 pub mod Refusals
 pub mod Printed
 pub mod Names
@@ -18,10 +19,12 @@ pub mod RunLaws
 pub mod Remaining
 pub mod Quoted
 pub mod Scanning
+pub mod Marks
 pub mod Pairs
-pub mod Spelled
 pub mod KeptText
-pub mod Orders
+pub mod TextParts
+pub mod HashInput
+pub mod OrderLaws
 pub mod AtomPlaces
 pub mod Owner
 pub mod UnderWay

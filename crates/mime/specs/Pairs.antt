@@ -1,5 +1,6 @@
 -- Private. The pairs of a parameter list's text, cut one by one from the left.
-use Rattle.std.specs.Prelude.{ℕ, zero, suc, ◌+◌, ◌-◌, List, [], ◌∷◌, ◌++◌, length, take, drop, if◌then◌else◌, ◌==◌}
+use Rattle.std.specs.Prelude.{◌≡◌, ℕ, zero, suc, ◌+◌, ◌-◌, List, [], ◌∷◌, ◌++◌, length, take, drop, Option, None, Some, if◌then◌else◌, ◌==◌}
+use Rattle.std.specs.Borrow.{Bor}
 use Rattle.std.specs.List.{prefix_len, position_or_len}
 use Rattle.mime.specs.Bytes.{semicolon_byte, equals_byte, quote_byte}
 use Rattle.mime.specs.Grammar.{is_space}
@@ -16,6 +17,10 @@ before_byte byte text = take (first_position byte text) text
 
 abbrev pub behind_byte : ℕ → List ℕ → List ℕ
 behind_byte byte text = drop (first_position byte text + 1) text
+
+-- the first list is the second without some of its first bytes
+abbrev pub IsEndOf : List ℕ → List ℕ → Type 0
+IsEndOf end whole = end ≡ drop (length whole - length end) whole
 
 -- the first pair of a list: its name, the number of bytes before its value, its value without
 -- quotes, and the list after its semicolon
@@ -60,6 +65,15 @@ cut_of list =
 abbrev pub pairs_within : ℕ → List ℕ → List (List ℕ × List ℕ)
 pairs_within zero list = []
 pairs_within (suc count) list = ((cut_of list).name, (cut_of list).value) ∷ pairs_within count (cut_of list).rest
+
+-- the pairs after the semicolon, if there is one
+abbrev pub pairs_behind : ℕ → Option ℕ → List ℕ → List (List ℕ × List ℕ)
+pairs_behind count None text = []
+pairs_behind count (Some semicolon) text = pairs_within count (drop (semicolon + 1) text)
+
+-- a pair of texts as the bytes that they have
+abbrev pub pair_seen : Bor (List ℕ) × Bor (List ℕ) → List ℕ × List ℕ
+pair_seen (name, value) = (name.now, value.now)
 
 -- the list with all before its first value lowered, and that value too under `charset`
 abbrev pub lowered_first : List ℕ → List ℕ

@@ -1,24 +1,15 @@
 -- Private. How a text is passed piece by piece, and what a `MimeIter` keeps.
-use Rattle.std.specs.Prelude.{◌≡◌, ◌≢◌, ℕ, ◌+◌, ◌≤◌, ◌<◌, Bool, false, List, [], ◌∷◌, ◌++◌, length, Option, Some, None, drop, IsTrue}
+use Rattle.std.specs.Prelude.{◌≡◌, ◌≢◌, ℕ, ◌+◌, ◌≤◌, ◌<◌, Bool, false, List, [], ◌++◌, length, Option, Some, None}
 use Rattle.std.specs.Borrow.{Bor}
-use Rattle.std.specs.List.{list_all}
 use Rattle.mime.specs.Values.{MediaType, Reads}
 use Rattle.mime.specs.Scanning.{HasPlaces}
-use Rattle.mime.specs.Cut.{is_following_byte, CutItem, good, bad, Cut, IsCharacter, TakesSteps}
+use Rattle.mime.specs.Cut.{CutItem, good, bad, Cut, IsCharacter, TakesSteps}
 use Rattle.mime.specs.Runs.{Iteration, IsFirstItem, HasNoItem}
 use Rattle.mime.specs.declared.scan.Places.{Places}
 
 -- what comes after the first character of a text
 abbrev pub IsAfterCharacter : List ℕ → List ℕ → Type 0
 IsAfterCharacter text left = (character : List ℕ) × (text ≡ character ++ left) × IsCharacter character left
-
--- a character's `end` bytes were passed: the first, and those that follow it
-pub record PassedTo (text : List ℕ) (end : ℕ) : Type 0 where
-  pub first : ℕ
-  pub following : List ℕ
-  pub spelled : text ≡ first ∷ (following ++ drop end text)
-  pub of_class : IsTrue (list_all is_following_byte following)
-  pub counted : end ≡ length following + 1
 
 -- what was read of a text before what is left, and the steps that this took
 pub record IsUnderWay (text left : List ℕ) (starved : Bool) (steps : ℕ) : Type 0 where
@@ -46,14 +37,6 @@ pub record PassesPiece (text piece : List ℕ) (places : Option Places) (left : 
 -- what every `MimeIter` keeps
 abbrev pub IsSound : Iteration → Type 0
 IsSound i = IsUnderWay i.text i.left i.starved i.steps
-
--- pieces without an item were passed since a call began
-pub record IsLooking (old now : Iteration) : Type 0 where
-  pub passed : PassesOn old.left now.left
-  pub starved : now.starved ≡ old.starved
-  pub text : now.text ≡ old.text
-  pub still : old.left ≡ [] → now ≡ old
-  pub less : length now.left ≤ length old.left
 
 -- the piece of the first item, with the positions of its parts if it is accepted, and what is left then
 abbrev pub GivesPiece : List ℕ → Option (Bor (List ℕ) × Option Places) → List ℕ → Type 0

@@ -1,35 +1,23 @@
 //! A media type against a text, without memory.
 
-ghost use Rattle.std.specs.Prelude.{◌≡◌, ◌≢◌, ◌↔◌, ◌<◌, IsTrue, Some, [], length, map, take};
+ghost use Rattle.std.specs.Prelude.{◌≡◌, ◌≢◌, ◌↔◌, IsTrue, Some, [], map};
 ghost use Rattle.mime.specs.Comparison.{TextIs};
-ghost use Rattle.mime.specs.Pairs.{pairs_within};
-ghost use Rattle.mime.specs.KeptText.{IsKeptPair, IsListAfter, IsAcceptedAt, IsLowPair, AreLowPairs, lowered_pair, IsLoneCharset, HasOneForm};
-ghost use Rattle.mime.specs.Spelled.{HasParameters};
-ghost use Rattle.mime.specs.Values.{lowered, lowered_value, is_charset};
+ghost use Rattle.mime.specs.KeptText.{AreLowPairs, IsLowPair, lowered_pair};
+ghost use Rattle.mime.specs.TextParts.{IsListAfter, IsAcceptedAt};
+ghost use Rattle.mime.specs.Values.{Reads, lowered};
 
-use crate::bytes::is_token;
-use crate::name::{CASE_BIT, are_alike, eq_ignoring_case};
+use crate::difference::{Seen, look};
+use crate::name::eq_ignoring_case;
 use crate::scan::{ByteReader, Places, Verdict, scan};
 use crate::value::Mime;
-use crate::value::pairs::{Pair, cut};
-use crate::value::spelled::{Checked, cut_checked};
+use crate::value::pairs::{Pairs, is_charset};
 
 /// Whether two texts are the same but for case.
 #[inline(always)]
-fn alike(kept: &str, text: &str) -> bool
-    ensures { IsTrue result ↔ (lowered kept.now ≡ lowered text.now) }
+fn alike(one: &str, other: &str) -> bool
+    ensures { IsTrue result ↔ (lowered one.now ≡ lowered other.now) }
 {
-    eq_ignoring_case(kept.as_bytes(), text.as_bytes())
-}
-
-/// Whether two texts begin with the same byte, but for the bit that tells a small letter from its capital. So no
-/// text is refused that begins alike in another case.
-#[inline(always)]
-fn begin_alike(kept: &[u8], text: &[u8]) -> bool
-    requires { 0 < length kept.now }
-    ensures { lowered (take 1 kept.now) ≡ lowered (take 1 text.now) → IsTrue result }
-{
-    !text.is_empty() && kept[0] | CASE_BIT == text[0] | CASE_BIT
+    eq_ignoring_case(one.as_bytes(), other.as_bytes())
 }
 
 /// Whether a text goes on with a semicolon after this essence, in any case.
@@ -42,220 +30,92 @@ fn is_list_after(essence: &str, text: &str) -> bool
     end < text.len() && text[end] == b';' && eq_ignoring_case(essence.as_bytes(), &text[..end])
 }
 
-/// Whether a text has the length of a kept one and begins its list as that does, but for case. Most such
-/// texts are in the kept text's form, and most others aren't: so this chooses the way, and decides nothing.
-#[inline(always)]
-fn is_in_form(kept: &str, essence: &str, text: &str) -> bool {
-    let next = essence.len() + 1;
-    let kept = kept.as_bytes();
-    let text = text.as_bytes();
-    kept.len() == text.len() && next < kept.len() && kept[next] == text[next].to_ascii_lowercase()
-}
-
-/// Whether a text in a kept one's form is the same but for case.
-#[inline(always)]
-fn is_recased(in_form: bool, kept: &str, text: &str) -> bool
-    ensures { IsTrue result → lowered kept.now ≡ lowered text.now }
-{
-    in_form && alike(kept, text)
-}
-
-/// Whether a text goes on with a semicolon after this essence, in any case. It does if `is_alike`: then the text is
-/// known to be the kept one but for case.
-#[inline(always)]
-fn has_list(is_alike: bool, essence: &str, text: &str) -> bool
-    requires { IsTrue is_alike → IsListAfter essence.now text.now }
-    ensures { IsTrue result ↔ IsListAfter essence.now text.now }
-{
-    is_alike || is_list_after(essence, text)
-}
-
-/// Whether a text is a kept name, which has no capital, in any case.
+/// Whether a text's name and value are a kept parameter's: the name in any case, and the value too under `charset`.
 #[inline]
-fn is_name(kept: &str, text: &str) -> bool
-    requires { lowered kept.now ≡ kept.now }
-    ensures { IsTrue result ↔ (kept.now ≡ lowered text.now) }
+fn is_pair(name: &str, value: &str, other: &str, content: &str) -> bool
+    requires { IsLowPair (name.now, value.now) }
+    ensures { IsTrue result ↔ ((name.now, value.now) ≡ lowered_pair (other.now, content.now)) }
 {
-    alike(kept, text)
-}
-
-/// Whether a text is the kept value of a kept name: in any case under `charset`, else byte for byte.
-#[inline]
-fn is_value(name: &str, kept: &str, text: &str) -> bool
-    requires low_name { lowered name.now ≡ name.now }
-    requires low { IsTrue (is_charset name.now) → lowered kept.now ≡ kept.now }
-    ensures { IsTrue result ↔ (kept.now ≡ lowered_value name.now text.now) }
-{
-    if name == "charset" {
-        is_name(kept, text)
+    if !alike(name, other) {
+        return false;
+    }
+    if is_charset(name) {
+        alike(value, content)
     } else {
-        kept == text
+        value == content
     }
 }
 
-/// Whether a pair is a kept one.
+/// Whether the pairs of a text are the kept ones, as they are read.
 #[inline]
-fn is_pair(kept: Pair<'_>, pair: Checked<'_>) -> bool
-    requires { IsLowPair (kept.name.now, kept.value.now) }
-    ensures { IsTrue result ↔ IsKeptPair (kept.entry.name.now, kept.entry.value.now) (pair.entry.name.now, pair.entry.value.now) }
+fn are_pairs(kept: Pairs<'_>, pairs: Pairs<'_>) -> bool
+    requires { AreLowPairs kept }
+    ensures { IsTrue result ↔ (kept.entry ≡ map lowered_pair pairs.entry) }
 {
-    is_name(kept.name, pair.name) && is_value(kept.name, kept.value, pair.value)
-}
-
-/// Whether the first `count` pairs of a list are those of a kept one; and whether the list is known to be
-/// well-formed and to have no more, if that is to be checked on the way.
-#[inline]
-fn are_pairs(kept: &str, list: &str, count: usize, check: bool) -> (bool, bool)
-    requires { AreLowPairs (pairs_within count kept.now) }
-    ensures same { IsTrue result.0 ↔ (pairs_within count kept.now ≡ map lowered_pair (pairs_within count list.now)) }
-    ensures known { IsTrue result.1 → HasParameters list.now count }
-{
-    let mut left = kept;
-    let mut right = list;
-    let mut known = check;
-    for _ in 0..count {
-        let one = cut(left);
-        let other = cut_checked(right, known);
-        if !is_pair(one, other) {
-            return (false, false);
+    let mut others = pairs;
+    for (name, value) in kept {
+        let Some((other, content)) = others.next() else {
+            return false;
+        };
+        if !is_pair(name, value, other, content) {
+            return false;
         }
-        known &= other.is_parameter;
-        left = one.rest;
-        right = other.rest;
     }
-    (true, known && right.is_empty())
+    others.next().is_none()
 }
 
-/// Whether there is a semicolon at this position, and this many parameters after it.
+/// Whether the semicolon is at this position, and this many parameters follow it.
 #[inline(always)]
-fn is_list_at(places: Places, end: usize, count: usize) -> bool
-    ensures { IsTrue result ↔ ((places.semicolon ≡ Some end) × (places.pairs ≡ count)) }
+fn is_list_at(places: Places, semicolon: usize, count: usize) -> bool
+    ensures { IsTrue result ↔ ((places.semicolon ≡ Some semicolon) × (places.pairs ≡ count)) }
 {
-    places.semicolon == Some(end) && places.pairs == count
+    places.semicolon == Some(semicolon) && places.pairs == count
 }
 
-/// Whether a text is accepted that has a semicolon at this position, and this many parameters after it.
+/// Whether a text is accepted that has its semicolon at this position, and this many parameters.
 #[inline(never)]
-fn is_accepted_at(text: &str, end: usize, count: usize) -> bool
-    ensures { IsTrue result ↔ IsAcceptedAt text.now end count }
+fn is_accepted_at(text: &str, semicolon: usize, count: usize) -> bool
+    ensures { IsTrue result ↔ IsAcceptedAt text.now semicolon count }
 {
     let mut reader = ByteReader::new(text, 0);
     match scan(&mut reader) {
-        Verdict::Accepted(places) => is_list_at(places, end, count),
+        Verdict::Accepted(places) => is_list_at(places, semicolon, count),
         _ => false,
     }
 }
 
-/// Whether the only parameter is a charset, written as ` charset=utf-8` is.
-#[inline(always)]
-fn is_lone_charset(mime: &Mime) -> bool
-    ensures { IsTrue result → IsLoneCharset mime.now.media.pairs }
-{
-    if mime.count() != 1 {
-        return false;
-    }
-    let list = mime.list();
-    if list.len() < 9 || list.as_bytes()[8] != b'=' {
-        return false;
-    }
-    &list[..8] == " charset"
-}
-
-/// Whether a text is a value with parameters, part by part: a value can be written in more than one
-/// way. The kept text in another case is accepted as the kept text is. A text in another form is checked
-/// while it is compared. The scan is left for texts whose parts are the value's, where neither shows that
-/// they are accepted.
+/// Whether a text is a value with parameters, part by part: it has the essence, and then the parameters. A text that is
+/// the kept one but for case is accepted as that is; another is scanned.
 #[inline(never)]
-fn eq_by_parts(mime: &Mime, s: &str) -> bool
-    requires { mime.now.media.pairs ≢ [] }
-    ensures { IsTrue result ↔ TextIs mime.now.media s.now }
-{
-    let kept = mime.as_str();
-    let essence = mime.essence_str();
-    let in_form = is_in_form(kept, essence, s);
-    let is_alike = is_recased(in_form, kept, s);
-    if !has_list(is_alike, essence, s) {
-        return false;
-    }
-    let list = &s[essence.len() + 1..];
-    let (same, known) = are_pairs(mime.list(), list, mime.count(), !in_form);
-    if !same {
-        return false;
-    }
-    is_alike || known || is_accepted_at(s, essence.len(), mime.count())
-}
-
-/// Whether a text is as long as a kept one, both lists begin with a space, after which the kept list has a `c`, as of
-/// `charset`, and the kept text ends with a token byte. If the kept list has one parameter, such a text is its value
-/// in one form alone.
-#[inline(always)]
-fn has_one_form(kept: &str, essence: &str, text: &str) -> bool
-    ensures { IsTrue result → HasOneForm kept.now essence.now text.now }
-{
-    let end = essence.len();
-    let kept = kept.as_bytes();
-    let text = text.as_bytes();
-    kept.len() == text.len()
-        && end + 2 < kept.len()
-        && kept[end + 1] == b' '
-        && kept[end + 2] == b'c'
-        && text[end + 1] == b' '
-        && is_token(kept[kept.len() - 1])
-}
-
-/// Whether a text is a value whose only parameter is a charset. One comparison decides, unless the text may
-/// be written in another form.
-#[inline(always)]
-fn eq_lone_charset(mime: &Mime, s: &str) -> bool
+fn eq_by_parts(mime: &Mime, s: &str, is_alike: bool) -> bool
+    requires reads { Reads mime.now.media.kept mime.now.media }
     requires some { mime.now.media.pairs ≢ [] }
-    requires lone { IsLoneCharset mime.now.media.pairs }
+    requires alike { IsTrue is_alike → lowered mime.now.media.kept ≡ lowered s.now }
     ensures { IsTrue result ↔ TextIs mime.now.media s.now }
 {
-    let kept = mime.as_str();
-    // All of it ignores case.
-    if are_alike(kept.as_bytes(), s.as_bytes()) {
-        return true;
-    }
-    if has_one_form(kept, mime.essence_str(), s) {
+    let essence = mime.essence_str();
+    if !is_list_after(essence, s) {
         return false;
     }
-    eq_by_parts(mime, s)
+    let end = essence.len();
+    if !are_pairs(mime.pairs(), Pairs::after(s, Some(end), mime.count())) {
+        return false;
+    }
+    is_alike || is_accepted_at(s, end, mime.count())
 }
 
-/// Whether a text that begins as the kept one does is a value with parameters. What can be answered without its
-/// parts comes first: a lone charset in a text of the kept length, and the kept text. It isn't compiled into its
-/// caller, which has read the first byte: there that byte wouldn't be read with the 15 after it, in one step.
+/// Whether a text is a value with parameters that isn't its kept text: not where it differs from that tellingly, and
+/// surely where it is that but for case and all of it ignores case. Else its parts decide.
 #[inline(never)]
-fn eq_begun(mime: &Mime, s: &str) -> bool
+fn eq_otherwise(mime: &Mime, s: &str) -> bool
     requires { mime.now.media.pairs ≢ [] }
     ensures { IsTrue result ↔ TextIs mime.now.media s.now }
 {
-    let kept = mime.as_str();
-    if kept.len() == s.len() && is_lone_charset(mime) {
-        return eq_lone_charset(mime, s);
+    match look(mime.as_str(), s) {
+        Seen::Apart => false,
+        Seen::Alike => mime.pairs().is_lone_charset() || eq_by_parts(mime, s, true),
+        Seen::Open => eq_by_parts(mime, s, false),
     }
-    if kept == s {
-        return true;
-    }
-    eq_by_parts(mime, s)
-}
-
-/// Whether a text is a value with parameters.
-#[inline(always)]
-fn eq_with_parameters(mime: &Mime, s: &str) -> bool
-    requires { mime.now.media.pairs ≢ [] }
-    ensures { IsTrue result ↔ TextIs mime.now.media s.now }
-{
-    begin_alike(mime.as_str().as_bytes(), s.as_bytes()) && eq_begun(mime, s)
-}
-
-/// Whether a text is a value without parameters.
-#[inline(always)]
-fn eq_without_parameters(mime: &Mime, s: &str) -> bool
-    requires { mime.now.media.pairs ≡ [] }
-    ensures { IsTrue result ↔ TextIs mime.now.media s.now }
-{
-    alike(mime.as_str(), s)
 }
 
 /// Whether a text is read as a value equal to this one and, where this one has no parameter, has no
@@ -268,9 +128,9 @@ fn eq_without_parameters(mime: &Mime, s: &str) -> bool
 pub fn mime_eq_str(mime: &Mime, s: &str) -> bool
     ensures { IsTrue result ↔ TextIs mime.now.media s.now }
 {
+    let kept = mime.as_str();
     if mime.count() == 0 {
-        eq_without_parameters(mime, s)
-    } else {
-        eq_with_parameters(mime, s)
+        return alike(kept, s);
     }
+    kept == s || eq_otherwise(mime, s)
 }

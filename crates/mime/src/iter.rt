@@ -81,7 +81,7 @@ fn pass<'a>(text: &'a str, from: u128) -> Passed<'a>
             steps,
         },
         Verdict::Stopped(_, places) => {
-            let (piece, rest) = text.split_at((steps - from - 1) as usize);
+            let (piece, rest) = text.split_at(reader.position(from));
             Passed {
                 piece,
                 places,

@@ -1,5 +1,5 @@
 //! The laws of the definitions, as calls: a caller that calls one has its law in its proof. Most do nothing;
-//! `atom_constants` and `name_constants` give the constants, and `iter_clone` a clone. docs/LAWS.md lists all claims.
+//! `name_constants` gives the constant names, and `iter_clone` a clone. docs/LAWS.md lists all claims.
 
 ghost use Rattle.std.specs.Prelude.{◌≡◌, ◌↔◌, IsTrue, IfOk, IsOk, map};
 ghost use Rattle.std.specs.Cmp.Lexicographic.{slice_cmp};
@@ -8,21 +8,12 @@ ghost use Rattle.std.specs.Ordering.{MatchOrdering, ordering_then, bool_cmp, nat
 ghost use Rattle.mime.specs.Values.{OwnedMedia, lowered};
 ghost use Rattle.mime.specs.Names.{name_table};
 ghost use Rattle.mime.specs.Views.{name_text};
-ghost use Rattle.mime.specs.Laws.{OneTree, OneReading, EmptyIsViable, FrontOfViableIsViable, AcceptedIsViable, OneCompletion, CompletedIsRefused, NoCompletion, OneFault, OneFront, FrontEndsBetweenCharacters, FrontIsInUtf8, PlusIsLast, KeptIsRead, EssenceIsRead, OneOrder, BeforeIsTransitive, BareTextIs, KeptTextIs, OneAnswer};
+ghost use Rattle.mime.specs.Laws.{OneTree, OneReading, EmptyIsViable, FrontOfViableIsViable, AcceptedIsViable, OneCompletion, CompletedIsRefused, NoCompletion, OneFault, OneFront, FrontEndsBetweenCharacters, FrontIsInUtf8, PlusIsLast, KeptIsRead, EssenceIsRead, OneOrder, BeforeIsTransitive, BareTextIs, KeptTextIs, OneAnswer, FirstDifferenceTells};
 ghost use Rattle.mime.specs.Comparison.{Same, Before};
-ghost use Rattle.mime.specs.Atoms.{atom_text, atom_table};
 ghost use Rattle.mime.specs.CutLaws.{OneCut, CutHasItems, CutWritesText, OneCount, CommaContains, JoinedComesBack, PassesOneCharacter};
 ghost use Rattle.mime.specs.RunLaws.{RunGivesCut, PrintedListComesBack, CommaContainsOnRuns};
 
-use crate::atoms::{
-    APPLICATION_JAVASCRIPT, APPLICATION_JAVASCRIPT_UTF_8, APPLICATION_JSON, APPLICATION_MSGPACK,
-    APPLICATION_OCTET_STREAM, APPLICATION_PDF, APPLICATION_WWW_FORM_URLENCODED, Atom, FONT_WOFF,
-    FONT_WOFF2, IMAGE_BMP, IMAGE_GIF, IMAGE_JPEG, IMAGE_PNG, IMAGE_STAR, IMAGE_SVG,
-    MULTIPART_FORM_DATA, STAR_STAR, TEXT_CSS, TEXT_CSS_UTF_8, TEXT_CSV, TEXT_CSV_UTF_8,
-    TEXT_EVENT_STREAM, TEXT_HTML, TEXT_HTML_UTF_8, TEXT_JAVASCRIPT, TEXT_JAVSCRIPT, TEXT_PLAIN,
-    TEXT_PLAIN_UTF_8, TEXT_STAR, TEXT_TAB_SEPARATED_VALUES, TEXT_TAB_SEPARATED_VALUES_UTF_8,
-    TEXT_VCARD, TEXT_XML,
-};
+use crate::atoms::Atom;
 use crate::iter::{Bad, MimeIter};
 use crate::name::constants::{
     APPLICATION, AUDIO, BASIC, BMP, BOUNDARY, CHARSET, CSS, CSV, EVENT_STREAM, FONT, FORM_DATA,
@@ -161,46 +152,11 @@ pub fn equal_values_hash_alike()
     ensures { (first second : OwnedMedia) → Same first.media second.media → ⟦<Mime as Hash>⟧.hash_input first ≡ ⟦<Mime as Hash>⟧.hash_input second }
 {}
 
-/// The constant media types, in the order of their table, from `*/*` on.
-pub fn atom_constants() -> [Atom; 33]
-    ensures { map atom_text result ≡ atom_table }
-{
-    [
-        STAR_STAR,
-        TEXT_STAR,
-        TEXT_PLAIN,
-        TEXT_PLAIN_UTF_8,
-        TEXT_HTML,
-        TEXT_HTML_UTF_8,
-        TEXT_CSS,
-        TEXT_CSS_UTF_8,
-        TEXT_JAVASCRIPT,
-        TEXT_XML,
-        TEXT_EVENT_STREAM,
-        TEXT_CSV,
-        TEXT_CSV_UTF_8,
-        TEXT_TAB_SEPARATED_VALUES,
-        TEXT_TAB_SEPARATED_VALUES_UTF_8,
-        TEXT_VCARD,
-        IMAGE_STAR,
-        IMAGE_JPEG,
-        IMAGE_GIF,
-        IMAGE_PNG,
-        IMAGE_BMP,
-        IMAGE_SVG,
-        FONT_WOFF,
-        FONT_WOFF2,
-        APPLICATION_JSON,
-        APPLICATION_JAVASCRIPT,
-        APPLICATION_JAVASCRIPT_UTF_8,
-        APPLICATION_WWW_FORM_URLENCODED,
-        APPLICATION_OCTET_STREAM,
-        APPLICATION_MSGPACK,
-        APPLICATION_PDF,
-        MULTIPART_FORM_DATA,
-        TEXT_JAVSCRIPT,
-    ]
-}
+/// Texts that first differ, but for case, where neither byte is a space, a tab or a quote, are not read as equal values:
+/// `a/b;p=x` and `A/B;P=y`. Where one has a quote, they may be: `a/b;p=x` and `a/b;p="x"`.
+pub fn first_difference_tells()
+    ensures { FirstDifferenceTells }
+{}
 
 /// A text has exactly one cut: that of `a/b, e, c/d` has the items `a/b`, the bad piece `e`, and `c/d`.
 pub fn one_cut()
@@ -269,6 +225,48 @@ pub fn iter_clone<'a>(iter: &MimeIter<'a>) -> Result<MimeIter<'a>, AllocError>
     iter.clone()
 }
 
+/// The constant names, as a table: an array in the body of `name_constants` would be a statement a row for its proof.
+static NAMES: [Name<'static>; 38] = [
+    STAR,
+    TEXT,
+    IMAGE,
+    AUDIO,
+    VIDEO,
+    APPLICATION,
+    MULTIPART,
+    MESSAGE,
+    MODEL,
+    FONT,
+    PLAIN,
+    HTML,
+    XML,
+    JAVASCRIPT,
+    CSS,
+    CSV,
+    EVENT_STREAM,
+    VCARD,
+    JSON,
+    WWW_FORM_URLENCODED,
+    MSGPACK,
+    OCTET_STREAM,
+    PDF,
+    WOFF,
+    WOFF2,
+    FORM_DATA,
+    BMP,
+    GIF,
+    JPEG,
+    PNG,
+    SVG,
+    BASIC,
+    MPEG,
+    MP4,
+    OGG,
+    CHARSET,
+    BOUNDARY,
+    UTF_8,
+];
+
 /// The constant names, in the order of their table, from `*` on. Each has its text, ignores case, and holds no
 /// ASCII capital.
 pub fn name_constants() -> [Name<'static>; 38]
@@ -276,46 +274,7 @@ pub fn name_constants() -> [Name<'static>; 38]
     ensures flags { IsTrue (list_all (λ name. name.ignores_case) result) }
     ensures low { map (λ name. lowered (name_text name)) result ≡ map name_text result }
 {
-    [
-        STAR,
-        TEXT,
-        IMAGE,
-        AUDIO,
-        VIDEO,
-        APPLICATION,
-        MULTIPART,
-        MESSAGE,
-        MODEL,
-        FONT,
-        PLAIN,
-        HTML,
-        XML,
-        JAVASCRIPT,
-        CSS,
-        CSV,
-        EVENT_STREAM,
-        VCARD,
-        JSON,
-        WWW_FORM_URLENCODED,
-        MSGPACK,
-        OCTET_STREAM,
-        PDF,
-        WOFF,
-        WOFF2,
-        FORM_DATA,
-        BMP,
-        GIF,
-        JPEG,
-        PNG,
-        SVG,
-        BASIC,
-        MPEG,
-        MP4,
-        OGG,
-        CHARSET,
-        BOUNDARY,
-        UTF_8,
-    ]
+    *&NAMES
 }
 
 /// Names are equal if their texts and their flags are: `TEXT` isn't the name `text` whose flag is `false`.

@@ -1,13 +1,13 @@
 //! Names: the parts of media types, how they compare, and the keys that look parameters up.
 
 ghost use Rattle.std.specs.Prelude.{◌≡◌, ◌↔◌, ◌<◌, ◌≤◌, ◌+◌, length, IsTrue, List, ℕ, Bool, Some};
-ghost use Rattle.std.specs.Char.{to_ascii_lowercase};
 ghost use Rattle.std.specs.Fmt.{debug_str, styled_text};
 ghost use Rattle.mime.specs.Names.{NameIs};
 ghost use Rattle.mime.specs.Values.{lowered};
 
 pub(crate) mod constants;
 
+use crate::difference::{difference, first_difference};
 use std::fmt;
 
 /// A part of a media type: a type, a subtype, a suffix, a parameter's name or its value (RFC 7231,
@@ -53,35 +53,18 @@ impl fmt::Debug for Name<'_> {
     }
 }
 
-/// The bit that tells a small ASCII letter from its capital.
-pub(crate) const CASE_BIT: u8 = 0x20;
-
-/// The bits in which two bytes differ, apart from the one that tells a capital from its small letter
-/// where the first is an ASCII letter: none where the bytes are the same but for case.
+/// Whether two byte strings of one length are the same but for the case of ASCII letters. The loop doesn't end early: over
+/// a known length it is a few vector instructions.
 #[inline(always)]
-fn differing_bits(x: u8, y: u8) -> u8
-    ensures { (result ≡ 0) ↔ (to_ascii_lowercase x ≡ to_ascii_lowercase y) }
-{
-    let case = if (x | CASE_BIT).is_ascii_lowercase() {
-        CASE_BIT
-    } else {
-        0
-    };
-    (x ^ y) & !case
-}
-
-/// The bits in which two byte strings of one length differ, taken over all their bytes, as
-/// `differing_bits` takes them. The loop doesn't end early: over a known length it is a few vector instructions.
-#[inline(always)]
-fn all_differing_bits(a: &[u8], b: &[u8]) -> u8
+fn all_alike(a: &[u8], b: &[u8]) -> bool
     requires same_length { length a.now ≡ length b.now }
-    ensures { (result ≡ 0) ↔ (lowered a.now ≡ lowered b.now) }
+    ensures { IsTrue result ↔ (lowered a.now ≡ lowered b.now) }
 {
-    let mut differing = 0;
+    let mut marks = 0;
     for (x, y) in a.iter().zip(b) {
-        differing |= differing_bits(*x, *y);
+        marks |= difference(*x, *y);
     }
-    differing
+    marks == 0
 }
 
 /// Whether two byte strings of one length are the same but for the case of ASCII letters, by
@@ -95,42 +78,19 @@ fn ends_alike(a: &[u8], b: &[u8], block: usize) -> bool
     ensures { IsTrue result ↔ (lowered a.now ≡ lowered b.now) }
 {
     let last = a.len() - block;
-    all_differing_bits(&a[last..], &b[last..]) == 0
-        && all_differing_bits(&a[..block], &b[..block]) == 0
+    all_alike(&a[last..], &b[last..]) && all_alike(&a[..block], &b[..block])
 }
 
-/// Whether two byte strings of one length, at least 16, are the same but for the case of ASCII letters, by blocks
-/// of 16 bytes, up to the first block that differs. The last block may overlap the one before.
-#[inline(always)]
-fn blocks_alike(a: &[u8], b: &[u8]) -> bool
-    requires same_length { length a.now ≡ length b.now }
-    requires room { 16 ≤ length a.now }
-    ensures { IsTrue result ↔ (lowered a.now ≡ lowered b.now) }
-{
-    let last = a.len() - 16;
-    let mut from = 0;
-    while from < last {
-        if all_differing_bits(&a[from..from + 16], &b[from..from + 16]) != 0 {
-            return false;
-        }
-        from += 16;
-    }
-    all_differing_bits(&a[last..], &b[last..]) == 0
-}
-
-/// Whether two byte strings are the same but for the case of ASCII letters, compiled into its caller.
-#[inline(always)]
-pub(crate) fn are_alike(a: &[u8], b: &[u8]) -> bool
+/// Whether two byte strings are the same but for the case of ASCII letters.
+#[inline(never)]
+pub(crate) fn eq_ignoring_case(a: &[u8], b: &[u8]) -> bool
     ensures { IsTrue result ↔ (lowered a.now ≡ lowered b.now) }
 {
     if a.len() != b.len() {
         return false;
     }
-    if a.len() > 32 {
-        return blocks_alike(a, b);
-    }
     if a.len() >= 16 {
-        return ends_alike(a, b, 16);
+        return first_difference(a, b).is_none();
     }
     if a.len() >= 8 {
         return ends_alike(a, b, 8);
@@ -138,15 +98,7 @@ pub(crate) fn are_alike(a: &[u8], b: &[u8]) -> bool
     if a.len() >= 4 {
         return ends_alike(a, b, 4);
     }
-    all_differing_bits(a, b) == 0
-}
-
-/// Whether two byte strings are the same but for the case of ASCII letters, by a call.
-#[inline(never)]
-pub(crate) fn eq_ignoring_case(a: &[u8], b: &[u8]) -> bool
-    ensures { IsTrue result ↔ (lowered a.now ≡ lowered b.now) }
-{
-    are_alike(a, b)
+    all_alike(a, b)
 }
 
 /// Whether a name is the text `s`: without regard to ASCII case where the name ignores it, else

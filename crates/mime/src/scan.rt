@@ -107,7 +107,7 @@ fn subtype(reader: &mut ByteReader<'_>, from: u128) -> (Option<usize>, Option<u8
             break Some(byte);
         }
         if byte == b'+' {
-            plus = (reader.count() - from - 1) as usize;
+            plus = reader.position(from);
         }
     };
     (if plus == 0 { None } else { Some(plus) }, stop)
@@ -173,7 +173,7 @@ pub(crate) fn scan(reader: &mut ByteReader<'_>) -> Verdict
         Some(b'/') => {}
         Some(byte) => return Verdict::Stopped(byte, None),
     }
-    let slash = (reader.count() - from - 1) as usize;
+    let slash = reader.position(from);
     let Some(first) = reader.next() else {
         return Verdict::Unfinished(ParseError::MissingSubtype);
     };
@@ -192,6 +192,6 @@ pub(crate) fn scan(reader: &mut ByteReader<'_>) -> Verdict
         Some(b';') => {}
         Some(byte) => return Verdict::Stopped(byte, Some(places)),
     }
-    places.semicolon = Some((reader.count() - from - 1) as usize);
+    places.semicolon = Some(reader.position(from));
     parameters(reader, places)
 }

@@ -7,20 +7,19 @@ ghost use Rattle.mime.specs.Refusals.{Explains};
 ghost use Rattle.mime.specs.Items.{items_of, IsLowIf, IsLowItem, IsFirstAccepted};
 ghost use Rattle.mime.specs.Views.{name_seen, name_text};
 ghost use Rattle.mime.specs.Scanning.{HasPlaces};
-ghost use Rattle.mime.specs.Pairs.{pairs_within};
-ghost use Rattle.mime.specs.KeptText.{IsKept, media_of};
+ghost use Rattle.mime.specs.KeptText.{IsKept, media_of, AreLowPairs};
 ghost use Rattle.mime.specs.Owner.{bytes_of};
 
+mod hashing;
 mod kept;
 pub(crate) mod pairs;
 mod params;
-pub(crate) mod spelled;
 mod traits;
-mod walks;
 
 use crate::name::{Name, ParamKey};
 use crate::scan::{ByteReader, FromStrError, ParseError, Places, Verdict, scan};
-use crate::value::kept::{keep_places, keep_text};
+use crate::value::kept::keep;
+use crate::value::pairs::Pairs;
 pub use crate::value::params::Params;
 use std::alloc::Global;
 use std::marker::Model;
@@ -98,7 +97,7 @@ impl Mime {
             Verdict::Accepted(places) => Mime::of_accepted(alloc, s, places),
             Verdict::Unfinished(fault) => Err(FromStrError::new(fault)),
             Verdict::Stopped(byte, _) => {
-                let pos = (reader.count() - 1) as usize;
+                let pos = reader.position(0);
                 Err(FromStrError::new(ParseError::InvalidToken { pos, byte }))
             }
         }
@@ -118,10 +117,10 @@ impl Mime {
                 places,
             });
         }
-        match keep_text(alloc, s, places) {
-            Ok(text) => Ok(Mime {
+        match keep(alloc, s, places) {
+            Ok((text, places)) => Ok(Mime {
                 text: Text::Owned(text),
-                places: keep_places(places),
+                places,
             }),
             Err(_) => Err(FromStrError::new(ParseError::NoMemory)),
         }
@@ -211,7 +210,16 @@ impl Mime {
         ensures items { result ≡ items_of self.now.media.pairs }
         ensures low { AllByRecursion IsLowItem result }
     {
-        Params::new(self.list(), self.places.pairs)
+        Params::new(self.pairs())
+    }
+
+    /// The parameters as pairs of texts.
+    #[inline(always)]
+    pub(crate) fn pairs(&self) -> Pairs<'_>
+        ensures pairs { result ≡ self.now.media.pairs }
+        ensures low { AreLowPairs result }
+    {
+        Pairs::after(self.text.as_str(), self.places.semicolon, self.places.pairs)
     }
 
     /// How many parameters there are.
@@ -220,17 +228,6 @@ impl Mime {
         ensures { result ≡ length self.now.media.pairs }
     {
         self.places.pairs
-    }
-
-    /// The list of the parameters, as it is kept.
-    #[inline(always)]
-    pub(crate) fn list(&self) -> &str
-        ensures { pairs_within (length self.now.media.pairs) result.now ≡ self.now.media.pairs }
-    {
-        match self.places.semicolon {
-            None => "",
-            Some(semicolon) => &self.text.as_str()[semicolon + 1..],
-        }
     }
 
     /// The value of the first parameter whose name the key accepts, or none if it accepts none:

@@ -51,11 +51,11 @@ static EQUAL: &[(&str, &str)] = &[
 ];
 
 /// Whether a hash set and an ordered set that have the one value say that they have the other.
-fn found(alloc: Global, one: Mime, other: &Mime) -> Result<(bool, bool), Fail> {
+fn found(alloc: Global, one: &Mime, other: &Mime) -> Result<(bool, bool), Fail> {
     let mut hashed = HashSet::new(alloc);
     hashed.insert(one.clone()?)?;
     let mut ordered = BTreeSet::new(alloc);
-    ordered.insert(one)?;
+    ordered.insert(one.clone()?)?;
     Ok((hashed.contains(other), ordered.contains(other)))
 }
 
@@ -84,7 +84,8 @@ fn equal_values(rt: HostRuntime) -> Result<(), Fail> {
         let first = Mime::from_str(alloc, one)?;
         let second = Mime::from_str(alloc, other)?;
         check_values(&rt, &first, &second, Ordering::Equal);
-        assert_eq!(rt; found(alloc, first, &second)?, (true, true), "{one}");
+        assert_eq!(rt; found(alloc, &first, &second)?, (true, true), "{one}");
+        assert_eq!(rt; found(alloc, &second, &first)?, (true, true), "{one}");
     }
     Ok(())
 }
@@ -157,7 +158,7 @@ fn unequal_values(rt: HostRuntime) -> Result<(), Fail> {
         let order = first.cmp(&second);
         assert!(rt; order != Ordering::Equal, "{one}");
         check_values(&rt, &first, &second, order);
-        assert_eq!(rt; found(alloc, first, &second)?, (false, false), "{one}");
+        assert_eq!(rt; found(alloc, &first, &second)?, (false, false), "{one}");
     }
     Ok(())
 }

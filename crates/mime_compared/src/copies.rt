@@ -54,50 +54,39 @@ fn check_printed(rt: &impl Abort, printed: Printed, expected: &str) -> Result<()
 
 #[test]
 fn constants_are_printed(rt: HostRuntime) -> Result<(), AllocError> {
-    let alloc = rt.alloc();
     let plain = TEXT_PLAIN.mime();
     let utf_8 = TEXT_PLAIN_UTF_8.mime();
-    check_printed(&rt, format!(in alloc; "{plain}"), "text/plain")?;
     check_printed(
         &rt,
-        format!(in alloc; "{utf_8}"),
-        "text/plain; charset=utf-8",
-    )?;
-    check_printed(&rt, format!(in alloc; "{plain:>12}"), "  text/plain")?;
-    check_printed(&rt, format!(in alloc; "{plain:<12}|"), "text/plain  |")?;
-    check_printed(&rt, format!(in alloc; "{plain:*^14}"), "**text/plain**")?;
-    check_printed(&rt, format!(in alloc; "{plain:4}"), "text/plain")?;
-    check_printed(&rt, format!(in alloc; "{plain:?}"), "\"text/plain\"")
+        format!(in rt.alloc();
+            "{plain}|{plain:>12}|{plain:<12}|{plain:*^14}|{plain:4}|{plain:?}|{utf_8}"
+        ),
+        "text/plain|  text/plain|text/plain  |**text/plain**|text/plain|\"text/plain\"|text/plain; charset=utf-8",
+    )
 }
 
 #[test]
 fn values_are_printed(rt: HostRuntime) -> Result<(), Fail> {
-    static CASES: &[(&str, &str, &str, &str)] = &[
+    // As it is, within twelve characters, and by Debug.
+    static CASES: &[(&str, &str)] = &[
         (
             "A/B;P=\"x\"",
-            "a/b;p=\"x\"",
-            "   a/b;p=\"x\"",
-            "\"a/b;p=\\\"x\\\"\"",
+            "a/b;p=\"x\"|   a/b;p=\"x\"|\"a/b;p=\\\"x\\\"\"",
         ),
         (
             "a/b;p=\"\\é\"",
-            "a/b;p=\"\\é\"",
-            "  a/b;p=\"\\é\"",
-            "\"a/b;p=\\\"\\\\é\\\"\"",
+            "a/b;p=\"\\é\"|  a/b;p=\"\\é\"|\"a/b;p=\\\"\\\\é\\\"\"",
         ),
         (
             "a/b;p=\"\t\"",
-            "a/b;p=\"\t\"",
-            "   a/b;p=\"\t\"",
-            "\"a/b;p=\\\"\\t\\\"\"",
+            "a/b;p=\"\t\"|   a/b;p=\"\t\"|\"a/b;p=\\\"\\t\\\"\"",
         ),
     ];
     let alloc = rt.alloc();
-    for &(text, printed, wide, quoted) in CASES {
+    for &(text, expected) in CASES {
         let mime = Mime::from_str(alloc, text)?;
-        check_printed(&rt, format!(in alloc; "{mime}"), printed)?;
-        check_printed(&rt, format!(in alloc; "{mime:>12}"), wide)?;
-        check_printed(&rt, format!(in alloc; "{mime:?}"), quoted)?;
+        let printed = format!(in alloc; "{mime}|{mime:>12}|{mime:?}");
+        check_printed(&rt, printed, expected)?;
     }
     Ok(())
 }

@@ -146,6 +146,22 @@ fn a_value_that_was_read(rt: HostRuntime) -> Result<(), Fail> {
     Ok(())
 }
 
+/// Checks that a name of the one text that ignores case equals the other text if std says so.
+fn check_case(rt: &impl Abort, one: &[u8], other: &[u8]) {
+    let (Ok(text), Ok(other)) = (str::from_utf8(one), str::from_utf8(other)) else {
+        panic!(rt; "no text");
+    };
+    let name = Name {
+        text,
+        ignores_case: true,
+    };
+    assert_eq!(rt;
+        name_eq_str(&name, other),
+        text.eq_ignore_ascii_case(other),
+        "{text} and {other:?}"
+    );
+}
+
 /// Two texts of each length up to 40 bytes, of which one has each ASCII byte at each position.
 #[test]
 fn case_is_ignored_as_std_ignores_it(rt: HostRuntime) {
@@ -155,22 +171,7 @@ fn case_is_ignored_as_std_ignores_it(rt: HostRuntime) {
             let mut other = text;
             other[place] = byte;
             for length in place..=text.len() {
-                let texts = (
-                    str::from_utf8(&text[..length]),
-                    str::from_utf8(&other[..length]),
-                );
-                let (Ok(text), Ok(other)) = texts else {
-                    panic!(rt; "no text");
-                };
-                let name = Name {
-                    text,
-                    ignores_case: true,
-                };
-                assert_eq!(rt;
-                    name_eq_str(&name, other),
-                    text.eq_ignore_ascii_case(other),
-                    "{text} and {other:?}"
-                );
+                check_case(&rt, &text[..length], &other[..length]);
             }
         }
     }
@@ -226,29 +227,24 @@ fn check_printed(
 
 #[test]
 fn names_are_printed(rt: HostRuntime) -> Result<(), AllocError> {
-    let alloc = rt.alloc();
-    let accented = exact("é");
-    check_printed(&rt, format!(in alloc; "{TEXT}"), "text")?;
-    check_printed(&rt, format!(in alloc; "{TEXT:>6}"), "  text")?;
-    check_printed(&rt, format!(in alloc; "{TEXT:<6}|"), "text  |")?;
-    check_printed(&rt, format!(in alloc; "{TEXT:*^8}"), "**text**")?;
-    check_printed(&rt, format!(in alloc; "{TEXT:2}"), "text")?;
     // A width counts characters.
-    check_printed(&rt, format!(in alloc; "{accented:>6}"), "     é")?;
-    check_printed(&rt, format!(in alloc; "{accented:-<3}"), "é--")
+    let accented = exact("é");
+    check_printed(
+        &rt,
+        format!(in rt.alloc();
+            "{TEXT}|{TEXT:>6}|{TEXT:<6}|{TEXT:*^8}|{TEXT:2}|{accented:>6}|{accented:-<3}"
+        ),
+        "text|  text|text  |**text**|text|     é|é--",
+    )
 }
 
 #[test]
 fn names_are_quoted(rt: HostRuntime) -> Result<(), AllocError> {
-    let alloc = rt.alloc();
     let quoted = exact("\"é\\");
     let controls = exact("\n\t\u{7F}\0");
-    check_printed(&rt, format!(in alloc; "{TEXT:?}"), "\"text\"")?;
-    check_printed(&rt, format!(in alloc; "{quoted}"), "\"é\\")?;
-    check_printed(&rt, format!(in alloc; "{quoted:?}"), "\"\\\"é\\\\\"")?;
     check_printed(
         &rt,
-        format!(in alloc; "{controls:?}"),
-        "\"\\n\\t\\u{7f}\\0\"",
+        format!(in rt.alloc(); "{TEXT:?} {quoted} {quoted:?} {controls:?}"),
+        "\"text\" \"é\\ \"\\\"é\\\\\" \"\\n\\t\\u{7f}\\0\"",
     )
 }

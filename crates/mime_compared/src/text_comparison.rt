@@ -146,6 +146,7 @@ static UNEQUAL: &[(&str, &str)] = &[
     ("a/b;p=x", "a/b;p=x;q=y"),
     ("a/b;p=x;q=y", "a/b;p=x"),
     ("a/b;p=x;q=y", "a/b;p=x;q=z"),
+    ("a/b;p=x;q=z", "a/b;p=x;q=y"),
     ("a/b;p=x;q=y", "a/b;q=y;p=x"),
     ("a/b;q=y;p=x", "A/B; P=\"x\"; Q=\"y\""),
     // The same bytes in one run, cut at other positions.
@@ -155,6 +156,7 @@ static UNEQUAL: &[(&str, &str)] = &[
     ("a/b;p=x;q=y", "a/b;p=\"x;q=y\""),
     ("a/b; charset=x; p=Y", "A/B; CHARSET=X; P=y"),
     ("a/b; charset=utf-8", "a/b; charset=utf-9"),
+    ("a/b; charset=utf-9", "a/b; charset=utf-8"),
     ("text/plain; charset=utf-8", "text/plain; charset=utf-9"),
     ("text/plain; charset=utf-8", "next/plain; charset=utf-8"),
     ("text/plain; charset=utf-8", "text/plaim; charset=utf-8"),

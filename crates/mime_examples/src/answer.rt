@@ -49,36 +49,3 @@ pub fn refusal(alloc: Global, content_type: &str) -> Option<u16>
         Err(error) => Some(status_of(error.fault())),
     }
 }
-
-#[cfg(test)]
-mod tests {
-    use super::*;
-
-    #[test]
-    fn each_fault_is_answered(rt: HostRuntime) {
-        for (content_type, want) in [
-            ("application/json", None),
-            ("Application/JSON;", None),
-            ("application/json; charset=utf-8", None),
-            ("Application/JSON;q=1", None),
-            ("text/plain", Some(415)),
-            ("application/problem+json", Some(415)),
-            ("text/plain; a=\"application/json\"", Some(415)),
-            ("json", Some(400)),
-            ("application/", Some(400)),
-            ("application/json;q", Some(400)),
-            ("application/json;q=", Some(400)),
-            ("application/json;q=\"1", Some(400)),
-            ("application/json;;", Some(400)),
-            ("application json", Some(400)),
-            ("", Some(400)),
-        ] {
-            assert_eq!(rt;
-                refusal(rt.alloc(), content_type),
-                want,
-                "at {content_type}"
-            );
-        }
-        assert_eq!(rt; status_of(&ParseError::NoMemory), 503);
-    }
-}

@@ -50,27 +50,3 @@ pub fn reads_alike(alloc: Global, text: &str) -> Result<bool, FromStrError>
     one_reading();
     Ok(first == second)
 }
-
-#[cfg(test)]
-mod tests {
-    use super::*;
-    use std::test::Fail;
-
-    #[test]
-    fn suffixes_and_parameters_are_told(rt: HostRuntime) -> Result<(), Fail> {
-        for (text, suffix, param) in [
-            ("image/svg+xml", true, false),
-            ("a/b+c; Q=1", true, true),
-            ("a/b; p=q; r=s", false, false),
-            ("a/b; p=x; q=y; q=z", false, true),
-        ] {
-            assert_eq!(rt; has_suffix(rt.alloc(), text)?, suffix, "at {text}");
-            let mime = printed(rt.alloc(), text)?;
-            assert_eq!(rt; has_param(&mime, "q"), param, "at {text}");
-            assert!(rt; reads_alike(rt.alloc(), text)?, "at {text}");
-        }
-        assert!(rt; has_suffix(rt.alloc(), "image svg").is_err());
-        assert!(rt; printed(rt.alloc(), "a/b;p").is_err());
-        Ok(())
-    }
-}

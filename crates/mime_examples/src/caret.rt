@@ -21,28 +21,3 @@ pub fn caret_line(alloc: Global, text: &str, error: &FromStrError) -> Result<Str
     line.push('^')?;
     Ok(line)
 }
-
-#[cfg(test)]
-mod tests {
-    use super::*;
-    use mime::Mime;
-    use std::test::Fail;
-
-    #[test]
-    fn a_caret_is_under_the_fault(rt: HostRuntime) -> Result<(), Fail> {
-        for (text, want) in [
-            ("text plain", "    ^"),
-            ("text", "    ^"),
-            ("", "^"),
-            ("a/b;p=\"é\"x", "         ^"),
-            ("a/b;é", "    ^"),
-            ("a/b ;p=x", "   ^"),
-            ("a/b;p=\"x", "        ^"),
-        ] {
-            let error = Mime::from_str(rt.alloc(), text).err().ok_or("a fault")?;
-            let line = caret_line(rt.alloc(), text, &error)?;
-            assert_eq!(rt; line.as_str(), want, "at {text}");
-        }
-        Ok(())
-    }
-}

@@ -15,25 +15,3 @@ pub fn extensions(alloc: Global) -> Result<HashMap<Mime, &'static str>, AllocErr
     extensions.insert(IMAGE_PNG.mime(), "png")?;
     Ok(extensions)
 }
-
-#[cfg(test)]
-mod tests {
-    use super::*;
-    use std::test::Fail;
-
-    #[test]
-    fn an_extension_is_found_by_an_equal_value(rt: HostRuntime) -> Result<(), Fail> {
-        let extensions = extensions(rt.alloc())?;
-        for (text, want) in [
-            ("text/html; charset=utf-8", Some("html")),
-            ("TEXT/HTML;Charset=\"UTF-8\"", Some("html")),
-            ("application/JSON", Some("json")),
-            ("image/png", Some("png")),
-            ("text/html", None),
-        ] {
-            let mime = Mime::from_str(rt.alloc(), text)?;
-            assert_eq!(rt; extensions.get(&mime).copied(), want, "at {text}");
-        }
-        Ok(())
-    }
-}

@@ -1,6 +1,9 @@
 //! A handler chosen by constants.
 
-use mime::{APPLICATION_JSON, APPLICATION_WWW_FORM_URLENCODED, Mime};
+ghost use Rattle.std.specs.Prelude.{◌≡◌, ◌↔◌, codes, Some, None};
+ghost use Rattle.mime.specs.Values.{type_of, subtype_of, suffix_of};
+
+use mime::{APPLICATION, JSON, Mime, WWW_FORM_URLENCODED};
 
 /// What a server does with a body.
 #[derive(Clone, Copy, PartialEq, Eq, Debug)]
@@ -13,35 +16,16 @@ pub enum Handler {
     Refuse,
 }
 
-/// The handler of a body, chosen by comparing its media type with constants. One with any parameter
-/// equals neither, and is refused.
-pub fn handler_of(mime: &Mime) -> Handler {
-    if *mime == APPLICATION_JSON.mime() {
-        return Handler::Json;
-    }
-    if *mime == APPLICATION_WWW_FORM_URLENCODED.mime() {
-        return Handler::Form;
-    }
-    Handler::Refuse
-}
-
-#[cfg(test)]
-mod tests {
-    use super::*;
-    use std::test::Fail;
-
-    #[test]
-    fn a_handler_is_chosen_by_constants(rt: HostRuntime) -> Result<(), Fail> {
-        for (text, want) in [
-            ("application/json", Handler::Json),
-            ("Application/JSON; ", Handler::Json),
-            ("application/x-www-form-urlencoded", Handler::Form),
-            ("application/json; q=1", Handler::Refuse),
-            ("text/plain", Handler::Refuse),
-        ] {
-            let mime = Mime::from_str(rt.alloc(), text)?;
-            assert_eq!(rt; handler_of(&mime), want, "at {text}");
-        }
-        Ok(())
+/// The handler of a body by its media type, whatever the parameters are.
+pub fn handler_of(mime: &Mime) -> Handler
+    ensures json { (result ≡ Handler.Json) ↔ ((type_of mime.now.media ≡ codes "application")
+        × (subtype_of mime.now.media ≡ codes "json") × (suffix_of mime.now.media ≡ None)) }
+    ensures form { (result ≡ Handler.Form) ↔ ((type_of mime.now.media ≡ codes "application")
+        × (subtype_of mime.now.media ≡ codes "x-www-form-urlencoded") × (suffix_of mime.now.media ≡ None)) }
+{
+    match (mime.type_(), mime.subtype(), mime.suffix()) {
+        (APPLICATION, JSON, None) => Handler::Json,
+        (APPLICATION, WWW_FORM_URLENCODED, None) => Handler::Form,
+        _ => Handler::Refuse,
     }
 }

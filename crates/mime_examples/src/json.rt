@@ -17,27 +17,3 @@ pub fn is_json(mime: &Mime) -> bool
     mime.suffix()
         .is_some_and(|suffix| suffix.as_str() == "json")
 }
-
-#[cfg(test)]
-mod tests {
-    use super::*;
-    use std::test::Fail;
-
-    #[test]
-    fn json_is_told(rt: HostRuntime) -> Result<(), Fail> {
-        for (text, want) in [
-            ("application/json", true),
-            ("Application/JSON; charset=latin1", true),
-            ("application/problem+json", true),
-            ("application/a+b+JSON; q=1", true),
-            ("application/json+xml", false),
-            ("application/json-seq", false),
-            ("text/plain; a=json", false),
-            ("a/+json", false),
-        ] {
-            let mime = Mime::from_str(rt.alloc(), text)?;
-            assert_eq!(rt; is_json(&mime), want, "at {text}");
-        }
-        Ok(())
-    }
-}

@@ -17,26 +17,3 @@ pub fn reader_of(content_type: &str) -> &'static str {
     }
     "bytes"
 }
-
-#[cfg(test)]
-mod tests {
-    use super::*;
-
-    #[test]
-    fn a_content_type_finds_its_reader(rt: HostRuntime) {
-        for (content_type, want) in [
-            ("application/json", "json"),
-            ("Application/JSON", "json"),
-            // A type without parameters equals no text with a semicolon.
-            ("application/json;", "bytes"),
-            ("application/json; charset=utf-8", "bytes"),
-            ("application/x-www-form-urlencoded", "form"),
-            ("text/plain; charset=utf-8", "text"),
-            ("Text/Plain;Charset=\"UTF-8\"", "text"),
-            ("text/plain", "bytes"),
-            ("text", "bytes"),
-        ] {
-            assert_eq!(rt; reader_of(content_type), want, "at {content_type}");
-        }
-    }
-}

@@ -24,32 +24,3 @@ pub fn unescape(value: &str, buffer: &mut Vec<u8>) -> Result<(), AllocError>
     }
     Ok(())
 }
-
-#[cfg(test)]
-mod tests {
-    use super::*;
-    use mime::{Mime, TextKey};
-    use std::test::Fail;
-
-    #[test]
-    fn values_mean_what_they_say_without_backslashes(rt: HostRuntime) -> Result<(), Fail> {
-        let mut buffer = Vec::new(rt.alloc());
-        for (text, want) in [
-            ("a/b;p=x", "x"),
-            ("a/b;p=\"\"", ""),
-            ("a/b;p=\"x y\"", "x y"),
-            ("a/b;p=\"\\\"x\\\"\"", "\"x\""),
-            ("a/b;p=\"\\\\\\\\x\\é\\\t\"", "\\\\xé\t"),
-        ] {
-            let mime = Mime::from_str(rt.alloc(), text)?;
-            let value = mime.get_param(TextKey("p")).ok_or("no p")?;
-            buffer.clear();
-            unescape(value.text, &mut buffer)?;
-            assert_eq!(rt; str::from_utf8(buffer.as_slice())?, want, "{text}");
-        }
-        // What the buffer has stays; a final backslash adds nothing.
-        unescape("\\x\\", &mut buffer)?;
-        assert_eq!(rt; str::from_utf8(buffer.as_slice())?, "\\\\xé\tx");
-        Ok(())
-    }
-}

@@ -1,41 +1,42 @@
-//! What strangers send: prints a table of malicious texts, or does one thing with each line of standard input, between the
-//! lines `now` and `end` that it writes. Between them tools/refused_requests refuses one of its requests for memory.
+//! What strangers send: reads each line of standard input, takes the media types in it, and prints what that gives. With an
+//! argument it does one thing with each line, between the lines `now` and `end` that it writes: between them
+//! tools/refused_requests refuses one of its requests for memory, and tools/largest_inputs counts what the longest texts cost.
 #![tactic(auto)]
 
-mod table;
-
-use crate::table::print_table;
-use mime::{Bad, Mime, MimeIter};
-use std::alloc::Global;
+use mime::{Bad, Mime, MimeIter, mime_eq_str};
 use std::env::Env;
+use std::hash::{DefaultHasher, Hash, Hasher};
 use std::io::Read;
 use std::process::ExitCode;
 use std::{env, io};
 
-/// What the program does.
+/// What the program does with a line.
 #[derive(Clone, Copy)]
 enum Task {
-    /// The table is printed.
-    Table,
-    /// Each line is read.
+    /// It is read, the media types in it are taken, and the steps that this took are printed.
+    All,
+    /// It is read.
     Read,
     /// What was read of it is cloned.
     Clone,
     /// The media types in it are taken one by one.
     Items,
+    /// What is before its first tab is compared with the rest.
+    Compare,
 }
 
-/// The task that the one argument names, or the table where there is none.
+/// The task that the one argument names, or all where there is none.
 fn asked_task<R: Env + Alloc>(rt: &R) -> Option<Task> {
     let mut args = env::args(rt).ok()?;
     let _program = args.next();
     let Some(word) = args.next() else {
-        return Some(Task::Table);
+        return Some(Task::All);
     };
     let task = match word.as_str() {
         "read" => Task::Read,
         "clone" => Task::Clone,
         "items" => Task::Items,
+        "compare" => Task::Compare,
         _ => return None,
     };
     if args.next().is_some() {
@@ -46,7 +47,7 @@ fn asked_task<R: Env + Alloc>(rt: &R) -> Option<Task> {
 
 fn main(rt: HostRuntime) -> ExitCode {
     let Some(task) = asked_task(&rt) else {
-        let _ = eprintln!(rt; "usage: mime_hostile [read|clone|items]");
+        let _ = eprintln!(rt; "usage: mime_hostile [read|clone|items|compare]");
         return ExitCode::from(2);
     };
     match done(&rt, task) {
@@ -55,22 +56,31 @@ fn main(rt: HostRuntime) -> ExitCode {
     }
 }
 
-/// Reads standard input, and does the task.
+/// Does the task with each line of standard input.
 fn done(rt: &HostRuntime, task: Task) -> io::Result<()> {
     let mut input = String::new(rt.alloc());
     rt.stdin().read_to_string(&mut input)?;
-    if let Task::Table = task {
-        return print_table(rt);
-    }
     for text in input.as_str().split('\n') {
         match task {
+            Task::All => all(rt, text)?,
+            Task::Read => read(rt, text)?,
             Task::Clone => clone(rt, text)?,
-            Task::Items => items(rt, text)?,
-            _ => read(rt, text)?,
+            Task::Items => {
+                items(rt, text)?;
+            }
+            Task::Compare => compare(rt, text)?,
         }
         println!(rt; "end")?;
     }
     Ok(())
+}
+
+/// Prints a text, what it is read as, the media types and pieces that it is cut into, and the steps.
+fn all(rt: &HostRuntime, text: &str) -> io::Result<()> {
+    println!(rt; "text {text}")?;
+    read(rt, text)?;
+    let steps = items(rt, text)?;
+    println!(rt; "steps {steps}")
 }
 
 /// Reads a text, and prints what it was read as, or the fault.
@@ -96,16 +106,45 @@ fn clone(rt: &HostRuntime, text: &str) -> io::Result<()> {
     println!(rt; "original {}", original.as_str())
 }
 
-/// Takes the media types in a text one by one.
-fn items(rt: &HostRuntime, text: &str) -> io::Result<()> {
+/// Takes the media types in a text one by one, and gives the steps.
+fn items(rt: &HostRuntime, text: &str) -> io::Result<u128> {
     let mut iter = MimeIter::new(rt.alloc(), text);
     println!(rt; "now")?;
-    for item in iter {
+    while let Some(item) = iter.next() {
         match item {
             Ok(mime) => println!(rt; "ok {}", mime.as_str())?,
             Err(Bad::Piece(piece)) => println!(rt; "bad {piece}")?,
             Err(Bad::NoMemory) => println!(rt; "no memory")?,
         }
     }
-    Ok(())
+    Ok(iter.steps())
+}
+
+/// Compares what two texts were read as, which a tab divides: whether they are equal, in order and by their hashes, and the
+/// first with the second's text.
+fn compare(rt: &HostRuntime, texts: &str) -> io::Result<()> {
+    println!(rt; "now")?;
+    let Some((first, second)) = texts.split_once('\t') else {
+        return println!(rt; "no tab");
+    };
+    let (Ok(one), Ok(other)) = (
+        Mime::from_str(rt.alloc(), first),
+        Mime::from_str(rt.alloc(), second),
+    ) else {
+        return println!(rt; "not two media types");
+    };
+    let by_order = one.cmp(&other).is_eq();
+    let by_hash = hash_of(&one) == hash_of(&other);
+    let by_text = mime_eq_str(&one, second);
+    println!(rt;
+        "equal {}, by order {by_order}, by hash {by_hash}, by text {by_text}",
+        one == other
+    )
+}
+
+/// What a hasher makes of a media type.
+fn hash_of(mime: &Mime) -> u64 {
+    let mut hasher = DefaultHasher::new();
+    mime.hash(&mut hasher);
+    hasher.finish()
 }

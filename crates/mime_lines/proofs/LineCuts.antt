@@ -16,11 +16,15 @@ unwrap_or-within : (n bound : ℕ) → n ≤ bound → unwrap_or (cond (ltb n bo
 unwrap_or-within n bound h = grind (arith, nat_tests)
 
 -- a position that is found, or the length
-pub unwrap_or-position : (p : ℕ → Bool) (xs : List ℕ) (r : Option ℕ) → r ≡ cond (ltb (position_or_len p xs) (length xs)) (Some (position_or_len p xs)) None → unwrap_or r (length xs) ≡ position_or_len p xs
-unwrap_or-position p xs r e = ap (λ found. unwrap_or found (length xs)) e ∙ unwrap_or-within (position_or_len p xs) (length xs) (prefix_len-le-length (λ x. not (p x)) xs)
+pub unwrap_or-position : (p : ℕ → Bool) (xs : List ℕ) (r : Option ℕ)
+    → r ≡ cond (ltb (position_or_len p xs) (length xs)) (Some (position_or_len p xs)) None → unwrap_or r (length xs) ≡ position_or_len p xs
+unwrap_or-position p xs r e =
+    ap (λ found. unwrap_or found (length xs)) e
+    ∙ unwrap_or-within (position_or_len p xs) (length xs) (prefix_len-le-length (λ x. not (p x)) xs)
 
 -- a first line with one more byte in front of it
-front-shift : (n b : ℕ) (xs : List ℕ) → (b ∷ take n xs) ∷ lines_of (drop (n + 1) xs) ≡ take (1 + n) (b ∷ xs) ∷ lines_of (drop (1 + n + 1) (b ∷ xs))
+front-shift : (n b : ℕ) (xs : List ℕ)
+    → (b ∷ take n xs) ∷ lines_of (drop (n + 1) xs) ≡ take (1 + n) (b ∷ xs) ∷ lines_of (drop (1 + n + 1) (b ∷ xs))
 front-shift n b xs =
     let s : 1 + n ≡ suc n = omega arith in
     let t : 1 + n + 1 ≡ suc (n + 1) = omega arith in
@@ -28,19 +32,27 @@ front-shift n b xs =
     let q : drop (1 + n + 1) (b ∷ xs) ≡ drop (n + 1) xs = ap (λ k. drop k (b ∷ xs)) t in
     cc
 
--- one more byte in front of bytes whose first line is known
-front-lines : (is_end : Bool) (n b : ℕ) (bytes : List ℕ) → (0 < length bytes → lines_of bytes ≡ take n bytes ∷ lines_of (drop (n + 1) bytes)) → (length bytes ≡ 0 → n ≡ 0) → cond is_end ([] ∷ lines_of bytes) (onto_first b (lines_of bytes)) ≡ take (cond (not is_end) (1 + n) 0) (b ∷ bytes) ∷ lines_of (drop (cond (not is_end) (1 + n) 0 + 1) (b ∷ bytes))
+-- the first line of a byte and of bytes whose first line is known
+front-lines : (is_end : Bool) (n b : ℕ) (bytes : List ℕ)
+    → (0 < length bytes → lines_of bytes ≡ take n bytes ∷ lines_of (drop (n + 1) bytes)) → (length bytes ≡ 0 → n ≡ 0)
+    → cond is_end ([] ∷ lines_of bytes) (onto_first b (lines_of bytes))
+    ≡ take (cond (not is_end) (1 + n) 0) (b ∷ bytes) ∷ lines_of (drop (cond (not is_end) (1 + n) 0 + 1) (b ∷ bytes))
 front-lines true n b bytes cut none = refl
 front-lines false n b [] cut none = rw (none refl) refl
 front-lines false n b (c ∷ bytes) cut none = ap (onto_first b) (cut (omega arith)) ∙ front-shift n b (c ∷ bytes)
 
 -- the first line, and the lines after its end
-pub lines_of-first : (bytes : List ℕ) → 0 < length bytes → lines_of bytes ≡ take (position_or_len (λ b. nat_eq b 10) bytes) bytes ∷ lines_of (drop (position_or_len (λ b. nat_eq b 10) bytes + 1) bytes)
+pub lines_of-first : (bytes : List ℕ) → 0 < length bytes
+    → lines_of bytes
+    ≡ take (position_or_len (λ b. nat_eq b 10) bytes) bytes ∷ lines_of (drop (position_or_len (λ b. nat_eq b 10) bytes + 1) bytes)
 lines_of-first [] h = absurd (omega arith)
-lines_of-first (b ∷ bytes) h = front-lines (nat_eq b 10) (position_or_len (λ b. nat_eq b 10) bytes) b bytes (lines_of-first bytes) (λ e. omega (arith, prefix_len-le-length (λ b. not (nat_eq b 10)) bytes))
+lines_of-first (b ∷ bytes) h =
+    front-lines (nat_eq b 10) (position_or_len (λ b. nat_eq b 10) bytes) b bytes (lines_of-first bytes)
+    (λ e. omega (arith, prefix_len-le-length (λ b. not (nat_eq b 10)) bytes))
 
 -- a line that ends before the end of the bytes ends with byte 10
-pub line_end-found : (bytes : List ℕ) (end : ℕ) → end ≡ position_or_len (λ b. nat_eq b 10) bytes → end < length bytes → slice_get bytes end ≡ Some 10
+pub line_end-found : (bytes : List ℕ) (end : ℕ) → end ≡ position_or_len (λ b. nat_eq b 10) bytes → end < length bytes
+    → slice_get bytes end ≡ Some 10
 line_end-found bytes end is within = slice_get-first_position 10 bytes end is within
 
 -- the first line, and the lines after its end, where these are known
@@ -59,15 +71,17 @@ lines_of-last bytes end some is past =
 pub drop-after : (n : ℕ) (xs : List ℕ) → drop (n + 1) xs ≡ take (length xs - min (n + 1) (length xs)) (drop (min (n + 1) (length xs)) xs)
 drop-after n xs = grind (arith, common_steps)
 
--- one more byte in front of bytes that were passed
-one_more_passed : (is_end any : Bool) (n l m : ℕ) → (is_end || any) ≡ false → (any ≡ false → n ≡ l + m) → cond (not is_end) (1 + n) 0 ≡ suc l + m
+-- a byte and bytes that were passed are passed
+one_more_passed : (is_end any : Bool) (n l m : ℕ) → (is_end || any) ≡ false → (any ≡ false → n ≡ l + m)
+    → cond (not is_end) (1 + n) 0 ≡ suc l + m
 one_more_passed true any n l m none rest = absurd (true≢false none)
 one_more_passed false any n l m none rest = omega (arith, rest none)
 
 -- bytes without an end of a line are passed
 passed_all : (p : ℕ → Bool) (xs ys : List ℕ) → list_any p xs ≡ false → position_or_len p (xs ++ ys) ≡ length xs + position_or_len p ys
 passed_all p [] ys none = sym (zero-add (position_or_len p ys))
-passed_all p (x ∷ xs) ys none = one_more_passed (p x) (list_any p xs) (position_or_len p (xs ++ ys)) (length xs) (position_or_len p ys) none (passed_all p xs ys)
+passed_all p (x ∷ xs) ys none =
+    one_more_passed (p x) (list_any p xs) (position_or_len p (xs ++ ys)) (length xs) (position_or_len p ys) none (passed_all p xs ys)
 
 -- after the first `n` bytes the next `k` are passed too
 pub passed_onward : (p : ℕ → Bool) (xs : List ℕ) (n k j : ℕ) → j ≡ k → n + k ≤ length xs → list_any p (take j (drop n xs)) ≡ false
@@ -75,8 +89,10 @@ pub passed_onward : (p : ℕ → Bool) (xs : List ℕ) (n k j : ℕ) → j ≡ k
 passed_onward p xs n k j size within none at =
     let front = take j (drop n xs) in
     let room : j ≤ length (drop n xs) = omega (arith, length-drop n xs) in
-    let cut : position_or_len p (drop n xs) ≡ position_or_len p (front ++ drop j (drop n xs)) = ap (position_or_len p) (sym (take-append-drop j (drop n xs))) in
-    let rest : position_or_len p (drop j (drop n xs)) ≡ position_or_len p (drop (n + k) xs) = ap (position_or_len p) (drop-drop j n xs ∙ ap (λ i. drop (n + i) xs) size) in
+    let cut : position_or_len p (drop n xs) ≡ position_or_len p (front ++ drop j (drop n xs)) =
+    ap (position_or_len p) (sym (take-append-drop j (drop n xs))) in
+    let rest : position_or_len p (drop j (drop n xs)) ≡ position_or_len p (drop (n + k) xs) =
+    ap (position_or_len p) (drop-drop j n xs ∙ ap (λ i. drop (n + i) xs) size) in
     omega (arith, at, cut, passed_all p front (drop j (drop n xs)) none, length-take-le j (drop n xs) room, rest)
 
 -- the end of a line after what was passed is that of the whole

@@ -21,7 +21,8 @@ given_rows (item ∷ items) = row (codes "param ") (item.name ++ (codes "=" ++ i
 -- the rows of the items of pairs are those of the pairs
 pub given_rows-items_of : (pairs : List (List ℕ × List ℕ)) → given_rows (items_of pairs) ≡ param_rows pairs
 given_rows-items_of [] = refl
-given_rows-items_of ((name, value) ∷ pairs) = ap (λ rows. row (codes "param ") (name ++ (codes "=" ++ value)) ++ rows) (given_rows-items_of pairs)
+given_rows-items_of ((name, value) ∷ pairs) =
+    ap (λ rows. row (codes "param ") (name ++ (codes "=" ++ value)) ++ rows) (given_rows-items_of pairs)
 
 -- what a call that succeeds added is the report
 pub reported : {E : Type 0} (R : List ℕ → Type 0) (result : Result (Unit {0}) E) (rows old new : List ℕ) → R rows
@@ -70,9 +71,11 @@ listing-end text left old new listing (rest, cut) =
     (item_rows all.0, listed all.0 rest all.1, sym (append-nil new) ∙ sym all.2)
 
 -- where no parameters are left all rows are added
-pub param_rows-end : (old new : List ℕ) (all left : List Item) (pairs : List (List ℕ × List ℕ)) → left ≡ [] → all ≡ items_of pairs → new ++ given_rows left ≡ old ++ given_rows all → new ≡ old ++ param_rows pairs
+pub param_rows-end : (old new : List ℕ) (all left : List Item) (pairs : List (List ℕ × List ℕ)) → left ≡ [] → all ≡ items_of pairs
+    → new ++ given_rows left ≡ old ++ given_rows all → new ≡ old ++ param_rows pairs
 param_rows-end old new all left pairs none items added =
-    sym (append-nil new) ∙ ap (λ xs. new ++ given_rows xs) (sym none) ∙ added ∙ ap (λ xs. old ++ given_rows xs) items ∙ ap (λ rows. old ++ rows) (given_rows-items_of pairs)
+    sym (append-nil new) ∙ ap (λ xs. new ++ given_rows xs) (sym none) ∙ added ∙ ap (λ xs. old ++ given_rows xs) items
+    ∙ ap (λ rows. old ++ rows) (given_rows-items_of pairs)
 
 -- an error other than that memory ran out is the text's fault
 pub fault-explained : (text : List ℕ) (fault : ParseError) → Explains text fault → fault ≢ NoMemory → IsFault text fault

@@ -57,6 +57,20 @@ impl Read for EndlessReader {
     }
 }
 
+/// Gives as many of its bytes as it is asked for, and counts the reads.
+#[derive(Drop)]
+struct CountingReader<'a> {
+    left: &'a [u8],
+    reads: usize,
+}
+
+impl Read for CountingReader<'_> {
+    fn read(&mut self, buf: &mut [u8]) -> io::Result<usize> {
+        self.reads = self.reads.wrapping_add(1);
+        self.left.read(buf)
+    }
+}
+
 /// Keeps what it is given, one byte a write, and fails where its room is full, or at each flush.
 #[derive(Drop)]
 struct FailingWriter {
@@ -201,6 +215,22 @@ fn check_report(
     Ok(())
 }
 
+/// The report is this where bytes are read and written many at a time, and one by one.
+fn check_row(
+    rt: &impl Abort,
+    alloc: Global,
+    mode: Mode,
+    input: &[u8],
+    report: &str,
+) -> Result<(), Fail> {
+    let whole = run_in(mode, alloc, input);
+    check_report(rt, alloc, &whole, report)?;
+    let slowly_read = run_in(mode, alloc, SlowReader { left: input });
+    check_report(rt, alloc, &slowly_read, report)?;
+    let slowly_written = run_to(mode, alloc, input, report.len(), false);
+    check_report(rt, alloc, &slowly_written, report)
+}
+
 #[test]
 fn reports_each_line(rt: HostRuntime) -> Result<(), Fail> {
     static ROWS: &[(&[u8], &str)] = &[
@@ -214,6 +244,11 @@ fn reports_each_line(rt: HostRuntime) -> Result<(), Fail> {
             b"TEXT/HTML+XML; Charset=\"UTF-8\" ;q=1",
             "ok text/html+xml; charset=\"utf-8\" ;q=1\ntype text\nsubtype html\nsuffix xml\n\
              param charset=utf-8\nparam q=1\n",
+        ),
+        (
+            b"a/b;p=\"x, y\",\na/b;P=\"x, y\"; q=z",
+            "bad mime parse error: an invalid token was encountered, 2C at position 12\n\
+             ok a/b;p=\"x, y\"; q=z\ntype a\nsubtype b\nparam p=x, y\nparam q=z\n",
         ),
         (
             b"a/b+;p=;",
@@ -251,10 +286,7 @@ fn reports_each_line(rt: HostRuntime) -> Result<(), Fail> {
         ),
     ];
     for &(input, report) in ROWS {
-        let whole = run_over(rt.alloc(), input);
-        check_report(&rt, rt.alloc(), &whole, report)?;
-        let slow = run_over(rt.alloc(), SlowReader { left: input });
-        check_report(&rt, rt.alloc(), &slow, report)?;
+        check_row(&rt, rt.alloc(), Mode::Parts, input, report)?;
     }
     Ok(())
 }
@@ -286,10 +318,7 @@ fn reports_the_items_of_each_line(rt: HostRuntime) -> Result<(), Fail> {
         ),
     ];
     for &(input, report) in ROWS {
-        let whole = run_in(Mode::List, rt.alloc(), input);
-        check_report(&rt, rt.alloc(), &whole, report)?;
-        let slow = run_in(Mode::List, rt.alloc(), SlowReader { left: input });
-        check_report(&rt, rt.alloc(), &slow, report)?;
+        check_row(&rt, rt.alloc(), Mode::List, input, report)?;
     }
     Ok(())
 }
@@ -318,6 +347,27 @@ fn takes_1048576_bytes_and_no_more(rt: HostRuntime) -> Result<(), Fail> {
     assert_eq!(rt; long.answer, Err(RunError::TooLong));
     assert_eq!(rt; long.written.len(), 0);
     assert!(rt; !long.source_failed && !long.sink_failed);
+    Ok(())
+}
+
+#[test]
+fn reads_many_bytes_at_a_time(rt: HostRuntime) -> Result<(), Fail> {
+    let letters = vec![in rt.alloc(); b'a'; 65_536]?;
+    let mut source = Device {
+        inner: CountingReader {
+            left: letters.as_slice(),
+            reads: 0,
+        },
+        failed: false,
+    };
+    let mut sink = Device {
+        inner: Vec::new(rt.alloc()),
+        failed: false,
+    };
+    let answer = run(rt.alloc(), &mut source, &mut sink, Mode::Parts);
+    assert_eq!(rt; answer, Ok(()));
+    let reads = source.inner.reads;
+    assert!(rt; reads <= 100, "{reads} reads");
     Ok(())
 }
 
@@ -358,6 +408,57 @@ fn passes_on_what_it_writes(rt: HostRuntime) {
         );
         assert!(rt; !sink.is_pending, "after {} bytes", input.len());
     }
+}
+
+/// All memory, in blocks from the largest to the smallest that could be taken, or none where memory
+/// doesn't end: the address sanitizer of `rt try` takes and gives it in a way of its own.
+fn all_memory(alloc: Global) -> Result<Option<Vec<Vec<u8>>>, Fail> {
+    const BLOCKS: usize = 1 << 17;
+    let mut blocks = Vec::with_capacity(alloc, BLOCKS)?;
+    let mut size = 1usize << 46;
+    for _ in 0..BLOCKS {
+        match Vec::with_capacity(alloc, size) {
+            Ok(block) => blocks.push(block)?,
+            Err(_) if size > 1_024 => size /= 2,
+            Err(_) if size > 8 => size -= 8,
+            Err(_) => return Ok(Some(blocks)),
+        }
+    }
+    Ok(None)
+}
+
+/// What a run over `a/b` answers, and the bytes that it wrote to a slice of 24 bytes.
+fn run_to_slice(alloc: Global, mode: Mode, room: &mut [u8; 24]) -> (Result<(), RunError>, usize) {
+    let mut source = Device {
+        inner: b"a/b".as_slice(),
+        failed: false,
+    };
+    let mut sink = Device {
+        inner: room.as_mut_slice(),
+        failed: false,
+    };
+    let answer = run(alloc, &mut source, &mut sink, mode);
+    (answer, 24usize.saturating_sub(sink.inner.len()))
+}
+
+#[test]
+fn writes_nothing_without_memory(rt: HostRuntime) -> Result<(), Fail> {
+    for (mode, report) in [
+        (Mode::Parts, b"ok a/b\ntype a\nsubtype b\n".as_slice()),
+        (Mode::List, b"ok a/b\n"),
+    ] {
+        let mut room = [0u8; 24];
+        let Some(blocks) = all_memory(rt.alloc())? else {
+            return Ok(());
+        };
+        let refused = run_to_slice(rt.alloc(), mode, &mut room);
+        drop(blocks);
+        assert_eq!(rt; refused, (Err(RunError::NoMemory), 0));
+        let done = run_to_slice(rt.alloc(), mode, &mut room);
+        assert_eq!(rt; done, (Ok(()), report.len()));
+        assert!(rt; &room[..report.len()] == report);
+    }
+    Ok(())
 }
 
 #[test]

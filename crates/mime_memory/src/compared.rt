@@ -62,13 +62,14 @@ fn is_same(first: &Mime, second: &Mime) -> bool {
 /// A copy of a value that was read asks once, for its text; refused, it leaves the value as it was.
 #[test]
 fn one_request_for_each_copy(rt: HostRuntime) -> Result<(), Fail> {
-    let alloc = rt.alloc();
-    for text in [
+    static TEXTS: &[&str] = &[
         "TEXT/PLAIN; CHARSET=UTF-8; FOO=BAR",
         "a/b;p=x; ",
         "a/b;p=x",
         "image/svg+xml",
-    ] {
+    ];
+    let alloc = rt.alloc();
+    for &text in TEXTS {
         let mime = Mime::from_str(alloc, text)?;
         let like = Mime::from_str(alloc, text)?;
         // The one free block has the size of the kept text.

@@ -37,6 +37,10 @@ fn reads_without_memory(rt: HostRuntime) -> Result<(), Fail> {
         ("a/b;p=\"\\\"", Some(ParseError::MissingQuote)),
         ("a b", Some(ParseError::InvalidToken { pos: 1, byte: 0x20 })),
         (
+            "a/b\n",
+            Some(ParseError::InvalidToken { pos: 3, byte: 0xA }),
+        ),
+        (
             "text/;",
             Some(ParseError::InvalidToken { pos: 5, byte: 0x3B }),
         ),

@@ -1,5 +1,7 @@
 //! The constant media types: their texts and parts, and that their texts are read as them.
 
+ghost use Rattle.std.specs.Prelude.{◌≡◌, ◌↔◌, ◌⊎◌, IsTrue};
+
 use crate::described::parts_of;
 use mime::{
     APPLICATION_JAVASCRIPT, APPLICATION_JAVASCRIPT_UTF_8, APPLICATION_JSON, APPLICATION_MSGPACK,
@@ -202,4 +204,30 @@ fn constants_have_their_charset(rt: HostRuntime) {
 fn constants_equal_themselves_alone(rt: HostRuntime) {
     assert!(rt; TEXT_JAVSCRIPT == TEXT_JAVASCRIPT && TEXT_PLAIN != TEXT_PLAIN_UTF_8);
     assert!(rt; Atom::TEXT_CSS == TEXT_CSS);
+}
+
+/// Whether a constant is a page of HTML: a clause and a `match` can name a constant.
+fn is_page(atom: Atom) -> bool
+    ensures { IsTrue result ↔ (atom ≡ Atom.TEXT_HTML) ⊎ (atom ≡ Atom.TEXT_HTML_UTF_8) }
+{
+    match atom {
+        TEXT_HTML | TEXT_HTML_UTF_8 => true,
+        _ => false,
+    }
+}
+
+/// Whether a constant is JavaScript, by its old spelling, which is no variant.
+fn is_script(atom: Atom) -> bool
+    ensures { IsTrue result ↔ atom ≡ Atom.TEXT_JAVASCRIPT }
+{
+    match atom {
+        TEXT_JAVSCRIPT => true,
+        _ => false,
+    }
+}
+
+#[test]
+fn constants_in_a_match(rt: HostRuntime) {
+    assert!(rt; is_page(TEXT_HTML) && is_page(TEXT_HTML_UTF_8) && !is_page(TEXT_PLAIN));
+    assert!(rt; is_script(TEXT_JAVASCRIPT) && !is_script(APPLICATION_JAVASCRIPT));
 }

@@ -98,16 +98,29 @@ fn what_is_missing_at_the_end(rt: HostRuntime) -> Result<(), Fail> {
 }
 
 #[test]
-fn many_commas_after_a_quote(rt: HostRuntime) -> Result<(), Fail> {
-    let commas = ",".repeat(rt.alloc(), 100_000)?;
-    let text = format!(in rt.alloc(); "a/b;p=\"{commas}")?;
-    check_fault(
-        &rt,
-        rt.alloc(),
-        text.as_str(),
-        ParseError::MissingQuote,
-        QUOTE,
-    )
+fn long_texts_are_refused(rt: HostRuntime) -> Result<(), Fail> {
+    // What a text begins with, the part that comes 100,000 times, and the fault.
+    static CASES: &[(&str, &str, ParseError, &str)] = &[
+        ("a/b;p=\"", ",", ParseError::MissingQuote, QUOTE),
+        (
+            "",
+            ",",
+            ParseError::InvalidToken { pos: 0, byte: 0x2C },
+            "an invalid token was encountered, 2C at position 0",
+        ),
+        (
+            "",
+            "é",
+            ParseError::InvalidToken { pos: 0, byte: 0xC3 },
+            "an invalid token was encountered, C3 at position 0",
+        ),
+    ];
+    for &(front, part, expected, words) in CASES {
+        let parts = part.repeat(rt.alloc(), 100_000)?;
+        let text = format!(in rt.alloc(); "{front}{parts}text/plain")?;
+        check_fault(&rt, rt.alloc(), text.as_str(), expected, words)?;
+    }
+    Ok(())
 }
 
 #[test]

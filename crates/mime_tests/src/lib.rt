@@ -1,4 +1,4 @@
-//! Tests of reading: tables of texts with answers from outside.
+//! Tests of reading and of lists: tables of texts with answers from outside.
 #![tactic(auto)]
 
 #[cfg(test)]
@@ -8,10 +8,14 @@ mod described;
 #[cfg(test)]
 mod faults;
 #[cfg(test)]
+mod items;
+#[cfg(test)]
 mod long_texts;
 #[cfg(test)]
 mod parameters;
 #[cfg(test)]
 mod parts;
+#[cfg(test)]
+mod plain_cuts;
 #[cfg(test)]
 mod short_texts;

@@ -1,4 +1,4 @@
-//! Long texts are read as short ones are, in each branch of reading.
+//! Long texts are read, iterated and cloned as short ones are, in each branch of reading.
 
 use crate::parameters::count_of_p;
 use mime::{Mime, MimeIter};
@@ -47,6 +47,9 @@ fn check_long(
     assert_eq!(rt; hint, (params, Some(params)), "{front} .. {back}");
     let is_item = is_only_item(alloc, text.as_str(), &mime);
     assert!(rt; is_item, "{front} .. {back}");
+    let copy = mime.clone()?;
+    let is_copied = copy == mime && copy.as_str() == mime.as_str();
+    assert!(rt; is_copied, "{front} .. {back}");
     Ok(())
 }
 
@@ -125,6 +128,7 @@ fn many_parameters_in_1000000_bytes(rt: HostRuntime) -> Result<(), Fail> {
     let mime = Mime::from_str(rt.alloc(), text.as_str())?;
     let is_item = is_only_item(rt.alloc(), text.as_str(), &mime);
     assert!(rt; mime.as_str() == text.as_str() && is_item);
-    assert_eq!(rt; count_of_p(&rt, &mime), 249_999);
+    let counts = (count_of_p(&mime), mime.params().size_hint());
+    assert_eq!(rt; counts, (249_999, (249_999, Some(249_999))));
     Ok(())
 }

@@ -1,6 +1,6 @@
 //! A reader of a text's bytes, which counts those it gave.
 
-ghost use Rattle.std.specs.Prelude.{◌≡◌, ◌+◌, ◌<◌, ◌^◌, length};
+ghost use Rattle.std.specs.Prelude.{◌≡◌, ◌+◌, ◌-◌, ◌<◌, ◌≤◌, ◌^◌, length};
 ghost use Rattle.mime.specs.Scanning.{GivesFirst};
 
 use std::marker::Model;
@@ -55,5 +55,15 @@ impl<'a> ByteReader<'a> {
         ensures fits { length self.now.left < 2 ^ 64 }
     {
         self.full - self.left.len() as u128
+    }
+
+    /// The position of the byte that was given last, from 0 where the text began: its reader had counted `from` then.
+    #[inline(always)]
+    pub(crate) fn position(&self, from: u128) -> usize
+        requires given { from < self.now.count }
+        requires fits { self.now.count ≤ from + 2 ^ 64 }
+        ensures { result ≡ self.now.count - from - 1 }
+    {
+        (self.count() - from - 1) as usize
     }
 }

@@ -3,9 +3,9 @@
 ghost use Rattle.std.specs.Prelude.{◌≡◌, ◌+◌, ◌++◌, ◌≤◌, ◌↔◌, IsFalse, IfOk, take, drop, length, slice_get, slice_range, string_bytes};
 ghost use Rattle.mime.specs.Bytes.{semicolon_byte};
 ghost use Rattle.mime.specs.Values.{lowered, is_charset};
-ghost use Rattle.mime.specs.Pairs.{cut_of, lowered_first, lowered_within};
+ghost use Rattle.mime.specs.Pairs.{IsEndOf, cut_of, lowered_first, lowered_within};
 ghost use Rattle.mime.specs.Scanning.{HasPlaces};
-ghost use Rattle.mime.specs.KeptText.{kept_places, kept_text_of};
+ghost use Rattle.mime.specs.KeptText.{with_pairs_lowered, kept_places, kept_text_of};
 
 use crate::name::eq_ignoring_case;
 use crate::scan::Places;
@@ -43,14 +43,16 @@ fn lower_range(bytes: &mut [u8], from: usize, to: usize)
     bytes[from..to].make_ascii_lowercase();
 }
 
-/// Lowers the first pair of a list, whose bytes these are, and gives the list after it.
+/// Lowers the first pair of a list, whose bytes these are, and gives the list after it. It is the end of a whole text.
 #[inline]
-fn lower_first<'a>(bytes: &mut [u8], list: &'a str) -> &'a str
-    requires { bytes.old ≡ list.now }
+fn lower_first<'a>(bytes: &mut [u8], whole: &str, list: &'a str) -> &'a str
+    requires same { bytes.old ≡ list.now }
+    requires end { IsEndOf list.now whole.now }
     ensures lowered { bytes.new ≡ lowered_first list.entry.now }
     ensures rest { result.now ≡ (cut_of list.entry.now).rest }
+    ensures end { IsEndOf result.now whole.now }
 {
-    let pair = cut(list);
+    let pair = cut(whole, list);
     lower_range(bytes, 0, pair.head);
     if names_charset(pair.name) {
         lower_range(bytes, pair.head, pair.head + pair.value.len());
@@ -58,16 +60,17 @@ fn lower_first<'a>(bytes: &mut [u8], list: &'a str) -> &'a str
     pair.rest
 }
 
-/// Lowers the first `count` pairs of a list, whose bytes these are.
+/// Lowers the first `count` pairs of a list, whose bytes these are. It is the end of a whole text.
 #[inline]
-fn lower_pairs(bytes: &mut [u8], list: &str, count: usize)
-    requires { bytes.old ≡ list.now }
+fn lower_pairs(bytes: &mut [u8], whole: &str, list: &str, count: usize)
+    requires same { bytes.old ≡ list.now }
+    requires end { IsEndOf list.now whole.now }
     ensures { bytes.new ≡ lowered_within count list.now }
 {
     let mut left = list;
     for _ in 0..count {
         let from = bytes.len() - left.len();
-        left = lower_first(&mut bytes[from..], left);
+        left = lower_first(&mut bytes[from..], whole, left);
     }
 }
 
@@ -76,47 +79,54 @@ fn lower_pairs(bytes: &mut [u8], list: &str, count: usize)
 fn lower_text(bytes: &mut [u8], text: &str, semicolon: usize, pairs: usize)
     requires same { bytes.old ≡ text.now }
     requires parted { slice_get text.now semicolon ≡ Some semicolon_byte }
-    ensures { bytes.new ≡ lowered (take (semicolon + 1) text.now) ++ lowered_within pairs (drop (semicolon + 1) text.now) }
+    ensures { bytes.new ≡ with_pairs_lowered pairs semicolon text.now }
 {
     let list = semicolon + 1;
     lower_range(bytes, 0, list);
-    lower_pairs(&mut bytes[list..], &text[list..], pairs);
+    lower_pairs(&mut bytes[list..], text, &text[list..], pairs);
 }
 
-/// The kept text of an accepted text: only what ignores case is lowered, and an empty list is cut
-/// off.
+/// A text with pairs as it is kept: only what ignores case is lowered.
 #[inline(always)]
-pub(crate) fn keep_text(alloc: Global, text: &str, places: Places) -> Result<String, AllocError>
-    requires { HasPlaces text.now places }
-    ensures { IfOk result (λ kept. string_bytes kept ≡ kept_text_of places.pairs places.semicolon text.now) }
+fn keep_pairs(
+    alloc: Global,
+    text: &str,
+    semicolon: usize,
+    pairs: usize,
+) -> Result<String, AllocError>
+    requires { slice_get text.now semicolon ≡ Some semicolon_byte }
+    ensures { IfOk result (λ kept. string_bytes kept ≡ with_pairs_lowered pairs semicolon text.now) }
 {
-    let Some(semicolon) = places.semicolon else {
-        return text.to_ascii_lowercase(alloc);
-    };
-    if places.pairs == 0 {
-        return text[..semicolon].to_ascii_lowercase(alloc);
-    }
     if !has_capital(text) {
         return String::from_str(alloc, text);
     }
     let mut bytes = Vec::from_slice(alloc, text.as_bytes())?;
-    lower_text(&mut bytes, text, semicolon, places.pairs);
+    lower_text(&mut bytes, text, semicolon, pairs);
     // SAFETY: these are the bytes of a text, of which only ASCII capitals were made small: so they are UTF-8.
     Ok(unsafe { String::from_utf8_unchecked(bytes) })
 }
 
-/// The positions in the kept text.
+/// The kept text of an accepted text, and the positions in it. An empty list is cut off.
 #[inline(always)]
-pub(crate) fn keep_places(places: Places) -> Places
-    ensures { result ≡ kept_places places }
+pub(crate) fn keep(
+    alloc: Global,
+    text: &str,
+    places: Places,
+) -> Result<(String, Places), AllocError>
+    requires { HasPlaces text.now places }
+    ensures text { IfOk result (λ kept. string_bytes kept.0 ≡ kept_text_of places.pairs places.semicolon text.now) }
+    ensures places { IfOk result (λ kept. kept.1 ≡ kept_places places) }
 {
-    let semicolon = if places.pairs == 0 {
-        None
-    } else {
-        places.semicolon
+    let Some(semicolon) = places.semicolon else {
+        return Ok((text.to_ascii_lowercase(alloc)?, places));
     };
-    Places {
-        semicolon,
-        ..places
+    if places.pairs != 0 {
+        return Ok((keep_pairs(alloc, text, semicolon, places.pairs)?, places));
     }
+    let essence = text[..semicolon].to_ascii_lowercase(alloc)?;
+    let bare = Places {
+        semicolon: None,
+        ..places
+    };
+    Ok((essence, bare))
 }

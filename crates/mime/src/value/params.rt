@@ -4,11 +4,11 @@ ghost use Rattle.std.specs.Prelude.{◌≡◌, codes, length, IfSome, Some};
 ghost use Rattle.std.specs.Iterator.{YieldsFirstBy, item_count, UpTo, at_most};
 ghost use Rattle.std.specs.Iterator.SizeHint.{IsWithinCount};
 ghost use Rattle.mime.specs.Items.{items_of};
-ghost use Rattle.mime.specs.Pairs.{pairs_within};
+ghost use Rattle.mime.specs.Pairs.{IsEndOf, pairs_within};
 ghost use Rattle.mime.specs.Views.{item_seen};
 
 use crate::name::Name;
-use crate::value::pairs::cut;
+use crate::value::pairs::{Pairs, is_charset};
 use std::fmt;
 use std::marker::Model;
 
@@ -19,26 +19,24 @@ use std::marker::Model;
 /// The size hint is the number left, twice. It walks the kept text, and asks for no memory.
 #[derive(Drop)]
 pub struct Params<'a> {
-    list: &'a str,
-    left: usize,
+    pairs: Pairs<'a>,
 }
 
 impl<'a> Model for Params<'a> {
     ghost use Rattle.std.specs.Prelude.{List};
     ghost use Rattle.mime.specs.Items.{Item, items_of};
-    ghost use Rattle.mime.specs.Pairs.{pairs_within};
 
     ghost Value = { List Item };
 
-    ghost view = { λ params. items_of (pairs_within params.left params.list.now) };
+    ghost view = { λ params. items_of params.pairs };
 }
 
 impl<'a> Params<'a> {
-    /// The first `left` parameters of a list.
-    pub(crate) fn new(list: &'a str, left: usize) -> Params<'a>
-        ensures { result ≡ items_of (pairs_within left list.now) }
+    /// The parameters of these pairs.
+    pub(crate) fn new(pairs: Pairs<'a>) -> Params<'a>
+        ensures { result ≡ items_of pairs.entry }
     {
-        Params { list, left }
+        Params { pairs }
     }
 }
 
@@ -51,19 +49,15 @@ impl<'a> Iterator for Params<'a> {
 
     #[inline(always)]
     fn next(&mut self) -> Option<(Name<'a>, Name<'a>)> {
-        if self.left == 0 {
-            return None;
-        }
-        let pair = cut(self.list);
-        self.left -= 1;
-        self.list = pair.rest;
+        let (name, value) = self.pairs.next()?;
+        let ignores_case = is_charset(name);
         let name = Name {
-            text: pair.name,
+            text: name,
             ignores_case: true,
         };
         let value = Name {
-            text: pair.value,
-            ignores_case: pair.name == "charset",
+            text: value,
+            ignores_case,
         };
         Some((name, value))
     }
@@ -74,7 +68,7 @@ impl<'a> Iterator for Params<'a> {
         // Both bounds are the number of parameters left.
         ensures exact { result ≡ (length self.now, Some (length self.now)) }
     {
-        (self.left, Some(self.left))
+        self.pairs.size_hint()
     }
 }
 

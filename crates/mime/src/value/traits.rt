@@ -1,14 +1,15 @@
 //! What media types do as keys and copies, and how they are printed.
 
-ghost use Rattle.std.specs.Prelude.{◌≡◌, ◌↔◌, IsTrue, Some, true, refl, length};
+ghost use Rattle.std.specs.Prelude.{◌≡◌, ◌↔◌, IsTrue, Some, true, refl};
 ghost use Rattle.std.specs.Cmp.{partial_equiv_from_equiv, partial_order_from_total, on_equiv, on_total, eq_by_cmp_equiv};
 ghost use Rattle.std.specs.Fmt.{debug_str, styled_text};
 ghost use Rattle.std.specs.List.{fold};
 ghost use Rattle.std.specs.Ordering.{MatchOrdering, eq_by_cmp, on, as_partial_cmp};
 ghost use Rattle.mime.specs.Comparison.{Same, Before, media_cmp};
-ghost use Rattle.mime.specs.Orders.{media_cmp_total, same_from_cmp, media_input, media_input-same};
+ghost use Rattle.mime.specs.HashInput.{media_input};
+ghost use Rattle.mime.specs.OrderLaws.{media_cmp_total, same_from_cmp, media_input-same};
 
-use crate::value::walks::{feed_pairs, order_pairs, same_pairs};
+use crate::value::hashing::feed_pairs;
 use crate::value::{Mime, Text};
 use std::alloc::AllocError;
 use std::cmp::Ordering;
@@ -37,11 +38,9 @@ fn same(first: &Mime, second: &Mime) -> bool
 /// Whether two values are equal, part by part: a list of parameters can be written in more than one way.
 #[inline(never)]
 fn same_parts(first: &Mime, second: &Mime) -> bool
-    requires { length first.now.media.pairs ≡ length second.now.media.pairs }
     ensures { IsTrue result ↔ Same first.now.media second.now.media }
 {
-    first.essence_str() == second.essence_str()
-        && same_pairs(first.list(), second.list(), first.count())
+    first.essence_str() == second.essence_str() && first.pairs().eq(second.pairs())
 }
 
 /// How two values compare.
@@ -65,7 +64,7 @@ fn order_parts(first: &Mime, second: &Mime) -> Ordering
     if order.is_ne() {
         return order;
     }
-    order_pairs(first.list(), first.count(), second.list(), second.count())
+    first.pairs().cmp(second.pairs())
 }
 
 /// Feeds a hasher the parameters of a value, and then its essence.
@@ -79,7 +78,7 @@ fn feed<H: Hasher>(mime: &Mime, state: &mut H)
         state.write(essence);
         return;
     }
-    feed_pairs(mime.list(), mime.count(), state);
+    feed_pairs(mime.pairs(), state);
     state.write(essence);
 }
 

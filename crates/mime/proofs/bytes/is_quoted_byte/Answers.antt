@@ -1,17 +1,10 @@
 -- The table holds the class of each byte.
-use Rattle.std.proofs.Common.{◌≡◌, false, get_or, map, refl, ap, ◌∙◌, arith}
-use Rattle.std.specs.List.{range_with_len}
-use Rattle.std.proofs.lemmas.List.FromFn.{get_or-map-range_with_len}
+use Rattle.std.proofs.Common.{refl, arith}
 use Rattle.mime.specs.Bytes.{is_quoted_byte as is_quoted}
 use Rattle.mime.specs.declared.bytes.TheConstants.{QUOTED}
+use Rattle.mime.proofs.ByteTables.{in_table}
 use Rattle.mime.proofs.bytes.is_quoted_byte.Goals as goal
 
--- the table is the class, byte by byte
-table : QUOTED ≡ map is_quoted (range_with_len 0 256)
-unfolding is_quoted
-table = refl
-
 pub returns : goal.returns
-returns c =
-    ap (λ t. get_or t c.args.b false) table
-    ∙ get_or-map-range_with_len is_quoted 0 256 c.args.b c.args.b false (omega arith) (omega arith)
+unfolding is_quoted
+returns c = in_table is_quoted QUOTED refl c.args.b (omega arith)

@@ -21,9 +21,9 @@ pub returns-in-Accepted : goal.returns-in-Accepted
 returns-in-Accepted c =
     let has = subst (λ text. HasPlaces text c.in-Accepted.places) c.new-reader.ensures.left c.in-Accepted.ensures.judged.1 in (
       λ is. let at = c.is_list_at.ensures.0 is in
-          record { places = c.in-Accepted.places; has = has; semicolon = at.0; counted = at.1 },
+          record { places = c.in-Accepted.places; has = has; at = at.0; counted = at.1 },
       λ is. let one = one_places c.args.text.now c.in-Accepted.places is.places has is.has in
-          c.is_list_at.ensures.1 (ap (λ (p : Places). p.semicolon) one ∙ is.semicolon, ap (λ (p : Places). p.pairs) one ∙ is.counted),
+          c.is_list_at.ensures.1 (ap (λ (p : Places). p.semicolon) one ∙ is.at, ap (λ (p : Places). p.pairs) one ∙ is.counted),
     )
 
 pub returns-in_default : goal.returns-in_default

@@ -1,6 +1,6 @@
 -- The first byte and some that only follow were passed.
 use Rattle.std.proofs.Common.{◌≤◌, ◌-◌, length}
-use Rattle.mime.specs.UnderWay.{PassedTo}
+use Rattle.mime.proofs.Beginnings.{PassedTo}
 use Rattle.mime.proofs.iter.after_character.Given as goal
 
 abbrev pub invariant-loop-end : goal.invariant-loop-end

@@ -6,12 +6,13 @@ use Rattle.mime.proofs.iter.pass.Goals as goal
 pub split_at-requires : goal.split_at-requires
 split_at-requires c =
     let judged = judged-from_scan _ _ _ _ _ _ c.in-Stopped.ensures c.new-reader.ensures.left c.new-reader.ensures.count c.count-steps.ensures.count in
-    (stopped-boundary _ _ _ _ c.utf8.text judged).0
+    (stopped-boundary _ _ _ _ _ c.utf8.text judged (omega (arith, c.position.ensures, c.count-steps.ensures.count))).0
 
 pub after_character-requires : goal.after_character-requires
 after_character-requires c =
     let judged = judged-from_scan _ _ _ _ _ _ c.in-Stopped.ensures c.new-reader.ensures.left c.new-reader.ensures.count c.count-steps.ensures.count in
-    omega (arith, ap length c.split_at.ensures.back, (stopped-boundary _ _ _ _ c.utf8.text judged).1)
+    let boundary = stopped-boundary _ _ c.position.result _ _ c.utf8.text judged (omega (arith, c.position.ensures, c.count-steps.ensures.count)) in
+    omega (arith, ap length c.split_at.ensures.back, boundary.1)
 
 pub returns-in-Accepted-clause-passes : goal.returns-in-Accepted-clause-passes
 returns-in-Accepted-clause-passes c =
@@ -27,4 +28,4 @@ pub returns-in-Stopped-clause-passes : goal.returns-in-Stopped-clause-passes
 returns-in-Stopped-clause-passes c =
     passes-stopped _ _ _ _ _ _ _ _
     (judged-from_scan _ _ _ _ _ _ c.in-Stopped.ensures c.new-reader.ensures.left c.new-reader.ensures.count c.count-steps.ensures.count)
-    refl c.split_at.ensures.front c.split_at.ensures.back c.after_character.ensures
+    (omega (arith, c.position.ensures, c.count-steps.ensures.count)) c.split_at.ensures.front c.split_at.ensures.back c.after_character.ensures

@@ -8,21 +8,21 @@ loop-stop-init c = (_, taking_none _, c.quoted_text-stop.ensures)
 
 pub returns-in_err-paired : goal.returns-in_err-paired
 returns-in_err-paired c =
-    rw c.from_residual.ensures
-    (content_pair (taking_backslash c.loop-stop.invariant.1 c.loop-stop.invariant.2 (sym c.eq.ensures ∙ c.loop-stop-test.true)) c.in_err-paired.ensures c.in_err-paired.ensures.1)
+    let taking = taking_backslash c.loop-stop.invariant.1 c.loop-stop.invariant.2 (sym c.eq.ensures ∙ c.loop-stop-test.true) in
+    rw c.from_residual.ensures (content_pair taking c.in_err-paired.ensures c.in_err-paired.ensures.1)
 
 pub returns-then-not-is_quoted_byte : goal.returns-then-not-is_quoted_byte
 returns-then-not-is_quoted_byte c =
-    content_pair (taking_backslash c.loop-stop.invariant.1 c.loop-stop.invariant.2 (sym c.eq.ensures ∙ c.loop-stop-test.true)) c.in_ok-paired.ensures
-    (sym c.is_quoted_byte.ensures ∙ c.if-not-is_quoted_byte.true)
+    let taking = taking_backslash c.loop-stop.invariant.1 c.loop-stop.invariant.2 (sym c.eq.ensures ∙ c.loop-stop-test.true) in
+    content_pair taking c.in_ok-paired.ensures (sym c.is_quoted_byte.ensures ∙ c.if-not-is_quoted_byte.true)
 
 pub loop-stop-preserved : goal.loop-stop-preserved
-loop-stop-preserved c = (
-  _,
-  taking_paired (taking_backslash c.loop-stop.invariant.1 c.loop-stop.invariant.2 (sym c.eq.ensures ∙ c.loop-stop-test.true)) c.in_ok-paired.ensures
-      (sym c.is_quoted_byte.ensures ∙ c.if-not-is_quoted_byte.false),
-  c.quoted_text-stop-in-loop-stop.ensures,
-)
+loop-stop-preserved c =
+    let taking = taking_backslash c.loop-stop.invariant.1 c.loop-stop.invariant.2 (sym c.eq.ensures ∙ c.loop-stop-test.true) in (
+      _,
+      taking_paired taking c.in_ok-paired.ensures (sym c.is_quoted_byte.ensures ∙ c.if-not-is_quoted_byte.false),
+      c.quoted_text-stop-in-loop-stop.ensures,
+    )
 
 pub returns : goal.returns
 returns c = content_text _ c.loop-stop.invariant.1 c.loop-stop.invariant.2 (sym c.eq.ensures ∙ c.loop-stop-test.false)

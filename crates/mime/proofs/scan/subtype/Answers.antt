@@ -17,15 +17,15 @@ loop-byte-init c = record {
 pub loop-byte-preserved-then-byte-eq43 : goal.loop-byte-preserved-then-byte-eq43
 loop-byte-preserved-then-byte-eq43 c =
     let p = c.loop-byte.invariant.passing in
-    let place = c.count.result - c.args.from - 1 in
-    let counted : c.count.result ≡ c.args.reader.now.count + length p.run + 1 =
-    omega (arith, p.given.counted, c.in-Some.ensures.0.counted, c.count.ensures.count) in
+    let place = c.position-plus.result in
+    let at : place ≡ c.args.reader.now.count - c.args.from + length p.run =
+    omega (arith, p.given.counted, c.in-Some.ensures.0.counted, c.position-plus.ensures, c.requires.begun) in
     record {
       passing = passing_more p c.in-Some.ensures (sym c.is_token.ensures ∙ c.if-not-is_token.false);
       plus =
           last_plus-plus (c.args.reader.now.count - c.args.from) p.run _ place c.if-byte-eq43.true
-          (omega (arith, counted, c.requires.begun))
-          ∙ sym (cond-false (place == 0) None (Some place) (ne_eqb place 0 (λ zero. omega (arith, counted, c.requires.begun))));
+          (sym at)
+          ∙ sym (cond-false (place == 0) None (Some place) (ne_eqb place 0 (λ zero. omega (arith, at, c.requires.begun))));
     }
 
 pub loop-byte-preserved : goal.loop-byte-preserved

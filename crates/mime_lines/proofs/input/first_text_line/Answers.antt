@@ -14,7 +14,8 @@ range_from-requires c = λ _.
 
 pub returns-then-end-text-clause-lines : goal.returns-then-end-text-clause-lines
 returns-then-end-text-clause-lines c =
-    lines_of-cut c.args.text.now c.range.result.now c.range_from.result.now c.line_end-end.result c.requires (cc) (search rules) (search rules)
+    lines_of-cut c.args.text.now c.range.result.now c.range_from.result.now c.line_end-end.result c.requires (cc) (search rules)
+    (search rules)
 
 pub returns-else-end-text-clause-lines : goal.returns-else-end-text-clause-lines
 returns-else-end-text-clause-lines c =

@@ -10,4 +10,5 @@ pub returns-clause-line : goal.returns-clause-line
 returns-clause-line c =
     c.unwrap_or.ensures
     ∙ unwrap_or-position (λ b. nat_eq b 10) c.args.input.now c.position.result
-    (position_from_yields_List (λ b. nat_eq b 10) _ _ c.position.result c.position.ensures.ran (YieldsList-from_slice c.args.input.now c.iter.ensures.rest) (λ x b q k. search (rules, tests)))
+    (position_from_yields_List (λ b. nat_eq b 10) _ _ c.position.result c.position.ensures.ran
+    (YieldsList-from_slice c.args.input.now c.iter.ensures.rest) (λ x b q k. search (rules, tests)))

@@ -5,7 +5,9 @@ use borrow.Author.Tests.{tests}
 use Rattle.mime_lines.proofs.report.report_of_bytes.Goals as goal
 
 pub loop-rest-preserved : goal.loop-rest-preserved
-loop-rest-preserved c = ReportsLines-step c.args.mode c.args.input.now c.loop-rest.rest.now _ c.first_line.result.1.now _ _ c.first_line.ensures.lines c.loop-rest.invariant c.in_ok-push_line.ensures
+loop-rest-preserved c =
+    ReportsLines-step c.args.mode c.args.input.now c.loop-rest.rest.now _ c.first_line.result.1.now _ _ c.first_line.ensures.lines
+    c.loop-rest.invariant c.in_ok-push_line.ensures
 
 pub returns : goal.returns
 returns c =

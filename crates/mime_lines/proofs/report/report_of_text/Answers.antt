@@ -7,7 +7,9 @@ use Rattle.mime_lines.proofs.report.report_of_text.Goals as goal
 pub loop-rest-preserved : goal.loop-rest-preserved
 loop-rest-preserved c = record {
   utf8 = search rules;
-  onward = ReportsLines-step c.args.mode c.args.text.now c.loop-rest.rest.now _ c.first_text_line.result.1.now _ _ c.first_text_line.ensures.lines c.loop-rest.invariant.onward c.in_ok-push_text.ensures;
+  onward =
+      ReportsLines-step c.args.mode c.args.text.now c.loop-rest.rest.now _ c.first_text_line.result.1.now _ _
+      c.first_text_line.ensures.lines c.loop-rest.invariant.onward c.in_ok-push_text.ensures;
 }
 
 pub returns : goal.returns

@@ -7,7 +7,8 @@ use Rattle.mime_lines.proofs.report.report_of_text.Given as goal
 abbrev pub invariant-loop-rest : goal.invariant-loop-rest
 invariant-loop-rest l = record {
   utf8 : IsUtf8 l.rest;
-  onward : (more : List ℕ) → ReportsLines l.fn.mode (lines_of l.rest) more → ReportsLines l.fn.mode (lines_of l.fn.text) (string_bytes l.report ++ more);
+  onward : (more : List ℕ) → ReportsLines l.fn.mode (lines_of l.rest) more
+      → ReportsLines l.fn.mode (lines_of l.fn.text) (string_bytes l.report ++ more);
 }
 
 abbrev pub decreases-loop-rest : goal.decreases-loop-rest

@@ -1,7 +1,6 @@
 -- Each piece that is passed is a step of the search.
 use Rattle.std.proofs.Common.{sym, subst}
-use Rattle.mime.specs.UnderWay.{IsLooking}
-use Rattle.mime.proofs.Iterating.{looking-first}
+use Rattle.mime.proofs.Iterating.{IsLooking, looking-first}
 use Rattle.mime.proofs.iter.MimeIter.find.Goals as goal
 
 pub loop-self-init : goal.loop-self-init

@@ -1,7 +1,7 @@
 -- Pieces without an item were passed.
 use Rattle.std.proofs.Common.{length}
-use Rattle.mime.specs.UnderWay.{IsLooking, IsSound}
-use Rattle.mime.proofs.Iterating.{seen}
+use Rattle.mime.specs.UnderWay.{IsSound}
+use Rattle.mime.proofs.Iterating.{IsLooking, seen}
 use Rattle.mime.proofs.iter.MimeIter.find.Given as goal
 
 abbrev pub invariant-loop-self : goal.invariant-loop-self

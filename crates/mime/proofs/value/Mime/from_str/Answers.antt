@@ -1,4 +1,5 @@
 -- The scanner's verdict is what the call answers.
+use Rattle.std.proofs.Common.{rules}
 use Rattle.mime.proofs.Outcomes.{accepted-from_places, Explains-from_fault, Explains-no_memory, refused-from_fault, star-accepted}
 use Rattle.mime.proofs.Viability.{refused-at_dead}
 use Rattle.mime.proofs.value.Mime.from_str.Goals as goal
@@ -27,3 +28,21 @@ returns-in-Stopped-clause-star c = λ star.
 pub returns-in-Unfinished-clause-explained : goal.returns-in-Unfinished-clause-explained
 returns-in-Unfinished-clause-explained c =
     rw c.new.ensures (Explains-from_fault _ _ (rw c.new-reader.ensures.left at c.in-Unfinished.ensures.judged.1))
+
+pub returns-in-Stopped-clause-explained : goal.returns-in-Stopped-clause-explained
+returns-in-Stopped-clause-explained c = search rules
+
+pub returns-in-Accepted-clause-read : goal.returns-in-Accepted-clause-read
+returns-in-Accepted-clause-read c = search rules
+
+pub returns-in-Accepted-clause-accepted : goal.returns-in-Accepted-clause-accepted
+returns-in-Accepted-clause-accepted c = search rules
+
+pub returns-in-Accepted-clause-star : goal.returns-in-Accepted-clause-star
+returns-in-Accepted-clause-star c = search rules
+
+pub returns-in-Unfinished-clause-read : goal.returns-in-Unfinished-clause-read
+returns-in-Unfinished-clause-read c = search rules
+
+pub returns-in-Stopped-clause-read : goal.returns-in-Stopped-clause-read
+returns-in-Stopped-clause-read c = search rules

@@ -16,7 +16,7 @@ returns-then-eq-clause-read c =
     rw star (reads-from_kept _ _ (star-IsKept _ (rw star at c.requires)))
 
 pub invariant_of-result-in-Ok : goal.invariant_of-result-in-Ok
-invariant_of-result-in-Ok c = rw (c.in-Ok.ensures, c.keep_places.ensures) (kept-from_places _ _ c.requires)
+invariant_of-result-in-Ok c = rw (c.in-Ok.ensures.text, c.in-Ok.ensures.places) (kept-from_places _ _ c.requires)
 
 pub returns-in-Ok-clause-read : goal.returns-in-Ok-clause-read
-returns-in-Ok-clause-read c = rw (c.in-Ok.ensures, c.keep_places.ensures) (kept_reads _ _ c.requires)
+returns-in-Ok-clause-read c = rw (c.in-Ok.ensures.text, c.in-Ok.ensures.places) (kept_reads _ _ c.requires)

@@ -5,8 +5,9 @@ use Rattle.mime.proofs.value.kept.lower_pairs.Goals as goal
 
 pub loop-init : goal.loop-init
 loop-init c = record {
+  end = c.requires.end;
   utf8 = c.utf8.list;
-  lowered = lowered_to-none c.args.bytes.now c.args.list.now (c.args.count - 0) c.args.count c.requires (omega arith);
+  lowered = lowered_to-none c.args.bytes.now c.args.list.now (c.args.count - 0) c.args.count c.requires.same (omega arith);
 }
 
 pub overflow_sub-from : goal.overflow_sub-from
@@ -17,6 +18,7 @@ lower_first-left-requires-text-list c = λ _. c.loop.invariant.utf8
 
 pub loop-preserved : goal.loop-preserved
 loop-preserved c = record {
+  end = c.lower_first-left.ensures.end;
   utf8 = c.lower_first-left.utf8;
   lowered =
       lowered_to-more c.loop.bytes c.loop.left.now c.lower_first-left.new.bytes c.lower_first-left.result.now _ _ _ c.loop.invariant.lowered

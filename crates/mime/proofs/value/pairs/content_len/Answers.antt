@@ -3,7 +3,8 @@ use Rattle.std.proofs.Common.{◌≢◌, arith, get_or, sym, subst, ◌∙◌}
 use Rattle.std.specs.Prelude.{◌==◌, not}
 use Rattle.std.proofs.lemmas.List.Sums.{prefix_len-le-length}
 use Rattle.mime.specs.Bytes.{quote_byte, backslash_byte}
-use Rattle.mime.proofs.Quoted.{not_quote, not_backslash, search_past, search_past_last, search_past_pair, content_len-first_quote}
+use Rattle.mime.proofs.Quoted.{not_quote, not_backslash}
+use Rattle.mime.proofs.ContentEnds.{search_past, search_past_last, search_past_pair, content_len-first_quote}
 use Rattle.mime.proofs.value.pairs.content_len.Goals as goal
 use Rattle.mime.proofs.value.pairs.content_len.Goals.{then-quote-eq0-via-then-quote-eq0, then-quote-eq0-via-else-quote-eq0+then-text-quote-ne92}
 use Rattle.mime.proofs.value.pairs.content_len.Goals.{then-not-is_quoted_text_byte+else-byte-eq34+then-byte-eq92+then-position-text, then-not-is_quoted_text_byte+else-byte-eq34+else-byte-eq92, else-byte-eq92-via-then-byte-eq92+else-position-text, else-byte-eq92-via-else-byte-eq92, else-not-is_quoted_text_byte}

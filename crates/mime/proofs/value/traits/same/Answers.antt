@@ -1,4 +1,4 @@
--- One text is read as one value; without parameters the text is the essence.
+-- One text is read as one value.
 use Rattle.std.proofs.Common.{◌∙◌, sym, refl}
 use Rattle.std.specs.Cmp.Lexicographic.{same_text}
 use Rattle.mime.proofs.Counts.{same_from_text}

@@ -1,9 +1,11 @@
--- As many items are left as the count says.
-use Rattle.std.proofs.Common.{◌≡◌, length, Some, ap, sym, ◌∙◌, arith}
-use Rattle.mime.proofs.Parts.{length-items_of}
+-- There are as many items as pairs.
+use Rattle.std.proofs.Common.{◌≡◌, length, Some, ap, sym, ◌∙◌, arith, refl}
+use Rattle.std.proofs.lemmas.List.{length-map}
+use Rattle.mime.specs.Items.{item_of}
 use Rattle.mime.proofs.value.params.ParamsIterator.size_hint.Goals as goal
 
 pub returns : goal.returns
 returns c =
-    let left : length c.args.self.now ≡ c.self.inside.left = ap length (sym c.self.view_is) ∙ length-items_of _ _ in
-    record { lower = λ _. omega arith; upper = (tt, omega arith); exact = ap (λ n. (n, Some n)) (sym left) }
+    let pairs = c.self.inside.pairs in
+    let count : length pairs ≡ length c.args.self.now = sym (length-map pairs item_of) ∙ ap length c.self.view_is in
+    rw (c.size_hint.ensures.exact ∙ ap (λ n. (n, Some n)) count) (record { lower = λ _. omega arith; upper = (tt, omega arith); exact = refl })

@@ -1,0 +1,40 @@
+-- Texts are alike block by block, up to one that differs; the last block may overlap the one before.
+use Rattle.std.proofs.Common.{◌≡◌, ◌≤◌, ◌-◌, ◌+◌, ℕ, List, take, length, sym, ap, ◌∙◌, arith, refl}
+use Rattle.std.proofs.lemmas.List.{take-take, take_all}
+use Rattle.mime.specs.Values.{lowered}
+use Rattle.mime.proofs.Lowering.{length-lowered}
+use Rattle.mime.proofs.Differences.{alike_onward, difference_onward}
+use Rattle.mime.proofs.difference.first_difference.Goals as goal
+use Rattle.mime.proofs.difference.first_difference.Goals.{then-a-b, else-a-b}
+
+-- so is a shorter front
+shorter : (a b : List ℕ) (n m : ℕ) → n ≤ m → take m a ≡ take m b → take n a ≡ take n b
+shorter a b n m less same = sym (take-take n m a less) ∙ ap (take n) same ∙ take-take n m b less
+
+pub returns-in-Some-clause-some : goal.returns-in-Some-clause-some
+returns-in-Some-clause-some c =
+    difference_onward c.args.a.now c.args.b.now c.loop-from.from c.loop-from.invariant.same c.in-Some.at c.in-Some.ensures.some
+
+pub loop-from-preserved : goal.loop-from-preserved
+loop-from-preserved c = record {
+  within = omega (arith, c.loop-from-test.true);
+  same = alike_onward c.args.a.now c.args.b.now c.loop-from.from c.loop-from.invariant.same 16 (c.in-None.ensures.none refl);
+}
+
+pub returns-in-Some-difference_in_block-clause-some : goal.returns-in-Some-difference_in_block-clause-some
+returns-in-Some-difference_in_block-clause-some c =
+    let last = c.if-a-b.end - 16 in
+    let front = shorter (lowered c.args.a.now) (lowered c.args.b.now) last c.loop-from.from c.loop-from-test.false c.loop-from.invariant.same in
+    difference_onward c.args.a.now c.args.b.now last front c.in-Some-difference_in_block.at c.in-Some-difference_in_block.ensures.some
+
+pub returns-in-None-difference_in_block-clause-none : goal.returns-in-None-difference_in_block-clause-none
+returns-in-None-difference_in_block-clause-none c = λ _ long.
+    let a = c.args.a.now in
+    let b = c.args.b.now in
+    let last = c.if-a-b.end - 16 in
+    let front = shorter (lowered a) (lowered b) last c.loop-from.from c.loop-from-test.false c.loop-from.invariant.same in
+    let all = alike_onward a b last front 16 (c.in-None-difference_in_block.ensures.none refl) in
+    let end : c.if-a-b.end ≡ length a =
+    elim c.if-a-b.branch [ then-a-b w ↦ w.end-is | else-a-b w ↦ w.end-is ∙ sym long ] in
+    sym (take_all (last + 16) (lowered a) (omega (arith, end, length-lowered a))) ∙ all
+    ∙ take_all (last + 16) (lowered b) (omega (arith, end, long, length-lowered b))

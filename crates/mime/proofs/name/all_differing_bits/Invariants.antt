@@ -1,9 +1,0 @@
--- What the pairs of bytes so far say: no bit differs exactly where their lowerings are the same.
-use Rattle.std.proofs.Common.{◌≡◌, ◌↔◌, length, take}
-use Rattle.mime.specs.Values.{lowered}
-use Rattle.mime.proofs.name.all_differing_bits.Given as goal
-
-abbrev pub invariant-loop-x : goal.invariant-loop-x
-invariant-loop-x l =
-    let n = length l.yielded in
-    (l.differing ≡ 0) ↔ (lowered (take n l.a) ≡ lowered (take n l.b))

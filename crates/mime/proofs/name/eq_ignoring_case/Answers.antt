@@ -1,0 +1,8 @@
+-- Texts are alike exactly where no first difference is found.
+use Rattle.mime.proofs.Differences.{none_found}
+use Rattle.mime.proofs.name.eq_ignoring_case.Goals as goal
+
+pub returns-then-a-ge16 : goal.returns-then-a-ge16
+returns-then-a-ge16 c =
+    none_found c.args.a.now c.args.b.now c.first_difference.result c.is_none.result c.is_none.ensures c.if-a-b.false
+    c.first_difference.ensures.some c.first_difference.ensures.none

@@ -1,0 +1,6 @@
+-- The semicolon of an accepted text is where its position says.
+use Rattle.mime.proofs.KeptText.{slice_get-semicolon}
+use Rattle.mime.proofs.value.kept.keep.Goals as goal
+
+pub keep_pairs-requires : goal.keep_pairs-requires
+keep_pairs-requires c = slice_get-semicolon _ c.args.places _ c.requires c.in-Some.is

@@ -1,0 +1,13 @@
+-- The lists that the two walks give are the values' pairs.
+use Rattle.std.proofs.Common.{rules, ◌≡◌, ◌∙◌, refl}
+use Rattle.std.proofs.lemmas.Iterator.Consumers.{YieldsList-from_first}
+use Rattle.std.proofs.lemmas.Iterator.Search.{cmp_from_yields_List}
+use Rattle.mime.specs.Comparison.{pair_cmp}
+use Rattle.mime.specs.Pairs.{pair_seen}
+use Rattle.mime.proofs.value.traits.order_parts.Goals as goal
+
+pub returns : goal.returns
+returns c =
+    let lists = cmp_from_yields_List (λ x y. y ≡ x) _ pair_cmp _ c.cmp.ensures.ran (YieldsList-from_first pair_seen (λ p. p) _ c.pairs.ensures.pairs)
+    (λ it is. YieldsList-from_first pair_seen (λ p. p) _ (is ∙ c.pairs-2.ensures.pairs)) (λ x y. refl) in
+    search rules

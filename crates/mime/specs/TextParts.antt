@@ -1,0 +1,22 @@
+-- Private. What a text has that is equal to a value with pairs.
+use Rattle.std.specs.Prelude.{◌≡◌, ℕ, List, [], ◌∷◌, length, take, Some, IsTrue, slice_get}
+use Rattle.mime.specs.Bytes.{semicolon_byte}
+use Rattle.mime.specs.Scanning.{HasPlaces}
+use Rattle.mime.specs.Values.{lowered, is_charset}
+use Rattle.mime.specs.declared.scan.Places.{Places}
+
+-- a text that goes on with a semicolon after this essence, in any case
+abbrev pub IsListAfter : List ℕ → List ℕ → Type 0
+IsListAfter essence text =
+    (slice_get text (length essence) ≡ Some semicolon_byte) × (lowered essence ≡ lowered (take (length essence) text))
+
+-- an accepted text with its semicolon at this position, and `count` parameters
+pub record IsAcceptedAt (text : List ℕ) (semicolon count : ℕ) : Type 0 where
+  pub places : Places
+  pub has : HasPlaces text places
+  pub at : places.semicolon ≡ Some semicolon
+  pub counted : places.pairs ≡ count
+
+-- the only pair is a charset
+abbrev pub IsLoneCharset : List (List ℕ × List ℕ) → Type 0
+IsLoneCharset pairs = (name : List ℕ) × (content : List ℕ) × (pairs ≡ (name, content) ∷ []) × IsTrue (is_charset name)

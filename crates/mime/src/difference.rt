@@ -1,0 +1,119 @@
+//! Where two texts first differ but for case.
+
+ghost use Rattle.std.specs.Prelude.{◌≡◌, ◌≤◌, IsTrue, IfSome, None, length, take};
+ghost use Rattle.std.specs.Simd.Lanes.{zip2};
+ghost use Rattle.mime.specs.Difference.{is_telling as tells, FirstDifference, DifferTellingly};
+ghost use Rattle.mime.specs.Marks.{mark};
+ghost use Rattle.mime.specs.Values.{lowered};
+ghost use Rattle.mime.specs.declared.difference.Seen.TheVariants.{Alike, Apart};
+
+use crate::bytes::is_space;
+use crate::value::pairs::{BLOCK, marks};
+
+/// The bit that tells a small ASCII letter from its capital.
+const CASE_BIT: u8 = 0x20;
+
+/// A mark where two bytes differ but for case: 1, or else 0.
+#[inline(always)]
+pub(crate) fn difference(x: u8, y: u8) -> u8
+    ensures { result ≡ mark x y }
+{
+    let case = if (x | CASE_BIT).is_ascii_lowercase() {
+        CASE_BIT
+    } else {
+        0
+    };
+    if (x ^ y) & !case == 0 { 0 } else { 1 }
+}
+
+/// A mark for each of the first 16 bytes that differ but for case.
+#[inline(always)]
+fn differences(a: &[u8], b: &[u8]) -> [u8; 16]
+    requires room { 16 ≤ length a.now }
+    requires other_room { 16 ≤ length b.now }
+    ensures { result ≡ zip2 mark (take 16 a.now) (take 16 b.now) }
+{
+    let mut found = [0; 16];
+    let mut at = 0;
+    while at < BLOCK {
+        found[at] = difference(a[at], b[at]);
+        at += 1;
+    }
+    found
+}
+
+/// Where the first 16 bytes first differ but for case, if they do.
+#[inline(always)]
+fn difference_in_block(a: &[u8], b: &[u8]) -> Option<usize>
+    requires room { 16 ≤ length a.now }
+    requires other_room { 16 ≤ length b.now }
+    ensures some { IfSome result (FirstDifference a.now b.now) }
+    ensures none { result ≡ None → take 16 (lowered a.now) ≡ take 16 (lowered b.now) }
+{
+    let found = marks(&differences(a, b), 1);
+    if found == 0 {
+        None
+    } else {
+        Some(found.trailing_zeros() as usize)
+    }
+}
+
+/// Where two texts of at least 16 bytes first differ but for case, if they do before one of them ends. The last block
+/// may overlap the one before.
+#[inline(always)]
+pub(crate) fn first_difference(a: &[u8], b: &[u8]) -> Option<usize>
+    requires room { 16 ≤ length a.now }
+    requires other_room { 16 ≤ length b.now }
+    ensures some { IfSome result (FirstDifference a.now b.now) }
+    ensures none { result ≡ None → length a.now ≡ length b.now → lowered a.now ≡ lowered b.now }
+{
+    let end = if a.len() < b.len() { a.len() } else { b.len() };
+    let last = end - BLOCK;
+    let mut from = 0;
+    while from < last {
+        match difference_in_block(&a[from..], &b[from..]) {
+            Some(at) => return Some(from + at),
+            None => from += BLOCK,
+        }
+    }
+    match difference_in_block(&a[last..], &b[last..]) {
+        Some(at) => Some(last + at),
+        None => None,
+    }
+}
+
+/// Whether a byte tells values apart: wherever it may stand, it adds itself to what a text is read as.
+#[inline(always)]
+fn is_telling(byte: u8) -> bool
+    ensures { result ≡ tells byte }
+{
+    !(is_space(byte) || byte == b'"')
+}
+
+/// What a look at two texts shows.
+pub(crate) enum Seen {
+    /// They are the same but for case.
+    Alike,
+    /// They tell values apart, where they first differ but for case.
+    Apart,
+    /// Neither is seen, or a text is short.
+    Open,
+}
+
+/// What a look at two texts, without regard to case, shows up to their first difference.
+#[inline(always)]
+pub(crate) fn look(kept: &str, text: &str) -> Seen
+    ensures alike { result ≡ Alike → lowered kept.now ≡ lowered text.now }
+    ensures apart { result ≡ Apart → DifferTellingly kept.now text.now }
+{
+    let kept = kept.as_bytes();
+    let text = text.as_bytes();
+    if kept.len() < BLOCK || text.len() < BLOCK {
+        return Seen::Open;
+    }
+    match first_difference(kept, text) {
+        Some(at) if is_telling(kept[at]) && is_telling(text[at]) => Seen::Apart,
+        None if kept.len() == text.len() => Seen::Alike,
+        _ => Seen::Open,
+    }
+}

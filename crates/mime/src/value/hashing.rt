@@ -1,0 +1,76 @@
+//! What the parameters of a media type feed a hasher.
+
+ghost use Rattle.std.specs.Prelude.{◌≡◌, ◌+◌, ◌<◌, length};
+ghost use Rattle.std.specs.List.{fold, flat_map};
+ghost use Rattle.mime.specs.HashInput.{pair_run, pair_parts, pair_input, pair_end};
+
+use crate::value::pairs::Pairs;
+use std::hash::Hasher;
+
+/// How many bytes are joined before they are fed to a hasher.
+const JOINED: usize = 64;
+
+/// The number of bytes in a word of a hasher.
+const WORD: usize = 8;
+
+/// The byte after a name and after a value that are fed. No text has it.
+const MARK: u8 = 0xff;
+
+/// What ends a pair that is fed: that byte, and zeros up to a whole word.
+const END: [u8; WORD] = [MARK, 0, 0, 0, 0, 0, 0, 0];
+
+/// Feeds a short pair to a hasher in one piece.
+#[inline]
+fn feed_joined<H: Hasher>(name: &[u8], value: &[u8], state: &mut H)
+    requires { length name.now + 1 + length value.now < 64 }
+    ensures { state.new ≡ H.write state.old (pair_run (name.now, value.now)) }
+{
+    let mut run = [0u8; JOINED];
+    let middle = name.len();
+    let end = middle + 1 + value.len();
+    run[..middle].copy_from_slice(name);
+    run[middle] = MARK;
+    run[middle + 1..end].copy_from_slice(value);
+    run[end] = MARK;
+    state.write(&run[..end + WORD - end % WORD]);
+}
+
+/// What is fed after a pair of this many bytes.
+#[inline(always)]
+fn end_after(count: usize) -> &'static [u8]
+    ensures { result.now ≡ pair_end count }
+{
+    &END[..WORD - count % WORD]
+}
+
+/// Feeds a long pair to a hasher, part by part.
+#[inline(never)]
+fn feed_apart<H: Hasher>(name: &[u8], value: &[u8], state: &mut H)
+    ensures { state.new ≡ fold H.write state.old (pair_parts (name.now, value.now)) }
+{
+    state.write(name);
+    state.write_u8(MARK);
+    state.write(value);
+    state.write(end_after(name.len() + 1 + value.len()));
+}
+
+/// Feeds a pair to a hasher.
+#[inline]
+fn feed_pair<H: Hasher>(name: &[u8], value: &[u8], state: &mut H)
+    ensures { state.new ≡ fold H.write state.old (pair_input (name.now, value.now)) }
+{
+    if name.len() + 1 + value.len() < JOINED {
+        feed_joined(name, value, state);
+    } else {
+        feed_apart(name, value, state);
+    }
+}
+
+/// Feeds pairs to a hasher, one by one.
+pub(crate) fn feed_pairs<H: Hasher>(pairs: Pairs<'_>, state: &mut H)
+    ensures { state.new ≡ fold H.write state.old (flat_map pair_input pairs.entry) }
+{
+    for (name, value) in pairs {
+        feed_pair(name.as_bytes(), value.as_bytes(), state);
+    }
+}

@@ -1,0 +1,125 @@
+-- Values and texts for which each definition of equality and order is true, and others for which it is false, by computation.
+use Rattle.std.proofs.Common.{◌≡◌, inl, inr, List, ℕ, [], ◌∷◌, None, refl, ap, ◌∙◌, arith, codes}
+use Rattle.std.proofs.lemmas.Bool.{false≢true}
+use Rattle.std.specs.declared.cmp.Ordering.TheVariants.{Less, Equal, Greater}
+use Rattle.mime.specs.Bytes.{is_token_byte, is_quoted_byte}
+use Rattle.mime.specs.Grammar.{quoted, final, listed}
+use Rattle.mime.specs.Values.{MediaType, Reads}
+use Rattle.mime.specs.Comparison.{Same, IsTextBefore, IsPairBefore, Before, pair_cmp, media_cmp, HasNoSemicolon, TextIs}
+use Rattle.mime.proofs.Quoted.{IsContent-taken}
+use Rattle.mime.proofs.Readings.{one_reading}
+use Rattle.mime_facts.proofs.StandardFacts.{media, reads}
+use Rattle.mime_facts.proofs.ValueFacts.{differ, plain_value, reads_capitals}
+
+-- values with one parameter, two of them equal and kept otherwise
+abbrev with_pair : List ℕ → List ℕ → List ℕ → MediaType
+with_pair name value kept = media (codes "a/b") 1 None ((name, value) ∷ []) kept
+
+abbrev pub quoted_x : MediaType
+quoted_x = with_pair (codes "p") (codes "x") (codes "a/b;p=\"x\"")
+
+abbrev pub plain_x : MediaType
+plain_x = with_pair (codes "p") (codes "x") (codes "a/b;p=x")
+
+abbrev pub plain_y : MediaType
+plain_y = with_pair (codes "p") (codes "y") (codes "a/b;p=y")
+
+-- a value with another essence
+abbrev pub other_value : MediaType
+other_value = record plain_value { essence = codes "a/c" }
+
+-- the value of the first of some pairs, if there is one
+abbrev value_in : List (List ℕ × List ℕ) → List ℕ
+value_in [] = []
+value_in ((name, value) ∷ pairs) = value
+
+-- other essences or other pairs make other values
+equal_values : Same quoted_x plain_x × ¬ (Same plain_x plain_y) × ¬ (Same plain_x plain_value) × ¬ (Same plain_value other_value)
+equal_values = (
+  (refl, refl),
+  (λ is. differ (codes "x") (codes "y") refl (ap value_in is.1)),
+  (λ is. differ (codes "x") [] refl (ap value_in is.1)),
+  λ is. differ (codes "a/b") (codes "a/c") refl is.0,
+)
+
+-- ---- order
+
+-- a text that begins another comes before it, and else the first byte in which they differ decides
+texts_before : IsTextBefore (codes "a") (codes "ab") × IsTextBefore (codes "ab") (codes "b")
+texts_before = (inr (refl, tt), inl (omega arith))
+
+-- not the other way round,
+longer_after : ¬ (IsTextBefore (codes "ab") (codes "a"))
+longer_after (inl less) = absurd (omega (arith, less))
+longer_after (inr rest) = rest.1
+
+greater_after : ¬ (IsTextBefore (codes "b") (codes "ab"))
+greater_after (inl less) = absurd (omega (arith, less))
+greater_after (inr rest) = absurd (omega (arith, rest.0))
+
+-- nor is a text before itself
+none_before_itself : ¬ (IsTextBefore (codes "a") (codes "a"))
+none_before_itself (inl less) = absurd (omega (arith, less))
+none_before_itself (inr rest) = rest.1
+
+-- pairs are ordered by their names first
+pairs_before : IsPairBefore (codes "p", codes "y") (codes "q", codes "x") × IsPairBefore (codes "p", codes "x") (codes "p", codes "y")
+pairs_before = (inl (inl (omega arith)), inr (refl, inl (omega arith)))
+
+name_decides : ¬ (IsPairBefore (codes "q", codes "x") (codes "p", codes "y"))
+name_decides (inl (inl less)) = absurd (omega (arith, less))
+name_decides (inl (inr rest)) = rest.1
+name_decides (inr rest) = differ (codes "q") (codes "p") refl rest.0
+
+-- values are ordered by their essences first, and one without parameters comes first
+values_before : Before plain_y other_value × Before plain_value plain_x × Before plain_x plain_y
+values_before = (
+  inl (inr (refl, inr (refl, inl (omega arith)))),
+  inr (refl, tt),
+  inr (refl, inl (inr (refl, inl (omega arith)))),
+)
+
+bare_first : ¬ (Before plain_x plain_value)
+bare_first (inl (inl less)) = absurd (omega (arith, less))
+bare_first (inl (inr (a, inl less))) = absurd (omega (arith, less))
+bare_first (inl (inr (a, inr (slash, inl less)))) = absurd (omega (arith, less))
+bare_first (inl (inr (a, inr (slash, inr rest)))) = rest.1
+bare_first (inr rest) = rest.1
+
+-- the order as a function says the same
+answers :
+    (pair_cmp (codes "p", codes "y") (codes "q", codes "x") ≡ Less)
+    × (pair_cmp (codes "p", codes "y") (codes "p", codes "x") ≡ Greater)
+    × (media_cmp plain_y other_value ≡ Less)
+    × (media_cmp quoted_x plain_x ≡ Equal)
+    × (media_cmp plain_x plain_value ≡ Greater)
+answers = (refl, refl, refl, refl, refl)
+
+-- ---- a text against a value
+
+no_semicolon : HasNoSemicolon (codes "a/b") × ¬ (HasNoSemicolon (codes "a/b;"))
+no_semicolon = (refl, λ is. false≢true is)
+
+-- the reading of `A/B;P="x"`
+pub reads_quoted : Reads (codes "A/B;P=\"x\"") quoted_x
+unfolding is_token_byte is_quoted_byte
+reads_quoted =
+    reads (codes "A") (codes "B") (listed (final [] (quoted (codes "P") (codes "x") [])))
+    (refl, refl, (refl, (refl, IsContent-taken (codes "x") refl refl, refl)))
+
+-- a text is a value without parameters in any case, and a value with some however they are written
+texts_of_values : TextIs plain_value (codes "A/B") × TextIs plain_x (codes "A/B;P=\"x\"")
+texts_of_values = (
+  record { read = plain_value; reads = reads_capitals; same = (refl, refl); bare = λ none. refl },
+  record { read = quoted_x; reads = reads_quoted; same = (refl, refl); bare = λ none. absurd cc },
+)
+
+-- with a semicolon it isn't a value without parameters, though it is read as one,
+semicolon_counts : ¬ (TextIs plain_value (codes "a/b;"))
+semicolon_counts is = false≢true (is.bare refl)
+
+-- and with another parameter it isn't the value
+parameter_counts : ¬ (TextIs plain_y (codes "A/B;P=\"x\""))
+parameter_counts is =
+    differ (codes "y") (codes "x") refl
+    (ap value_in (is.same.1 ∙ ap (λ (v : MediaType). v.pairs) (one_reading _ _ _ is.reads reads_quoted)))

@@ -1,0 +1,158 @@
+-- What each law says of a text: from the law alone, so that one that says less doesn't check.
+use Rattle.std.proofs.Common.{◌≡◌, ◌≢◌, ℕ, Bool, ◌⊎◌, inl, inr, List, [], ◌∷◌, length, Option, None, Result, refl, sym, ap, ◌∙◌, subst, arith, codes}
+use Rattle.std.specs.Char.{IsScalar, encode_utf8}
+use Rattle.std.specs.Iterator.{Drains}
+use Rattle.std.specs.Str.{IsUtf8, IsCharBoundary}
+use Rattle.mime.specs.Bytes.{is_token_byte}
+use Rattle.mime.specs.Grammar.{no_list, SyntaxTree, text_of, IsWellFormed}
+use Rattle.mime.specs.Values.{MediaType, OwnedMedia, Reads, IsRefused}
+use Rattle.mime.specs.Comparison.{Same, Before, TextIs}
+use Rattle.mime.specs.Refusals.{IsViable, IsFront, Lacks, IsFault}
+use Rattle.mime.specs.Items.{IsFirstAccepted}
+use Rattle.mime.specs.Laws.{OneTree, OneReading, EmptyIsViable, FrontOfViableIsViable, AcceptedIsViable, OneCompletion, CompletedIsRefused, NoCompletion, OneFault, OneFront, FrontEndsBetweenCharacters, IsViableInUtf8, FrontIsInUtf8, HasNoPlusFrom, PlusIsLast, KeptIsRead, EssenceIsRead, OneOrder, BeforeIsTransitive, BareTextIs, KeptTextIs, IsDecided, OneAnswer}
+use Rattle.mime.specs.Cut.{CutItem, good, bad, Cut, Pieces, TakesSteps}
+use Rattle.mime.specs.CutLaws.{OneCut, CutHasItems, text_of_pieces, CutWritesText, OneCount, CommaContains, JoinedComesBack, PassesOneCharacter}
+use Rattle.mime.specs.Runs.{Iteration, IsNext}
+use Rattle.mime.specs.RunLaws.{AreGiven, RunGivesCut, CommaContainsOnRuns, PrintedListComesBack}
+use Rattle.mime.specs.declared.iter.Bad.{Bad}
+use Rattle.mime.specs.declared.scan.fault.ParseError.{ParseError}
+use Rattle.mime.specs.declared.scan.fault.ParseError.TheVariants.{MissingSlash, MissingSubtype, InvalidToken}
+use Rattle.mime_facts.proofs.ComparisonFacts.{quoted_x, plain_x, plain_y, other_value, reads_quoted}
+use Rattle.mime_facts.proofs.CutFacts.{e_is_refused, e_is_viable, list_items, cut_of_list, rest_of_text, split_at_comma, read_value}
+use Rattle.mime_facts.proofs.RefusalFacts.{e_lacks_slash, e_is_closed}
+use Rattle.mime_facts.proofs.StandardFacts.{media, tree_from_parts, plus_twice, lowered_parts, no_subtype, space_in_type}
+use Rattle.mime_facts.proofs.ValueFacts.{plain_value, reads_capitals, exact_item, charset_item}
+
+-- ---- trees and readings
+
+tree_of_text : OneTree → (tree : SyntaxTree) → IsWellFormed tree → text_of tree ≡ codes "a/b"
+    → tree ≡ tree_from_parts (codes "a") (codes "b") no_list
+unfolding is_token_byte
+tree_of_text law tree fine is = law tree (tree_from_parts (codes "a") (codes "b") no_list) fine (refl, refl, tt) is
+
+value_of_text : OneReading → (value : MediaType) → Reads (codes "A/B") value → value ≡ plain_value
+value_of_text law value reads = law (codes "A/B") value plain_value reads reads_capitals
+
+last_plus : PlusIsLast → HasNoPlusFrom (codes "a/b+c+d") 6
+last_plus law = (law (codes "a/b+c+d") _ plus_twice).2
+
+kept_text : KeptIsRead → Reads (codes "a/b") plain_value
+kept_text law = law (codes "A/B") plain_value reads_capitals
+
+essence_alone : EssenceIsRead → Reads (codes "text/plain") (media (codes "text/plain") 4 None [] (codes "text/plain"))
+essence_alone law = law _ _ lowered_parts
+
+-- ---- viable and refused texts
+
+empty : EmptyIsViable → IsViable []
+empty law = law
+
+front : FrontOfViableIsViable → IsViable (codes "a/b;p") → IsViable (codes "a/")
+front law viable = law (codes "a/") (codes "b;p") viable
+
+accepted : AcceptedIsViable → IsViable (codes "A/B")
+accepted law = law (codes "A/B") (plain_value, reads_capitals)
+
+completion : OneCompletion → (fault : ParseError) → Lacks (codes "e") fault → fault ≡ MissingSlash
+completion law fault lacks =
+    let one = law (codes "e") e_is_viable e_is_refused in one.2 fault lacks ∙ sym (one.2 MissingSlash e_lacks_slash)
+
+completed : CompletedIsRefused → IsRefused (codes "text/")
+completed law = law (codes "text/") MissingSubtype no_subtype
+
+not_completed : NoCompletion → ¬ (IsViable (codes "a b")) → IsRefused (codes "a b/c")
+not_completed law not_viable = law (codes "a b") (codes "/c") not_viable
+
+fault_of_text : OneFault → IsRefused (codes "a b") → (fault : ParseError) → IsFault (codes "a b") fault → fault ≡ InvalidToken 1 32
+fault_of_text law refused fault is =
+    let one = law (codes "a b") refused in one.2 fault is ∙ sym (one.2 (InvalidToken 1 32) space_in_type)
+
+front_of_text : OneFront → (count : ℕ) → IsFront (codes "a b") count → count ≡ 1
+front_of_text law count is = let one = law (codes "a b") in one.2 count is ∙ sym (one.2 1 space_in_type.front)
+
+border_of_text : FrontEndsBetweenCharacters → IsUtf8 (codes "a b") → IsCharBoundary (codes "a b") 1
+border_of_text law utf8 = law (codes "a b") 1 utf8 space_in_type.front
+
+front_in_utf8 : FrontIsInUtf8 → IsUtf8 (codes "a b") → IsViableInUtf8 (codes "a") × ¬ (IsViableInUtf8 (codes "a b"))
+front_in_utf8 law utf8 = let is = (law (codes "a b") 1 utf8).0 space_in_type.front in (is.viable, is.longest 3 (omega arith) (omega arith))
+
+-- ---- comparison
+
+-- what is before isn't the same, nor after
+one_of_three : OneOrder → (first second : MediaType) → Before first second → ¬ (Same first second) × ¬ (Before second first)
+one_of_three law first second before = by (law first second)
+  where
+    by : (Before first second × ¬ (Same first second) × ¬ (Before second first))
+        ⊎ ((Same first second × ¬ (Before first second) × ¬ (Before second first))
+        ⊎ (Before second first × ¬ (Same first second) × ¬ (Before first second)))
+        → ¬ (Same first second) × ¬ (Before second first)
+    by (inl is) = (is.1, is.2)
+    by (inr (inl is)) = absurd (is.1 before)
+    by (inr (inr is)) = absurd (is.2 before)
+
+transitive : BeforeIsTransitive → Before plain_x plain_y → Before plain_y other_value → Before plain_x other_value
+transitive law first second = law plain_x plain_y other_value first second
+
+bare_text : BareTextIs → TextIs plain_value (codes "A/b") × ¬ (TextIs plain_value (codes "a/b;"))
+bare_text law =
+    let is = law (codes "A/B") plain_value reads_capitals refl in
+    ((is (codes "A/b")).1 refl, λ other. absurd (omega (arith, ap length ((is (codes "a/b;")).0 other))))
+
+text_of_other : KeptTextIs → TextIs plain_x (codes "a/b;p=\"x\"") × (TextIs plain_y (codes "a/b;p=\"x\"") → Same plain_y quoted_x)
+text_of_other law =
+    ((law _ quoted_x reads_quoted plain_x).1 (refl, refl), λ is. (law _ quoted_x reads_quoted plain_y).0 is)
+
+answer_of_key : (Accepts : List ℕ → Bool → Type 0) → OneAnswer Accepts → IsDecided Accepts → (first second : Option (List ℕ × Bool))
+    → IsFirstAccepted Accepts (exact_item ∷ charset_item ∷ []) first → IsFirstAccepted Accepts (exact_item ∷ charset_item ∷ []) second
+    → first ≡ second
+answer_of_key Accepts law decided first second is also =
+    let one = law decided (exact_item ∷ charset_item ∷ []) in one.2 first is ∙ sym (one.2 second also)
+
+-- ---- the cut
+
+cut_of_text : OneCut → (items : List CutItem) (rest : List ℕ) → Cut (codes "e,A/B") items rest
+    → (items ≡ list_items) × (rest ≡ [])
+cut_of_text law items rest cut =
+    let one = law (codes "e,A/B") in
+    let first = one.3 items rest cut in
+    let second = one.3 _ _ cut_of_list in
+    (first.0 ∙ sym second.0, first.1 ∙ sym second.1)
+
+items_of_text : CutHasItems → (text piece rest : List ℕ) → Cut text (bad piece ∷ []) rest
+    → IsViable piece × IsRefused piece × (piece ≢ []) × IsViable rest × IsRefused rest
+items_of_text law text piece rest cut =
+    let is = law text (bad piece ∷ []) rest cut in (is.0.0.0, is.0.0.1, is.0.0.2, is.1, is.2)
+
+pieces_of_text : CutWritesText → (pieces : List (List ℕ × List ℕ)) × (end : List ℕ) × Pieces (codes "e") pieces end
+    × (text_of_pieces pieces end ≡ codes "e")
+pieces_of_text law = let is = law (codes "e") [] (codes "e") rest_of_text in (is.0, is.1, is.2, is.3)
+
+steps_of_text : OneCount → (first second : ℕ) → TakesSteps (codes "e,A/B") first → TakesSteps (codes "e,A/B") second → first ≡ second
+steps_of_text law first second is also = let one = law (codes "e,A/B") in one.2 first is ∙ sym (one.2 second also)
+
+-- the rest before a comma is a bad piece
+comma_after_rest : CommaContains → Cut (codes "e,e,A/B") (bad (codes "e") ∷ list_items) []
+comma_after_rest law = law (codes "e") (codes "e,A/B") [] _ (codes "e") [] rest_of_text e_is_closed cut_of_list
+
+list_of_values : JoinedComesBack → Cut (codes "a/b, a/b") (good (codes "a/b") plain_value ∷ good (codes "a/b") plain_value ∷ []) []
+list_of_values law = law (plain_value ∷ plain_value ∷ []) (read_value, (read_value, tt))
+
+passed_character : PassesOneCharacter → IsUtf8 (codes "e,A/B")
+    → (char : ℕ) × IsScalar char × (codes "," ≡ encode_utf8 char) × IsUtf8 (codes "e") × IsUtf8 (codes "A/B")
+passed_character law utf8 = law _ _ _ _ utf8 split_at_comma
+
+-- ---- runs
+
+run_of_list : RunGivesCut → (first : Iteration) (given : List (Result OwnedMedia Bad)) → first.left ≡ codes "e,A/B"
+    → Drains IsNext first given → AreGiven given list_items
+run_of_list law first given is drains = law first given drains list_items [] (subst (λ text. Cut text list_items []) (sym is) cut_of_list)
+
+run_after_comma : CommaContainsOnRuns → (first : Iteration) (given : List (Result OwnedMedia Bad))
+    → first.left ≡ codes "e,e,A/B" → Drains IsNext first given
+    → AreGiven given (bad (codes "e") ∷ list_items)
+run_after_comma law first given is drains =
+    law (codes "e") (codes "e,A/B") [] _ (codes "e") [] rest_of_text e_is_closed cut_of_list first given is drains
+
+run_of_printed : PrintedListComesBack → (first : Iteration) (given : List (Result OwnedMedia Bad)) → first.left ≡ codes "a/b, a/b"
+    → Drains IsNext first given → AreGiven given (good (codes "a/b") plain_value ∷ good (codes "a/b") plain_value ∷ [])
+run_of_printed law first given is drains = law (plain_value ∷ plain_value ∷ []) (read_value, (read_value, tt)) first given is drains

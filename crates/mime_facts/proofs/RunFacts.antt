@@ -1,0 +1,126 @@
+-- Calls of `next` for which each definition of a run is true, and others for which it is false: over `e`, `e,A/B` and `*/*`.
+use Rattle.std.proofs.Common.{◌≡◌, ℕ, true, false, List, [], ◌∷◌, length, Some, None, Result, Ok, Err, refl, sym, ap, subst, arith, codes, Bor}
+use Rattle.std.proofs.lemmas.Option.{none-some}
+use Rattle.mime.specs.Bytes.{is_token_byte}
+use Rattle.mime.specs.Grammar.{no_list}
+use Rattle.mime.specs.Values.{MediaType, OwnedMedia, Reads}
+use Rattle.mime.specs.Cut.{CutItem, good, bad, Cut, whole, goes_on}
+use Rattle.mime.specs.Runs.{Iteration, HasEnded, IsFirstItem, NeedsMemory, HasNoItem, GivesItem, IsNext}
+use Rattle.mime.specs.RunLaws.{AreGiven, none_left, a_value, a_piece, no_memory}
+use Rattle.mime.specs.declared.iter.Bad.{Bad}
+use Rattle.mime.specs.declared.iter.Bad.TheVariants.{Piece, NoMemory}
+use Rattle.mime_facts.proofs.CutFacts.{split_at_comma, e_is_viable, item_of_e, cut_of_list, rest_of_text, no_item_left_out}
+use Rattle.mime.proofs.Cuts.{cut_unique, takes_unique, takes-viable, empty-cut}
+use Rattle.mime_facts.proofs.StandardFacts.{media, reads}
+use Rattle.mime_facts.proofs.ValueFacts.{differ, plain_value, reads_capitals}
+
+-- an iterator over a text, at its begin and at its end
+abbrev begun : List ℕ → Iteration
+begun text = record { text = text; left = text; starved = false; steps = 0 }
+
+abbrev ended : List ℕ → ℕ → Iteration
+ended text steps = record { text = text; left = []; starved = false; steps = steps }
+
+-- `*/*`, read
+abbrev star_value : MediaType
+star_value = media (codes "*/*") 1 None [] (codes "*/*")
+
+reads_star : Reads (codes "*/*") star_value
+unfolding is_token_byte
+reads_star = reads (codes "*") (codes "*") no_list (refl, refl, tt)
+
+-- the first piece of its cut is itself
+star_piece : (piece : List ℕ) (value : MediaType) (items : List CutItem) (rest : List ℕ) → Cut (codes "*/*") (good piece value ∷ items) rest
+    → piece ≡ codes "*/*"
+star_piece piece value items rest cut =
+    let is = (cut_unique _ _ _ (whole (codes "*/*") star_value reads_star) _ _ cut).0 in cc is
+
+-- ---- what is left
+
+ends : HasEnded (ended (codes "e") 1) × ¬ (HasEnded (begun (codes "e")))
+ends = (refl, differ (codes "e") [] refl)
+
+-- the first item of `e,A/B` is `e`, and not `A/B`
+first_items :
+    IsFirstItem (codes "e,A/B") (bad (codes "e")) (codes "A/B")
+    × ¬ (IsFirstItem (codes "e,A/B") (good (codes "A/B") plain_value) [])
+first_items = (
+  (λ items rest cut. goes_on _ _ _ _ (bad (codes "e") ∷ []) items rest split_at_comma item_of_e cut),
+  λ first. no_item_left_out (first [] [] empty-cut),
+)
+
+-- `e` has no item, and `e,A/B` has one
+no_items : HasNoItem (codes "e") × ¬ (HasNoItem (codes "e,A/B"))
+no_items = ((codes "e", rest_of_text), λ none. absurd (omega (arith, ap length (cut_unique _ _ _ cut_of_list _ _ none.1).0)))
+
+-- `A/B` needs memory,
+needs_memory : NeedsMemory (codes "A/B")
+needs_memory = record {
+  piece = codes "A/B";
+  value = plain_value;
+  items = [];
+  rest = [];
+  cut = whole (codes "A/B") plain_value reads_capitals;
+  not_star = differ (codes "A/B") (codes "*/*") refl;
+}
+
+-- a bad piece needs none,
+bad_needs_none : ¬ (NeedsMemory (codes "e,A/B"))
+bad_needs_none needs = absurd (cc (cut_unique _ _ _ cut_of_list _ _ needs.cut).0)
+
+-- and neither does `*/*`
+star_needs_none : ¬ (NeedsMemory (codes "*/*"))
+star_needs_none needs = needs.not_star (star_piece _ _ _ _ needs.cut)
+
+-- ---- a call
+
+-- an item that is read from `*/*` is fixed
+star_is_fixed : (old new : Iteration) → old.left ≡ codes "*/*" → new.left ≡ [] → (mime : OwnedMedia)
+    → GivesItem old (Some (Ok mime)) new → mime.fixed ≡ true
+star_is_fixed old new at end mime (piece, first, star, same) =
+    let cut = first [] [] (subst (λ l. Cut l [] []) (sym end) empty-cut) in
+    star (star_piece _ _ _ _ (subst (λ t. Cut t (good piece mime.media ∷ []) []) at cut))
+
+-- over `e` none is given, after one step
+ends_at_rest : IsNext (begun (codes "e")) None (ended (codes "e") 1)
+ends_at_rest = record {
+  item = (no_items.0, refl, refl);
+  text = refl;
+  few = omega arith;
+  exact = λ end fed. takes-viable (codes "e") e_is_viable;
+  stays = λ end. absurd (ends.1 end);
+}
+
+-- no more steps than bytes, even where memory ran out,
+steps_are_few : ¬ (IsNext (record (begun (codes "a/")) { starved = true }) None (record (ended (codes "a/") 3) { starved = true }))
+steps_are_few next = absurd (omega (arith, next.few))
+
+-- and at the end no fewer
+steps_are_exact : ¬ (IsNext (begun (codes "e")) None (ended (codes "e") 0))
+steps_are_exact next =
+    absurd (omega (arith, takes_unique (codes "e") 0 1 (next.exact refl refl) (takes-viable (codes "e") e_is_viable)))
+
+-- after the end none is given
+stays_ended : (reason : Bad) → ¬ (IsNext (ended (codes "e") 1) (Some (Err reason)) (ended (codes "e") 1))
+stays_ended reason next = none-some _ (sym (next.stays refl).0)
+
+-- ---- a whole run
+
+-- a bad piece is given as itself
+gives_piece : (piece : Bor (List ℕ)) → piece.now ≡ codes "e" → AreGiven (Err (Piece piece) ∷ []) (bad (codes "e") ∷ [])
+gives_piece piece is = subst (λ text. AreGiven (Err (Piece piece) ∷ []) (bad text ∷ [])) is (a_piece piece [] [] none_left)
+
+-- a run that gives nothing has no items,
+gives_all : (given : List (Result OwnedMedia Bad)) (items : List CutItem) → AreGiven given items → given ≡ [] → items ≡ []
+gives_all given items none_left is = refl
+gives_all given items (a_value mime piece more others are) is = absurd cc
+gives_all given items (a_piece piece more others are) is = absurd cc
+gives_all given items (no_memory piece value others not_star) is = absurd cc
+
+-- and `*/*` is always given
+gives_star : (given : List (Result OwnedMedia Bad)) (items : List CutItem) → AreGiven given items → given ≡ Err NoMemory ∷ []
+    → items ≡ good (codes "*/*") star_value ∷ [] → ⊥
+gives_star given items none_left is star = absurd cc
+gives_star given items (a_value mime piece more others are) is star = absurd cc
+gives_star given items (a_piece piece more others are) is star = absurd cc
+gives_star given items (no_memory piece value others not_star) is star = not_star cc

@@ -1,0 +1,243 @@
+-- Texts with what they are read as or why they are refused, by computation: a wrong rule does not check.
+use Rattle.std.proofs.Common.{ℕ, List, [], ◌∷◌, ◌++◌, Option, Some, None, refl, codes, arith, lit<}
+use Rattle.mime.specs.Bytes.{is_token_byte, is_quoted_byte}
+use Rattle.mime.specs.Grammar.{no_byte, plain, quoted, blank, final, more, Tail, no_list, listed, SyntaxTree, text_of, IsWellFormed}
+use Rattle.mime.specs.Values.{MediaType, value_of, Reads}
+use Rattle.mime.specs.Difference.{DifferTellingly}
+use Rattle.mime.specs.Refusals.{IsFault}
+use Rattle.mime.specs.declared.scan.fault.ParseError.TheVariants.{MissingSlash, MissingSubtype, MissingEqual, MissingValue, MissingQuote, InvalidToken}
+use Rattle.mime.proofs.FirstDifference.{told_apart}
+use Rattle.mime.proofs.Quoted.{IsContent-taken}
+use Rattle.mime.proofs.Viability.{slash_fault-from_walk, subtype_fault-from_walk, equal_fault-from_walk, value_fault-from_walk, quote_fault-from_walk, dead-from_walk}
+
+-- ---- accepted texts
+
+-- a value by its essence, the positions of slash and plus, its pairs and its kept text
+abbrev pub media : List ℕ → ℕ → Option ℕ → List (List ℕ × List ℕ) → List ℕ → MediaType
+media essence slash plus pairs kept = record { essence = essence; slash = slash; plus = plus; pairs = pairs; kept = kept }
+
+-- a tree by its type, its subtype and its tail
+abbrev pub tree_from_parts : List ℕ → List ℕ → Tail → SyntaxTree
+tree_from_parts top sub tail = record { top = top; sub = sub; tail = tail }
+
+-- a well-formed tree has its text read as its value
+pub reads : (top sub : List ℕ) (tail : Tail) → IsWellFormed (tree_from_parts top sub tail)
+    → Reads (text_of (tree_from_parts top sub tail)) (value_of (tree_from_parts top sub tail))
+reads top sub tail fine = record { tree = tree_from_parts top sub tail; well_formed = fine; spelled = refl; valued = refl }
+
+-- the subtype's first byte begins no suffix
+plus_first : Reads (codes "a/+xml") (media (codes "a/+xml") 1 None [] (codes "a/+xml"))
+unfolding is_token_byte
+plus_first = reads (codes "a") (codes "+xml") no_list (refl, refl, tt)
+
+-- the last plus begins the suffix
+pub plus_twice : Reads (codes "a/b+c+d") (media (codes "a/b+c+d") 1 (Some 5) [] (codes "a/b+c+d"))
+unfolding is_token_byte
+plus_twice = reads (codes "a") (codes "b+c+d") no_list (refl, refl, tt)
+
+-- a suffix may be empty
+plus_last : Reads (codes "a/b+") (media (codes "a/b+") 1 (Some 3) [] (codes "a/b+"))
+unfolding is_token_byte
+plus_last = reads (codes "a") (codes "b+") no_list (refl, refl, tt)
+
+-- type, subtype, names and a charset are lowered, other values are kept
+pub lowered_parts : Reads (codes "TEXT/PLAIN; CHARSET=UTF-8; FOO=BAR")
+    (media (codes "text/plain") 4 None ((codes "charset", codes "utf-8") ∷ (codes "foo", codes "BAR") ∷ [])
+    (codes "text/plain; charset=utf-8; foo=BAR"))
+unfolding is_token_byte
+lowered_parts =
+    reads (codes "TEXT") (codes "PLAIN")
+    (listed (more (codes " ") (plain (codes "CHARSET") (codes "UTF-8")) (final (codes " ") (plain (codes "FOO") (codes "BAR")))))
+    (refl, refl, (refl, (refl, refl), (refl, (refl, refl))))
+
+-- a list without parameters isn't kept
+blank_list : Reads (codes "text/event-stream;       ") (media (codes "text/event-stream") 4 None [] (codes "text/event-stream"))
+unfolding is_token_byte
+blank_list = reads (codes "text") (codes "event-stream") (listed (blank (codes "       "))) (refl, refl, refl)
+
+-- a semicolon and spaces after the last parameter are kept
+kept_end : Reads (codes "a/b;p=x; ") (media (codes "a/b") 1 None ((codes "p", codes "x") ∷ []) (codes "a/b;p=x; "))
+unfolding is_token_byte
+kept_end =
+    reads (codes "a") (codes "b") (listed (more [] (plain (codes "p") (codes "x")) (blank (codes " "))))
+    (refl, refl, (refl, (refl, refl), refl))
+
+-- a quoted value may be empty
+no_content : Reads (codes "a/b;p=\"\"") (media (codes "a/b") 1 None ((codes "p", []) ∷ []) (codes "a/b;p=\"\""))
+unfolding is_token_byte is_quoted_byte
+no_content =
+    reads (codes "a") (codes "b") (listed (final [] (quoted (codes "p") [] []))) (refl, refl, (refl, (refl, no_byte, refl)))
+
+-- a backslash pairs a quote, and the value keeps both
+paired_quote : Reads (codes "a/b;p=\"\\\"x\"") (media (codes "a/b") 1 None ((codes "p", codes "\\\"x") ∷ []) (codes "a/b;p=\"\\\"x\""))
+unfolding is_token_byte is_quoted_byte
+paired_quote =
+    reads (codes "a") (codes "b") (listed (final [] (quoted (codes "p") (codes "\\\"x") [])))
+    (refl, refl, (refl, (refl, IsContent-taken (codes "\\\"x") refl refl, refl)))
+
+-- a charset is lowered after a backslash too
+paired_capital : Reads (codes "a/b;charset=\"\\U\"")
+    (media (codes "a/b") 1 None ((codes "charset", codes "\\u") ∷ []) (codes "a/b;charset=\"\\u\""))
+unfolding is_token_byte is_quoted_byte
+paired_capital =
+    reads (codes "a") (codes "b") (listed (final [] (quoted (codes "charset") (codes "\\U") [])))
+    (refl, refl, (refl, (refl, IsContent-taken (codes "\\U") refl refl, refl)))
+
+-- a tab may occur in a quoted value
+tab_in_quotes : Reads (codes "a/b;p=\"" ++ (195 ∷ 169 ∷ 9 ∷ codes "\""))
+    (media (codes "a/b") 1 None ((codes "p", 195 ∷ 169 ∷ 9 ∷ []) ∷ []) (codes "a/b;p=\"" ++ (195 ∷ 169 ∷ 9 ∷ codes "\"")))
+unfolding is_token_byte is_quoted_byte
+tab_in_quotes =
+    reads (codes "a") (codes "b") (listed (final [] (quoted (codes "p") (195 ∷ 169 ∷ 9 ∷ []) [])))
+    (refl, refl, (refl, (refl, IsContent-taken (195 ∷ 169 ∷ 9 ∷ []) refl refl, refl)))
+
+-- a tab is allowed wherever a space is
+tabs_beside_parameters : Reads (codes "a/b;" ++ (9 ∷ codes "p=\"x\"" ++ (9 ∷ codes ";q=1")))
+    (media (codes "a/b") 1 None ((codes "p", codes "x") ∷ (codes "q", codes "1") ∷ [])
+    (codes "a/b;" ++ (9 ∷ codes "p=\"x\"" ++ (9 ∷ codes ";q=1"))))
+unfolding is_token_byte is_quoted_byte
+tabs_beside_parameters =
+    reads (codes "a") (codes "b")
+    (listed (more (9 ∷ []) (quoted (codes "p") (codes "x") (9 ∷ [])) (final [] (plain (codes "q") (codes "1")))))
+    (refl, refl, (refl, (refl, IsContent-taken (codes "x") refl refl, refl), (refl, (refl, refl))))
+
+-- a quoted value may hold bytes past ASCII, semicolons and commas
+quoted_bytes : Reads (codes "a/b;p=\"" ++ (195 ∷ 169 ∷ codes ";,\""))
+    (media (codes "a/b") 1 None ((codes "p", 195 ∷ 169 ∷ codes ";,") ∷ []) (codes "a/b;p=\"" ++ (195 ∷ 169 ∷ codes ";,\"")))
+unfolding is_token_byte is_quoted_byte
+quoted_bytes =
+    reads (codes "a") (codes "b") (listed (final [] (quoted (codes "p") (195 ∷ 169 ∷ codes ";,") [])))
+    (refl, refl, (refl, (refl, IsContent-taken (195 ∷ 169 ∷ codes ";,") refl refl, refl)))
+
+-- spaces may follow a quoted value, and a name may come twice
+spaces_after_quotes : Reads (codes "A/B; P=\"x\" ;p=2")
+    (media (codes "a/b") 1 None ((codes "p", codes "x") ∷ (codes "p", codes "2") ∷ []) (codes "a/b; p=\"x\" ;p=2"))
+unfolding is_token_byte is_quoted_byte
+spaces_after_quotes =
+    reads (codes "A") (codes "B")
+    (listed (more (codes " ") (quoted (codes "P") (codes "x") (codes " ")) (final [] (plain (codes "p") (codes "2")))))
+    (refl, refl, (refl, (refl, IsContent-taken (codes "x") refl refl, refl), (refl, (refl, refl))))
+
+-- ---- refused texts
+
+-- no text at all lacks a slash too
+empty_text : IsFault [] MissingSlash
+empty_text = slash_fault-from_walk [] [] refl
+
+-- a type alone
+pub no_slash : IsFault (codes "invalid") MissingSlash
+unfolding is_token_byte
+no_slash = slash_fault-from_walk (codes "invalid") (codes "invalid") refl
+
+-- a type and its slash
+pub no_subtype : IsFault (codes "text/") MissingSubtype
+unfolding is_token_byte
+no_subtype = subtype_fault-from_walk (codes "text/") (codes "text") refl
+
+-- a parameter's name alone
+pub no_equals : IsFault (codes "a/b;p") MissingEqual
+unfolding is_token_byte
+no_equals = equal_fault-from_walk (codes "a/b;p") (codes "a") (codes "b") [] [] (codes "p") refl
+
+-- a name and its equals sign
+pub no_value : IsFault (codes "a/b;p=") MissingValue
+unfolding is_token_byte
+no_value = value_fault-from_walk (codes "a/b;p=") (codes "a") (codes "b") [] [] (codes "p") refl
+
+-- in an open quoted value a slash and an equals sign are content
+slash_in_quotes : IsFault (codes "a/b;p=\"x/") MissingQuote
+unfolding is_token_byte is_quoted_byte
+slash_in_quotes = quote_fault-from_walk (codes "a/b;p=\"x/") (codes "a") (codes "b") [] [] (codes "p") (codes "x/") refl
+
+equals_in_quotes : IsFault (codes "a/b;p=\"=") MissingQuote
+unfolding is_token_byte is_quoted_byte
+equals_in_quotes = quote_fault-from_walk (codes "a/b;p=\"=") (codes "a") (codes "b") [] [] (codes "p") (codes "=") refl
+
+-- a paired quote closes nothing
+pub no_quote : IsFault (codes "a/b;p=\"\\\"") MissingQuote
+unfolding is_token_byte is_quoted_byte
+no_quote = quote_fault-from_walk (codes "a/b;p=\"\\\"") (codes "a") (codes "b") [] [] (codes "p") (codes "\\\"") refl
+
+-- what ends in a lone backslash lacks the quote too
+lone_backslash : IsFault (codes "a/b;p=\"\\") MissingQuote
+unfolding is_token_byte is_quoted_byte
+lone_backslash = quote_fault-from_walk (codes "a/b;p=\"\\") (codes "a") (codes "b") [] [] (codes "p") (codes "\\") refl
+
+-- a type has no space
+pub space_in_type : IsFault (codes "a b") (InvalidToken 1 32)
+unfolding is_token_byte
+space_in_type = dead-from_walk (codes "a") (codes "b") 32 _ refl refl
+
+-- a subtype has no slash
+second_slash : IsFault (codes "a//") (InvalidToken 2 47)
+unfolding is_token_byte
+second_slash = dead-from_walk (codes "a/") [] 47 _ refl refl
+
+-- a subtype has one byte or more
+list_after_empty_subtype : IsFault (codes "text/;") (InvalidToken 5 59)
+unfolding is_token_byte
+list_after_empty_subtype = dead-from_walk (codes "text/") [] 59 _ refl refl
+
+-- a value has one byte or more
+semicolon_after_empty_value : IsFault (codes "a/b;p=;") (InvalidToken 6 59)
+unfolding is_token_byte
+semicolon_after_empty_value = dead-from_walk (codes "a/b;p=") [] 59 _ refl refl
+
+-- no space follows a name
+space_after_name : IsFault (codes "a/b;p ") (InvalidToken 5 32)
+unfolding is_token_byte
+space_after_name = dead-from_walk (codes "a/b;p") [] 32 _ refl refl
+
+-- only spaces and tabs may follow a quoted value
+text_after_quotes : IsFault (codes "a/b;p=\"x\"junk") (InvalidToken 9 106)
+unfolding is_token_byte is_quoted_byte
+text_after_quotes = dead-from_walk (codes "a/b;p=\"x\"") (codes "unk") 106 _ refl refl
+
+-- or an empty one
+text_after_empty_quotes : IsFault (codes "a/b;p=\"\"x\"") (InvalidToken 8 120)
+unfolding is_token_byte is_quoted_byte
+text_after_empty_quotes = dead-from_walk (codes "a/b;p=\"\"") (codes "\"") 120 _ refl refl
+
+-- no control but the tab may occur in a quoted value
+control_in_quotes : IsFault (codes "a/b;p=\"" ++ (195 ∷ 169 ∷ 1 ∷ codes "\"")) (InvalidToken 9 1)
+unfolding is_token_byte is_quoted_byte
+control_in_quotes = dead-from_walk (codes "a/b;p=\"" ++ (195 ∷ 169 ∷ [])) (codes "\"") 1 _ refl refl
+
+-- nor may one after a backslash
+control_after_backslash : IsFault (codes "a/b;p=\"\\" ++ (13 ∷ [])) (InvalidToken 8 13)
+unfolding is_token_byte is_quoted_byte
+control_after_backslash = dead-from_walk (codes "a/b;p=\"\\") [] 13 _ refl refl
+
+-- no tab precedes the first semicolon
+tab_before_semicolon : IsFault (codes "a/b" ++ (9 ∷ codes ";p=x")) (InvalidToken 3 9)
+unfolding is_token_byte
+tab_before_semicolon = dead-from_walk (codes "a/b") (codes ";p=x") 9 _ refl refl
+
+-- nor does one follow a plain value
+tab_after_plain_value : IsFault (codes "a/b;p=x" ++ (9 ∷ [])) (InvalidToken 7 9)
+unfolding is_token_byte
+tab_after_plain_value = dead-from_walk (codes "a/b;p=x") [] 9 _ refl refl
+
+-- a line's end is no space
+line_end_after_semicolon : IsFault (codes "text/plain;" ++ (13 ∷ 10 ∷ codes "charset=utf-8")) (InvalidToken 11 13)
+unfolding is_token_byte
+line_end_after_semicolon = dead-from_walk (codes "text/plain;") (10 ∷ codes "charset=utf-8") 13 _ refl refl
+
+-- ---- first differences
+
+-- neither byte is a space, a tab or a quote
+first_difference_tells : DifferTellingly (codes "a/b;p=x") (codes "A/B;P=y")
+first_difference_tells = record {
+  at = 6;
+  first = record { within = lit< tt; within_other = lit< tt; alike = refl; differ = λ same. omega (arith, same) };
+  tells = refl;
+  also = refl;
+}
+
+-- a quote tells nothing: the values are equal
+quote_tells_nothing : ¬ (DifferTellingly (codes "a/b;p=x") (codes "a/b;p=\"x\""))
+unfolding is_token_byte is_quoted_byte
+quote_tells_nothing = λ d.
+    told_apart _ _ _ _ (reads (codes "a") (codes "b") (listed (final [] (plain (codes "p") (codes "x")))) (refl, refl, (refl, (refl, refl))))
+    (reads (codes "a") (codes "b") (listed (final [] (quoted (codes "p") (codes "x") [])))
+    (refl, refl, (refl, (refl, IsContent-taken (codes "x") refl refl, refl)))) d (refl, refl)

@@ -1,0 +1,193 @@
+-- Texts and values for which each definition of a value, its parts, its items and its names is true, and others for which it is
+-- false, by computation.
+use Rattle.std.proofs.Common.{◌≡◌, ◌≢◌, ℕ, Bool, true, false, List, [], ◌∷◌, map, length, Some, None, refl, sym, ap, ◌∙◌, codes}
+use Rattle.std.proofs.lemmas.Bool.{true≢false}
+use Rattle.std.proofs.lemmas.Option.{none-some, same_Some}
+use Rattle.std.proofs.lemmas.Slice.Eq.{bytes_eq-Decides}
+use Rattle.std.specs.Fmt.{digits}
+use Rattle.std.specs.Str.{bytes_eq}
+use Rattle.std.specs.Prelude.{slice_get}
+use Rattle.mime.specs.Bytes.{is_token_byte}
+use Rattle.mime.specs.Grammar.{plain, quoted, final, more, no_list, listed, SyntaxTree}
+use Rattle.mime.specs.Values.{MediaType, lowered, is_charset, lowered_value, lowered_tree, pairs_of_tail, last_plus, essence_of, kept_text, Reads, IsAccepted, IsRefused, type_of, subtype_of, suffix_of}
+use Rattle.mime.specs.Items.{Item, items_of, IsLowIf, IsLowItem, IsFirstAccepted}
+use Rattle.mime.specs.Names.{NameIs, name_table}
+use Rattle.mime.specs.Atoms.{atom_text}
+use Rattle.mime.specs.Printed.{fault_text, error_text}
+use Rattle.mime.specs.Views.{item_seen, name_seen, name_text}
+use Rattle.mime.specs.declared.atoms.Atom.TheVariants.{STAR_STAR, TEXT_PLAIN_UTF_8, IMAGE_SVG, APPLICATION_WWW_FORM_URLENCODED}
+use Rattle.mime.specs.declared.name.Name.{Name}
+use Rattle.mime.specs.declared.scan.fault.ParseError.TheVariants.{MissingSlash, MissingSubtype, MissingEqual, MissingValue, MissingQuote, InvalidToken, NoMemory}
+use Rattle.mime.proofs.Readings.{one_reading, stopped-from_walk}
+use Rattle.mime_facts.proofs.StandardFacts.{media, tree_from_parts, reads}
+
+-- texts that a test tells apart differ
+pub differ : (first second : List ℕ) → bytes_eq first second ≡ false → first ≢ second
+differ first second is same = true≢false (sym ((bytes_eq-Decides first second).1 same) ∙ is)
+
+-- ---- lowering
+
+-- capitals alone are lowered, of ASCII alone
+lowered_bytes : lowered (64 ∷ 65 ∷ 90 ∷ 91 ∷ 97 ∷ 195 ∷ 137 ∷ []) ≡ 64 ∷ 97 ∷ 122 ∷ 91 ∷ 97 ∷ 195 ∷ 137 ∷ []
+lowered_bytes = refl
+
+-- `charset` in any case is the name whose value is lowered
+charsets :
+    (is_charset (codes "CharSet") ≡ true)
+    × (is_charset (codes "charsets") ≡ false)
+    × (lowered_value (codes "CHARSET") (codes "UTF") ≡ codes "utf")
+    × (lowered_value (codes "boundary") (codes "UTF") ≡ codes "UTF")
+charsets = (refl, refl, refl, refl)
+
+-- a tree with a list of parameters
+abbrev capitals : SyntaxTree
+capitals = tree_from_parts (codes "A") (codes "B+C")
+    (listed (more (codes " ") (plain (codes "P") (codes "X")) (final [] (quoted (codes "Charset") (codes "\\X") (codes " ")))))
+
+-- its lowering keeps the value under `P`, and all spaces
+lowered_capitals :
+    lowered_tree capitals
+    ≡ tree_from_parts (codes "a") (codes "b+c")
+    (listed (more (codes " ") (plain (codes "p") (codes "X")) (final [] (quoted (codes "charset") (codes "\\x") (codes " ")))))
+lowered_capitals = refl
+
+-- its pairs, without quotes and with backslashes, its essence, and its kept text with a pair and without one
+parts_of_capitals :
+    (pairs_of_tail capitals.tail ≡ (codes "P", codes "X") ∷ (codes "Charset", codes "\\X") ∷ [])
+    × (pairs_of_tail no_list ≡ [])
+    × (essence_of capitals ≡ codes "A/B+C")
+    × (kept_text [] capitals ≡ codes "A/B+C")
+    × (kept_text ((codes "p", codes "x") ∷ []) capitals ≡ codes "A/B+C; P=X;Charset=\"\\X\" ")
+parts_of_capitals = (refl, refl, refl, refl, refl)
+
+-- the last plus, by its position from where the bytes begin
+last_pluses : (last_plus 3 (codes "a+b+c") ≡ Some 6) × (last_plus 3 (codes "abc") ≡ None)
+last_pluses = (refl, refl)
+
+-- ---- reading
+
+-- the value of `a/b`
+abbrev pub plain_value : MediaType
+plain_value = media (codes "a/b") 1 None [] (codes "a/b")
+
+-- a text in capitals is read as a value in small letters,
+pub reads_capitals : Reads (codes "A/B") plain_value
+unfolding is_token_byte
+reads_capitals = reads (codes "A") (codes "B") no_list (refl, refl, tt)
+
+-- and not as one that keeps them
+pub keeps_no_capitals : ¬ (Reads (codes "A/B") (media (codes "a/b") 1 None [] (codes "A/B")))
+keeps_no_capitals other =
+    differ (codes "a/b") (codes "A/B") refl (ap (λ (v : MediaType). v.kept) (one_reading _ _ _ reads_capitals other))
+
+-- an accepted text isn't refused, and a text with a space in its type is
+accepted_and_refused : IsAccepted (codes "A/B") × ¬ (IsRefused (codes "A/B")) × IsRefused (codes "a b") × ¬ (IsAccepted (codes "a b"))
+unfolding is_token_byte
+accepted_and_refused = (
+  (plain_value, reads_capitals),
+  (λ is. is (plain_value, reads_capitals)),
+  stopped-from_walk (codes "a b") refl,
+  stopped-from_walk (codes "a b") refl,
+)
+
+-- the parts of a value with a suffix, and of one without
+parts_of_value :
+    (type_of (media (codes "image/svg+xml") 5 (Some 9) [] []) ≡ codes "image")
+    × (subtype_of (media (codes "image/svg+xml") 5 (Some 9) [] []) ≡ codes "svg")
+    × (suffix_of (media (codes "image/svg+xml") 5 (Some 9) [] []) ≡ Some (codes "xml"))
+    × (subtype_of plain_value ≡ codes "b")
+    × (suffix_of plain_value ≡ None)
+parts_of_value = (refl, refl, refl, refl, refl)
+
+-- ---- items
+
+-- the item of `p=X`, and that of `charset=x`
+abbrev pub exact_item : Item
+exact_item = record { name = codes "p"; name_ignores_case = true; value = codes "X"; value_ignores_case = false }
+
+abbrev pub charset_item : Item
+charset_item = record { name = codes "charset"; name_ignores_case = true; value = codes "x"; value_ignores_case = true }
+
+-- each name ignores case, and the value of `charset` alone does
+items_of_pairs : items_of ((codes "p", codes "X") ∷ (codes "charset", codes "x") ∷ []) ≡ exact_item ∷ charset_item ∷ []
+items_of_pairs = refl
+
+-- what ignores case has no capital
+low_texts : IsLowIf true (codes "é") × IsLowIf false (codes "X") × ¬ (IsLowIf true (codes "X")) × IsLowItem exact_item
+    × ¬ (IsLowItem (record exact_item { name = codes "P" })) × ¬ (IsLowItem (record charset_item { value = codes "X" }))
+low_texts = (
+  (λ is. refl),
+  (λ is. absurd (true≢false (sym is))),
+  (λ is. differ (codes "x") (codes "X") refl (is refl)),
+  ((λ is. refl), λ is. absurd (true≢false (sym is))),
+  (λ is. differ (codes "p") (codes "P") refl (is.0 refl)),
+  λ is. differ (codes "x") (codes "X") refl (is.1 refl),
+)
+
+-- a key of this name
+abbrev IsName : List ℕ → List ℕ → Bool → Type 0
+IsName key name ignores_case = name ≡ key
+
+-- the answer of such a key: that of the first item of its name, whatever comes before it, and none if there is no such item
+first_answers :
+    IsFirstAccepted (IsName (codes "charset")) (exact_item ∷ charset_item ∷ []) (Some (codes "x", true))
+    × ¬ (IsFirstAccepted (IsName (codes "charset")) (exact_item ∷ charset_item ∷ []) (Some (codes "X", false)))
+    × ¬ (IsFirstAccepted (IsName (codes "charset")) (exact_item ∷ charset_item ∷ []) None)
+    × IsFirstAccepted (IsName (codes "q")) (exact_item ∷ []) None
+    × ¬ (IsFirstAccepted (IsName (codes "q")) (exact_item ∷ []) (Some (codes "X", false)))
+first_answers =
+    let other = differ (codes "p") (codes "charset") refl in
+    let absent = differ (codes "p") (codes "q") refl in (
+      ((λ is. absurd (other is)), λ isnt. ((λ is. refl), λ isnt. absurd (isnt refl))),
+      (λ found. differ (codes "X") (codes "x") refl (ap (λ (p : List ℕ × Bool). p.0) (same_Some _ _ ((found.1 other).0 refl)))),
+      (λ found. none-some _ ((found.1 other).0 refl)),
+      ((λ is. absurd (absent is)), λ isnt. refl),
+      λ found. none-some _ (sym (found.1 absent)),
+    )
+
+-- ---- names, constants and errors
+
+-- a name that ignores case is a text in any case, another its bytes alone
+names :
+    NameIs (codes "text") true (codes "Text")
+    × ¬ (NameIs (codes "text") true (codes "texts"))
+    × NameIs (codes "Abc") false (codes "Abc")
+    × ¬ (NameIs (codes "Abc") false (codes "abc"))
+names = (refl, differ (codes "text") (codes "texts") refl, refl, differ (codes "Abc") (codes "abc") refl)
+
+-- the first of the constant names, the last, and how many they are
+constant_names :
+    (slice_get name_table 0 ≡ Some (codes "*")) × (slice_get name_table 37 ≡ Some (codes "utf-8")) × (length name_table ≡ 38)
+constant_names = (refl, refl, refl)
+
+-- the texts of some constant media types
+constant_texts :
+    map atom_text (STAR_STAR ∷ TEXT_PLAIN_UTF_8 ∷ IMAGE_SVG ∷ APPLICATION_WWW_FORM_URLENCODED ∷ [])
+    ≡ codes "*/*" ∷ codes "text/plain; charset=utf-8" ∷ codes "image/svg+xml" ∷ codes "application/x-www-form-urlencoded" ∷ []
+constant_texts = refl
+
+-- what callers see of a name and of a parameter
+views : (name value : Name)
+    → (name_text name ≡ name.text.now)
+    × (name_seen name ≡ (name.text.now, name.ignores_case))
+    × ((item_seen (name, value)).value ≡ value.text.now)
+views name value = (refl, refl, refl)
+
+-- what a fault prints, with a byte in capital hexadecimal without leading zeros
+printed_faults :
+    map fault_text (MissingSlash ∷ MissingSubtype ∷ MissingEqual ∷ MissingValue ∷ MissingQuote ∷ InvalidToken 10 11 ∷ NoMemory ∷ [])
+    ≡ codes "a slash (/) was missing between the type and subtype"
+    ∷ codes "a subtype was missing behind the slash (/)"
+    ∷ codes "an equals sign (=) was missing between a parameter and its value"
+    ∷ codes "a value was missing behind the equals sign (=)"
+    ∷ codes "a quote (\") was missing from a parameter value"
+    ∷ codes "an invalid token was encountered, B at position 10"
+    ∷ codes "memory ran out"
+    ∷ []
+unfolding digits
+printed_faults = refl
+
+-- and what the error of reading prints
+printed_error : error_text (InvalidToken 5 59) ≡ codes "mime parse error: an invalid token was encountered, 3B at position 5"
+unfolding digits
+printed_error = refl

@@ -1,0 +1,75 @@
+"""The edits of the repository: wrong bodies, and a harmless twin of each that the prover refuses.
+
+An edit is a file NAME.edit. The prover refuses those of tools/edits/clauses and of each crate's must-fail/; a test or the compiler
+refuses those of tools/edits/tests. It has these lines:
+
+    fn: mime::value::Mime::from_str     the function, as rt check prints it
+    clause: read                        the clause that refuses it: its name, or 'ensures' for one without a name and where one answer
+                                        proves all clauses, or 'invariant' for that of a loop, which a clause rests on, or the name of
+                                        another goal that is left open
+    refused by: test NAME of CRATE      what refuses it, or 'error NAME of CRATE': in tools/edits/tests, in place of these two
+    why: SENTENCE                       what the body does, and why that is refused where it isn't plain (docs/WRONG-BODIES.md)
+    file: crates/mime/src/value.rt      in a crate's must-fail/ the path within the crate, as src/value.rt
+    old: TEXT                           one line, which occurs once in the file
+    new: TEXT                           one line
+
+with as many pairs of old and new as needed. A twin is the file of its edit's name in tools/edits/twins, with the lines file, old and
+new alone."""
+
+import glob
+import os
+import re
+
+TOP = os.path.dirname(os.path.dirname(os.path.realpath(__file__)))
+PLACES = {"clauses": ["tools/edits/clauses", "crates/*/must-fail"], "tests": ["tools/edits/tests"], "twins": ["tools/edits/twins"]}
+NEEDED = {"clauses": ("fn", "clause", "why"), "tests": ("refused by", "why"), "twins": ()}
+
+
+def text_of(path):
+    with open(f"{TOP}/{path}", encoding="utf-8") as file:
+        return file.read()
+
+
+def paths(kind):
+    """The files of the edits of a kind, from the top of the repository."""
+    found = (it for place in PLACES[kind] for it in glob.glob(f"{TOP}/{place}/*.edit"))
+    return sorted(os.path.relpath(it, TOP) for it in found)
+
+
+class Edit:
+    """A change of the crates' files, with what is said of it."""
+
+    def __init__(self, path, kind):
+        self.name, self.is_twin = os.path.basename(path).removesuffix(".edit"), kind == "twins"
+        crate = re.match(r"crates/\w+/(?=must-fail/)", path)
+        said, self.changes = {}, []
+        for line in text_of(path).split("\n"):
+            word, _, text = line.partition(":")
+            said[word] = text.removeprefix(" ")
+            if word == "new":
+                self.changes.append(((crate[0] if crate else "") + said.get("file", ""), said.pop("old", ""), said["new"]))
+        lacking = [it for it in (*NEEDED[kind], "file", "new") if it not in said]
+        if lacking or not all(old for _, old, _ in self.changes):
+            raise ValueError(f"{path}: it lacks {' and '.join(lacking) or 'a line old before a line new'}")
+        if any(old == new for _, old, new in self.changes):
+            raise ValueError(f"{path}: it changes a text into the same")
+        self.fn, self.clause, self.refused_by, self.why = (said.get(it, "") for it in ("fn", "clause", "refused by", "why"))
+
+    def __str__(self):
+        return f"{'twin' if self.is_twin else 'edit'} {self.name}"
+
+
+def applied(changes, texts):
+    """The texts of files, by path, with changes made. An old text must occur once."""
+    texts = dict(texts)
+    for file, old, new in changes:
+        text = texts.get(file) or text_of(file)
+        if text.count(old) != 1:
+            raise ValueError(f"{old!r} occurs {text.count(old)} times in {file}, and not once")
+        texts[file] = text.replace(old, new)
+    return texts
+
+
+def lines_of(changes):
+    """The lines that are changed, each as a file and a number."""
+    return {(file, text_of(file).split(old)[0].count("\n")) for file, old, _ in changes}
