@@ -91,10 +91,11 @@ ends_at_rest = record {
   stays = λ end. absurd (ends.1 end);
 }
 
--- not after none, nor after two, whether or not memory ran out before
-steps_are_few : ¬ (IsNext (record (begun (codes "e")) { starved = true }) None (record (ended (codes "e") 2) { starved = true }))
+-- no more steps than bytes, even where memory ran out,
+steps_are_few : ¬ (IsNext (record (begun (codes "a/")) { starved = true }) None (record (ended (codes "a/") 3) { starved = true }))
 steps_are_few next = absurd (omega (arith, next.few))
 
+-- and at the end no fewer
 steps_are_exact : ¬ (IsNext (begun (codes "e")) None (ended (codes "e") 0))
 steps_are_exact next =
     absurd (omega (arith, takes_unique (codes "e") 0 1 (next.exact refl refl) (takes-viable (codes "e") e_is_viable)))
