@@ -277,12 +277,15 @@ fn parameters_are_counted_and_end(rt: HostRuntime) -> Result<(), Fail> {
     Ok(())
 }
 
-/// How many parameters there are. Checks that each is `p=x`.
-pub(crate) fn count_of_p(rt: &impl Abort, mime: &Mime) -> u64 {
+fn is_p_x(name: Name<'_>, value: Name<'_>) -> bool {
+    name.text == "p" && value.text == "x"
+}
+
+/// How many parameters are `p=x`.
+pub(crate) fn count_of_p(mime: &Mime) -> u64 {
     let mut count = 0u64;
     for (name, value) in mime.params() {
-        assert!(rt; name.text == "p" && value.text == "x", "parameter {count}");
-        count = count.wrapping_add(1);
+        count = count.wrapping_add(is_p_x(name, value) as u64);
     }
     count
 }
@@ -295,7 +298,7 @@ fn ten_thousand_parameters(rt: HostRuntime) -> Result<(), Fail> {
     let mime = Mime::from_str(rt.alloc(), text.as_str())?;
     assert_eq!(rt; mime.params().size_hint(), (10_000, Some(10_000)));
     assert!(rt; mime.get_param(TextKey("q")).is_none());
-    assert_eq!(rt; count_of_p(&rt, &mime), 10_000);
+    assert_eq!(rt; count_of_p(&mime), 10_000);
     assert!(rt; mime.as_str() == text.as_str());
     let again = Mime::from_str(rt.alloc(), mime.as_str())?;
     assert!(rt; again == mime && again.as_str() == text.as_str());

@@ -10,7 +10,7 @@ use Rattle.mime.proofs.Begun.{in_type}
 use Rattle.mime.proofs.Cuts.{split-from_dead, split_unique, items_of_unique, cut_unique, takes_unique}
 use Rattle.mime.proofs.KeptText.{kept_is_read}
 use Rattle.mime.proofs.Readings.{refused-from_walk}
-use Rattle.mime.proofs.ValueFacts.{differ, plain_value, reads_capitals, keeps_no_capitals}
+use Rattle.mime_facts.proofs.ValueFacts.{differ, plain_value, reads_capitals, keeps_no_capitals}
 use Rattle.mime.proofs.Viability.{front-from_walk, viable-from_walk, accepted_is_viable}
 
 -- ---- characters
