@@ -2,11 +2,13 @@
 //!
 //! `driver OPERATION here STRIDE` and `driver OPERATION there STRIDE`, under callgrind, make the calls of one side and have
 //! their instructions written down. `driver OPERATION both ROUNDS` prints the answers of both sides, and their times. Standard
-//! input has the text, and after a line feed the text or name that an operation on two takes.
+//! input has the text, and after a line feed the text or name that an operation on two takes. Without words the driver takes
+//! what callgrind wrote, and prints the counts of the calls.
 
 extern crate mime;
 
 use std::arch::asm;
+use std::collections::HashMap;
 use std::env;
 use std::ffi::CString;
 use std::io::{self, Read};
@@ -34,7 +36,8 @@ impl Slice {
 
 /// For each operation: its call of crates/mime_bench, its twin over the Rust crate, which is written the same way, and its
 /// line in `run`. The calls have its name after `mime_bench_` or `rust_mime_`. They take one or both of the texts and how
-/// often to repeat the operation, and give the answer that the last turn left.
+/// often to repeat the operation, and give the answer that the last turn left. What LLVM makes of a twin turns on what is
+/// compiled with it, and on the order: after a change of this file look at the counts of the Rust crate, too.
 macro_rules! operations {
     ($($name:ident($($text:ident),+) {
         $(let $kept:pat = $value:expr;)*
@@ -90,20 +93,20 @@ operations! {
             };
         }
     }
+    look_up(text, other) {
+        let mime = read_value(text);
+        repeat length {
+            if let Some(value) = hidden(&mime).get_param(other) {
+                length = value.as_str().len();
+            }
+        }
+    }
     walk(text) {
         let mime = read_value(text);
         repeat length {
             length = 0;
             for (name, value) in hidden(&mime).params() {
                 length += name.as_str().len() + value.as_str().len();
-            }
-        }
-    }
-    look_up(text, other) {
-        let mime = read_value(text);
-        repeat length {
-            if let Some(value) = hidden(&mime).get_param(other) {
-                length = value.as_str().len();
             }
         }
     }
@@ -213,6 +216,8 @@ fn ask_valgrind(request: usize, argument: usize) {
 /// that many operations, and that of the first two has to be the same.
 fn count(operation: &str, side: &str, texts: Texts, stride: usize) {
     let labels = [1, 2, 3].map(|strides| CString::new(strides.to_string()).unwrap());
+    // Memory was used before, as in a program that has run for a while: else a block can grow where it is.
+    drop(hidden(&(20..80).map(|length| "x".repeat(length)).collect::<Vec<_>>()).clone());
     // Until malloc's own lists are filled, the same request costs more or less.
     for _ in 0..stride {
         run(operation, side, texts, 1);
@@ -245,13 +250,37 @@ fn print_both(operation: &str, texts: Texts, rounds: usize) {
     }
 }
 
+/// The calls that ask for memory.
+const REQUESTS: [&str; 5] = ["malloc", "calloc", "realloc", "posix_memalign", "aligned_alloc"];
+
+/// Prints what a file of callgrind's has: instructions and requests for memory of each of the three calls.
+fn print_counts(file: &str) {
+    let mut counts: HashMap<u32, (u64, u64)> = HashMap::new();
+    let (mut strides, mut asks) = (0, false);
+    for line in file.lines() {
+        if let Some(label) = line.strip_prefix("desc: Trigger: ") {
+            let label = label.strip_prefix("Client Request: ");
+            strides = label.map_or(0, |label| label.parse().unwrap());
+        } else if let Some(sum) = line.strip_prefix("summary: ") {
+            counts.entry(strides).or_default().0 = sum.trim().parse().unwrap();
+        } else if let Some(called) = line.strip_prefix("cfn=") {
+            asks = REQUESTS.contains(&called);
+        } else if let (true, Some(calls)) = (asks, line.strip_prefix("calls=")) {
+            counts.entry(strides).or_default().1 += calls.split(' ').next().unwrap().parse::<u64>().unwrap();
+        }
+    }
+    for (instructions, requests) in [1, 2, 3].map(|strides| counts[&strides]) {
+        println!("{instructions} {requests}");
+    }
+}
+
 fn main() {
-    let words: Vec<String> = env::args().collect();
-    let [_, operation, side, number] = words.as_slice() else {
-        panic!("three words are needed");
-    };
+    let words: Vec<String> = env::args().skip(1).collect();
     let mut given = String::new();
     io::stdin().read_to_string(&mut given).unwrap();
+    let [operation, side, number] = words.as_slice() else {
+        return print_counts(&given);
+    };
     let (text, other) = given.split_once('\n').unwrap();
     match (side.as_str(), number.parse().unwrap()) {
         ("both", rounds) => print_both(operation, Texts { text, other }, rounds),
