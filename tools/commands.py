@@ -2,6 +2,7 @@
 
 import contextlib
 import os
+import re
 import shlex
 import shutil
 import signal
@@ -72,19 +73,30 @@ def _end_all(number, _frame):
     raise SystemExit(128 + number)
 
 
-def is_there(command, *packages):
-    """Whether a command can be run. Where it is missing, Debian's packages that have it are installed, if they can be."""
-    if shutil.which(command):
+def instructions(words, given):
+    """How many instructions a whole run takes, by valgrind."""
+    words = ["valgrind", "--tool=callgrind", "--callgrind-out-file=/dev/null", *words]
+    said = run(words, RT_SECONDS, given, stdout=subprocess.DEVNULL, stderr=subprocess.PIPE).stderr
+    return int(re.search(rb"Collected : (\d+)", said)[1])
+
+
+def _is_found(what):
+    return bool(shutil.which(what)) or os.path.exists(what)
+
+
+def is_there(what, *packages):
+    """Whether a command can be run, or a file is there. Where not, Debian's packages that have it are installed, if they can be."""
+    if _is_found(what):
         return True
-    print(f"{command} is missing: apt-get installs {' '.join(packages)}", flush=True)
+    print(f"{what} is missing: apt-get installs {' '.join(packages)}", flush=True)
     said = ""
     with contextlib.suppress(OSError):
         run(["apt-get", "update", "-qq"], RT_SECONDS, stdout=subprocess.DEVNULL, stderr=subprocess.DEVNULL)
         said = run(["apt-get", "install", "-y", "-qq", "--no-install-recommends", *packages], RT_SECONDS,
                    stdout=subprocess.PIPE, stderr=subprocess.STDOUT, errors="replace").stdout
-    if not shutil.which(command):
-        print(f"{said[-600:]}\n{command} is needed, and could not be installed: install it (on Debian: {' '.join(packages)})".lstrip())
-    return bool(shutil.which(command))
+    if not _is_found(what):
+        print(f"{said[-600:]}\n{what} is needed, and could not be installed: install it (on Debian: {' '.join(packages)})".lstrip())
+    return _is_found(what)
 
 
 def program(crate, backend="llvm", room=None):

@@ -22,7 +22,7 @@ import re
 
 TOP = os.path.dirname(os.path.dirname(os.path.realpath(__file__)))
 PLACES = {"clauses": ["tools/edits/clauses", "crates/*/must-fail"], "tests": ["tools/edits/tests"], "twins": ["tools/edits/twins"]}
-NEEDED = {"clauses": ("fn", "clause", "why"), "tests": ("refused by", "why"), "twins": ()}
+WORDS = {"clauses": ("fn", "clause", "why"), "tests": ("refused by", "why"), "twins": ()}
 
 
 def text_of(path):
@@ -48,11 +48,11 @@ class Edit:
             said[word] = text.removeprefix(" ")
             if word == "new":
                 self.changes.append(((crate[0] if crate else "") + said.get("file", ""), said.pop("old", ""), said["new"]))
-        lacking = [it for it in (*NEEDED[kind], "file", "new") if it not in said]
-        if lacking or not all(old for _, old, _ in self.changes):
-            raise ValueError(f"{path}: it lacks {' and '.join(lacking) or 'a line old before a line new'}")
-        if any(old == new for _, old, new in self.changes):
-            raise ValueError(f"{path}: it changes a text into the same")
+        words = (*WORDS[kind], "file", "new")
+        if not all(said.get(it) or it == "new" and it in said for it in words) or set(said) - {*words, ""}:
+            raise ValueError(f"{path}: its lines are {', '.join(said)}, and not {', '.join(words)} with old before new")
+        if any(not old or old == new for _, old, new in self.changes):
+            raise ValueError(f"{path}: it changes a text into the same, or has no old before a new")
         self.fn, self.clause, self.refused_by, self.why = (said.get(it, "") for it in ("fn", "clause", "refused by", "why"))
 
     def __str__(self):

@@ -51,12 +51,3 @@ pub mod RunProofs
 pub mod Characters
 -- laws on which no code rests
 pub mod LawProofs
--- texts, values and runs for which definitions and laws are true, and others for which they are false
-pub mod StandardFacts
-pub mod GrammarFacts
-pub mod ValueFacts
-pub mod ComparisonFacts
-pub mod RefusalFacts
-pub mod CutFacts
-pub mod RunFacts
-pub mod LawFacts

@@ -17,7 +17,8 @@ pair_cmp_total = then_total (on_total (λ pair. pair.0) nat_list_cmp_total) (on_
 
 -- the order of values is total
 pub media_cmp_total : IsTotalOrder media_cmp
-media_cmp_total = then_total (on_total (λ media. media.essence) nat_list_cmp_total) (on_total (λ media. media.pairs) (lists_total pair_cmp_total))
+media_cmp_total =
+    then_total (on_total (λ media. media.essence) nat_list_cmp_total) (on_total (λ media. media.pairs) (lists_total pair_cmp_total))
 
 -- values that the order finds equal are the same
 pub same_from_cmp : (x y : MediaType) → eq_by_cmp media_cmp x y ≡ true → Same x y

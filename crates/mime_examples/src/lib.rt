@@ -1,5 +1,5 @@
 //! What callers do with media types: a module for each task. README.md, docs/RECIPES.md and
-//! crates/mime/CALLING.md quote them whole, up to their tests.
+//! crates/mime/CALLING.md quote them whole. Their tests are in the crate `mime_examples_tests`.
 #![tactic(auto)]
 
 pub mod accept;

@@ -79,7 +79,8 @@ limit_of_input : limit ≡ 1024 * 1024
 limit_of_input = refl
 
 -- what each error prints
-printed_errors : map stop_text (Read ∷ Write ∷ TooLong ∷ NoMemory ∷ []) ≡ codes "read" ∷ codes "write" ∷ codes "too long" ∷ codes "no memory" ∷ []
+printed_errors :
+    map stop_text (Read ∷ Write ∷ TooLong ∷ NoMemory ∷ []) ≡ codes "read" ∷ codes "write" ∷ codes "too long" ∷ codes "no memory" ∷ []
 printed_errors = refl
 
 -- a value without suffix and parameters has no row for them

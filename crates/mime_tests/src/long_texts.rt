@@ -48,8 +48,8 @@ fn check_long(
     let is_item = is_only_item(alloc, text.as_str(), &mime);
     assert!(rt; is_item, "{front} .. {back}");
     let copy = mime.clone()?;
-    let is_copied = copy == mime && copy.as_str() == mime.as_str();
-    assert!(rt; is_copied, "{front} .. {back}");
+    let copied = (copy.as_str() == kept.as_str(), copy.params().size_hint());
+    assert_eq!(rt; copied, (true, hint), "{front} .. {back}");
     Ok(())
 }
 

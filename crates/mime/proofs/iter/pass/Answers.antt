@@ -5,13 +5,16 @@ use Rattle.mime.proofs.iter.pass.Goals as goal
 
 pub split_at-requires : goal.split_at-requires
 split_at-requires c =
-    let judged = judged-from_scan _ _ _ _ _ _ c.in-Stopped.ensures c.new-reader.ensures.left c.new-reader.ensures.count c.count-steps.ensures.count in
+    let judged =
+    judged-from_scan _ _ _ _ _ _ c.in-Stopped.ensures c.new-reader.ensures.left c.new-reader.ensures.count c.count-steps.ensures.count in
     (stopped-boundary _ _ _ _ _ c.utf8.text judged (omega (arith, c.position.ensures, c.count-steps.ensures.count))).0
 
 pub after_character-requires : goal.after_character-requires
 after_character-requires c =
-    let judged = judged-from_scan _ _ _ _ _ _ c.in-Stopped.ensures c.new-reader.ensures.left c.new-reader.ensures.count c.count-steps.ensures.count in
-    let boundary = stopped-boundary _ _ c.position.result _ _ c.utf8.text judged (omega (arith, c.position.ensures, c.count-steps.ensures.count)) in
+    let judged =
+    judged-from_scan _ _ _ _ _ _ c.in-Stopped.ensures c.new-reader.ensures.left c.new-reader.ensures.count c.count-steps.ensures.count in
+    let boundary =
+    stopped-boundary _ _ c.position.result _ _ c.utf8.text judged (omega (arith, c.position.ensures, c.count-steps.ensures.count)) in
     omega (arith, ap length c.split_at.ensures.back, boundary.1)
 
 pub returns-in-Accepted-clause-passes : goal.returns-in-Accepted-clause-passes
@@ -28,4 +31,5 @@ pub returns-in-Stopped-clause-passes : goal.returns-in-Stopped-clause-passes
 returns-in-Stopped-clause-passes c =
     passes-stopped _ _ _ _ _ _ _ _
     (judged-from_scan _ _ _ _ _ _ c.in-Stopped.ensures c.new-reader.ensures.left c.new-reader.ensures.count c.count-steps.ensures.count)
-    (omega (arith, c.position.ensures, c.count-steps.ensures.count)) c.split_at.ensures.front c.split_at.ensures.back c.after_character.ensures
+    (omega (arith, c.position.ensures, c.count-steps.ensures.count))
+    c.split_at.ensures.front c.split_at.ensures.back c.after_character.ensures

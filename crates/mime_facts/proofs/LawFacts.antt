@@ -17,11 +17,11 @@ use Rattle.mime.specs.RunLaws.{AreGiven, RunGivesCut, CommaContainsOnRuns, Print
 use Rattle.mime.specs.declared.iter.Bad.{Bad}
 use Rattle.mime.specs.declared.scan.fault.ParseError.{ParseError}
 use Rattle.mime.specs.declared.scan.fault.ParseError.TheVariants.{MissingSlash, MissingSubtype, InvalidToken}
-use Rattle.mime.proofs.ComparisonFacts.{quoted_x, plain_x, plain_y, other_value, reads_quoted}
-use Rattle.mime.proofs.CutFacts.{e_is_refused, e_is_viable, list_items, cut_of_list, rest_of_text, split_at_comma, read_value}
-use Rattle.mime.proofs.RefusalFacts.{e_lacks_slash, e_is_closed}
-use Rattle.mime.proofs.StandardFacts.{media, tree_from_parts, plus_twice, lowered_parts, no_subtype, space_in_type}
-use Rattle.mime.proofs.ValueFacts.{plain_value, reads_capitals, exact_item, charset_item}
+use Rattle.mime_facts.proofs.ComparisonFacts.{quoted_x, plain_x, plain_y, other_value, reads_quoted}
+use Rattle.mime_facts.proofs.CutFacts.{e_is_refused, e_is_viable, list_items, cut_of_list, rest_of_text, split_at_comma, read_value}
+use Rattle.mime_facts.proofs.RefusalFacts.{e_lacks_slash, e_is_closed}
+use Rattle.mime_facts.proofs.StandardFacts.{media, tree_from_parts, plus_twice, lowered_parts, no_subtype, space_in_type}
+use Rattle.mime_facts.proofs.ValueFacts.{plain_value, reads_capitals, exact_item, charset_item}
 
 -- ---- trees and readings
 

@@ -238,6 +238,7 @@ first_difference_tells = record {
 quote_tells_nothing : ¬ (DifferTellingly (codes "a/b;p=x") (codes "a/b;p=\"x\""))
 unfolding is_token_byte is_quoted_byte
 quote_tells_nothing = λ d.
-    told_apart _ _ _ _ (reads (codes "a") (codes "b") (listed (final [] (plain (codes "p") (codes "x")))) (refl, refl, (refl, (refl, refl))))
+    told_apart _ _ _ _
+    (reads (codes "a") (codes "b") (listed (final [] (plain (codes "p") (codes "x")))) (refl, refl, (refl, (refl, refl))))
     (reads (codes "a") (codes "b") (listed (final [] (quoted (codes "p") (codes "x") [])))
     (refl, refl, (refl, (refl, IsContent-taken (codes "x") refl refl, refl)))) d (refl, refl)

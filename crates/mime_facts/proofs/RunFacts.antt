@@ -9,10 +9,10 @@ use Rattle.mime.specs.Runs.{Iteration, HasEnded, IsFirstItem, NeedsMemory, HasNo
 use Rattle.mime.specs.RunLaws.{AreGiven, none_left, a_value, a_piece, no_memory}
 use Rattle.mime.specs.declared.iter.Bad.{Bad}
 use Rattle.mime.specs.declared.iter.Bad.TheVariants.{Piece, NoMemory}
-use Rattle.mime.proofs.CutFacts.{split_at_comma, e_is_viable, item_of_e, cut_of_list, rest_of_text, no_item_left_out}
+use Rattle.mime_facts.proofs.CutFacts.{split_at_comma, e_is_viable, item_of_e, cut_of_list, rest_of_text, no_item_left_out}
 use Rattle.mime.proofs.Cuts.{cut_unique, takes_unique, takes-viable, empty-cut}
-use Rattle.mime.proofs.StandardFacts.{media, reads}
-use Rattle.mime.proofs.ValueFacts.{differ, plain_value, reads_capitals}
+use Rattle.mime_facts.proofs.StandardFacts.{media, reads}
+use Rattle.mime_facts.proofs.ValueFacts.{differ, plain_value, reads_capitals}
 
 -- an iterator over a text, at its begin and at its end
 abbrev begun : List ℕ → Iteration
@@ -91,10 +91,11 @@ ends_at_rest = record {
   stays = λ end. absurd (ends.1 end);
 }
 
--- not after none, nor after two, whether or not memory ran out before
-steps_are_few : ¬ (IsNext (record (begun (codes "e")) { starved = true }) None (record (ended (codes "e") 2) { starved = true }))
+-- no more steps than bytes, even where memory ran out,
+steps_are_few : ¬ (IsNext (record (begun (codes "a/")) { starved = true }) None (record (ended (codes "a/") 3) { starved = true }))
 steps_are_few next = absurd (omega (arith, next.few))
 
+-- and at the end no fewer
 steps_are_exact : ¬ (IsNext (begun (codes "e")) None (ended (codes "e") 0))
 steps_are_exact next =
     absurd (omega (arith, takes_unique (codes "e") 0 1 (next.exact refl refl) (takes-viable (codes "e") e_is_viable)))

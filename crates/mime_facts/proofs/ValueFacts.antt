@@ -19,7 +19,7 @@ use Rattle.mime.specs.declared.atoms.Atom.TheVariants.{STAR_STAR, TEXT_PLAIN_UTF
 use Rattle.mime.specs.declared.name.Name.{Name}
 use Rattle.mime.specs.declared.scan.fault.ParseError.TheVariants.{MissingSlash, MissingSubtype, MissingEqual, MissingValue, MissingQuote, InvalidToken, NoMemory}
 use Rattle.mime.proofs.Readings.{one_reading, stopped-from_walk}
-use Rattle.mime.proofs.StandardFacts.{media, tree_from_parts, reads}
+use Rattle.mime_facts.proofs.StandardFacts.{media, tree_from_parts, reads}
 
 -- texts that a test tells apart differ
 pub differ : (first second : List ℕ) → bytes_eq first second ≡ false → first ≢ second

@@ -1,16 +1,16 @@
 -- Texts for which each definition of the cut is true, and others for which it is false: the list `e, a/b`.
-use Rattle.std.proofs.Common.{◌≡◌, ℕ, true, false, List, [], ◌∷◌, length, map, refl, ap, arith, codes}
+use Rattle.std.proofs.Common.{◌≡◌, ℕ, true, false, List, [], ◌∷◌, length, map, refl, ap, subst, arith, codes}
 use Rattle.std.proofs.lemmas.Bool.{true≢false, false≢true}
 use Rattle.mime.specs.Bytes.{is_token_byte}
-use Rattle.mime.specs.Values.{IsRefused}
+use Rattle.mime.specs.Values.{IsAccepted, IsRefused}
 use Rattle.mime.specs.Refusals.{IsViable}
-use Rattle.mime.specs.Cut.{is_following_byte, BeginsCharacter, IsCharacter, IsSplit, CutItem, good, bad, ItemsOf, is_refused, is_empty, Cut, whole, unfinished, goes_on, Pieces, last, next, steps_of, TakesSteps}
+use Rattle.mime.specs.Cut.{is_following_byte, BeginsCharacter, IsCharacter, IsSplit, CutItem, good, bad, ItemsOf, is_read, is_refused, is_empty, Cut, whole, unfinished, goes_on, Pieces, last, next, steps_of, TakesSteps}
 use Rattle.mime.specs.CutLaws.{text_of_pieces, items_of_rest, joined, IsRead, kept_item}
 use Rattle.mime.proofs.Begun.{in_type}
-use Rattle.mime.proofs.Cuts.{split-from_dead, split_unique, items_of_unique, cut_unique, takes_unique}
+use Rattle.mime.proofs.Cuts.{empty-refused, split-not_viable, split-from_dead, split_unique, items_of_unique, cut_unique, takes_unique}
 use Rattle.mime.proofs.KeptText.{kept_is_read}
 use Rattle.mime.proofs.Readings.{refused-from_walk}
-use Rattle.mime.proofs.ValueFacts.{differ, plain_value, reads_capitals, keeps_no_capitals}
+use Rattle.mime_facts.proofs.ValueFacts.{differ, plain_value, reads_capitals, keeps_no_capitals}
 use Rattle.mime.proofs.Viability.{front-from_walk, viable-from_walk, accepted_is_viable}
 
 -- ---- characters
@@ -59,8 +59,11 @@ e_is_viable = viable-from_walk (codes "e") (in_type (codes "e")) refl
 pub item_of_e : ItemsOf (codes "e") (bad (codes "e") ∷ [])
 item_of_e = is_refused e_is_refused (differ (codes "e") [] refl)
 
-no_item_of_empty : ItemsOf [] []
-no_item_of_empty = is_empty refl
+-- an empty piece has none
+no_item_of_empty : (piece : List ℕ) (items : List CutItem) → ItemsOf piece items → piece ≡ [] → items ≡ []
+no_item_of_empty piece items (is_read value reads) none = absurd (empty-refused (subst IsAccepted none (value, reads)))
+no_item_of_empty piece items (is_refused is some) none = absurd (some none)
+no_item_of_empty piece items (is_empty is) none = refl
 
 not_without_item : ¬ (ItemsOf (codes "e") [])
 not_without_item items = absurd (cc (items_of_unique _ _ _ items item_of_e))
@@ -86,6 +89,13 @@ rest_of_text = unfinished (codes "e") e_is_viable e_is_refused
 
 no_item_yet : ¬ (Cut (codes "e") (bad (codes "e") ∷ []) [])
 no_item_yet cut = absurd (omega (arith, ap length (cut_unique _ _ _ rest_of_text _ _ cut).0))
+
+-- and an accepted text is none
+no_accepted_rest : (text : List ℕ) (items : List CutItem) (rest : List ℕ) → Cut text items rest → IsAccepted text → items ≡ [] → ⊥
+no_accepted_rest text items rest (whole t value reads) accepted none = absurd cc
+no_accepted_rest text items rest (unfinished t viable is) accepted none = is accepted
+no_accepted_rest text items rest (goes_on t p c l first others r split of_piece cut) accepted none =
+    split-not_viable t p c l split (accepted_is_viable t accepted)
 
 -- ---- pieces and steps
 

@@ -8,8 +8,8 @@ use Rattle.mime.specs.Values.{MediaType, Reads}
 use Rattle.mime.specs.Comparison.{Same, IsTextBefore, IsPairBefore, Before, pair_cmp, media_cmp, HasNoSemicolon, TextIs}
 use Rattle.mime.proofs.Quoted.{IsContent-taken}
 use Rattle.mime.proofs.Readings.{one_reading}
-use Rattle.mime.proofs.StandardFacts.{media, reads}
-use Rattle.mime.proofs.ValueFacts.{differ, plain_value, reads_capitals}
+use Rattle.mime_facts.proofs.StandardFacts.{media, reads}
+use Rattle.mime_facts.proofs.ValueFacts.{differ, plain_value, reads_capitals}
 
 -- values with one parameter, two of them equal and kept otherwise
 abbrev with_pair : List ℕ → List ℕ → List ℕ → MediaType

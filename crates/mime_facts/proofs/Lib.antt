@@ -1,0 +1,9 @@
+-- texts, values and runs for which definitions and laws are true, and others for which they are false
+pub mod StandardFacts
+pub mod GrammarFacts
+pub mod ValueFacts
+pub mod ComparisonFacts
+pub mod RefusalFacts
+pub mod CutFacts
+pub mod RunFacts
+pub mod LawFacts
