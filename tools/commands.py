@@ -77,7 +77,10 @@ def instructions(words, given):
     """How many instructions a whole run takes, by valgrind."""
     words = ["valgrind", "--tool=callgrind", "--callgrind-out-file=/dev/null", *words]
     said = run(words, RT_SECONDS, given, stdout=subprocess.DEVNULL, stderr=subprocess.PIPE).stderr
-    return int(re.search(rb"Collected : (\d+)", said)[1])
+    found = re.search(rb"Collected : (\d+)", said)
+    if not found:
+        raise OSError(f"valgrind counted nothing:\n{said[-600:].decode(errors='replace')}")
+    return int(found[1])
 
 
 def _is_found(what):
