@@ -9,12 +9,12 @@ use Rattle.mime.specs.declared.scan.fault.ParseError.{ParseError}
 use Rattle.mime.specs.declared.scan.fault.ParseError.TheVariants.{MissingSlash, MissingSubtype, MissingEqual, MissingValue, MissingQuote}
 
 -- the state of a parameter list after its last semicolon
-pub data ListPlace : Type 0 where
-  in_spaces : (n : List ℕ) → ListPlace
-  in_name : (n name : List ℕ) → ListPlace
-  in_value : (n name value : List ℕ) → ListPlace
-  in_quotes : (n name content : List ℕ) → ListPlace
-  behind_quotes : (n name content m : List ℕ) → ListPlace
+pub data ListState : Type 0 where
+  in_spaces : (n : List ℕ) → ListState
+  in_name : (n name : List ℕ) → ListState
+  in_value : (n name value : List ℕ) → ListState
+  in_quotes : (n name content : List ℕ) → ListState
+  after_quotes : (n name content m : List ℕ) → ListState
 
 -- the parameters that a semicolon closed, the last one first, each with the spaces before it
 abbrev pub Closed : Type 0
@@ -23,7 +23,7 @@ Closed = List (List ℕ × Parameter)
 -- a begun parameter list: its closed parameters and the state after them
 pub record BegunList : Type 0 where
   pub closed : Closed
-  pub place : ListPlace
+  pub place : ListState
 
 -- the begun list just after the subtype's semicolon
 abbrev pub begun_list : BegunList
@@ -36,41 +36,41 @@ pub data Begun : Type 0 where
   in_list : (top sub : List ℕ) → BegunList → Begun
 
 -- the begun list of closed parameters and a state
-abbrev pub list_at : Closed → ListPlace → BegunList
+abbrev pub list_at : Closed → ListState → BegunList
 list_at closed place = record { closed = closed; place = place }
 
 -- a list goes on in this state
-abbrev pub at_place : Closed → ListPlace → Option BegunList
-at_place closed place = Some (list_at closed place)
+abbrev pub at_state : Closed → ListState → Option BegunList
+at_state closed place = Some (list_at closed place)
 
 -- a semicolon closes a parameter, which spaces precede
 abbrev pub close : Closed → List ℕ → Parameter → Option BegunList
-close closed n parameter = at_place ((n, parameter) ∷ closed) (in_spaces [])
+close closed n parameter = at_state ((n, parameter) ∷ closed) (in_spaces [])
 
 -- a state of a list after one more byte, or none where no accepted text goes on so
-abbrev pub grow_place : Closed → ListPlace → ℕ → Option BegunList
-grow_place closed (in_spaces n) b =
-    if is_space b then at_place closed (in_spaces (n ++ (b ∷ [])))
-    else (if is_token_byte b then at_place closed (in_name n (b ∷ [])) else None)
-grow_place closed (in_name n name) b =
-    if is_token_byte b then at_place closed (in_name n (name ++ (b ∷ [])))
-    else (if b == equals_byte then at_place closed (in_value n name []) else None)
-grow_place closed (in_value n name []) b =
-    if is_token_byte b then at_place closed (in_value n name (b ∷ []))
-    else (if b == quote_byte then at_place closed (in_quotes n name []) else None)
-grow_place closed (in_value n name (v ∷ value)) b =
-    if is_token_byte b then at_place closed (in_value n name (v ∷ value ++ (b ∷ [])))
+abbrev pub grow_state : Closed → ListState → ℕ → Option BegunList
+grow_state closed (in_spaces n) b =
+    if is_space b then at_state closed (in_spaces (n ++ (b ∷ [])))
+    else (if is_token_byte b then at_state closed (in_name n (b ∷ [])) else None)
+grow_state closed (in_name n name) b =
+    if is_token_byte b then at_state closed (in_name n (name ++ (b ∷ [])))
+    else (if b == equals_byte then at_state closed (in_value n name []) else None)
+grow_state closed (in_value n name []) b =
+    if is_token_byte b then at_state closed (in_value n name (b ∷ []))
+    else (if b == quote_byte then at_state closed (in_quotes n name []) else None)
+grow_state closed (in_value n name (v ∷ value)) b =
+    if is_token_byte b then at_state closed (in_value n name (v ∷ value ++ (b ∷ [])))
     else (if b == semicolon_byte then close closed n (plain name (v ∷ value)) else None)
-grow_place closed (in_quotes n name content) b =
-    if continues content b then at_place closed (in_quotes n name (content ++ (b ∷ [])))
-    else (if b == quote_byte then at_place closed (behind_quotes n name content []) else None)
-grow_place closed (behind_quotes n name content m) b =
-    if is_space b then at_place closed (behind_quotes n name content (m ++ (b ∷ [])))
+grow_state closed (in_quotes n name content) b =
+    if continues content b then at_state closed (in_quotes n name (content ++ (b ∷ [])))
+    else (if b == quote_byte then at_state closed (after_quotes n name content []) else None)
+grow_state closed (after_quotes n name content m) b =
+    if is_space b then at_state closed (after_quotes n name content (m ++ (b ∷ [])))
     else (if b == semicolon_byte then close closed n (quoted name content m) else None)
 
 -- a begun list after one more byte, or none
 abbrev pub grow_list : BegunList → ℕ → Option BegunList
-grow_list list b = grow_place list.closed list.place b
+grow_list list b = grow_state list.closed list.place b
 
 -- a begun tree after one more byte, or none
 abbrev pub grow : Begun → ℕ → Option Begun
@@ -107,13 +107,13 @@ with_closed [] rest = rest
 with_closed ((n, parameter) ∷ closed) rest = with_closed closed (more n parameter rest)
 
 -- the parameter list that ends in a state, if it may end there
-abbrev pub ended : ListPlace → Option Parameters
+abbrev pub ended : ListState → Option Parameters
 ended (in_spaces n) = Some (blank n)
 ended (in_name n name) = None
 ended (in_value n name []) = None
 ended (in_value n name (v ∷ value)) = Some (final n (plain name (v ∷ value)))
 ended (in_quotes n name content) = None
-ended (behind_quotes n name content m) = Some (final n (quoted name content m))
+ended (after_quotes n name content m) = Some (final n (quoted name content m))
 
 -- the parameter list that ends as a begun list, if it may end there
 abbrev pub ended_list : BegunList → Option Parameters
@@ -127,7 +127,7 @@ tree_of (in_subtype top (s ∷ sub)) = Some (record { top = top; sub = s ∷ sub
 tree_of (in_list top sub list) = option_map (λ rest. record { top = top; sub = sub; tail = listed rest }) (ended_list list)
 
 -- what is missing from a text that ends too early, at a state of a list
-abbrev pub lacking_list : ListPlace → ParseError
+abbrev pub lacking_list : ListState → ParseError
 lacking_list (in_name n name) = MissingEqual
 lacking_list (in_value n name value) = MissingValue
 lacking_list place = MissingQuote

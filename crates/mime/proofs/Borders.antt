@@ -9,7 +9,7 @@ use Rattle.std.specs.Prelude.{IsFalse, if◌then◌else◌, ◌==◌}
 use Rattle.std.specs.Str.{IsUtf8, IsCharBoundary}
 use Rattle.std.specs.Option.{option_map}
 use Rattle.mime.specs.Bytes.{is_token_byte, quote_byte}
-use Rattle.mime.specs.Quoted.{awaits_first, awaits_behind, continues}
+use Rattle.mime.specs.Quoted.{awaits_first, awaits_after, continues}
 use Rattle.mime.proofs.Quoted.{takes-high}
 use Rattle.mime.proofs.Begun.{Begun, in_type, in_list, BegunList, grow, walk, walk_from}
 use Rattle.mime.specs.Laws.{FrontEndsBetweenCharacters}
@@ -37,7 +37,7 @@ foreign-from_high b high = record {
 -- a byte past ASCII that an open quoted value doesn't take begins a character
 high-untaken : (begun : Begun) (b : ℕ) → IsOpen begun → grow begun b ≡ None → 128 ≤ b → 192 ≤ b
 high-untaken begun b quotes dead high =
-    takes-high (awaits_behind awaits_first quotes.content) b
+    takes-high (awaits_after awaits_first quotes.content) b
     (untaken (continues quotes.content b) (b == quote_byte) _ _ (sym (ap (λ t. grow t b) quotes.is) ∙ dead)) high
   where
     untaken : (test other : Bool) (x y : BegunList)

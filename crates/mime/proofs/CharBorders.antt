@@ -13,8 +13,8 @@ boundary_before text at b there small =
     IsCharBoundary-before_ascii text at (slice_get_within text at b there) (omega (arith, get_or_from_slice_get text at b 0 there))
 
 -- a text may be cut after an ASCII byte
-pub boundary_behind : (text : List ℕ) (at b : ℕ) → IsUtf8 text → slice_get text at ≡ Some b → b < 128 → IsCharBoundary text (at + 1)
-boundary_behind text at b utf8 there small =
+pub boundary_after : (text : List ℕ) (at b : ℕ) → IsUtf8 text → slice_get text at ≡ Some b → b < 128 → IsCharBoundary text (at + 1)
+boundary_after text at b utf8 there small =
     IsCharBoundary-after_ascii text at utf8 (slice_get_within text at b there) (omega (arith, get_or_from_slice_get text at b 0 there))
 
 -- the byte that was looked for is at the position found

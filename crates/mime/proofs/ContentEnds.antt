@@ -7,13 +7,13 @@ use Rattle.std.proofs.lemmas.Bool.{and_parts, cond-false, eqb-true, true≢false
 use Rattle.mime.specs.Bytes.{quote_byte, backslash_byte}
 use Rattle.mime.specs.Grammar.{IsContent}
 use Rattle.mime.specs.Pairs.{first_position}
-use Rattle.mime.specs.Quoted.{awaits_first, awaits_next, takes, takes_all, awaits_behind, len_from, content_len}
+use Rattle.mime.specs.Quoted.{awaits_first, awaits_next, takes, takes_all, awaits_after, len_from, content_len}
 use Rattle.mime.proofs.Quoted.{taken-closes_not, content-taken, content-awaits}
 
 -- ---- the length of content
 
 -- the quote that closes is found
-len_from-run : (awaiting : Bool) (run after : List ℕ) → IsTrue (takes_all awaiting run) → awaits_behind awaiting run ≡ false
+len_from-run : (awaiting : Bool) (run after : List ℕ) → IsTrue (takes_all awaiting run) → awaits_after awaiting run ≡ false
     → len_from awaiting (run ++ quote_byte ∷ after) ≡ length run
 len_from-run true [] after all done = absurd (true≢false done)
 len_from-run false [] after all done = refl

@@ -3,7 +3,7 @@ use Rattle.std.proofs.Common.{◌≡◌, ℕ, Bool, ◌+◌, List, [], ◌∷◌
 use Rattle.mime.specs.Grammar.{Tail, no_list, listed}
 use Rattle.mime.specs.Values.{MediaType, Reads, pairs_of_tail, lowered_tree, kept_text, essence_of}
 use Rattle.mime.specs.Comparison.{Same}
-use Rattle.mime.specs.Pairs.{pairs_behind}
+use Rattle.mime.specs.Pairs.{pairs_after}
 use Rattle.mime.specs.Scanning.{semicolon_of}
 use Rattle.mime.specs.KeptText.{media_of, IsKept}
 use Rattle.mime.specs.declared.scan.Places.{Places}
@@ -23,7 +23,7 @@ kept-none text places is_kept none =
 pub kept-count : (text : List ℕ) (places : Places) → IsKept text places → places.pairs ≡ length (media_of text places).pairs
 kept-count text places is_kept = go places.semicolon refl
   where
-    go : (semicolon : Option ℕ) → places.semicolon ≡ semicolon → places.pairs ≡ length (pairs_behind places.pairs semicolon text)
+    go : (semicolon : Option ℕ) → places.semicolon ≡ semicolon → places.pairs ≡ length (pairs_after places.pairs semicolon text)
     go None is = kept-none text places is_kept is
     go (Some semicolon) is = sym (length-pairs_within places.pairs (drop (semicolon + 1) text))
 

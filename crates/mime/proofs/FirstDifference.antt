@@ -18,29 +18,29 @@ use Rattle.mime.proofs.SmallLetters.{lowered-lowered_value}
 use Rattle.mime.proofs.TextComparison.{essence-lowered}
 
 -- what a text tells: its bytes in small letters, without spaces, tabs and quotes
-abbrev told : List ℕ → List ℕ
-told text = filter is_telling (lowered text)
+abbrev stripped : List ℕ → List ℕ
+stripped text = filter is_telling (lowered text)
 
-told-append : (xs ys : List ℕ) → told (xs ++ ys) ≡ told xs ++ told ys
+told-append : (xs ys : List ℕ) → stripped (xs ++ ys) ≡ stripped xs ++ stripped ys
 told-append xs ys = ap (filter is_telling) (lowered-append xs ys) ∙ filter-append is_telling (lowered xs) (lowered ys)
 
 -- spaces tell nothing
-told-spaces : (n : List ℕ) → AreSpaces n → told n ≡ []
+told-spaces : (n : List ℕ) → AreSpaces n → stripped n ≡ []
 told-spaces [] white = refl
 told-spaces (b ∷ n) white =
     let parts = and_parts (is_space b) (list_all is_space n) white in
     cond-false (is_telling (to_ascii_lowercase b)) _ _ (grind (arith, nat_tests, parts.0)) ∙ told-spaces n parts.1
 
 -- what a value tells: its essence and each pair, a semicolon after each
-abbrev told_pair : List ℕ × List ℕ → List ℕ
-told_pair (name, value) = told name ++ (equals_byte ∷ told value)
+abbrev stripped_pair : List ℕ × List ℕ → List ℕ
+stripped_pair (name, value) = stripped name ++ (equals_byte ∷ stripped value)
 
-abbrev told_pairs : List (List ℕ × List ℕ) → List ℕ
-told_pairs [] = []
-told_pairs (pair ∷ pairs) = told_pair pair ++ (semicolon_byte ∷ told_pairs pairs)
+abbrev stripped_pairs : List (List ℕ × List ℕ) → List ℕ
+stripped_pairs [] = []
+stripped_pairs (pair ∷ pairs) = stripped_pair pair ++ (semicolon_byte ∷ stripped_pairs pairs)
 
-abbrev told_value : MediaType → List ℕ
-told_value value = told value.essence ++ (semicolon_byte ∷ told_pairs value.pairs)
+abbrev stripped_value : MediaType → List ℕ
+stripped_value value = stripped value.essence ++ (semicolon_byte ∷ stripped_pairs value.pairs)
 
 -- the second list begins with the first
 record Begins (front whole : List ℕ) : Type 0 where
@@ -48,61 +48,61 @@ record Begins (front whole : List ℕ) : Type 0 where
   is : whole ≡ front ++ rest
 
 -- a parameter tells what its pair does
-told-parameter : (p : Parameter) → IsParameter p → told (text_of_parameter p) ≡ told_pair (pair_of (lowered_parameter p))
+told-parameter : (p : Parameter) → IsParameter p → stripped (text_of_parameter p) ≡ stripped_pair (pair_of (lowered_parameter p))
 told-parameter (plain name value) well =
     told-append name (equals_byte ∷ value)
     ∙ rw (lowered-lowered name, lowered-lowered_value name value) refl
 told-parameter (quoted name content n) well =
     told-append name (equals_byte ∷ quote_byte ∷ (content ++ (quote_byte ∷ n)))
-    ∙ ap (λ t. told name ++ (equals_byte ∷ t)) (told-append content (quote_byte ∷ n) ∙ ap (λ t. told content ++ t) (told-spaces n well.2)
-    ∙ append-nil (told content))
+    ∙ ap (λ t. stripped name ++ (equals_byte ∷ t)) (told-append content (quote_byte ∷ n) ∙ ap (λ t. stripped content ++ t) (told-spaces n well.2)
+    ∙ append-nil (stripped content))
     ∙ rw (lowered-lowered name, lowered-lowered_value name content) refl
 
 -- a list tells what its pairs do, but perhaps for the last semicolon
-told-list : (list : Parameters) → AreParameters list → Begins (told (text_of_list list)) (told_pairs (pairs_of_list (lowered_list list)))
-told-list (blank n) white = record { rest = []; is = sym (append-nil (told n) ∙ told-spaces n white) }
+told-list : (list : Parameters) → AreParameters list → Begins (stripped (text_of_list list)) (stripped_pairs (pairs_of_list (lowered_list list)))
+told-list (blank n) white = record { rest = []; is = sym (append-nil (stripped n) ∙ told-spaces n white) }
 told-list (final n p) (white, well) = record {
   rest = semicolon_byte ∷ [];
   is = sym (ap (λ t. t ++ (semicolon_byte ∷ [])) (told-append n (text_of_parameter p)
-      ∙ ap (λ t. t ++ told (text_of_parameter p)) (told-spaces n white)
+      ∙ ap (λ t. t ++ stripped (text_of_parameter p)) (told-spaces n white)
       ∙ told-parameter p well));
 }
 told-list (more n p others) (white, well, follow) =
     let after = told-list others follow in
     record {
       rest = after.rest;
-      is = ap (λ t. told_pair (pair_of (lowered_parameter p)) ++ (semicolon_byte ∷ t)) after.is
+      is = ap (λ t. stripped_pair (pair_of (lowered_parameter p)) ++ (semicolon_byte ∷ t)) after.is
           ∙ sym (ap (λ t. t ++ after.rest) (told-append n (text_of_parameter p ++ (semicolon_byte ∷ text_of_list others))
-          ∙ ap (λ t. t ++ told (text_of_parameter p ++ (semicolon_byte ∷ text_of_list others))) (told-spaces n white)
+          ∙ ap (λ t. t ++ stripped (text_of_parameter p ++ (semicolon_byte ∷ text_of_list others))) (told-spaces n white)
           ∙ told-append (text_of_parameter p) (semicolon_byte ∷ text_of_list others)
-          ∙ ap (λ t. t ++ (semicolon_byte ∷ told (text_of_list others))) (told-parameter p well))
-          ∙ append_assoc (told_pair (pair_of (lowered_parameter p))) (semicolon_byte ∷ told (text_of_list others)) after.rest);
+          ∙ ap (λ t. t ++ (semicolon_byte ∷ stripped (text_of_list others))) (told-parameter p well))
+          ∙ append_assoc (stripped_pair (pair_of (lowered_parameter p))) (semicolon_byte ∷ stripped (text_of_list others)) after.rest);
     }
 
 -- a tail tells what its pairs do
 told-tail : (tail : Tail) → IsTail tail
-    → Begins (told (text_of_tail tail)) (semicolon_byte ∷ told_pairs (pairs_of_tail (lowered_tail tail)))
+    → Begins (stripped (text_of_tail tail)) (semicolon_byte ∷ stripped_pairs (pairs_of_tail (lowered_tail tail)))
 told-tail no_list well = record { rest = semicolon_byte ∷ []; is = refl }
 told-tail (listed list) well = let parts = told-list list well in record { rest = parts.rest; is = ap (λ t. semicolon_byte ∷ t) parts.is }
 
 -- a text tells what the value does that it is read as
-told-reads : (text : List ℕ) (value : MediaType) → Reads text value → Begins (told text) (told_value value)
+told-reads : (text : List ℕ) (value : MediaType) → Reads text value → Begins (stripped text) (stripped_value value)
 told-reads text value reads =
     let tree = reads.tree in
     let tail = told-tail tree.tail reads.well_formed.2 in
-    let essence : told (value_of tree).essence ≡ told (essence_of tree) =
-    ap told (essence-lowered tree) ∙ ap (filter is_telling) (lowered-lowered (essence_of tree)) in
-    subst (λ t. Begins (told t) (told_value value)) reads.spelled
-    (subst (λ (v : MediaType). Begins (told (text_of tree)) (told_value v)) reads.valued (record {
+    let essence : stripped (value_of tree).essence ≡ stripped (essence_of tree) =
+    ap stripped (essence-lowered tree) ∙ ap (filter is_telling) (lowered-lowered (essence_of tree)) in
+    subst (λ t. Begins (stripped t) (stripped_value value)) reads.spelled
+    (subst (λ (v : MediaType). Begins (stripped (text_of tree)) (stripped_value v)) reads.valued (record {
       rest = tail.rest;
-      is = ap (λ t. told (value_of tree).essence ++ t) tail.is ∙ ap (λ t. t ++ (told (text_of_tail tree.tail) ++ tail.rest)) essence
-          ∙ sym (ap (λ t. t ++ tail.rest) (ap told (text_of-essence tree) ∙ told-append (essence_of tree) (text_of_tail tree.tail))
-          ∙ append_assoc (told (essence_of tree)) (told (text_of_tail tree.tail)) tail.rest);
+      is = ap (λ t. stripped (value_of tree).essence ++ t) tail.is ∙ ap (λ t. t ++ (stripped (text_of_tail tree.tail) ++ tail.rest)) essence
+          ∙ sym (ap (λ t. t ++ tail.rest) (ap stripped (text_of-essence tree) ∙ told-append (essence_of tree) (text_of_tail tree.tail))
+          ∙ append_assoc (stripped (essence_of tree)) (stripped (text_of_tail tree.tail)) tail.rest);
     }))
 
 -- what a text tells, cut at a byte that tells
 told-at : (text : List ℕ) (n : ℕ) → n < length text → IsTrue (is_telling (slice_index text n))
-    → told text ≡ filter is_telling (take n (lowered text)) ++ (to_ascii_lowercase (slice_index text n) ∷ told (drop (n + 1) text))
+    → stripped text ≡ filter is_telling (take n (lowered text)) ++ (to_ascii_lowercase (slice_index text n) ∷ stripped (drop (n + 1) text))
 told-at text n within tells =
     let b = to_ascii_lowercase (slice_index text n) in
     let rest : drop n (lowered text) ≡ b ∷ lowered (drop (n + 1) text) = sym (lowered-drop n text)
@@ -122,11 +122,11 @@ pub told_apart : (one other : List ℕ) (first second : MediaType) → Reads one
 told_apart one other first second reads also d same =
     let begins = told-reads one first reads in
     let other_begins = told-reads other second also in
-    let whole : told_value first ≡ told_value second = cc in
+    let whole : stripped_value first ≡ stripped_value second = cc in
     d.first.differ (same_byte (filter is_telling (take d.at (lowered one))) _ _ _ _ begins.rest other_begins.rest
     (sym (ap (λ t. t ++ begins.rest) (told-at one d.at d.first.within d.tells)) ∙ sym begins.is ∙ whole ∙ other_begins.is
     ∙ ap (λ t. t ++ other_begins.rest) (told-at other d.at d.first.within_other d.also
-    ∙ ap (λ t. filter is_telling t ++ (to_ascii_lowercase (slice_index other d.at) ∷ told (drop (d.at + 1) other))) (sym d.first.alike))))
+    ∙ ap (λ t. filter is_telling t ++ (to_ascii_lowercase (slice_index other d.at) ∷ stripped (drop (d.at + 1) other))) (sym d.first.alike))))
 
 -- and such a text is none of the value
 pub text_is-telling : (kept text : List ℕ) (value : MediaType) → Reads kept value → DifferTellingly kept text → TextIs value text → ⊥

@@ -6,7 +6,7 @@ use Rattle.std.specs.Option.{option_map}
 use Rattle.mime.specs.Bytes.{is_token_byte, slash_byte, semicolon_byte, equals_byte, quote_byte}
 use Rattle.mime.specs.Grammar.{is_space}
 use Rattle.mime.specs.Quoted.{continues}
-use Rattle.mime.proofs.Begun.{Closed, Begun, in_type, in_subtype, in_list, ListPlace, in_spaces, in_name, in_value, in_quotes, behind_quotes, list_at, grow, grow_place, grow_list}
+use Rattle.mime.proofs.Begun.{Closed, Begun, in_type, in_subtype, in_list, ListState, in_spaces, in_name, in_value, in_quotes, after_quotes, list_at, grow, grow_state, grow_list}
 
 -- a foreign byte: no token byte, no space and no mark
 pub record IsForeign (b : ℕ) : Type 0 where
@@ -40,20 +40,20 @@ neither P first second x y fails fails_too =
     subst (λ o. MatchOption o (Unit {0}) P) (sym (cond-false first x _ fails ∙ cond-false second y None fails_too)) tt
 
 -- from a state of a list a foreign byte leads nowhere, or from open quotes into open quotes
-grow_place-foreign : (top sub : List ℕ) (closed : Closed) (place : ListPlace) (b : ℕ) → IsForeign b
-    → MatchOption (grow_place closed place b) (Unit {0})
+grow_state-foreign : (top sub : List ℕ) (closed : Closed) (place : ListState) (b : ℕ) → IsForeign b
+    → MatchOption (grow_state closed place b) (Unit {0})
     (λ next. IsOpen (in_list top sub (list_at closed place)) × IsOpen (in_list top sub next))
-grow_place-foreign top sub closed (in_spaces n) b foreign = neither _ _ _ _ _ foreign.space foreign.token
-grow_place-foreign top sub closed (in_name n name) b foreign = neither _ _ _ _ _ foreign.token foreign.equals
-grow_place-foreign top sub closed (in_value n name []) b foreign = neither _ _ _ _ _ foreign.token foreign.quote
-grow_place-foreign top sub closed (in_value n name (v ∷ value)) b foreign = neither _ _ _ _ _ foreign.token foreign.semicolon
-grow_place-foreign top sub closed (in_quotes n name content) b foreign =
+grow_state-foreign top sub closed (in_spaces n) b foreign = neither _ _ _ _ _ foreign.space foreign.token
+grow_state-foreign top sub closed (in_name n name) b foreign = neither _ _ _ _ _ foreign.token foreign.equals
+grow_state-foreign top sub closed (in_value n name []) b foreign = neither _ _ _ _ _ foreign.token foreign.quote
+grow_state-foreign top sub closed (in_value n name (v ∷ value)) b foreign = neither _ _ _ _ _ foreign.token foreign.semicolon
+grow_state-foreign top sub closed (in_quotes n name content) b foreign =
     cond_both (continues content b) _ _
     (λ o. MatchOption o (Unit {0})
     (λ next. IsOpen (in_list top sub (list_at closed (in_quotes n name content))) × IsOpen (in_list top sub next)))
     (λ passes. (open_at top sub closed n name content, open_at top sub closed n name (content ++ (b ∷ []))))
     (λ fails. neither _ false _ None _ refl foreign.quote)
-grow_place-foreign top sub closed (behind_quotes n name content m) b foreign = neither _ _ _ _ _ foreign.space foreign.semicolon
+grow_state-foreign top sub closed (after_quotes n name content m) b foreign = neither _ _ _ _ _ foreign.space foreign.semicolon
 
 -- from any begun tree a foreign byte leads nowhere, or from open quotes into open quotes
 pub grow-foreign : (begun : Begun) (b : ℕ) → IsForeign b
@@ -66,4 +66,4 @@ grow-foreign (in_list top sub list) b foreign =
     elim (grow_list list b)
     as (λ o. MatchOption o (Unit {0}) (λ next. IsOpen (in_list top sub list) × IsOpen (in_list top sub next))
     → MatchOption (option_map (in_list top sub) o) (Unit {0}) (λ next. IsOpen (in_list top sub list) × IsOpen next))
-    [ None ↦ λ opens. opens | Some next ↦ λ opens. opens ] (grow_place-foreign top sub list.closed list.place b foreign)
+    [ None ↦ λ opens. opens | Some next ↦ λ opens. opens ] (grow_state-foreign top sub list.closed list.place b foreign)

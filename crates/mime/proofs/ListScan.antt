@@ -8,10 +8,10 @@ use Rattle.mime.specs.Quoted.{continues}
 use Rattle.mime.specs.Remaining.{Remaining}
 use Rattle.mime.specs.declared.scan.Places.{Places}
 use Rattle.mime.specs.Scanning.{GivesFirst, Passes, PassesContent}
-use Rattle.mime.proofs.Begun.{ListPlace, in_spaces, in_name, in_value, in_quotes, behind_quotes, BegunList, grow_place, close}
+use Rattle.mime.proofs.Begun.{ListState, in_spaces, in_name, in_value, in_quotes, after_quotes, BegunList, grow_state, close}
 use Rattle.mime.proofs.Passing.{given_sum}
 use Rattle.mime.proofs.Verdicts.{places_of_list, ListReaches, list_run, list_byte}
-use Rattle.mime.proofs.Walks.{walk_list-spaces, walk_list-name, walk_list-value, walk_list-open, walk_list-behind_quotes}
+use Rattle.mime.proofs.Walks.{walk_list-spaces, walk_list-name, walk_list-value, walk_list-open, walk_list-after_quotes}
 use Rattle.mime.proofs.Classes.{quote_is_no_token, semicolon_is_no_token}
 
 -- the loop before a parameter: some are closed, and each took a byte of those that were left
@@ -61,12 +61,12 @@ quotes_walked {closed} {spaces} {name} {b = b} r g e q =
 -- after the value of a parameter: the text may end here, or a semicolon close it
 pub record Valued (closed : List (List ℕ × Parameter)) (spaces : List ℕ) (old mid now : Remaining) (stop : Option ℕ) : Type 0 where
   pub parameter : Parameter
-  pub place : ListPlace
+  pub place : ListState
   pub walked : ListReaches old now stop (record { closed = closed; place = place })
   pub counted : (head : Places) → places_of_list head (record { closed = closed; place = place })
       ≡ Some (record head { pairs = head.pairs + (length closed + 1) })
-  pub closing : grow_place closed place semicolon_byte ≡ close closed spaces parameter
-  pub stopped : MatchOption stop (now.left ≡ []) (λ b. b ≢ semicolon_byte → grow_place closed place b ≡ None)
+  pub closing : grow_state closed place semicolon_byte ≡ close closed spaces parameter
+  pub stopped : MatchOption stop (now.left ≡ []) (λ b. b ≢ semicolon_byte → grow_state closed place b ≡ None)
   pub less : length now.left ≤ length mid.left
 
 -- a byte outside a class that goes on, and no semicolon, leads nowhere
@@ -100,11 +100,11 @@ pub valued_quotes : {closed : List (List ℕ × Parameter)} {spaces name : List 
     → b ≡ quote_byte → PassesContent from to (Some c) → c ≡ quote_byte → Passes is_space to new stop → Valued closed spaces old mid new stop
 valued_quotes {closed} {spaces} {name} {new = new} {c = c} {stop = stop} r g e q h p = record {
   parameter = quoted name q.run p.run;
-  place = behind_quotes spaces name q.run p.run;
+  place = after_quotes spaces name q.run p.run;
   walked =
       list_run
       (list_byte (quotes_walked r g e q) (cond-false (continues q.run c) _ _ q.stopped ∙ cond-true _ _ _ (eq-eqb c quote_byte h)))
-      p.given (walk_list-behind_quotes closed spaces name q.run [] p.run p.of_class);
+      p.given (walk_list-after_quotes closed spaces name q.run [] p.run p.of_class);
   counted = λ head. refl;
   closing = refl;
   stopped = only_semicolon is_space new.left stop _ _ p.stopped;

@@ -9,8 +9,8 @@ use Rattle.std.proofs.lemmas.List.{take_at, drop_at, drop-drop}
 use Rattle.mime.specs.Bytes.{is_token_byte, semicolon_byte, equals_byte, quote_byte}
 use Rattle.mime.specs.Grammar.{Parameter, plain, quoted, Parameters, blank, final, more, text_of_list, text_of_parameter, is_space, AreSpaces, AreTokenBytes, IsToken, IsContent, AreParameters, IsParameter}
 use Rattle.mime.specs.Values.{lowered, lowered_value, lowered_parameter, lowered_list, pair_of, pairs_of_list}
-use Rattle.mime.specs.Quoted.{content_len, content_of, behind_content}
-use Rattle.mime.specs.Pairs.{PairCut, before_byte, behind_byte, cut_behind_equals, leading_spaces, without_gap, cut_of, pairs_within, lowered_within}
+use Rattle.mime.specs.Quoted.{content_len, content_of, after_content}
+use Rattle.mime.specs.Pairs.{PairCut, before_byte, after_byte, cut_after_equals, leading_spaces, without_gap, cut_of, pairs_within, lowered_within}
 use Rattle.mime.proofs.ContentEnds.{content_len-content}
 use Rattle.mime.proofs.Classes.{semicolon_is_no_token, equals_is_no_token, quote_is_no_token, token_byte-not, token_byte-not_space, is_other, are_other-token, are_other-spaces, AreTokenBytes-from_token}
 use Rattle.mime.proofs.Lowering.{lowered-append}
@@ -30,18 +30,18 @@ run_to class (x ∷ run) b behind all out =
     cond-true (class x) _ 0 parts.0 ∙ omega (arith, run_to class run b behind parts.1 out)
 
 -- the search for a byte passes a run without it, up to the byte or to the end
-place_to : (byte : ℕ) (run follow rest : List ℕ) → list_all (is_other byte) run ≡ true → IsFollow byte follow rest
+position_to : (byte : ℕ) (run follow rest : List ℕ) → list_all (is_other byte) run ≡ true → IsFollow byte follow rest
     → prefix_len (is_other byte) (run ++ follow) ≡ length run
-place_to byte run follow rest all (marked _) = run_to (is_other byte) run byte rest all (grind (arith, nat_tests))
-place_to byte [] follow rest all nothing = refl
-place_to byte (x ∷ run) follow rest all nothing =
+position_to byte run follow rest all (marked _) = run_to (is_other byte) run byte rest all (grind (arith, nat_tests))
+position_to byte [] follow rest all nothing = refl
+position_to byte (x ∷ run) follow rest all nothing =
     let parts = and_parts (is_other byte x) (list_all (is_other byte) run) all in
-    cond-true (is_other byte x) _ 0 parts.0 ∙ omega (arith, place_to byte run [] [] parts.1 nothing)
+    cond-true (is_other byte x) _ 0 parts.0 ∙ omega (arith, position_to byte run [] [] parts.1 nothing)
 
 -- the text before it
 before_to : (byte : ℕ) (run follow rest : List ℕ) → list_all (is_other byte) run ≡ true → IsFollow byte follow rest
     → before_byte byte (run ++ follow) ≡ run
-before_to byte run follow rest all follows = take_at run follow _ (omega (arith, place_to byte run follow rest all follows))
+before_to byte run follow rest all follows = take_at run follow _ (omega (arith, position_to byte run follow rest all follows))
 
 -- what is left after a run and a byte
 drop_past : (byte : ℕ) (run follow rest : List ℕ) (n : ℕ) → IsFollow byte follow rest → length run ≡ n → drop (n + 1) (run ++ follow) ≡ rest
@@ -53,14 +53,14 @@ drop_past byte run follow rest n follows long =
     past follow rest (marked _) = refl
 
 -- the text after it
-behind_to : (byte : ℕ) (run follow rest : List ℕ) → list_all (is_other byte) run ≡ true → IsFollow byte follow rest
-    → behind_byte byte (run ++ follow) ≡ rest
-behind_to byte run follow rest all follows =
-    drop_past byte run follow rest _ follows (omega (arith, place_to byte run follow rest all follows))
+after_to : (byte : ℕ) (run follow rest : List ℕ) → list_all (is_other byte) run ≡ true → IsFollow byte follow rest
+    → after_byte byte (run ++ follow) ≡ rest
+after_to byte run follow rest all follows =
+    drop_past byte run follow rest _ follows (omega (arith, position_to byte run follow rest all follows))
 
 -- a plain value is cut up to the semicolon or the end
 cut_value-plain : (whole : ℕ) (name value follow rest : List ℕ) → AreTokenBytes value → IsFollow semicolon_byte follow rest
-    → cut_behind_equals whole name (value ++ follow)
+    → cut_after_equals whole name (value ++ follow)
     ≡ record { name = name; head = whole - length (value ++ follow); value = value; rest = rest }
 cut_value-plain whole name [] follow rest all nothing = ap (λ n. record { name = name; head = n; value = []; rest = [] }) (omega arith)
 cut_value-plain whole name [] follow rest all (marked _) = refl
@@ -68,20 +68,20 @@ cut_value-plain whole name (v ∷ value) follow rest all follows =
     let first = and_parts (is_token_byte v) (list_all is_token_byte value) all in
     let others = are_other-token semicolon_byte semicolon_is_no_token (v ∷ value) all in
     cond-false (v == quote_byte) _ _ (token_byte-not v quote_byte quote_is_no_token first.0)
-    ∙ cc (before_to semicolon_byte (v ∷ value) follow rest others follows, behind_to semicolon_byte (v ∷ value) follow rest others follows)
+    ∙ cc (before_to semicolon_byte (v ∷ value) follow rest others follows, after_to semicolon_byte (v ∷ value) follow rest others follows)
 
 -- a quoted value is cut up to its closing quote
 cut_value-quoted : (whole : ℕ) (name content n follow rest : List ℕ) → IsContent content → AreSpaces n → IsFollow semicolon_byte follow rest
-    → cut_behind_equals whole name (quote_byte ∷ (content ++ (quote_byte ∷ (n ++ follow))))
+    → cut_after_equals whole name (quote_byte ∷ (content ++ (quote_byte ∷ (n ++ follow))))
     ≡ record { name = name; head = whole - length (content ++ (quote_byte ∷ (n ++ follow))); value = content; rest = rest }
 cut_value-quoted whole name content n follow rest is white follows =
     let bytes : List ℕ = content ++ (quote_byte ∷ (n ++ follow)) in
     let place = content_len-content content (n ++ follow) is in
     let value : content_of bytes ≡ content = take_at content (quote_byte ∷ (n ++ follow)) (content_len bytes) (sym place) in
-    let after : behind_content bytes ≡ n ++ follow = drop_past quote_byte content _ _ (content_len bytes) (marked _) (sym place) in
-    let behind : behind_byte semicolon_byte (behind_content bytes) ≡ rest =
-    ap (behind_byte semicolon_byte) after
-    ∙ behind_to semicolon_byte n follow rest (are_other-spaces semicolon_byte refl n white) follows in
+    let after : after_content bytes ≡ n ++ follow = drop_past quote_byte content _ _ (content_len bytes) (marked _) (sym place) in
+    let behind : after_byte semicolon_byte (after_content bytes) ≡ rest =
+    ap (after_byte semicolon_byte) after
+    ∙ after_to semicolon_byte n follow rest (are_other-spaces semicolon_byte refl n white) follows in
     cc
 
 -- the spaces before a name are cut off
@@ -94,14 +94,14 @@ without_gap-token n (b ∷ name) behind white is =
 
 -- a name is cut from the spaces before it up to the equals sign
 cut_of-named : (n name behind : List ℕ) → AreSpaces n → IsToken name
-    → cut_of (n ++ (name ++ (equals_byte ∷ behind))) ≡ cut_behind_equals (length (n ++ (name ++ (equals_byte ∷ behind)))) name behind
+    → cut_of (n ++ (name ++ (equals_byte ∷ behind))) ≡ cut_after_equals (length (n ++ (name ++ (equals_byte ∷ behind)))) name behind
 unfolding cut_of
 cut_of-named n name behind white is =
     let others = are_other-token equals_byte equals_is_no_token name (AreTokenBytes-from_token name is) in
     rw (
       without_gap-token n name (equals_byte ∷ behind) white is,
       before_to equals_byte name (equals_byte ∷ behind) behind others (marked behind),
-      behind_to equals_byte name (equals_byte ∷ behind) behind others (marked behind),
+      after_to equals_byte name (equals_byte ∷ behind) behind others (marked behind),
     )
 
 -- the text before the value of a parameter

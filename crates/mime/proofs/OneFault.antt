@@ -9,12 +9,12 @@ use Rattle.std.specs.Prelude.{IsTrue, IsFalse, is_some, slice_get, ◌==◌}
 use Rattle.std.specs.List.{list_all}
 use Rattle.std.specs.Option.{option_and_then}
 use Rattle.mime.specs.Bytes.{is_token_byte, slash_byte, equals_byte}
-use Rattle.mime.specs.Quoted.{awaits_first, takes_all, awaits_behind}
+use Rattle.mime.specs.Quoted.{awaits_first, takes_all, awaits_after}
 use Rattle.mime.proofs.Quoted.{takes_all-letter, takes_all-letter_slash_letter, takes_all-equals_letter}
 use Rattle.mime.specs.Grammar.{SyntaxTree}
 use Rattle.mime.specs.Values.{IsRefused}
 use Rattle.mime.specs.Refusals.{IsFront, EndsIn, Lacks, IsDeadAt, IsFault}
-use Rattle.mime.proofs.Begun.{Closed, Begun, in_type, in_subtype, in_list, ListPlace, in_name, in_value, in_quotes, list_at, walk, tree_of, lacking}
+use Rattle.mime.proofs.Begun.{Closed, Begun, in_type, in_subtype, in_list, ListState, in_name, in_value, in_quotes, list_at, walk, tree_of, lacking}
 use Rattle.mime.specs.Laws.{OneCompletion, CompletedIsRefused, OneFault, OneFront}
 use Rattle.mime.specs.declared.scan.fault.ParseError.{ParseError}
 use Rattle.mime.specs.declared.scan.fault.ParseError.TheVariants.{MissingSlash, MissingSubtype, MissingEqual, MissingValue, MissingQuote, InvalidToken}
@@ -72,7 +72,7 @@ ends_not class text before run b spelled some all outside (front, ends) =
 
 -- bytes that an open quoted value takes complete nothing
 not_completes-open : {X : Type 0} (top sub : List ℕ) (closed : Closed) (n name content more : List ℕ)
-    → IsTrue (takes_all (awaits_behind awaits_first content) more)
+    → IsTrue (takes_all (awaits_after awaits_first content) more)
     → IsTrue (completes (in_list top sub (list_at closed (in_quotes n name content))) more) → X
 not_completes-open top sub closed n name content more all passes =
     never (sym (ap (λ o. is_some (option_and_then tree_of o)) (walk_from-open top sub closed n name content more all)) ∙ passes)
@@ -96,7 +96,7 @@ lacks_own text (in_subtype top (s ∷ sub)) walked =
         (text-in_subtype top (s ∷ sub) ∙ spelled-from_walk text _ walked) (omega arith) (begun-from_walk text _ walked).1
 lacks_own text (in_list top sub list) walked = at list.place list.closed walked
   where
-    at : (place : ListPlace) (closed : Closed) → walk text ≡ Some (in_list top sub (list_at closed place))
+    at : (place : ListState) (closed : Closed) → walk text ≡ Some (in_list top sub (list_at closed place))
         → (fault : ParseError) → Lacks text fault → IsOwn (in_list top sub (list_at closed place)) fault
     at (in_name n name) closed walked = own-by_fault text _ walked never nor (λ passes. (refl, refl)) nor never
     at (in_value n name []) closed walked =
@@ -122,7 +122,7 @@ lacks_own text (in_list top sub list) walked = at list.place list.closed walked
         (λ passes. (refl, refl))
       where
         awaited : Bool
-        awaited = awaits_behind awaits_first content
+        awaited = awaits_after awaits_first content
 
         completes_not : {X : Type 0} (more : List ℕ) → IsTrue (takes_all awaited more)
             → IsTrue (completes (in_list top sub (list_at closed (in_quotes n name content))) more) → X

@@ -5,8 +5,8 @@ use Rattle.std.proofs.lemmas.Bool.{cond_both}
 use Rattle.std.proofs.lemmas.List.{take_at, drop_at, drop-drop, take-append-drop}
 use Rattle.mime.specs.Bytes.{semicolon_byte, equals_byte, quote_byte}
 use Rattle.mime.specs.Values.{lowered, lowered_value}
-use Rattle.mime.specs.Quoted.{content_len, behind_content}
-use Rattle.mime.specs.Pairs.{IsEndOf, PairCut, first_position, before_byte, behind_byte, cut_behind_equals, leading_spaces, without_gap, cut_of, lowered_first, lowered_within}
+use Rattle.mime.specs.Quoted.{content_len, after_content}
+use Rattle.mime.specs.Pairs.{IsEndOf, PairCut, first_position, before_byte, after_byte, cut_after_equals, leading_spaces, without_gap, cut_of, lowered_first, lowered_within}
 use Rattle.mime.proofs.Lowering.{lowered_value-either}
 use Rattle.mime.proofs.Marks.{end_drop}
 use Rattle.mime.proofs.Utf8.{IsLoweredInPart, same, small, joined, length-in_part}
@@ -44,22 +44,22 @@ lies_from_end list bytes name rest k end behind =
     }
 
 -- the cut after the equals sign lies in the list
-cut_value-lies : (list name bytes : List ℕ) → IsEnd bytes list → LiesIn list (cut_behind_equals (length list) name bytes)
+cut_value-lies : (list name bytes : List ℕ) → IsEnd bytes list → LiesIn list (cut_after_equals (length list) name bytes)
 cut_value-lies list name [] end = record { front = list; middle = []; parts = sym (append-nil list); head = refl }
 cut_value-lies list name (b ∷ bytes) end =
     cond_both (b == quote_byte) _ _ (LiesIn list)
     (λ _. lies_from_end list bytes name _ (content_len bytes)
     (IsEnd-trans bytes (b ∷ bytes) list (1, refl) end)
-    (IsEnd-trans _ (behind_content bytes) _ (_, refl) (1, sym (drop-drop 1 (content_len bytes) bytes))))
+    (IsEnd-trans _ (after_content bytes) _ (_, refl) (1, sym (drop-drop 1 (content_len bytes) bytes))))
     (λ _. lies_from_end list (b ∷ bytes) name _ _ end (1, sym (drop-drop 1 (first_position semicolon_byte (b ∷ bytes)) (b ∷ bytes))))
 
 -- what is left behind it is an end of what the list is an end of
-pub cut_behind_equals-end : (size : ℕ) (name bytes whole : List ℕ) → IsEndOf bytes whole
-    → IsEndOf (cut_behind_equals size name bytes).rest whole
-cut_behind_equals-end size name [] whole is = is
-cut_behind_equals-end size name (b ∷ bytes) whole is =
+pub cut_after_equals-end : (size : ℕ) (name bytes whole : List ℕ) → IsEndOf bytes whole
+    → IsEndOf (cut_after_equals size name bytes).rest whole
+cut_after_equals-end size name [] whole is = is
+cut_after_equals-end size name (b ∷ bytes) whole is =
     cond_both (b == quote_byte) _ _ (λ (cut : PairCut). IsEndOf cut.rest whole)
-    (λ _. end_drop _ (behind_content bytes) whole (end_drop (content_len bytes + 1) bytes whole (end_drop 1 (b ∷ bytes) whole is)))
+    (λ _. end_drop _ (after_content bytes) whole (end_drop (content_len bytes + 1) bytes whole (end_drop 1 (b ∷ bytes) whole is)))
     (λ _. end_drop _ (b ∷ bytes) whole is)
 
 -- the cut of any list lies in it
@@ -67,7 +67,7 @@ pub cut_of-lies : (list : List ℕ) → LiesIn list (cut_of list)
 unfolding cut_of
 cut_of-lies list =
     let body = without_gap list in
-    cut_value-lies list (before_byte equals_byte body) (behind_byte equals_byte body)
+    cut_value-lies list (before_byte equals_byte body) (after_byte equals_byte body)
     (IsEnd-trans _ body list (_, refl) (leading_spaces list, refl))
 
 -- the first value and the rest lie apart within the list

@@ -13,7 +13,7 @@ use Rattle.mime.specs.Pairs.{cut_of, pairs_within}
 use Rattle.mime.specs.Items.{items_of, IsLowItem}
 use Rattle.mime.specs.KeptText.{IsLowPair, AreLowPairs}
 use Rattle.mime.proofs.ByteAt.{slice_get-front}
-use Rattle.mime.proofs.CharBorders.{boundary_before, boundary_behind}
+use Rattle.mime.proofs.CharBorders.{boundary_before, boundary_after}
 use Rattle.mime.proofs.Lowering.{lowered-lowered, length-lowered, lowered-append, lowered-take, lowered-drop, lowered_value-lowered, low_pair-parts}
 use Rattle.mime.proofs.Pluses.{plus_is_last}
 
@@ -29,7 +29,7 @@ slash_in text essence value reads is =
 -- the subtype begins after it, at a character
 pub subtype_start : (text essence : List ℕ) (value : MediaType) → Reads text value → essence ≡ value.essence → IsUtf8 essence
     → IsCharBoundary essence (value.slash + 1)
-subtype_start text essence value reads is utf8 = boundary_behind essence _ slash_byte utf8 (slash_in text essence value reads is) (lit< tt)
+subtype_start text essence value reads is utf8 = boundary_after essence _ slash_byte utf8 (slash_in text essence value reads is) (lit< tt)
 
 -- the plus lies in the essence, after the subtype's first byte
 record PlusIn (essence : List ℕ) (slash plus : ℕ) : Type 0 where
@@ -57,7 +57,7 @@ pub suffix_start : (text essence : List ℕ) (value : MediaType) (plus : ℕ) �
     → value.plus ≡ Some plus → (plus < length essence) × IsCharBoundary essence (plus + 1)
 suffix_start text essence value plus reads is utf8 found =
     let at = plus_in text essence value plus reads is found in
-    (slice_get_within essence plus plus_byte at.there, boundary_behind essence plus plus_byte utf8 at.there (lit< tt))
+    (slice_get_within essence plus plus_byte at.there, boundary_after essence plus plus_byte utf8 at.there (lit< tt))
 
 -- ---- what is in small letters
 

@@ -6,11 +6,11 @@ use Rattle.std.specs.Option.{option_eq, option_to_list}
 use Rattle.std.proofs.lemmas.Bool.{and_from, eqb-true, true≢false}
 use Rattle.std.proofs.lemmas.List.Folds.{list_all-append}
 use Rattle.mime.specs.Bytes.{is_quoted_byte, is_quoted_text_byte, plus_byte, backslash_byte}
-use Rattle.mime.specs.Quoted.{awaits_first, awaits_next, takes, takes_all, awaits_behind, IsOpenContent, continues}
+use Rattle.mime.specs.Quoted.{awaits_first, awaits_next, takes, takes_all, awaits_after, IsOpenContent, continues}
 use Rattle.mime.specs.Values.{last_plus}
 use Rattle.mime.specs.Remaining.{Remaining}
 use Rattle.mime.specs.Scanning.{Given, GivesFirst, Passes, PassesContent}
-use Rattle.mime.proofs.Quoted.{takes_all-backslash, takes_all-text, awaits_behind-text, awaits_behind-append, takes_all-append, not_taken}
+use Rattle.mime.proofs.Quoted.{takes_all-backslash, takes_all-text, awaits_after-text, awaits_after-append, takes_all-append, not_taken}
 
 -- a run, and what was given from where it ended
 pub given_then : {old mid new : Remaining} {xs ys : List ℕ} {stop : Option ℕ}
@@ -75,7 +75,7 @@ passes_at p g stopped = record {
 pub record Taking (awaiting : Bool) (old now : Remaining) : Type 0 where
   pub run : List ℕ
   pub of_class : IsOpenContent run
-  pub awaits : awaits_behind awaits_first run ≡ awaiting
+  pub awaits : awaits_after awaits_first run ≡ awaiting
   pub given : Given old now run None
 
 -- no content was given yet
@@ -84,11 +84,11 @@ taking_none now = record { run = []; of_class = refl; awaits = refl; given = rec
 
 -- more content was given
 taking_run : {awaiting : Bool} {old mid new : Remaining} {run : List ℕ} → Taking awaiting old mid → Given mid new run None
-    → IsTrue (takes_all awaiting run) → Taking (awaits_behind awaiting run) old new
+    → IsTrue (takes_all awaiting run) → Taking (awaits_after awaiting run) old new
 taking_run {run} p g taken = record {
   run = p.run ++ run;
   of_class = takes_all-append awaits_first p.run run p.of_class (rw p.awaits taken);
-  awaits = awaits_behind-append awaits_first p.run run ∙ ap (λ (a : Bool). awaits_behind a run) p.awaits;
+  awaits = awaits_after-append awaits_first p.run run ∙ ap (λ (a : Bool). awaits_after a run) p.awaits;
   given = given_then p.given g;
 }
 
@@ -102,9 +102,9 @@ pub taking_backslash : {old mid new : Remaining} {stop : Option ℕ} → Taking 
     → Passes is_quoted_text_byte mid new stop → option_eq eqb stop (Some backslash_byte) ≡ true → Taking true old new
 taking_backslash {old} {mid} {new} {stop} p passes test =
     let given = given_whole (subst (λ s. Given mid new passes.run s) (is_backslash stop test) passes.given) in
-    let text = awaits_behind-text passes.run passes.of_class in
+    let text = awaits_after-text passes.run passes.of_class in
     subst (λ awaiting. Taking awaiting old new)
-    (awaits_behind-append false passes.run (backslash_byte ∷ []) ∙ ap (λ (a : Bool). awaits_next a backslash_byte) text)
+    (awaits_after-append false passes.run (backslash_byte ∷ []) ∙ ap (λ (a : Bool). awaits_next a backslash_byte) text)
     (taking_run p given
     (takes_all-append false passes.run (backslash_byte ∷ []) (takes_all-text passes.run passes.of_class)
     (subst (λ awaiting. IsTrue (takes_all awaiting (backslash_byte ∷ []))) (sym text) takes_all-backslash)))
@@ -134,9 +134,9 @@ content_text {new = new} stop p passes other = record {
   stopped = ends stop passes.stopped other;
 }
   where
-    closes : awaits_behind awaits_first (p.run ++ passes.run) ≡ false
-    closes = awaits_behind-append awaits_first p.run passes.run
-        ∙ ap (λ (a : Bool). awaits_behind a passes.run) p.awaits ∙ awaits_behind-text passes.run passes.of_class
+    closes : awaits_after awaits_first (p.run ++ passes.run) ≡ false
+    closes = awaits_after-append awaits_first p.run passes.run
+        ∙ ap (λ (a : Bool). awaits_after a passes.run) p.awaits ∙ awaits_after-text passes.run passes.of_class
 
     ends : (stop : Option ℕ) → MatchOption stop (new.left ≡ []) (λ b. IsFalse (is_quoted_text_byte b))
         → option_eq eqb stop (Some backslash_byte) ≡ false

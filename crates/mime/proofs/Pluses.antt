@@ -7,7 +7,7 @@ use Rattle.std.proofs.lemmas.Option.{same_Some, none-some}
 use Rattle.mime.specs.Bytes.{slash_byte, plus_byte}
 use Rattle.mime.specs.Values.{lowered, last_plus, MediaType}
 use Rattle.mime.specs.Laws.{HasNoPlusFrom, PlusIsLast}
-use Rattle.mime.proofs.ByteAt.{slice_get-behind}
+use Rattle.mime.proofs.ByteAt.{slice_get-after}
 use Rattle.mime.proofs.Lowering.{length-lowered}
 
 -- the last plus of a text from a position on, if there is one
@@ -51,6 +51,6 @@ plus_is_last text value reads =
     let sub = lowered reads.tree.sub in
     let slash = length reads.tree.top in
     let view : (i : ℕ) → slice_get (top ++ (slash_byte ∷ sub)) (slash + 2 + i) ≡ slice_get (drop 1 sub) i =
-    λ i. slice_get-behind top (slash_byte ∷ sub) (suc (suc i)) _ (omega (arith, length-lowered reads.tree.top)) ∙ slice_get-drop sub i in
+    λ i. slice_get-after top (slash_byte ∷ sub) (suc (suc i)) _ (omega (arith, length-lowered reads.tree.top)) ∙ slice_get-drop sub i in
     subst (λ (v : MediaType). IsLastPlus v.essence (v.slash + 1) (v.slash + 2) v.plus) reads.valued
     (last_plus-is_last (top ++ (slash_byte ∷ sub)) (slash + 1) (slash + 2) (drop 1 sub) (omega arith) view)

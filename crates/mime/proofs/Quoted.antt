@@ -8,7 +8,7 @@ use Rattle.std.proofs.lemmas.Bool.Decides.{nat_tests}
 use Rattle.mime.specs.Bytes.{is_quoted_byte, is_quoted_text_byte, quote_byte, backslash_byte}
 use Rattle.mime.specs.Grammar.{IsContent, no_byte, text_byte, quoted_pair}
 use Rattle.mime.specs.Values.{lowered}
-use Rattle.mime.specs.Quoted.{awaits_first, awaits_next, takes, takes_all, awaits_behind, IsOpenContent, continues}
+use Rattle.mime.specs.Quoted.{awaits_first, awaits_next, takes, takes_all, awaits_after, IsOpenContent, continues}
 
 -- ---- one byte
 
@@ -92,10 +92,10 @@ content-taken bytes (quoted_pair b content fits more) =
     (and_from (takes true b) (takes_all false content) fits (content-taken content more))
 
 -- after content no byte is awaited
-pub content-awaits : (content : List ℕ) → IsContent content → awaits_behind awaits_first content ≡ false
+pub content-awaits : (content : List ℕ) → IsContent content → awaits_after awaits_first content ≡ false
 content-awaits bytes no_byte = refl
 content-awaits bytes (text_byte b content text more) =
-    ap (λ (awaiting : Bool). awaits_behind awaiting content) (awaits_next-text b text) ∙ content-awaits content more
+    ap (λ (awaiting : Bool). awaits_after awaiting content) (awaits_next-text b text) ∙ content-awaits content more
 content-awaits bytes (quoted_pair b content fits more) = content-awaits content more
 
 -- what makes content, after a backslash or not
@@ -104,7 +104,7 @@ ContentFrom true bytes = IsContent (backslash_byte ∷ bytes)
 ContentFrom false bytes = IsContent bytes
 
 -- what is taken and awaits no more makes content
-content_from : (awaiting : Bool) (bytes : List ℕ) → IsTrue (takes_all awaiting bytes) → awaits_behind awaiting bytes ≡ false
+content_from : (awaiting : Bool) (bytes : List ℕ) → IsTrue (takes_all awaiting bytes) → awaits_after awaiting bytes ≡ false
     → ContentFrom awaiting bytes
 content_from true [] all done = absurd (true≢false done)
 content_from false [] all done = no_byte
@@ -119,19 +119,19 @@ content_from false (b ∷ bytes) all done =
     go true same taken more = subst (λ first. IsContent (first ∷ bytes)) (sym (eqb-true b backslash_byte same)) more
     go false other taken more = text_byte b bytes (text-taken b taken other) more
 
-pub IsContent-taken : (content : List ℕ) → IsOpenContent content → awaits_behind awaits_first content ≡ false → IsContent content
+pub IsContent-taken : (content : List ℕ) → IsOpenContent content → awaits_after awaits_first content ≡ false → IsContent content
 IsContent-taken content all done = content_from false content all done
 
 -- ---- byte after byte
 
 -- whether a byte is awaited after joined bytes, and whether they are taken
-pub awaits_behind-append : (awaiting : Bool) (run more : List ℕ)
-    → awaits_behind awaiting (run ++ more) ≡ awaits_behind (awaits_behind awaiting run) more
-awaits_behind-append awaiting [] more = refl
-awaits_behind-append awaiting (b ∷ run) more = awaits_behind-append (awaits_next awaiting b) run more
+pub awaits_after-append : (awaiting : Bool) (run more : List ℕ)
+    → awaits_after awaiting (run ++ more) ≡ awaits_after (awaits_after awaiting run) more
+awaits_after-append awaiting [] more = refl
+awaits_after-append awaiting (b ∷ run) more = awaits_after-append (awaits_next awaiting b) run more
 
 pub takes_all-append : (awaiting : Bool) (run more : List ℕ) → IsTrue (takes_all awaiting run)
-    → IsTrue (takes_all (awaits_behind awaiting run) more) → IsTrue (takes_all awaiting (run ++ more))
+    → IsTrue (takes_all (awaits_after awaiting run) more) → IsTrue (takes_all awaiting (run ++ more))
 takes_all-append awaiting [] more all taken = taken
 takes_all-append awaiting (b ∷ run) more all taken =
     let parts = and_parts (takes awaiting b) (takes_all (awaits_next awaiting b) run) all in
@@ -151,22 +151,22 @@ takes_all-text (b ∷ run) all =
     and_from (takes false b) _ (takes-text b parts.0)
     (subst (λ awaiting. IsTrue (takes_all awaiting run)) (sym (awaits_next-text b parts.0)) (takes_all-text run parts.1))
 
-pub awaits_behind-text : (run : List ℕ) → IsTrue (list_all is_quoted_text_byte run) → awaits_behind false run ≡ false
-awaits_behind-text [] all = refl
-awaits_behind-text (b ∷ run) all =
+pub awaits_after-text : (run : List ℕ) → IsTrue (list_all is_quoted_text_byte run) → awaits_after false run ≡ false
+awaits_after-text [] all = refl
+awaits_after-text (b ∷ run) all =
     let parts = and_parts (is_quoted_text_byte b) (list_all is_quoted_text_byte run) all in
-    ap (λ (awaiting : Bool). awaits_behind awaiting run) (awaits_next-text b parts.0) ∙ awaits_behind-text run parts.1
+    ap (λ (awaiting : Bool). awaits_after awaiting run) (awaits_next-text b parts.0) ∙ awaits_after-text run parts.1
 
 -- open content that a quote doesn't continue is content
 pub IsContent-closed : (content : List ℕ) (b : ℕ) → IsOpenContent content → IsFalse (continues content b) → IsTrue (b == quote_byte)
     → IsContent content
 IsContent-closed content b all stopped same =
     IsContent-taken content all
-    (sym (takes-quote (awaits_behind awaits_first content)) ∙ ap (continues content) (sym (eqb-true b quote_byte same)) ∙ stopped)
+    (sym (takes-quote (awaits_after awaits_first content)) ∙ ap (continues content) (sym (eqb-true b quote_byte same)) ∙ stopped)
 
 -- a quote doesn't continue content
 pub content-closed : (content : List ℕ) → IsContent content → IsFalse (continues content quote_byte)
-content-closed content is = takes-quote (awaits_behind awaits_first content) ∙ content-awaits content is
+content-closed content is = takes-quote (awaits_after awaits_first content) ∙ content-awaits content is
 
 -- an open quoted value takes the bytes of each completion, and a letter before a quote
 pub takes_all-equals_letter : (awaiting : Bool) → IsTrue (takes_all awaiting (61 ∷ 120 ∷ []))
@@ -187,8 +187,8 @@ takes_all-letter_slash_letter false = refl
 -- a quote after a letter closes the value
 pub closed-letter : (content : List ℕ) → IsFalse (continues (content ++ 120 ∷ []) quote_byte)
 closed-letter content =
-    takes-quote (awaits_behind awaits_first (content ++ 120 ∷ []))
-    ∙ awaits_behind-append awaits_first content (120 ∷ []) ∙ awaits_next-letter (awaits_behind awaits_first content)
+    takes-quote (awaits_after awaits_first (content ++ 120 ∷ []))
+    ∙ awaits_after-append awaits_first content (120 ∷ []) ∙ awaits_next-letter (awaits_after awaits_first content)
 
 -- ---- lowering
 
@@ -200,19 +200,19 @@ takes_all-lowered awaiting (b ∷ bytes) =
     (ap (λ rest. takes awaiting b && rest)
     (ap (λ a. takes_all a (lowered bytes)) (awaits_next-lowercase awaiting b) ∙ takes_all-lowered (awaits_next awaiting b) bytes))
 
-awaits_behind-lowered : (awaiting : Bool) (bytes : List ℕ) → awaits_behind awaiting (lowered bytes) ≡ awaits_behind awaiting bytes
-awaits_behind-lowered awaiting [] = refl
-awaits_behind-lowered awaiting (b ∷ bytes) =
-    ap (λ (a : Bool). awaits_behind a (lowered bytes)) (awaits_next-lowercase awaiting b)
-    ∙ awaits_behind-lowered (awaits_next awaiting b) bytes
+awaits_after-lowered : (awaiting : Bool) (bytes : List ℕ) → awaits_after awaiting (lowered bytes) ≡ awaits_after awaiting bytes
+awaits_after-lowered awaiting [] = refl
+awaits_after-lowered awaiting (b ∷ bytes) =
+    ap (λ (a : Bool). awaits_after a (lowered bytes)) (awaits_next-lowercase awaiting b)
+    ∙ awaits_after-lowered (awaits_next awaiting b) bytes
 
 -- a byte continues open content as its small letter continues the lowered content
 pub continues-lowered : (content : List ℕ) (b : ℕ) → continues (lowered content) (to_ascii_lowercase b) ≡ continues content b
 continues-lowered content b =
-    rw (awaits_behind-lowered awaits_first content) (takes-of_lowercase (awaits_behind awaits_first content) b)
+    rw (awaits_after-lowered awaits_first content) (takes-of_lowercase (awaits_after awaits_first content) b)
 
 -- lowered content is content
 pub IsContent-lowered : (content : List ℕ) → IsContent content → IsContent (lowered content)
 IsContent-lowered content is =
     IsContent-taken (lowered content) (takes_all-lowered awaits_first content ∙ content-taken content is)
-    (awaits_behind-lowered awaits_first content ∙ content-awaits content is)
+    (awaits_after-lowered awaits_first content ∙ content-awaits content is)

@@ -9,8 +9,8 @@ use Rattle.mime.specs.Grammar.{Parameter, plain, quoted, Parameters, blank, fina
 use Rattle.mime.specs.Values.{MediaType, value_of, Reads, IsAccepted, IsRefused}
 use Rattle.mime.specs.Quoted.{continues}
 use Rattle.mime.proofs.Quoted.{content-taken, content-closed}
-use Rattle.mime.proofs.Begun.{Closed, Begun, in_type, in_subtype, in_list, BegunList, ListPlace, in_spaces, in_name, in_value, in_quotes, behind_quotes, begun_list, list_at, at_place, close, grow, grow_list, grow_place, walk, walk_from, walk_list, with_closed, ended_list, tree_of}
-use Rattle.mime.proofs.Walks.{walk_by-step, walk_from-step, walk_from-append_some, walk_from-in_list, walk-type, walk_from-subtype, walk_list-append_some, walk_list-spaces, walk_list-name, walk_list-value, walk_list-open, walk_list-behind_quotes}
+use Rattle.mime.proofs.Begun.{Closed, Begun, in_type, in_subtype, in_list, BegunList, ListState, in_spaces, in_name, in_value, in_quotes, after_quotes, begun_list, list_at, at_state, close, grow, grow_list, grow_state, walk, walk_from, walk_list, with_closed, ended_list, tree_of}
+use Rattle.mime.proofs.Walks.{walk_by-step, walk_from-step, walk_from-append_some, walk_from-in_list, walk-type, walk_from-subtype, walk_list-append_some, walk_list-spaces, walk_list-name, walk_list-value, walk_list-open, walk_list-after_quotes}
 use Rattle.mime.proofs.Spelling.{text_of_begun, walk_from-lengthens, tree_of-spelled}
 use Rattle.mime.proofs.Classes.{token_byte-not_space}
 
@@ -26,14 +26,14 @@ accepted-from_walk text begun tree walked complete =
 -- ---- the text of a tree is walked to it
 
 -- the state that a parameter at the end of a list leads to
-abbrev place_of : List ℕ → Parameter → ListPlace
-place_of n (plain name value) = in_value n name value
-place_of n (quoted name content m) = behind_quotes n name content m
+abbrev state_of : List ℕ → Parameter → ListState
+state_of n (plain name value) = in_value n name value
+state_of n (quoted name content m) = after_quotes n name content m
 
 -- the begun list that a parameter list after closed parameters leads to
 abbrev begun_of : Closed → Parameters → BegunList
 begun_of closed (blank n) = list_at closed (in_spaces n)
-begun_of closed (final n parameter) = list_at closed (place_of n parameter)
+begun_of closed (final n parameter) = list_at closed (state_of n parameter)
 begun_of closed (more n parameter rest) = begun_of ((n, parameter) ∷ closed) rest
 
 -- the begun list that a parameter list leads to ends as that list
@@ -65,7 +65,7 @@ walk_list-named closed n (b ∷ name) rest token =
 
 -- the walk over a plain value
 walk_list-plain : (closed : Closed) (n name value : List ℕ) → IsToken value
-    → walk_list (list_at closed (in_value n name [])) value ≡ at_place closed (in_value n name value)
+    → walk_list (list_at closed (in_value n name [])) value ≡ at_state closed (in_value n name value)
 walk_list-plain closed n name [] token = absurd token
 walk_list-plain closed n name (v ∷ value) token =
     let parts = and_parts (is_token_byte v) (list_all is_token_byte value) token in
@@ -76,18 +76,18 @@ walk_list-plain closed n name (v ∷ value) token =
 -- the walk over a quoted value with the spaces after it
 walk_list-quoted : (closed : Closed) (n name content m : List ℕ) → IsContent content → AreSpaces m
     → walk_list (list_at closed (in_value n name [])) (quote_byte ∷ (content ++ (quote_byte ∷ m)))
-    ≡ at_place closed (behind_quotes n name content m)
+    ≡ at_state closed (after_quotes n name content m)
 unfolding is_token_byte
 walk_list-quoted closed n name content m fine white =
     walk_list-append_some (list_at closed (in_quotes n name [])) (list_at closed (in_quotes n name content)) content (quote_byte ∷ m)
     (walk_list-open closed n name [] content (content-taken content fine))
-    ∙ walk_by-step grow_list (list_at closed (in_quotes n name content)) (list_at closed (behind_quotes n name content [])) quote_byte m
+    ∙ walk_by-step grow_list (list_at closed (in_quotes n name content)) (list_at closed (after_quotes n name content [])) quote_byte m
     (cond-false (continues content quote_byte) _ _ (content-closed content fine))
-    ∙ walk_list-behind_quotes closed n name content [] m white
+    ∙ walk_list-after_quotes closed n name content [] m white
 
 -- the walk over a parameter
 walk_list-parameter : (closed : Closed) (n : List ℕ) (parameter : Parameter) → IsParameter parameter
-    → walk_list (list_at closed (in_spaces n)) (text_of_parameter parameter) ≡ at_place closed (place_of n parameter)
+    → walk_list (list_at closed (in_spaces n)) (text_of_parameter parameter) ≡ at_state closed (state_of n parameter)
 walk_list-parameter closed n (plain name value) fine =
     walk_list-named closed n name value fine.0 ∙ walk_list-plain closed n name value fine.1
 walk_list-parameter closed n (quoted name content m) fine =
@@ -95,12 +95,12 @@ walk_list-parameter closed n (quoted name content m) fine =
     ∙ walk_list-quoted closed n name content m fine.1 fine.2
 
 -- a semicolon after a whole parameter closes it
-grow_place-closed : (closed : Closed) (n : List ℕ) (parameter : Parameter) → IsParameter parameter
-    → grow_place closed (place_of n parameter) semicolon_byte ≡ close closed n parameter
+grow_state-closed : (closed : Closed) (n : List ℕ) (parameter : Parameter) → IsParameter parameter
+    → grow_state closed (state_of n parameter) semicolon_byte ≡ close closed n parameter
 unfolding is_token_byte
-grow_place-closed closed n (plain name []) fine = absurd fine.1
-grow_place-closed closed n (plain name (v ∷ value)) fine = refl
-grow_place-closed closed n (quoted name content m) fine = refl
+grow_state-closed closed n (plain name []) fine = absurd fine.1
+grow_state-closed closed n (plain name (v ∷ value)) fine = refl
+grow_state-closed closed n (quoted name content m) fine = refl
 
 -- the walk over the text of a list
 walk_list-text : (closed : Closed) (list : Parameters) → AreParameters list
@@ -113,9 +113,9 @@ walk_list-text closed (final n parameter) fine =
 walk_list-text closed (more n parameter rest) fine =
     walk_list-append_some (list_at closed (in_spaces [])) (list_at closed (in_spaces n))
     n (text_of_parameter parameter ++ (semicolon_byte ∷ text_of_list rest)) (walk_list-spaces closed [] n fine.0)
-    ∙ walk_list-append_some (list_at closed (in_spaces n)) (list_at closed (place_of n parameter))
+    ∙ walk_list-append_some (list_at closed (in_spaces n)) (list_at closed (state_of n parameter))
     (text_of_parameter parameter) (semicolon_byte ∷ text_of_list rest) (walk_list-parameter closed n parameter fine.1)
-    ∙ ap (option_and_then (λ next. walk_list next (text_of_list rest))) (grow_place-closed closed n parameter fine.1)
+    ∙ ap (option_and_then (λ next. walk_list next (text_of_list rest))) (grow_state-closed closed n parameter fine.1)
     ∙ walk_list-text ((n, parameter) ∷ closed) rest fine.2
 
 -- the walk over a type and its slash

@@ -11,7 +11,7 @@ use Rattle.mime.specs.Values.{MediaType, Reads, value_of, lowered, lowered_value
 use Rattle.mime.specs.Comparison.{Same}
 use Rattle.mime.specs.KeptText.{AreLowPairs}
 use Rattle.mime.specs.TextParts.{IsLoneCharset}
-use Rattle.mime.proofs.Begun.{ListPlace, in_spaces, in_name, in_value, in_quotes, behind_quotes, BegunList, Begun, in_type, in_subtype, in_list, grow_place, grow_list, grow, walk_from, walk, tree_of, with_closed}
+use Rattle.mime.proofs.Begun.{ListState, in_spaces, in_name, in_value, in_quotes, after_quotes, BegunList, Begun, in_type, in_subtype, in_list, grow_state, grow_list, grow, walk_from, walk, tree_of, with_closed}
 use Rattle.mime.proofs.Lowering.{lowered-append, lowered-lowered, lowered_value-either, low_pair-parts}
 use Rattle.mime.proofs.Parts.{read-low_pairs}
 use Rattle.mime.proofs.Quoted.{continues-lowered}
@@ -55,16 +55,16 @@ small_closed [] = []
 small_closed ((n, p) ∷ closed) = (lowered n, small_parameter p) ∷ small_closed closed
 
 -- the state after them, in small letters
-abbrev small_place : ListPlace → ListPlace
-small_place (in_spaces n) = in_spaces (lowered n)
-small_place (in_name n name) = in_name (lowered n) (lowered name)
-small_place (in_value n name value) = in_value (lowered n) (lowered name) (lowered value)
-small_place (in_quotes n name content) = in_quotes (lowered n) (lowered name) (lowered content)
-small_place (behind_quotes n name content m) = behind_quotes (lowered n) (lowered name) (lowered content) (lowered m)
+abbrev small_state : ListState → ListState
+small_state (in_spaces n) = in_spaces (lowered n)
+small_state (in_name n name) = in_name (lowered n) (lowered name)
+small_state (in_value n name value) = in_value (lowered n) (lowered name) (lowered value)
+small_state (in_quotes n name content) = in_quotes (lowered n) (lowered name) (lowered content)
+small_state (after_quotes n name content m) = after_quotes (lowered n) (lowered name) (lowered content) (lowered m)
 
 -- what is read of a list, in small letters
 abbrev small_list : BegunList → BegunList
-small_list list = record { closed = small_closed list.closed; place = small_place list.place }
+small_list list = record { closed = small_closed list.closed; place = small_state list.place }
 
 -- what is read of a text, in small letters
 abbrev pub small_begun : Begun → Begun
@@ -85,21 +85,21 @@ some_of_two f false true x y = refl
 some_of_two f false false x y = refl
 
 -- a byte and its small letter lead on alike in a list
-grow_place-small : (closed : List (List ℕ × Parameter)) (place : ListPlace) (b : ℕ)
-    → grow_place (small_closed closed) (small_place place) (to_ascii_lowercase b) ≡ option_map small_list (grow_place closed place b)
-grow_place-small closed (in_spaces n) b =
+grow_state-small : (closed : List (List ℕ × Parameter)) (place : ListState) (b : ℕ)
+    → grow_state (small_closed closed) (small_state place) (to_ascii_lowercase b) ≡ option_map small_list (grow_state closed place b)
+grow_state-small closed (in_spaces n) b =
     rw (space-lower b, token-lower b, ← lowered-append n (b ∷ [])) (some_of_two small_list (is_space b) (is_token_byte b) _ _)
-grow_place-small closed (in_name n name) b =
+grow_state-small closed (in_name n name) b =
     rw (token-lower b, equals-lower b, ← lowered-append name (b ∷ [])) (some_of_two small_list (is_token_byte b) (b == equals_byte) _ _)
-grow_place-small closed (in_value n name []) b =
+grow_state-small closed (in_value n name []) b =
     rw (token-lower b, quote-lower b) (some_of_two small_list (is_token_byte b) (b == quote_byte) _ _)
-grow_place-small closed (in_value n name (v ∷ value)) b =
+grow_state-small closed (in_value n name (v ∷ value)) b =
     rw (token-lower b, semicolon-lower b, ← lowered-append value (b ∷ []))
     (some_of_two small_list (is_token_byte b) (b == semicolon_byte) _ _)
-grow_place-small closed (in_quotes n name content) b =
+grow_state-small closed (in_quotes n name content) b =
     rw (continues-lowered content b, quote-lower b, ← lowered-append content (b ∷ []))
     (some_of_two small_list (continues content b) (b == quote_byte) _ _)
-grow_place-small closed (behind_quotes n name content m) b =
+grow_state-small closed (after_quotes n name content m) b =
     rw (space-lower b, semicolon-lower b, ← lowered-append m (b ∷ [])) (some_of_two small_list (is_space b) (b == semicolon_byte) _ _)
 
 -- a byte leads on from any begun tree as its small letter does
@@ -112,7 +112,7 @@ grow-small (in_subtype top (s ∷ sub)) b =
     rw (token-lower b, semicolon-lower b, ← lowered-append sub (b ∷ []))
     (some_of_two small_begun (is_token_byte b) (b == semicolon_byte) _ _)
 grow-small (in_list top sub list) b =
-    rw (grow_place-small list.closed list.place b) (go (grow_list list b))
+    rw (grow_state-small list.closed list.place b) (go (grow_list list b))
   where
     go : (next : Option BegunList)
         → option_map (in_list (lowered top) (lowered sub)) (option_map small_list next)
@@ -163,7 +163,7 @@ tree_of-small (in_subtype top []) = refl
 tree_of-small (in_subtype top (s ∷ sub)) = refl
 tree_of-small (in_list top sub list) = go list.closed list.place
   where
-    go : (closed : List (List ℕ × Parameter)) (place : ListPlace)
+    go : (closed : List (List ℕ × Parameter)) (place : ListState)
         → tree_of (small_begun (in_list top sub (record { closed = closed; place = place })))
         ≡ option_map small_tree (tree_of (in_list top sub (record { closed = closed; place = place })))
     go closed (in_spaces n) = rw (with_closed-small closed (blank n)) refl
@@ -171,7 +171,7 @@ tree_of-small (in_list top sub list) = go list.closed list.place
     go closed (in_value n name []) = refl
     go closed (in_value n name (v ∷ value)) = rw (with_closed-small closed (final n (plain name (v ∷ value)))) refl
     go closed (in_quotes n name content) = refl
-    go closed (behind_quotes n name content m) = rw (with_closed-small closed (final n (quoted name content m))) refl
+    go closed (after_quotes n name content m) = rw (with_closed-small closed (final n (quoted name content m))) refl
 
 -- a text that is an accepted one but for case has a tree that is its tree but for case
 record CaseTree (text : List ℕ) (tree : SyntaxTree) : Type 0 where

@@ -10,7 +10,7 @@ use Rattle.mime.specs.Bytes.{is_token_byte, slash_byte, semicolon_byte, equals_b
 use Rattle.mime.specs.Grammar.{quoted, Parameters, more, listed, is_space, AreSpaces, text_of_parameter, text_of_list, text_of, AreTokenBytes, IsToken, IsContent, IsParameter, AreParameters, IsWellFormed}
 use Rattle.mime.specs.Quoted.{IsOpenContent, continues}
 use Rattle.mime.proofs.Quoted.{IsOpenContent-push, IsContent-closed}
-use Rattle.mime.proofs.Begun.{Closed, Begun, in_type, in_subtype, in_list, BegunList, ListPlace, in_spaces, in_name, in_value, in_quotes, behind_quotes, list_at, grow, grow_place, grow_list, walk, walk_from, with_closed, ended, tree_of}
+use Rattle.mime.proofs.Begun.{Closed, Begun, in_type, in_subtype, in_list, BegunList, ListState, in_spaces, in_name, in_value, in_quotes, after_quotes, list_at, grow, grow_state, grow_list, walk, walk_from, with_closed, ended, tree_of}
 
 -- ---- begun trees: their texts, and that each part is in its class
 
@@ -21,16 +21,16 @@ text_of_closed (item ∷ closed) =
     text_of_closed closed ++ (item.0 ++ (text_of_parameter item.1 ++ (semicolon_byte ∷ [])))
 
 -- the text after the last semicolon
-abbrev pub text_of_place : ListPlace → List ℕ
-text_of_place (in_spaces n) = n
-text_of_place (in_name n name) = n ++ name
-text_of_place (in_value n name value) = n ++ (name ++ (equals_byte ∷ value))
-text_of_place (in_quotes n name content) = n ++ (name ++ (equals_byte ∷ quote_byte ∷ content))
-text_of_place (behind_quotes n name content m) = n ++ text_of_parameter (quoted name content m)
+abbrev pub text_of_state : ListState → List ℕ
+text_of_state (in_spaces n) = n
+text_of_state (in_name n name) = n ++ name
+text_of_state (in_value n name value) = n ++ (name ++ (equals_byte ∷ value))
+text_of_state (in_quotes n name content) = n ++ (name ++ (equals_byte ∷ quote_byte ∷ content))
+text_of_state (after_quotes n name content m) = n ++ text_of_parameter (quoted name content m)
 
 -- the text after the subtype's semicolon
 abbrev pub text_of_begun_list : BegunList → List ℕ
-text_of_begun_list list = text_of_closed list.closed ++ text_of_place list.place
+text_of_begun_list list = text_of_closed list.closed ++ text_of_state list.place
 
 -- the text that led to a begun tree
 abbrev pub text_of_begun : Begun → List ℕ
@@ -44,17 +44,17 @@ AreClosed [] = Unit {0}
 AreClosed (item ∷ closed) = AreSpaces item.0 × IsParameter item.1 × AreClosed closed
 
 -- the text after the last semicolon is well formed so far
-abbrev pub IsPlace : ListPlace → Type 0
-IsPlace (in_spaces n) = AreSpaces n
-IsPlace (in_name n name) = AreSpaces n × IsToken name
-IsPlace (in_value n name value) = AreSpaces n × IsToken name × AreTokenBytes value
-IsPlace (in_quotes n name content) = AreSpaces n × IsToken name × IsOpenContent content
-IsPlace (behind_quotes n name content m) = AreSpaces n × IsToken name × IsContent content × AreSpaces m
+abbrev pub IsState : ListState → Type 0
+IsState (in_spaces n) = AreSpaces n
+IsState (in_name n name) = AreSpaces n × IsToken name
+IsState (in_value n name value) = AreSpaces n × IsToken name × AreTokenBytes value
+IsState (in_quotes n name content) = AreSpaces n × IsToken name × IsOpenContent content
+IsState (after_quotes n name content m) = AreSpaces n × IsToken name × IsContent content × AreSpaces m
 
 -- a begun list that is well formed so far
 pub record IsBegunList (list : BegunList) : Type 0 where
   pub closed : AreClosed list.closed
-  pub place : IsPlace list.place
+  pub place : IsState list.place
 
 -- a type, a subtype and a begun list that are well formed so far
 pub record IsBegunTail (t s : List ℕ) (begun : BegunList) : Type 0 where
@@ -104,35 +104,35 @@ abbrev Lengthens : List ℕ → ℕ → BegunList → Type 0
 Lengthens text b next = IsBegunList next × (text_of_begun_list next ≡ text ++ (b ∷ []))
 
 -- a begun list of well-formed parts
-placed : {closed : Closed} {place : ListPlace} → AreClosed closed → IsPlace place → IsBegunList (list_at closed place)
+placed : {closed : Closed} {place : ListState} → AreClosed closed → IsState place → IsBegunList (list_at closed place)
 placed before here = record { closed = before; place = here }
 
 -- each byte that may come at a state lengthens the text by itself
-grow_place-lengthens : (closed : Closed) (place : ListPlace) (b : ℕ) → AreClosed closed → IsPlace place
-    → MatchOption (grow_place closed place b) (Unit {0}) (Lengthens (text_of_closed closed ++ text_of_place place) b)
-grow_place-lengthens closed (in_spaces n) b before here =
+grow_state-lengthens : (closed : Closed) (place : ListState) (b : ℕ) → AreClosed closed → IsState place
+    → MatchOption (grow_state closed place b) (Unit {0}) (Lengthens (text_of_closed closed ++ text_of_state place) b)
+grow_state-lengthens closed (in_spaces n) b before here =
     cond_both (is_space b) _ _ (λ o. MatchOption o (Unit {0}) (Lengthens (text_of_closed closed ++ n) b))
     (λ passes. (placed before (list_all-push is_space n b here passes), simp regroup))
     (λ fails. cond_both (is_token_byte b) _ _ (λ o. MatchOption o (Unit {0}) (Lengthens (text_of_closed closed ++ n) b))
     (λ passes. (placed before (here, and_from (is_token_byte b) true passes refl), simp regroup))
     (λ fails. tt))
-grow_place-lengthens closed (in_name n name) b before here =
+grow_state-lengthens closed (in_name n name) b before here =
     by_class (Lengthens _) is_token_byte equals_byte b _ _
     (λ passes. (placed before (here.0, IsToken-push name b here.1 passes), simp regroup))
     (λ fails. (placed before (here.0, here.1, refl), simp regroup))
-grow_place-lengthens closed (in_value n name []) b before here =
+grow_state-lengthens closed (in_value n name []) b before here =
     by_class (Lengthens _) is_token_byte quote_byte b _ _
     (λ passes. (placed before (here.0, here.1, and_from (is_token_byte b) true passes refl), simp regroup))
     (λ fails. (placed before (here.0, here.1, refl), simp regroup))
-grow_place-lengthens closed (in_value n name (v ∷ value)) b before here =
+grow_state-lengthens closed (in_value n name (v ∷ value)) b before here =
     by_class (Lengthens _) is_token_byte semicolon_byte b _ _
     (λ passes. (placed before (here.0, here.1, list_all-push is_token_byte (v ∷ value) b here.2 passes), simp regroup))
     (λ fails. (placed (here.0, (here.1, here.2), before) refl, simp regroup))
-grow_place-lengthens closed (in_quotes n name content) b before here =
+grow_state-lengthens closed (in_quotes n name content) b before here =
     by_class (Lengthens _) (continues content) quote_byte b _ _
     (λ passes. (placed before (here.0, here.1, IsOpenContent-push content b here.2 passes), simp regroup))
     (λ fails. (placed before (here.0, here.1, IsContent-closed content quote_byte here.2 fails refl, refl), simp regroup))
-grow_place-lengthens closed (behind_quotes n name content m) b before here =
+grow_state-lengthens closed (after_quotes n name content m) b before here =
     by_class (Lengthens _) is_space semicolon_byte b _ _
     (λ passes. (placed before (here.0, here.1, here.2, list_all-push is_space m b here.3 passes), simp regroup))
     (λ fails. (placed (here.0, (here.1, here.2, here.3), before) refl, simp regroup))
@@ -164,7 +164,7 @@ grow-lengthens (in_list top sub list) b here =
         record { top = here.top; sub = here.sub; list = longer.0 },
         ap (λ t. top ++ (slash_byte ∷ (sub ++ (semicolon_byte ∷ t)))) longer.1 ∙ simp regroup,
       )
-    ] (grow_place-lengthens list.closed list.place b here.list.closed here.list.place)
+    ] (grow_state-lengthens list.closed list.place b here.list.closed here.list.place)
 
 -- a walk spells the bytes that it passed
 pub walk_from-lengthens : (begun : Begun) (bytes : List ℕ) (last : Begun) → IsBegun begun
@@ -217,14 +217,14 @@ AreParameters-with_closed (item ∷ closed) rest before here =
     AreParameters-with_closed closed (more item.0 item.1 rest) before.2 (before.0, before.1, here)
 
 -- a list that ends in a state spells that state's text
-ended-spelled : (place : ListPlace) → IsPlace place
-    → MatchOption (ended place) (Unit {0}) (λ rest. AreParameters rest × (text_of_list rest ≡ text_of_place place))
+ended-spelled : (place : ListState) → IsState place
+    → MatchOption (ended place) (Unit {0}) (λ rest. AreParameters rest × (text_of_list rest ≡ text_of_state place))
 ended-spelled (in_spaces n) fine = (fine, refl)
 ended-spelled (in_name n name) fine = tt
 ended-spelled (in_value n name []) fine = tt
 ended-spelled (in_value n name (v ∷ value)) fine = ((fine.0, (fine.1, fine.2)), refl)
 ended-spelled (in_quotes n name content) fine = tt
-ended-spelled (behind_quotes n name content m) fine = ((fine.0, (fine.1, fine.2, fine.3)), refl)
+ended-spelled (after_quotes n name content m) fine = ((fine.0, (fine.1, fine.2, fine.3)), refl)
 
 -- the tree of a text that may end spells the text
 pub tree_of-spelled : (begun : Begun) → IsBegun begun
@@ -235,7 +235,7 @@ tree_of-spelled (in_subtype top (s ∷ sub)) here =
     ((here.0, here.1, tt), ap (λ t. top ++ (slash_byte ∷ t)) (append-nil (s ∷ sub)))
 tree_of-spelled (in_list top sub list) here =
     elim (ended list.place) as (λ o.
-    MatchOption o (Unit {0}) (λ rest. AreParameters rest × (text_of_list rest ≡ text_of_place list.place))
+    MatchOption o (Unit {0}) (λ rest. AreParameters rest × (text_of_list rest ≡ text_of_state list.place))
     → MatchOption (option_map (λ rest. record { top = top; sub = sub; tail = listed rest }) (option_map (with_closed list.closed) o))
     (Unit {0}) (λ tree. IsWellFormed tree × (text_of tree ≡ text_of_begun (in_list top sub list)))) [
       | None ↦ λ ends. tt

@@ -8,7 +8,7 @@ use Rattle.mime.specs.Bytes.{slash_byte, semicolon_byte, quote_byte}
 use Rattle.mime.specs.Grammar.{plain, quoted, Parameters, blank, final, more, Tail, no_list, listed, SyntaxTree, text_of, text_of_tail, text_of_list, IsToken, IsWellFormed}
 use Rattle.mime.specs.Values.{MediaType, Reads, IsAccepted, value_of, essence_of, lowered, lowered_list, pairs_of_list, pairs_of_tail, is_charset}
 use Rattle.mime.specs.Comparison.{TextIs, HasNoSemicolon}
-use Rattle.mime.specs.Pairs.{PairCut, cut_behind_equals, cut_of, pairs_within}
+use Rattle.mime.specs.Pairs.{PairCut, cut_after_equals, cut_of, pairs_within}
 use Rattle.mime.specs.Scanning.{HasPlaces, places_of, semicolon_of}
 use Rattle.mime.specs.KeptText.{lowered_pair}
 use Rattle.mime.specs.TextParts.{IsListAfter, IsAcceptedAt, IsLoneCharset}
@@ -185,7 +185,7 @@ text_is-lone_charset kept text value reads some is lone =
 -- ---- a lone charset
 
 -- the name of a pair that is cut out
-cut_value-name : (whole : ℕ) (name bytes : List ℕ) → (cut_behind_equals whole name bytes).name ≡ name
+cut_value-name : (whole : ℕ) (name bytes : List ℕ) → (cut_after_equals whole name bytes).name ≡ name
 cut_value-name whole name [] = refl
 cut_value-name whole name (b ∷ bytes) = go (b == quote_byte) _ _ refl refl
   where

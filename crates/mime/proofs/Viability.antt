@@ -10,12 +10,12 @@ use Rattle.mime.specs.Bytes.{is_token_byte, quote_byte}
 use Rattle.mime.specs.Grammar.{SyntaxTree}
 use Rattle.mime.specs.Values.{value_of, IsAccepted, IsRefused}
 use Rattle.mime.specs.Refusals.{IsViable, IsFront, completion_of, Lacks, IsDeadAt, IsFault}
-use Rattle.mime.proofs.Begun.{Closed, Begun, in_type, in_subtype, in_list, ListPlace, in_name, in_value, in_quotes, list_at, grow, walk, walk_from, tree_of, lacking, lacking_list}
+use Rattle.mime.proofs.Begun.{Closed, Begun, in_type, in_subtype, in_list, ListState, in_name, in_value, in_quotes, list_at, grow, walk, walk_from, tree_of, lacking, lacking_list}
 use Rattle.mime.specs.Laws.{EmptyIsViable, FrontOfViableIsViable, AcceptedIsViable}
 use Rattle.mime.specs.declared.scan.fault.ParseError.{ParseError}
 use Rattle.mime.specs.declared.scan.fault.ParseError.TheVariants.{MissingSlash, MissingSubtype, MissingEqual, MissingValue, MissingQuote, InvalidToken}
 use Rattle.mime.proofs.Walks.{walk_from-step, walk_by-append, walk_from-append_some, walk_from-in_list, walk_list-open}
-use Rattle.mime.specs.Quoted.{awaits_first, takes_all, awaits_behind, continues}
+use Rattle.mime.specs.Quoted.{awaits_first, takes_all, awaits_after, continues}
 use Rattle.mime.proofs.Quoted.{takes_all-letter, closed-letter}
 use Rattle.mime.proofs.Spelling.{before_equals, spelled-from_walk, text-in_value}
 use Rattle.mime.proofs.Readings.{accepted-from_walk, walk-accepted, stopped-from_walk}
@@ -58,7 +58,7 @@ completes-from_accepted text more begun walked accepted =
 
 -- what an open quoted value takes leaves it open
 pub walk_from-open : (top sub : List ℕ) (closed : Closed) (n name content more : List ℕ)
-    → IsTrue (takes_all (awaits_behind awaits_first content) more)
+    → IsTrue (takes_all (awaits_after awaits_first content) more)
     → walk_from (in_list top sub (list_at closed (in_quotes n name content))) more
     ≡ Some (in_list top sub (list_at closed (in_quotes n name (content ++ more))))
 walk_from-open top sub closed n name content more all =
@@ -72,7 +72,7 @@ completes-open_quotes top sub closed n name content =
     ap (λ o. is_some (option_and_then tree_of o))
     (walk_from-append_some (in_list top sub (list_at closed (in_quotes n name content)))
     (in_list top sub (list_at closed (in_quotes n name (content ++ (120 ∷ []))))) (120 ∷ []) (quote_byte ∷ [])
-    (walk_from-open top sub closed n name content (120 ∷ []) (takes_all-letter (awaits_behind awaits_first content))))
+    (walk_from-open top sub closed n name content (120 ∷ []) (takes_all-letter (awaits_after awaits_first content))))
     ∙ ap (λ o. is_some (option_and_then tree_of (option_and_then (λ next. walk_from next []) (option_map (in_list top sub) o))))
     (cond-false (continues (content ++ (120 ∷ [])) quote_byte) _ _ (closed-letter content))
 
@@ -90,7 +90,7 @@ lacks-from_walk text (in_subtype top []) walked unfinished = (
 lacks-from_walk text (in_subtype top (s ∷ sub)) walked unfinished = absurd (none-some _ (sym unfinished))
 lacks-from_walk text (in_list top sub list) walked unfinished = at list.place list.closed walked unfinished
   where
-    at : (place : ListPlace) (closed : Closed) → walk text ≡ Some (in_list top sub (list_at closed place))
+    at : (place : ListState) (closed : Closed) → walk text ≡ Some (in_list top sub (list_at closed place))
         → tree_of (in_list top sub (list_at closed place)) ≡ None → Lacks text (lacking_list place)
     at (in_name n name) closed walked unfinished =
         (accepted-from_completes text (codes "=x") (in_list top sub (list_at closed (in_name n name))) walked refl, tt)

@@ -6,9 +6,9 @@ use Rattle.std.specs.List.{list_all}
 use Rattle.std.specs.Option.{option_and_then, option_map}
 use Rattle.mime.specs.Bytes.{is_token_byte}
 use Rattle.mime.specs.Grammar.{is_space}
-use Rattle.mime.specs.Quoted.{awaits_first, awaits_next, takes_all, awaits_behind, continues}
-use Rattle.mime.proofs.Quoted.{awaits_behind-append}
-use Rattle.mime.proofs.Begun.{Closed, Begun, in_type, in_subtype, in_list, BegunList, in_spaces, in_name, in_value, in_quotes, behind_quotes, list_at, at_place, grow, grow_list, walk_by, walk, walk_from, walk_list}
+use Rattle.mime.specs.Quoted.{awaits_first, awaits_next, takes_all, awaits_after, continues}
+use Rattle.mime.proofs.Quoted.{awaits_after-append}
+use Rattle.mime.proofs.Begun.{Closed, Begun, in_type, in_subtype, in_list, BegunList, in_spaces, in_name, in_value, in_quotes, after_quotes, list_at, at_state, grow, grow_list, walk_by, walk, walk_from, walk_list}
 
 -- ---- by any step
 
@@ -86,36 +86,36 @@ walk_list-append_some = walk_by-append_some grow_list
 
 -- spaces go on after a semicolon
 pub walk_list-spaces : (closed : Closed) (n run : List ℕ) → IsTrue (list_all is_space run)
-    → walk_list (list_at closed (in_spaces n)) run ≡ at_place closed (in_spaces (n ++ run))
+    → walk_list (list_at closed (in_spaces n)) run ≡ at_state closed (in_spaces (n ++ run))
 walk_list-spaces closed =
     walk_by-run grow_list is_space (λ n. list_at closed (in_spaces n)) (λ n b yes. cond-true _ _ _ yes)
 
 -- token bytes go on in a parameter's name
 pub walk_list-name : (closed : Closed) (n : List ℕ) (b : ℕ) (name run : List ℕ) → IsTrue (list_all is_token_byte run)
-    → walk_list (list_at closed (in_name n (b ∷ name))) run ≡ at_place closed (in_name n (b ∷ name ++ run))
+    → walk_list (list_at closed (in_name n (b ∷ name))) run ≡ at_state closed (in_name n (b ∷ name ++ run))
 walk_list-name closed n b =
     walk_by-run grow_list is_token_byte (λ taken. list_at closed (in_name n (b ∷ taken))) (λ taken c yes. cond-true _ _ _ yes)
 
 -- token bytes go on in a plain value
 pub walk_list-value : (closed : Closed) (n name : List ℕ) (v : ℕ) (value run : List ℕ) → IsTrue (list_all is_token_byte run)
-    → walk_list (list_at closed (in_value n name (v ∷ value))) run ≡ at_place closed (in_value n name (v ∷ value ++ run))
+    → walk_list (list_at closed (in_value n name (v ∷ value))) run ≡ at_state closed (in_value n name (v ∷ value ++ run))
 walk_list-value closed n name v =
     walk_by-run grow_list is_token_byte (λ taken. list_at closed (in_value n name (v ∷ taken))) (λ taken b yes. cond-true _ _ _ yes)
 
 -- bytes that a quoted value takes go on in it
-pub walk_list-open : (closed : Closed) (n name taken run : List ℕ) → IsTrue (takes_all (awaits_behind awaits_first taken) run)
-    → walk_list (list_at closed (in_quotes n name taken)) run ≡ at_place closed (in_quotes n name (taken ++ run))
-walk_list-open closed n name taken [] all = ap (λ t. at_place closed (in_quotes n name t)) (sym (append-nil taken))
+pub walk_list-open : (closed : Closed) (n name taken run : List ℕ) → IsTrue (takes_all (awaits_after awaits_first taken) run)
+    → walk_list (list_at closed (in_quotes n name taken)) run ≡ at_state closed (in_quotes n name (taken ++ run))
+walk_list-open closed n name taken [] all = ap (λ t. at_state closed (in_quotes n name t)) (sym (append-nil taken))
 walk_list-open closed n name taken (b ∷ run) all =
-    let parts = and_parts (continues taken b) (takes_all (awaits_next (awaits_behind awaits_first taken) b) run) all in
+    let parts = and_parts (continues taken b) (takes_all (awaits_next (awaits_after awaits_first taken) b) run) all in
     walk_by-step grow_list (list_at closed (in_quotes n name taken)) (list_at closed (in_quotes n name (taken ++ (b ∷ [])))) b run
     (cond-true (continues taken b) _ _ parts.0)
     ∙ walk_list-open closed n name (taken ++ (b ∷ [])) run
-    (subst (λ a. IsTrue (takes_all a run)) (sym (awaits_behind-append awaits_first taken (b ∷ []))) parts.1)
-    ∙ ap (λ t. at_place closed (in_quotes n name t)) (append_assoc taken (b ∷ []) run)
+    (subst (λ a. IsTrue (takes_all a run)) (sym (awaits_after-append awaits_first taken (b ∷ []))) parts.1)
+    ∙ ap (λ t. at_state closed (in_quotes n name t)) (append_assoc taken (b ∷ []) run)
 
 -- spaces go on after a quoted value
-pub walk_list-behind_quotes : (closed : Closed) (n name content m run : List ℕ) → IsTrue (list_all is_space run)
-    → walk_list (list_at closed (behind_quotes n name content m)) run ≡ at_place closed (behind_quotes n name content (m ++ run))
-walk_list-behind_quotes closed n name content =
-    walk_by-run grow_list is_space (λ m. list_at closed (behind_quotes n name content m)) (λ m b yes. cond-true _ _ _ yes)
+pub walk_list-after_quotes : (closed : Closed) (n name content m run : List ℕ) → IsTrue (list_all is_space run)
+    → walk_list (list_at closed (after_quotes n name content m)) run ≡ at_state closed (after_quotes n name content (m ++ run))
+walk_list-after_quotes closed n name content =
+    walk_by-run grow_list is_space (λ m. list_at closed (after_quotes n name content m)) (λ m b yes. cond-true _ _ _ yes)

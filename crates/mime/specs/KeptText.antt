@@ -4,7 +4,7 @@ use Rattle.std.specs.List.{AllByRecursion}
 use Rattle.mime.specs.Bytes.{semicolon_byte}
 use Rattle.mime.specs.Grammar.{Tail, no_list, listed, blank, final, more, SyntaxTree, text_of, IsWellFormed}
 use Rattle.mime.specs.Values.{MediaType, lowered, lowered_value, lowered_tree}
-use Rattle.mime.specs.Pairs.{pairs_behind, lowered_within}
+use Rattle.mime.specs.Pairs.{pairs_after, lowered_within}
 use Rattle.mime.specs.Scanning.{places_of}
 use Rattle.mime.specs.declared.scan.Places.{Places}
 
@@ -14,7 +14,7 @@ media_of text places = record {
   essence = take (unwrap_or places.semicolon (length text)) text;
   slash = places.slash;
   plus = places.plus;
-  pairs = pairs_behind places.pairs places.semicolon text;
+  pairs = pairs_after places.pairs places.semicolon text;
   kept = text;
 }
 

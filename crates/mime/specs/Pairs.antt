@@ -4,7 +4,7 @@ use Rattle.std.specs.Borrow.{Bor}
 use Rattle.std.specs.List.{prefix_len, position_or_len}
 use Rattle.mime.specs.Bytes.{semicolon_byte, equals_byte, quote_byte}
 use Rattle.mime.specs.Grammar.{is_space}
-use Rattle.mime.specs.Quoted.{content_of, behind_content}
+use Rattle.mime.specs.Quoted.{content_of, after_content}
 use Rattle.mime.specs.Values.{lowered, lowered_value}
 
 -- the first position of a byte, or the text's end
@@ -15,8 +15,8 @@ first_position byte text = position_or_len (λ b. b == byte) text
 abbrev pub before_byte : ℕ → List ℕ → List ℕ
 before_byte byte text = take (first_position byte text) text
 
-abbrev pub behind_byte : ℕ → List ℕ → List ℕ
-behind_byte byte text = drop (first_position byte text + 1) text
+abbrev pub after_byte : ℕ → List ℕ → List ℕ
+after_byte byte text = drop (first_position byte text + 1) text
 
 -- the first list is the second without some of its first bytes
 abbrev pub IsEndOf : List ℕ → List ℕ → Type 0
@@ -32,21 +32,21 @@ pub record PairCut : Type 0 where
 
 -- after the equals sign: a quoted value, or a plain one.
 -- The length before it is the whole length less the remaining length, so it lies within the list
-abbrev pub cut_behind_equals : ℕ → List ℕ → List ℕ → PairCut
-cut_behind_equals whole name [] = record { name = name; head = whole; value = []; rest = [] }
-cut_behind_equals whole name (b ∷ bytes) =
+abbrev pub cut_after_equals : ℕ → List ℕ → List ℕ → PairCut
+cut_after_equals whole name [] = record { name = name; head = whole; value = []; rest = [] }
+cut_after_equals whole name (b ∷ bytes) =
     if b == quote_byte
     then record {
       name = name;
       head = whole - length bytes;
       value = content_of bytes;
-      rest = behind_byte semicolon_byte (behind_content bytes);
+      rest = after_byte semicolon_byte (after_content bytes);
     }
     else record {
       name = name;
       head = whole - length (b ∷ bytes);
       value = before_byte semicolon_byte (b ∷ bytes);
-      rest = behind_byte semicolon_byte (b ∷ bytes);
+      rest = after_byte semicolon_byte (b ∷ bytes);
     }
 
 -- the spaces before the first name, and the list without them
@@ -59,7 +59,7 @@ without_gap list = drop (leading_spaces list) list
 unfoldable pub cut_of : List ℕ → PairCut
 cut_of list =
     let body = without_gap list in
-    cut_behind_equals (length list) (before_byte equals_byte body) (behind_byte equals_byte body)
+    cut_after_equals (length list) (before_byte equals_byte body) (after_byte equals_byte body)
 
 -- the first pairs of a list, up to this number
 abbrev pub pairs_within : ℕ → List ℕ → List (List ℕ × List ℕ)
@@ -67,9 +67,9 @@ pairs_within zero list = []
 pairs_within (suc count) list = ((cut_of list).name, (cut_of list).value) ∷ pairs_within count (cut_of list).rest
 
 -- the pairs after the semicolon, if there is one
-abbrev pub pairs_behind : ℕ → Option ℕ → List ℕ → List (List ℕ × List ℕ)
-pairs_behind count None text = []
-pairs_behind count (Some semicolon) text = pairs_within count (drop (semicolon + 1) text)
+abbrev pub pairs_after : ℕ → Option ℕ → List ℕ → List (List ℕ × List ℕ)
+pairs_after count None text = []
+pairs_after count (Some semicolon) text = pairs_within count (drop (semicolon + 1) text)
 
 -- a pair of texts as the bytes that they have
 abbrev pub pair_seen : Bor (List ℕ) × Bor (List ℕ) → List ℕ × List ℕ

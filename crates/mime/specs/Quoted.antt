@@ -21,9 +21,9 @@ takes_all awaiting [] = true
 takes_all awaiting (b ∷ bytes) = takes awaiting b && takes_all (awaits_next awaiting b) bytes
 
 -- whether a byte is awaited after them
-abbrev pub awaits_behind : Bool → List ℕ → Bool
-awaits_behind awaiting [] = awaiting
-awaits_behind awaiting (b ∷ bytes) = awaits_behind (awaits_next awaiting b) bytes
+abbrev pub awaits_after : Bool → List ℕ → Bool
+awaits_after awaiting [] = awaiting
+awaits_after awaiting (b ∷ bytes) = awaits_after (awaits_next awaiting b) bytes
 
 -- what may follow an opening quote
 abbrev pub IsOpenContent : List ℕ → Type 0
@@ -31,7 +31,7 @@ IsOpenContent content = IsTrue (takes_all awaits_first content)
 
 -- whether such content takes one more byte; a quote that it doesn't take closes it
 abbrev pub continues : List ℕ → ℕ → Bool
-continues content b = takes (awaits_behind awaits_first content) b
+continues content b = takes (awaits_after awaits_first content) b
 
 -- the number of bytes before the closing quote, or of all bytes if there is none
 abbrev pub len_from : Bool → List ℕ → ℕ
@@ -46,5 +46,5 @@ content_len text = len_from awaits_first text
 abbrev pub content_of : List ℕ → List ℕ
 content_of text = take (content_len text) text
 
-abbrev pub behind_content : List ℕ → List ℕ
-behind_content text = drop (content_len text + 1) text
+abbrev pub after_content : List ℕ → List ℕ
+after_content text = drop (content_len text + 1) text

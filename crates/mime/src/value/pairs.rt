@@ -4,12 +4,12 @@ ghost use Rattle.std.specs.Iterator.{YieldsFirstBy, item_count, UpTo, at_most};
 ghost use Rattle.std.specs.Iterator.SizeHint.{IsWithinCount};
 ghost use Rattle.std.specs.Prelude.{◌≡◌, ◌+◌, ◌<◌, ◌≤◌, IsTrue, length, take, drop, codes, slice_get, slice_index, IfSome, Some};
 ghost use Rattle.std.specs.Str.{IsCharBoundary, bytes_eq};
-ghost use Rattle.mime.specs.Pairs.{IsEndOf, before_byte, behind_byte, cut_of};
+ghost use Rattle.mime.specs.Pairs.{IsEndOf, before_byte, after_byte, cut_of};
 ghost use Rattle.mime.specs.Marks.{marks_of};
-ghost use Rattle.mime.specs.Pairs.{leading_spaces, first_position, cut_behind_equals, pairs_behind, pair_seen};
+ghost use Rattle.mime.specs.Pairs.{leading_spaces, first_position, cut_after_equals, pairs_after, pair_seen};
 ghost use Rattle.mime.specs.Bytes.{semicolon_byte};
 ghost use Rattle.mime.specs.TextParts.{IsLoneCharset};
-ghost use Rattle.mime.specs.Quoted.{content_of, behind_content, content_len as len_of};
+ghost use Rattle.mime.specs.Quoted.{content_of, after_content, content_len as len_of};
 
 use crate::bytes::{is_quoted_text_byte, is_space};
 use std::marker::Model;
@@ -136,7 +136,7 @@ fn split_at_first<'a>(whole: &str, text: &'a str, byte: u8) -> (&'a str, &'a str
     requires ascii { byte < 128 }
     requires end { IsEndOf text.now whole.now }
     ensures before { result.0.now ≡ before_byte byte text.entry.now }
-    ensures behind { result.1.now ≡ behind_byte byte text.entry.now }
+    ensures behind { result.1.now ≡ after_byte byte text.entry.now }
 {
     let position = position_of(whole.as_bytes(), text.as_bytes(), byte);
     split_around(text, position)
@@ -176,7 +176,7 @@ fn content_len(whole: &[u8], text: &[u8]) -> usize
 fn split_content<'a>(whole: &str, text: &'a str) -> (&'a str, &'a str)
     requires { IsEndOf text.now whole.now }
     ensures content { result.0.now ≡ content_of text.entry.now }
-    ensures behind { result.1.now ≡ behind_content text.entry.now }
+    ensures behind { result.1.now ≡ after_content text.entry.now }
 {
     split_around(text, content_len(whole.as_bytes(), text.as_bytes()))
 }
@@ -205,9 +205,9 @@ pub(crate) fn gap_of(list: &str) -> usize
 
 /// The text after the first semicolon, or nothing. Most texts begin with it, or are empty.
 #[inline(always)]
-fn behind_semicolon<'a>(whole: &str, text: &'a str) -> &'a str
+fn after_semicolon<'a>(whole: &str, text: &'a str) -> &'a str
     requires { IsEndOf text.now whole.now }
-    ensures { result.now ≡ behind_byte semicolon_byte text.entry.now }
+    ensures { result.now ≡ after_byte semicolon_byte text.entry.now }
 {
     if text.is_empty() {
         return "";
@@ -224,15 +224,15 @@ fn behind_semicolon<'a>(whole: &str, text: &'a str) -> &'a str
 fn cut_value<'a>(whole: &str, list: usize, name: &'a str, text: &'a str) -> Pair<'a>
     requires within { length text.now ≤ list }
     requires end { IsEndOf text.now whole.now }
-    ensures name { result.name.now ≡ (cut_behind_equals list name.entry.now text.entry.now).name }
-    ensures head { result.head ≡ (cut_behind_equals list name.entry.now text.entry.now).head }
-    ensures value { result.value.now ≡ (cut_behind_equals list name.entry.now text.entry.now).value }
-    ensures rest { result.rest.now ≡ (cut_behind_equals list name.entry.now text.entry.now).rest }
+    ensures name { result.name.now ≡ (cut_after_equals list name.entry.now text.entry.now).name }
+    ensures head { result.head ≡ (cut_after_equals list name.entry.now text.entry.now).head }
+    ensures value { result.value.now ≡ (cut_after_equals list name.entry.now text.entry.now).value }
+    ensures rest { result.rest.now ≡ (cut_after_equals list name.entry.now text.entry.now).rest }
 {
     if !text.is_empty() && text.as_bytes()[0] == b'"' {
         let content = &text[1..];
         let (value, others) = split_content(whole, content);
-        let rest = behind_semicolon(whole, others);
+        let rest = after_semicolon(whole, others);
         return Pair {
             name,
             head: list - content.len(),
@@ -290,7 +290,7 @@ impl<'a> Pairs<'a> {
     #[inline(always)]
     pub(crate) fn after(text: &'a str, semicolon: Option<usize>, count: usize) -> Pairs<'a>
         requires { IfSome semicolon (λ at. slice_get text.now at ≡ Some semicolon_byte) }
-        ensures { result ≡ pairs_behind count semicolon text.now }
+        ensures { result ≡ pairs_after count semicolon text.now }
     {
         match semicolon {
             None => Pairs {

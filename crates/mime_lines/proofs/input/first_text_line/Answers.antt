@@ -1,6 +1,6 @@
 -- The end of a line is an ASCII byte: the text may be cut before it and after it.
 use Rattle.std.proofs.Common.{arith, rules}
-use Rattle.mime.proofs.CharBorders.{boundary_before, boundary_behind}
+use Rattle.mime.proofs.CharBorders.{boundary_before, boundary_after}
 use Rattle.mime_lines.proofs.LineCuts.{line_end-found, lines_of-cut, lines_of-last}
 use Rattle.mime_lines.proofs.input.first_text_line.Goals as goal
 
@@ -10,7 +10,7 @@ range-requires-clause-end_boundary c =
 
 pub range_from-requires : goal.range_from-requires
 range_from-requires c = λ _.
-    boundary_behind c.args.text.now _ 10 c.utf8.text (line_end-found c.args.text.now _ (cc) c.if-end-text.true) (omega arith)
+    boundary_after c.args.text.now _ 10 c.utf8.text (line_end-found c.args.text.now _ (cc) c.if-end-text.true) (omega arith)
 
 pub returns-then-end-text-clause-lines : goal.returns-then-end-text-clause-lines
 returns-then-end-text-clause-lines c =

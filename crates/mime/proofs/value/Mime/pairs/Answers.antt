@@ -2,14 +2,14 @@
 use Rattle.std.proofs.Common.{ap, ◌∙◌, subst}
 use Rattle.mime.specs.Values.{OwnedMedia}
 use Rattle.mime.specs.KeptText.{AreLowPairs}
-use Rattle.mime.specs.Pairs.{pairs_behind}
+use Rattle.mime.specs.Pairs.{pairs_after}
 use Rattle.mime.proofs.KeptText.{reads-from_kept}
 use Rattle.mime.proofs.Parts.{read-low_pairs}
 use Rattle.mime.proofs.value.Mime.pairs.Goals as goal
 
 pub returns-clause-pairs : goal.returns-clause-pairs
 returns-clause-pairs c =
-    c.after.ensures ∙ ap (pairs_behind _ _) c.as_str.ensures ∙ ap (λ (kept : OwnedMedia). kept.media.pairs) c.self.view_is
+    c.after.ensures ∙ ap (pairs_after _ _) c.as_str.ensures ∙ ap (λ (kept : OwnedMedia). kept.media.pairs) c.self.view_is
 
 pub returns-clause-low : goal.returns-clause-low
 returns-clause-low c =

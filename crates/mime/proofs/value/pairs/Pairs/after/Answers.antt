@@ -1,7 +1,7 @@
 -- A semicolon is ASCII: the text may be cut after it, and what follows is its end.
 use Rattle.std.proofs.Common.{lit<}
-use Rattle.mime.proofs.CharBorders.{boundary_behind}
+use Rattle.mime.proofs.CharBorders.{boundary_after}
 use Rattle.mime.proofs.value.pairs.Pairs.after.Goals as goal
 
 pub range_from-requires : goal.range_from-requires
-range_from-requires c = λ _. boundary_behind _ _ _ c.utf8.text (rw c.in-Some.is at c.requires) (lit< tt)
+range_from-requires c = λ _. boundary_after _ _ _ c.utf8.text (rw c.in-Some.is at c.requires) (lit< tt)

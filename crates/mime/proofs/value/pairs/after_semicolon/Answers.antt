@@ -3,7 +3,7 @@ use Rattle.std.proofs.Common.{◌≡◌, ◌<◌, length, get_or, arith}
 use Rattle.std.proofs.lemmas.Bool.Decides.{nat_tests}
 use Rattle.std.proofs.lemmas.Str.{IsCharBoundary-after_ascii}
 use Rattle.mime.specs.Bytes.{semicolon_byte}
-use Rattle.mime.proofs.value.pairs.behind_semicolon.Goals as goal
+use Rattle.mime.proofs.value.pairs.after_semicolon.Goals as goal
 
 pub range_from-requires : goal.range_from-requires
 range_from-requires c = λ _.
