@@ -34,9 +34,9 @@ take-essence tree =
     ∙ take_at (essence_of tree) (text_of_tail tree.tail) _ (length-essence_of tree)
 
 -- a text is its head, which ends in the semicolon, and the rest
-semicolon_split : (top sub behind : List ℕ)
-    → top ++ (slash_byte ∷ (sub ++ (semicolon_byte ∷ behind))) ≡ text_of (before_list top sub) ++ behind
-semicolon_split top sub behind = simp append_assoc
+semicolon_split : (top sub after : List ℕ)
+    → top ++ (slash_byte ∷ (sub ++ (semicolon_byte ∷ after))) ≡ text_of (before_list top sub) ++ after
+semicolon_split top sub after = simp append_assoc
 
 -- the length of the head
 length-before_list : (top sub : List ℕ) → length (text_of (before_list top sub)) ≡ length top + 1 + length sub + 1
@@ -44,14 +44,14 @@ length-before_list top sub =
     omega (arith, length-append top (slash_byte ∷ (sub ++ (semicolon_byte ∷ []))), length-append sub (semicolon_byte ∷ []))
 
 -- the head of a text
-take-to_semicolon : (top sub behind : List ℕ)
-    → take (length top + 1 + length sub + 1) (top ++ (slash_byte ∷ (sub ++ (semicolon_byte ∷ behind)))) ≡ text_of (before_list top sub)
-take-to_semicolon top sub behind = ap (take _) (semicolon_split top sub behind) ∙ take_at _ behind _ (length-before_list top sub)
+take-to_semicolon : (top sub after : List ℕ)
+    → take (length top + 1 + length sub + 1) (top ++ (slash_byte ∷ (sub ++ (semicolon_byte ∷ after)))) ≡ text_of (before_list top sub)
+take-to_semicolon top sub after = ap (take _) (semicolon_split top sub after) ∙ take_at _ after _ (length-before_list top sub)
 
 -- the rest of a text after its head
-pub drop-to_semicolon : (top sub behind : List ℕ)
-    → drop (length top + 1 + length sub + 1) (top ++ (slash_byte ∷ (sub ++ (semicolon_byte ∷ behind)))) ≡ behind
-drop-to_semicolon top sub behind = ap (drop _) (semicolon_split top sub behind) ∙ drop_at _ behind _ (length-before_list top sub)
+pub drop-to_semicolon : (top sub after : List ℕ)
+    → drop (length top + 1 + length sub + 1) (top ++ (slash_byte ∷ (sub ++ (semicolon_byte ∷ after)))) ≡ after
+drop-to_semicolon top sub after = ap (drop _) (semicolon_split top sub after) ∙ drop_at _ after _ (length-before_list top sub)
 
 -- the value of a tree that is its own lowering
 abbrev pub value_of_low : SyntaxTree → MediaType

@@ -22,12 +22,12 @@ pub data IsFollow (byte : ℕ) : List ℕ → List ℕ → Type 0 where
   marked : (rest : List ℕ) → IsFollow byte (byte ∷ rest) rest
 
 -- a run of a class ends at the first byte outside it
-run_to : (class : ℕ → Bool) (run : List ℕ) (b : ℕ) (behind : List ℕ) → list_all class run ≡ true → class b ≡ false
-    → prefix_len class (run ++ b ∷ behind) ≡ length run
-run_to class [] b behind all out = cond-false (class b) _ 0 out
-run_to class (x ∷ run) b behind all out =
+run_to : (class : ℕ → Bool) (run : List ℕ) (b : ℕ) (after : List ℕ) → list_all class run ≡ true → class b ≡ false
+    → prefix_len class (run ++ b ∷ after) ≡ length run
+run_to class [] b after all out = cond-false (class b) _ 0 out
+run_to class (x ∷ run) b after all out =
     let parts = and_parts (class x) (list_all class run) all in
-    cond-true (class x) _ 0 parts.0 ∙ omega (arith, run_to class run b behind parts.1 out)
+    cond-true (class x) _ 0 parts.0 ∙ omega (arith, run_to class run b after parts.1 out)
 
 -- the search for a byte passes a run without it, up to the byte or to the end
 position_to : (byte : ℕ) (run follow rest : List ℕ) → list_all (is_other byte) run ≡ true → IsFollow byte follow rest
@@ -78,30 +78,30 @@ cut_value-quoted whole name content n follow rest is white follows =
     let bytes : List ℕ = content ++ (quote_byte ∷ (n ++ follow)) in
     let place = content_len-content content (n ++ follow) is in
     let value : content_of bytes ≡ content = take_at content (quote_byte ∷ (n ++ follow)) (content_len bytes) (sym place) in
-    let after : after_content bytes ≡ n ++ follow = drop_past quote_byte content _ _ (content_len bytes) (marked _) (sym place) in
-    let behind : after_byte semicolon_byte (after_content bytes) ≡ rest =
-    ap (after_byte semicolon_byte) after
+    let after_quote : after_content bytes ≡ n ++ follow = drop_past quote_byte content _ _ (content_len bytes) (marked _) (sym place) in
+    let after : after_byte semicolon_byte (after_content bytes) ≡ rest =
+    ap (after_byte semicolon_byte) after_quote
     ∙ after_to semicolon_byte n follow rest (are_other-spaces semicolon_byte refl n white) follows in
     cc
 
 -- the spaces before a name are cut off
-without_gap-token : (n name behind : List ℕ) → AreSpaces n → IsToken name → without_gap (n ++ (name ++ behind)) ≡ name ++ behind
-without_gap-token n [] behind white is = absurd is
-without_gap-token n (b ∷ name) behind white is =
+without_gap-token : (n name after : List ℕ) → AreSpaces n → IsToken name → without_gap (n ++ (name ++ after)) ≡ name ++ after
+without_gap-token n [] after white is = absurd is
+without_gap-token n (b ∷ name) after white is =
     let first = and_parts (is_token_byte b) (list_all is_token_byte name) is in
-    drop_at n (b ∷ name ++ behind) (leading_spaces (n ++ (b ∷ name ++ behind)))
-    (sym (run_to is_space n b (name ++ behind) white (token_byte-not_space b first.0)))
+    drop_at n (b ∷ name ++ after) (leading_spaces (n ++ (b ∷ name ++ after)))
+    (sym (run_to is_space n b (name ++ after) white (token_byte-not_space b first.0)))
 
 -- a name is cut from the spaces before it up to the equals sign
-cut_of-named : (n name behind : List ℕ) → AreSpaces n → IsToken name
-    → cut_of (n ++ (name ++ (equals_byte ∷ behind))) ≡ cut_after_equals (length (n ++ (name ++ (equals_byte ∷ behind)))) name behind
+cut_of-named : (n name after : List ℕ) → AreSpaces n → IsToken name
+    → cut_of (n ++ (name ++ (equals_byte ∷ after))) ≡ cut_after_equals (length (n ++ (name ++ (equals_byte ∷ after)))) name after
 unfolding cut_of
-cut_of-named n name behind white is =
+cut_of-named n name after white is =
     let others = are_other-token equals_byte equals_is_no_token name (AreTokenBytes-from_token name is) in
     rw (
-      without_gap-token n name (equals_byte ∷ behind) white is,
-      before_to equals_byte name (equals_byte ∷ behind) behind others (marked behind),
-      after_to equals_byte name (equals_byte ∷ behind) behind others (marked behind),
+      without_gap-token n name (equals_byte ∷ after) white is,
+      before_to equals_byte name (equals_byte ∷ after) after others (marked after),
+      after_to equals_byte name (equals_byte ∷ after) after others (marked after),
     )
 
 -- the text before the value of a parameter
@@ -115,16 +115,16 @@ end_of (plain name value) = []
 end_of (quoted name content n) = quote_byte ∷ n
 
 -- the text of a parameter in its parts
-text_of_parameter-parts : (p : Parameter) (behind : List ℕ)
-    → text_of_parameter p ++ behind ≡ head_of p ++ ((pair_of p).1 ++ (end_of p ++ behind))
-text_of_parameter-parts (plain name value) behind = simp append_assoc
-text_of_parameter-parts (quoted name content n) behind = simp append_assoc
+text_of_parameter-parts : (p : Parameter) (after : List ℕ)
+    → text_of_parameter p ++ after ≡ head_of p ++ ((pair_of p).1 ++ (end_of p ++ after))
+text_of_parameter-parts (plain name value) after = simp append_assoc
+text_of_parameter-parts (quoted name content n) after = simp append_assoc
 
 -- where a value begins, counted from the list's end
-head_counted : (n name opening behind : List ℕ)
-    → length (n ++ (name ++ (opening ++ behind))) - length behind ≡ length (n ++ (name ++ opening))
-head_counted n name opening behind =
-    let whole : length (n ++ (name ++ (opening ++ behind))) ≡ length n + (length name + (length opening + length behind)) =
+head_counted : (n name opening after : List ℕ)
+    → length (n ++ (name ++ (opening ++ after))) - length after ≡ length (n ++ (name ++ opening))
+head_counted n name opening after =
+    let whole : length (n ++ (name ++ (opening ++ after))) ≡ length n + (length name + (length opening + length after)) =
     simp length-append in
     let head : length (n ++ (name ++ opening)) ≡ length n + (length name + length opening) = simp length-append in
     omega (arith, whole, head)
@@ -140,12 +140,12 @@ cut_of-parameter n (plain name value) follow rest white (named, token) follows =
     ∙ cut_value-plain _ name value follow rest (AreTokenBytes-from_token value token) follows
     ∙ ap (λ h. record { name = name; head = h; value = value; rest = rest }) (head_counted n name (equals_byte ∷ []) (value ++ follow))
 cut_of-parameter n (quoted name content m) follow rest white (named, is, blanks) follows =
-    let behind = content ++ (quote_byte ∷ (m ++ follow)) in
-    let grouped : text_of_parameter (quoted name content m) ++ follow ≡ name ++ (equals_byte ∷ quote_byte ∷ behind) = simp append_assoc in
+    let after = content ++ (quote_byte ∷ (m ++ follow)) in
+    let grouped : text_of_parameter (quoted name content m) ++ follow ≡ name ++ (equals_byte ∷ quote_byte ∷ after) = simp append_assoc in
     ap (λ x. cut_of (n ++ x)) grouped
-    ∙ cut_of-named n name (quote_byte ∷ behind) white named
+    ∙ cut_of-named n name (quote_byte ∷ after) white named
     ∙ cut_value-quoted _ name content m follow rest is blanks follows
-    ∙ ap (λ h. record { name = name; head = h; value = content; rest = rest }) (head_counted n name (equals_byte ∷ quote_byte ∷ []) behind)
+    ∙ ap (λ h. record { name = name; head = h; value = content; rest = rest }) (head_counted n name (equals_byte ∷ quote_byte ∷ []) after)
 
 -- the pairs of a parameter list's text are the list's
 pub pairs_within-text_of_list : (list : Parameters) → AreParameters list
@@ -168,11 +168,11 @@ lowered-spaces (b ∷ bytes) white =
     cc (same, lowered-spaces bytes parts.1)
 
 -- a parameter in its parts, lowered
-lowered_parameter-parts : (p : Parameter) (behind : List ℕ)
-    → lowered (head_of p) ++ (lowered_value (pair_of p).0 (pair_of p).1 ++ (end_of p ++ behind))
-    ≡ text_of_parameter (lowered_parameter p) ++ behind
-lowered_parameter-parts (plain name value) behind = rw (lowered-append name (equals_byte ∷ [])) (simp append_assoc)
-lowered_parameter-parts (quoted name content n) behind = rw (lowered-append name (equals_byte ∷ quote_byte ∷ [])) (simp append_assoc)
+lowered_parameter-parts : (p : Parameter) (after : List ℕ)
+    → lowered (head_of p) ++ (lowered_value (pair_of p).0 (pair_of p).1 ++ (end_of p ++ after))
+    ≡ text_of_parameter (lowered_parameter p) ++ after
+lowered_parameter-parts (plain name value) after = rw (lowered-append name (equals_byte ∷ [])) (simp append_assoc)
+lowered_parameter-parts (quoted name content n) after = rw (lowered-append name (equals_byte ∷ quote_byte ∷ [])) (simp append_assoc)
 
 -- a list lowered pair by pair: its first parameter, and then the rest
 lowered_within-parameter : (count : ℕ) (n : List ℕ) (p : Parameter) (between rest : List ℕ) → AreSpaces n → IsParameter p

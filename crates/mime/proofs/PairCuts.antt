@@ -30,16 +30,16 @@ pub record LiesIn (list : List ℕ) (cut : PairCut) : Type 0 where
 -- a value that begins an end of the list lies in the list
 lies_from_end : (list bytes name rest : List ℕ) (k : ℕ) → IsEnd bytes list → IsEnd rest (drop k bytes)
     → LiesIn list (record { name = name; head = length list - length bytes; value = take k bytes; rest = rest })
-lies_from_end list bytes name rest k end behind =
+lies_from_end list bytes name rest k end after =
     let front = take end.0 list in
-    let middle = take behind.0 (drop k bytes) in
+    let middle = take after.0 (drop k bytes) in
     let whole : list ≡ front ++ bytes = sym (ap (λ x. front ++ x) end.1 ∙ take-append-drop end.0 list) in
     record {
       front = front;
       middle = middle;
       parts =
           whole ∙ ap (λ x. front ++ x) (sym (take-append-drop k bytes)
-          ∙ ap (λ x. take k bytes ++ x) (sym (ap (λ x. middle ++ x) behind.1 ∙ take-append-drop behind.0 (drop k bytes))));
+          ∙ ap (λ x. take k bytes ++ x) (sym (ap (λ x. middle ++ x) after.1 ∙ take-append-drop after.0 (drop k bytes))));
       head = omega (arith, ap length whole, length-append front bytes);
     }
 
@@ -53,7 +53,7 @@ cut_value-lies list name (b ∷ bytes) end =
     (IsEnd-trans _ (after_content bytes) _ (_, refl) (1, sym (drop-drop 1 (content_len bytes) bytes))))
     (λ _. lies_from_end list (b ∷ bytes) name _ _ end (1, sym (drop-drop 1 (first_position semicolon_byte (b ∷ bytes)) (b ∷ bytes))))
 
--- what is left behind it is an end of what the list is an end of
+-- what is left after it is an end of what the list is an end of
 pub cut_after_equals-end : (size : ℕ) (name bytes whole : List ℕ) → IsEndOf bytes whole
     → IsEndOf (cut_after_equals size name bytes).rest whole
 cut_after_equals-end size name [] whole is = is

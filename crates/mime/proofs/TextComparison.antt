@@ -194,9 +194,9 @@ cut_value-name whole name (b ∷ bytes) = go (b == quote_byte) _ _ refl refl
     go false one other same also = also
 
 -- the first name of a list that begins with ` charset=`
-cut_of-charset : (behind : List ℕ) → (cut_of (codes " charset=" ++ behind)).name ≡ codes "charset"
+cut_of-charset : (after : List ℕ) → (cut_of (codes " charset=" ++ after)).name ≡ codes "charset"
 unfolding cut_of
-cut_of-charset behind = cut_value-name (length (codes " charset=" ++ behind)) (codes "charset") behind
+cut_of-charset after = cut_value-name (length (codes " charset=" ++ after)) (codes "charset") after
 
 -- the only pair of such a list is a charset
 pub lone_charset : (list : List ℕ) → take 9 list ≡ codes " charset=" → IsLoneCharset (pairs_within 1 list)

@@ -121,7 +121,7 @@ fn position_of(whole: &[u8], text: &[u8], byte: u8) -> usize
 fn split_around<'a>(text: &'a str, position: usize) -> (&'a str, &'a str)
     requires { position < length text.now → slice_index text.now position < 128 }
     ensures before { result.0.now ≡ take position text.entry.now }
-    ensures behind { result.1.now ≡ drop (position + 1) text.entry.now }
+    ensures after { result.1.now ≡ drop (position + 1) text.entry.now }
 {
     if position < text.len() {
         (&text[..position], &text[position + 1..])
@@ -136,7 +136,7 @@ fn split_at_first<'a>(whole: &str, text: &'a str, byte: u8) -> (&'a str, &'a str
     requires ascii { byte < 128 }
     requires end { IsEndOf text.now whole.now }
     ensures before { result.0.now ≡ before_byte byte text.entry.now }
-    ensures behind { result.1.now ≡ after_byte byte text.entry.now }
+    ensures after { result.1.now ≡ after_byte byte text.entry.now }
 {
     let position = position_of(whole.as_bytes(), text.as_bytes(), byte);
     split_around(text, position)
@@ -176,7 +176,7 @@ fn content_len(whole: &[u8], text: &[u8]) -> usize
 fn split_content<'a>(whole: &str, text: &'a str) -> (&'a str, &'a str)
     requires { IsEndOf text.now whole.now }
     ensures content { result.0.now ≡ content_of text.entry.now }
-    ensures behind { result.1.now ≡ after_content text.entry.now }
+    ensures after { result.1.now ≡ after_content text.entry.now }
 {
     split_around(text, content_len(whole.as_bytes(), text.as_bytes()))
 }
