@@ -11,7 +11,6 @@ use Rattle.mime.specs.AtomPlaces.{places_in}
 use Rattle.mime.specs.declared.atoms.Atom.{Atom}
 use Rattle.mime.specs.declared.atoms.Atom.TheVariants.{STAR_STAR, TEXT_JAVASCRIPT}
 use Rattle.mime.specs.declared.atoms.TheConstants.{TEXT_JAVSCRIPT}
-use Rattle.mime.specs.declared.scan.Places.{Places}
 
 -- the tail of a constant's text: a charset where there is a semicolon
 abbrev tail_at : Option ℕ → Tail

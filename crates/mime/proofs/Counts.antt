@@ -1,5 +1,5 @@
 -- How many pairs a kept text holds, and what it is without one.
-use Rattle.std.proofs.Common.{◌≡◌, ℕ, Bool, ◌+◌, List, [], ◌∷◌, length, drop, Option, Some, None, refl, sym, ap, ◌∙◌, subst, arith}
+use Rattle.std.proofs.Common.{◌≡◌, ℕ, ◌+◌, List, [], ◌∷◌, length, drop, Option, Some, None, refl, sym, ap, ◌∙◌, subst, arith}
 use Rattle.mime.specs.Grammar.{Tail, no_list, listed}
 use Rattle.mime.specs.Values.{MediaType, Reads, pairs_of_tail, lowered_tree, kept_text, essence_of}
 use Rattle.mime.specs.Comparison.{Same}

@@ -8,7 +8,7 @@ use Rattle.std.proofs.lemmas.Bool.Decides.{nat_tests}
 use Rattle.std.proofs.lemmas.List.{take-append-drop, drop_more}
 use Rattle.std.proofs.lemmas.List.Elements.{filter-append}
 use Rattle.mime.specs.Bytes.{semicolon_byte, equals_byte, quote_byte}
-use Rattle.mime.specs.Grammar.{Parameter, plain, quoted, Parameters, blank, final, more, Tail, no_list, listed, SyntaxTree, text_of, text_of_tail, text_of_list, text_of_parameter, is_space, AreSpaces, AreParameters, IsParameter, IsTail, IsWellFormed}
+use Rattle.mime.specs.Grammar.{Parameter, plain, quoted, Parameters, blank, final, more, Tail, no_list, listed, text_of, text_of_tail, text_of_list, text_of_parameter, is_space, AreSpaces, AreParameters, IsParameter, IsTail}
 use Rattle.mime.specs.Values.{MediaType, Reads, value_of, essence_of, lowered, lowered_parameter, lowered_list, lowered_tail, pair_of, pairs_of_list, pairs_of_tail}
 use Rattle.mime.specs.Comparison.{Same, TextIs}
 use Rattle.mime.specs.Difference.{is_telling, DifferTellingly}

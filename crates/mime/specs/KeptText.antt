@@ -1,7 +1,6 @@
 -- Private. The kept text of a value, with the positions of its parts.
-use Rattle.std.specs.Prelude.{◌≡◌, ℕ, zero, suc, ◌+◌, List, [], ◌∷◌, ◌++◌, length, take, drop, Option, Some, None, unwrap_or}
+use Rattle.std.specs.Prelude.{◌≡◌, ℕ, zero, suc, ◌+◌, List, ◌++◌, length, take, drop, Option, Some, None, unwrap_or}
 use Rattle.std.specs.List.{AllByRecursion}
-use Rattle.mime.specs.Bytes.{semicolon_byte}
 use Rattle.mime.specs.Grammar.{Tail, no_list, listed, blank, final, more, SyntaxTree, text_of, IsWellFormed}
 use Rattle.mime.specs.Values.{MediaType, lowered, lowered_value, lowered_tree}
 use Rattle.mime.specs.Pairs.{pairs_after, lowered_within}

@@ -1,10 +1,13 @@
 -- Values and texts for which each definition of equality and order is true, and others for which it is false, by computation.
-use Rattle.std.proofs.Common.{◌≡◌, inl, inr, List, ℕ, [], ◌∷◌, None, refl, ap, ◌∙◌, arith, codes}
+use Rattle.std.proofs.Common.{◌≡◌, inl, inr, List, ℕ, true, false, [], ◌∷◌, map, None, refl, ap, ◌∙◌, subst, arith, codes}
 use Rattle.std.proofs.lemmas.Bool.{false≢true}
 use Rattle.std.specs.declared.cmp.Ordering.TheVariants.{Less, Equal, Greater}
+use Rattle.std.specs.List.{slice_index}
+use Rattle.std.specs.Prelude.{IsTrue}
 use Rattle.mime.specs.Bytes.{is_token_byte, is_quoted_byte}
 use Rattle.mime.specs.Grammar.{quoted, final, listed}
 use Rattle.mime.specs.Values.{MediaType, Reads}
+use Rattle.mime.specs.Difference.{FirstDifference, is_telling, DifferTellingly}
 use Rattle.mime.specs.Comparison.{Same, IsTextBefore, IsPairBefore, Before, pair_cmp, media_cmp, HasNoSemicolon, TextIs}
 use Rattle.mime.proofs.Quoted.{IsContent-taken}
 use Rattle.mime.proofs.Readings.{one_reading}
@@ -123,3 +126,38 @@ parameter_counts : ¬ (TextIs plain_y (codes "A/B;P=\"x\""))
 parameter_counts is =
     differ (codes "y") (codes "x") refl
     (ap value_in (is.same.1 ∙ ap (λ (v : MediaType). v.pairs) (one_reading _ _ _ is.reads reads_quoted)))
+
+-- ---- where texts first differ
+
+-- two texts that differ but for case at position 2
+differ_at_end : FirstDifference (codes "a/b") (codes "A/c") 2
+differ_at_end = record { within = omega arith; within_other = omega arith; alike = refl; differ = λ is. absurd (omega (arith, is)) }
+
+-- case alone is no difference,
+case_is_none : ¬ (FirstDifference (codes "a/b") (codes "A/c") 0)
+case_is_none is = is.differ refl
+
+-- nor is the end of one of them, nor what comes after a difference
+end_is_none : ¬ (FirstDifference (codes "a") (codes "ab") 1)
+end_is_none is = absurd (omega (arith, is.within))
+
+later_is_none : ¬ (FirstDifference (codes "ab") (codes "cd") 1)
+later_is_none is = differ (codes "a") (codes "c") refl is.alike
+
+-- the bytes that tell nothing are a space, a tab and a quote
+telling_bytes : map is_telling (codes "b;= \t\"") ≡ true ∷ true ∷ true ∷ false ∷ false ∷ false ∷ []
+telling_bytes = refl
+
+-- a letter against a letter tells, and neither side of a letter against a quote does
+pub letters_tell : DifferTellingly (codes "a/b") (codes "A/c")
+letters_tell = record { at = 2; first = differ_at_end; tells = refl; also = refl }
+
+quote_tells_nothing : ¬ (DifferTellingly (codes "\"") (codes "x"))
+quote_tells_nothing is =
+    let at : is.at ≡ 0 = omega (arith, is.first.within) in
+    false≢true (subst (λ n. IsTrue (is_telling (slice_index (codes "\"") n))) at is.tells)
+
+nothing_tells_quote : ¬ (DifferTellingly (codes "x") (codes "\""))
+nothing_tells_quote is =
+    let at : is.at ≡ 0 = omega (arith, is.first.within) in
+    false≢true (subst (λ n. IsTrue (is_telling (slice_index (codes "\"") n))) at is.also)

@@ -9,7 +9,7 @@ use Rattle.mime.specs.Values.{MediaType, OwnedMedia, Reads, IsRefused}
 use Rattle.mime.specs.Comparison.{Same, Before, TextIs}
 use Rattle.mime.specs.Refusals.{IsViable, IsFront, Lacks, IsFault}
 use Rattle.mime.specs.Items.{IsFirstAccepted}
-use Rattle.mime.specs.Laws.{OneTree, OneReading, EmptyIsViable, FrontOfViableIsViable, AcceptedIsViable, OneCompletion, CompletedIsRefused, NoCompletion, OneFault, OneFront, FrontEndsBetweenCharacters, IsViableInUtf8, FrontIsInUtf8, HasNoPlusFrom, PlusIsLast, KeptIsRead, EssenceIsRead, OneOrder, BeforeIsTransitive, BareTextIs, KeptTextIs, IsDecided, OneAnswer}
+use Rattle.mime.specs.Laws.{OneTree, OneReading, EmptyIsViable, FrontOfViableIsViable, AcceptedIsViable, OneCompletion, CompletedIsRefused, NoCompletion, OneFault, OneFront, FrontEndsBetweenCharacters, IsViableInUtf8, FrontIsInUtf8, HasNoPlusFrom, PlusIsLast, KeptIsRead, EssenceIsRead, OneOrder, BeforeIsTransitive, BareTextIs, KeptTextIs, IsDecided, OneAnswer, FirstDifferenceTells}
 use Rattle.mime.specs.Cut.{CutItem, good, bad, Cut, Pieces, TakesSteps}
 use Rattle.mime.specs.CutLaws.{OneCut, CutHasItems, text_of_pieces, CutWritesText, OneCount, CommaContains, JoinedComesBack, PassesOneCharacter}
 use Rattle.mime.specs.Runs.{Iteration, IsNext}
@@ -17,7 +17,7 @@ use Rattle.mime.specs.RunLaws.{AreGiven, RunGivesCut, CommaContainsOnRuns, Print
 use Rattle.mime.specs.declared.iter.Bad.{Bad}
 use Rattle.mime.specs.declared.scan.fault.ParseError.{ParseError}
 use Rattle.mime.specs.declared.scan.fault.ParseError.TheVariants.{MissingSlash, MissingSubtype, InvalidToken}
-use Rattle.mime_facts.proofs.ComparisonFacts.{quoted_x, plain_x, plain_y, other_value, reads_quoted}
+use Rattle.mime_facts.proofs.ComparisonFacts.{quoted_x, plain_x, plain_y, other_value, reads_quoted, letters_tell}
 use Rattle.mime_facts.proofs.CutFacts.{e_is_refused, e_is_viable, list_items, cut_of_list, rest_of_text, split_at_comma, read_value}
 use Rattle.mime_facts.proofs.RefusalFacts.{e_lacks_slash, e_is_closed}
 use Rattle.mime_facts.proofs.StandardFacts.{media, tree_from_parts, plus_twice, lowered_parts, no_subtype, space_in_type}
@@ -101,6 +101,10 @@ bare_text law =
 text_of_other : KeptTextIs → TextIs plain_x (codes "a/b;p=\"x\"") × (TextIs plain_y (codes "a/b;p=\"x\"") → Same plain_y quoted_x)
 text_of_other law =
     ((law _ quoted_x reads_quoted plain_x).1 (refl, refl), λ is. (law _ quoted_x reads_quoted plain_y).0 is)
+
+different_texts : FirstDifferenceTells → (first second : MediaType) → Reads (codes "a/b") first → Reads (codes "A/c") second
+    → ¬ (Same first second)
+different_texts law first second reads also = law (codes "a/b") (codes "A/c") first second reads also letters_tell
 
 answer_of_key : (Accepts : List ℕ → Bool → Type 0) → OneAnswer Accepts → IsDecided Accepts → (first second : Option (List ℕ × Bool))
     → IsFirstAccepted Accepts (exact_item ∷ charset_item ∷ []) first → IsFirstAccepted Accepts (exact_item ∷ charset_item ∷ []) second

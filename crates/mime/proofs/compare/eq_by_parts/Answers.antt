@@ -1,5 +1,4 @@
 -- A text is equal to the value where it has the value's essence and its pairs, and is accepted.
-use Rattle.std.proofs.Common.{◌∙◌, sym, ap, subst}
 use Rattle.mime.proofs.TextComparison.{text_is-by_parts, accepted_at-case}
 use Rattle.mime.proofs.compare.eq_by_parts.Goals as goal
 
