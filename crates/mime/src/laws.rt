@@ -54,7 +54,7 @@ pub fn accepted_is_viable()
 {}
 
 /// Exactly one of five things is missing from a viable refused text, and its completion makes the text an accepted
-/// one: `a/b;p` lacks an equals sign and a value, and `a/b;p=x` is accepted.
+/// one: `a/b;p` lacks an equals sign, and `a/b;p=x` is accepted.
 pub fn one_completion()
     ensures { OneCompletion }
 {}
