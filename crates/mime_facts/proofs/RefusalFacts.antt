@@ -24,8 +24,8 @@ viable_texts = (
 front_of_type : IsFront (codes "a b") 1 × ¬ (IsFront (codes "a b") 0) × ¬ (IsFront (codes "a b") 2)
 front_of_type = (
   space_in_type.front,
-  (λ is. absurd (omega (arith, front_unique _ 0 1 is space_in_type.front))),
-  λ is. absurd (omega (arith, front_unique _ 2 1 is space_in_type.front)),
+  (λ is. is.longest 1 (omega arith) (omega arith) space_in_type.front.viable),
+  λ is. space_in_type.front.longest 2 (omega arith) (omega arith) is.viable,
 )
 
 -- what completes a text, and what it must end in
