@@ -61,12 +61,10 @@ passed_character text end p begins = (p.first ∷ p.following, p.spelled, (p.of_
 
 pub passed_stop : (text : List ℕ) (end : ℕ) → PassedTo text end → end < length text
     → IsFalse (is_following_byte (get_or text end 0)) → IsAfterCharacter text (drop end text)
-passed_stop text end p within stops =
-    passed_character text end p (subst BeginsCharacter (sym (drop-cons text end 0 within)) stops)
+passed_stop text end p within stops = passed_character text end p (subst BeginsCharacter (sym (drop-cons text end 0 within)) stops)
 
 pub passed_end : (text : List ℕ) (end : ℕ) → PassedTo text end → end ≡ length text → IsAfterCharacter text (drop end text)
-passed_end text end p is =
-    passed_character text end p (subst BeginsCharacter (sym (ap (λ n. drop n text) is ∙ drop-length text)) tt)
+passed_end text end p is = passed_character text end p (subst BeginsCharacter (sym (ap (λ n. drop n text) is ∙ drop-length text)) tt)
 
 -- ---- the first piece of a text
 

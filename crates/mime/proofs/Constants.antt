@@ -9,8 +9,7 @@ use Rattle.mime.specs.KeptText.{HoldsParameter, IsKept}
 use Rattle.mime.specs.Atoms.{atom_text}
 use Rattle.mime.specs.AtomPlaces.{places_in}
 use Rattle.mime.specs.declared.atoms.Atom.{Atom}
-use Rattle.mime.specs.declared.atoms.Atom.TheVariants.{STAR_STAR, TEXT_JAVASCRIPT}
-use Rattle.mime.specs.declared.atoms.TheConstants.{TEXT_JAVSCRIPT}
+use Rattle.mime.specs.declared.atoms.Atom.TheVariants.{STAR_STAR}
 
 -- the tail of a constant's text: a charset where there is a semicolon
 abbrev tail_at : Option ℕ → Tail
@@ -53,7 +52,3 @@ pub kept_atom : (atom : Atom) → IsKept (atom_text atom) (places_in (atom_text 
 unfolding is_token_byte
 kept_atom STAR_STAR = kept_by (atom_text STAR_STAR) refl refl refl refl refl
 kept_atom atom = kept_by (atom_text atom) refl refl refl refl refl
-
--- the old spelling of a constant's name is the same constant
-old_spelling : TEXT_JAVSCRIPT ≡ TEXT_JAVASCRIPT
-old_spelling = refl

@@ -25,8 +25,7 @@ len_from-run awaiting (b ∷ run) after all done =
 -- content that a quote follows ends at that quote
 pub content_len-content : (content after : List ℕ) → IsContent content
     → content_len (content ++ quote_byte ∷ after) ≡ length content
-content_len-content content after is =
-    len_from-run awaits_first content after (content-taken content is) (content-awaits content is)
+content_len-content content after is = len_from-run awaits_first content after (content-taken content is) (content-awaits content is)
 
 -- at the length of the content that a text begins with there is a quote, or the text ends
 quote_at_len : (awaiting : Bool) (text : List ℕ) → len_from awaiting text < length text

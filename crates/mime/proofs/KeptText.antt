@@ -218,13 +218,6 @@ slice_get-semicolon text places s has is =
     at_tree (λ t q. q.semicolon ≡ Some s → slice_get t s ≡ Some semicolon_byte) text places has
     (semicolon-there has.tree.top has.tree.sub has.tree.tail s) is
 
--- and in a kept one
-pub kept-semicolon : (text : List ℕ) (places : Places) (s : ℕ) → IsKept text places → places.semicolon ≡ Some s
-    → slice_get text s ≡ Some semicolon_byte
-kept-semicolon text places s is_kept is =
-    slice_get-semicolon text places s
-    (record { tree = is_kept.tree; well_formed = is_kept.well_formed; spelled = is_kept.spelled; placed = is_kept.placed }) is
-
 -- the kept text of a text with a pair is that text with some parts lowered
 pub kept-in_part : (count s : ℕ) (text : List ℕ)
     → IsLoweredInPart text (with_pairs_lowered count s text)

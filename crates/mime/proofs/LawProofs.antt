@@ -81,8 +81,7 @@ one_answer Accepts decided (item ∷ items) = by (decided item.name item.name_ig
         × ((other : Option (List ℕ × Bool)) → IsFirstAccepted Accepts (item ∷ items) other → other ≡ found)
     by (inl accepts) rest =
         (Some (item.value, item.value_ignores_case), (λ is. refl, λ isnt. absurd (isnt accepts)), λ other is. is.0 accepts)
-    by (inr refuses) rest =
-        (rest.0, (λ is. absurd (refuses is), λ isnt. rest.1), λ other is. rest.2 other (is.1 refuses))
+    by (inr refuses) rest = (rest.0, (λ is. absurd (refuses is), λ isnt. rest.1), λ other is. rest.2 other (is.1 refuses))
 
 -- ---- a cut's items
 

@@ -13,13 +13,6 @@ use lib.Count.{count_trailing_zeros}
 use Rattle.mime.specs.Marks.{marks_of}
 use Rattle.mime.specs.Pairs.{IsEndOf, first_position}
 
--- a list is the end of itself
-pub end_itself : (xs : List ℕ) → IsEndOf xs xs
-end_itself xs = sym (ap (λ n. drop n xs) (none (length xs)))
-  where
-    none : (n : ℕ) → n - n ≡ 0
-    none n = omega arith
-
 -- nothing is the end of any list
 pub end_nothing : (whole : List ℕ) → IsEndOf [] whole
 end_nothing whole = sym (drop_all (length whole - 0) whole (omega arith))

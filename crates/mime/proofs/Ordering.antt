@@ -148,5 +148,4 @@ one_order x y = go (media_cmp x y) (tells_media x y)
     go Less says = inl (says, Before-not_same x y says, Before-not_both x y says)
     go Equal says =
         inr (inl (says, (λ before. Before-not_same x y before says), (λ before. Before-not_same y x before (sym says.0, sym says.1))))
-    go Greater says =
-        inr (inr (says, (λ same. Before-not_same y x says (sym same.0, sym same.1)), Before-not_both y x says))
+    go Greater says = inr (inr (says, (λ same. Before-not_same y x says (sym same.0, sym same.1)), Before-not_both y x says))

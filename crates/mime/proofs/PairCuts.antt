@@ -17,8 +17,7 @@ IsEnd end list = (n : ℕ) × (end ≡ drop n list)
 
 -- an end of an end of a list is an end of the list
 IsEnd-trans : (end middle list : List ℕ) → IsEnd end middle → IsEnd middle list → IsEnd end list
-IsEnd-trans end middle list first second =
-    (second.0 + first.0, first.1 ∙ ap (drop first.0) second.1 ∙ drop-drop first.0 second.0 list)
+IsEnd-trans end middle list first second = (second.0 + first.0, first.1 ∙ ap (drop first.0) second.1 ∙ drop-drop first.0 second.0 list)
 
 -- where the parts of a cut lie in a list
 pub record LiesIn (list : List ℕ) (cut : PairCut) : Type 0 where

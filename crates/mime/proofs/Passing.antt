@@ -142,8 +142,7 @@ content_text {new = new} stop p passes other = record {
         → option_eq eqb stop (Some backslash_byte) ≡ false
         → MatchOption stop (new.left ≡ []) (λ b. IsFalse (continues (p.run ++ passes.run) b))
     ends None stopped other = stopped
-    ends (Some b) stopped other =
-        ap (λ (a : Bool). takes a b) closes ∙ not_taken b stopped other
+    ends (Some b) stopped other = ap (λ (a : Bool). takes a b) closes ∙ not_taken b stopped other
 
 -- a plus at the end is the last one
 pub last_plus-plus : (at : ℕ) (xs : List ℕ) (b place : ℕ) → b ≡ plus_byte → at + length xs ≡ place

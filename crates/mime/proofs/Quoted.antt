@@ -208,8 +208,7 @@ awaits_after-lowered awaiting (b ∷ bytes) =
 
 -- a byte continues open content as its small letter continues the lowered content
 pub continues-lowered : (content : List ℕ) (b : ℕ) → continues (lowered content) (to_ascii_lowercase b) ≡ continues content b
-continues-lowered content b =
-    rw (awaits_after-lowered awaits_first content) (takes-of_lowercase (awaits_after awaits_first content) b)
+continues-lowered content b = rw (awaits_after-lowered awaits_first content) (takes-of_lowercase (awaits_after awaits_first content) b)
 
 -- lowered content is content
 pub IsContent-lowered : (content : List ℕ) → IsContent content → IsContent (lowered content)

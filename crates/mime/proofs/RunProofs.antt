@@ -22,8 +22,7 @@ record RunItems (text : List ℕ) (given : List (Result OwnedMedia Bad)) : Type 
 -- nothing is given after an end
 given_ended : (first : Iteration) (given : List (Result OwnedMedia Bad)) → first.left ≡ [] → Drains IsNext first given → given ≡ []
 given_ended first [] ended drains = refl
-given_ended first (item ∷ given) ended (end, (last, (next, step, others), none)) =
-    absurd (none-some item (sym (step.stays ended).0))
+given_ended first (item ∷ given) ended (end, (last, (next, step, others), none)) = absurd (none-some item (sym (step.stays ended).0))
 
 run_items : (first : Iteration) (given : List (Result OwnedMedia Bad)) → Drains IsNext first given → RunItems first.left given
 run_items first [] (end, (last, same, none)) =

@@ -253,8 +253,7 @@ case_read text kept value reads is =
 
 -- a value has as many pairs as what a text that is its own but for case is read as
 pub case_read-count : (text : List ℕ) (value : MediaType) (is : CaseRead text value) → length value.pairs ≡ length is.read.pairs
-case_read-count text value is =
-    sym (length-map value.pairs small_pair) ∙ ap length is.pairs ∙ length-map is.read.pairs small_pair
+case_read-count text value is = sym (length-map value.pairs small_pair) ∙ ap length is.pairs ∙ length-map is.read.pairs small_pair
 
 -- equal lists have the same first and the same others
 pub cons_parts : {X : Type 0} {x y : X} {xs ys : List X} → x ∷ xs ≡ y ∷ ys → (x ≡ y) × (xs ≡ ys)

@@ -17,8 +17,7 @@ use Rattle.mime.proofs.Begun.{Closed, Begun, in_type, in_subtype, in_list, Begun
 -- the text of the parameters that a semicolon closed
 abbrev pub text_of_closed : Closed → List ℕ
 text_of_closed [] = []
-text_of_closed (item ∷ closed) =
-    text_of_closed closed ++ (item.0 ++ (text_of_parameter item.1 ++ (semicolon_byte ∷ [])))
+text_of_closed (item ∷ closed) = text_of_closed closed ++ (item.0 ++ (text_of_parameter item.1 ++ (semicolon_byte ∷ [])))
 
 -- the text after the last semicolon
 abbrev pub text_of_state : ListState → List ℕ
@@ -73,8 +72,7 @@ IsBegun (in_list top sub list) = IsBegunTail top sub list
 -- bytes of a class with one more byte of the class are of the class
 list_all-push : (class : ℕ → Bool) (xs : List ℕ) (b : ℕ) → IsTrue (list_all class xs) → IsTrue (class b)
     → IsTrue (list_all class (xs ++ (b ∷ [])))
-list_all-push class xs b all passes =
-    list_all-append class xs (b ∷ []) ∙ and_from _ _ all (and_from (class b) true passes refl)
+list_all-push class xs b all passes = list_all-append class xs (b ∷ []) ∙ and_from _ _ all (and_from (class b) true passes refl)
 
 -- a token with one more token byte is a token
 IsToken-push : (name : List ℕ) (b : ℕ) → IsToken name → IsTrue (is_token_byte b) → IsToken (name ++ (b ∷ []))
@@ -192,8 +190,7 @@ text-in_subtype top sub = simp regroup
 
 -- a text that ends in a value, cut after its equals sign: the text before that sign
 abbrev pub before_equals : List ℕ → List ℕ → Closed → List ℕ → List ℕ → List ℕ
-before_equals top sub closed n name =
-    top ++ (slash_byte ∷ (sub ++ (semicolon_byte ∷ (text_of_closed closed ++ (n ++ name)))))
+before_equals top sub closed n name = top ++ (slash_byte ∷ (sub ++ (semicolon_byte ∷ (text_of_closed closed ++ (n ++ name)))))
 
 pub text-in_value : (top sub : List ℕ) (closed : Closed) (n name value : List ℕ)
     → (before_equals top sub closed n name ++ (equals_byte ∷ [])) ++ value
@@ -206,8 +203,7 @@ text-in_value top sub closed n name value = simp regroup
 text_of_list-with_closed : (closed : Closed) (rest : Parameters)
     → text_of_list (with_closed closed rest) ≡ text_of_closed closed ++ text_of_list rest
 text_of_list-with_closed [] rest = refl
-text_of_list-with_closed (item ∷ closed) rest =
-    text_of_list-with_closed closed (more item.0 item.1 rest) ∙ simp regroup
+text_of_list-with_closed (item ∷ closed) rest = text_of_list-with_closed closed (more item.0 item.1 rest) ∙ simp regroup
 
 -- closed parameters and the rest are a well-formed list if each is well formed
 AreParameters-with_closed : (closed : Closed) (rest : Parameters) → AreClosed closed → AreParameters rest

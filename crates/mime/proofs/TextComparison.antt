@@ -152,15 +152,6 @@ text_is-by_parts kept text value reads some =
           },
     )
 
--- the kept text is equal to the value
-pub text_is-kept : (kept text : List ℕ) (value : MediaType) → Reads kept value → value.pairs ≢ [] → kept ≡ text → TextIs value text
-text_is-kept kept text value reads some is = record {
-  read = value;
-  reads = subst (λ t. Reads t value) is reads;
-  same = (refl, refl);
-  bare = λ none. absurd (some none);
-}
-
 -- the kept text in another case is accepted as it is
 pub accepted_at-case : (kept text : List ℕ) (value : MediaType) → Reads kept value → value.pairs ≢ [] → lowered kept ≡ lowered text
     → IsAcceptedAt text (length value.essence) (length value.pairs)

@@ -191,24 +191,6 @@ front_unique text m n first second =
 
 -- ---- the fault
 
--- the fault of a text that ends in its type
-pub slash_fault-from_walk : (text top : List ℕ) → walk text ≡ Some (in_type top) → IsFault text MissingSlash
-slash_fault-from_walk text top walked = lacks-from_walk text (in_type top) walked refl
-
--- the fault of a text that ends in its slash
-pub subtype_fault-from_walk : (text top : List ℕ) → walk text ≡ Some (in_subtype top []) → IsFault text MissingSubtype
-subtype_fault-from_walk text top walked = lacks-from_walk text (in_subtype top []) walked refl
-
--- the fault of a text that ends in a parameter's name
-pub equal_fault-from_walk : (text top sub : List ℕ) (closed : Closed) (n name : List ℕ)
-    → walk text ≡ Some (in_list top sub (list_at closed (in_name n name))) → IsFault text MissingEqual
-equal_fault-from_walk text top sub closed n name walked = lacks-from_walk text _ walked refl
-
--- the fault of a text that ends in a parameter's equals sign
-pub value_fault-from_walk : (text top sub : List ℕ) (closed : Closed) (n name : List ℕ)
-    → walk text ≡ Some (in_list top sub (list_at closed (in_value n name []))) → IsFault text MissingValue
-value_fault-from_walk text top sub closed n name walked = lacks-from_walk text _ walked refl
-
 -- the fault of a text that ends in an open quoted value
 pub quote_fault-from_walk : (text top sub : List ℕ) (closed : Closed) (n name content : List ℕ)
     → walk text ≡ Some (in_list top sub (list_at closed (in_quotes n name content))) → IsFault text MissingQuote

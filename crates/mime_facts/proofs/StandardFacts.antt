@@ -1,14 +1,17 @@
 -- Texts with what they are read as or why they are refused, by computation: a wrong rule does not check.
-use Rattle.std.proofs.Common.{ℕ, List, [], ◌∷◌, ◌++◌, Option, Some, None, refl, codes, arith, lit<}
+use Rattle.std.proofs.Common.{◌≡◌, ℕ, List, [], ◌∷◌, ◌++◌, Option, Some, None, refl, codes, arith, lit<}
 use Rattle.mime.specs.Bytes.{is_token_byte, is_quoted_byte}
 use Rattle.mime.specs.Grammar.{no_byte, plain, quoted, blank, final, more, Tail, no_list, listed, SyntaxTree, text_of, IsWellFormed}
 use Rattle.mime.specs.Values.{MediaType, value_of, Reads}
 use Rattle.mime.specs.Difference.{DifferTellingly}
 use Rattle.mime.specs.Refusals.{IsFault}
+use Rattle.mime.specs.declared.atoms.Atom.TheVariants.{TEXT_JAVASCRIPT}
+use Rattle.mime.specs.declared.atoms.TheConstants.{TEXT_JAVSCRIPT}
 use Rattle.mime.specs.declared.scan.fault.ParseError.TheVariants.{MissingSlash, MissingSubtype, MissingEqual, MissingValue, MissingQuote, InvalidToken}
+use Rattle.mime.proofs.Begun.{Closed, in_type, in_subtype, in_list, in_name, in_value, list_at, walk}
 use Rattle.mime.proofs.FirstDifference.{told_apart}
 use Rattle.mime.proofs.Quoted.{IsContent-taken}
-use Rattle.mime.proofs.Viability.{slash_fault-from_walk, subtype_fault-from_walk, equal_fault-from_walk, value_fault-from_walk, quote_fault-from_walk, dead-from_walk}
+use Rattle.mime.proofs.Viability.{lacks-from_walk, quote_fault-from_walk, dead-from_walk}
 
 -- ---- accepted texts
 
@@ -118,7 +121,29 @@ spaces_after_quotes =
     (listed (more (codes " ") (quoted (codes "P") (codes "x") (codes " ")) (final [] (plain (codes "p") (codes "2")))))
     (refl, refl, (refl, (refl, IsContent-taken (codes "x") refl refl, refl), (refl, (refl, refl))))
 
+-- the old spelling of a constant's name is the same constant
+old_spelling : TEXT_JAVSCRIPT ≡ TEXT_JAVASCRIPT
+old_spelling = refl
+
 -- ---- refused texts
+
+-- the fault of a text that ends in its type
+pub slash_fault-from_walk : (text top : List ℕ) → walk text ≡ Some (in_type top) → IsFault text MissingSlash
+slash_fault-from_walk text top walked = lacks-from_walk text (in_type top) walked refl
+
+-- the fault of a text that ends in its slash
+pub subtype_fault-from_walk : (text top : List ℕ) → walk text ≡ Some (in_subtype top []) → IsFault text MissingSubtype
+subtype_fault-from_walk text top walked = lacks-from_walk text (in_subtype top []) walked refl
+
+-- the fault of a text that ends in a parameter's name
+pub equal_fault-from_walk : (text top sub : List ℕ) (closed : Closed) (n name : List ℕ)
+    → walk text ≡ Some (in_list top sub (list_at closed (in_name n name))) → IsFault text MissingEqual
+equal_fault-from_walk text top sub closed n name walked = lacks-from_walk text _ walked refl
+
+-- the fault of a text that ends in a parameter's equals sign
+pub value_fault-from_walk : (text top sub : List ℕ) (closed : Closed) (n name : List ℕ)
+    → walk text ≡ Some (in_list top sub (list_at closed (in_value n name []))) → IsFault text MissingValue
+value_fault-from_walk text top sub closed n name walked = lacks-from_walk text _ walked refl
 
 -- no text at all lacks a slash too
 empty_text : IsFault [] MissingSlash
