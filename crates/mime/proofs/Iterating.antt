@@ -62,7 +62,8 @@ sound-after_piece : (now : Iteration) (left : List ℕ) (steps : ℕ) → IsSoun
     → now.steps ≤ steps → IsSound (after_piece now left steps)
 sound-after_piece now left steps sound passes counted = record {
   few = omega (arith, sound.few, passes.few, counted);
-  exact = λ fed n takes. subst (TakesSteps now.text) (omega (arith, counted)) (sound.exact fed (steps - now.steps + n) (passes.exact refl n takes));
+  exact = λ fed n takes.
+      subst (TakesSteps now.text) (omega (arith, counted)) (sound.exact fed (steps - now.steps + n) (passes.exact refl n takes));
 }
 
 -- after an empty piece the search goes on
