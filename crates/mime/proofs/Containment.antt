@@ -107,7 +107,7 @@ comma-foreign : IsForeign comma_byte
 unfolding is_token_byte
 comma-foreign = record { token = refl; space = refl; slash = refl; semicolon = refl; equals = refl; quote = refl }
 
--- so it leads nowhere but in an open quoted value
+-- a comma leads nowhere but in an open quoted value
 comma-dead : (text : List ℕ) (begun : Begun) → walk text ≡ Some begun → ¬ (IsUnclosed text) → grow begun comma_byte ≡ None
 comma-dead text begun walked closed =
     elim (grow begun comma_byte) as (λ o. MatchOption o (Unit {0}) (λ after. IsOpen begun × IsOpen after) → o ≡ None) [

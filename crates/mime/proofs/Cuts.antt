@@ -37,7 +37,7 @@ following_of (b ∷ bytes) = onward (is_following_byte b) refl (following_of byt
     }
     onward false other rest = record { following = []; left = b ∷ bytes; spelled = refl; of_class = refl; begins = other }
 
--- they are the same however they are found
+-- the bytes that follow a character's first are the same however they are found
 following_unique : (f l g m : List ℕ) → IsTrue (list_all is_following_byte f) → BeginsCharacter l
     → IsTrue (list_all is_following_byte g) → BeginsCharacter m → f ++ l ≡ g ++ m → (f ≡ g) × (l ≡ m)
 following_unique [] l [] m fs bl gs bm e = (refl, e)
@@ -151,7 +151,7 @@ viable_or_split text = reached (walk text) refl
 pub empty-refused : IsRefused []
 empty-refused = refused-from_walk [] (in_type []) refl refl
 
--- and has no item
+-- the empty text has no item
 pub empty-cut : Cut [] [] []
 empty-cut = unfinished [] empty_is_viable empty-refused
 

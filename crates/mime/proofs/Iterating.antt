@@ -57,12 +57,13 @@ looking-first old = record {
 abbrev pub after_piece : Iteration → List ℕ → ℕ → Iteration
 after_piece now left steps = record now { left = left; steps = steps }
 
--- it keeps what every iterator keeps
+-- an iterator after a piece was passed keeps what every iterator keeps
 sound-after_piece : (now : Iteration) (left : List ℕ) (steps : ℕ) → IsSound now → IsUnderWay now.left left false (steps - now.steps)
     → now.steps ≤ steps → IsSound (after_piece now left steps)
 sound-after_piece now left steps sound passes counted = record {
   few = omega (arith, sound.few, passes.few, counted);
-  exact = λ fed n takes. subst (TakesSteps now.text) (omega (arith, counted)) (sound.exact fed (steps - now.steps + n) (passes.exact refl n takes));
+  exact = λ fed n takes.
+      subst (TakesSteps now.text) (omega (arith, counted)) (sound.exact fed (steps - now.steps + n) (passes.exact refl n takes));
 }
 
 -- after an empty piece the search goes on
@@ -131,7 +132,7 @@ sound-exact i sound ended fed =
     let none : TakesSteps i.left 0 = subst (λ t. TakesSteps t 0) (sym ended) (takes-viable [] empty_is_viable) in
     subst (TakesSteps i.text) (omega arith) (sound.exact fed 0 none)
 
--- a call gives none,
+-- a call gives none
 pub next-none : (old new : Iteration) → IsFound old None new → IsNext old None new
 next-none old new found = record {
   item = (found.gives.0, found.gives.1, found.starved);
@@ -141,7 +142,7 @@ next-none old new found = record {
   stays = λ ended. (refl, (found.still ended).1);
 }
 
--- or what was made of the piece that was found:
+-- a call gives what was made of the piece that was found
 next-some : (old now new : Iteration) (piece : Bor (List ℕ) × Option Places) (given : Result OwnedMedia Bad) → IsFound old (Some piece) now
     → IsSound new → new.text ≡ now.text → GivesItem old (Some given) new → IsNext old (Some given) new
 next-some old now new piece given found sound text item = record {
@@ -152,13 +153,13 @@ next-some old now new piece given found sound text item = record {
   stays = λ ended. absurd (none-some piece (sym (found.still ended).0));
 }
 
--- a bad piece,
+-- a call gives a bad piece
 pub next-bad : (old new : Iteration) (piece : Bor (List ℕ)) → IsFound old (Some (piece, None)) new
     → IsNext old (Some (Err (Piece piece))) new
 next-bad old new piece found =
     next-some old new new (piece, None) (Err (Piece piece)) found found.sound refl (found.gives.0, found.starved)
 
--- a media type,
+-- a call gives a media type
 pub next-good : (old new : Iteration) (piece : Bor (List ℕ)) (places : Places) (mime : OwnedMedia)
     → IsFound old (Some (piece, Some places)) new → Reads piece.now mime.media
     → (piece.now ≡ codes "*/*" → mime.fixed ≡ true) → IsNext old (Some (Ok mime)) new
@@ -166,7 +167,7 @@ next-good old new piece places mime found reads star =
     next-some old new new (piece, Some places) (Ok mime) found found.sound refl
     (piece.now, found.gives.0.1 mime.media reads, star, found.starved)
 
--- or out of memory, which ends the run
+-- a call gives out of memory, which ends the run
 pub next-starved : (old now new : Iteration) (piece : Bor (List ℕ)) (places : Places) → IsFound old (Some (piece, Some places)) now
     → piece.now ≢ codes "*/*" → new ≡ record now { left = []; starved = true } → IsNext old (Some (Err NoMemory)) new
 next-starved old now new piece places found not_star is =

@@ -61,7 +61,7 @@ run_gives_cut first given drains items rest cut =
     let run = run_items first given drains in
     subst (AreGiven given) (cut_unique first.left items rest cut run.items run.rest run.cut).0 run.are
 
--- and so those of a text whose cut is known
+-- a run over a text with a comma gives the items before it, the rest, and the items after it
 pub comma_contains_on_runs : CommaContainsOnRuns
 comma_contains_on_runs before after items others rest end cut closed follows first given is drains =
     run_gives_cut first given drains (items ++ (items_of_rest rest ++ others)) end

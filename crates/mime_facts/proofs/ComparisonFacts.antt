@@ -51,7 +51,7 @@ equal_values = (
 texts_before : IsTextBefore (codes "a") (codes "ab") × IsTextBefore (codes "ab") (codes "b")
 texts_before = (inr (refl, tt), inl (omega arith))
 
--- not the other way round,
+-- a longer or greater text isn't before a shorter or lesser one
 longer_after : ¬ (IsTextBefore (codes "ab") (codes "a"))
 longer_after (inl less) = absurd (omega (arith, less))
 longer_after (inr rest) = rest.1
@@ -60,7 +60,7 @@ greater_after : ¬ (IsTextBefore (codes "b") (codes "ab"))
 greater_after (inl less) = absurd (omega (arith, less))
 greater_after (inr rest) = absurd (omega (arith, rest.0))
 
--- nor is a text before itself
+-- no text is before itself
 none_before_itself : ¬ (IsTextBefore (codes "a") (codes "a"))
 none_before_itself (inl less) = absurd (omega (arith, less))
 none_before_itself (inr rest) = rest.1
@@ -117,11 +117,11 @@ texts_of_values = (
   record { read = quoted_x; reads = reads_quoted; same = (refl, refl); bare = λ none. absurd cc },
 )
 
--- with a semicolon it isn't a value without parameters, though it is read as one,
+-- a text with a semicolon isn't a value without parameters, though it is read as one
 semicolon_counts : ¬ (TextIs plain_value (codes "a/b;"))
 semicolon_counts is = false≢true (is.bare refl)
 
--- and with another parameter it isn't the value
+-- a text with another parameter isn't the value
 parameter_counts : ¬ (TextIs plain_y (codes "A/B;P=\"x\""))
 parameter_counts is =
     differ (codes "y") (codes "x") refl
@@ -133,11 +133,11 @@ parameter_counts is =
 differ_at_end : FirstDifference (codes "a/b") (codes "A/c") 2
 differ_at_end = record { within = omega arith; within_other = omega arith; alike = refl; differ = λ is. absurd (omega (arith, is)) }
 
--- case alone is no difference,
+-- case alone is no difference
 case_is_none : ¬ (FirstDifference (codes "a/b") (codes "A/c") 0)
 case_is_none is = is.differ refl
 
--- nor is the end of one of them, nor what comes after a difference
+-- the end of a text is no difference, and neither is what comes after one
 end_is_none : ¬ (FirstDifference (codes "a") (codes "ab") 1)
 end_is_none is = absurd (omega (arith, is.within))
 

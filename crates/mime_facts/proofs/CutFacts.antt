@@ -41,7 +41,7 @@ split_at_comma =
     (record { following = []; left = codes "A/B"; spelled = refl; of_class = refl; begins = refl })
     (front-from_walk (codes "e") (codes "A/B") 44 (in_type (codes "e")) refl refl)
 
--- it is split nowhere else
+-- `e,A/B` is split nowhere else
 split_nowhere_else : ¬ (IsSplit (codes "e,A/B") [] (codes "e") (codes ",A/B"))
 split_nowhere_else is = differ [] (codes "e") refl (split_unique _ _ _ _ _ _ _ is split_at_comma).piece
 
@@ -76,7 +76,7 @@ pub cut_of_list : Cut (codes "e,A/B") list_items []
 cut_of_list =
     goes_on _ _ _ _ (bad (codes "e") ∷ []) _ _ split_at_comma item_of_e (whole (codes "A/B") plain_value reads_capitals)
 
--- and no other items
+-- the cut of `e,A/B` has no other items
 pub no_item_left_out : ¬ (Cut (codes "e,A/B") (good (codes "A/B") plain_value ∷ []) [])
 no_item_left_out cut = absurd (cc (cut_unique _ _ _ cut_of_list _ _ cut).0)
 
@@ -90,7 +90,7 @@ rest_of_text = unfinished (codes "e") e_is_viable e_is_refused
 no_item_yet : ¬ (Cut (codes "e") (bad (codes "e") ∷ []) [])
 no_item_yet cut = absurd (omega (arith, ap length (cut_unique _ _ _ rest_of_text _ _ cut).0))
 
--- and an accepted text is none
+-- an accepted text is no rest
 no_accepted_rest : (text : List ℕ) (items : List CutItem) (rest : List ℕ) → Cut text items rest → IsAccepted text → items ≡ [] → ⊥
 no_accepted_rest text items rest (whole t value reads) accepted none = absurd cc
 no_accepted_rest text items rest (unfinished t viable is) accepted none = is accepted
@@ -108,7 +108,7 @@ written_pieces :
     × (steps_of ((codes "e", codes ",") ∷ []) (codes "A/B") ≡ 5)
 written_pieces = (refl, refl)
 
--- it takes five steps, and no other number of them
+-- `e,A/B` takes five steps, and no other number of them
 pub steps_of_list : TakesSteps (codes "e,A/B") 5
 steps_of_list = record { pieces = (codes "e", codes ",") ∷ []; end = codes "A/B"; cut = pieces_of_list; counted = refl }
 

@@ -63,7 +63,7 @@ pub e_lacks_slash : Lacks (codes "e") MissingSlash
 unfolding is_token_byte
 e_lacks_slash = slash_fault-from_walk (codes "e") (codes "e") refl
 
--- and quotes that are open lack nothing else
+-- a lone type has no open quotes
 pub e_is_closed : ¬ (IsUnclosed (codes "e"))
 e_is_closed is = absurd (cc (lacks_alone (codes "e") MissingSlash MissingQuote e_lacks_slash is))
 

@@ -53,7 +53,7 @@ first_items = (
 no_items : HasNoItem (codes "e") × ¬ (HasNoItem (codes "e,A/B"))
 no_items = ((codes "e", rest_of_text), λ none. absurd (omega (arith, ap length (cut_unique _ _ _ cut_of_list _ _ none.1).0)))
 
--- `A/B` needs memory,
+-- `A/B` needs memory
 needs_memory : NeedsMemory (codes "A/B")
 needs_memory = record {
   piece = codes "A/B";
@@ -64,11 +64,11 @@ needs_memory = record {
   not_star = differ (codes "A/B") (codes "*/*") refl;
 }
 
--- a bad piece needs none,
+-- a bad piece needs no memory
 bad_needs_none : ¬ (NeedsMemory (codes "e,A/B"))
 bad_needs_none needs = absurd (cc (cut_unique _ _ _ cut_of_list _ _ needs.cut).0)
 
--- and neither does `*/*`
+-- `*/*` needs no memory
 star_needs_none : ¬ (NeedsMemory (codes "*/*"))
 star_needs_none needs = needs.not_star (star_piece _ _ _ _ needs.cut)
 
@@ -91,11 +91,11 @@ ends_at_rest = record {
   stays = λ end. absurd (ends.1 end);
 }
 
--- no more steps than bytes, even where memory ran out,
+-- no more steps than bytes, even where memory ran out
 steps_are_few : ¬ (IsNext (record (begun (codes "a/")) { starved = true }) None (record (ended (codes "a/") 3) { starved = true }))
 steps_are_few next = absurd (omega (arith, next.few))
 
--- and at the end no fewer
+-- at the end the steps are those that the text takes
 steps_are_exact : ¬ (IsNext (begun (codes "e")) None (ended (codes "e") 0))
 steps_are_exact next =
     absurd (omega (arith, takes_unique (codes "e") 0 1 (next.exact refl refl) (takes-viable (codes "e") e_is_viable)))
@@ -110,14 +110,14 @@ stays_ended reason next = none-some _ (sym (next.stays refl).0)
 gives_piece : (piece : Bor (List ℕ)) → piece.now ≡ codes "e" → AreGiven (Err (Piece piece) ∷ []) (bad (codes "e") ∷ [])
 gives_piece piece is = subst (λ text. AreGiven (Err (Piece piece) ∷ []) (bad text ∷ [])) is (a_piece piece [] [] none_left)
 
--- a run that gives nothing has no items,
+-- a run that gives nothing has no items
 gives_all : (given : List (Result OwnedMedia Bad)) (items : List CutItem) → AreGiven given items → given ≡ [] → items ≡ []
 gives_all given items none_left is = refl
 gives_all given items (a_value mime piece more others are) is = absurd cc
 gives_all given items (a_piece piece more others are) is = absurd cc
 gives_all given items (no_memory piece value others not_star) is = absurd cc
 
--- and `*/*` is always given
+-- a run always gives `*/*`
 gives_star : (given : List (Result OwnedMedia Bad)) (items : List CutItem) → AreGiven given items → given ≡ Err NoMemory ∷ []
     → items ≡ good (codes "*/*") star_value ∷ [] → ⊥
 gives_star given items none_left is star = absurd cc

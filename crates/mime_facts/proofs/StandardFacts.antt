@@ -218,7 +218,7 @@ text_after_quotes : IsFault (codes "a/b;p=\"x\"junk") (InvalidToken 9 106)
 unfolding is_token_byte is_quoted_byte
 text_after_quotes = dead-from_walk (codes "a/b;p=\"x\"") (codes "unk") 106 _ refl refl
 
--- or an empty one
+-- only spaces and tabs may follow an empty quoted value
 text_after_empty_quotes : IsFault (codes "a/b;p=\"\"x\"") (InvalidToken 8 120)
 unfolding is_token_byte is_quoted_byte
 text_after_empty_quotes = dead-from_walk (codes "a/b;p=\"\"") (codes "\"") 120 _ refl refl
@@ -228,7 +228,7 @@ control_in_quotes : IsFault (codes "a/b;p=\"" ++ (195 ∷ 169 ∷ 1 ∷ codes "\
 unfolding is_token_byte is_quoted_byte
 control_in_quotes = dead-from_walk (codes "a/b;p=\"" ++ (195 ∷ 169 ∷ [])) (codes "\"") 1 _ refl refl
 
--- nor may one after a backslash
+-- no control but the tab may follow a backslash
 control_after_backslash : IsFault (codes "a/b;p=\"\\" ++ (13 ∷ [])) (InvalidToken 8 13)
 unfolding is_token_byte is_quoted_byte
 control_after_backslash = dead-from_walk (codes "a/b;p=\"\\") [] 13 _ refl refl
@@ -238,7 +238,7 @@ tab_before_semicolon : IsFault (codes "a/b" ++ (9 ∷ codes ";p=x")) (InvalidTok
 unfolding is_token_byte
 tab_before_semicolon = dead-from_walk (codes "a/b") (codes ";p=x") 9 _ refl refl
 
--- nor does one follow a plain value
+-- no tab follows a plain value
 tab_after_plain_value : IsFault (codes "a/b;p=x" ++ (9 ∷ [])) (InvalidToken 7 9)
 unfolding is_token_byte
 tab_after_plain_value = dead-from_walk (codes "a/b;p=x") [] 9 _ refl refl

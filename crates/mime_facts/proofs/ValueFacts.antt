@@ -44,14 +44,14 @@ abbrev capitals : SyntaxTree
 capitals = tree_from_parts (codes "A") (codes "B+C")
     (listed (more (codes " ") (plain (codes "P") (codes "X")) (final [] (quoted (codes "Charset") (codes "\\X") (codes " ")))))
 
--- its lowering keeps the value under `P`, and all spaces
+-- the lowering of `A/B+C` keeps the value under `P`, and all spaces
 lowered_capitals :
     lowered_tree capitals
     ≡ tree_from_parts (codes "a") (codes "b+c")
     (listed (more (codes " ") (plain (codes "p") (codes "X")) (final [] (quoted (codes "charset") (codes "\\x") (codes " ")))))
 lowered_capitals = refl
 
--- its pairs, without quotes and with backslashes, its essence, and its kept text with a pair and without one
+-- the pairs of `A/B+C`, without quotes and with backslashes, the essence, and the kept text with a pair and without one
 parts_of_capitals :
     (pairs_of_tail capitals.tail ≡ (codes "P", codes "X") ∷ (codes "Charset", codes "\\X") ∷ [])
     × (pairs_of_tail no_list ≡ [])
@@ -70,12 +70,12 @@ last_pluses = (refl, refl)
 abbrev pub plain_value : MediaType
 plain_value = media (codes "a/b") 1 None [] (codes "a/b")
 
--- a text in capitals is read as a value in small letters,
+-- a text in capitals is read as a value in small letters
 pub reads_capitals : Reads (codes "A/B") plain_value
 unfolding is_token_byte
 reads_capitals = reads (codes "A") (codes "B") no_list (refl, refl, tt)
 
--- and not as one that keeps them
+-- a value keeps no capitals of its essence
 pub keeps_no_capitals : ¬ (Reads (codes "A/B") (media (codes "a/b") 1 None [] (codes "A/B")))
 keeps_no_capitals other =
     differ (codes "a/b") (codes "A/B") refl (ap (λ (v : MediaType). v.kept) (one_reading _ _ _ reads_capitals other))
@@ -187,7 +187,7 @@ printed_faults :
 unfolding digits
 printed_faults = refl
 
--- and what the error of reading prints
+-- what the error of reading prints
 printed_error : error_text (InvalidToken 5 59) ≡ codes "mime parse error: an invalid token was encountered, 3B at position 5"
 unfolding digits
 printed_error = refl

@@ -70,7 +70,7 @@ rows_of_items = refl
 list_names_a_mode : mode_named (codes "list") ≡ Some Mode.List
 list_names_a_mode = refl
 
--- and only in small letters
+-- a mode is named in small letters alone
 capitals_name_no_mode : mode_named (codes "LIST") ≡ None
 capitals_name_no_mode = refl
 
@@ -133,7 +133,7 @@ one_report reading one completed viable cut mode text first second (refused faul
 one_report reading one completed viable cut mode text first second (listed items rest is) (listed others left also) =
     let only = cut text in ap item_rows ((only.3 items rest is).0 ∙ sym (only.3 others left also).0)
 
--- so is the report on a line: one that isn't text has no other
+-- the report on a line is one: a line that isn't text has no other
 one_report-line : (mode : Mode) (line first second : List ℕ)
     → ((text rows others : List ℕ) → ReportsText mode text rows → ReportsText mode text others → rows ≡ others)
     → ReportsLine mode line first → ReportsLine mode line second → first ≡ second
@@ -142,7 +142,7 @@ one_report-line mode line first second one (not_text isnt) (is_text utf8 report)
 one_report-line mode line first second one (is_text utf8 report) (not_text isnt) = absurd (isnt utf8)
 one_report-line mode line first second one (is_text utf8 report) (is_text too other) = one line first second report other
 
--- and on lines, one after another
+-- the report on lines is one
 one_report-lines : (mode : Mode) (lines : List (List ℕ)) (first second : List ℕ)
     → ((line rows others : List ℕ) → ReportsLine mode line rows → ReportsLine mode line others → rows ≡ others)
     → ReportsLines mode lines first → ReportsLines mode lines second → first ≡ second
