@@ -230,7 +230,8 @@ bare_tree tree bare = go tree.tail (subst HasNoSemicolon (text_of-essence tree) 
         → tree.top ++ (slash_byte ∷ (tree.sub ++ text_of_tail tail)) ≡ essence_of tree
     go no_list none = ap (λ x. tree.top ++ (slash_byte ∷ x)) (append-nil tree.sub)
     go (listed list) none =
-        absurd (second _ (sym (list_all-append (λ b. not (b == semicolon_byte)) (essence_of tree) (semicolon_byte ∷ text_of_list list)) ∙ none))
+        let parts = list_all-append (λ b. not (b == semicolon_byte)) (essence_of tree) (semicolon_byte ∷ text_of_list list) in
+        absurd (second _ (sym parts ∙ none))
       where
         second : (a : Bool) → (a && false) ≡ true → ⊥
         second true is = absurd cc
