@@ -97,14 +97,9 @@ module _ (a b marks : List ℕ) (found : ℕ) (room : 16 ≤ length a) (other_ro
       let near : n < length marks =
       elim (cases_lt n (length marks)) [
         | inl near ↦ near
-        | inr far ↦ absurd (omega (
-          arith,
-          some,
-          found_is,
-          whole,
-          all_pass (λ b. b == 1) marks
-              (omega (arith, far, prefix_len-le-length (λ b. not (b == 1)) marks)),
-        ))
+        | inr far ↦
+            let all = all_pass (λ b. b == 1) marks (omega (arith, far, prefix_len-le-length (λ b. not (b == 1)) marks)) in
+            absurd (omega (arith, some, found_is, whole, all))
       ] in
       let stop : get_or marks n 0 ≡ 1 =
       (let stops = prefix_len_stops (λ b. not (b == 1)) marks 0 near in grind (arith, nat_tests)) in

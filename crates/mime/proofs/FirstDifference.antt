@@ -54,12 +54,14 @@ told-parameter (plain name value) well =
     ∙ rw (lowered-lowered name, lowered-lowered_value name value) refl
 told-parameter (quoted name content n) well =
     told-append name (equals_byte ∷ quote_byte ∷ (content ++ (quote_byte ∷ n)))
-    ∙ ap (λ t. stripped name ++ (equals_byte ∷ t)) (told-append content (quote_byte ∷ n) ∙ ap (λ t. stripped content ++ t) (told-spaces n well.2)
+    ∙ ap (λ t. stripped name ++ (equals_byte ∷ t)) (told-append content (quote_byte ∷ n)
+    ∙ ap (λ t. stripped content ++ t) (told-spaces n well.2)
     ∙ append-nil (stripped content))
     ∙ rw (lowered-lowered name, lowered-lowered_value name content) refl
 
 -- a list tells what its pairs do, but perhaps for the last semicolon
-told-list : (list : Parameters) → AreParameters list → Begins (stripped (text_of_list list)) (stripped_pairs (pairs_of_list (lowered_list list)))
+told-list : (list : Parameters) → AreParameters list
+    → Begins (stripped (text_of_list list)) (stripped_pairs (pairs_of_list (lowered_list list)))
 told-list (blank n) white = record { rest = []; is = sym (append-nil (stripped n) ∙ told-spaces n white) }
 told-list (final n p) (white, well) = record {
   rest = semicolon_byte ∷ [];
@@ -126,7 +128,8 @@ told_apart one other first second reads also d same =
     d.first.differ (same_byte (filter is_telling (take d.at (lowered one))) _ _ _ _ begins.rest other_begins.rest
     (sym (ap (λ t. t ++ begins.rest) (told-at one d.at d.first.within d.tells)) ∙ sym begins.is ∙ whole ∙ other_begins.is
     ∙ ap (λ t. t ++ other_begins.rest) (told-at other d.at d.first.within_other d.also
-    ∙ ap (λ t. filter is_telling t ++ (to_ascii_lowercase (slice_index other d.at) ∷ stripped (drop (d.at + 1) other))) (sym d.first.alike))))
+    ∙ ap (λ t. filter is_telling t ++ (to_ascii_lowercase (slice_index other d.at) ∷ stripped (drop (d.at + 1) other)))
+    (sym d.first.alike))))
 
 -- and such a text is none of the value
 pub text_is-telling : (kept text : List ℕ) (value : MediaType) → Reads kept value → DifferTellingly kept text → TextIs value text → ⊥

@@ -1,6 +1,7 @@
 -- A text against a value: what a text has that is equal to the value, and what suffices.
-use Rattle.std.proofs.Common.{◌≡◌, ℕ, ◌+◌, Bool, true, false, cond, List, [], ◌∷◌, ◌++◌, length, take, drop, Some, map, refl, sym, ap, ◌∙◌, subst, ◌↔◌, append-nil}
-use Rattle.std.specs.Prelude.{◌≢◌, ◌==◌, ◌&&◌, not, codes}
+use Rattle.std.proofs.Common.{◌≡◌, ℕ, ◌+◌, true, false, List, [], ◌∷◌, ◌++◌, length, take, drop, Some, map, refl, sym, ap, ◌∙◌, subst, ◌↔◌, append-nil}
+use Rattle.std.specs.Prelude.{◌≢◌, ◌==◌, not, codes}
+use Rattle.std.proofs.lemmas.Bool.{and_parts, cond_both}
 use Rattle.std.proofs.lemmas.List.{nil_from_length, take-append-drop}
 use Rattle.std.specs.List.{list_all}
 use Rattle.std.proofs.lemmas.List.Folds.{list_all-append}
@@ -178,11 +179,8 @@ text_is-lone_charset kept text value reads some is lone =
 -- the name of a pair that is cut out
 cut_value-name : (whole : ℕ) (name bytes : List ℕ) → (cut_after_equals whole name bytes).name ≡ name
 cut_value-name whole name [] = refl
-cut_value-name whole name (b ∷ bytes) = go (b == quote_byte) _ _ refl refl
-  where
-    go : (is : Bool) (one other : PairCut) → one.name ≡ name → other.name ≡ name → (cond is one other).name ≡ name
-    go true one other same also = same
-    go false one other same also = also
+cut_value-name whole name (b ∷ bytes) =
+    cond_both (b == quote_byte) _ _ (λ (cut : PairCut). cut.name ≡ name) (λ _. refl) (λ _. refl)
 
 -- the first name of a list that begins with ` charset=`
 cut_of-charset : (after : List ℕ) → (cut_of (codes " charset=" ++ after)).name ≡ codes "charset"
@@ -221,11 +219,8 @@ bare_tree tree bare = go tree.tail (subst HasNoSemicolon (text_of-essence tree) 
         → tree.top ++ (slash_byte ∷ (tree.sub ++ text_of_tail tail)) ≡ essence_of tree
     go no_list none = ap (λ x. tree.top ++ (slash_byte ∷ x)) (append-nil tree.sub)
     go (listed list) none =
-        absurd (second _ (sym (list_all-append (λ b. not (b == semicolon_byte)) (essence_of tree) (semicolon_byte ∷ text_of_list list)) ∙ none))
-      where
-        second : (a : Bool) → (a && false) ≡ true → ⊥
-        second true is = absurd cc
-        second false is = absurd cc
+        let parts = list_all-append (λ b. not (b == semicolon_byte)) (essence_of tree) (semicolon_byte ∷ text_of_list list) in
+        absurd (let last = (and_parts _ false (sym parts ∙ none)).1 in cc)
 
 -- a text that, lowered, is the essence of a value without pairs is equal to the value
 pub text_is-from_lowered : (text kept : List ℕ) (value : MediaType) → Reads kept value → value.pairs ≡ [] → lowered text ≡ value.essence

@@ -16,16 +16,14 @@ returns-then-not-are_pairs c =
 
 pub returns-then-is_alike : goal.returns-then-is_alike
 returns-then-is_alike c =
-    let by_parts = text_is-by_parts _ _ c.args.mime.now.media c.requires.reads c.requires.some in (
+    let by_parts = text_is-by_parts _ _ c.args.mime.now.media c.requires.reads c.requires.some in
+    let list = rw c.essence_str-essence.ensures at c.is_list_after.ensures in
+    let pairs = rw (c.pairs.ensures.pairs, c.after.ensures, c.count.ensures, c.essence_str-essence.ensures) at c.are_pairs.ensures in
+    let accepted = accepted_at-case _ _ c.args.mime.now.media c.requires.reads c.requires.some in (
       λ yes. by_parts.1 (record {
-        list = (rw c.essence_str-essence.ensures at c.is_list_after.ensures).0 c.if-not-is_list_after.false;
-        pairs = (rw (
-          c.pairs.ensures.pairs,
-          c.after.ensures,
-          c.count.ensures,
-          c.essence_str-essence.ensures,
-        ) at c.are_pairs.ensures).0 c.if-not-are_pairs.false;
-        accepted = accepted_at-case _ _ c.args.mime.now.media c.requires.reads c.requires.some (c.requires.alike yes);
+        list = list.0 c.if-not-is_list_after.false;
+        pairs = pairs.0 c.if-not-are_pairs.false;
+        accepted = accepted (c.requires.alike yes);
       }),
       λ _. c.if-is_alike.true,
     )
@@ -33,15 +31,12 @@ returns-then-is_alike c =
 pub returns-else-is_alike : goal.returns-else-is_alike
 returns-else-is_alike c =
     let by_parts = text_is-by_parts _ _ c.args.mime.now.media c.requires.reads c.requires.some in
+    let list = rw c.essence_str-essence.ensures at c.is_list_after.ensures in
+    let pairs = rw (c.pairs.ensures.pairs, c.after.ensures, c.count.ensures, c.essence_str-essence.ensures) at c.are_pairs.ensures in
     let accepted = rw (c.essence_str-essence.ensures, c.count-else-is_alike.ensures) at c.is_accepted_at.ensures in (
       λ yes. by_parts.1 (record {
-        list = (rw c.essence_str-essence.ensures at c.is_list_after.ensures).0 c.if-not-is_list_after.false;
-        pairs = (rw (
-          c.pairs.ensures.pairs,
-          c.after.ensures,
-          c.count.ensures,
-          c.essence_str-essence.ensures,
-        ) at c.are_pairs.ensures).0 c.if-not-are_pairs.false;
+        list = list.0 c.if-not-is_list_after.false;
+        pairs = pairs.0 c.if-not-are_pairs.false;
         accepted = accepted.0 yes;
       }),
       λ is. accepted.1 (by_parts.0 is).accepted,

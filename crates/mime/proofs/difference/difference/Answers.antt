@@ -41,5 +41,6 @@ returns c =
     c.from.ensures
     ∙ marked c.args.x c.args.y _ c.ranges.x.fits c.ranges.y.fits (elim c.if-is_ascii_lowercase.branch [
       | then-is_ascii_lowercase w ↦ w.case-is ∙ chosen c.args.x true (sym w.if-is_ascii_lowercase.true ∙ c.is_ascii_lowercase.ensures.value)
-      | else-is_ascii_lowercase w ↦ w.case-is ∙ chosen c.args.x false (sym w.if-is_ascii_lowercase.false ∙ c.is_ascii_lowercase.ensures.value)
+      | else-is_ascii_lowercase w ↦
+          w.case-is ∙ chosen c.args.x false (sym w.if-is_ascii_lowercase.false ∙ c.is_ascii_lowercase.ensures.value)
     ])
