@@ -118,7 +118,7 @@ same_byte : (front : List ℕ) (x y : ℕ) (xs ys rest others : List ℕ) → (f
 same_byte [] x y xs ys rest others is = cc
 same_byte (f ∷ front) x y xs ys rest others is = same_byte front x y xs ys rest others cc
 
--- so texts that differ tellingly are read as values that aren't equal
+-- texts whose first difference tells are read as values that aren't equal
 pub told_apart : (one other : List ℕ) (first second : MediaType) → Reads one first → Reads other second → DifferTellingly one other
     → ¬ (Same first second)
 told_apart one other first second reads also d same =
@@ -131,6 +131,6 @@ told_apart one other first second reads also d same =
     ∙ ap (λ t. filter is_telling t ++ (to_ascii_lowercase (slice_index other d.at) ∷ stripped (drop (d.at + 1) other)))
     (sym d.first.alike))))
 
--- and such a text is none of the value
+-- a text whose first difference from a kept text tells isn't the value
 pub text_is-telling : (kept text : List ℕ) (value : MediaType) → Reads kept value → DifferTellingly kept text → TextIs value text → ⊥
 text_is-telling kept text value reads d is = told_apart kept text value is.read reads is.reads d is.same

@@ -147,7 +147,7 @@ media_parts top sub (listed (blank n)) well holds = absurd holds
 media_parts top sub (listed (final n p)) well holds = media_whole top sub (final n p) well refl
 media_parts top sub (listed (more n p rest)) well holds = media_whole top sub (more n p rest) well refl
 
--- so it is for a kept text
+-- the value of a kept text's tree is what its positions give
 media_of-kept : (text : List ℕ) (places : Places) (is_kept : IsKept text places) → value_of is_kept.tree ≡ media_of text places
 media_of-kept text places is_kept =
     value_of-lowering is_kept.tree ∙ ap value_of_low is_kept.low
@@ -179,12 +179,12 @@ keeps-accepted text places has =
     at_tree (λ t p. Keeps has.tree (kept_text_of p.pairs p.semicolon t) (kept_places p)) text places has
     (keeps-tree has.tree has.well_formed)
 
--- its kept text is kept
+-- the kept text of an accepted text is kept
 pub kept-from_places : (text : List ℕ) (places : Places) → HasPlaces text places
     → IsKept (kept_text_of places.pairs places.semicolon text) (kept_places places)
 kept-from_places text places has = (keeps-accepted text places has).is_kept
 
--- and it reads as the value that its kept text gives
+-- an accepted text reads as the value that its kept text gives
 pub kept_reads : (text : List ℕ) (places : Places) → HasPlaces text places
     → Reads text (media_of (kept_text_of places.pairs places.semicolon text) (kept_places places))
 kept_reads text places has = record {
@@ -211,7 +211,7 @@ semicolon-there top sub (listed list) s is =
     ap (λ t. slice_get t s) (text_of-essence tree)
     ∙ slice_get-front (essence_of tree) semicolon_byte (text_of_list list) s (omega (arith, place, length-essence_of tree))
 
--- so it is in an accepted text
+-- an accepted text has a semicolon where its positions say so
 pub slice_get-semicolon : (text : List ℕ) (places : Places) (s : ℕ) → HasPlaces text places → places.semicolon ≡ Some s
     → slice_get text s ≡ Some semicolon_byte
 slice_get-semicolon text places s has is =

@@ -97,7 +97,7 @@ last_bytes whole long =
     let at = length whole - 16 in
     ap (take 16) (take_rest whole at) ∙ take_all 16 (drop at whole) (omega (arith, long, length-drop at whole))
 
--- so they show the first position in that end
+-- the marks of the last 16 bytes show the first position in a shorter end
 module _ (byte found : ℕ) (whole text : List ℕ) (is : IsEndOf text whole) (long : 16 ≤ length whole) (short : length text < 16)
     (found_is : found ≡ marks_of byte (take 16 (take (length whole - (length whole - 16)) (drop (length whole - 16) whole)))) where
   shown : cond (eqb (found / 2 ^ (16 - length text)) 0) (length text) (count_trailing_zeros 64 (found / 2 ^ (16 - length text)))

@@ -89,7 +89,7 @@ first_lowered list lies = lowered lies.front ++ (lowered_value (cut_of list).nam
 before_rest-joined : (list : List ℕ) (lies : LiesIn list (cut_of list)) → before_rest list lies ++ (cut_of list).rest ≡ list
 before_rest-joined list lies = sym (lies.parts ∙ simp append_assoc)
 
--- so is the list with its first pair lowered
+-- a list with its first pair lowered is that pair lowered, and the rest
 pub lowered_first-joined : (list : List ℕ) (lies : LiesIn list (cut_of list))
     → lowered_first list ≡ first_lowered list lies ++ (cut_of list).rest
 lowered_first-joined list lies =
@@ -110,7 +110,7 @@ first_lowered-in_part list lies =
     (joined _ _ _ _ (lowered_value-either (IsLoweredInPart cut.value) cut.name cut.value (same cut.value) (small cut.value))
     (same lies.middle))
 
--- so the rest keeps its position
+-- lowering the first pair keeps the position of the rest
 length-first_lowered : (list : List ℕ) (lies : LiesIn list (cut_of list))
     → length (first_lowered list lies) + length (cut_of list).rest ≡ length list
 length-first_lowered list lies =

@@ -36,7 +36,7 @@ record PlusIn (essence : List ℕ) (slash plus : ℕ) : Type 0 where
   above : slash + 1 < plus
   there : slice_get essence plus ≡ Some plus_byte
 
--- so it does in a value that was read
+-- the plus of a value that was read lies in its essence
 plus_in : (text essence : List ℕ) (value : MediaType) (plus : ℕ) → Reads text value → essence ≡ value.essence → value.plus ≡ Some plus
     → PlusIn essence value.slash plus
 plus_in text essence value plus reads is found =
@@ -82,13 +82,13 @@ low_pair : (p : Parameter) → IsLowPair (pair_of (lowered_parameter p))
 low_pair (plain name value) = cc (lowered-lowered name, lowered_value-lowered name value)
 low_pair (quoted name content n) = cc (lowered-lowered name, lowered_value-lowered name content)
 
--- so are the pairs of a lowered list
+-- the pairs of a lowered list are low
 low_pairs : (list : Parameters) → AreLowPairs (pairs_of_list (lowered_list list))
 low_pairs (blank n) = tt
 low_pairs (final n p) = (low_pair p, tt)
 low_pairs (more n p rest) = (low_pair p, low_pairs rest)
 
--- so are those after a lowered subtype
+-- the pairs of a lowered tail are low
 pub low_pairs-tail : (tail : Tail) → AreLowPairs (pairs_of_tail (lowered_tail tail))
 low_pairs-tail no_list = tt
 low_pairs-tail (listed list) = low_pairs list

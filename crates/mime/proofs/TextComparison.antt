@@ -29,7 +29,7 @@ use Rattle.mime.proofs.SmallLetters.{semicolon-lower, case_read, case_read-count
 pub essence-lowered : (tree : SyntaxTree) → (value_of tree).essence ≡ lowered (essence_of tree)
 essence-lowered tree = sym (lowered-append tree.top (slash_byte ∷ tree.sub))
 
--- its pairs are its tree's, each lowered
+-- the pairs of a lowered list are those of the list, each lowered
 pub pairs_of_list-lowered : (list : Parameters) → pairs_of_list (lowered_list list) ≡ map lowered_pair (pairs_of_list list)
 pairs_of_list-lowered (blank n) = refl
 pairs_of_list-lowered (final n (plain name value)) = refl
@@ -38,7 +38,7 @@ pairs_of_list-lowered (more n (plain name value) rest) = ap (λ pairs. lowered_p
 pairs_of_list-lowered (more n (quoted name content m) rest) = ap (λ pairs. lowered_pair (name, content) ∷ pairs)
     (pairs_of_list-lowered rest)
 
--- so the essence is as long as its tree's
+-- a value's essence is as long as its tree's
 length-value_essence : (tree : SyntaxTree) → length (value_of tree).essence ≡ length tree.top + 1 + length tree.sub
 length-value_essence tree = ap length (essence-lowered tree) ∙ length-lowered (essence_of tree) ∙ length-essence_of tree
 
@@ -111,7 +111,7 @@ one_places text first second has also =
     sym has.placed ∙ ap places_of (one_tree has.tree also.tree has.well_formed also.well_formed (has.spelled ∙ sym also.spelled))
     ∙ also.placed
 
--- and it is accepted
+-- a text that is accepted with these positions is accepted
 pub IsAccepted-at : (text : List ℕ) (end count : ℕ) → IsAcceptedAt text end count → IsAccepted text
 IsAccepted-at text end count is =
     (value_of is.has.tree, record { tree = is.has.tree; well_formed = is.has.well_formed; spelled = is.has.spelled; valued = refl })
@@ -124,7 +124,7 @@ pub record TextParts (value : MediaType) (text : List ℕ) : Type 0 where
   pub pairs : value.pairs ≡ map lowered_pair (pairs_within (length value.pairs) (drop (length value.essence + 1) text))
   pub accepted : IsAcceptedAt text (length value.essence) (length value.pairs)
 
--- it has them, and a text that has them is equal to the value
+-- a text is equal to a value with pairs exactly where it has these parts
 pub text_is-by_parts : (kept text : List ℕ) (value : MediaType) → Reads kept value → value.pairs ≢ []
     → TextIs value text ↔ TextParts value text
 text_is-by_parts kept text value reads some =
@@ -162,7 +162,7 @@ accepted_at-case kept text value reads some is =
     IsAcceptedAt-same text (ap length (sym found.essence)) (sym counted)
     (accepted_at text found.read found.reads (λ none. some (nil_from_length value.pairs (counted ∙ ap length none))))
 
--- and it is equal to the value, where the only parameter is a charset
+-- a kept text in another case is equal to the value, where the only parameter is a charset
 pub text_is-lone_charset : (kept text : List ℕ) (value : MediaType) → Reads kept value → value.pairs ≢ [] → lowered kept ≡ lowered text
     → IsLoneCharset value.pairs → TextIs value text
 text_is-lone_charset kept text value reads some is lone =
@@ -252,7 +252,7 @@ text_is-bare kept value reads none text =
       λ low. text_is-from_lowered text kept value reads none low,
     )
 
--- that is exactly where it is the kept text but for case
+-- a text is a value without parameters exactly where it is the kept text but for case
 pub text_is-kept_case : (kept text : List ℕ) (value : MediaType) → Reads kept value → kept ≡ value.kept → value.pairs ≡ []
     → TextIs value text ↔ (lowered kept ≡ lowered text)
 text_is-kept_case kept text value reads is none =

@@ -17,7 +17,7 @@ found case x y = bool_byte (not (nat_eq (bit_and (bit_xor x y) (255 - case)) 0))
 case_of : ℕ → ℕ
 case_of x = cond (is_ascii_lowercase (bit_or x 32)) 32 0
 
--- it is the mark, of all pairs of bytes
+-- the computed bits are the mark, for all pairs of bytes
 agrees : ℕ → ℕ → Bool
 agrees x y = nat_eq (found (case_of x) x y) (mark x y)
 

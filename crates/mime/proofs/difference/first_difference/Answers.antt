@@ -7,7 +7,7 @@ use Rattle.mime.proofs.Differences.{alike_onward, difference_onward}
 use Rattle.mime.proofs.difference.first_difference.Goals as goal
 use Rattle.mime.proofs.difference.first_difference.Goals.{then-a-b, else-a-b}
 
--- so is a shorter front
+-- fronts that are the same have the same shorter fronts
 shorter : (a b : List ℕ) (n m : ℕ) → n ≤ m → take m a ≡ take m b → take n a ≡ take n b
 shorter a b n m less same = sym (take-take n m a less) ∙ ap (take n) same ∙ take-take n m b less
 
