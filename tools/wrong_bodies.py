@@ -7,7 +7,8 @@ refuses those of tools/edits/tests. It has these lines:
     clause: read                        the clause that refuses it: its name, or 'ensures' for one without a name and where one answer
                                         proves all clauses, or 'invariant' for that of a loop, which a clause rests on, or the name of
                                         another goal that is left open
-    refused by: test NAME of CRATE      what refuses it, or 'error NAME of CRATE': in tools/edits/tests, in place of these two
+    refused by: test NAME of CRATE      what refuses it, or 'row WORDS of CRATE', of its stdin, or 'error NAME of CRATE': in
+                                        tools/edits/tests, in place of these two
     why: SENTENCE                       what the body does, and why that is refused where it isn't plain (docs/WRONG-BODIES.md)
     file: crates/mime/src/value.rt      in a crate's must-fail/ the path within the crate, as src/value.rt
     old: TEXT                           one line, which occurs once in the file

@@ -1,9 +1,9 @@
-/* Refuses one request for memory of the program that it is loaded into, and counts them.
+/* Refuses one request for memory of the program that it is loaded into, and counts them and their bytes.
  *
  * REFUSE=K refuses the K-th request after each line "now" that the program writes to its standard output, up to the line
  * "end", or, with REFUSE_FROM=start, the K-th after it began. Each call of malloc, calloc, realloc or aligned_alloc and
  * its like is a request; giving memory back isn't one. At each line "end", or when the program ends, the number of requests
- * goes to the file descriptor REFUSE_COUNT, with the word "refused" if one was refused. */
+ * and of bytes goes to the file descriptor REFUSE_COUNT, with the word "refused" if one was refused. */
 #define _GNU_SOURCE
 #include <errno.h>
 #include <stddef.h>
@@ -20,6 +20,7 @@ extern void *__libc_realloc(void *, size_t);
 extern void *__libc_memalign(size_t, size_t);
 
 static long refused_at, requests;
+static size_t bytes;
 static int counting, refused, counts = -1;
 
 __attribute__((constructor)) static void begin(void)
@@ -33,7 +34,7 @@ __attribute__((constructor)) static void begin(void)
 static void end_count(void)
 {
     char said[64];
-    int length = snprintf(said, sizeof said, "%ld requests%s\n", requests, refused ? ", refused" : "");
+    int length = snprintf(said, sizeof said, "%ld %zu%s\n", requests, bytes, refused ? " refused" : "");
     if (counting && counts >= 0 && length > 0)
         syscall(SYS_write, counts, said, (size_t)length);
     counting = 0;
@@ -41,25 +42,28 @@ static void end_count(void)
 
 __attribute__((destructor)) static void end(void) { end_count(); }
 
-static int refuses(void)
+static int refuses(size_t size)
 {
-    if (!counting || ++requests != refused_at)
+    if (!counting)
+        return 0;
+    bytes += size;
+    if (++requests != refused_at)
         return 0;
     refused = 1;
     errno = ENOMEM;
     return 1;
 }
 
-#define REQUEST(call, ...) \
+#define REQUEST(asked, call, ...) \
     { \
-        return refuses() ? NULL : call(__VA_ARGS__); \
+        return refuses(asked) ? NULL : call(__VA_ARGS__); \
     }
 
-void *malloc(size_t size) REQUEST(__libc_malloc, size)
-void *calloc(size_t count, size_t size) REQUEST(__libc_calloc, count, size)
-void *realloc(void *block, size_t size) REQUEST(__libc_realloc, block, size)
-void *aligned_alloc(size_t align, size_t size) REQUEST(__libc_memalign, align, size)
-void *memalign(size_t align, size_t size) REQUEST(__libc_memalign, align, size)
+void *malloc(size_t size) REQUEST(size, __libc_malloc, size)
+void *calloc(size_t count, size_t size) REQUEST(count * size, __libc_calloc, count, size)
+void *realloc(void *block, size_t size) REQUEST(size, __libc_realloc, block, size)
+void *aligned_alloc(size_t align, size_t size) REQUEST(size, __libc_memalign, align, size)
+void *memalign(size_t align, size_t size) REQUEST(size, __libc_memalign, align, size)
 
 int posix_memalign(void **block, size_t align, size_t size)
 {
@@ -67,10 +71,10 @@ int posix_memalign(void **block, size_t align, size_t size)
     return *block ? 0 : ENOMEM;
 }
 
-static int is_line(const char *line, struct iovec bytes)
+static int is_line(const char *line, struct iovec part)
 {
-    const char *start = bytes.iov_base;
-    return bytes.iov_len >= 3 && memcmp(start, line, 3) == 0 && (bytes.iov_len == 3 || start[3] == '\n');
+    const char *start = part.iov_base;
+    return part.iov_len >= 3 && memcmp(start, line, 3) == 0 && (part.iov_len == 3 || start[3] == '\n');
 }
 
 /* The line "now" begins a count, and the line "end" ends it. */
@@ -79,6 +83,7 @@ ssize_t writev(int fd, const struct iovec *parts, int count)
     ssize_t done = syscall(SYS_writev, fd, parts, count);
     if (fd == 1 && count > 0 && is_line("now", *parts)) {
         requests = refused = 0;
+        bytes = 0;
         counting = 1;
     } else if (fd == 1 && count > 0 && is_line("end", *parts)) {
         end_count();
@@ -86,8 +91,8 @@ ssize_t writev(int fd, const struct iovec *parts, int count)
     return done;
 }
 
-ssize_t write(int fd, const void *bytes, size_t length)
+ssize_t write(int fd, const void *text, size_t length)
 {
-    struct iovec part = {(void *)bytes, length};
+    struct iovec part = {(void *)text, length};
     return writev(fd, &part, 1);
 }

@@ -1,21 +1,18 @@
-//! Tests of reading and of lists: tables of texts with answers from outside.
+//! Tests over all short texts, by rules that need no table (crates/mime_tables has the tables); printing into writers that
+//! refuse; and constants in clauses.
 #![tactic(auto)]
 
 #[cfg(test)]
-mod atoms;
+mod against_texts;
 #[cfg(test)]
-mod described;
+mod alphabet;
 #[cfg(test)]
-mod faults;
+mod constants;
 #[cfg(test)]
-mod items;
-#[cfg(test)]
-mod long_texts;
-#[cfg(test)]
-mod parameters;
-#[cfg(test)]
-mod parts;
+mod names;
 #[cfg(test)]
 mod plain_cuts;
+#[cfg(test)]
+mod refusing_writer;
 #[cfg(test)]
 mod short_texts;

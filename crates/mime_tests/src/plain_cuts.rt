@@ -1,8 +1,8 @@
 //! All texts of at most 5 characters over nine that matter: the items are those of a plain cut, which
 //! is found by reading alone.
 
-use crate::items::{items_of, push_item};
-use mime::Mime;
+use crate::alphabet::{is_completed_by, spell};
+use mime::{Bad, Mime, MimeIter};
 use std::alloc::{AllocError, Global};
 use std::test::Fail;
 
@@ -13,12 +13,8 @@ const COUNTS: [u32; 6] = [1, 9, 81, 729, 6_561, 59_049];
 
 /// Whether one of the completions makes the text an accepted one.
 fn is_viable(alloc: Global, front: &str) -> Result<bool, AllocError> {
-    let mut text = String::new(alloc);
     for completion in ["", "x/x", "=x", "x", "x\""] {
-        text.clear();
-        text.push_str(front)?;
-        text.push_str(completion)?;
-        if Mime::from_str(alloc, text.as_str()).is_ok() {
+        if is_completed_by(alloc, front, completion)? {
             return Ok(true);
         }
     }
@@ -26,69 +22,64 @@ fn is_viable(alloc: Global, front: &str) -> Result<bool, AllocError> {
 }
 
 /// The longest front of a text that is viable.
-fn longest_front(alloc: Global, text: &str) -> Result<String, AllocError> {
-    let mut front = String::new(alloc);
-    let mut longest = String::new(alloc);
-    for character in text.chars() {
-        front.push(character)?;
-        if is_viable(alloc, front.as_str())? {
-            longest.clear();
-            longest.push_str(front.as_str())?;
+fn longest_front(alloc: Global, text: &str) -> Result<&str, AllocError> {
+    let mut longest = "";
+    for end in 0..=text.len() {
+        if let Some(front) = text.get(..end) {
+            if is_viable(alloc, front)? {
+                longest = front;
+            }
         }
     }
     Ok(longest)
 }
 
-/// Adds what a piece is to a row.
-fn push_piece(alloc: Global, row: &mut String, piece: &str) -> Result<(), AllocError> {
-    match Mime::from_str(alloc, piece) {
-        Ok(mime) => push_item(row, "ok ", mime.as_str()),
-        Err(_) => push_item(row, "bad ", piece),
+/// Whether an item is what this piece is read as, or else the piece.
+fn is_item(alloc: Global, item: Option<Result<Mime, Bad<'_>>>, piece: &str) -> bool {
+    match (item, Mime::from_str(alloc, piece)) {
+        (Some(Ok(item)), Ok(mime)) => item == mime && item.as_str() == mime.as_str(),
+        (Some(Err(Bad::Piece(bad))), Err(_)) => bad == piece,
+        _ => false,
     }
 }
 
-/// The items of the plain cut, and its steps: one for each byte of a piece, and one for each
-/// character between pieces.
-fn plain_cut(alloc: Global, text: &str) -> Result<(String, u128), AllocError> {
-    let mut row = String::new(alloc);
+/// Whether an iterator gives the items of the plain cut, with a step for each byte of a piece, and
+/// one for each character between pieces.
+fn is_cut_plainly(alloc: Global, text: &str) -> Result<bool, AllocError> {
+    let mut iter = MimeIter::new(alloc, text);
     let mut steps = 0u128;
     let mut left = text;
     for _ in 0..6usize {
         let piece = longest_front(alloc, left)?;
         steps = steps.wrapping_add(piece.len() as u128);
-        let mut others = left.strip_prefix(piece.as_str()).unwrap_or("").chars();
-        if others.next().is_none() {
-            // An unfinished last piece is no item.
-            if Mime::from_str(alloc, piece.as_str()).is_ok() {
-                push_piece(alloc, &mut row, piece.as_str())?;
-            }
-            return Ok((row, steps));
+        let mut others = left.strip_prefix(piece).unwrap_or("").chars();
+        let is_last = others.next().is_none();
+        // An unfinished last piece is no item.
+        let is_due = if is_last {
+            Mime::from_str(alloc, piece).is_ok()
+        } else {
+            !piece.is_empty()
+        };
+        if is_due && !is_item(alloc, iter.next(), piece) {
+            return Ok(false);
+        }
+        if is_last {
+            return Ok(iter.next().is_none() && iter.steps() == steps);
         }
         steps = steps.wrapping_add(1);
-        if !piece.is_empty() {
-            push_piece(alloc, &mut row, piece.as_str())?;
-        }
         left = others.as_str();
     }
-    Ok((row, steps))
+    Ok(false)
 }
 
 #[test]
 fn all_short_texts_are_cut_plainly(rt: HostRuntime) -> Result<(), Fail> {
-    let alloc = rt.alloc();
-    let mut text = String::new(alloc);
+    let mut text = String::new(rt.alloc());
     for (len, count) in COUNTS.iter().enumerate() {
         for number in 0..*count {
-            text.clear();
-            let mut rest = number;
-            for _ in 0..len {
-                text.push(ALPHABET[rest as usize % 9])?;
-                rest /= 9;
-            }
-            let (expected, steps) = plain_cut(alloc, text.as_str())?;
-            let (items, taken) = items_of(&rt, alloc, text.as_str())?;
-            assert_eq!(rt; items.as_str(), expected.as_str(), "{text:?}");
-            assert_eq!(rt; taken, steps, "{text:?}");
+            spell(&mut text, &ALPHABET, number, len)?;
+            let is_plain = is_cut_plainly(rt.alloc(), text.as_str())?;
+            assert!(rt; is_plain, "{text:?}");
         }
     }
     Ok(())

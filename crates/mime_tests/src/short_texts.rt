@@ -1,91 +1,81 @@
 //! All texts of at most 7 bytes over eight bytes that matter: each verdict agrees with those on the
 //! text completed, and on its front.
 
+use crate::alphabet::{is_completed_by, spell};
 use mime::{Mime, ParseError};
-use std::alloc::Global;
-use std::process::Abort;
+use std::alloc::{AllocError, Global};
 use std::test::Fail;
 
-const ALPHABET: [u8; 8] = *b"a/;=\"\\ ,";
+const ALPHABET: [char; 8] = ['a', '/', ';', '=', '"', '\\', ' ', ','];
 
 /// How many texts over the alphabet have 0, 1, .. and 7 bytes.
 const COUNTS: [u32; 8] = [1, 8, 64, 512, 4_096, 32_768, 262_144, 2_097_152];
 
-/// The fault of some bytes, or none if they are accepted.
-fn fault_of(rt: &impl Abort, alloc: Global, bytes: &[u8]) -> Result<Option<ParseError>, Fail> {
-    let text = str::from_utf8(bytes)?;
-    let fault = Mime::from_str(alloc, text)
+/// The fault of a text, or none if it is accepted.
+fn fault_of(alloc: Global, text: &str) -> Option<ParseError> {
+    Mime::from_str(alloc, text)
         .err()
-        .map(|error| *error.fault());
-    assert!(rt; fault != Some(ParseError::NoMemory), "{text:?}");
-    Ok(fault)
+        .map(|error| *error.fault())
 }
 
-/// Whether the text is accepted with the completion after it. The buffer is left as it was.
-fn is_completed(
-    rt: &impl Abort,
-    alloc: Global,
-    text: &mut Vec<u8>,
-    completion: &[u8],
-) -> Result<bool, Fail> {
-    let len = text.len();
-    text.extend_from_slice(completion)?;
-    let fault = fault_of(rt, alloc, text.as_slice())?;
-    text.truncate(len);
-    Ok(fault.is_none())
+/// Which completions make a text an accepted one: `x/x`, `x` after a slash, `=x`, `x` after an equals sign, `x"`.
+fn completions_of(alloc: Global, text: &str) -> Result<[bool; 5], AllocError> {
+    let by_letter = is_completed_by(alloc, text, "x")?;
+    Ok([
+        is_completed_by(alloc, text, "x/x")?,
+        by_letter && text.ends_with('/'),
+        is_completed_by(alloc, text, "=x")?,
+        by_letter && text.ends_with('='),
+        is_completed_by(alloc, text, "x\"")?,
+    ])
 }
 
-fn check(rt: &impl Abort, alloc: Global, text: &mut Vec<u8>) -> Result<(), Fail> {
-    let fault = fault_of(rt, alloc, text.as_slice())?;
-    let by_letter = is_completed(rt, alloc, text, b"x")?;
-    let last = text.last().copied();
-    let completed = [
-        is_completed(rt, alloc, text, b"x/x")?,
-        by_letter && last == Some(b'/'),
-        is_completed(rt, alloc, text, b"=x")?,
-        by_letter && last == Some(b'='),
-        is_completed(rt, alloc, text, b"x\"")?,
-    ];
-    let expected = match fault {
+/// The completions that a fault names. An accepted text lacks nothing, and one with an invalid byte can't be completed.
+fn completions_for(fault: Option<ParseError>) -> [bool; 5] {
+    match fault {
         Some(ParseError::MissingSlash) => [true, false, false, false, false],
         Some(ParseError::MissingSubtype) => [false, true, false, false, false],
         Some(ParseError::MissingEqual) => [false, false, true, false, false],
         Some(ParseError::MissingValue) => [false, false, false, true, false],
         Some(ParseError::MissingQuote) => [false, false, false, false, true],
-        // An accepted text lacks nothing, and one with an invalid byte can't be completed.
         _ => [false; 5],
-    };
-    assert!(rt; completed == expected, "{text:?}");
-    if let Some(ParseError::InvalidToken { pos, byte }) = fault {
-        assert!(rt; pos < text.len() && text[pos] == byte, "{text:?}");
-        if pos + 1 < text.len() {
-            // The bytes up to the invalid one, with it, have the same fault.
-            let dead = fault_of(rt, alloc, &text[..pos + 1])?;
-            assert!(rt; dead == fault, "{text:?}");
-        } else {
-            // The bytes before it have another fault, or none.
-            let front = fault_of(rt, alloc, &text[..pos])?;
-            assert!(rt;
-                !matches!(front, Some(ParseError::InvalidToken { .. })),
-                "{text:?}"
-            );
-        }
     }
-    Ok(())
+}
+
+/// Whether a byte at a position is the first that no accepted text has there: the bytes up to it, with it, have this fault,
+/// and those before it have another, or none.
+fn is_first(alloc: Global, text: &str, pos: usize, byte: u8) -> bool {
+    let (Some(front), Some(dead)) = (text.get(..pos), text.get(..pos.wrapping_add(1))) else {
+        return false;
+    };
+    let is_live = !matches!(
+        fault_of(alloc, front),
+        Some(ParseError::InvalidToken { .. })
+    );
+    let fault = Some(ParseError::InvalidToken { pos, byte });
+    is_live && dead.as_bytes().last() == Some(&byte) && fault_of(alloc, dead) == fault
+}
+
+fn agrees(alloc: Global, text: &str) -> Result<bool, AllocError> {
+    let fault = fault_of(alloc, text);
+    if completions_of(alloc, text)? != completions_for(fault) {
+        return Ok(false);
+    }
+    Ok(match fault {
+        Some(ParseError::InvalidToken { pos, byte }) => is_first(alloc, text, pos, byte),
+        Some(ParseError::NoMemory) => false,
+        _ => true,
+    })
 }
 
 #[test]
 fn verdicts_agree_on_all_short_texts(rt: HostRuntime) -> Result<(), Fail> {
-    let mut text = Vec::with_capacity(rt.alloc(), 16)?;
+    let mut text = String::with_capacity(rt.alloc(), 16)?;
     for (len, count) in COUNTS.iter().enumerate() {
         for number in 0..*count {
-            text.clear();
-            let mut rest = number;
-            for _ in 0..len {
-                text.push(ALPHABET[rest as usize % 8])?;
-                rest /= 8;
-            }
-            check(&rt, rt.alloc(), &mut text)?;
+            spell(&mut text, &ALPHABET, number, len)?;
+            let is_right = agrees(rt.alloc(), text.as_str())?;
+            assert!(rt; is_right, "{text:?}");
         }
     }
     Ok(())

@@ -1,6 +1,6 @@
 -- What the bytes fed so far made of the state.
 use Rattle.std.proofs.Common.{◌≡◌, ◌+◌, ◌*◌, ◌%◌, ◌^◌, take, fold}
-use Rattle.mime_compared.proofs.names.DigitsHasher.write.Given as goal
+use Rattle.mime_tables.proofs.relations.DigitsHasher.write.Given as goal
 
 abbrev pub invariant-loop-byte : goal.invariant-loop-byte
 invariant-loop-byte l =

@@ -1,7 +1,7 @@
 -- One byte more is one step more.
 use Rattle.std.proofs.Common.{take_all, rules}
 use Rattle.std.proofs.hash.Loops.{byte_more}
-use Rattle.mime_compared.proofs.names.DigitsHasher.write.Goals as goal
+use Rattle.mime_tables.proofs.relations.DigitsHasher.write.Goals as goal
 
 pub loop-byte-preserved : goal.loop-byte-preserved
 loop-byte-preserved c = search (rules, byte_more)

@@ -1,0 +1,168 @@
+//! The constants, and the classes of bytes.
+
+use crate::relations::relation;
+use crate::values::{parts_of, print_copy, sign};
+use mime::{
+    APPLICATION, APPLICATION_JAVASCRIPT, APPLICATION_JAVASCRIPT_UTF_8, APPLICATION_JSON,
+    APPLICATION_MSGPACK, APPLICATION_OCTET_STREAM, APPLICATION_PDF,
+    APPLICATION_WWW_FORM_URLENCODED, AUDIO, Atom, BASIC, BMP, BOUNDARY, CHARSET, CSS, CSV,
+    EVENT_STREAM, FONT, FONT_WOFF, FONT_WOFF2, FORM_DATA, GIF, HTML, IMAGE, IMAGE_BMP, IMAGE_GIF,
+    IMAGE_JPEG, IMAGE_PNG, IMAGE_STAR, IMAGE_SVG, JAVASCRIPT, JPEG, JSON, MESSAGE, MODEL, MP4,
+    MPEG, MSGPACK, MULTIPART, MULTIPART_FORM_DATA, Mime, Name, OCTET_STREAM, OGG, PDF, PLAIN, PNG,
+    ParseError, STAR, STAR_STAR, SVG, TEXT, TEXT_CSS, TEXT_CSS_UTF_8, TEXT_CSV, TEXT_CSV_UTF_8,
+    TEXT_EVENT_STREAM, TEXT_HTML, TEXT_HTML_UTF_8, TEXT_JAVASCRIPT, TEXT_JAVSCRIPT, TEXT_PLAIN,
+    TEXT_PLAIN_UTF_8, TEXT_STAR, TEXT_TAB_SEPARATED_VALUES, TEXT_TAB_SEPARATED_VALUES_UTF_8,
+    TEXT_VCARD, TEXT_XML, UTF_8, VCARD, VIDEO, WOFF, WOFF2, WWW_FORM_URLENCODED, XML,
+    is_quoted_byte, is_quoted_text_byte, is_token, name_eq_str,
+};
+use std::collections::{BTreeSet, HashSet};
+use std::io;
+
+/// The constant media types. The last is an old spelling of another.
+static ATOMS: &[Atom] = &[
+    STAR_STAR,
+    TEXT_STAR,
+    TEXT_PLAIN,
+    TEXT_PLAIN_UTF_8,
+    TEXT_HTML,
+    TEXT_HTML_UTF_8,
+    TEXT_CSS,
+    TEXT_CSS_UTF_8,
+    TEXT_JAVASCRIPT,
+    TEXT_XML,
+    TEXT_EVENT_STREAM,
+    TEXT_CSV,
+    TEXT_CSV_UTF_8,
+    TEXT_TAB_SEPARATED_VALUES,
+    TEXT_TAB_SEPARATED_VALUES_UTF_8,
+    TEXT_VCARD,
+    IMAGE_STAR,
+    IMAGE_JPEG,
+    IMAGE_GIF,
+    IMAGE_PNG,
+    IMAGE_BMP,
+    IMAGE_SVG,
+    FONT_WOFF,
+    FONT_WOFF2,
+    APPLICATION_JSON,
+    APPLICATION_JAVASCRIPT,
+    APPLICATION_JAVASCRIPT_UTF_8,
+    APPLICATION_WWW_FORM_URLENCODED,
+    APPLICATION_OCTET_STREAM,
+    APPLICATION_MSGPACK,
+    APPLICATION_PDF,
+    MULTIPART_FORM_DATA,
+    TEXT_JAVSCRIPT,
+];
+
+/// The constant names.
+static NAMES: &[Name<'static>] = &[
+    STAR,
+    TEXT,
+    IMAGE,
+    AUDIO,
+    VIDEO,
+    APPLICATION,
+    MULTIPART,
+    MESSAGE,
+    MODEL,
+    FONT,
+    PLAIN,
+    HTML,
+    XML,
+    JAVASCRIPT,
+    CSS,
+    CSV,
+    EVENT_STREAM,
+    VCARD,
+    JSON,
+    WWW_FORM_URLENCODED,
+    MSGPACK,
+    OCTET_STREAM,
+    PDF,
+    WOFF,
+    WOFF2,
+    FORM_DATA,
+    BMP,
+    GIF,
+    JPEG,
+    PNG,
+    SVG,
+    BASIC,
+    MPEG,
+    MP4,
+    OGG,
+    CHARSET,
+    BOUNDARY,
+    UTF_8,
+];
+
+/// The constant that equals a media type.
+pub(crate) fn constant_of(mime: &Mime) -> Option<Atom> {
+    for atom in ATOMS {
+        if atom.mime() == *mime {
+            return Some(*atom);
+        }
+    }
+    None
+}
+
+/// The constant name that equals a text.
+pub(crate) fn name_of(text: &str) -> Option<Name<'static>> {
+    for name in NAMES {
+        if name_eq_str(name, text) {
+            return Some(*name);
+        }
+    }
+    None
+}
+
+/// Prints the constants: names, and media types with their parts; whether a text that is read as one is found among those before it;
+/// and their copies, which ask for no memory.
+pub(crate) fn constants(rt: &HostRuntime) -> io::Result<()> {
+    for name in NAMES {
+        println!(rt; "{}{name}", sign(*name))?;
+    }
+    let fault = ParseError::NoMemory;
+    println!(rt; "{fault}|{fault:>99}|{fault:?}")?;
+    print_atoms(rt)?;
+    println!(rt; "now")?;
+    for atom in ATOMS {
+        print_copy(rt, &atom.mime())?;
+    }
+    println!(rt; "end")
+}
+
+/// Prints the constant media types with their parts.
+fn print_atoms(rt: &HostRuntime) -> io::Result<()> {
+    let alloc = rt.alloc();
+    let mut hashed = HashSet::new(alloc);
+    let mut ordered = BTreeSet::new(alloc);
+    for atom in ATOMS {
+        let parts = parts_of(alloc, &atom.mime())?;
+        println!(rt; "{atom:?}: {parts}")?;
+        let Ok(read) = Mime::from_str(alloc, atom.text()) else {
+            return println!(rt; "not a media type");
+        };
+        let is_new = hashed.insert(atom.mime())? && ordered.insert(atom.mime())?;
+        let is_found = hashed.contains(&read) && ordered.contains(&read);
+        let sign = relation(&atom.mime(), &read);
+        println!(rt; "{sign} what is read, new {is_new}, found {is_found}")?;
+    }
+    Ok(())
+}
+
+/// Prints each byte with the classes that it is in.
+pub(crate) fn bytes(rt: &HostRuntime) -> io::Result<()> {
+    for byte in 0..=255u8 {
+        let token = if is_token(byte) { " token" } else { "" };
+        let text = if is_quoted_text_byte(byte) {
+            " text"
+        } else {
+            ""
+        };
+        let quoted = if is_quoted_byte(byte) { " quoted" } else { "" };
+        println!(rt; "{byte}{token}{text}{quoted}")?;
+    }
+    Ok(())
+}

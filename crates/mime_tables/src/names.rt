@@ -1,0 +1,58 @@
+//! Names against each other.
+
+use crate::relations::{Digits, sign_of};
+use mime::{Name, name_eq_str};
+use std::hash::{Hash, Hasher};
+use std::io;
+
+/// A name that a field stands for: `~` before its text says that it ignores case, `=` that it doesn't.
+fn name_of(field: &str) -> Name<'_> {
+    match field.strip_prefix('~') {
+        Some(text) => Name {
+            text,
+            ignores_case: true,
+        },
+        None => Name {
+            text: field.strip_prefix('=').unwrap_or(field),
+            ignores_case: false,
+        },
+    }
+}
+
+fn hash_of(name: Name<'_>) -> u64 {
+    let mut state = Digits(1);
+    name.hash(&mut state);
+    state.finish()
+}
+
+/// How two names compare; `?` where order, equality and hashes don't agree.
+fn relation(one: Name<'_>, other: Name<'_>) -> char {
+    let order = one.cmp(&other);
+    let is_same = order.is_eq();
+    let by_hash = (hash_of(one) == hash_of(other)) == is_same;
+    let by_eq = (one == other) == is_same && (one != other) != is_same;
+    if by_hash && by_eq && one.partial_cmp(&other) == Some(order) {
+        sign_of(order)
+    } else {
+        '?'
+    }
+}
+
+/// Prints names: a line for each, within several widths, with its relation to each, and whether it equals that one's text (`t`).
+pub(crate) fn names(rt: &HostRuntime, fields: &[String]) -> io::Result<()> {
+    for field in fields {
+        let name = name_of(field.as_str());
+        print!(rt; "{name}|{name:>6}|{name:<6}|{name:*^8}|{name:2}|{name:-<3}|{name:?}|")?;
+        for field in fields {
+            let other = name_of(field.as_str());
+            let is_text = if name_eq_str(&name, other.text) {
+                't'
+            } else {
+                ' '
+            };
+            print!(rt; "{}{is_text}", relation(name, other))?;
+        }
+        println!(rt; "|")?;
+    }
+    Ok(())
+}

@@ -1,0 +1,211 @@
+//! What one value tells.
+
+ghost use Rattle.std.specs.Prelude.{◌≡◌, codes};
+
+use crate::constants::{constant_of, name_of};
+use crate::fields::print_line;
+use crate::items::all_items;
+use mime::{Mime, MimeIter, Name, ParamKey, TextKey, name_eq_str};
+use std::alloc::{AllocError, Global};
+use std::fmt::Write;
+use std::io;
+
+/// Prints what a text is read as.
+pub(crate) fn read(rt: &HostRuntime, text: &str) -> io::Result<()> {
+    println!(rt; "now")?;
+    match Mime::from_str(rt.alloc(), text) {
+        Ok(mime) => println!(rt; "ok {}", mime.as_str())?,
+        Err(error) => println!(rt; "bad {error}")?,
+    }
+    println!(rt; "end")
+}
+
+/// Clones what a text was read as, and the constant that equals it. The original is printed too, since a clone that is refused
+/// leaves it as it was.
+pub(crate) fn clone(rt: &HostRuntime, text: &str) -> io::Result<()> {
+    let Ok(original) = Mime::from_str(rt.alloc(), text) else {
+        println!(rt; "now")?;
+        println!(rt; "not a media type")?;
+        return println!(rt; "end");
+    };
+    println!(rt; "now")?;
+    print_copy(rt, &original)?;
+    println!(rt; "original {}", original.as_str())?;
+    println!(rt; "end")
+}
+
+pub(crate) fn print_copy(rt: &HostRuntime, original: &Mime) -> io::Result<()> {
+    match original.clone() {
+        Ok(copy) => println!(rt; "ok {}, equal: {}", copy.as_str(), copy == *original),
+        Err(_) => println!(rt; "no memory"),
+    }
+}
+
+/// The sign of a name in tables: whether it ignores case.
+pub(crate) fn sign(name: Name<'_>) -> char {
+    if name.ignores_case { '~' } else { '=' }
+}
+
+/// The parts of a media type: kept text, type, subtype, suffix (`-` for none), essence, and each parameter. Before a name that
+/// ignores case is `~`, before one that doesn't `=`.
+pub(crate) fn parts_of(alloc: Global, mime: &Mime) -> Result<String, AllocError> {
+    let (top, sub) = (mime.type_(), mime.subtype());
+    let mut line = format!(in alloc; "{mime} | {}{top} | {}{sub} | ", sign(top), sign(sub))?;
+    match mime.suffix() {
+        Some(suffix) => write!(line, "{}{suffix}", sign(suffix))?,
+        None => line.push('-')?,
+    }
+    write!(line, " | {}", mime.essence_str())?;
+    for (name, value) in mime.params() {
+        write!(line, " | {}{name}{}{value}", sign(name), sign(value))?;
+    }
+    Ok(line)
+}
+
+/// How many parameters there are, if each size hint says so and none comes after the last.
+fn counted(mime: &Mime) -> Option<usize> {
+    let mut params = mime.params();
+    let (count, _) = params.size_hint();
+    for taken in 0..count {
+        let left = count - taken;
+        if params.size_hint() != (left, Some(left)) || params.next().is_none() {
+            return None;
+        }
+    }
+    for _ in 0..3 {
+        if params.size_hint() != (0, Some(0)) || params.next().is_some() {
+            return None;
+        }
+    }
+    Some(count)
+}
+
+/// Whether a text is read as this value, with these parts.
+fn is_read_as(alloc: Global, text: &str, mime: &Mime, parts: &str) -> Result<bool, AllocError> {
+    match Mime::from_str(alloc, text) {
+        Ok(read) => Ok(read == *mime && parts_of(alloc, &read)?.as_str() == parts),
+        Err(_) => Ok(false),
+    }
+}
+
+/// Prints a value, and whether its text is read as it and a copy is as it was, once the value itself is gone.
+fn print_value(rt: &HostRuntime, mime: Mime) -> io::Result<()> {
+    let parts = parts_of(rt.alloc(), &mime)?;
+    print_line(rt, "ok ", parts.as_str())?;
+    let count = counted(&mime);
+    let constant = constant_of(&mime);
+    println!(rt; "parameters {count:?}, constant {constant:?}")?;
+    let is_read = is_read_as(rt.alloc(), mime.as_str(), &mime, parts.as_str())?;
+    let copy = mime.clone()?;
+    let is_equal = copy == mime;
+    drop(mime);
+    let is_same = is_equal && parts_of(rt.alloc(), &copy)?.as_str() == parts.as_str();
+    println!(rt; "read again {is_read}, copied {is_same}")
+}
+
+/// Prints all that a text tells.
+pub(crate) fn parts(rt: &HostRuntime, text: &str) -> io::Result<()> {
+    match Mime::from_str(rt.alloc(), text) {
+        Ok(mime) => print_value(rt, mime)?,
+        Err(error) => {
+            let fault = error.fault();
+            println!(rt; "bad {error}")?;
+            println!(rt; "bad {error:99} | {fault:>99} | {fault:?}")?;
+        }
+    }
+    all_items(rt, text)
+}
+
+/// How many parameters are `p=x`.
+fn count_of_p(mime: &Mime) -> u64 {
+    let mut count = 0u64;
+    for (name, value) in mime.params() {
+        count = count.wrapping_add((name.text == "p" && value.text == "x") as u64);
+    }
+    count
+}
+
+/// Prints the numbers of a text with many parameters `p=x`.
+pub(crate) fn long(rt: &HostRuntime, text: &str) -> io::Result<()> {
+    let Ok(mime) = Mime::from_str(rt.alloc(), text) else {
+        return println!(rt; "not a media type");
+    };
+    let is_kept = mime.as_str() == text && mime.get_param(TextKey("q")).is_none();
+    println!(rt; "{} bytes, kept as they are {is_kept}", text.len())?;
+    println!(rt;
+        "parameters {:?}, {}",
+        mime.params().size_hint(),
+        count_of_p(&mime)
+    )?;
+    let mut iter = MimeIter::new(rt.alloc(), text);
+    let is_item = match iter.next() {
+        Some(Ok(item)) => item == mime && item.as_str() == text,
+        _ => false,
+    };
+    let is_last = iter.next().is_none();
+    println!(rt;
+        "an item {is_item}, the last {is_last}, steps {}",
+        iter.steps()
+    )?;
+    let copy = mime.clone()?;
+    println!(rt; "copied {}", copy == mime && copy.as_str() == text)
+}
+
+/// Prints a value within several widths.
+pub(crate) fn print(rt: &HostRuntime, text: &str) -> io::Result<()> {
+    match Mime::from_str(rt.alloc(), text) {
+        Ok(mime) => println!(rt;
+            "{mime}|{mime:>12}|{mime:<12}|{mime:*^14}|{mime:4}|{mime:?}|{:?}",
+            mime.params()
+        ),
+        Err(_) => println!(rt; "not a media type"),
+    }
+}
+
+/// The key that accepts the one name `foo`.
+#[derive(Clone, Copy)]
+struct Foo;
+
+impl ParamKey for Foo {
+    ghost Accepts = { λ key name ignores_case. name ≡ codes "foo" };
+
+    fn accepts(&self, name: Name<'_>) -> bool {
+        name.text == "foo"
+    }
+}
+
+/// Prints the value that a key finds, if one, and what it is against another text.
+fn print_found(
+    rt: &HostRuntime,
+    mime: &Mime,
+    found: Option<Name<'_>>,
+    other: &str,
+) -> io::Result<()> {
+    let Some(value) = found else {
+        return println!(rt; "none");
+    };
+    let is_other = name_eq_str(&value, other);
+    println!(rt; "{}{value}, as {other}: {is_other}", sign(value))?;
+    // A value is a key, too.
+    match mime.get_param(value) {
+        Some(second) => println!(rt; "its own value {}{second}", sign(second)),
+        None => println!(rt; "no value of its own"),
+    }
+}
+
+/// Prints what is found in a text by a key, as a text and as a constant, and by the key `Foo`.
+pub(crate) fn key(rt: &HostRuntime, text: &str, key: &str, other: &str) -> io::Result<()> {
+    let Ok(mime) = Mime::from_str(rt.alloc(), text) else {
+        return println!(rt; "not a media type");
+    };
+    println!(rt; "now")?;
+    let found = mime.get_param(TextKey(key));
+    print_found(rt, &mime, found, other)?;
+    if let Some(name) = name_of(key) {
+        let is_found = mime.get_param(name) == found;
+        println!(rt; "by the constant {is_found}")?;
+    }
+    let foo = mime.get_param(Foo).map_or("-", |name| name.as_str());
+    println!(rt; "foo {foo}")?;
+    println!(rt; "end")
+}
