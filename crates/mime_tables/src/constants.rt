@@ -1,5 +1,7 @@
 //! The constants, and the classes of bytes.
 
+ghost use Rattle.std.specs.Prelude.{◌≡◌, ◌↔◌, ◌⊎◌, IsTrue};
+
 use crate::relations::relation;
 use crate::values::{parts_of, print_copy, sign};
 use mime::{
@@ -117,6 +119,26 @@ pub(crate) fn name_of(text: &str) -> Option<Name<'static>> {
     None
 }
 
+/// Whether a constant is a page of HTML.
+fn is_page(atom: Atom) -> bool
+    ensures { IsTrue result ↔ (atom ≡ Atom.TEXT_HTML) ⊎ (atom ≡ Atom.TEXT_HTML_UTF_8) }
+{
+    match atom {
+        TEXT_HTML | TEXT_HTML_UTF_8 => true,
+        _ => false,
+    }
+}
+
+/// Whether a constant is JavaScript, by its old spelling, which is no variant.
+fn is_script(atom: Atom) -> bool
+    ensures { IsTrue result ↔ atom ≡ Atom.TEXT_JAVASCRIPT }
+{
+    match atom {
+        TEXT_JAVSCRIPT => true,
+        _ => false,
+    }
+}
+
 /// Prints the constants: names, and media types with their parts; whether a text that is read as one is found among those before it;
 /// and their copies, which ask for no memory.
 pub(crate) fn constants(rt: &HostRuntime) -> io::Result<()> {
@@ -141,6 +163,9 @@ fn print_atoms(rt: &HostRuntime) -> io::Result<()> {
     for atom in ATOMS {
         let parts = parts_of(alloc, &atom.mime())?;
         println!(rt; "{atom:?}: {parts}")?;
+        if is_page(*atom) || is_script(*atom) {
+            println!(rt; "a page or a script")?;
+        }
         let Ok(read) = Mime::from_str(alloc, atom.text()) else {
             return println!(rt; "not a media type");
         };

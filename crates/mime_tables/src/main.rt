@@ -9,24 +9,35 @@
 //! - `compare TEXTS`: the values against each other, and each against the texts; `pair TEXT TEXT`: two values, in few walks;
 //! - `against VALUE TEXTS`: a value against texts;
 //! - `names NAMES`: names against each other, each with `~` before it where it ignores case, and with `=` where it doesn't;
-//! - `bytes`, `constants`: the classes of bytes, and the constants.
+//! - `bytes`, `constants`: the classes of bytes, and the constants;
+//! - `case`, `rooms`: how names ignore case, and how printing fails where its writer does;
+//! - `short_verdicts`, `short_cuts`, `short_against`: all short texts, by rules that need no table.
 //!
 //! What is done between the lines `now` and `end` is done without other requests for memory than its own: there
 //! tools/refused_requests refuses and counts them, and tools/largest_inputs counts instructions.
 #![tactic(auto)]
 
+mod alphabet;
 mod constants;
 mod fields;
 mod items;
 mod names;
 mod relations;
+mod rooms;
+mod short_against;
+mod short_cuts;
+mod short_verdicts;
 mod values;
 
 use crate::constants::{bytes, constants};
 use crate::fields::text_of;
 use crate::items::{again, items};
-use crate::names::names;
+use crate::names::{case, names};
 use crate::relations::{against, compare, pair};
+use crate::rooms::rooms;
+use crate::short_against::short_against;
+use crate::short_cuts::short_cuts;
+use crate::short_verdicts::short_verdicts;
 use crate::values::{clone, key, long, parts, print, read};
 use std::io;
 use std::io::Read;
@@ -85,6 +96,11 @@ fn answer(rt: &HostRuntime, word: &str, texts: &[String]) -> io::Result<()> {
         "names" => names(rt, texts),
         "bytes" => bytes(rt),
         "constants" => constants(rt),
+        "case" => case(rt),
+        "rooms" => rooms(rt),
+        "short_verdicts" => short_verdicts(rt),
+        "short_cuts" => short_cuts(rt),
+        "short_against" => short_against(rt),
         _ => println!(rt; "no such row"),
     }
 }

@@ -56,3 +56,35 @@ pub(crate) fn names(rt: &HostRuntime, fields: &[String]) -> io::Result<()> {
     }
     Ok(())
 }
+
+/// Whether a name of the one text that ignores case equals the other text as std says.
+fn is_as_std_says(one: &[u8], other: &[u8]) -> bool {
+    let (Ok(text), Ok(other)) = (str::from_utf8(one), str::from_utf8(other)) else {
+        return false;
+    };
+    let name = Name {
+        text,
+        ignores_case: true,
+    };
+    name_eq_str(&name, other) == text.eq_ignore_ascii_case(other)
+}
+
+/// Prints in how many pairs of texts case is ignored as std ignores it: of each length up to 40 bytes, where one has each ASCII byte
+/// at each position.
+pub(crate) fn case(rt: &HostRuntime) -> io::Result<()> {
+    let text = *b"AZ@[`{azMimeMIMEmime0123456789-+.!#$%^_'";
+    let mut tried = 0u32;
+    for place in 0..text.len() {
+        for byte in 0..128 {
+            let mut other = text;
+            other[place] = byte;
+            for length in place..=text.len() {
+                if !is_as_std_says(&text[..length], &other[..length]) {
+                    return println!(rt; "not so: {byte} at {place} of {length}");
+                }
+                tried = tried.wrapping_add(1);
+            }
+        }
+    }
+    println!(rt; "{tried} pairs")
+}

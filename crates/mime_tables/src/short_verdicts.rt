@@ -4,7 +4,7 @@
 use crate::alphabet::{is_completed_by, spell};
 use mime::{Mime, ParseError};
 use std::alloc::{AllocError, Global};
-use std::test::Fail;
+use std::io;
 
 const ALPHABET: [char; 8] = ['a', '/', ';', '=', '"', '\\', ' ', ','];
 
@@ -68,15 +68,18 @@ fn agrees(alloc: Global, text: &str) -> Result<bool, AllocError> {
     })
 }
 
-#[test]
-fn verdicts_agree_on_all_short_texts(rt: HostRuntime) -> Result<(), Fail> {
+/// Prints how many short texts have a verdict that agrees, and the first that hasn't.
+pub(crate) fn short_verdicts(rt: &HostRuntime) -> io::Result<()> {
     let mut text = String::with_capacity(rt.alloc(), 16)?;
+    let mut tried = 0u32;
     for (len, count) in COUNTS.iter().enumerate() {
         for number in 0..*count {
             spell(&mut text, &ALPHABET, number, len)?;
-            let is_right = agrees(rt.alloc(), text.as_str())?;
-            assert!(rt; is_right, "{text:?}");
+            if !agrees(rt.alloc(), text.as_str())? {
+                return println!(rt; "not so: {text}");
+            }
+            tried = tried.wrapping_add(1);
         }
     }
-    Ok(())
+    println!(rt; "{tried} texts")
 }

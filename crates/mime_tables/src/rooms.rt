@@ -1,11 +1,8 @@
 //! Printing fails exactly where the writer does.
 
 use mime::{Mime, Name, ParseError};
-use std::alloc::Global;
-use std::fmt;
 use std::fmt::Write;
-use std::process::Abort;
-use std::test::Fail;
+use std::{fmt, io};
 
 /// Takes as many bytes as there is room for, and refuses a text that is longer.
 #[derive(Drop)]
@@ -21,18 +18,15 @@ impl Write for Room {
     }
 }
 
-/// Checks that a value is printed where there is room for all of it, and refused where there is less.
-fn check_rooms<D: fmt::Display>(rt: &impl Abort, alloc: Global, value: &D) -> Result<(), Fail> {
-    let text = format!(in alloc; "{value}")?;
+/// Prints whether a value is printed where there is room for all of it, and refused where there is less.
+fn print_rooms<D: fmt::Display>(rt: &HostRuntime, value: &D) -> io::Result<()> {
+    let text = format!(in rt.alloc(); "{value}")?;
+    let mut is_right = true;
     for room in 0..=text.len() {
         let answer = write!(Room(room), "{value}");
-        assert_eq!(rt;
-            answer.is_ok(),
-            room == text.len(),
-            "{text} into {room} bytes"
-        );
+        is_right = is_right && answer.is_ok() == (room == text.len());
     }
-    Ok(())
+    println!(rt; "{text}: {is_right}")
 }
 
 /// A name that prints its quoted form.
@@ -45,22 +39,21 @@ impl fmt::Display for Quoted<'_> {
     }
 }
 
-#[test]
-fn a_refusal_is_passed_on(rt: HostRuntime) -> Result<(), Fail> {
+/// Prints whether names, errors and faults are refused exactly where their writer refuses them.
+pub(crate) fn rooms(rt: &HostRuntime) -> io::Result<()> {
     for text in ["charset", "", "é\n"] {
         let name = Name {
             text,
             ignores_case: true,
         };
-        check_rooms(&rt, rt.alloc(), &name)?;
-        check_rooms(&rt, rt.alloc(), &Quoted(name))?;
+        print_rooms(rt, &name)?;
+        print_rooms(rt, &Quoted(name))?;
     }
     for text in ["", "a/b;p", "a/b;p=\"", "a b", "a/b;p=\"\n"] {
-        let Err(error) = Mime::from_str(rt.alloc(), text) else {
-            panic!(rt; "{text:?} is accepted");
-        };
-        check_rooms(&rt, rt.alloc(), &error)?;
-        check_rooms(&rt, rt.alloc(), error.fault())?;
+        if let Err(error) = Mime::from_str(rt.alloc(), text) {
+            print_rooms(rt, &error)?;
+            print_rooms(rt, error.fault())?;
+        }
     }
-    check_rooms(&rt, rt.alloc(), &ParseError::NoMemory)
+    print_rooms(rt, &ParseError::NoMemory)
 }
