@@ -17,8 +17,9 @@ use mime::{
     TEXT_VCARD, TEXT_XML, UTF_8, VCARD, VIDEO, WOFF, WOFF2, WWW_FORM_URLENCODED, XML,
     is_quoted_byte, is_quoted_text_byte, is_token, name_eq_str,
 };
+use std::alloc::{AllocError, Global};
 use std::collections::{BTreeSet, HashSet};
-use std::io;
+use std::fmt::Write;
 
 /// The constant media types. The last is an old spelling of another.
 static ATOMS: &[Atom] = &[
@@ -139,46 +140,48 @@ fn is_script(atom: Atom) -> bool
     }
 }
 
-/// Prints the constants: names, and media types with their parts; whether a text that is read as one is found among those before it;
-/// and their copies, which ask for no memory.
-pub(crate) fn constants(rt: &HostRuntime) -> io::Result<()> {
+/// Prints the copies of the constant media types.
+pub(crate) fn copies(out: &mut String) -> Result<(), AllocError> {
+    for atom in ATOMS {
+        print_copy(out, &atom.mime())?;
+    }
+    Ok(())
+}
+
+/// Prints the constants: names, and media types with their parts, and whether a set of those before finds what the text of one is
+/// read as.
+pub(crate) fn constants(alloc: Global, out: &mut String) -> Result<(), AllocError> {
     for name in NAMES {
-        println!(rt; "{}{name}", sign(*name))?;
+        writeln!(out, "{}{name}", sign(*name))?;
     }
     let fault = ParseError::NoMemory;
-    println!(rt; "{fault}|{fault:>99}|{fault:?}")?;
-    print_atoms(rt)?;
-    println!(rt; "now")?;
-    for atom in ATOMS {
-        print_copy(rt, &atom.mime())?;
-    }
-    println!(rt; "end")
+    writeln!(out, "{fault}|{fault:>99}|{fault:?}")?;
+    print_atoms(alloc, out)
 }
 
 /// Prints the constant media types with their parts.
-fn print_atoms(rt: &HostRuntime) -> io::Result<()> {
-    let alloc = rt.alloc();
+fn print_atoms(alloc: Global, out: &mut String) -> Result<(), AllocError> {
     let mut hashed = HashSet::new(alloc);
     let mut ordered = BTreeSet::new(alloc);
     for atom in ATOMS {
         let parts = parts_of(alloc, &atom.mime())?;
-        println!(rt; "{atom:?}: {parts}")?;
+        writeln!(out, "{atom:?}: {parts}")?;
         if is_page(*atom) || is_script(*atom) {
-            println!(rt; "a page or a script")?;
+            writeln!(out, "a page or a script")?;
         }
         let Ok(read) = Mime::from_str(alloc, atom.text()) else {
-            return println!(rt; "not a media type");
+            return writeln!(out, "not a media type");
         };
         let is_new = hashed.insert(atom.mime())? && ordered.insert(atom.mime())?;
         let is_found = hashed.contains(&read) && ordered.contains(&read);
         let sign = relation(&atom.mime(), &read);
-        println!(rt; "{sign} what is read, new {is_new}, found {is_found}")?;
+        writeln!(out, "{sign} what is read, new {is_new}, found {is_found}")?;
     }
     Ok(())
 }
 
 /// Prints each byte with the classes that it is in.
-pub(crate) fn bytes(rt: &HostRuntime) -> io::Result<()> {
+pub(crate) fn bytes(out: &mut String) -> Result<(), AllocError> {
     for byte in 0..=255u8 {
         let token = if is_token(byte) { " token" } else { "" };
         let text = if is_quoted_text_byte(byte) {
@@ -187,7 +190,7 @@ pub(crate) fn bytes(rt: &HostRuntime) -> io::Result<()> {
             ""
         };
         let quoted = if is_quoted_byte(byte) { " quoted" } else { "" };
-        println!(rt; "{byte}{token}{text}{quoted}")?;
+        writeln!(out, "{byte}{token}{text}{quoted}")?;
     }
     Ok(())
 }

@@ -2,7 +2,6 @@
 
 use std::alloc::{AllocError, Global};
 use std::fmt::Write;
-use std::io;
 
 /// The text that a field of a table stands for: the signs from U+2400 on stand for the controls, U+2421 for the byte 127,
 /// and `⟨part×count⟩` for so many parts.
@@ -80,6 +79,11 @@ fn show(shown: &mut String, character: Option<char>, count: usize) -> Result<(),
 }
 
 /// Prints a line, with long runs of one character shortened.
-pub(crate) fn print_line(rt: &HostRuntime, kind: &str, text: &str) -> io::Result<()> {
-    println!(rt; "{kind}{}", shown(rt.alloc(), text)?)
+pub(crate) fn print_line(
+    alloc: Global,
+    out: &mut String,
+    kind: &str,
+    text: &str,
+) -> Result<(), AllocError> {
+    writeln!(out, "{kind}{}", shown(alloc, text)?)
 }

@@ -2,57 +2,55 @@
 
 use crate::fields::print_line;
 use mime::{Bad, Mime, MimeIter};
-use std::io;
+use std::alloc::{AllocError, Global};
+use std::fmt::Write;
 
-fn print_item(rt: &HostRuntime, item: &Result<Mime, Bad<'_>>) -> io::Result<()> {
+fn print_item(out: &mut String, item: &Result<Mime, Bad<'_>>) -> Result<(), AllocError> {
     match item {
-        Ok(mime) => println!(rt; "ok {}", mime.as_str()),
-        Err(Bad::Piece(piece)) => println!(rt; "bad {piece}"),
-        Err(Bad::NoMemory) => println!(rt; "no memory"),
+        Ok(mime) => writeln!(out, "ok {}", mime.as_str()),
+        Err(Bad::Piece(piece)) => writeln!(out, "bad {piece}"),
+        Err(Bad::NoMemory) => writeln!(out, "no memory"),
     }
 }
 
 /// Prints the items that are left, and whether another comes after the end.
-fn print_rest(rt: &HostRuntime, iter: &mut MimeIter<'_>) -> io::Result<()> {
+fn print_rest(out: &mut String, iter: &mut MimeIter<'_>) -> Result<(), AllocError> {
     while let Some(item) = iter.next() {
-        print_item(rt, &item)?;
+        print_item(out, &item)?;
     }
     if iter.next().is_some() {
-        println!(rt; "an item after the end")?;
+        writeln!(out, "an item after the end")?;
     }
     Ok(())
 }
 
 /// Prints the items of a text, and the steps.
-pub(crate) fn items(rt: &HostRuntime, text: &str) -> io::Result<()> {
-    let mut iter = MimeIter::new(rt.alloc(), text);
-    println!(rt; "now")?;
-    print_rest(rt, &mut iter)?;
-    println!(rt; "end")?;
-    println!(rt; "steps {}", iter.steps())
+pub(crate) fn items(alloc: Global, out: &mut String, text: &str) -> Result<(), AllocError> {
+    let mut iter = MimeIter::new(alloc, text);
+    print_rest(out, &mut iter)?;
+    writeln!(out, "steps {}", iter.steps())
 }
 
 /// Prints the first item of a text, and those that are left, first by a clone of the iterator and then by itself.
-pub(crate) fn again(rt: &HostRuntime, text: &str) -> io::Result<()> {
-    let mut iter = MimeIter::new(rt.alloc(), text);
-    println!(rt; "now")?;
+pub(crate) fn again(alloc: Global, out: &mut String, text: &str) -> Result<(), AllocError> {
+    let mut iter = MimeIter::new(alloc, text);
     let first = iter.next();
     let mut clone = iter.clone()?;
-    print_rest(rt, &mut clone)?;
-    println!(rt; "steps {} and {}", iter.steps(), clone.steps())?;
-    print_rest(rt, &mut iter)?;
-    println!(rt; "steps {} and {}", iter.steps(), clone.steps())?;
+    print_rest(out, &mut clone)?;
+    writeln!(out, "steps {} and {}", iter.steps(), clone.steps())?;
+    print_rest(out, &mut iter)?;
+    writeln!(out, "steps {} and {}", iter.steps(), clone.steps())?;
     // It was kept while both went on.
     if let Some(item) = first {
-        print_item(rt, &item)?;
+        print_item(out, &item)?;
     }
-    println!(rt; "end")
+    Ok(())
 }
 
 /// Prints the items of a text, which are all kept until the last was taken, and the steps.
-pub(crate) fn all_items(rt: &HostRuntime, text: &str) -> io::Result<()> {
-    let mut iter = MimeIter::new(rt.alloc(), text);
-    let mut kept = Vec::new(rt.alloc());
+pub(crate) fn all_items(alloc: Global, out: &mut String, text: &str) -> Result<(), AllocError> {
+    let mut iter = MimeIter::new(alloc, text);
+    let mut kept = Vec::new(alloc);
     let mut is_exact = iter.size_hint() == (0, None);
     while let Some(item) = iter.next() {
         kept.push(item)?;
@@ -60,10 +58,10 @@ pub(crate) fn all_items(rt: &HostRuntime, text: &str) -> io::Result<()> {
     }
     for item in kept {
         match item {
-            Ok(mime) => print_line(rt, "item ok ", mime.as_str())?,
-            Err(Bad::Piece(piece)) => print_line(rt, "item bad ", piece)?,
-            Err(Bad::NoMemory) => println!(rt; "no memory")?,
+            Ok(mime) => print_line(alloc, out, "item ok ", mime.as_str())?,
+            Err(Bad::Piece(piece)) => print_line(alloc, out, "item bad ", piece)?,
+            Err(Bad::NoMemory) => writeln!(out, "no memory")?,
         }
     }
-    println!(rt; "steps {}, size hints right: {is_exact}", iter.steps())
+    writeln!(out, "steps {}, size hints right: {is_exact}", iter.steps())
 }

@@ -6,15 +6,16 @@
 //! - `long TEXT`: the numbers of a value with many parameters;
 //! - `print TEXT`: a value within several widths;
 //! - `key TEXT KEY OTHER`: the value that a key finds, and whether it equals the other text;
-//! - `compare TEXTS`: the values against each other, and each against the texts; `pair TEXT TEXT`: two values, in few walks;
+//! - `compare TEXTS`, `sets TEXTS`: the values against each other and against the texts, and in sets;
+//! - `pair TEXT TEXT`: two values, in few walks;
 //! - `against VALUE TEXTS`: a value against texts;
 //! - `names NAMES`: names against each other, each with `~` before it where it ignores case, and with `=` where it doesn't;
-//! - `bytes`, `constants`: the classes of bytes, and the constants;
+//! - `bytes`, `constants`, `copies`: the classes of bytes, the constants, and their copies;
 //! - `case`, `rooms`: how names ignore case, and how printing fails where its writer does;
 //! - `short_verdicts`, `short_cuts`, `short_against`: all short texts, by rules that need no table.
 //!
-//! What is done between the lines `now` and `end` is done without other requests for memory than its own: there
-//! tools/refused_requests refuses and counts them, and tools/largest_inputs counts instructions.
+//! What a row does is done between the lines `now` and `end`, without other requests for memory than its own: there
+//! tools/refused_requests refuses and counts them. What it says is printed after them.
 #![tactic(auto)]
 
 mod alphabet;
@@ -29,19 +30,23 @@ mod short_cuts;
 mod short_verdicts;
 mod values;
 
-use crate::constants::{bytes, constants};
+use crate::constants::{bytes, constants, copies};
 use crate::fields::text_of;
 use crate::items::{again, items};
 use crate::names::{case, names};
-use crate::relations::{against, compare, pair};
+use crate::relations::{against, compare, pair, sets};
 use crate::rooms::rooms;
 use crate::short_against::short_against;
 use crate::short_cuts::short_cuts;
 use crate::short_verdicts::short_verdicts;
 use crate::values::{clone, key, long, parts, print, read};
+use std::alloc::{AllocError, Global};
 use std::io;
 use std::io::Read;
 use std::process::ExitCode;
+
+/// How many bytes a row prints without a request for memory.
+const ROOM: usize = 65_536;
 
 fn main(rt: HostRuntime) -> ExitCode {
     match all_rows(&rt) {
@@ -54,23 +59,28 @@ fn main(rt: HostRuntime) -> ExitCode {
 fn all_rows(rt: &HostRuntime) -> io::Result<()> {
     let mut table = String::new(rt.alloc());
     rt.stdin().read_to_string(&mut table)?;
+    let mut out = String::with_capacity(rt.alloc(), ROOM)?;
     for line in table.as_str().lines() {
         if !line.is_empty() && !line.starts_with('#') {
-            println!(rt; "{line}")?;
-            row(rt, line)?;
+            row(rt, &mut out, line)?;
         }
     }
     Ok(())
 }
 
-fn row(rt: &HostRuntime, line: &str) -> io::Result<()> {
+fn row(rt: &HostRuntime, out: &mut String, line: &str) -> io::Result<()> {
+    println!(rt; "{line}")?;
     let mut fields = line.split('\t');
     let word = fields.next().unwrap_or("");
     let mut texts = Vec::new(rt.alloc());
     for field in fields {
         texts.push(text_of(rt.alloc(), field)?)?;
     }
-    answer(rt, word, texts.as_slice())
+    out.clear();
+    println!(rt; "now")?;
+    answer(rt.alloc(), out, word, texts.as_slice())?;
+    println!(rt; "end")?;
+    print!(rt; "{out}")
 }
 
 /// One of the texts of a row.
@@ -78,29 +88,31 @@ fn text_at(texts: &[String], at: usize) -> &str {
     texts.get(at).map_or("", |text| text.as_str())
 }
 
-/// Prints what the library says of a row.
-fn answer(rt: &HostRuntime, word: &str, texts: &[String]) -> io::Result<()> {
-    let first = text_at(texts, 0);
+/// Writes what the library says of a row.
+fn answer(alloc: Global, out: &mut String, word: &str, texts: &[String]) -> Result<(), AllocError> {
+    let (first, second) = (text_at(texts, 0), text_at(texts, 1));
     match word {
-        "read" => read(rt, first),
-        "clone" => clone(rt, first),
-        "items" => items(rt, first),
-        "again" => again(rt, first),
-        "parts" => parts(rt, first),
-        "long" => long(rt, first),
-        "print" => print(rt, first),
-        "key" => key(rt, first, text_at(texts, 1), text_at(texts, 2)),
-        "pair" => pair(rt, first, text_at(texts, 1)),
-        "compare" => compare(rt, texts),
-        "against" => against(rt, texts),
-        "names" => names(rt, texts),
-        "bytes" => bytes(rt),
-        "constants" => constants(rt),
-        "case" => case(rt),
-        "rooms" => rooms(rt),
-        "short_verdicts" => short_verdicts(rt),
-        "short_cuts" => short_cuts(rt),
-        "short_against" => short_against(rt),
-        _ => println!(rt; "no such row"),
+        "read" => read(alloc, out, first),
+        "clone" => clone(alloc, out, first),
+        "items" => items(alloc, out, first),
+        "again" => again(alloc, out, first),
+        "parts" => parts(alloc, out, first),
+        "long" => long(alloc, out, first),
+        "print" => print(alloc, out, first),
+        "key" => key(alloc, out, first, second, text_at(texts, 2)),
+        "pair" => pair(alloc, out, first, second),
+        "compare" => compare(alloc, out, texts),
+        "sets" => sets(alloc, out, texts),
+        "against" => against(alloc, out, texts),
+        "names" => names(out, texts),
+        "bytes" => bytes(out),
+        "constants" => constants(alloc, out),
+        "copies" => copies(out),
+        "case" => case(out),
+        "rooms" => rooms(alloc, out),
+        "short_verdicts" => short_verdicts(alloc, out),
+        "short_cuts" => short_cuts(alloc, out),
+        "short_against" => short_against(alloc, out),
+        _ => out.push_str("no such row\n"),
     }
 }

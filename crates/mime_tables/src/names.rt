@@ -2,8 +2,9 @@
 
 use crate::relations::{Digits, sign_of};
 use mime::{Name, name_eq_str};
+use std::alloc::AllocError;
+use std::fmt::Write;
 use std::hash::{Hash, Hasher};
-use std::io;
 
 /// A name that a field stands for: `~` before its text says that it ignores case, `=` that it doesn't.
 fn name_of(field: &str) -> Name<'_> {
@@ -39,10 +40,13 @@ fn relation(one: Name<'_>, other: Name<'_>) -> char {
 }
 
 /// Prints names: a line for each, within several widths, with its relation to each, and whether it equals that one's text (`t`).
-pub(crate) fn names(rt: &HostRuntime, fields: &[String]) -> io::Result<()> {
+pub(crate) fn names(out: &mut String, fields: &[String]) -> Result<(), AllocError> {
     for field in fields {
         let name = name_of(field.as_str());
-        print!(rt; "{name}|{name:>6}|{name:<6}|{name:*^8}|{name:2}|{name:-<3}|{name:?}|")?;
+        write!(
+            out,
+            "{name}|{name:>6}|{name:<6}|{name:*^8}|{name:2}|{name:-<3}|{name:?}|"
+        )?;
         for field in fields {
             let other = name_of(field.as_str());
             let is_text = if name_eq_str(&name, other.text) {
@@ -50,9 +54,9 @@ pub(crate) fn names(rt: &HostRuntime, fields: &[String]) -> io::Result<()> {
             } else {
                 ' '
             };
-            print!(rt; "{}{is_text}", relation(name, other))?;
+            write!(out, "{}{is_text}", relation(name, other))?;
         }
-        println!(rt; "|")?;
+        writeln!(out, "|")?;
     }
     Ok(())
 }
@@ -71,7 +75,7 @@ fn is_as_std_says(one: &[u8], other: &[u8]) -> bool {
 
 /// Prints in how many pairs of texts case is ignored as std ignores it: of each length up to 40 bytes, where one has each ASCII byte
 /// at each position.
-pub(crate) fn case(rt: &HostRuntime) -> io::Result<()> {
+pub(crate) fn case(out: &mut String) -> Result<(), AllocError> {
     let text = *b"AZ@[`{azMimeMIMEmime0123456789-+.!#$%^_'";
     let mut tried = 0u32;
     for place in 0..text.len() {
@@ -80,11 +84,11 @@ pub(crate) fn case(rt: &HostRuntime) -> io::Result<()> {
             other[place] = byte;
             for length in place..=text.len() {
                 if !is_as_std_says(&text[..length], &other[..length]) {
-                    return println!(rt; "not so: {byte} at {place} of {length}");
+                    return writeln!(out, "not so: {byte} at {place} of {length}");
                 }
                 tried = tried.wrapping_add(1);
             }
         }
     }
-    println!(rt; "{tried} pairs")
+    writeln!(out, "{tried} pairs")
 }

@@ -7,8 +7,8 @@ use mime::{Mime, mime_eq_str};
 use std::alloc::{AllocError, Global};
 use std::cmp::Ordering;
 use std::collections::{BTreeSet, HashSet};
+use std::fmt::Write;
 use std::hash::{DefaultHasher, Hash, Hasher};
-use std::io;
 
 /// A hasher whose state is a number made of all bytes.
 #[derive(Drop)]
@@ -75,9 +75,18 @@ fn are_found(alloc: Global, one: &Mime, other: &Mime) -> Result<(bool, bool), Al
     Ok((hashed.contains(other), ordered.contains(other)))
 }
 
+/// `?` where the two kinds of sets don't agree.
+fn sign_of_found(found: (bool, bool)) -> char {
+    match found {
+        (true, true) => '=',
+        (false, false) => '-',
+        _ => '?',
+    }
+}
+
 /// Reads texts that are media types.
 fn values_of(alloc: Global, texts: &[String]) -> Result<Vec<Mime>, AllocError> {
-    let mut values = Vec::new(alloc);
+    let mut values = Vec::with_capacity(alloc, texts.len())?;
     for text in texts {
         if let Ok(mime) = Mime::from_str(alloc, text.as_str()) {
             values.push(mime)?;
@@ -87,9 +96,8 @@ fn values_of(alloc: Global, texts: &[String]) -> Result<Vec<Mime>, AllocError> {
 }
 
 /// Prints a line for each value, with its relation to each, and whether that one's text is it (`t`).
-pub(crate) fn compare(rt: &HostRuntime, texts: &[String]) -> io::Result<()> {
-    let values = values_of(rt.alloc(), texts)?;
-    println!(rt; "now")?;
+pub(crate) fn compare(alloc: Global, out: &mut String, texts: &[String]) -> Result<(), AllocError> {
+    let values = values_of(alloc, texts)?;
     for one in &values {
         for (other, text) in values.iter().zip(texts) {
             let is_text = if mime_eq_str(one, text.as_str()) {
@@ -97,51 +105,58 @@ pub(crate) fn compare(rt: &HostRuntime, texts: &[String]) -> io::Result<()> {
             } else {
                 ' '
             };
-            print!(rt; "{}{is_text}", relation(one, other))?;
+            write!(out, "{}{is_text}", relation(one, other))?;
         }
-        println!(rt; ".")?;
+        writeln!(out, ".")?;
     }
-    println!(rt; "end")?;
+    Ok(())
+}
+
+/// Prints a line for each value, with `=` for each that a set which has it says that it has, `-` for each other.
+pub(crate) fn sets(alloc: Global, out: &mut String, texts: &[String]) -> Result<(), AllocError> {
+    let values = values_of(alloc, texts)?;
     for one in &values {
         for other in &values {
-            let found = are_found(rt.alloc(), one, other)?;
-            let is = *one == *other;
-            if found != (is, is) {
-                println!(rt; "wrongly found: {one} and {other}")?;
-            }
+            out.push(sign_of_found(are_found(alloc, one, other)?))?;
         }
+        writeln!(out, ".")?;
     }
     Ok(())
 }
 
 /// Prints whether two values are equal, in order and by their hashes, and whether the first equals the second's text.
-pub(crate) fn pair(rt: &HostRuntime, first: &str, second: &str) -> io::Result<()> {
-    let (Ok(one), Ok(other)) = (
-        Mime::from_str(rt.alloc(), first),
-        Mime::from_str(rt.alloc(), second),
-    ) else {
-        return println!(rt; "not two media types");
+pub(crate) fn pair(
+    alloc: Global,
+    out: &mut String,
+    first: &str,
+    second: &str,
+) -> Result<(), AllocError> {
+    let (Ok(one), Ok(other)) = (Mime::from_str(alloc, first), Mime::from_str(alloc, second)) else {
+        return writeln!(out, "not two media types");
     };
     let is_equal = one == other && one.cmp(&other).is_eq();
     let by_hash = default_hash_of(&one) == default_hash_of(&other);
     let by_text = mime_eq_str(&one, second);
-    println!(rt; "equal {is_equal}, by hash {by_hash}, by text {by_text}")
+    writeln!(
+        out,
+        "equal {is_equal}, by hash {by_hash}, by text {by_text}"
+    )
 }
 
 /// Prints whether a value, and the constant that it is, equals each of the other texts; and whether it equals its own.
-pub(crate) fn against(rt: &HostRuntime, texts: &[String]) -> io::Result<()> {
-    let values = values_of(rt.alloc(), texts.get(..1).unwrap_or(&[]))?;
-    let Some(mime) = values.first() else {
-        return println!(rt; "not a media type");
+pub(crate) fn against(alloc: Global, out: &mut String, texts: &[String]) -> Result<(), AllocError> {
+    let Some(Ok(mime)) = texts
+        .first()
+        .map(|text| Mime::from_str(alloc, text.as_str()))
+    else {
+        return writeln!(out, "not a media type");
     };
-    let constant = constant_of(mime).map(|atom| atom.mime());
-    println!(rt; "now")?;
+    let constant = constant_of(&mime).map(|atom| atom.mime());
     for text in texts.iter().skip(1) {
-        println!(rt; "{}", mime_eq_str(mime, text.as_str()))?;
+        writeln!(out, "{}", mime_eq_str(&mime, text.as_str()))?;
         if let Some(constant) = &constant {
-            println!(rt; "a constant {}", mime_eq_str(constant, text.as_str()))?;
+            writeln!(out, "a constant {}", mime_eq_str(constant, text.as_str()))?;
         }
     }
-    println!(rt; "itself {}", mime_eq_str(mime, mime.as_str()))?;
-    println!(rt; "end")
+    writeln!(out, "itself {}", mime_eq_str(&mime, mime.as_str()))
 }

@@ -1,8 +1,9 @@
 //! Printing fails exactly where the writer does.
 
 use mime::{Mime, Name, ParseError};
+use std::alloc::{AllocError, Global};
+use std::fmt;
 use std::fmt::Write;
-use std::{fmt, io};
 
 /// Takes as many bytes as there is room for, and refuses a text that is longer.
 #[derive(Drop)]
@@ -19,14 +20,18 @@ impl Write for Room {
 }
 
 /// Prints whether a value is printed where there is room for all of it, and refused where there is less.
-fn print_rooms<D: fmt::Display>(rt: &HostRuntime, value: &D) -> io::Result<()> {
-    let text = format!(in rt.alloc(); "{value}")?;
+fn print_rooms<D: fmt::Display>(
+    alloc: Global,
+    out: &mut String,
+    value: &D,
+) -> Result<(), AllocError> {
+    let text = format!(in alloc; "{value}")?;
     let mut is_right = true;
     for room in 0..=text.len() {
         let answer = write!(Room(room), "{value}");
         is_right = is_right && answer.is_ok() == (room == text.len());
     }
-    println!(rt; "{text}: {is_right}")
+    writeln!(out, "{text}: {is_right}")
 }
 
 /// A name that prints its quoted form.
@@ -40,20 +45,20 @@ impl fmt::Display for Quoted<'_> {
 }
 
 /// Prints whether names, errors and faults are refused exactly where their writer refuses them.
-pub(crate) fn rooms(rt: &HostRuntime) -> io::Result<()> {
+pub(crate) fn rooms(alloc: Global, out: &mut String) -> Result<(), AllocError> {
     for text in ["charset", "", "é\n"] {
         let name = Name {
             text,
             ignores_case: true,
         };
-        print_rooms(rt, &name)?;
-        print_rooms(rt, &Quoted(name))?;
+        print_rooms(alloc, out, &name)?;
+        print_rooms(alloc, out, &Quoted(name))?;
     }
     for text in ["", "a/b;p", "a/b;p=\"", "a b", "a/b;p=\"\n"] {
-        if let Err(error) = Mime::from_str(rt.alloc(), text) {
-            print_rooms(rt, &error)?;
-            print_rooms(rt, error.fault())?;
+        if let Err(error) = Mime::from_str(alloc, text) {
+            print_rooms(alloc, out, &error)?;
+            print_rooms(alloc, out, error.fault())?;
         }
     }
-    print_rooms(rt, &ParseError::NoMemory)
+    print_rooms(alloc, out, &ParseError::NoMemory)
 }

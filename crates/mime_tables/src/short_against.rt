@@ -3,7 +3,7 @@
 use crate::alphabet::spell;
 use mime::{Mime, mime_eq_str};
 use std::alloc::{AllocError, Global};
-use std::io;
+use std::fmt::Write;
 
 const ALPHABET: [char; 8] = ['a', 'A', '/', ';', '=', '"', '\\', ' '];
 
@@ -50,8 +50,7 @@ fn count_of_all(alloc: Global, values: &[Mime], front: &str) -> Result<Option<u3
 
 /// Prints how often short texts equal a value, and texts that begin with `a/A;`; none where one does so otherwise than if the
 /// text were read.
-pub(crate) fn short_against(rt: &HostRuntime) -> io::Result<()> {
-    let alloc = rt.alloc();
+pub(crate) fn short_against(alloc: Global, out: &mut String) -> Result<(), AllocError> {
     let mut values = Vec::new(alloc);
     for text in [
         "a/a",
@@ -66,8 +65,8 @@ pub(crate) fn short_against(rt: &HostRuntime) -> io::Result<()> {
     }
     for front in ["", "a/A;"] {
         match count_of_all(alloc, values.as_slice(), front)? {
-            Some(count) => println!(rt; "{count} equal")?,
-            None => println!(rt; "not as if they were read")?,
+            Some(count) => writeln!(out, "{count} equal")?,
+            None => writeln!(out, "not as if they were read")?,
         }
     }
     Ok(())

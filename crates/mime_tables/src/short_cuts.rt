@@ -4,7 +4,7 @@
 use crate::alphabet::{is_completed_by, spell};
 use mime::{Bad, Mime, MimeIter};
 use std::alloc::{AllocError, Global};
-use std::io;
+use std::fmt::Write;
 
 const ALPHABET: [char; 9] = ['a', '/', ';', '=', '"', '\\', ' ', ',', 'é'];
 
@@ -73,17 +73,17 @@ fn is_cut_plainly(alloc: Global, text: &str) -> Result<bool, AllocError> {
 }
 
 /// Prints how many short texts are cut plainly, and the first that isn't.
-pub(crate) fn short_cuts(rt: &HostRuntime) -> io::Result<()> {
-    let mut text = String::new(rt.alloc());
+pub(crate) fn short_cuts(alloc: Global, out: &mut String) -> Result<(), AllocError> {
+    let mut text = String::new(alloc);
     let mut tried = 0u32;
     for (len, count) in COUNTS.iter().enumerate() {
         for number in 0..*count {
             spell(&mut text, &ALPHABET, number, len)?;
-            if !is_cut_plainly(rt.alloc(), text.as_str())? {
-                return println!(rt; "not so: {text}");
+            if !is_cut_plainly(alloc, text.as_str())? {
+                return writeln!(out, "not so: {text}");
             }
             tried = tried.wrapping_add(1);
         }
     }
-    println!(rt; "{tried} texts")
+    writeln!(out, "{tried} texts")
 }

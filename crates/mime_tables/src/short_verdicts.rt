@@ -4,7 +4,7 @@
 use crate::alphabet::{is_completed_by, spell};
 use mime::{Mime, ParseError};
 use std::alloc::{AllocError, Global};
-use std::io;
+use std::fmt::Write;
 
 const ALPHABET: [char; 8] = ['a', '/', ';', '=', '"', '\\', ' ', ','];
 
@@ -69,17 +69,17 @@ fn agrees(alloc: Global, text: &str) -> Result<bool, AllocError> {
 }
 
 /// Prints how many short texts have a verdict that agrees, and the first that hasn't.
-pub(crate) fn short_verdicts(rt: &HostRuntime) -> io::Result<()> {
-    let mut text = String::with_capacity(rt.alloc(), 16)?;
+pub(crate) fn short_verdicts(alloc: Global, out: &mut String) -> Result<(), AllocError> {
+    let mut text = String::with_capacity(alloc, 16)?;
     let mut tried = 0u32;
     for (len, count) in COUNTS.iter().enumerate() {
         for number in 0..*count {
             spell(&mut text, &ALPHABET, number, len)?;
-            if !agrees(rt.alloc(), text.as_str())? {
-                return println!(rt; "not so: {text}");
+            if !agrees(alloc, text.as_str())? {
+                return writeln!(out, "not so: {text}");
             }
             tried = tried.wrapping_add(1);
         }
     }
-    println!(rt; "{tried} texts")
+    writeln!(out, "{tried} texts")
 }

@@ -8,36 +8,29 @@ use crate::items::all_items;
 use mime::{Mime, MimeIter, Name, ParamKey, TextKey, name_eq_str};
 use std::alloc::{AllocError, Global};
 use std::fmt::Write;
-use std::io;
 
 /// Prints what a text is read as.
-pub(crate) fn read(rt: &HostRuntime, text: &str) -> io::Result<()> {
-    println!(rt; "now")?;
-    match Mime::from_str(rt.alloc(), text) {
-        Ok(mime) => println!(rt; "ok {}", mime.as_str())?,
-        Err(error) => println!(rt; "bad {error}")?,
+pub(crate) fn read(alloc: Global, out: &mut String, text: &str) -> Result<(), AllocError> {
+    match Mime::from_str(alloc, text) {
+        Ok(mime) => writeln!(out, "ok {}", mime.as_str()),
+        Err(error) => writeln!(out, "bad {error}"),
     }
-    println!(rt; "end")
 }
 
 /// Clones what a text was read as, and the constant that equals it. The original is printed too, since a clone that is refused
 /// leaves it as it was.
-pub(crate) fn clone(rt: &HostRuntime, text: &str) -> io::Result<()> {
-    let Ok(original) = Mime::from_str(rt.alloc(), text) else {
-        println!(rt; "now")?;
-        println!(rt; "not a media type")?;
-        return println!(rt; "end");
+pub(crate) fn clone(alloc: Global, out: &mut String, text: &str) -> Result<(), AllocError> {
+    let Ok(original) = Mime::from_str(alloc, text) else {
+        return writeln!(out, "not a media type");
     };
-    println!(rt; "now")?;
-    print_copy(rt, &original)?;
-    println!(rt; "original {}", original.as_str())?;
-    println!(rt; "end")
+    print_copy(out, &original)?;
+    writeln!(out, "original {}", original.as_str())
 }
 
-pub(crate) fn print_copy(rt: &HostRuntime, original: &Mime) -> io::Result<()> {
+pub(crate) fn print_copy(out: &mut String, original: &Mime) -> Result<(), AllocError> {
     match original.clone() {
-        Ok(copy) => println!(rt; "ok {}, equal: {}", copy.as_str(), copy == *original),
-        Err(_) => println!(rt; "no memory"),
+        Ok(copy) => writeln!(out, "ok {}, equal: {}", copy.as_str(), copy == *original),
+        Err(_) => writeln!(out, "no memory"),
     }
 }
 
@@ -89,31 +82,31 @@ fn is_read_as(alloc: Global, text: &str, mime: &Mime, parts: &str) -> Result<boo
 }
 
 /// Prints a value, and whether its text is read as it and a copy is as it was, once the value itself is gone.
-fn print_value(rt: &HostRuntime, mime: Mime) -> io::Result<()> {
-    let parts = parts_of(rt.alloc(), &mime)?;
-    print_line(rt, "ok ", parts.as_str())?;
+fn print_value(alloc: Global, out: &mut String, mime: Mime) -> Result<(), AllocError> {
+    let parts = parts_of(alloc, &mime)?;
+    print_line(alloc, out, "ok ", parts.as_str())?;
     let count = counted(&mime);
     let constant = constant_of(&mime);
-    println!(rt; "parameters {count:?}, constant {constant:?}")?;
-    let is_read = is_read_as(rt.alloc(), mime.as_str(), &mime, parts.as_str())?;
+    writeln!(out, "parameters {count:?}, constant {constant:?}")?;
+    let is_read = is_read_as(alloc, mime.as_str(), &mime, parts.as_str())?;
     let copy = mime.clone()?;
     let is_equal = copy == mime;
     drop(mime);
-    let is_same = is_equal && parts_of(rt.alloc(), &copy)?.as_str() == parts.as_str();
-    println!(rt; "read again {is_read}, copied {is_same}")
+    let is_same = is_equal && parts_of(alloc, &copy)?.as_str() == parts.as_str();
+    writeln!(out, "read again {is_read}, copied {is_same}")
 }
 
 /// Prints all that a text tells.
-pub(crate) fn parts(rt: &HostRuntime, text: &str) -> io::Result<()> {
-    match Mime::from_str(rt.alloc(), text) {
-        Ok(mime) => print_value(rt, mime)?,
+pub(crate) fn parts(alloc: Global, out: &mut String, text: &str) -> Result<(), AllocError> {
+    match Mime::from_str(alloc, text) {
+        Ok(mime) => print_value(alloc, out, mime)?,
         Err(error) => {
             let fault = error.fault();
-            println!(rt; "bad {error}")?;
-            println!(rt; "bad {error:99} | {fault:>99} | {fault:?}")?;
+            writeln!(out, "bad {error}")?;
+            writeln!(out, "bad {error:99} | {fault:>99} | {fault:?}")?;
         }
     }
-    all_items(rt, text)
+    all_items(alloc, out, text)
 }
 
 /// How many parameters are `p=x`.
@@ -126,39 +119,42 @@ fn count_of_p(mime: &Mime) -> u64 {
 }
 
 /// Prints the numbers of a text with many parameters `p=x`.
-pub(crate) fn long(rt: &HostRuntime, text: &str) -> io::Result<()> {
-    let Ok(mime) = Mime::from_str(rt.alloc(), text) else {
-        return println!(rt; "not a media type");
+pub(crate) fn long(alloc: Global, out: &mut String, text: &str) -> Result<(), AllocError> {
+    let Ok(mime) = Mime::from_str(alloc, text) else {
+        return writeln!(out, "not a media type");
     };
     let is_kept = mime.as_str() == text && mime.get_param(TextKey("q")).is_none();
-    println!(rt; "{} bytes, kept as they are {is_kept}", text.len())?;
-    println!(rt;
+    writeln!(out, "{} bytes, kept as they are {is_kept}", text.len())?;
+    writeln!(
+        out,
         "parameters {:?}, {}",
         mime.params().size_hint(),
         count_of_p(&mime)
     )?;
-    let mut iter = MimeIter::new(rt.alloc(), text);
+    let mut iter = MimeIter::new(alloc, text);
     let is_item = match iter.next() {
         Some(Ok(item)) => item == mime && item.as_str() == text,
         _ => false,
     };
     let is_last = iter.next().is_none();
-    println!(rt;
+    writeln!(
+        out,
         "an item {is_item}, the last {is_last}, steps {}",
         iter.steps()
     )?;
     let copy = mime.clone()?;
-    println!(rt; "copied {}", copy == mime && copy.as_str() == text)
+    writeln!(out, "copied {}", copy == mime && copy.as_str() == text)
 }
 
 /// Prints a value within several widths.
-pub(crate) fn print(rt: &HostRuntime, text: &str) -> io::Result<()> {
-    match Mime::from_str(rt.alloc(), text) {
-        Ok(mime) => println!(rt;
+pub(crate) fn print(alloc: Global, out: &mut String, text: &str) -> Result<(), AllocError> {
+    match Mime::from_str(alloc, text) {
+        Ok(mime) => writeln!(
+            out,
             "{mime}|{mime:>12}|{mime:<12}|{mime:*^14}|{mime:4}|{mime:?}|{:?}",
             mime.params()
         ),
-        Err(_) => println!(rt; "not a media type"),
+        Err(_) => writeln!(out, "not a media type"),
     }
 }
 
@@ -176,36 +172,40 @@ impl ParamKey for Foo {
 
 /// Prints the value that a key finds, if one, and what it is against another text.
 fn print_found(
-    rt: &HostRuntime,
+    out: &mut String,
     mime: &Mime,
     found: Option<Name<'_>>,
     other: &str,
-) -> io::Result<()> {
+) -> Result<(), AllocError> {
     let Some(value) = found else {
-        return println!(rt; "none");
+        return writeln!(out, "none");
     };
     let is_other = name_eq_str(&value, other);
-    println!(rt; "{}{value}, as {other}: {is_other}", sign(value))?;
+    writeln!(out, "{}{value}, as {other}: {is_other}", sign(value))?;
     // A value is a key, too.
     match mime.get_param(value) {
-        Some(second) => println!(rt; "its own value {}{second}", sign(second)),
-        None => println!(rt; "no value of its own"),
+        Some(second) => writeln!(out, "its own value {}{second}", sign(second)),
+        None => writeln!(out, "no value of its own"),
     }
 }
 
 /// Prints what is found in a text by a key, as a text and as a constant, and by the key `Foo`.
-pub(crate) fn key(rt: &HostRuntime, text: &str, key: &str, other: &str) -> io::Result<()> {
-    let Ok(mime) = Mime::from_str(rt.alloc(), text) else {
-        return println!(rt; "not a media type");
+pub(crate) fn key(
+    alloc: Global,
+    out: &mut String,
+    text: &str,
+    key: &str,
+    other: &str,
+) -> Result<(), AllocError> {
+    let Ok(mime) = Mime::from_str(alloc, text) else {
+        return writeln!(out, "not a media type");
     };
-    println!(rt; "now")?;
     let found = mime.get_param(TextKey(key));
-    print_found(rt, &mime, found, other)?;
+    print_found(out, &mime, found, other)?;
     if let Some(name) = name_of(key) {
         let is_found = mime.get_param(name) == found;
-        println!(rt; "by the constant {is_found}")?;
+        writeln!(out, "by the constant {is_found}")?;
     }
     let foo = mime.get_param(Foo).map_or("-", |name| name.as_str());
-    println!(rt; "foo {foo}")?;
-    println!(rt; "end")
+    writeln!(out, "foo {foo}")
 }
