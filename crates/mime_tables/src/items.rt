@@ -34,17 +34,14 @@ pub(crate) fn items(alloc: Global, out: &mut String, text: &str) -> Result<(), A
 /// Prints the first item of a text, and those that are left, first by a clone of the iterator and then by itself.
 pub(crate) fn again(alloc: Global, out: &mut String, text: &str) -> Result<(), AllocError> {
     let mut iter = MimeIter::new(alloc, text);
-    let first = iter.next();
+    if let Some(item) = iter.next() {
+        print_item(out, &item)?;
+    }
     let mut clone = iter.clone()?;
     print_rest(out, &mut clone)?;
     writeln!(out, "steps {} and {}", iter.steps(), clone.steps())?;
     print_rest(out, &mut iter)?;
-    writeln!(out, "steps {} and {}", iter.steps(), clone.steps())?;
-    // It was kept while both went on.
-    if let Some(item) = first {
-        print_item(out, &item)?;
-    }
-    Ok(())
+    writeln!(out, "steps {} and {}", iter.steps(), clone.steps())
 }
 
 /// Prints the items of a text, which are all kept until the last was taken, and the steps.
@@ -56,7 +53,7 @@ pub(crate) fn all_items(alloc: Global, out: &mut String, text: &str) -> Result<(
         kept.push(item)?;
         is_exact = is_exact && iter.size_hint() == (0, None);
     }
-    for item in kept {
+    for item in &kept {
         match item {
             Ok(mime) => print_line(alloc, out, "item ok ", mime.as_str())?,
             Err(Bad::Piece(piece)) => print_line(alloc, out, "item bad ", piece)?,

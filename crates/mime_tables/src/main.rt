@@ -78,8 +78,11 @@ fn row(rt: &HostRuntime, out: &mut String, line: &str) -> io::Result<()> {
     }
     out.clear();
     println!(rt; "now")?;
-    answer(rt.alloc(), out, word, texts.as_slice())?;
+    let answered = answer(rt.alloc(), out, word, texts.as_slice());
     println!(rt; "end")?;
+    if answered.is_err() {
+        println!(rt; "out of memory")?;
+    }
     print!(rt; "{out}")
 }
 

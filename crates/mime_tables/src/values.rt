@@ -5,7 +5,7 @@ ghost use Rattle.std.specs.Prelude.{◌≡◌, codes};
 use crate::constants::{constant_of, name_of};
 use crate::fields::print_line;
 use crate::items::all_items;
-use mime::{Mime, MimeIter, Name, ParamKey, TextKey, name_eq_str};
+use mime::{FromStrError, Mime, MimeIter, Name, ParamKey, TextKey, name_eq_str};
 use std::alloc::{AllocError, Global};
 use std::fmt::Write;
 
@@ -100,13 +100,16 @@ fn print_value(alloc: Global, out: &mut String, mime: Mime) -> Result<(), AllocE
 pub(crate) fn parts(alloc: Global, out: &mut String, text: &str) -> Result<(), AllocError> {
     match Mime::from_str(alloc, text) {
         Ok(mime) => print_value(alloc, out, mime)?,
-        Err(error) => {
-            let fault = error.fault();
-            writeln!(out, "bad {error}")?;
-            writeln!(out, "bad {error:99} | {fault:>99} | {fault:?}")?;
-        }
+        Err(error) => print_error(out, &error)?,
     }
     all_items(alloc, out, text)
+}
+
+/// Prints an error in each of its forms. A width is ignored.
+fn print_error(out: &mut String, error: &FromStrError) -> Result<(), AllocError> {
+    let fault = error.fault();
+    writeln!(out, "bad {error}")?;
+    writeln!(out, "bad {error:99} | {fault:>99} | {fault:?}")
 }
 
 /// How many parameters are `p=x`.
