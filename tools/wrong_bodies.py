@@ -1,7 +1,7 @@
 """The edits of the repository: wrong bodies, and a harmless twin of each that the prover refuses.
 
-An edit is a file NAME.edit. The prover refuses those of tools/edits/clauses and of each crate's must-fail/; a test or the compiler
-refuses those of tools/edits/tests. It has these lines:
+An edit is a file NAME.edit. The prover refuses those of tools/edits/clauses; a test or the compiler refuses those of
+tools/edits/tests. It has these lines:
 
     fn: mime::value::Mime::from_str     the function, as rt check prints it
     clause: read                        the clause that refuses it: its name, or 'ensures' for one without a name and where one answer
@@ -10,7 +10,7 @@ refuses those of tools/edits/tests. It has these lines:
     refused by: test NAME of CRATE      what refuses it, or 'row WORDS of CRATE', of its stdin, or 'error NAME of CRATE': in
                                         tools/edits/tests, in place of these two
     why: SENTENCE                       what the body does, and why that is refused where it isn't plain (docs/WRONG-BODIES.md)
-    file: crates/mime/src/value.rt      in a crate's must-fail/ the path within the crate, as src/value.rt
+    file: crates/mime/src/value.rt      what it changes, from the top of the repository
     old: TEXT                           one line, which occurs once in the file
     new: TEXT                           one line
 
@@ -19,10 +19,8 @@ new alone."""
 
 import glob
 import os
-import re
 
 TOP = os.path.dirname(os.path.dirname(os.path.realpath(__file__)))
-PLACES = {"clauses": ["tools/edits/clauses", "crates/*/must-fail"], "tests": ["tools/edits/tests"], "twins": ["tools/edits/twins"]}
 WORDS = {"clauses": ("fn", "clause", "why"), "tests": ("refused by", "why"), "twins": ()}
 
 
@@ -33,8 +31,7 @@ def text_of(path):
 
 def paths(kind):
     """The files of the edits of a kind, from the top of the repository."""
-    found = (it for place in PLACES[kind] for it in glob.glob(f"{TOP}/{place}/*.edit"))
-    return sorted(os.path.relpath(it, TOP) for it in found)
+    return sorted(os.path.relpath(it, TOP) for it in glob.glob(f"{TOP}/tools/edits/{kind}/*.edit"))
 
 
 class Edit:
@@ -42,13 +39,12 @@ class Edit:
 
     def __init__(self, path, kind):
         self.name, self.is_twin = os.path.basename(path).removesuffix(".edit"), kind == "twins"
-        crate = re.match(r"crates/\w+/(?=must-fail/)", path)
         said, self.changes = {}, []
         for line in text_of(path).split("\n"):
             word, _, text = line.partition(":")
             said[word] = text.removeprefix(" ")
             if word == "new":
-                self.changes.append(((crate[0] if crate else "") + said.get("file", ""), said.pop("old", ""), said["new"]))
+                self.changes.append((said.get("file", ""), said.pop("old", ""), said["new"]))
         words = (*WORDS[kind], "file", "new")
         if not all(said.get(it) or it == "new" and it in said for it in words) or set(said) - {*words, ""}:
             raise ValueError(f"{path}: its lines are {', '.join(said)}, and not {', '.join(words)} with old before new")

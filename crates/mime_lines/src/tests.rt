@@ -1,4 +1,4 @@
-//! What runs over memory answer and write.
+//! What runs over memory answer and write. The reports on ordinary inputs are data: vectors/ and tools/program.
 
 ghost use Rattle.std.specs.Prelude.{◌≡◌, None, false};
 
@@ -9,86 +9,71 @@ use std::process::Abort;
 use std::test::Fail;
 use std::{fmt, io};
 
-/// Gives its bytes one by one.
-#[derive(Drop)]
-struct SlowReader<'a> {
+/// More bytes than any run here reads or writes.
+const ENOUGH: usize = 1 << 22;
+
+/// Gives its bytes, at most so many a read, or the letter `a` without end. After so many reads it is
+/// interrupted, which is a failure like any other.
+#[derive(Clone, Copy)]
+struct Reader<'a> {
     left: &'a [u8],
-}
-
-impl Read for SlowReader<'_> {
-    fn read(&mut self, buf: &mut [u8]) -> io::Result<usize> {
-        match self.left.split_first() {
-            Some((byte, left)) if !buf.is_empty() => {
-                buf[0] = *byte;
-                self.left = left;
-                Ok(1)
-            }
-            _ => Ok(0),
-        }
-    }
-}
-
-/// Gives its bytes one by one. After a number of reads it is interrupted, which is a failure like any
-/// other.
-#[derive(Drop)]
-struct FailingReader<'a> {
-    slow: SlowReader<'a>,
+    is_endless: bool,
+    most: usize,
     reads: usize,
 }
 
-impl Read for FailingReader<'_> {
+/// Gives these bytes, at most so many a read, and is interrupted after so many reads.
+fn giving(bytes: &[u8], most: usize, reads: usize) -> Reader<'_> {
+    Reader {
+        left: bytes,
+        is_endless: false,
+        most,
+        reads,
+    }
+}
+
+impl Read for Reader<'_> {
     fn read(&mut self, buf: &mut [u8]) -> io::Result<usize> {
         if self.reads == 0 {
             return Err(io::Error::from(io::ErrorKind::Interrupted));
         }
         self.reads -= 1;
-        self.slow.read(buf)
+        if self.is_endless {
+            buf.fill(b'a');
+            return Ok(buf.len());
+        }
+        let count = buf.len().min(self.most);
+        self.left.read(&mut buf[..count])
     }
 }
 
-/// Gives the letter `a` without end.
-#[derive(Drop)]
-struct EndlessReader;
-
-impl Read for EndlessReader {
-    fn read(&mut self, buf: &mut [u8]) -> io::Result<usize> {
-        buf.fill(b'a');
-        Ok(buf.len())
-    }
-}
-
-/// Gives as many of its bytes as it is asked for, and counts the reads.
-#[derive(Drop)]
-struct CountingReader<'a> {
+/// Takes its bytes, at most so many a write, and fails at any others, or at each flush.
+#[derive(Clone, Copy)]
+struct Writer<'a> {
     left: &'a [u8],
-    reads: usize,
-}
-
-impl Read for CountingReader<'_> {
-    fn read(&mut self, buf: &mut [u8]) -> io::Result<usize> {
-        self.reads = self.reads.wrapping_add(1);
-        self.left.read(buf)
-    }
-}
-
-/// Keeps what it is given, one byte a write, and fails where its room is full, or at each flush.
-#[derive(Drop)]
-struct FailingWriter {
-    kept: Vec<u8>,
-    room: usize,
+    most: usize,
     fails_at_flush: bool,
 }
 
-impl Write for FailingWriter {
+/// Takes these bytes, at most so many a write, and fails at no flush.
+fn taking(bytes: &[u8], most: usize) -> Writer<'_> {
+    Writer {
+        left: bytes,
+        most,
+        fails_at_flush: false,
+    }
+}
+
+impl Write for Writer<'_> {
     fn write(&mut self, buf: &[u8]) -> io::Result<usize> {
-        let Some(byte) = buf.first() else {
-            return Ok(0);
-        };
-        if self.kept.len() >= self.room {
-            return Err(io::Error::from(io::ErrorKind::Other));
+        let count = buf.len().min(self.left.len()).min(self.most);
+        match self.left.strip_prefix(&buf[..count]) {
+            Some(left) if count > 0 => {
+                self.left = left;
+                Ok(count)
+            }
+            _ => Err(io::Error::from(io::ErrorKind::Other)),
         }
-        self.kept.push(*byte)?;
-        Ok(1)
     }
 
     fn flush(&mut self) -> io::Result<()> {
@@ -97,6 +82,213 @@ impl Write for FailingWriter {
         }
         Ok(())
     }
+}
+
+impl fmt::Write for Writer<'_> {
+    fn write_str(&mut self, s: &str) -> fmt::Result {
+        self.write_all(s.as_bytes()).map_err(|_| fmt::Error)
+    }
+}
+
+/// A run gives this answer, its writer has taken all its bytes, and just what the answer names has failed.
+fn check(
+    rt: &impl Abort,
+    alloc: Global,
+    mode: Mode,
+    reader: Reader<'_>,
+    writer: Writer<'_>,
+    answer: Result<(), RunError>,
+) {
+    let mut source = Device {
+        inner: reader,
+        failed: false,
+    };
+    let mut sink = Device {
+        inner: writer,
+        failed: false,
+    };
+    let got = run(alloc, &mut source, &mut sink, mode);
+    let is_right = got == answer
+        && sink.inner.left.is_empty()
+        && source.failed == (answer == Err(RunError::Read))
+        && sink.failed == (answer == Err(RunError::Write));
+    assert!(rt;
+        is_right,
+        "{got:?}, with {} reads and {} bytes to write",
+        reader.reads,
+        writer.left.len()
+    );
+}
+
+/// A mode, an input and its report.
+static CASES: &[(Mode, &[u8], &[u8])] = &[
+    (
+        Mode::Parts,
+        b"IMAGE/SVG+XML\n\xff\ntext/",
+        b"ok image/svg+xml\ntype image\nsubtype svg\nsuffix xml\nnot text\n\
+          bad mime parse error: a subtype was missing behind the slash (/)\n",
+    ),
+    (
+        Mode::List,
+        b"application/json, invalid, text/html\ninvalid\n\xff",
+        b"ok application/json\nbad invalid\nok text/html\nnot text\n",
+    ),
+    (Mode::Parts, b"", b""),
+    (Mode::List, b"", b""),
+];
+
+#[test]
+fn reads_and_writes_a_byte_at_a_time(rt: HostRuntime) {
+    for &(mode, input, report) in CASES {
+        check(
+            &rt,
+            rt.alloc(),
+            mode,
+            giving(input, 1, ENOUGH),
+            taking(report, 1),
+            Ok(()),
+        );
+    }
+}
+
+#[test]
+fn stops_where_a_read_fails(rt: HostRuntime) {
+    for &(mode, input, _) in CASES {
+        // The last of these reads would have told the end.
+        for reads in 0..=input.len() {
+            check(
+                &rt,
+                rt.alloc(),
+                mode,
+                giving(input, 1, reads),
+                taking(b"", ENOUGH),
+                Err(RunError::Read),
+            );
+        }
+    }
+}
+
+#[test]
+fn stops_where_a_write_or_a_flush_fails(rt: HostRuntime) {
+    for &(mode, input, report) in CASES {
+        let whole = giving(input, ENOUGH, ENOUGH);
+        for room in 0..report.len() {
+            check(
+                &rt,
+                rt.alloc(),
+                mode,
+                whole,
+                taking(&report[..room], 1),
+                Err(RunError::Write),
+            );
+        }
+        // A flush is made for an empty report too.
+        check_flush(&rt, rt.alloc(), mode, input, report);
+    }
+}
+
+#[test]
+fn an_endless_input_is_too_long(rt: HostRuntime) {
+    let endless = Reader {
+        left: b"",
+        is_endless: true,
+        most: ENOUGH,
+        reads: ENOUGH,
+    };
+    check(
+        &rt,
+        rt.alloc(),
+        Mode::Parts,
+        endless,
+        taking(b"", ENOUGH),
+        Err(RunError::TooLong),
+    );
+    check(
+        &rt,
+        rt.alloc(),
+        Mode::List,
+        endless,
+        taking(b"", ENOUGH),
+        Err(RunError::TooLong),
+    );
+}
+
+/// A run takes this input, but not with a byte more.
+fn check_longest(
+    rt: &impl Abort,
+    alloc: Global,
+    mode: Mode,
+    mut input: Vec<u8>,
+    report: &[u8],
+) -> Result<(), Fail> {
+    let longest = giving(input.as_slice(), ENOUGH, ENOUGH);
+    check(rt, alloc, mode, longest, taking(report, ENOUGH), Ok(()));
+    input.push(b'a')?;
+    let longer = giving(input.as_slice(), ENOUGH, ENOUGH);
+    check(
+        rt,
+        alloc,
+        mode,
+        longer,
+        taking(b"", ENOUGH),
+        Err(RunError::TooLong),
+    );
+    Ok(())
+}
+
+#[test]
+fn takes_1048576_bytes_and_no_more(rt: HostRuntime) -> Result<(), Fail> {
+    let report = b"bad mime parse error: a slash (/) was missing between the type and subtype\n";
+    let letters = vec![in rt.alloc(); b'a'; 1_048_576]?;
+    check_longest(&rt, rt.alloc(), Mode::Parts, letters, report)
+}
+
+#[test]
+fn a_list_may_have_1048576_bytes(rt: HostRuntime) -> Result<(), Fail> {
+    let commas = vec![in rt.alloc(); b','; 1_048_576]?;
+    check_longest(&rt, rt.alloc(), Mode::List, commas, b"")
+}
+
+/// A run over this input writes this report, and then flushes it.
+fn check_flush(rt: &impl Abort, alloc: Global, mode: Mode, input: &[u8], report: &[u8]) {
+    let reader = giving(input, ENOUGH, ENOUGH);
+    let mut writer = taking(report, ENOUGH);
+    check(rt, alloc, mode, reader, writer, Ok(()));
+    writer.fails_at_flush = true;
+    check(rt, alloc, mode, reader, writer, Err(RunError::Write));
+}
+
+#[test]
+fn a_report_may_be_longer_than_the_limit(rt: HostRuntime) -> Result<(), Fail> {
+    let mut input = vec![in rt.alloc(); b'a'; 1_048_574]?;
+    input.extend_from_slice(b"/b")?;
+    let mut report = Vec::new(rt.alloc());
+    let parts: [&[u8]; 3] = [b"ok ", input.as_slice(), b"\n"];
+    for part in parts {
+        report.extend_from_slice(part)?;
+    }
+    check_flush(
+        &rt,
+        rt.alloc(),
+        Mode::List,
+        input.as_slice(),
+        report.as_slice(),
+    );
+    Ok(())
+}
+
+#[test]
+fn reads_many_bytes_at_a_time(rt: HostRuntime) -> Result<(), Fail> {
+    let commas = vec![in rt.alloc(); b','; 65_536]?;
+    check(
+        &rt,
+        rt.alloc(),
+        Mode::List,
+        giving(commas.as_slice(), ENOUGH, 100),
+        taking(b"", ENOUGH),
+        Ok(()),
+    );
+    Ok(())
 }
 
 /// Drops what it is given, and tells whether a flush is due.
@@ -123,277 +315,6 @@ impl Sink for Pending {
     }
 }
 
-/// What a run answers and writes, and whether reading and writing have failed.
-#[derive(Drop)]
-struct Outcome {
-    answer: Result<(), RunError>,
-    written: Vec<u8>,
-    source_failed: bool,
-    sink_failed: bool,
-}
-
-/// A run from a reader to memory, over the parts of media types.
-fn run_over<R: Read>(alloc: Global, reader: R) -> Outcome
-where
-    R: Drop,
-{
-    run_in(Mode::Parts, alloc, reader)
-}
-
-/// A run from a reader to memory in a mode.
-fn run_in<R: Read>(mode: Mode, alloc: Global, reader: R) -> Outcome
-where
-    R: Drop,
-{
-    let mut source = Device {
-        inner: reader,
-        failed: false,
-    };
-    let mut sink = Device {
-        inner: Vec::new(alloc),
-        failed: false,
-    };
-    let answer = run(alloc, &mut source, &mut sink, mode);
-    Outcome {
-        answer,
-        written: sink.inner,
-        source_failed: source.failed,
-        sink_failed: sink.failed,
-    }
-}
-
-/// A run in a mode from memory to a writer that takes one byte a write.
-fn run_to(mode: Mode, alloc: Global, input: &[u8], room: usize, fails_at_flush: bool) -> Outcome {
-    let mut source = Device {
-        inner: input,
-        failed: false,
-    };
-    let mut sink = Device {
-        inner: FailingWriter {
-            kept: Vec::new(alloc),
-            room,
-            fails_at_flush,
-        },
-        failed: false,
-    };
-    let answer = run(alloc, &mut source, &mut sink, mode);
-    Outcome {
-        answer,
-        written: sink.inner.kept,
-        source_failed: source.failed,
-        sink_failed: sink.failed,
-    }
-}
-
-/// What is printed into it is refused where it is longer than this.
-#[derive(Drop)]
-struct Room(usize);
-
-impl fmt::Write for Room {
-    fn write_str(&mut self, s: &str) -> fmt::Result {
-        if s.len() > self.0 {
-            return Err(fmt::Error);
-        }
-        self.0 -= s.len();
-        Ok(())
-    }
-}
-
-const NO_SLASH: &str =
-    "bad mime parse error: a slash (/) was missing between the type and subtype\n";
-
-/// A run went well, and this is what it wrote.
-fn check_report(
-    rt: &impl Abort,
-    alloc: Global,
-    outcome: &Outcome,
-    report: &str,
-) -> Result<(), Fail> {
-    let written = String::from_utf8_lossy(alloc, outcome.written.as_slice())?;
-    assert_eq!(rt; outcome.answer, Ok(()), "for {report}");
-    assert_eq!(rt; &*written, report);
-    Ok(())
-}
-
-/// The report is this where bytes are read and written many at a time, and one by one.
-fn check_row(
-    rt: &impl Abort,
-    alloc: Global,
-    mode: Mode,
-    input: &[u8],
-    report: &str,
-) -> Result<(), Fail> {
-    let whole = run_in(mode, alloc, input);
-    check_report(rt, alloc, &whole, report)?;
-    let slowly_read = run_in(mode, alloc, SlowReader { left: input });
-    check_report(rt, alloc, &slowly_read, report)?;
-    let slowly_written = run_to(mode, alloc, input, report.len(), false);
-    check_report(rt, alloc, &slowly_written, report)
-}
-
-#[test]
-fn reports_each_line(rt: HostRuntime) -> Result<(), Fail> {
-    static ROWS: &[(&[u8], &str)] = &[
-        (
-            b"IMAGE/SVG+XML\ntext/\nno slash\n",
-            "ok image/svg+xml\ntype image\nsubtype svg\nsuffix xml\n\
-             bad mime parse error: a subtype was missing behind the slash (/)\n\
-             bad mime parse error: an invalid token was encountered, 20 at position 2\n",
-        ),
-        (
-            b"TEXT/HTML+XML; Charset=\"UTF-8\" ;q=1",
-            "ok text/html+xml; charset=\"utf-8\" ;q=1\ntype text\nsubtype html\nsuffix xml\n\
-             param charset=utf-8\nparam q=1\n",
-        ),
-        (
-            b"a/b;p=\"x, y\",\na/b;P=\"x, y\"; q=z",
-            "bad mime parse error: an invalid token was encountered, 2C at position 12\n\
-             ok a/b;p=\"x, y\"; q=z\ntype a\nsubtype b\nparam p=x, y\nparam q=z\n",
-        ),
-        (
-            b"a/b+;p=;",
-            "bad mime parse error: an invalid token was encountered, 3B at position 7\n",
-        ),
-        (b"a/b+", "ok a/b+\ntype a\nsubtype b\nsuffix \n"),
-        (
-            b"a/b;p=\"\\\"\xc3\xa9\"; q=\"\"",
-            "ok a/b;p=\"\\\"é\"; q=\"\"\ntype a\nsubtype b\nparam p=\\\"é\nparam q=\n",
-        ),
-        (
-            b"a/b\r\nc/d",
-            "bad mime parse error: an invalid token was encountered, D at position 3\nok c/d\ntype c\nsubtype d\n",
-        ),
-        (b"", ""),
-        (b"\n", NO_SLASH),
-        (b"\xff\n", "not text\n"),
-        (
-            b"\xc3\xa9\na/b;p=\"\xc3\xa9\"\n",
-            "bad mime parse error: an invalid token was encountered, C3 at position 0\n\
-             ok a/b;p=\"é\"\ntype a\nsubtype b\nparam p=é\n",
-        ),
-        (
-            b"\xc3\xa9\na/b;p=\"\xc3\xa9\"\n\xa9",
-            "bad mime parse error: an invalid token was encountered, C3 at position 0\n\
-             ok a/b;p=\"é\"\ntype a\nsubtype b\nparam p=é\nnot text\n",
-        ),
-        (
-            b"a/b;p\n\xc3",
-            "bad mime parse error: an equals sign (=) was missing between a parameter and its value\nnot text\n",
-        ),
-        (
-            b"a/b;p=",
-            "bad mime parse error: a value was missing behind the equals sign (=)\n",
-        ),
-    ];
-    for &(input, report) in ROWS {
-        check_row(&rt, rt.alloc(), Mode::Parts, input, report)?;
-    }
-    Ok(())
-}
-
-#[test]
-fn reports_the_items_of_each_line(rt: HostRuntime) -> Result<(), Fail> {
-    static ROWS: &[(&[u8], &str)] = &[
-        (
-            b"application/json, invalid, text/html\ninvalid\n",
-            "ok application/json\nbad invalid\nok text/html\n",
-        ),
-        (
-            b"TEXT/HTML; Q=1,*/*;, a/b ;q=x",
-            "ok text/html; q=1\nok */*\nok a/b\nbad q\n",
-        ),
-        (
-            b"a/b;p=\"x, c/d\na/b;p=\"x\", c/d",
-            "ok a/b;p=\"x\"\nok c/d\n",
-        ),
-        (b"a/b, c/d\r\ne/f", "ok a/b\nok c/d\nok e/f\n"),
-        (b"", ""),
-        (b"\n\n", ""),
-        (b"\xc3\xa9, a/b\n\xc3\xa9\nc/d", "ok a/b\nok c/d\n"),
-        (b"\xff\na/b", "not text\nok a/b\n"),
-        (b"x, a/b\n, \xc3\n", "bad x\nok a/b\nnot text\n"),
-        (
-            b"text/, a/b;p=, c/d\ntext/\n",
-            "bad text/\nbad a/b;p=\nok c/d\n",
-        ),
-    ];
-    for &(input, report) in ROWS {
-        check_row(&rt, rt.alloc(), Mode::List, input, report)?;
-    }
-    Ok(())
-}
-
-#[test]
-fn a_list_may_have_1048576_bytes(rt: HostRuntime) -> Result<(), Fail> {
-    let mut commas = vec![in rt.alloc(); b','; 1_048_576]?;
-    let whole = run_in(Mode::List, rt.alloc(), commas.as_slice());
-    assert_eq!(rt; whole.answer, Ok(()));
-    assert_eq!(rt; whole.written.len(), 0);
-    commas.push(b',')?;
-    let long = run_in(Mode::List, rt.alloc(), commas.as_slice());
-    assert_eq!(rt; long.answer, Err(RunError::TooLong));
-    assert_eq!(rt; long.written.len(), 0);
-    Ok(())
-}
-
-#[test]
-fn takes_1048576_bytes_and_no_more(rt: HostRuntime) -> Result<(), Fail> {
-    let mut letters = vec![in rt.alloc(); b'a'; 1_048_576]?;
-    let whole = run_over(rt.alloc(), letters.as_slice());
-    assert_eq!(rt; whole.answer, Ok(()));
-    assert_eq!(rt; whole.written.as_slice(), NO_SLASH.as_bytes());
-    letters.push(b'a')?;
-    let long = run_over(rt.alloc(), letters.as_slice());
-    assert_eq!(rt; long.answer, Err(RunError::TooLong));
-    assert_eq!(rt; long.written.len(), 0);
-    assert!(rt; !long.source_failed && !long.sink_failed);
-    Ok(())
-}
-
-#[test]
-fn reads_many_bytes_at_a_time(rt: HostRuntime) -> Result<(), Fail> {
-    let letters = vec![in rt.alloc(); b'a'; 65_536]?;
-    let mut source = Device {
-        inner: CountingReader {
-            left: letters.as_slice(),
-            reads: 0,
-        },
-        failed: false,
-    };
-    let mut sink = Device {
-        inner: Vec::new(rt.alloc()),
-        failed: false,
-    };
-    let answer = run(rt.alloc(), &mut source, &mut sink, Mode::Parts);
-    assert_eq!(rt; answer, Ok(()));
-    let reads = source.inner.reads;
-    assert!(rt; reads <= 100, "{reads} reads");
-    Ok(())
-}
-
-#[test]
-fn a_report_may_be_longer_than_the_limit(rt: HostRuntime) -> Result<(), Fail> {
-    let letters = vec![in rt.alloc(); b'a'; 1_048_574]?;
-    let mut report = Vec::new(rt.alloc());
-    let parts: [&[u8]; 5] = [
-        b"ok ",
-        letters.as_slice(),
-        b"/b\ntype ",
-        letters.as_slice(),
-        b"\nsubtype b\n",
-    ];
-    for part in parts {
-        report.extend_from_slice(part)?;
-    }
-    let mut input = letters;
-    input.extend_from_slice(b"/b")?;
-    assert_eq!(rt; input.len(), 1_048_576);
-    let whole = run_over(rt.alloc(), input.as_slice());
-    assert_eq!(rt; whole.answer, Ok(()));
-    assert!(rt; whole.written.as_slice() == report.as_slice());
-    Ok(())
-}
-
 #[test]
 fn passes_on_what_it_writes(rt: HostRuntime) {
     for input in [b"".as_slice(), b"a/b"] {
@@ -402,11 +323,8 @@ fn passes_on_what_it_writes(rt: HostRuntime) {
             failed: false,
         };
         let mut sink = Pending { is_pending: true };
-        assert_eq!(rt;
-            run(rt.alloc(), &mut source, &mut sink, Mode::Parts),
-            Ok(())
-        );
-        assert!(rt; !sink.is_pending, "after {} bytes", input.len());
+        let answer = run(rt.alloc(), &mut source, &mut sink, Mode::Parts);
+        assert!(rt; answer.is_ok() && !sink.is_pending);
     }
 }
 
@@ -427,8 +345,9 @@ fn all_memory(alloc: Global) -> Result<Option<Vec<Vec<u8>>>, Fail> {
     Ok(None)
 }
 
-/// What a run over `a/b` answers, and the bytes that it wrote to a slice of 24 bytes.
-fn run_to_slice(alloc: Global, mode: Mode, room: &mut [u8; 24]) -> (Result<(), RunError>, usize) {
+/// Whether a run over `a/b` to a slice of 24 bytes gives this answer and writes these bytes.
+fn ends_in_slice(alloc: Global, mode: Mode, answer: Result<(), RunError>, written: &[u8]) -> bool {
+    let mut room = [0u8; 24];
     let mut source = Device {
         inner: b"a/b".as_slice(),
         failed: false,
@@ -437,115 +356,48 @@ fn run_to_slice(alloc: Global, mode: Mode, room: &mut [u8; 24]) -> (Result<(), R
         inner: room.as_mut_slice(),
         failed: false,
     };
-    let answer = run(alloc, &mut source, &mut sink, mode);
-    (answer, 24usize.saturating_sub(sink.inner.len()))
+    let got = run(alloc, &mut source, &mut sink, mode);
+    let left = sink.inner.len();
+    got == answer && left + written.len() == 24 && room.starts_with(written)
 }
 
 #[test]
 fn writes_nothing_without_memory(rt: HostRuntime) -> Result<(), Fail> {
-    for (mode, report) in [
-        (Mode::Parts, b"ok a/b\ntype a\nsubtype b\n".as_slice()),
+    static CASES: &[(Mode, &[u8])] = &[
+        (Mode::Parts, b"ok a/b\ntype a\nsubtype b\n"),
         (Mode::List, b"ok a/b\n"),
-    ] {
-        let mut room = [0u8; 24];
+    ];
+    for &(mode, report) in CASES {
         let Some(blocks) = all_memory(rt.alloc())? else {
             return Ok(());
         };
-        let refused = run_to_slice(rt.alloc(), mode, &mut room);
+        let is_refused = ends_in_slice(rt.alloc(), mode, Err(RunError::NoMemory), b"");
         drop(blocks);
-        assert_eq!(rt; refused, (Err(RunError::NoMemory), 0));
-        let done = run_to_slice(rt.alloc(), mode, &mut room);
-        assert_eq!(rt; done, (Ok(()), report.len()));
-        assert!(rt; &room[..report.len()] == report);
+        assert!(rt; is_refused);
+        assert!(rt; ends_in_slice(rt.alloc(), mode, Ok(()), report));
     }
     Ok(())
 }
 
-#[test]
-fn stops_where_a_read_fails(rt: HostRuntime) {
-    let input: &[u8] = b"text/html\na/b, \xff";
-    for mode in [Mode::Parts, Mode::List] {
-        // The last of these reads would have told the end.
-        for reads in 0..=input.len() {
-            let slow = SlowReader { left: input };
-            let broken = run_in(mode, rt.alloc(), FailingReader { slow, reads });
-            assert_eq!(rt; broken.answer, Err(RunError::Read), "after {reads} reads");
-            assert_eq!(rt; broken.written.len(), 0, "after {reads} reads");
-            assert!(rt;
-                broken.source_failed && !broken.sink_failed,
-                "after {reads} reads"
-            );
-        }
-    }
+/// Whether an error prints this text, to a writer that takes it alone.
+fn prints(error: RunError, text: &[u8]) -> bool {
+    let mut writer = taking(text, ENOUGH);
+    fmt::Write::write_fmt(&mut writer, format_args!("{error}")).is_ok() && writer.left.is_empty()
 }
 
 #[test]
-fn an_endless_input_is_too_long(rt: HostRuntime) {
-    for mode in [Mode::Parts, Mode::List] {
-        let endless = run_in(mode, rt.alloc(), EndlessReader);
-        assert_eq!(rt; endless.answer, Err(RunError::TooLong));
-        assert_eq!(rt; endless.written.len(), 0);
-        assert!(rt; !endless.source_failed && !endless.sink_failed);
-    }
-}
-
-/// The writer has room for this many bytes: a run that failed wrote all of them, and only its sink has failed.
-fn check_ended(rt: &impl Abort, ended: &Outcome, room: usize, answer: Result<(), RunError>) {
-    assert_eq!(rt; ended.answer, answer, "{room} bytes");
-    assert_eq!(rt; ended.written.len(), room);
-    let failed = (ended.source_failed, ended.sink_failed);
-    assert_eq!(rt; failed, (false, answer.is_err()), "{room} bytes");
-}
-
-#[test]
-fn stops_where_a_write_or_a_flush_fails(rt: HostRuntime) {
-    // The mode, the input, and the length of its report.
-    static CASES: &[(Mode, &[u8], usize)] = &[
-        (Mode::Parts, b"a/b", 24),
-        (Mode::List, b"a/b", 7),
-        (Mode::Parts, b"", 0),
-        (Mode::List, b"", 0),
+fn prints_each_error(rt: HostRuntime) {
+    static TEXTS: &[(RunError, &[u8])] = &[
+        (RunError::Read, b"read"),
+        (RunError::Write, b"write"),
+        (RunError::TooLong, b"too long"),
+        (RunError::NoMemory, b"no memory"),
     ];
-    for &(mode, input, len) in CASES {
-        for room in 0..len {
-            let ended = run_to(mode, rt.alloc(), input, room, false);
-            check_ended(&rt, &ended, room, Err(RunError::Write));
-        }
-        let whole = run_to(mode, rt.alloc(), input, len, false);
-        check_ended(&rt, &whole, len, Ok(()));
-        // A flush is made for an empty report too.
-        let unflushed = run_to(mode, rt.alloc(), input, len, true);
-        check_ended(&rt, &unflushed, len, Err(RunError::Write));
-    }
-}
-
-#[test]
-fn a_long_report_is_flushed(rt: HostRuntime) -> Result<(), Fail> {
-    let lines = "a/b\n".repeat(rt.alloc(), 400)?;
-    let unflushed = run_to(Mode::Parts, rt.alloc(), lines.as_bytes(), 9_600, true);
-    check_ended(&rt, &unflushed, 9_600, Err(RunError::Write));
-    Ok(())
-}
-
-#[test]
-fn prints_each_error(rt: HostRuntime) -> Result<(), Fail> {
-    for (error, text) in [
-        (RunError::Read, "read"),
-        (RunError::Write, "write"),
-        (RunError::TooLong, "too long"),
-        (RunError::NoMemory, "no memory"),
-    ] {
-        let shown = format!(in rt.alloc(); "{error}")?;
-        assert_eq!(rt; shown.as_str(), text);
-        // It answers what its writer answers.
-        for room in 0..=text.len() {
-            let answer = fmt::Write::write_fmt(&mut Room(room), format_args!("{error}"));
-            assert_eq!(rt;
-                answer.is_ok(),
-                room == text.len(),
-                "{text} into {room} bytes"
-            );
+    for &(error, text) in TEXTS {
+        assert!(rt; prints(error, text));
+        // It fails where its writer does.
+        for room in 0..text.len() {
+            assert!(rt; !prints(error, &text[..room]));
         }
     }
-    Ok(())
 }
