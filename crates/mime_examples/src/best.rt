@@ -18,17 +18,27 @@ fn digit(byte: u8) -> Option<u16>
     }
 }
 
+/// What the decimals of a weight are worth in thousandths, as 500 for `5`; none where they are no decimals, or more than three.
+fn decimals(text: &str) -> Option<u16>
+    ensures { IfSome result (λ sum. sum ≤ 999) }
+{
+    match text.as_bytes() {
+        [] => Some(0),
+        [a] => Some(digit(*a)? * 100),
+        [a, b] => Some(digit(*a)? * 100 + digit(*b)? * 10),
+        [a, b, c] => Some(digit(*a)? * 100 + digit(*b)? * 10 + digit(*c)?),
+        _ => None,
+    }
+}
+
 /// A weight in thousandths, as 500 for `0.5`; none where the text is no weight (RFC 7231, 5.3.1).
 pub fn thousandths(weight: &str) -> Option<u16>
     ensures { IfSome result (λ sum. sum ≤ 1000) }
 {
-    match weight.as_bytes() {
-        b"1" | b"1." | b"1.0" | b"1.00" | b"1.000" => Some(1000),
-        b"0" | b"0." => Some(0),
-        [b'0', b'.', a] => Some(digit(*a)? * 100),
-        [b'0', b'.', a, b] => Some(digit(*a)? * 100 + digit(*b)? * 10),
-        [b'0', b'.', a, b, c] => Some(digit(*a)? * 100 + digit(*b)? * 10 + digit(*c)?),
-        _ => None,
+    match weight {
+        "1" | "1." | "1.0" | "1.00" | "1.000" => Some(1000),
+        "0" => Some(0),
+        _ => decimals(weight.strip_prefix("0.")?),
     }
 }
 

@@ -9,7 +9,9 @@ use std::fmt::Write;
 /// # Errors
 /// `AllocError` where memory runs out.
 pub fn described(alloc: Global, mime: &Mime) -> Result<String, AllocError> {
-    let mut lines = format!(in alloc; "type {}\nsubtype {}\n", mime.type_(), mime.subtype())?;
+    let mut lines = String::new(alloc);
+    writeln!(lines, "type {}", mime.type_())?;
+    writeln!(lines, "subtype {}", mime.subtype())?;
     if let Some(suffix) = mime.suffix() {
         writeln!(lines, "suffix {suffix}")?;
     }

@@ -15,9 +15,8 @@ pub fn covers(range: &Mime, mime: &Mime) -> bool
     if range.essence_str() == mime.essence_str() {
         return true;
     }
-    match (range.type_(), range.subtype(), range.suffix()) {
-        (STAR, STAR, None) => true,
-        (type_, STAR, None) => type_ == mime.type_(),
-        _ => false,
+    if range.subtype() != STAR || range.suffix().is_some() {
+        return false;
     }
+    range.type_() == STAR || range.type_() == mime.type_()
 }
