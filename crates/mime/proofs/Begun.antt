@@ -107,17 +107,17 @@ with_closed [] rest = rest
 with_closed ((n, parameter) ∷ closed) rest = with_closed closed (more n parameter rest)
 
 -- the parameter list that ends in a state, if it may end there
-abbrev pub ended : ListState → Option Parameters
-ended (in_spaces n) = Some (blank n)
-ended (in_name n name) = None
-ended (in_value n name []) = None
-ended (in_value n name (v ∷ value)) = Some (final n (plain name (v ∷ value)))
-ended (in_quotes n name content) = None
-ended (after_quotes n name content m) = Some (final n (quoted name content m))
+abbrev pub list_at_end : ListState → Option Parameters
+list_at_end (in_spaces n) = Some (blank n)
+list_at_end (in_name n name) = None
+list_at_end (in_value n name []) = None
+list_at_end (in_value n name (v ∷ value)) = Some (final n (plain name (v ∷ value)))
+list_at_end (in_quotes n name content) = None
+list_at_end (after_quotes n name content m) = Some (final n (quoted name content m))
 
 -- the parameter list that ends as a begun list, if it may end there
 abbrev pub ended_list : BegunList → Option Parameters
-ended_list list = option_map (with_closed list.closed) (ended list.place)
+ended_list list = option_map (with_closed list.closed) (list_at_end list.place)
 
 -- the syntax tree of a text that ends in a begun tree, if it may end there
 abbrev pub tree_of : Begun → Option SyntaxTree

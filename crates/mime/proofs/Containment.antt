@@ -33,13 +33,13 @@ record Written (text rest : List ℕ) : Type 0 where
   end : List ℕ
   cut : Pieces text pieces end
   spelled : text_of_pieces pieces end ≡ text
-  ended : IsAccepted end ⊎ (end ≡ rest)
+  last_is : IsAccepted end ⊎ (end ≡ rest)
 
 written : (text : List ℕ) (items : List CutItem) (rest : List ℕ) → Cut text items rest → Written text rest
 written text items rest (whole t v reads) =
-    record { pieces = []; end = t; cut = last t (accepted_is_viable t (v, reads)); spelled = refl; ended = inl (v, reads) }
+    record { pieces = []; end = t; cut = last t (accepted_is_viable t (v, reads)); spelled = refl; last_is = inl (v, reads) }
 written text items rest (unfinished t viable is) =
-    record { pieces = []; end = t; cut = last t viable; spelled = refl; ended = inr refl }
+    record { pieces = []; end = t; cut = last t viable; spelled = refl; last_is = inr refl }
 written text items rest (goes_on t p c l first others r split of_piece cut) =
     let w = written l others r cut in
     record {
@@ -47,12 +47,12 @@ written text items rest (goes_on t p c l first others r split of_piece cut) =
       end = w.end;
       cut = next t p c l w.pieces w.end split w.cut;
       spelled = ap (λ t. p ++ (c ++ t)) w.spelled ∙ sym split.spelled;
-      ended = w.ended;
+      last_is = w.last_is;
     }
 
 -- a cut writes its text as pieces
 pub cut_writes_text : CutWritesText
-cut_writes_text text items rest cut = let w = written text items rest cut in (w.pieces, w.end, w.cut, w.spelled, w.ended)
+cut_writes_text text items rest cut = let w = written text items rest cut in (w.pieces, w.end, w.cut, w.spelled, w.last_is)
 
 -- a text takes one number of steps
 pub one_count : OneCount
@@ -70,7 +70,7 @@ dead-inv : (b : ℕ) (bytes : List ℕ) (rest : Following bytes) (items : List C
 dead-inv b bytes rest items end dead cut =
     let split = split-from_dead [] bytes b (in_type []) rest (front-from_walk [] bytes b (in_type []) refl dead) in
     let leaves = split_inv (b ∷ bytes) [] (b ∷ rest.following) rest.left [] items end split (is_empty refl) cut in
-    subst (λ i. Cut rest.left i end) (sym leaves.joined) leaves.cut
+    subst (λ i. Cut rest.left i end) (sym leaves.appended) leaves.cut
 
 -- a byte that only follows begins no type
 following-high : (b : ℕ) → IsTrue (is_following_byte b) → 128 ≤ b

@@ -221,7 +221,7 @@ items_of_unique piece one two (is_empty e) (is_empty f) = refl
 -- a split text's cut: the items of its piece, and then those of what is left
 pub record Leaves (first : List CutItem) (left : List ℕ) (items : List CutItem) (rest : List ℕ) : Type 0 where
   pub others : List CutItem
-  pub joined : items ≡ first ++ others
+  pub appended : items ≡ first ++ others
   pub cut : Cut left others rest
 
 pub split_inv : (text p c l : List ℕ) (first items : List CutItem) (rest : List ℕ) → IsSplit text p c l → ItemsOf p first
@@ -233,7 +233,7 @@ split_inv text p c l first items rest split has (goes_on t q d m own others r ag
     let same = split_unique t q d m p c l again split in
     record {
       others = others;
-      joined = ap (λ f. f ++ others) (items_of_unique p own first (subst (λ x. ItemsOf x own) same.piece of_piece) has);
+      appended = ap (λ f. f ++ others) (items_of_unique p own first (subst (λ x. ItemsOf x own) same.piece of_piece) has);
       cut = subst (λ x. Cut x others r) same.left cut;
     }
 
@@ -247,7 +247,7 @@ cut_unique text items rest (unfinished t viable is) others left second =
 cut_unique text items rest (goes_on t p c l first own r split of_piece cut) others left second =
     let leaves = split_inv t p c l first others left split of_piece second in
     let same = cut_unique l own r cut leaves.others left leaves.cut in
-    (leaves.joined ∙ ap (λ o. first ++ o) same.0, same.1)
+    (leaves.appended ∙ ap (λ o. first ++ o) same.0, same.1)
 
 -- ---- the steps
 

@@ -37,8 +37,8 @@ one_more f a b marks n room other_room within so_far =
     (omega (arith, length-take-le n a, length-take-le n b, room, other_room)))
 
 -- one more byte
-joined : (x y n : ℕ) (xs ys : List ℕ) → x ≡ y → take n xs ≡ take n ys → take (1 + n) (x ∷ xs) ≡ take (1 + n) (y ∷ ys)
-joined x y n xs ys one rest =
+same_take-cons : (x y n : ℕ) (xs ys : List ℕ) → x ≡ y → take n xs ≡ take n ys → take (1 + n) (x ∷ xs) ≡ take (1 + n) (y ∷ ys)
+same_take-cons x y n xs ys one rest =
     let next : 1 + n ≡ suc n = omega arith in
     ap (λ m. take m (x ∷ xs)) next ∙ cc (one, rest) ∙ ap (λ m. take m (y ∷ ys)) (sym next)
 
@@ -53,7 +53,7 @@ alike_to_mark (x ∷ xs) (y ∷ ys) = go (to_ascii_lowercase x == to_ascii_lower
         → take (first_position 1 (zip2 mark xs ys)) (lowered xs) ≡ take (first_position 1 (zip2 mark xs ys)) (lowered ys)
         → take (first_position 1 (cond same 0 1 ∷ zip2 mark xs ys)) (lowered (x ∷ xs))
         ≡ take (first_position 1 (cond same 0 1 ∷ zip2 mark xs ys)) (lowered (y ∷ ys))
-    go true is rest = joined _ _ (first_position 1 (zip2 mark xs ys)) (lowered xs) (lowered ys) (eqb-true _ _ is) rest
+    go true is rest = same_take-cons _ _ (first_position 1 (zip2 mark xs ys)) (lowered xs) (lowered ys) (eqb-true _ _ is) rest
     go false is rest = refl
 
 -- bytes are not marked exactly where they are the same but for case

@@ -20,9 +20,9 @@ put-mark free left at held is room =
     rw room (set_at held 0 (replicate left 0) 255 at is ∙ sym (append_assoc held (255 ∷ []) (replicate left 0)))
 
 -- the front of the buffer
-front : (free more count : ℕ) (held : List ℕ) → count ≡ length held + more → more ≤ free
+take-held : (free more count : ℕ) (held : List ℕ) → count ≡ length held + more → more ≤ free
     → take count (held ++ replicate free 0) ≡ held ++ replicate more 0
-front free more count held is within =
+take-held free more count held is within =
     rw is (take-append-add held (replicate free 0) more ∙ ap (λ zeros. held ++ zeros) (take-replicate {X = ℕ} more free 0 within))
 
 -- a name, the byte 255, a value and the byte 255, up to a whole word, are the pair's run
@@ -37,7 +37,7 @@ joined_pair name value one other first second short =
     let marked : length (name ++ 255 ∷ []) ≡ length name + 1 = length-append name (255 ∷ []) in
     let filled : length (name ++ 255 ∷ [] ++ value) ≡ length name + 1 + length value = length-append (name ++ 255 ∷ []) value
     ∙ ap (λ n. n + length value) marked in
-    let ended : length (name ++ 255 ∷ [] ++ value ++ 255 ∷ []) ≡ length name + 1 + length value + 1 =
+    let closed : length (name ++ 255 ∷ [] ++ value ++ 255 ∷ []) ≡ length name + 1 + length value + 1 =
     length-append (name ++ 255 ∷ [] ++ value) (255 ∷ []) ∙ ap (λ n. n + 1) filled in
     rw (
       first,
@@ -47,8 +47,8 @@ joined_pair name value one other first second short =
       put-text (63 - length name) (length name + 1) (length name + 1 + length value - (length name + 1)) (name ++ 255 ∷ []) value marked,
       put-mark (63 - length name - (length name + 1 + length value - (length name + 1))) (63 - (length name + 1 + length value))
           (length name + 1 + length value) (name ++ 255 ∷ [] ++ value) filled (omega (arith, short)),
-      front (63 - (length name + 1 + length value)) (7 - (length name + 1 + length value) % 8)
+      take-held (63 - (length name + 1 + length value)) (7 - (length name + 1 + length value) % 8)
           (length name + 1 + length value + 8 - (length name + 1 + length value) % 8) (name ++ 255 ∷ [] ++ value ++ 255 ∷ [])
-          (omega (arith, ended)) (omega (arith, short)),
+          (omega (arith, closed)) (omega (arith, short)),
     )
     (simp append_assoc)

@@ -11,7 +11,7 @@ use Rattle.mime.specs.KeptText.{media_of, HoldsParameter, IsKept, with_pairs_low
 use Rattle.mime.specs.declared.scan.Places.{Places}
 use Rattle.mime.proofs.ByteAt.{slice_get-front}
 use Rattle.mime.proofs.Lowering.{length-lowered, lowered-append, lowered_tree-lowered_tree, IsWellFormed-lowered_tree, places_of-lowered_tree}
-use Rattle.mime.proofs.Utf8.{IsLoweredInPart, small, joined}
+use Rattle.mime.proofs.Utf8.{IsLoweredInPart, small, in_parts}
 use Rattle.mime.proofs.PairCuts.{lowered_within-in_part}
 use Rattle.mime.proofs.ListText.{pairs_within-text_of_list, lowered_within-text_of_list}
 
@@ -224,4 +224,4 @@ pub kept-in_part : (count s : ℕ) (text : List ℕ)
 kept-in_part count s text =
     subst (λ t. IsLoweredInPart t (with_pairs_lowered count s text))
     (take-append-drop (s + 1) text)
-    (joined _ _ _ _ (small (take (s + 1) text)) (lowered_within-in_part count (drop (s + 1) text)))
+    (in_parts _ _ _ _ (small (take (s + 1) text)) (lowered_within-in_part count (drop (s + 1) text)))

@@ -30,13 +30,13 @@ use lib.Utf8.{encode}
 -- ---- an essence
 
 -- a tree without its list
-abbrev bare_tree : SyntaxTree → SyntaxTree
-bare_tree tree = record { top = tree.top; sub = tree.sub; tail = no_list }
+abbrev without_list : SyntaxTree → SyntaxTree
+without_list tree = record { top = tree.top; sub = tree.sub; tail = no_list }
 
 -- the essence of a value that was read is read as the value without its parameters
 pub essence_is_read : EssenceIsRead
 essence_is_read text value reads =
-    let bare = bare_tree reads.tree in
+    let bare = without_list reads.tree in
     record {
       tree = lowered_tree bare;
       well_formed = IsWellFormed-lowered_tree bare (reads.well_formed.0, reads.well_formed.1, tt);

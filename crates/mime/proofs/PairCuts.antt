@@ -9,7 +9,7 @@ use Rattle.mime.specs.Quoted.{content_len, after_content}
 use Rattle.mime.specs.Pairs.{IsEndOf, PairCut, first_position, before_byte, after_byte, cut_after_equals, leading_spaces, without_gap, cut_of, lowered_first, lowered_within}
 use Rattle.mime.proofs.Lowering.{lowered_value-either}
 use Rattle.mime.proofs.Marks.{end_drop}
-use Rattle.mime.proofs.Utf8.{IsLoweredInPart, same, small, joined, length-in_part}
+use Rattle.mime.proofs.Utf8.{IsLoweredInPart, same, small, in_parts, length-in_part}
 
 -- the first list is the second without some of its first bytes
 abbrev IsEnd : List ℕ → List ℕ → Type 0
@@ -106,8 +106,8 @@ first_lowered-in_part : (list : List ℕ) (lies : LiesIn list (cut_of list))
     → IsLoweredInPart (before_rest list lies) (first_lowered list lies)
 first_lowered-in_part list lies =
     let cut = cut_of list in
-    joined _ _ _ _ (small lies.front)
-    (joined _ _ _ _ (lowered_value-either (IsLoweredInPart cut.value) cut.name cut.value (same cut.value) (small cut.value))
+    in_parts _ _ _ _ (small lies.front)
+    (in_parts _ _ _ _ (lowered_value-either (IsLoweredInPart cut.value) cut.name cut.value (same cut.value) (small cut.value))
     (same lies.middle))
 
 -- lowering the first pair keeps the position of the rest
@@ -135,6 +135,6 @@ pub lowered_within-in_part : (count : ℕ) (list : List ℕ) → IsLoweredInPart
 lowered_within-in_part zero list = same list
 lowered_within-in_part (suc count) list =
     let lies = cut_of-lies list in
-    let parts = joined _ _ _ _ (first_lowered-in_part list lies) (lowered_within-in_part count (cut_of list).rest) in
+    let parts = in_parts _ _ _ _ (first_lowered-in_part list lies) (lowered_within-in_part count (cut_of list).rest) in
     subst (λ x. IsLoweredInPart x (lowered_within (suc count) list)) (before_rest-joined list lies)
     (subst (IsLoweredInPart (before_rest list lies ++ (cut_of list).rest)) (sym (lowered_within-first count list lies)) parts)

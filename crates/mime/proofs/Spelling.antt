@@ -10,7 +10,7 @@ use Rattle.mime.specs.Bytes.{is_token_byte, slash_byte, semicolon_byte, equals_b
 use Rattle.mime.specs.Grammar.{quoted, Parameters, more, listed, is_space, AreSpaces, text_of_parameter, text_of_list, text_of, AreTokenBytes, IsToken, IsContent, IsParameter, AreParameters, IsWellFormed}
 use Rattle.mime.specs.Quoted.{IsOpenContent, continues}
 use Rattle.mime.proofs.Quoted.{IsOpenContent-push, IsContent-closed}
-use Rattle.mime.proofs.Begun.{Closed, Begun, in_type, in_subtype, in_list, BegunList, ListState, in_spaces, in_name, in_value, in_quotes, after_quotes, list_at, grow, grow_state, grow_list, walk, walk_from, with_closed, ended, tree_of}
+use Rattle.mime.proofs.Begun.{Closed, Begun, in_type, in_subtype, in_list, BegunList, ListState, in_spaces, in_name, in_value, in_quotes, after_quotes, list_at, grow, grow_state, grow_list, walk, walk_from, with_closed, list_at_end, tree_of}
 
 -- ---- begun trees: their texts, and that each part is in its class
 
@@ -213,14 +213,14 @@ AreParameters-with_closed (item ∷ closed) rest before here =
     AreParameters-with_closed closed (more item.0 item.1 rest) before.2 (before.0, before.1, here)
 
 -- a list that ends in a state spells that state's text
-ended-spelled : (place : ListState) → IsState place
-    → MatchOption (ended place) (Unit {0}) (λ rest. AreParameters rest × (text_of_list rest ≡ text_of_state place))
-ended-spelled (in_spaces n) fine = (fine, refl)
-ended-spelled (in_name n name) fine = tt
-ended-spelled (in_value n name []) fine = tt
-ended-spelled (in_value n name (v ∷ value)) fine = ((fine.0, (fine.1, fine.2)), refl)
-ended-spelled (in_quotes n name content) fine = tt
-ended-spelled (after_quotes n name content m) fine = ((fine.0, (fine.1, fine.2, fine.3)), refl)
+list_at_end-spelled : (place : ListState) → IsState place
+    → MatchOption (list_at_end place) (Unit {0}) (λ rest. AreParameters rest × (text_of_list rest ≡ text_of_state place))
+list_at_end-spelled (in_spaces n) fine = (fine, refl)
+list_at_end-spelled (in_name n name) fine = tt
+list_at_end-spelled (in_value n name []) fine = tt
+list_at_end-spelled (in_value n name (v ∷ value)) fine = ((fine.0, (fine.1, fine.2)), refl)
+list_at_end-spelled (in_quotes n name content) fine = tt
+list_at_end-spelled (after_quotes n name content m) fine = ((fine.0, (fine.1, fine.2, fine.3)), refl)
 
 -- the tree of a text that may end spells the text
 pub tree_of-spelled : (begun : Begun) → IsBegun begun
@@ -230,7 +230,7 @@ tree_of-spelled (in_subtype top []) here = tt
 tree_of-spelled (in_subtype top (s ∷ sub)) here =
     ((here.0, here.1, tt), ap (λ t. top ++ (slash_byte ∷ t)) (append-nil (s ∷ sub)))
 tree_of-spelled (in_list top sub list) here =
-    elim (ended list.place) as (λ o.
+    elim (list_at_end list.place) as (λ o.
     MatchOption o (Unit {0}) (λ rest. AreParameters rest × (text_of_list rest ≡ text_of_state list.place))
     → MatchOption (option_map (λ rest. record { top = top; sub = sub; tail = listed rest }) (option_map (with_closed list.closed) o))
     (Unit {0}) (λ tree. IsWellFormed tree × (text_of tree ≡ text_of_begun (in_list top sub list)))) [
@@ -240,4 +240,4 @@ tree_of-spelled (in_list top sub list) here =
         ap (λ t. top ++ (slash_byte ∷ (sub ++ (semicolon_byte ∷ t))))
             (text_of_list-with_closed list.closed rest ∙ ap (λ t. text_of_closed list.closed ++ t) ends.1),
       )
-    ] (ended-spelled list.place here.list.place)
+    ] (list_at_end-spelled list.place here.list.place)

@@ -212,8 +212,8 @@ HasNoSemicolon-lowered [] = refl
 HasNoSemicolon-lowered (b ∷ text) = rw (semicolon-lower b, HasNoSemicolon-lowered text) refl
 
 -- an accepted text without a semicolon is an essence
-pub bare_tree : (tree : SyntaxTree) → HasNoSemicolon (text_of tree) → text_of tree ≡ essence_of tree
-bare_tree tree bare = go tree.tail (subst HasNoSemicolon (text_of-essence tree) bare)
+pub text_of-bare : (tree : SyntaxTree) → HasNoSemicolon (text_of tree) → text_of tree ≡ essence_of tree
+text_of-bare tree bare = go tree.tail (subst HasNoSemicolon (text_of-essence tree) bare)
   where
     go : (tail : Tail) → HasNoSemicolon (essence_of tree ++ text_of_tail tail)
         → tree.top ++ (slash_byte ∷ (tree.sub ++ text_of_tail tail)) ≡ essence_of tree
@@ -247,7 +247,7 @@ text_is-bare kept value reads none text =
       λ is.
           let tree = is.reads.tree in
           let spelled = is.reads.spelled in
-          ap lowered (sym spelled ∙ bare_tree tree (subst HasNoSemicolon (sym spelled) (is.bare none)))
+          ap lowered (sym spelled ∙ text_of-bare tree (subst HasNoSemicolon (sym spelled) (is.bare none)))
           ∙ sym (essence-lowered tree) ∙ ap (λ (v : MediaType). v.essence) is.reads.valued ∙ sym is.same.0,
       λ low. text_is-from_lowered text kept value reads none low,
     )

@@ -15,14 +15,14 @@ use lib.Utf8.{scalars, scalar, encodes, encode}
 pub data IsLoweredInPart : List ℕ → List ℕ → Type 0 where
   same : (text : List ℕ) → IsLoweredInPart text text
   small : (text : List ℕ) → IsLoweredInPart text (lowered text)
-  joined : (front back low_front low_back : List ℕ) → IsLoweredInPart front low_front → IsLoweredInPart back low_back
+  in_parts : (front back low_front low_back : List ℕ) → IsLoweredInPart front low_front → IsLoweredInPart back low_back
       → IsLoweredInPart (front ++ back) (low_front ++ low_back)
 
 -- a text lowered in part has the same lowering
 lowered-in_part : (text partly : List ℕ) → IsLoweredInPart text partly → lowered partly ≡ lowered text
 lowered-in_part text partly (same _) = refl
 lowered-in_part text partly (small _) = lowered-lowered text
-lowered-in_part text partly (joined front back low_front low_back first second) =
+lowered-in_part text partly (in_parts front back low_front low_back first second) =
     lowered-append low_front low_back
     ∙ rw (lowered-in_part front low_front first, lowered-in_part back low_back second) (sym (lowered-append front back))
 
@@ -40,7 +40,7 @@ low_parts (b ∷ front) back low = let parts = low_parts front back (cc) in let 
 pub low-in_part : (text partly : List ℕ) → IsLoweredInPart text partly → lowered text ≡ text → partly ≡ text
 low-in_part text partly (same _) low = refl
 low-in_part text partly (small _) low = low
-low-in_part text partly (joined front back low_front low_back first second) low =
+low-in_part text partly (in_parts front back low_front low_back first second) low =
     let parts = low_parts front back low in
     rw (low-in_part front low_front first parts.0, low-in_part back low_back second parts.1) refl
 

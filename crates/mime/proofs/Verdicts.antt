@@ -11,7 +11,7 @@ use Rattle.mime.specs.declared.scan.Places.{Places}
 use Rattle.mime.specs.declared.scan.fault.ParseError.{ParseError}
 use Rattle.mime.specs.declared.scan.Verdict.{Verdict}
 use Rattle.mime.specs.declared.scan.Verdict.TheVariants.{Accepted, Unfinished, Stopped}
-use Rattle.mime.proofs.Begun.{Begun, in_type, in_list, BegunList, begun_list, grow, grow_list, walk, walk_from, walk_list, with_closed, ended, tree_of, lacking, lacking_list}
+use Rattle.mime.proofs.Begun.{Begun, in_type, in_list, BegunList, begun_list, grow, grow_list, walk, walk_from, walk_list, with_closed, list_at_end, tree_of, lacking, lacking_list}
 use Rattle.mime.proofs.Passing.{given_then, given_whole}
 use Rattle.mime.proofs.Walks.{walk_from-append_some, walk_from-in_list}
 use Rattle.mime.proofs.Readings.{accepted-from_walk, refused-from_walk, walk-head}
@@ -128,12 +128,12 @@ length-with_closed ((n, parameter) ∷ closed) rest = length-with_closed closed 
 abbrev pub places_of_list : Places → BegunList → Option Places
 places_of_list head list =
     option_map (λ rest. record head { pairs = head.pairs + (length list.closed + length (pairs_of_list rest)) })
-    (ended list.place)
+    (list_at_end list.place)
 
 -- the positions of a text that ends in a list are those of its tree
 places_of_list-tree : (top sub : List ℕ) (list : BegunList)
     → places_of_list (places_of (before_list top sub)) list ≡ option_map places_of (tree_of (in_list top sub list))
-places_of_list-tree top sub list = at_end (ended list.place)
+places_of_list-tree top sub list = at_end (list_at_end list.place)
   where
     at_end : (end : Option Parameters)
         → option_map

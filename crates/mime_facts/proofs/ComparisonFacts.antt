@@ -1,5 +1,5 @@
 -- Values and texts for which each definition of equality and order is true, and others for which it is false, by computation.
-use Rattle.std.proofs.Common.{◌≡◌, inl, inr, List, ℕ, true, false, [], ◌∷◌, map, None, refl, ap, ◌∙◌, subst, arith, codes}
+use Rattle.std.proofs.Common.{◌≡◌, ◌<◌, inl, inr, List, ℕ, true, false, [], ◌∷◌, map, None, refl, ap, ◌∙◌, subst, arith, codes}
 use Rattle.std.proofs.lemmas.Bool.{false≢true}
 use Rattle.std.specs.declared.cmp.Ordering.TheVariants.{Less, Equal, Greater}
 use Rattle.std.specs.List.{slice_index}
@@ -8,7 +8,7 @@ use Rattle.mime.specs.Bytes.{is_token_byte, is_quoted_byte}
 use Rattle.mime.specs.Grammar.{quoted, final, listed}
 use Rattle.mime.specs.Values.{MediaType, Reads}
 use Rattle.mime.specs.Difference.{FirstDifference, is_telling, DifferTellingly}
-use Rattle.mime.specs.Comparison.{Same, IsTextBefore, IsPairBefore, Before, pair_cmp, media_cmp, HasNoSemicolon, TextIs}
+use Rattle.mime.specs.Comparison.{Same, IsListBefore, IsTextBefore, IsPairBefore, Before, pair_cmp, media_cmp, HasNoSemicolon, TextIs}
 use Rattle.mime.proofs.Quoted.{IsContent-taken}
 use Rattle.mime.proofs.Readings.{one_reading}
 use Rattle.mime_facts.proofs.StandardFacts.{media, reads}
@@ -46,6 +46,14 @@ equal_values = (
 )
 
 -- ---- order
+
+-- a list that begins another comes before it, and else the first items that differ decide; none comes before itself
+lists_before :
+    IsListBefore (λ (x y : ℕ). x < y) [] (1 ∷ [])
+    × IsListBefore (λ (x y : ℕ). x < y) (1 ∷ 2 ∷ []) (1 ∷ 3 ∷ [])
+    × ¬ (IsListBefore (λ (x y : ℕ). x < y) [] [])
+    × ¬ (IsListBefore (λ (x y : ℕ). x < y) (1 ∷ []) [])
+lists_before = (tt, inr (refl, inl (omega arith)), (λ is. is), λ is. is)
 
 -- a text that begins another comes before it, and else the first byte in which they differ decides
 texts_before : IsTextBefore (codes "a") (codes "ab") × IsTextBefore (codes "ab") (codes "b")

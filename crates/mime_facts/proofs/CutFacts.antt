@@ -5,7 +5,7 @@ use Rattle.mime.specs.Bytes.{is_token_byte}
 use Rattle.mime.specs.Values.{IsAccepted, IsRefused}
 use Rattle.mime.specs.Refusals.{IsViable}
 use Rattle.mime.specs.Cut.{is_following_byte, BeginsCharacter, IsCharacter, IsSplit, CutItem, good, bad, ItemsOf, is_read, is_refused, is_empty, Cut, whole, unfinished, goes_on, Pieces, last, next, steps_of, TakesSteps}
-use Rattle.mime.specs.CutLaws.{text_of_pieces, items_of_rest, joined, IsRead, kept_item}
+use Rattle.mime.specs.CutLaws.{IsItem, text_of_pieces, items_of_rest, joined, IsRead, kept_item}
 use Rattle.mime.proofs.Begun.{in_type}
 use Rattle.mime.proofs.Cuts.{empty-refused, split-not_viable, split-from_dead, split_unique, items_of_unique, cut_unique, takes_unique}
 use Rattle.mime.proofs.KeptText.{kept_is_read}
@@ -54,6 +54,19 @@ e_is_refused = refused-from_walk (codes "e") (in_type (codes "e")) refl refl
 pub e_is_viable : IsViable (codes "e")
 unfolding is_token_byte
 e_is_viable = viable-from_walk (codes "e") (in_type (codes "e")) refl
+
+-- a good piece is read as its value, and a bad one is viable, refused and not empty
+items_of_cuts : IsItem (good (codes "A/B") plain_value) × IsItem (bad (codes "e")) × ¬ (IsItem (bad (codes "A/B"))) × ¬ (IsItem (bad []))
+items_of_cuts = (
+  reads_capitals,
+  (e_is_viable, e_is_refused, differ (codes "e") [] refl),
+  (λ is. is.1 (plain_value, reads_capitals)),
+  λ is. is.2 refl,
+)
+
+-- a value that keeps capitals isn't read
+not_read_so : ¬ (IsItem (good (codes "A/B") (record plain_value { kept = codes "A/B" })))
+not_read_so is = keeps_no_capitals is
 
 -- a bad piece is its own item, and not an empty one
 pub item_of_e : ItemsOf (codes "e") (bad (codes "e") ∷ [])

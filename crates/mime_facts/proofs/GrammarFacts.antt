@@ -1,9 +1,9 @@
 -- Bytes, texts and trees for which each definition of the grammar is true and others for which it is false, by computation.
-use Rattle.std.proofs.Common.{◌≡◌, true, false, [], ◌∷◌, refl, codes}
+use Rattle.std.proofs.Common.{◌≡◌, true, false, [], ◌∷◌, map, refl, codes}
 use Rattle.std.proofs.lemmas.Bool.{true≢false, false≢true}
 use Rattle.std.specs.List.{list_all, list_any}
 use Rattle.mime.specs.Bytes.{is_token_byte, is_quoted_byte, is_quoted_text_byte, slash_byte, plus_byte, semicolon_byte, equals_byte, quote_byte, backslash_byte, space_byte, tab_byte, comma_byte}
-use Rattle.mime.specs.Grammar.{plain, quoted, Parameters, blank, final, more, no_list, listed, AreSpaces, text_of_parameter, text_of_list, text_of_tail, text_of, AreTokenBytes, IsToken, IsContent, IsParameter, AreParameters, IsTail, IsWellFormed}
+use Rattle.mime.specs.Grammar.{plain, quoted, Parameters, blank, final, more, no_list, listed, is_space, AreSpaces, text_of_parameter, text_of_list, text_of_tail, text_of, AreTokenBytes, IsToken, IsContent, IsParameter, AreParameters, IsTail, IsWellFormed}
 use Rattle.mime.proofs.Quoted.{IsContent-taken, content-taken, content-closed}
 
 -- ---- bytes
@@ -34,6 +34,10 @@ marks :
     slash_byte ∷ plus_byte ∷ semicolon_byte ∷ equals_byte ∷ quote_byte ∷ backslash_byte ∷ space_byte ∷ tab_byte ∷ comma_byte ∷ []
     ≡ codes "/+;=\"\\ \t,"
 marks = refl
+
+-- a space and a tab are spaces, a line feed and a letter aren't
+space_bytes : map is_space (codes " \t\nx") ≡ true ∷ true ∷ false ∷ false ∷ []
+space_bytes = refl
 
 -- spaces and tabs are spaces, a line feed isn't
 spaces : AreSpaces (codes " \t ") × AreSpaces [] × ¬ (AreSpaces (codes " \n"))

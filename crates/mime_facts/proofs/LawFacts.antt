@@ -47,8 +47,8 @@ essence_alone law = law _ _ lowered_parts
 empty : EmptyIsViable → IsViable []
 empty law = law
 
-front : FrontOfViableIsViable → IsViable (codes "a/b;p") → IsViable (codes "a/")
-front law viable = law (codes "a/") (codes "b;p") viable
+front_of_viable : FrontOfViableIsViable → IsViable (codes "a/b;p") → IsViable (codes "a/")
+front_of_viable law viable = law (codes "a/") (codes "b;p") viable
 
 accepted : AcceptedIsViable → IsViable (codes "A/B")
 accepted law = law (codes "A/B") (plain_value, reads_capitals)

@@ -18,8 +18,8 @@ use Rattle.mime_facts.proofs.ValueFacts.{differ, plain_value, reads_capitals}
 abbrev begun : List ℕ → Iteration
 begun text = record { text = text; left = text; starved = false; steps = 0 }
 
-abbrev ended : List ℕ → ℕ → Iteration
-ended text steps = record { text = text; left = []; starved = false; steps = steps }
+abbrev ended_run : List ℕ → ℕ → Iteration
+ended_run text steps = record { text = text; left = []; starved = false; steps = steps }
 
 -- `*/*`, read
 abbrev star_value : MediaType
@@ -37,7 +37,7 @@ star_piece piece value items rest cut =
 
 -- ---- what is left
 
-ends : HasEnded (ended (codes "e") 1) × ¬ (HasEnded (begun (codes "e")))
+ends : HasEnded (ended_run (codes "e") 1) × ¬ (HasEnded (begun (codes "e")))
 ends = (refl, differ (codes "e") [] refl)
 
 -- the first item of `e,A/B` is `e`, and not `A/B`
@@ -82,7 +82,7 @@ star_is_fixed old new at end mime (piece, first, star, same) =
     star (star_piece _ _ _ _ (subst (λ t. Cut t (good piece mime.media ∷ []) []) at cut))
 
 -- over `e` none is given, after one step
-ends_at_rest : IsNext (begun (codes "e")) None (ended (codes "e") 1)
+ends_at_rest : IsNext (begun (codes "e")) None (ended_run (codes "e") 1)
 ends_at_rest = record {
   item = (no_items.0, refl, refl);
   text = refl;
@@ -92,16 +92,16 @@ ends_at_rest = record {
 }
 
 -- no more steps than bytes, even where memory ran out
-steps_are_few : ¬ (IsNext (record (begun (codes "a/")) { starved = true }) None (record (ended (codes "a/") 3) { starved = true }))
+steps_are_few : ¬ (IsNext (record (begun (codes "a/")) { starved = true }) None (record (ended_run (codes "a/") 3) { starved = true }))
 steps_are_few next = absurd (omega (arith, next.few))
 
 -- at the end the steps are those that the text takes
-steps_are_exact : ¬ (IsNext (begun (codes "e")) None (ended (codes "e") 0))
+steps_are_exact : ¬ (IsNext (begun (codes "e")) None (ended_run (codes "e") 0))
 steps_are_exact next =
     absurd (omega (arith, takes_unique (codes "e") 0 1 (next.exact refl refl) (takes-viable (codes "e") e_is_viable)))
 
 -- after the end none is given
-stays_ended : (reason : Bad) → ¬ (IsNext (ended (codes "e") 1) (Some (Err reason)) (ended (codes "e") 1))
+stays_ended : (reason : Bad) → ¬ (IsNext (ended_run (codes "e") 1) (Some (Err reason)) (ended_run (codes "e") 1))
 stays_ended reason next = none-some _ (sym (next.stays refl).0)
 
 -- ---- a whole run

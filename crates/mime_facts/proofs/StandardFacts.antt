@@ -260,9 +260,9 @@ first_difference_tells = record {
 }
 
 -- a quote tells nothing: the values are equal
-quote_tells_nothing : ¬ (DifferTellingly (codes "a/b;p=x") (codes "a/b;p=\"x\""))
+quoted_value_not_told_apart : ¬ (DifferTellingly (codes "a/b;p=x") (codes "a/b;p=\"x\""))
 unfolding is_token_byte is_quoted_byte
-quote_tells_nothing = λ d.
+quoted_value_not_told_apart = λ d.
     told_apart _ _ _ _
     (reads (codes "a") (codes "b") (listed (final [] (plain (codes "p") (codes "x")))) (refl, refl, (refl, (refl, refl))))
     (reads (codes "a") (codes "b") (listed (final [] (quoted (codes "p") (codes "x") [])))

@@ -8,12 +8,12 @@ use Rattle.std.specs.Fmt.{digits}
 use Rattle.std.specs.Str.{bytes_eq}
 use Rattle.std.specs.Prelude.{slice_get}
 use Rattle.mime.specs.Bytes.{is_token_byte}
-use Rattle.mime.specs.Grammar.{plain, quoted, final, more, no_list, listed, SyntaxTree}
-use Rattle.mime.specs.Values.{MediaType, lowered, is_charset, lowered_value, lowered_tree, pairs_of_tail, last_plus, essence_of, kept_text, Reads, IsAccepted, IsRefused, type_of, subtype_of, suffix_of}
-use Rattle.mime.specs.Items.{Item, items_of, IsLowIf, IsLowItem, IsFirstAccepted}
+use Rattle.mime.specs.Grammar.{plain, quoted, blank, final, more, no_list, listed, SyntaxTree}
+use Rattle.mime.specs.Values.{MediaType, lowered, is_charset, lowered_value, lowered_parameter, lowered_list, lowered_tail, lowered_tree, pair_of, pairs_of_list, pairs_of_tail, last_plus, essence_of, kept_text, Reads, IsAccepted, IsRefused, type_of, subtype_of, suffix_of}
+use Rattle.mime.specs.Items.{Item, item_of, items_of, IsLowIf, IsLowItem, IsFirstAccepted}
 use Rattle.mime.specs.Names.{NameIs, name_table}
 use Rattle.mime.specs.Atoms.{atom_text}
-use Rattle.mime.specs.Printed.{fault_text, error_text}
+use Rattle.mime.specs.Printed.{token_text, fault_text, error_text}
 use Rattle.mime.specs.Views.{item_seen, name_seen, name_text}
 use Rattle.mime.specs.declared.atoms.Atom.TheVariants.{STAR_STAR, TEXT_PLAIN_UTF_8, IMAGE_SVG, APPLICATION_WWW_FORM_URLENCODED}
 use Rattle.mime.specs.declared.name.Name.{Name}
@@ -39,6 +39,17 @@ charsets :
     × (lowered_value (codes "boundary") (codes "UTF") ≡ codes "UTF")
 charsets = (refl, refl, refl, refl)
 
+-- of a parameter, a list and a tail the names are lowered, and the value of a `charset`; spaces and other values stay
+lowered_parts :
+    (lowered_parameter (plain (codes "P") (codes "X")) ≡ plain (codes "p") (codes "X"))
+    × (lowered_parameter (quoted (codes "Charset") (codes "\\X") (codes " ")) ≡ quoted (codes "charset") (codes "\\x") (codes " "))
+    × (lowered_list (blank (codes " ")) ≡ blank (codes " "))
+    × (lowered_list (final [] (plain (codes "P") (codes "X"))) ≡ final [] (plain (codes "p") (codes "X")))
+    × (lowered_list (more [] (plain (codes "P") (codes "X")) (blank [])) ≡ more [] (plain (codes "p") (codes "X")) (blank []))
+    × (lowered_tail no_list ≡ no_list)
+    × (lowered_tail (listed (final [] (plain (codes "P") []))) ≡ listed (final [] (plain (codes "p") [])))
+lowered_parts = (refl, refl, refl, refl, refl, refl, refl)
+
 -- a tree with a list of parameters
 abbrev capitals : SyntaxTree
 capitals = tree_from_parts (codes "A") (codes "B+C")
@@ -50,6 +61,15 @@ lowered_capitals :
     ≡ tree_from_parts (codes "a") (codes "b+c")
     (listed (more (codes " ") (plain (codes "p") (codes "X")) (final [] (quoted (codes "charset") (codes "\\x") (codes " ")))))
 lowered_capitals = refl
+
+-- a pair is the name and the value, without quotes and with backslashes; a list has one for each parameter, in order
+pairs_of_parts :
+    (pair_of (plain (codes "p") (codes "x")) ≡ (codes "p", codes "x"))
+    × (pair_of (quoted (codes "p") (codes "\\x") (codes " ")) ≡ (codes "p", codes "\\x"))
+    × (pairs_of_list (blank (codes " ")) ≡ [])
+    × (pairs_of_list (more [] (plain (codes "q") (codes "y")) (final [] (plain (codes "p") (codes "x"))))
+    ≡ (codes "q", codes "y") ∷ (codes "p", codes "x") ∷ [])
+pairs_of_parts = (refl, refl, refl, refl)
 
 -- the pairs of `A/B+C`, without quotes and with backslashes, the essence, and the kept text with a pair and without one
 parts_of_capitals :
@@ -109,6 +129,10 @@ abbrev pub charset_item : Item
 charset_item = record { name = codes "charset"; name_ignores_case = true; value = codes "x"; value_ignores_case = true }
 
 -- each name ignores case, and the value of `charset` alone does
+item_of_pair : (item_of (codes "p", codes "X") ≡ exact_item) × (item_of (codes "charset", codes "x") ≡ charset_item)
+item_of_pair = (refl, refl)
+
+-- the items of pairs are in their order
 items_of_pairs : items_of ((codes "p", codes "X") ∷ (codes "charset", codes "x") ∷ []) ≡ exact_item ∷ charset_item ∷ []
 items_of_pairs = refl
 
@@ -172,6 +196,13 @@ views : (name value : Name)
     × (name_seen name ≡ (name.text.now, name.ignores_case))
     × ((item_seen (name, value)).value ≡ value.text.now)
 views name value = (refl, refl, refl)
+
+-- a byte in capital hexadecimal without leading zeros, and its position
+printed_tokens :
+    (token_text 10 11 ≡ codes "an invalid token was encountered, B at position 10")
+    × (token_text 0 250 ≡ codes "an invalid token was encountered, FA at position 0")
+unfolding digits
+printed_tokens = (refl, refl)
 
 -- what a fault prints, with a byte in capital hexadecimal without leading zeros
 printed_faults :

@@ -21,3 +21,6 @@ pub returns-then-not-is_empty : goal.returns-then-not-is_empty
 returns-then-not-is_empty c =
     found-some _ _ _ _ _ _ c.loop-self.invariant (search (rules, c.is_empty.ensures, c.loop-self-test.true)) c.pass-passed.ensures.passes
     c.pass-passed.ensures.counted (search (rules, c.is_empty-in-loop-self.ensures))
+
+pub invariant_of-self-then-not-is_empty : goal.invariant_of-self-then-not-is_empty
+invariant_of-self-then-not-is_empty c = search rules

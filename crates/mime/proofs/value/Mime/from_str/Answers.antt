@@ -1,5 +1,5 @@
 -- The scanner's verdict is what the call answers.
-use Rattle.std.proofs.Common.{rules}
+use Rattle.std.proofs.Common.{◌≡◌, arith, rules}
 use Rattle.mime.proofs.Outcomes.{accepted-from_places, Explains-from_fault, Explains-no_memory, refused-from_fault, star-accepted}
 use Rattle.mime.proofs.Viability.{refused-at_dead}
 use Rattle.mime.proofs.value.Mime.from_str.Goals as goal
@@ -30,10 +30,13 @@ returns-in-Unfinished-clause-explained c =
     rw c.new.ensures (Explains-from_fault _ _ (rw c.new-reader.ensures.left at c.in-Unfinished.ensures.judged.1))
 
 pub returns-in-Stopped-clause-explained : goal.returns-in-Stopped-clause-explained
-returns-in-Stopped-clause-explained c = search rules
+returns-in-Stopped-clause-explained c =
+    let judged = c.in-Stopped.ensures.judged in
+    let at : c.position-pos.result ≡ judged.0 = omega (arith, c.position-pos.ensures, judged.1, c.in-Stopped.ensures.counted, c.new-reader.ensures.count) in
+    rw (c.new-in-Stopped.ensures, at) (rw c.new-reader.ensures.left at judged.2.fault)
 
 pub returns-in-Accepted-clause-read : goal.returns-in-Accepted-clause-read
-returns-in-Accepted-clause-read c = search rules
+returns-in-Accepted-clause-read c = c.of_accepted.ensures.read
 
 pub returns-in-Accepted-clause-accepted : goal.returns-in-Accepted-clause-accepted
 returns-in-Accepted-clause-accepted c = search rules
@@ -42,7 +45,7 @@ pub returns-in-Accepted-clause-star : goal.returns-in-Accepted-clause-star
 returns-in-Accepted-clause-star c = search rules
 
 pub returns-in-Unfinished-clause-read : goal.returns-in-Unfinished-clause-read
-returns-in-Unfinished-clause-read c = search rules
+returns-in-Unfinished-clause-read c = tt
 
 pub returns-in-Stopped-clause-read : goal.returns-in-Stopped-clause-read
-returns-in-Stopped-clause-read c = search rules
+returns-in-Stopped-clause-read c = tt

@@ -1,5 +1,5 @@
 -- A quote is ASCII: the text may be cut after it.
-use Rattle.std.proofs.Common.{◌≡◌, ◌<◌, length, get_or, arith}
+use Rattle.std.proofs.Common.{◌≡◌, ◌<◌, length, get_or, arith, rules}
 use Rattle.std.proofs.lemmas.Bool.Decides.{nat_tests}
 use Rattle.std.proofs.lemmas.Str.{IsCharBoundary-after_ascii}
 use Rattle.mime.specs.Bytes.{quote_byte}
@@ -11,3 +11,6 @@ range_from-content-requires c = λ _.
     let within : 0 < length text = grind (arith, nat_tests, c.is_empty.ensures, c.if-not-is_empty.true) in
     let quote : get_or text 0 0 ≡ quote_byte = cc in
     IsCharBoundary-after_ascii text 0 c.utf8.text within (omega arith)
+
+pub returns-then-as_bytes-eq34-clause-value : goal.returns-then-as_bytes-eq34-clause-value
+returns-then-as_bytes-eq34-clause-value c = search rules
