@@ -132,7 +132,7 @@ def _copied(room, crate):
     top = f"{room}/repository"
     for name in ("mime", crate):
         if not os.path.exists(f"{top}/crates/{name}"):
-            shutil.copytree(f"{TOP}/crates/{name}", f"{top}/crates/{name}", ignore=shutil.ignore_patterns("must-fail"))
+            shutil.copytree(f"{TOP}/crates/{name}", f"{top}/crates/{name}")
     shutil.copy(f"{TOP}/HANDLES", top)
     with open(f"{top}/crates.txt", "w", encoding="utf-8") as file:
         file.write(f"mime:\n{crate}: mime\n")
