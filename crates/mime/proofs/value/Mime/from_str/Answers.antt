@@ -32,7 +32,8 @@ returns-in-Unfinished-clause-explained c =
 pub returns-in-Stopped-clause-explained : goal.returns-in-Stopped-clause-explained
 returns-in-Stopped-clause-explained c =
     let judged = c.in-Stopped.ensures.judged in
-    let at : c.position-pos.result ≡ judged.0 = omega (arith, c.position-pos.ensures, judged.1, c.in-Stopped.ensures.counted, c.new-reader.ensures.count) in
+    let counts = c.in-Stopped.ensures.counted in
+    let at : c.position-pos.result ≡ judged.0 = omega (arith, c.position-pos.ensures, judged.1, counts, c.new-reader.ensures.count) in
     rw (c.new-in-Stopped.ensures, at) (rw c.new-reader.ensures.left at judged.2.fault)
 
 pub returns-in-Accepted-clause-read : goal.returns-in-Accepted-clause-read
