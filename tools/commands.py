@@ -10,6 +10,9 @@ import subprocess
 
 TOP = os.path.dirname(os.path.dirname(os.path.realpath(__file__)))
 
+# Where the crates lie with what is kept of their proofs. `check` names a copy, since rt ci keeps none.
+PROVED = os.environ.get("PROVED", TOP)
+
 # How many seconds rt may take for one command, and a program for one input. Both take far less.
 RT_SECONDS, PROGRAM_SECONDS = 20 * 60, 60
 
