@@ -166,6 +166,11 @@ fn print_atoms(alloc: Global, out: &mut String) -> Result<(), AllocError> {
     for atom in ATOMS {
         let parts = parts_of(alloc, &atom.mime())?;
         writeln!(out, "{atom:?}: {parts}")?;
+        let mut alike = 0u32;
+        for other in ATOMS {
+            alike = alike.wrapping_add((*other == *atom) as u32);
+        }
+        writeln!(out, "as often in the table: {alike}")?;
         if is_page(*atom) || is_script(*atom) {
             writeln!(out, "a page or a script")?;
         }

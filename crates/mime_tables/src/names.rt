@@ -42,7 +42,7 @@ fn relation(one: Name<'_>, other: Name<'_>) -> char {
 /// Prints names: a line for each, within several widths, with its relation to each, and whether it equals that one's text (`t`).
 pub(crate) fn names(out: &mut String, fields: &[String]) -> Result<(), AllocError> {
     for field in fields {
-        let name = name_of(field.as_str());
+        let name = name_of(field.as_str()).clone()?;
         write!(
             out,
             "{name}|{name:>6}|{name:<6}|{name:*^8}|{name:2}|{name:-<3}|{name:?}|"

@@ -39,20 +39,27 @@ pub(crate) fn sign(name: Name<'_>) -> char {
     if name.ignores_case { '~' } else { '=' }
 }
 
-/// The parts of a media type: kept text, type, subtype, suffix (`-` for none), essence, and each parameter. Before a name that
-/// ignores case is `~`, before one that doesn't `=`.
-pub(crate) fn parts_of(alloc: Global, mime: &Mime) -> Result<String, AllocError> {
+/// Writes the parts of a media type: kept text, type, subtype, suffix (`-` for none), essence, and each parameter. Before a name
+/// that ignores case is `~`, before one that doesn't `=`.
+fn write_parts(out: &mut String, mime: &Mime) -> Result<(), AllocError> {
     let (top, sub) = (mime.type_(), mime.subtype());
-    let mut line = format!(in alloc; "{mime} | {}{top} | {}{sub} | ", sign(top), sign(sub))?;
+    write!(out, "{mime} | {}{top} | {}{sub} | ", sign(top), sign(sub))?;
     match mime.suffix() {
-        Some(suffix) => write!(line, "{}{suffix}", sign(suffix))?,
-        None => line.push('-')?,
+        Some(suffix) => write!(out, "{}{suffix}", sign(suffix))?,
+        None => out.push('-')?,
     }
-    write!(line, " | {}", mime.essence_str())?;
+    write!(out, " | {}", mime.essence_str())?;
     for (name, value) in mime.params() {
-        write!(line, " | {}{name}{}{value}", sign(name), sign(value))?;
+        write!(out, " | {}{name}{}{value}", sign(name), sign(value))?;
     }
-    Ok(line)
+    Ok(())
+}
+
+/// The parts of a media type in a text of their own.
+pub(crate) fn parts_of(alloc: Global, mime: &Mime) -> Result<String, AllocError> {
+    let mut parts = String::new(alloc);
+    write_parts(&mut parts, mime)?;
+    Ok(parts)
 }
 
 /// How many parameters there are, if each size hint says so and none comes after the last.
@@ -192,7 +199,7 @@ fn print_found(
     }
 }
 
-/// Prints what is found in a text by a key, as a text and as a constant, and by the key `Foo`.
+/// Prints the parts of a text, and what is found in it by a key, as a text and as a constant, and by the key `Foo`.
 pub(crate) fn key(
     alloc: Global,
     out: &mut String,
@@ -203,6 +210,11 @@ pub(crate) fn key(
     let Ok(mime) = Mime::from_str(alloc, text) else {
         return writeln!(out, "not a media type");
     };
+    write_parts(out, &mime)?;
+    match counted(&mime) {
+        Some(count) => writeln!(out, ", {count} parameters")?,
+        None => writeln!(out, ", wrongly counted")?,
+    }
     let found = mime.get_param(TextKey(key));
     print_found(out, &mime, found, other)?;
     if let Some(name) = name_of(key) {
