@@ -9,6 +9,7 @@ tools/edits/tests. It has these lines:
                                         another goal that is left open
     refused by: test NAME of CRATE      what refuses it, or 'row WORDS of CRATE', of its stdin, or 'error NAME of CRATE': in
                                         tools/edits/tests, in place of these two
+    prints: TEXT                        what the test or the row then says, in one line of it, or the line that has the error
     why: SENTENCE                       what the body does, and why that is refused where it isn't plain (docs/WRONG-BODIES.md)
     file: crates/mime/src/value.rt      what it changes, from the top of the repository
     old: TEXT                           one line, which occurs once in the file
@@ -21,7 +22,7 @@ import glob
 import os
 
 TOP = os.path.dirname(os.path.dirname(os.path.realpath(__file__)))
-WORDS = {"clauses": ("fn", "clause", "why"), "tests": ("refused by", "why"), "twins": ()}
+WORDS = {"clauses": ("fn", "clause", "why"), "tests": ("refused by", "prints", "why"), "twins": ()}
 
 
 def text_of(path):
@@ -50,7 +51,7 @@ class Edit:
             raise ValueError(f"{path}: its lines are {', '.join(said)}, and not {', '.join(words)} with old before new")
         if any(not old or old == new for _, old, new in self.changes):
             raise ValueError(f"{path}: it changes a text into the same, or has no old before a new")
-        self.fn, self.clause, self.refused_by, self.why = (said.get(it, "") for it in ("fn", "clause", "refused by", "why"))
+        self.fn, self.clause, self.refused_by, self.prints, self.why = (said.get(it, "") for it in ("fn", "clause", "refused by", "prints", "why"))
 
     def __str__(self):
         return f"{'twin' if self.is_twin else 'edit'} {self.name}"

@@ -22,6 +22,14 @@ pub(crate) fn text_of(alloc: Global, field: &str) -> Result<String, AllocError> 
     Ok(text)
 }
 
+/// One of the texts of a row, or an empty one.
+pub(crate) fn text_at(texts: &[String], at: usize) -> &str {
+    match texts.get(at) {
+        Some(text) => text.as_str(),
+        None => "",
+    }
+}
+
 /// Adds the parts that `part×count` stands for.
 fn push_run(alloc: Global, text: &mut String, run: &str) -> Result<(), AllocError> {
     let (part, count) = run.split_once('×').unwrap_or((run, "1"));
@@ -37,14 +45,18 @@ fn push_run(alloc: Global, text: &mut String, run: &str) -> Result<(), AllocErro
 /// Adds a text, with controls in place of their signs.
 fn push_signs(text: &mut String, signs: &str) -> Result<(), AllocError> {
     for sign in signs.chars() {
-        let number = sign as u32;
-        match number {
-            0x2400..=0x241F => text.push((number % 32) as u8 as char)?,
-            0x2421 => text.push('\u{7F}')?,
-            _ => text.push(sign)?,
-        }
+        text.push(meant_by(sign))?;
     }
     Ok(())
+}
+
+/// The character that a sign stands for: a control, or itself.
+fn meant_by(sign: char) -> char {
+    match (sign as u32).wrapping_sub(0x2400) {
+        0x21 => '\u{7F}',
+        number if number < 0x20 => char::from_u32(number).unwrap_or(sign),
+        _ => sign,
+    }
 }
 
 /// A text in which `⟨x×61⟩` stands for 61 letters `x`, where that many or more follow each other.

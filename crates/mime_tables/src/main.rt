@@ -31,7 +31,7 @@ mod short_verdicts;
 mod values;
 
 use crate::constants::{bytes, constants, copies};
-use crate::fields::text_of;
+use crate::fields::{text_at, text_of};
 use crate::items::{again, items};
 use crate::names::{case, names};
 use crate::relations::{against, compare, pair, sets};
@@ -84,11 +84,6 @@ fn row(rt: &HostRuntime, out: &mut String, line: &str) -> io::Result<()> {
         println!(rt; "out of memory")?;
     }
     print!(rt; "{out}")
-}
-
-/// One of the texts of a row.
-fn text_at(texts: &[String], at: usize) -> &str {
-    texts.get(at).map_or("", |text| text.as_str())
 }
 
 /// Writes what the library says of a row.

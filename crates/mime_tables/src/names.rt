@@ -8,15 +8,9 @@ use std::hash::{Hash, Hasher};
 
 /// A name that a field stands for: `~` before its text says that it ignores case, `=` that it doesn't.
 fn name_of(field: &str) -> Name<'_> {
-    match field.strip_prefix('~') {
-        Some(text) => Name {
-            text,
-            ignores_case: true,
-        },
-        None => Name {
-            text: field.strip_prefix('=').unwrap_or(field),
-            ignores_case: false,
-        },
+    Name {
+        text: field.get(1..).unwrap_or(""),
+        ignores_case: field.starts_with('~'),
     }
 }
 

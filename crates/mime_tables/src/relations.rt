@@ -3,6 +3,7 @@
 ghost use Rattle.std.specs.Prelude.{◌+◌, ◌*◌, ◌%◌, ◌^◌, fold};
 
 use crate::constants::constant_of;
+use crate::fields::text_at;
 use mime::{Mime, mime_eq_str};
 use std::alloc::{AllocError, Global};
 use std::cmp::Ordering;
@@ -145,10 +146,7 @@ pub(crate) fn pair(
 
 /// Prints whether a value, and the constant that it is, equals each of the other texts; and whether it equals its own.
 pub(crate) fn against(alloc: Global, out: &mut String, texts: &[String]) -> Result<(), AllocError> {
-    let Some(Ok(mime)) = texts
-        .first()
-        .map(|text| Mime::from_str(alloc, text.as_str()))
-    else {
+    let Ok(mime) = Mime::from_str(alloc, text_at(texts, 0)) else {
         return writeln!(out, "not a media type");
     };
     let constant = constant_of(&mime).map(|atom| atom.mime());

@@ -13,7 +13,10 @@ const COUNTS: [u32; 7] = [1, 8, 64, 512, 4_096, 32_768, 262_144];
 /// Whether a text that was read, if it was, is this value. A value without parameters equals no text with a semicolon.
 fn is_same(value: &Mime, read: Option<&Mime>, text: &str) -> bool {
     let is_bare = value.params().next().is_none();
-    read.is_some_and(|mime| *mime == *value) && !(is_bare && text.contains(';'))
+    match read {
+        Some(mime) => *mime == *value && !(is_bare && text.contains(';')),
+        None => false,
+    }
 }
 
 /// How many of the values equal a text; none where one does so otherwise than if the text were read.

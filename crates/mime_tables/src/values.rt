@@ -123,9 +123,13 @@ fn print_error(out: &mut String, error: &FromStrError) -> Result<(), AllocError>
 fn count_of_p(mime: &Mime) -> u64 {
     let mut count = 0u64;
     for (name, value) in mime.params() {
-        count = count.wrapping_add((name.text == "p" && value.text == "x") as u64);
+        count = count.wrapping_add(is_p(name, value) as u64);
     }
     count
+}
+
+fn is_p(name: Name<'_>, value: Name<'_>) -> bool {
+    name.text == "p" && value.text == "x"
 }
 
 /// Prints the numbers of a text with many parameters `p=x`.
@@ -133,27 +137,33 @@ pub(crate) fn long(alloc: Global, out: &mut String, text: &str) -> Result<(), Al
     let Ok(mime) = Mime::from_str(alloc, text) else {
         return writeln!(out, "not a media type");
     };
+    print_counts(out, &mime, text)?;
+    print_first(alloc, out, &mime, text)?;
+    let copy = mime.clone()?;
+    writeln!(out, "copied {}", is_all(&copy, &mime, text))
+}
+
+/// Whether a media type is the other one, with this text.
+fn is_all(mime: &Mime, other: &Mime, text: &str) -> bool {
+    *mime == *other && mime.as_str() == text
+}
+
+fn print_counts(out: &mut String, mime: &Mime, text: &str) -> Result<(), AllocError> {
     let is_kept = mime.as_str() == text && mime.get_param(TextKey("q")).is_none();
     writeln!(out, "{} bytes, kept as they are {is_kept}", text.len())?;
-    writeln!(
-        out,
-        "parameters {:?}, {}",
-        mime.params().size_hint(),
-        count_of_p(&mime)
-    )?;
+    let (hint, count) = (mime.params().size_hint(), count_of_p(mime));
+    writeln!(out, "parameters {hint:?}, {count}")
+}
+
+/// Prints whether the first item of a text is this media type, and the last.
+fn print_first(alloc: Global, out: &mut String, mime: &Mime, text: &str) -> Result<(), AllocError> {
     let mut iter = MimeIter::new(alloc, text);
     let is_item = match iter.next() {
-        Some(Ok(item)) => item == mime && item.as_str() == text,
+        Some(Ok(item)) => is_all(&item, mime, text),
         _ => false,
     };
-    let is_last = iter.next().is_none();
-    writeln!(
-        out,
-        "an item {is_item}, the last {is_last}, steps {}",
-        iter.steps()
-    )?;
-    let copy = mime.clone()?;
-    writeln!(out, "copied {}", copy == mime && copy.as_str() == text)
+    let (is_last, steps) = (iter.next().is_none(), iter.steps());
+    writeln!(out, "an item {is_item}, the last {is_last}, steps {steps}")
 }
 
 /// Prints a value within several widths.
