@@ -1,6 +1,6 @@
 //! One run of the program, from a source to a sink.
 
-ghost use Rattle.std.specs.Prelude.{◌≡◌, ◌≢◌, ℕ, List, ◌≤◌, ◌+◌, length, true, OnOk, IfErr};
+ghost use Rattle.std.specs.Prelude.{◌≡◌, ◌≢◌, ℕ, List, ◌≤◌, ◌+◌, length, true, OnOk, OnErr, IfErr};
 ghost use Rattle.std.specs.Io.KnownBytes.{Consumes, Appends, IsAtEnd};
 ghost use Rattle.mime_lines.specs.Program.{limit};
 ghost use Rattle.mime_lines.specs.Report.{IsReportOf};
@@ -49,7 +49,19 @@ pub fn run<S: Source, T: Sink>(
     let Ok(report) = report_of(alloc, input.as_slice(), mode) else {
         return Err(RunError::NoMemory);
     };
-    if sink.write_all(report.as_str().as_bytes()).is_err() || sink.flush().is_err() {
+    write_report(sink, report.as_str().as_bytes())
+}
+
+/// Writes a report to a sink, and passes it on.
+fn write_report<T: Sink>(sink: &mut T, report: &[u8]) -> Result<(), RunError>
+    ensures bytes { OnOk result (Appends (T.held sink.old) (T.held sink.new) report.now) }
+    ensures passed_on { OnOk result (T.IsPassedOn sink.new) }
+    // The sink fails exactly where the answer isn't `Ok`, which is `Write`.
+    ensures unfailed { OnOk result (T.has_failed sink.new ≡ T.has_failed sink.old) }
+    ensures failed { OnErr result (T.has_failed sink.new ≡ true) }
+    ensures write { IfErr result (λ error. error ≡ RunError.Write) }
+{
+    if sink.write_all(report).is_err() || sink.flush().is_err() {
         return Err(RunError::Write);
     }
     Ok(())
