@@ -3,8 +3,8 @@ use Rattle.std.proofs.Common.{◌≡◌, ℕ, List, [], ◌∷◌, ◌++◌, ref
 use Rattle.mime.specs.Items.{Item, items_of}
 use Rattle.std.specs.Str.{IsUtf8}
 use Rattle.mime.specs.Cut.{CutItem, Cut}
-use Rattle.mime.specs.Runs.{HasNoItem}
-use Rattle.mime_lines.specs.Report.{row, param_rows, lines_of, item_rows, ReportsText, ReportsLine, ReportsLines}
+use Rattle.mime.specs.Runs.{HasNoItem, IsFirstItem}
+use Rattle.mime_lines.specs.Report.{row, param_rows, lines_of, item_row, item_rows, ReportsText, ReportsLine, ReportsLines}
 use Rattle.mime_lines.specs.Report.ReportsText.{listed}
 use Rattle.mime_lines.specs.Report.ReportsLine.{is_text}
 use Rattle.mime_lines.specs.Report.ReportsLines.{no_more, line_more}
@@ -62,6 +62,19 @@ ReportsLines-end mode input (byte ∷ rest) report none whole = absurd (omega ar
 pub record IsListing (text left old new : List ℕ) : Type 0 where
   pub onward : (items : List CutItem) (rest : List ℕ) → Cut left items rest
       → (all : List CutItem) × Cut text all rest × (old ++ item_rows all ≡ new ++ item_rows items)
+
+-- the row of the next item, and then those of the others
+pub listing-step : (text left next old new added rows : List ℕ) (item : CutItem) → IsListing text left old new → IsFirstItem left item next
+    → rows ≡ item_row item → added ≡ new ++ rows → IsListing text next old added
+listing-step text left next old new added rows item listing first is joined = record {
+  onward = λ items rest cut.
+      let all = listing.onward (item ∷ items) rest (first items rest cut) in (
+        all.0,
+        all.1,
+        all.2 ∙ ap (λ it. new ++ (it ++ item_rows items)) (sym is) ∙ sym (append_assoc new rows (item_rows items))
+            ∙ ap (λ it. it ++ item_rows items) (sym joined),
+      );
+}
 
 -- where no item is left the text is reported
 pub listing-end : (text left old new : List ℕ) → IsListing text left old new → HasNoItem left

@@ -38,16 +38,18 @@ pub(crate) fn read_to_limit<S: Source>(alloc: Global, source: &mut S) -> Result<
     let mut block = [0u8; BLOCK];
     loop {
         let room = (LIMIT + 1 - input.len()).min(BLOCK);
-        let count = source.read(&mut block[..room]).map_err(|_| RunError::Read)?;
+        let Ok(count) = source.read(&mut block[..room]) else {
+            return Err(RunError::Read);
+        };
         if count == 0 {
             return Ok(input);
         }
         if count > LIMIT - input.len() {
             return Err(RunError::TooLong);
         }
-        input
-            .extend_from_slice(&block[..count])
-            .map_err(|_| RunError::NoMemory)?;
+        let Ok(()) = input.extend_from_slice(&block[..count]) else {
+            return Err(RunError::NoMemory);
+        };
     }
 }
 

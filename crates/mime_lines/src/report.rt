@@ -1,7 +1,8 @@
 //! The report on an input, line by line.
 
 ghost use Rattle.std.specs.Prelude.{◌≡◌, ℕ, List, ◌++◌, OnOk, IfOk, string_bytes};
-ghost use Rattle.mime_lines.specs.Report.{row, param_rows, value_rows, ReportsText, ReportsLine, IsReportOf};
+ghost use Rattle.mime.specs.Values.{suffix_of};
+ghost use Rattle.mime_lines.specs.Report.{row, suffix_row, param_rows, value_rows, ReportsText, ReportsLine, IsReportOf};
 
 use crate::input::{first_line, first_text_line};
 use crate::mode::Mode;
@@ -102,10 +103,18 @@ fn push_value(report: &mut String, mime: &Mime) -> Result<(), AllocError>
     push_row(report, "ok ", mime.as_str())?;
     push_row(report, "type ", mime.type_().as_str())?;
     push_row(report, "subtype ", mime.subtype().as_str())?;
-    if let Some(suffix) = mime.suffix() {
-        push_row(report, "suffix ", suffix.as_str())?;
-    }
+    push_suffix(report, mime)?;
     push_params(report, mime)
+}
+
+/// Adds the row of the suffix, if there is one.
+fn push_suffix(report: &mut String, mime: &Mime) -> Result<(), AllocError>
+    ensures { OnOk result (string_bytes report.new ≡ string_bytes report.old ++ suffix_row (suffix_of mime.now.media)) }
+{
+    match mime.suffix() {
+        Some(suffix) => push_row(report, "suffix ", suffix.as_str()),
+        None => Ok(()),
+    }
 }
 
 /// Adds a row for each parameter.

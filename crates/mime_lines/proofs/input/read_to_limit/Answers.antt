@@ -5,7 +5,7 @@ use Rattle.mime_lines.proofs.input.read_to_limit.Goals as goal
 
 pub returns-then-count-len-clause-too_long : goal.returns-then-count-len-clause-too_long
 returns-then-count-len-clause-too_long g c _ = (
-  c.loop-input.input.items ++ take c.in_ok-count.count c.read.new.buf,
-  consumed_together _ _ _ _ _ c.loop-input.invariant.1 (search rules),
+  c.loop-count.input.items ++ take c.in-Ok.count c.read.new.buf,
+  consumed_together _ _ _ _ _ c.loop-count.invariant.1 (search rules),
   one_past_the_limit _ _ _ (search rules) (search rules) (search rules) (search rules),
 )

@@ -4,11 +4,11 @@ use Rattle.std.specs.Io.KnownBytes.{Consumes}
 use Rattle.mime_lines.specs.Program.{limit}
 use Rattle.mime_lines.proofs.input.read_to_limit.Given as goal
 
-abbrev pub invariant-loop-input : goal.invariant-loop-input
-invariant-loop-input g l =
+abbrev pub invariant-loop-count : goal.invariant-loop-count
+invariant-loop-count g l =
     (length l.input.items ≤ limit)
     × Consumes (g.S.Source.left l.initial.source) (g.S.Source.left l.source) l.input.items
     × (g.S.Source.has_failed l.source ≡ g.S.Source.has_failed l.initial.source)
 
-abbrev pub decreases-loop-input : goal.decreases-loop-input
-decreases-loop-input g l = limit + 1 - length l.input.items
+abbrev pub decreases-loop-count : goal.decreases-loop-count
+decreases-loop-count g l = limit + 1 - length l.input.items
