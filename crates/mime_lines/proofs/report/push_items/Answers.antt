@@ -1,5 +1,5 @@
 -- Each item's row is added, and at the end no item is left.
-use Rattle.std.proofs.Common.{ap, codes, rules, ◌≡◌, subst, refl, ◌∙◌, Some, Ok, Err}
+use Rattle.std.proofs.Common.{ap, codes, rules, ◌≡◌, subst, refl, ◌∙◌, Some, Err}
 use Rattle.mime.specs.declared.iter.Bad.TheVariants.{Piece}
 use Rattle.mime.specs.Runs.{GivesItem}
 use Rattle.mime_lines.specs.Report.{row}
