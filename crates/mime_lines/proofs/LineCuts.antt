@@ -1,26 +1,12 @@
 -- How lines are cut off one by one.
-use Rattle.std.proofs.Common.{suc, min, ◌-◌, ◌≡◌, ℕ, ◌+◌, ◌<◌, ◌≤◌, Bool, true, false, cond, not, List, [], ◌∷◌, ◌++◌, length, take, drop, refl, ap, sym, ◌∙◌, arith, nat_eq, Option, Some, None, slice_get, ◌||◌, zero-add, length-drop}
-use Rattle.std.proofs.lemmas.List.{take-append-drop, take_rest, take_all, drop_all, drop-drop, length-take-le}
+use Rattle.std.proofs.Common.{suc, min, ◌-◌, ◌≡◌, ℕ, ◌+◌, ◌<◌, ◌≤◌, Bool, true, false, cond, not, List, [], ◌∷◌, ◌++◌, length, take, drop, refl, ap, sym, ◌∙◌, arith, nat_eq, Some, slice_get, ◌||◌, zero-add, length-drop}
+use Rattle.std.proofs.lemmas.List.{take-append-drop, take_all, drop_all, drop-drop, length-take-le}
 use Rattle.std.proofs.lemmas.Bool.{true≢false}
-use Rattle.std.specs.Option.{unwrap_or}
 use Rattle.std.specs.List.{list_any, position_or_len, onto_first}
 use Rattle.std.proofs.lemmas.List.Sums.{prefix_len-le-length}
 use Rattle.mime.proofs.CharBorders.{slice_get-first_position}
 use Rattle.mime_lines.specs.Report.{lines_of}
-use Rattle.std.proofs.lemmas.Bool.Decides.{nat_tests}
 use Rattle.std.proofs.lemmas.Grind.{common_steps}
-use lib.Dec.{ltb}
-
--- a number within a bound, or the bound
-unwrap_or-within : (n bound : ℕ) → n ≤ bound → unwrap_or (cond (ltb n bound) (Some n) None) bound ≡ n
-unwrap_or-within n bound h = grind (arith, nat_tests)
-
--- a position that is found, or the length
-pub unwrap_or-position : (p : ℕ → Bool) (xs : List ℕ) (r : Option ℕ)
-    → r ≡ cond (ltb (position_or_len p xs) (length xs)) (Some (position_or_len p xs)) None → unwrap_or r (length xs) ≡ position_or_len p xs
-unwrap_or-position p xs r e =
-    ap (λ found. unwrap_or found (length xs)) e
-    ∙ unwrap_or-within (position_or_len p xs) (length xs) (prefix_len-le-length (λ x. not (p x)) xs)
 
 -- a first line with one more byte in front of it
 front-shift : (n b : ℕ) (xs : List ℕ)
@@ -85,7 +71,7 @@ passed_all p (x ∷ xs) ys none =
 
 -- after the first `n` bytes the next `k` are passed too
 pub passed_onward : (p : ℕ → Bool) (xs : List ℕ) (n k j : ℕ) → j ≡ k → n + k ≤ length xs → list_any p (take j (drop n xs)) ≡ false
-    → position_or_len p xs ≡ n + position_or_len p (drop n xs) → position_or_len p xs ≡ (n + k) + position_or_len p (drop (n + k) xs)
+    → n + position_or_len p (drop n xs) ≡ position_or_len p xs → (n + k) + position_or_len p (drop (n + k) xs) ≡ position_or_len p xs
 passed_onward p xs n k j size within none at =
     let front = take j (drop n xs) in
     let room : j ≤ length (drop n xs) = omega (arith, length-drop n xs) in
@@ -94,9 +80,3 @@ passed_onward p xs n k j size within none at =
     let rest : position_or_len p (drop j (drop n xs)) ≡ position_or_len p (drop (n + k) xs) =
     ap (position_or_len p) (drop-drop j n xs ∙ ap (λ i. drop (n + i) xs) size) in
     omega (arith, at, cut, passed_all p front (drop j (drop n xs)) none, length-take-le j (drop n xs) room, rest)
-
--- the end of a line after what was passed is that of the whole
-pub end_after_passed : (p : ℕ → Bool) (xs rest : List ℕ) (n m : ℕ) → rest ≡ take (length xs - n) (drop n xs) → n ≤ length xs
-    → position_or_len p xs ≡ n + position_or_len p (drop n xs) → m ≡ position_or_len p rest → n + m ≡ position_or_len p xs
-end_after_passed p xs rest n m is within at found =
-    omega (arith, at, found, ap (position_or_len p) (is ∙ take_rest xs n))

@@ -66,40 +66,19 @@ fn has_line_end(bytes: &[u8]) -> bool
     found
 }
 
-/// How many bytes are passed in whole steps, since no line ends among them.
-fn passed_len(input: &[u8]) -> usize
-    ensures within { result ≤ length input.now }
-    ensures onward { position_or_len (λ byte. byte == 10) input.now
-        ≡ result + position_or_len (λ byte. byte == 10) (drop result input.now) }
-{
-    let mut passed = 0;
-    while input.len() - passed >= STEP {
-        if has_line_end(&input[passed..passed + STEP]) {
-            return passed;
-        }
-        passed += STEP;
-    }
-    passed
-}
-
-/// The number of bytes before the first line feed, or of the whole input.
-fn line_len(input: &[u8]) -> usize
-    ensures line { result ≡ position_or_len (λ byte. byte == 10) input.now }
-    ensures within { result ≤ length input.now }
-{
-    input
-        .iter()
-        .position(|byte| *byte == b'\n')
-        .unwrap_or(input.len())
-}
-
-/// Where the first line of an input ends: whole steps are passed first.
+/// Where the first line of an input ends: whole steps are passed first, and then single bytes.
 fn line_end(input: &[u8]) -> usize
     ensures line { result ≡ position_or_len (λ byte. byte == 10) input.now }
     ensures within { result ≤ length input.now }
 {
-    let passed = passed_len(input);
-    passed + line_len(&input[passed..])
+    let mut end = 0;
+    while input.len() - end >= STEP && !has_line_end(&input[end..end + STEP]) {
+        end += STEP;
+    }
+    while end < input.len() && input[end] != b'\n' {
+        end += 1;
+    }
+    end
 }
 
 /// The first line of a nonempty input, and the rest after its line feed.

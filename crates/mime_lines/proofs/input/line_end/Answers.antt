@@ -1,10 +1,14 @@
--- The end of a line after what was passed is that of the whole.
-use Rattle.std.proofs.Common.{nat_eq, refl}
-use Rattle.mime_lines.proofs.LineCuts.{end_after_passed}
+-- Where no line ends among the next bytes, the search goes on after them.
+use Rattle.std.proofs.Common.{◌+◌, ◌-◌, ◌∙◌, nat_eq, sym, arith}
+use Rattle.mime_lines.proofs.LineCuts.{passed_onward}
 use Rattle.mime_lines.proofs.input.line_end.Goals as goal
 
-pub returns-clause-line : goal.returns-clause-line
-returns-clause-line c =
-    end_after_passed
-    (λ b. nat_eq b 10) c.args.input.now _ c.passed_len-passed.result c.line_len.result refl c.passed_len-passed.ensures.within
-    c.passed_len-passed.ensures.onward c.line_len.ensures.line
+pub loop-end-preserved : goal.loop-end-preserved
+loop-end-preserved c =
+    let n = c.loop-end.end in
+    record {
+      within = omega arith;
+      onward =
+          passed_onward (λ b. nat_eq b 10) c.args.input.now n 8 (n + 8 - n) (omega arith) (omega arith)
+          (sym c.has_line_end.ensures ∙ c.if-not-has_line_end.true) c.loop-end.invariant.onward;
+    }
