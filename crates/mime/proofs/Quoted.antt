@@ -1,5 +1,5 @@
 -- Quoted content: it is taken byte by byte, and what was taken and awaits no more is content.
-use Rattle.std.proofs.Common.{◌≡◌, ◌≢◌, ℕ, ◌≤◌, Bool, true, false, List, [], ◌∷◌, ◌++◌, refl, sym, ap, ◌∙◌, subst, arith}
+use Rattle.std.proofs.Common.{◌≡◌, ℕ, ◌≤◌, Bool, true, false, List, [], ◌∷◌, ◌++◌, refl, sym, ap, ◌∙◌, subst, arith}
 use Rattle.std.specs.Prelude.{IsTrue, IsFalse, ◌==◌, ◌&&◌, not}
 use Rattle.std.specs.Char.{to_ascii_lowercase}
 use Rattle.std.specs.List.{list_all}
@@ -67,13 +67,6 @@ takes_all-backslash = refl
 -- what is taken and is no backslash is quoted text
 text-taken : (b : ℕ) → IsTrue (takes false b) → IsFalse (b == backslash_byte) → IsTrue (is_quoted_text_byte b)
 text-taken b taken other = grind (arith, nat_tests)
-
--- neither a quote nor a backslash is quoted text
-pub not_quote : (b : ℕ) → IsTrue (is_quoted_text_byte b) → b ≢ quote_byte
-not_quote b text same = grind (arith, nat_tests)
-
-pub not_backslash : (b : ℕ) → IsTrue (is_quoted_text_byte b) → b ≢ backslash_byte
-not_backslash b text same = grind (arith, nat_tests)
 
 -- no other byte is taken
 pub not_taken : (b : ℕ) → IsFalse (is_quoted_text_byte b) → IsFalse (b == backslash_byte) → IsFalse (takes false b)

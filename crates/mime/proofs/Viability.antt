@@ -13,7 +13,7 @@ use Rattle.mime.specs.Refusals.{IsViable, IsFront, completion_of, Lacks, IsDeadA
 use Rattle.mime.proofs.Begun.{Closed, Begun, in_type, in_subtype, in_list, ListState, in_name, in_value, in_quotes, list_at, grow, walk, walk_from, tree_of, lacking, lacking_list}
 use Rattle.mime.specs.Laws.{EmptyIsViable, FrontOfViableIsViable, AcceptedIsViable}
 use Rattle.mime.specs.declared.scan.fault.ParseError.{ParseError}
-use Rattle.mime.specs.declared.scan.fault.ParseError.TheVariants.{MissingSlash, MissingSubtype, MissingEqual, MissingValue, MissingQuote, InvalidToken}
+use Rattle.mime.specs.declared.scan.fault.ParseError.TheVariants.{MissingQuote, InvalidToken}
 use Rattle.mime.proofs.Walks.{walk_from-step, walk_by-append, walk_from-append_some, walk_from-in_list, walk_list-open}
 use Rattle.mime.specs.Quoted.{awaits_first, takes_all, awaits_after, continues}
 use Rattle.mime.proofs.Quoted.{takes_all-letter, closed-letter}

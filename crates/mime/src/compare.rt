@@ -10,7 +10,7 @@ use crate::difference::{Seen, look};
 use crate::name::eq_ignoring_case;
 use crate::scan::{ByteReader, Places, Verdict, scan};
 use crate::value::Mime;
-use crate::value::pairs::{Pairs, is_charset};
+use crate::value::pairs::Pairs;
 
 /// Whether two texts are the same but for case.
 #[inline(always)]
@@ -27,7 +27,10 @@ fn is_list_after(essence: &str, text: &str) -> bool
 {
     let end = essence.len();
     let text = text.as_bytes();
-    end < text.len() && text[end] == b';' && eq_ignoring_case(essence.as_bytes(), &text[..end])
+    if end >= text.len() || text[end] != b';' {
+        return false;
+    }
+    eq_ignoring_case(essence.as_bytes(), &text[..end])
 }
 
 /// Whether a text's name and value are a kept parameter's: the name in any case, and the value too under `charset`.
@@ -39,7 +42,7 @@ fn is_pair(name: &str, value: &str, other: &str, content: &str) -> bool
     if !alike(name, other) {
         return false;
     }
-    if is_charset(name) {
+    if name == "charset" {
         alike(value, content)
     } else {
         value == content

@@ -2,16 +2,16 @@
 
 ghost use Rattle.std.specs.Iterator.{YieldsFirstBy, item_count, UpTo, at_most};
 ghost use Rattle.std.specs.Iterator.SizeHint.{IsWithinCount};
-ghost use Rattle.std.specs.Prelude.{◌≡◌, ◌+◌, ◌<◌, ◌≤◌, IsTrue, length, take, drop, codes, slice_get, slice_index, IfSome, Some};
-ghost use Rattle.std.specs.Str.{IsCharBoundary, bytes_eq};
+ghost use Rattle.std.specs.Prelude.{◌≡◌, ◌+◌, ◌<◌, ◌≤◌, IsTrue, length, take, drop, slice_get, slice_index, IfSome, Some};
+ghost use Rattle.std.specs.Str.{IsCharBoundary};
 ghost use Rattle.mime.specs.Pairs.{IsEndOf, before_byte, after_byte, cut_of};
 ghost use Rattle.mime.specs.Marks.{marks_of};
 ghost use Rattle.mime.specs.Pairs.{leading_spaces, first_position, cut_after_equals, pairs_after, pair_seen};
 ghost use Rattle.mime.specs.Bytes.{semicolon_byte};
 ghost use Rattle.mime.specs.TextParts.{IsLoneCharset};
-ghost use Rattle.mime.specs.Quoted.{content_of, after_content, content_len as len_of};
+ghost use Rattle.mime.specs.Quoted.{content_len as len_of};
 
-use crate::bytes::{is_quoted_text_byte, is_space};
+use crate::bytes::is_space;
 use std::marker::Model;
 use std::simd::prelude::*;
 
@@ -24,14 +24,6 @@ pub(crate) struct Pair<'a> {
     /// The value without its quotes; backslashes stay: `\"x` for `"\"x"`.
     pub(crate) value: &'a str,
     pub(crate) rest: &'a str,
-}
-
-/// Whether a name in small letters is `charset`.
-#[inline(always)]
-pub(crate) fn is_charset(name: &str) -> bool
-    ensures { result ≡ bytes_eq name.now (codes "charset") }
-{
-    name == "charset"
 }
 
 /// How many bytes are looked at together.
@@ -155,30 +147,16 @@ fn content_len(whole: &[u8], text: &[u8]) -> usize
     }
     let mut position = 0;
     while position < text.len() {
-        let byte = text[position];
-        // One look at a table passes most bytes.
-        if !is_quoted_text_byte(byte) {
-            if byte == b'"' {
-                return position;
-            }
-            if byte == b'\\' && position + 1 < text.len() {
-                // The byte that it pairs closes nothing.
-                position += 1;
-            }
+        if text[position] == b'"' {
+            return position;
+        }
+        if text[position] == b'\\' && position + 1 < text.len() {
+            // The byte that it pairs closes nothing.
+            position += 1;
         }
         position += 1;
     }
     position
-}
-
-/// The quoted content, and the text after its closing quote; all of it and nothing if there is none.
-#[inline(always)]
-fn split_content<'a>(whole: &str, text: &'a str) -> (&'a str, &'a str)
-    requires { IsEndOf text.now whole.now }
-    ensures content { result.0.now ≡ content_of text.entry.now }
-    ensures after { result.1.now ≡ after_content text.entry.now }
-{
-    split_around(text, content_len(whole.as_bytes(), text.as_bytes()))
 }
 
 /// How many spaces and tabs begin the list.
@@ -231,7 +209,8 @@ fn cut_value<'a>(whole: &str, list: usize, name: &'a str, text: &'a str) -> Pair
 {
     if !text.is_empty() && text.as_bytes()[0] == b'"' {
         let content = &text[1..];
-        let (value, others) = split_content(whole, content);
+        let length = content_len(whole.as_bytes(), content.as_bytes());
+        let (value, others) = split_around(content, length);
         let rest = after_semicolon(whole, others);
         return Pair {
             name,

@@ -8,7 +8,7 @@ ghost use Rattle.mime.specs.Pairs.{IsEndOf, pairs_within};
 ghost use Rattle.mime.specs.Views.{item_seen};
 
 use crate::name::Name;
-use crate::value::pairs::{Pairs, is_charset};
+use crate::value::pairs::Pairs;
 use std::fmt;
 use std::marker::Model;
 
@@ -50,7 +50,7 @@ impl<'a> Iterator for Params<'a> {
     #[inline(always)]
     fn next(&mut self) -> Option<(Name<'a>, Name<'a>)> {
         let (name, value) = self.pairs.next()?;
-        let ignores_case = is_charset(name);
+        let ignores_case = name == "charset";
         let name = Name {
             text: name,
             ignores_case: true,

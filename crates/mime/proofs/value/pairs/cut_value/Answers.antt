@@ -3,6 +3,7 @@ use Rattle.std.proofs.Common.{◌≡◌, ◌<◌, length, get_or, arith, rules}
 use Rattle.std.proofs.lemmas.Bool.Decides.{nat_tests}
 use Rattle.std.proofs.lemmas.Str.{IsCharBoundary-after_ascii}
 use Rattle.mime.specs.Bytes.{quote_byte}
+use Rattle.mime.proofs.ContentEnds.{get_or-content_len}
 use Rattle.mime.proofs.value.pairs.cut_value.Goals as goal
 
 pub range_from-content-requires : goal.range_from-content-requires
@@ -14,3 +15,7 @@ range_from-content-requires c = λ _.
 
 pub returns-then-as_bytes-eq34-clause-value : goal.returns-then-as_bytes-eq34-clause-value
 returns-then-as_bytes-eq34-clause-value c = search rules
+
+-- the byte after the content is a quote, which is ASCII
+pub split_around-requires : goal.split_around-requires
+split_around-requires c = λ within. omega (arith, get_or-content_len _ _ (cc) within)
