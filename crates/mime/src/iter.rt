@@ -1,6 +1,6 @@
 //! Media types one by one out of a text.
 
-ghost use Rattle.std.specs.Prelude.{◌≡◌, ◌+◌, ◌-◌, ◌<◌, ◌≤◌, ◌^◌, false, length, IfSome, None};
+ghost use Rattle.std.specs.Prelude.{◌≡◌, ◌+◌, ◌-◌, ◌<◌, ◌≤◌, ◌^◌, false, length, IfSome, None, ⊤};
 ghost use Rattle.std.specs.Iterator.{UpTo, at_most};
 ghost use Rattle.std.specs.Iterator.SizeHint.{IsWithinCount};
 ghost use Rattle.mime.specs.Cut.{is_following_byte};
@@ -9,7 +9,7 @@ ghost use Rattle.mime.specs.UnderWay.{IsAfterCharacter, PassesPiece, IsFound};
 
 use crate::scan::{ByteReader, Places, Verdict, scan};
 use crate::value::Mime;
-use std::alloc::Global;
+use std::alloc::{AllocError, Global};
 use std::fmt;
 use std::marker::Model;
 
@@ -107,7 +107,7 @@ fn pass<'a>(text: &'a str, from: u128) -> Passed<'a>
 /// Over `text/html, invalid, a/b; q=1` it gives `text/html`, the bad piece `invalid`, and
 /// `a/b; q=1`. Over `a/b ; q=1` it gives `a/b` and the bad piece `q`, since no space may precede the
 /// semicolon. Over `invalid` alone it gives nothing, since that could still become a media type.
-#[derive(Clone, Drop)]
+#[derive(Drop)]
 pub struct MimeIter<'a> {
     alloc: Global,
     text: &'a str,
@@ -170,6 +170,23 @@ impl<'a> MimeIter<'a> {
             }
         }
         None
+    }
+}
+
+/// Makes an iterator that goes on from the same place. It asks for no memory.
+impl<'a> Clone for MimeIter<'a> {
+    ghost is_clone = { λ iter copy. copy ≡ iter };
+
+    ghost is_infallible = { λ _. ⊤ };
+
+    fn clone(&self) -> Result<MimeIter<'a>, AllocError> {
+        Ok(MimeIter {
+            alloc: self.alloc,
+            text: self.text,
+            left: self.left,
+            starved: self.starved,
+            steps: self.steps,
+        })
     }
 }
 

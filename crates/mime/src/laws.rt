@@ -1,7 +1,7 @@
 //! The laws of the definitions, as calls: a caller that calls one has its law in its proof. Most do nothing;
-//! `name_constants` gives the constant names, and `iter_clone` a clone. docs/LAWS.md lists all claims.
+//! `name_constants` gives the constant names. docs/LAWS.md lists all claims.
 
-ghost use Rattle.std.specs.Prelude.{◌≡◌, ◌↔◌, IsTrue, IfOk, IsOk, map};
+ghost use Rattle.std.specs.Prelude.{◌≡◌, ◌↔◌, IsTrue, map};
 ghost use Rattle.std.specs.Cmp.Lexicographic.{slice_cmp};
 ghost use Rattle.std.specs.List.{list_all};
 ghost use Rattle.std.specs.Ordering.{MatchOrdering, ordering_then, bool_cmp, nat_cmp};
@@ -14,7 +14,7 @@ ghost use Rattle.mime.specs.CutLaws.{OneCut, CutHasItems, CutWritesText, OneCoun
 ghost use Rattle.mime.specs.RunLaws.{RunGivesCut, PrintedListComesBack, CommaContainsOnRuns};
 
 use crate::atoms::Atom;
-use crate::iter::{Bad, MimeIter};
+use crate::iter::Bad;
 use crate::name::constants::{
     APPLICATION, AUDIO, BASIC, BMP, BOUNDARY, CHARSET, CSS, CSV, EVENT_STREAM, FONT, FORM_DATA,
     GIF, HTML, IMAGE, JAVASCRIPT, JPEG, JSON, MESSAGE, MODEL, MP4, MPEG, MSGPACK, MULTIPART,
@@ -24,7 +24,6 @@ use crate::name::constants::{
 use crate::name::{Name, ParamKey, TextKey};
 use crate::scan::ParseError;
 use crate::value::Mime;
-use std::alloc::AllocError;
 use std::hash::Hash;
 
 /// A text is spelled by at most one well-formed tree: `a/b;p=x` only by the one with type `a`, subtype `b` and a
@@ -215,15 +214,6 @@ pub fn comma_contains_on_runs()
 pub fn printed_list_comes_back()
     ensures { PrintedListComesBack }
 {}
-
-/// A clone of a `MimeIter` always succeeds, and is the same, its steps included: from the middle of a list it
-/// gives what the other gives.
-pub fn iter_clone<'a>(iter: &MimeIter<'a>) -> Result<MimeIter<'a>, AllocError>
-    ensures same { IfOk result (λ other. other ≡ iter.now) }
-    ensures always { IsOk result }
-{
-    iter.clone()
-}
 
 /// The constant names, as a table: an array in the body of `name_constants` would be a statement a row for its proof.
 static NAMES: [Name<'static>; 38] = [

@@ -61,8 +61,10 @@ fn all_alike(a: &[u8], b: &[u8]) -> bool
     ensures { IsTrue result ↔ (lowered a.now ≡ lowered b.now) }
 {
     let mut marks = 0;
-    for (x, y) in a.iter().zip(b) {
-        marks |= difference(*x, *y);
+    let mut at = 0;
+    while at < a.len() {
+        marks |= difference(a[at], b[at]);
+        at += 1;
     }
     marks == 0
 }
