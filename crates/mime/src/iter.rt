@@ -173,7 +173,8 @@ impl<'a> MimeIter<'a> {
     }
 }
 
-/// Makes an iterator that goes on from the same place. It asks for no memory.
+/// Makes an iterator that goes on from the same place, with the same count of steps: after the first item of
+/// `a/b, c/d` both give `c/d`. It always succeeds, and asks for no memory.
 impl<'a> Clone for MimeIter<'a> {
     ghost is_clone = { λ iter copy. copy ≡ iter };
 
