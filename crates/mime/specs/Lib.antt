@@ -19,7 +19,7 @@ pub mod RunLaws
 pub mod Remaining
 pub mod Quoted
 pub mod Scanning
-pub mod Marks
+pub mod Blocks
 pub mod Pairs
 pub mod KeptText
 pub mod TextParts

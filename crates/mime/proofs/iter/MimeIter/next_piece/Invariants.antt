@@ -2,7 +2,7 @@
 use Rattle.std.proofs.Common.{length}
 use Rattle.mime.specs.UnderWay.{IsSound}
 use Rattle.mime.proofs.Iterating.{IsLooking, seen}
-use Rattle.mime.proofs.iter.MimeIter.find.Given as goal
+use Rattle.mime.proofs.iter.MimeIter.next_piece.Given as goal
 
 abbrev pub invariant-loop-self : goal.invariant-loop-self
 invariant-loop-self l = IsLooking l.fn.self (seen l.self-inside) × IsSound (seen l.self-inside)

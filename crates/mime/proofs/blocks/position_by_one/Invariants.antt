@@ -1,7 +1,7 @@
 -- What is left has the first position where the whole does.
 use Rattle.std.proofs.Common.{◌≡◌, ◌+◌, ◌-◌, length, drop}
-use Rattle.mime.specs.Pairs.{first_position}
-use Rattle.mime.proofs.value.pairs.position_by_one.Given as goal
+use Rattle.mime.specs.Blocks.{first_position}
+use Rattle.mime.proofs.blocks.position_by_one.Given as goal
 
 abbrev pub invariant-loop-position : goal.invariant-loop-position
 invariant-loop-position l = l.position + first_position l.byte (drop l.position l.text) ≡ first_position l.byte l.text

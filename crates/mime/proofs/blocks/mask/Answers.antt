@@ -2,7 +2,7 @@
 use Rattle.std.proofs.Common.{eqb, take, w8, arith}
 use Rattle.std.proofs.lemmas.List.{length-take-le}
 use Rattle.std.proofs.lemmas.Simd.{bitmask_splat}
-use Rattle.mime.proofs.value.pairs.marks.Goals as goal
+use Rattle.mime.proofs.blocks.mask.Goals as goal
 
 pub returns : goal.returns
 returns c =

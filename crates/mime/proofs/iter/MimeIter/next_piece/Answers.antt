@@ -1,7 +1,7 @@
 -- Each piece that is passed is a step of the search.
 use Rattle.std.proofs.Common.{sym, subst, rules}
 use Rattle.mime.proofs.Iterating.{IsLooking, looking-first, looking-more, found-none, found-some}
-use Rattle.mime.proofs.iter.MimeIter.find.Goals as goal
+use Rattle.mime.proofs.iter.MimeIter.next_piece.Goals as goal
 
 pub loop-self-init : goal.loop-self-init
 loop-self-init c = (subst (IsLooking _) (sym c.self.view_is) (looking-first _), c.self.invariant)

@@ -1,7 +1,7 @@
 -- What was passed is not the byte, and what is left is an end of the text.
 use Rattle.std.proofs.Common.{◌≡◌, ◌+◌, ◌-◌, length}
-use Rattle.mime.specs.Pairs.{IsEndOf, first_position}
-use Rattle.mime.proofs.value.pairs.position_by_blocks.Given as goal
+use Rattle.mime.specs.Blocks.{IsEndOf, first_position}
+use Rattle.mime.proofs.blocks.position_by_blocks.Given as goal
 
 abbrev pub invariant-loop-left : goal.invariant-loop-left
 invariant-loop-left l = record {
