@@ -8,7 +8,7 @@ ghost use Rattle.mime.specs.Scanning.{Passes, PassesContent, PassesSubtype, Scan
 mod fault;
 mod reader;
 
-use crate::bytes::{is_quoted_byte, is_quoted_text_byte, is_space, is_token};
+use crate::bytes::{is_quoted_byte, is_quoted_text_byte, is_space, is_token, is_token_except_plus};
 pub use crate::scan::fault::{FromStrError, ParseError};
 pub(crate) use crate::scan::reader::ByteReader;
 
@@ -103,12 +103,13 @@ fn subtype(reader: &mut ByteReader<'_>, from: u128) -> (Option<usize>, Option<u8
         let Some(byte) = reader.next() else {
             break None;
         };
-        if !is_token(byte) {
+        if is_token_except_plus(byte) {
+            continue;
+        }
+        if byte != b'+' {
             break Some(byte);
         }
-        if byte == b'+' {
-            plus = reader.position(from);
-        }
+        plus = reader.position(from);
     };
     (if plus == 0 { None } else { Some(plus) }, stop)
 }

@@ -4,6 +4,7 @@ ghost use Rattle.std.specs.Prelude.{◌≡◌, Some};
 
 use std::error::Error;
 use std::fmt;
+use std::fmt::{InlineText, Write};
 use std::marker::Model;
 
 /// Why a text isn't read as a media type (RFC 7231, 3.1.1.1).
@@ -59,7 +60,11 @@ impl fmt::Display for ParseError {
                 "a quote (\") was missing from a parameter value",
             ),
             ParseError::InvalidToken { pos, byte } => {
-                write!(f, "an invalid token was encountered, {byte:X} at position {pos}")
+                // Written aside, since a width of `f` would count for the numbers.
+                let mut token = InlineText::<40>::new();
+                write!(token, "{byte:X} at position {pos}")?;
+                f.write_str("an invalid token was encountered, ")?;
+                f.write_str(token.as_str())
             }
             ParseError::NoMemory => f.write_str("memory ran out"),
         }
@@ -109,8 +114,8 @@ impl fmt::Display for FromStrError {
     ghost styled_output = { λ error spec. Some (error_text error) };
 
     fn fmt<W: fmt::Write>(&self, f: &mut fmt::Formatter<W>) -> fmt::Result {
-        let fault = self.fault;
-        write!(f, "mime parse error: {fault}")
+        f.write_str("mime parse error: ")?;
+        fmt::Display::fmt(&self.fault, f)
     }
 }
 
