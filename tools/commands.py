@@ -8,6 +8,7 @@ import shlex
 import shutil
 import signal
 import subprocess
+import tempfile
 
 TOP = os.path.dirname(os.path.dirname(os.path.realpath(__file__)))
 
@@ -85,6 +86,28 @@ def instructions(words, given):
     if not found:
         raise OSError(f"valgrind counted nothing:\n{said[-600:].decode(errors='replace')}")
     return int(found[1])
+
+
+def refusing_library(room):
+    """tools/refusals/refuse.c, compiled."""
+    library = f"{room}/refuse.so"
+    if not is_there("cc", "gcc", "libc6-dev"):
+        raise OSError("nothing is tried without cc")
+    words = ["cc", "-O2", "-shared", "-fPIC", "-o", library, f"{TOP}/tools/refusals/refuse.c"]
+    made = run(words, PROGRAM_SECONDS, stdout=subprocess.PIPE, stderr=subprocess.STDOUT, errors="replace")
+    if made.returncode:
+        raise OSError(f"tools/refusals/refuse.c could not be compiled:\n{made.stdout[-3000:]}")
+    return library
+
+
+def refuse(library, words, given, number, **how):
+    """Runs a program with one request for memory refused, or none if the number is 0: what it did, and how many requests and bytes each
+    count had, with whether one was refused. REFUSE_FROM="start" makes the whole run one count."""
+    with tempfile.TemporaryFile() as counted:
+        env = {"LD_PRELOAD": library, "REFUSE": str(number), "REFUSE_COUNT": str(counted.fileno()), **how}
+        done = run(words, PROGRAM_SECONDS, given, stdout=subprocess.PIPE, stderr=subprocess.PIPE, env=env, pass_fds=(counted.fileno(),))
+        counted.seek(0)
+        return done, [(int(it.split()[0]), int(it.split()[1]), b"refused" in it) for it in counted.read().splitlines()]
 
 
 def rt(words, folder):
