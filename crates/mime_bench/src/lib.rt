@@ -14,9 +14,10 @@ use std::hash::{DefaultHasher, Hash, Hasher};
 macro_rules! repeat {
     ($times:ident, $one:expr, $two:expr, $it:ident => $turn:expr) => {{
         let mut answer = 0usize;
+        let mut $it = $one;
         for _ in 0..$times {
-            let $it = if answer % 2 == 0 { $one } else { $two };
             answer = $turn;
+            $it = if answer == 0 { $one } else { $two };
         }
         answer
     }};
@@ -36,10 +37,10 @@ pub extern "C" fn mime_bench(
         return 0;
     };
     match operation {
-        b"read" => repeat!(times, text, text, it => read(alloc, it)),
-        b"items" => repeat!(times, text, text, it => items(alloc, it)),
-        b"name_eq" => repeat!(times, text, other, it => is_name(it, other)),
-        b"atom" => repeat!(times, TEXT_HTML, TEXT_PLAIN_UTF_8, it => it.mime().as_str().len()),
+        b"read" => read(alloc, text, times),
+        b"items" => items(alloc, text, times),
+        b"name_eq" => name_eq(text, other, times),
+        b"atom" => atom(times),
         _ => match (Mime::from_str(alloc, text), Mime::from_str(alloc, text)) {
             (Ok(one), Ok(two)) => on_values(alloc, operation, &one, &two, other, times),
             _ => 0,
@@ -57,94 +58,118 @@ fn on_values(
     times: usize,
 ) -> usize {
     match operation {
-        b"walk" => repeat!(times, one, one, it => walk(it)),
-        b"look_up" => repeat!(times, one, one, it => look_up(it, other)),
-        b"eq_str" => repeat!(times, one, two, it => mime_eq_str(it, other) as usize),
-        b"hash" => repeat!(times, one, two, it => hash(it)),
-        b"clone" => repeat!(times, one, two, it => copy(it)),
+        b"walk" => walk(one, times),
+        b"look_up" => look_up(one, other, times),
+        b"eq_str" => eq_str(one, two, other, times),
+        b"hash" => hash(one, two, times),
+        b"clone" => clone(one, two, times),
         b"print" => print(alloc, one, times),
         _ => match Mime::from_str(alloc, other) {
-            Ok(other) => on_others(operation, one, two, &other, times),
+            Ok(other) if operation == b"eq".as_slice() => eq(one, two, &other, times),
+            Ok(other) => cmp(one, two, &other, times),
             Err(_) => 0,
         },
     }
 }
 
-/// Makes an operation on two equal values and another.
-fn on_others(operation: &[u8], one: &Mime, two: &Mime, other: &Mime, times: usize) -> usize {
-    match operation {
-        b"eq" => repeat!(times, one, two, it => (*it == *other) as usize),
-        b"cmp" => repeat!(times, one, two, it => it.cmp(other).is_lt() as usize),
-        _ => 0,
-    }
-}
-
-#[inline(always)]
-fn read(alloc: Global, text: &str) -> usize {
-    match Mime::from_str(alloc, text) {
+#[inline(never)]
+fn read(alloc: Global, text: &str, times: usize) -> usize {
+    repeat!(times, text, text, it => match Mime::from_str(alloc, it) {
         Ok(mime) => mime.as_str().len(),
         Err(_) => 0,
-    }
+    })
 }
 
-#[inline(always)]
-fn items(alloc: Global, text: &str) -> usize {
-    let mut length = 0usize;
-    for item in MimeIter::new(alloc, text) {
-        if let Ok(mime) = item {
-            length = length.wrapping_add(mime.as_str().len());
+#[inline(never)]
+fn items(alloc: Global, text: &str, times: usize) -> usize {
+    repeat!(times, text, text, it => {
+        let mut length = 0usize;
+        for item in MimeIter::new(alloc, it) {
+            if let Ok(mime) = item {
+                length = length.wrapping_add(mime.as_str().len());
+            }
         }
-    }
-    length
+        length
+    })
 }
 
-#[inline(always)]
-fn is_name(text: &str, other: &str) -> usize {
+#[inline(never)]
+fn name_eq(text: &str, other: &str, times: usize) -> usize {
     let name = Name {
         text,
         ignores_case: true,
     };
-    name_eq_str(&name, other) as usize
+    repeat!(times, other, text, it => name_eq_str(&name, it) as usize)
 }
 
-#[inline(always)]
-fn walk(mime: &Mime) -> usize {
-    let mut length = 0usize;
-    for (name, value) in mime.params() {
-        length = length
-            .wrapping_add(name.text.len())
-            .wrapping_add(value.text.len());
-    }
-    length
+#[inline(never)]
+fn atom(times: usize) -> usize {
+    repeat!(times, TEXT_HTML, TEXT_PLAIN_UTF_8, it => it.mime().as_str().len())
 }
 
-#[inline(always)]
-fn look_up(mime: &Mime, name: &str) -> usize {
-    mime.get_param(TextKey(name))
-        .map_or(0, |value| value.text.len())
+#[inline(never)]
+fn walk(mime: &Mime, times: usize) -> usize {
+    repeat!(times, mime, mime, it => {
+        let mut length = 0usize;
+        for (name, value) in it.params() {
+            length = length
+                .wrapping_add(name.text.len())
+                .wrapping_add(value.text.len());
+        }
+        length
+    })
 }
 
-#[inline(always)]
-fn hash(mime: &Mime) -> usize {
-    let mut hasher = DefaultHasher::new();
-    mime.hash(&mut hasher);
-    // Which bytes are fed is open.
-    (hasher.finish() != 0) as usize
+#[inline(never)]
+fn look_up(mime: &Mime, name: &str, times: usize) -> usize {
+    repeat!(times, mime, mime, it => match it.get_param(TextKey(name)) {
+        Some(value) => value.text.len(),
+        None => 0,
+    })
 }
 
-#[inline(always)]
-fn copy(mime: &Mime) -> usize {
-    mime.clone().map_or(0, |copy| copy.as_str().len())
+#[inline(never)]
+fn eq_str(one: &Mime, two: &Mime, other: &str, times: usize) -> usize {
+    repeat!(times, one, two, it => mime_eq_str(it, other) as usize)
+}
+
+#[inline(never)]
+fn eq(one: &Mime, two: &Mime, other: &Mime, times: usize) -> usize {
+    repeat!(times, one, two, it => (*it == *other) as usize)
+}
+
+#[inline(never)]
+fn cmp(one: &Mime, two: &Mime, other: &Mime, times: usize) -> usize {
+    repeat!(times, one, two, it => it.cmp(other).is_lt() as usize)
+}
+
+#[inline(never)]
+fn clone(one: &Mime, two: &Mime, times: usize) -> usize {
+    repeat!(times, one, two, it => match it.clone() {
+        Ok(copy) => copy.as_str().len(),
+        Err(_) => 0,
+    })
+}
+
+/// Which bytes are fed is open, so it answers 1.
+#[inline(never)]
+fn hash(one: &Mime, two: &Mime, times: usize) -> usize {
+    repeat!(times, one, two, it => {
+        let mut hasher = DefaultHasher::new();
+        it.hash(&mut hasher);
+        (hasher.finish() != 0) as usize
+    })
 }
 
 /// Prints into a text that has room.
+#[inline(never)]
 fn print(alloc: Global, mime: &Mime, times: usize) -> usize {
     let Ok(mut printed) = String::with_capacity(alloc, mime.as_str().len()) else {
         return 0;
     };
-    for _ in 0..times {
+    repeat!(times, mime, mime, it => {
         printed.clear();
-        let _ = write!(printed, "{mime}");
-    }
-    printed.len()
+        let _ = write!(printed, "{it}");
+        printed.len()
+    })
 }
