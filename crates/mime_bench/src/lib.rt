@@ -1,270 +1,175 @@
-//! A call over byte slices for each operation that bench/ measures.
+//! A call over byte slices for the operations that bench/ measures.
 //!
-//! Each call repeats its operation, so that the difference of two calls is the operation alone,
-//! without the test that the bytes are a text. No clause says what they answer: the driver compares
-//! that with the Rust crate's answers.
+//! It repeats an operation, so that the difference of two calls is the operation alone. No clause says what it answers:
+//! the driver compares that with the Rust crate's answers.
 #![tactic(auto)]
 
-use mime::{
-    APPLICATION_JSON, IMAGE_SVG, Mime, MimeIter, Name, TEXT_HTML, TEXT_PLAIN_UTF_8, TextKey,
-    mime_eq_str, name_eq_str,
-};
+use mime::{Mime, MimeIter, Name, TEXT_HTML, TEXT_PLAIN_UTF_8, TextKey, mime_eq_str, name_eq_str};
 use std::alloc::Global;
 use std::fmt::Write;
 use std::hash::{DefaultHasher, Hash, Hasher};
 
-/// Reads a media type and drops it, `times` times: the length of its kept text, or 0 where it is
-/// refused.
-#[unsafe(no_mangle)]
-pub extern "C" fn mime_bench_read(alloc: Global, text: &[u8], times: usize) -> usize {
-    let Ok(text) = std::str::from_utf8(text) else {
-        return 0;
-    };
-    let mut length = 0;
-    for _ in 0..times {
-        length = match Mime::from_str(alloc, text) {
-            Ok(mime) => mime.as_str().len(),
-            Err(_) => 0,
-        };
-    }
-    length
-}
-
-/// Walks all parameters of a media type, `times` times: the bytes of their names and values.
-#[unsafe(no_mangle)]
-pub extern "C" fn mime_bench_walk(alloc: Global, text: &[u8], times: usize) -> usize {
-    let Ok(text) = std::str::from_utf8(text) else {
-        return 0;
-    };
-    let Ok(mime) = Mime::from_str(alloc, text) else {
-        return 0;
-    };
-    let mut length = 0usize;
-    for _ in 0..times {
-        length = 0;
-        for (name, value) in mime.params() {
-            length = length
-                .wrapping_add(name.text.len())
-                .wrapping_add(value.text.len());
+/// The answer of the last of so many turns. Each takes one of two equal things, by the answer before: so the compiler
+/// leaves no turn out.
+macro_rules! repeat {
+    ($times:ident, $one:expr, $two:expr, $it:ident => $turn:expr) => {{
+        let mut answer = 0usize;
+        let mut $it = $one;
+        for _ in 0..$times {
+            answer = $turn;
+            $it = if answer == 0 { $one } else { $two };
         }
-    }
-    length
+        answer
+    }};
 }
 
-/// Looks a parameter up by its name, `times` times: the length of its value, or 0 without one.
+/// Makes an operation `times` times. It answers the length of what the last turn gave, or 1 for yes, and 0 where a text
+/// isn't UTF-8 or is refused.
 #[unsafe(no_mangle)]
-pub extern "C" fn mime_bench_look_up(
+pub extern "C" fn mime_bench(
     alloc: Global,
+    operation: &[u8],
     text: &[u8],
-    name: &[u8],
-    times: usize,
-) -> usize {
-    let (Ok(text), Ok(name)) = (std::str::from_utf8(text), std::str::from_utf8(name)) else {
-        return 0;
-    };
-    let Ok(mime) = Mime::from_str(alloc, text) else {
-        return 0;
-    };
-    let mut length = 0;
-    for _ in 0..times {
-        if let Some(value) = mime.get_param(TextKey(name)) {
-            length = value.text.len();
-        }
-    }
-    length
-}
-
-/// Compares a name that ignores case with a text, `times` times: how often they were the same.
-#[unsafe(no_mangle)]
-pub extern "C" fn mime_bench_name_eq(name: &[u8], text: &[u8], times: usize) -> usize {
-    let (Ok(name), Ok(text)) = (std::str::from_utf8(name), std::str::from_utf8(text)) else {
-        return 0;
-    };
-    let name = Name {
-        text: name,
-        ignores_case: true,
-    };
-    // Each text depends on the answer before, so the compiler leaves no comparison out.
-    let mut same = 0usize;
-    let mut against = text;
-    for _ in 0..times {
-        if name_eq_str(&name, against) {
-            same = same.wrapping_add(1);
-            against = text;
-        } else {
-            against = name.text;
-        }
-    }
-    same
-}
-
-/// Compares two values, `times` times: how often they were equal.
-#[unsafe(no_mangle)]
-pub extern "C" fn mime_bench_eq(alloc: Global, one: &[u8], other: &[u8], times: usize) -> usize {
-    let (Ok(one), Ok(other)) = (std::str::from_utf8(one), std::str::from_utf8(other)) else {
-        return 0;
-    };
-    let (Ok(first), Ok(second), Ok(third)) = (
-        Mime::from_str(alloc, one),
-        Mime::from_str(alloc, other),
-        Mime::from_str(alloc, other),
-    ) else {
-        return 0;
-    };
-    let mut same = 0usize;
-    let mut against = &second;
-    for _ in 0..times {
-        if first == *against {
-            same = same.wrapping_add(1);
-            against = &second;
-        } else {
-            against = &third;
-        }
-    }
-    same
-}
-
-/// Orders two values, `times` times: how often the first was less.
-#[unsafe(no_mangle)]
-pub extern "C" fn mime_bench_cmp(alloc: Global, one: &[u8], other: &[u8], times: usize) -> usize {
-    let (Ok(one), Ok(other)) = (std::str::from_utf8(one), std::str::from_utf8(other)) else {
-        return 0;
-    };
-    let (Ok(first), Ok(second), Ok(third)) = (
-        Mime::from_str(alloc, one),
-        Mime::from_str(alloc, other),
-        Mime::from_str(alloc, other),
-    ) else {
-        return 0;
-    };
-    let mut less = 0usize;
-    let mut against = &second;
-    for _ in 0..times {
-        if first.cmp(against).is_lt() {
-            less = less.wrapping_add(1);
-            against = &second;
-        } else {
-            against = &third;
-        }
-    }
-    less
-}
-
-/// Hashes a value, `times` times: 1, since which bytes are fed is open.
-#[unsafe(no_mangle)]
-pub extern "C" fn mime_bench_hash(alloc: Global, text: &[u8], times: usize) -> usize {
-    let Ok(text) = std::str::from_utf8(text) else {
-        return 0;
-    };
-    let (Ok(first), Ok(second)) = (Mime::from_str(alloc, text), Mime::from_str(alloc, text)) else {
-        return 0;
-    };
-    let mut even = 0usize;
-    let mut next = &first;
-    for _ in 0..times {
-        let mut hasher = DefaultHasher::new();
-        next.hash(&mut hasher);
-        if hasher.finish() % 2 == 0 {
-            even = even.wrapping_add(1);
-            next = &second;
-        } else {
-            next = &first;
-        }
-    }
-    if even <= times { 1 } else { 0 }
-}
-
-/// Copies a value and drops the copy, `times` times: the length of its kept text.
-#[unsafe(no_mangle)]
-pub extern "C" fn mime_bench_clone(alloc: Global, text: &[u8], times: usize) -> usize {
-    let Ok(text) = std::str::from_utf8(text) else {
-        return 0;
-    };
-    let (Ok(first), Ok(second)) = (Mime::from_str(alloc, text), Mime::from_str(alloc, text)) else {
-        return 0;
-    };
-    let mut length = 0usize;
-    for _ in 0..times {
-        let next = if length == 0 { &first } else { &second };
-        length = match next.clone() {
-            Ok(copy) => copy.as_str().len(),
-            Err(_) => 0,
-        };
-    }
-    length
-}
-
-/// Prints a value into a text that has room for it, `times` times: the length of what was printed.
-#[unsafe(no_mangle)]
-pub extern "C" fn mime_bench_print(alloc: Global, text: &[u8], times: usize) -> usize {
-    let Ok(text) = std::str::from_utf8(text) else {
-        return 0;
-    };
-    let (Ok(mime), Ok(mut printed)) = (
-        Mime::from_str(alloc, text),
-        String::with_capacity(alloc, text.len()),
-    ) else {
-        return 0;
-    };
-    for _ in 0..times {
-        printed.clear();
-        let _ = write!(printed, "{mime}");
-    }
-    printed.len()
-}
-
-/// Compares a value with a text, `times` times: how often they were equal.
-#[unsafe(no_mangle)]
-pub extern "C" fn mime_bench_eq_str(
-    alloc: Global,
-    one: &[u8],
     other: &[u8],
     times: usize,
 ) -> usize {
-    let (Ok(one), Ok(other)) = (std::str::from_utf8(one), std::str::from_utf8(other)) else {
+    let (Ok(text), Ok(other)) = (std::str::from_utf8(text), std::str::from_utf8(other)) else {
         return 0;
     };
-    let (Ok(first), Ok(second)) = (Mime::from_str(alloc, one), Mime::from_str(alloc, one)) else {
-        return 0;
-    };
-    let mut same = 0usize;
-    let mut against = &first;
-    for _ in 0..times {
-        if mime_eq_str(against, other) {
-            same = same.wrapping_add(1);
-            against = &second;
-        } else {
-            against = &first;
-        }
+    match operation {
+        b"read" => read(alloc, text, times),
+        b"items" => items(alloc, text, times),
+        b"name_eq" => name_eq(text, other, times),
+        b"atom" => atom(times),
+        _ => match (Mime::from_str(alloc, text), Mime::from_str(alloc, text)) {
+            (Ok(one), Ok(two)) => on_values(alloc, operation, &one, &two, other, times),
+            _ => 0,
+        },
     }
-    same
 }
 
-/// Makes one of four constants, `times` times: the sum of the lengths of their texts.
-#[unsafe(no_mangle)]
-pub extern "C" fn mime_bench_atom(_text: &[u8], times: usize) -> usize {
-    let atoms = [TEXT_HTML, APPLICATION_JSON, TEXT_PLAIN_UTF_8, IMAGE_SVG];
-    let mut length = 0usize;
-    for _ in 0..times {
-        length = length.wrapping_add(atoms[length % 4].mime().as_str().len());
+/// Makes an operation on two equal values.
+fn on_values(
+    alloc: Global,
+    operation: &[u8],
+    one: &Mime,
+    two: &Mime,
+    other: &str,
+    times: usize,
+) -> usize {
+    match operation {
+        b"walk" => walk(one, times),
+        b"look_up" => look_up(one, other, times),
+        b"eq_str" => eq_str(one, two, other, times),
+        b"hash" => hash(one, two, times),
+        b"clone" => clone(one, two, times),
+        b"print" => print(alloc, one, times),
+        _ => match Mime::from_str(alloc, other) {
+            Ok(other) if operation == b"eq".as_slice() => eq(one, two, &other, times),
+            Ok(other) => cmp(one, two, &other, times),
+            Err(_) => 0,
+        },
     }
-    length
 }
 
-/// Goes over the media types of a list, `times` times: how many bytes their kept texts have.
-#[unsafe(no_mangle)]
-pub extern "C" fn mime_bench_items(alloc: Global, text: &[u8], times: usize) -> usize {
-    let Ok(text) = std::str::from_utf8(text) else {
-        return 0;
-    };
-    let mut length = 0usize;
-    for _ in 0..times {
-        length = 0;
-        for item in MimeIter::new(alloc, text) {
+#[inline(never)]
+fn read(alloc: Global, text: &str, times: usize) -> usize {
+    repeat!(times, text, text, it => match Mime::from_str(alloc, it) {
+        Ok(mime) => mime.as_str().len(),
+        Err(_) => 0,
+    })
+}
+
+#[inline(never)]
+fn items(alloc: Global, text: &str, times: usize) -> usize {
+    repeat!(times, text, text, it => {
+        let mut length = 0usize;
+        for item in MimeIter::new(alloc, it) {
             if let Ok(mime) = item {
                 length = length.wrapping_add(mime.as_str().len());
             }
         }
-    }
-    length
+        length
+    })
+}
+
+#[inline(never)]
+fn name_eq(text: &str, other: &str, times: usize) -> usize {
+    let name = Name {
+        text,
+        ignores_case: true,
+    };
+    repeat!(times, other, text, it => name_eq_str(&name, it) as usize)
+}
+
+#[inline(never)]
+fn atom(times: usize) -> usize {
+    repeat!(times, TEXT_HTML, TEXT_PLAIN_UTF_8, it => it.mime().as_str().len())
+}
+
+#[inline(never)]
+fn walk(mime: &Mime, times: usize) -> usize {
+    repeat!(times, mime, mime, it => {
+        let mut length = 0usize;
+        for (name, value) in it.params() {
+            length = length
+                .wrapping_add(name.text.len())
+                .wrapping_add(value.text.len());
+        }
+        length
+    })
+}
+
+#[inline(never)]
+fn look_up(mime: &Mime, name: &str, times: usize) -> usize {
+    repeat!(times, mime, mime, it => match it.get_param(TextKey(name)) {
+        Some(value) => value.text.len(),
+        None => 0,
+    })
+}
+
+#[inline(never)]
+fn eq_str(one: &Mime, two: &Mime, other: &str, times: usize) -> usize {
+    repeat!(times, one, two, it => mime_eq_str(it, other) as usize)
+}
+
+#[inline(never)]
+fn eq(one: &Mime, two: &Mime, other: &Mime, times: usize) -> usize {
+    repeat!(times, one, two, it => (*it == *other) as usize)
+}
+
+#[inline(never)]
+fn cmp(one: &Mime, two: &Mime, other: &Mime, times: usize) -> usize {
+    repeat!(times, one, two, it => it.cmp(other).is_lt() as usize)
+}
+
+#[inline(never)]
+fn clone(one: &Mime, two: &Mime, times: usize) -> usize {
+    repeat!(times, one, two, it => match it.clone() {
+        Ok(copy) => copy.as_str().len(),
+        Err(_) => 0,
+    })
+}
+
+/// Which bytes are fed is open, so it answers 1.
+#[inline(never)]
+fn hash(one: &Mime, two: &Mime, times: usize) -> usize {
+    repeat!(times, one, two, it => {
+        let mut hasher = DefaultHasher::new();
+        it.hash(&mut hasher);
+        (hasher.finish() != 0) as usize
+    })
+}
+
+/// Prints into a text that has room.
+#[inline(never)]
+fn print(alloc: Global, mime: &Mime, times: usize) -> usize {
+    let Ok(mut printed) = String::with_capacity(alloc, mime.as_str().len()) else {
+        return 0;
+    };
+    repeat!(times, mime, mime, it => {
+        printed.clear();
+        let _ = write!(printed, "{it}");
+        printed.len()
+    })
 }
