@@ -109,7 +109,7 @@ different_texts law first second reads also = law (codes "a/b") (codes "A/c") fi
 answer_of_key : (Accepts : List ℕ → Bool → Type 0) → OneAnswer Accepts → (first second : Option (List ℕ × Bool))
     → IsFirstAccepted Accepts (exact_item ∷ charset_item ∷ []) first → IsFirstAccepted Accepts (exact_item ∷ charset_item ∷ []) second
     → first ≡ second
-answer_of_key Accepts law first second is also = law _ second first also is
+answer_of_key Accepts law first second is also = law (exact_item ∷ charset_item ∷ []) second first also is
 
 -- ---- the cut
 
