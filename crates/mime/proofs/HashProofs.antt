@@ -24,7 +24,7 @@ use lib.Utf8.{scalars, scalar, encodes, encode, scalar_cases}
 -- ---- the byte 255
 
 -- no byte is 255
-abbrev AreTextBytes : List ℕ → Type 0
+abbrev pub AreTextBytes : List ℕ → Type 0
 AreTextBytes bytes = list_all (is_other 255) bytes ≡ true
 
 -- the parts of bytes none of which is 255
@@ -63,7 +63,7 @@ characters_bytes (c ∷ characters) are =
     let parts = and_parts (scalar c) (scalars characters) are in
     text_join (encode c) (encodes characters) (character_bytes c parts.0) (characters_bytes characters parts.1)
 
-utf8_bytes : (text : List ℕ) → IsUtf8 text → AreTextBytes text
+pub utf8_bytes : (text : List ℕ) → IsUtf8 text → AreTextBytes text
 utf8_bytes text utf8 = subst AreTextBytes utf8.1.1 (characters_bytes utf8.0 utf8.1.0)
 
 -- lowering adds none
@@ -90,7 +90,7 @@ first_mark (x ∷ xs) (y ∷ ys) m n one other same =
 -- ---- the values that are read
 
 -- a pair whose name is a token, and whose value has no byte 255
-abbrev IsFedPair : List ℕ × List ℕ → Type 0
+abbrev pub IsFedPair : List ℕ × List ℕ → Type 0
 IsFedPair (name, value) = AreTokenBytes name × AreTextBytes value
 
 -- those of a text without the byte 255 are such pairs
@@ -126,12 +126,12 @@ slash_is_no_token front back all =
     absurd cc
 
 -- what is known of a value that was read
-record IsFed (value : MediaType) : Type 0 where
-  pairs : AllByRecursion IsFedPair value.pairs
-  essence : AreTextBytes value.essence
-  slash : ¬ (AreTokenBytes value.essence)
+pub record IsFed (value : MediaType) : Type 0 where
+  pub pairs : AllByRecursion IsFedPair value.pairs
+  pub essence : AreTextBytes value.essence
+  pub slash : ¬ (AreTokenBytes value.essence)
 
-fed-read : (value : MediaType) → IsReadInUtf8 value → IsFed value
+pub fed-read : (value : MediaType) → IsReadInUtf8 value → IsFed value
 fed-read value (text, utf8, reads) =
     let tree = reads.tree in
     let well = reads.well_formed in
