@@ -1,7 +1,7 @@
 -- What values feed a hasher, by computation; texts that a prefix-free input tells from others, and an input that isn't prefix-free.
 use Rattle.std.proofs.Common.{◌≡◌, ◌≢◌, ℕ, false, List, [], ◌∷◌, ◌++◌, None, refl, sym, ap, ◌∙◌, codes}
 use Rattle.std.proofs.lemmas.Bool.{false≢true}
-use Rattle.std.proofs.lemmas.Str.{IsUtf8-from_is_utf8}
+use Rattle.std.specs.Char.{encode_utf8}
 use Rattle.std.specs.Hash.{HashWrites}
 use Rattle.std.specs.Hash as fed
 use Rattle.std.specs.List.{concat}
@@ -44,11 +44,13 @@ fed_with_text = (
 
 -- ---- values that were read from valid UTF-8
 
-abbrev read_plain : IsReadInUtf8 plain_value
-read_plain = (codes "A/B", (IsUtf8-from_is_utf8 _ refl, reads_capitals))
+read_plain : IsReadInUtf8 plain_value
+unfolding encode_utf8
+read_plain = (codes "A/B", (codes "A/B", (refl, refl)), reads_capitals)
 
-abbrev read_longer : IsReadInUtf8 longer_value
-read_longer = (codes "a/bx", (IsUtf8-from_is_utf8 _ refl, reads_longer))
+read_longer : IsReadInUtf8 longer_value
+unfolding encode_utf8
+read_longer = (codes "a/bx", (codes "a/bx", (refl, refl)), reads_longer)
 
 -- a value that keeps a capital of its essence isn't read, and one with the byte 255 not from valid UTF-8
 not_read_in_utf8 :

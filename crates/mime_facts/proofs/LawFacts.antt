@@ -2,7 +2,6 @@
 use Rattle.std.proofs.Common.{◌≡◌, ◌≢◌, ℕ, zero, suc, ◌≤◌, Bool, true, false, ◌⊎◌, inl, inr, IsTrue, List, [], ◌∷◌, ◌++◌, length, Option, Some, None, Result, refl, sym, ap, ◌∙◌, subst, arith, codes}
 use Rattle.std.proofs.lemmas.Bool.{false≢true}
 use Rattle.std.proofs.lemmas.Option.{none-some, same_Some}
-use Rattle.std.proofs.lemmas.Str.{IsUtf8-from_is_utf8}
 use Rattle.std.specs.Prelude.{slice_get}
 use Rattle.std.specs.Char.{IsScalar, encode_utf8}
 use Rattle.std.specs.Iterator.{Drains}
@@ -108,9 +107,10 @@ front_in_utf8 law utf8 = let is = (law (codes "a b") 1 utf8).0 space_in_type.fro
 
 -- what some accepted text of valid UTF-8 begins with, what no accepted text does, and what only accepted texts do that aren't valid UTF-8
 viable_in_utf8 : IsViableInUtf8 (codes "a") × ¬ (IsViableInUtf8 (codes "a b")) × ¬ (IsViableInUtf8 (codes "a/b;p=\"" ++ (255 ∷ [])))
+unfolding encode_utf8
 viable_in_utf8 = (
-  (codes "/b", (IsUtf8-from_is_utf8 _ refl, (plain_value, kept_is_read _ plain_value reads_capitals))),
-  (λ is. space_in_type.front.longest 2 (omega arith) (omega arith) (codes " b" ++ is.0, is.2)),
+  (codes "/b", (codes "a/b", (refl, refl)), (plain_value, kept_is_read _ plain_value reads_capitals)),
+  (λ is. space_in_type.front.longest 2 (omega arith) (omega arith) (codes "b" ++ is.0, is.2)),
   λ is. false≢true (utf8_bytes _ is.1),
 )
 
