@@ -37,6 +37,7 @@ pub mod Ordering
 pub mod SameItems
 pub mod Counts
 pub mod HashBuffer
+pub mod HashProofs
 pub mod Constants
 pub mod SmallLetters
 pub mod TextComparison

@@ -16,6 +16,7 @@ pub mod Cut
 pub mod Runs
 pub mod CutLaws
 pub mod RunLaws
+pub mod HashLaws
 -- private
 pub mod Remaining
 pub mod Quoted

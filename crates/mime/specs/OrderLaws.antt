@@ -1,5 +1,5 @@
 -- Private. The laws of order, equality and hash as terms: a type's `ghost laws` are among its contracts, and can't cite proofs/.
-use Rattle.std.specs.Prelude.{◌≡◌, true, ◌++◌, length}
+use Rattle.std.specs.Prelude.{◌≡◌, true, ◌++◌}
 use Rattle.std.specs.Cmp.{IsTotalOrder, on_total, then_total, Equal-is}
 use Rattle.std.specs.Cmp.Lexicographic.{slice_cmp, lists_total, nat_list_cmp_total}
 use Rattle.std.specs.FinMap.{slice_cmp-IsAntisymmetric}
@@ -31,4 +31,4 @@ same_from_cmp x y equal =
 
 -- equal values feed a hasher the same
 pub media_input-same : (x y : MediaType) → Same x y → media_input x ≡ media_input y
-media_input-same x y same i = fed.usize (length (same.1 i)) ++ flat_map pair_input (same.1 i) ++ fed.str (same.0 i)
+media_input-same x y same i = flat_map pair_input (same.1 i) ++ fed.str (same.0 i)

@@ -11,6 +11,7 @@ ghost use Rattle.mime.specs.Views.{name_text};
 ghost use Rattle.mime.specs.Laws.{OneTree, OneReading, EmptyIsViable, FrontOfViableIsViable, AcceptedIsViable, OneCompletion, CompletedIsRefused, NoCompletion, OneFault, OneFront, FrontEndsBetweenCharacters, FrontIsInUtf8, PlusIsLast, KeptIsRead, EssenceIsRead, OneOrder, BeforeIsTransitive, BareTextIs, KeptTextIs, OneAnswer, HasAnswer, IsDecided, FirstDifferenceTells, AcceptedOrRefused, EssenceIsParts, SameEssence};
 ghost use Rattle.mime.specs.HeaderLaws.{KeptIsSafe, ParameterIsRead};
 ghost use Rattle.mime.specs.Comparison.{Same, Before};
+ghost use Rattle.mime.specs.HashLaws.{IsPrefixFree};
 ghost use Rattle.mime.specs.CutLaws.{OneCut, CutHasItems, CutWritesText, OneCount, CommaContains, JoinedComesBack, HttpListIsCut, PassesOneCharacter};
 ghost use Rattle.mime.specs.RunLaws.{RunGivesCut, PrintedListComesBack, CommaContainsOnRuns};
 
@@ -188,6 +189,12 @@ pub fn mime_order()
 /// Equal values feed a hasher the same: `a/b; p="x"` and `A/B;P=x`.
 pub fn equal_values_hash_alike()
     ensures { (first second : OwnedMedia) → Same first.media second.media → ⟦<Mime as Hash>⟧.hash_input first ≡ ⟦<Mime as Hash>⟧.hash_input second }
+{}
+
+/// What values feed a hasher is prefix-free: of two unequal values neither feeds bytes with which the other's begin, so a
+/// pair of a value and a text feeds what no other pair does. `a/bx` with `c` and `a/b` with `xc` feed different bytes.
+pub fn hash_is_prefix_free()
+    ensures { IsPrefixFree ⟦<Mime as Hash>⟧.hash_input }
 {}
 
 /// Texts that first differ, but for case, where neither byte is a space, a tab or a quote, are not read as equal values:

@@ -113,8 +113,8 @@ pub fn name_eq_str(name: &Name<'_>, s: &str) -> bool
     name.text == s || name.ignores_case && eq_ignoring_case(name.text.as_bytes(), s.as_bytes())
 }
 
-/// A key that looks a parameter up by its name, with [`Mime::get_param`](crate::Mime::get_param): a [`TextKey`], a
-/// [`Name`], or a type of your own, for which `Accepts` says what it accepts.
+/// A key that looks a parameter up by its name, with [`Mime::get_param`](crate::Mime::get_param): a `&str`, a
+/// [`TextKey`], a [`Name`], or a type of your own, for which `Accepts` says what it accepts.
 pub trait ParamKey: Drop {
     /// The names that the key accepts, by text and flag.
     ghost Accepts: { Self → List ℕ → Bool → Type 0 };
@@ -135,6 +135,16 @@ impl ParamKey for TextKey<'_> {
 
     fn accepts(&self, name: Name<'_>) -> bool {
         name_eq_str(&name, self.0)
+    }
+}
+
+/// A text as a key accepts what [`TextKey`] of it accepts: `"Charset"` accepts `charset`, so that `get_param("charset")` gives
+/// `utf-8` for `text/html; charset=UTF-8` (names ignore case: RFC 7231, 3.1.1.1).
+impl ParamKey for &str {
+    ghost Accepts = { λ key name ignores_case. NameIs name ignores_case key.now };
+
+    fn accepts(&self, name: Name<'_>) -> bool {
+        name_eq_str(&name, self)
     }
 }
 

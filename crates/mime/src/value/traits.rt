@@ -102,17 +102,15 @@ impl Ord for Mime {
     }
 }
 
-/// Feeds a hasher the number of parameters, the parameters and the essence. Equal values feed it the same bytes:
-/// `a/b; p="x"` and `A/B;P=x`. Of two unequal values neither feeds bytes with which the other's begin: `a/b` and
-/// `a/bx`. So a tuple or a struct that holds a value is a key as good as the value alone. Which bytes are fed may change
-/// between versions. It doesn't allocate.
+/// Feeds a hasher the parameters and the essence. Equal values feed it the same bytes: `a/b; p="x"` and `A/B;P=x`. Of
+/// two unequal values neither feeds bytes with which the other's begin, so a tuple of a value and a text is as good a
+/// key as the value alone. Which bytes are fed may change between versions. It doesn't allocate.
 impl Hash for Mime {
     ghost hash_input = { λ mime. media_input mime.media };
 
     ghost respects_eq = { λ first second is. media_input-same first.media second.media (same_from_cmp first.media second.media is) };
 
     fn hash<H: Hasher>(&self, state: &mut H) {
-        state.write_usize(self.count());
         feed_pairs(self.pairs(), state);
         self.essence_str().hash(state);
     }
