@@ -1,7 +1,8 @@
 //! The classes of bytes (RFC 7231, 3.1.1.1; RFC 7230, 3.2.6).
 
-ghost use Rattle.std.specs.Prelude.{◌≡◌, ◌&&◌, ◌==◌, not};
-ghost use Rattle.mime.specs.Bytes.{is_token_byte, plus_byte};
+ghost use Rattle.std.specs.Prelude.{◌≡◌};
+ghost use Rattle.mime.specs.Bytes.{is_token_byte};
+ghost use Rattle.mime.specs.Remaining.{is_token_except_plus as is_token_except};
 ghost use Rattle.mime.specs.Grammar.{is_space as is_space_byte};
 ghost use Rattle.mime.specs.Bytes.{is_quoted_byte as is_quoted, is_quoted_text_byte as is_quoted_text};
 
@@ -44,7 +45,7 @@ pub fn is_token(b: u8) -> bool
 /// Whether a byte other than the plus may occur in a token.
 #[inline(always)]
 pub(crate) fn is_token_except_plus(b: u8) -> bool
-    ensures { result ≡ (is_token_byte b && not (b == plus_byte)) }
+    ensures { result ≡ is_token_except b }
 {
     KINDS[b as usize] == T
 }

@@ -67,8 +67,7 @@ pub(crate) fn first_difference(a: &[u8], b: &[u8]) -> Option<usize>
     ensures some { IfSome result (FirstDifference a.now b.now) }
     ensures none { result ≡ None → length a.now ≡ length b.now → lowered a.now ≡ lowered b.now }
 {
-    let end = if a.len() < b.len() { a.len() } else { b.len() };
-    let last = end - BLOCK;
+    let last = a.len().min(b.len()) - BLOCK;
     let mut from = 0;
     while from < last {
         match difference_in_block(&a[from..], &b[from..]) {

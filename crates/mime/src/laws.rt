@@ -17,12 +17,7 @@ ghost use Rattle.mime.specs.RunLaws.{RunGivesCut, PrintedListComesBack, CommaCon
 
 use crate::atoms::Atom;
 use crate::iter::Bad;
-use crate::name::constants::{
-    APPLICATION, AUDIO, BASIC, BMP, BOUNDARY, CHARSET, CSS, CSV, EVENT_STREAM, FONT, FORM_DATA,
-    GIF, HTML, IMAGE, JAVASCRIPT, JPEG, JSON, MESSAGE, MODEL, MP4, MPEG, MSGPACK, MULTIPART,
-    OCTET_STREAM, OGG, PDF, PLAIN, PNG, STAR, SVG, TEXT, UTF_8, VCARD, VIDEO, WOFF, WOFF2,
-    WWW_FORM_URLENCODED, XML,
-};
+use crate::name::constants::NAMES;
 use crate::name::{Name, ParamKey, TextKey};
 use crate::scan::ParseError;
 use crate::value::Mime;
@@ -267,48 +262,6 @@ pub fn comma_contains_on_runs()
 pub fn printed_list_comes_back()
     ensures { PrintedListComesBack }
 {}
-
-/// The constant names, as a table: an array in the body of `name_constants` would be a statement a row for its proof.
-static NAMES: [Name<'static>; 38] = [
-    STAR,
-    TEXT,
-    IMAGE,
-    AUDIO,
-    VIDEO,
-    APPLICATION,
-    MULTIPART,
-    MESSAGE,
-    MODEL,
-    FONT,
-    PLAIN,
-    HTML,
-    XML,
-    JAVASCRIPT,
-    CSS,
-    CSV,
-    EVENT_STREAM,
-    VCARD,
-    JSON,
-    WWW_FORM_URLENCODED,
-    MSGPACK,
-    OCTET_STREAM,
-    PDF,
-    WOFF,
-    WOFF2,
-    FORM_DATA,
-    BMP,
-    GIF,
-    JPEG,
-    PNG,
-    SVG,
-    BASIC,
-    MPEG,
-    MP4,
-    OGG,
-    CHARSET,
-    BOUNDARY,
-    UTF_8,
-];
 
 /// The constant names, in the order of their table, from `*` on. Each has its text, ignores case, and holds no
 /// ASCII capital.

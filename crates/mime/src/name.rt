@@ -7,6 +7,7 @@ ghost use Rattle.mime.specs.Values.{lowered};
 
 pub(crate) mod constants;
 
+use crate::blocks::BLOCK;
 use crate::difference::{difference, first_difference};
 use std::fmt;
 
@@ -91,7 +92,7 @@ pub(crate) fn eq_ignoring_case(a: &[u8], b: &[u8]) -> bool
     if a.len() != b.len() {
         return false;
     }
-    if a.len() >= 16 {
+    if a.len() >= BLOCK {
         return first_difference(a, b).is_none();
     }
     if a.len() >= 8 {

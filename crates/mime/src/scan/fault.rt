@@ -1,6 +1,8 @@
 //! How a refusal is reported, and what it prints.
 
-ghost use Rattle.std.specs.Prelude.{◌≡◌, Some};
+ghost use Rattle.std.specs.Prelude.{◌≡◌, IfOk, Some};
+ghost use Rattle.std.specs.Fmt.InlineText.{inline_text};
+ghost use Rattle.mime.specs.Printed.{token_text as printed_token};
 
 use std::error::Error;
 use std::fmt;
@@ -33,6 +35,18 @@ pub enum ParseError {
     NoMemory,
 }
 
+/// What the invalid byte prints, apart from a formatter, whose width would count for the numbers. It has 73 bytes at most.
+fn token_text(pos: usize, byte: u8) -> Result<InlineText<80>, fmt::Error>
+    ensures { IfOk result (λ text. inline_text text ≡ printed_token pos byte) }
+{
+    let mut text = InlineText::new();
+    write!(
+        text,
+        "an invalid token was encountered, {byte:X} at position {pos}"
+    )?;
+    Ok(text)
+}
+
 /// Prints what is missing, or the byte in capital hexadecimal with its position in decimal, or that memory ran out. A
 /// width and a precision are ignored.
 ///
@@ -60,10 +74,7 @@ impl fmt::Display for ParseError {
                 "a quote (\") was missing from a parameter value",
             ),
             ParseError::InvalidToken { pos, byte } => {
-                // Written aside, since a width of `f` would count for the numbers.
-                let mut token = InlineText::<40>::new();
-                write!(token, "{byte:X} at position {pos}")?;
-                f.write_str("an invalid token was encountered, ")?;
+                let token = token_text(*pos, *byte)?;
                 f.write_str(token.as_str())
             }
             ParseError::NoMemory => f.write_str("memory ran out"),
@@ -115,7 +126,7 @@ impl fmt::Display for FromStrError {
 
     fn fmt<W: fmt::Write>(&self, f: &mut fmt::Formatter<W>) -> fmt::Result {
         f.write_str("mime parse error: ")?;
-        fmt::Display::fmt(&self.fault, f)
+        fmt::Display::fmt(self.fault(), f)
     }
 }
 
