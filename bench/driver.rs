@@ -46,7 +46,8 @@ macro_rules! operations {
                             $(let $kept = $value;)*
                             let mut answer = 0;
                             for _ in 0..times {
-                                answer += $turn;
+                                let turn: usize = $turn;
+                                answer += turn;
                             }
                             answer
                         }
