@@ -297,12 +297,8 @@ fn takes_1048576_bytes_and_no_more(rt: HostRuntime) -> Result<(), Fail> {
     let cases: [(Mode, u8, &[u8]); 2] = [(Mode::Parts, b'a', slashless), (Mode::List, b',', b"")];
     for (mode, byte, report) in cases {
         let mut input = vec![in rt.alloc(); byte; 1_048_576]?;
-        let longest = Reported {
-            mode,
-            input: input.as_slice(),
-            report,
-        };
-        check_flush(&rt, rt.alloc(), longest);
+        let (reader, writer) = (giving(input.as_slice(), ENOUGH), taking(report, ENOUGH));
+        check(&rt, rt.alloc(), ending(mode, reader, writer, Ok(())));
         input.push(byte)?;
         check_too_long(&rt, rt.alloc(), mode, giving(input.as_slice(), ENOUGH));
     }
