@@ -110,9 +110,9 @@ def refuse(library, words, given, number, **how):
         return done, [(int(it.split()[0]), int(it.split()[1]), b"refused" in it) for it in counted.read().splitlines()]
 
 
-def rt(words, folder):
-    """A run of rt, with all that it says as its output."""
-    return run(["rt", *words], RT_SECONDS, cwd=folder, stdout=subprocess.PIPE, stderr=subprocess.STDOUT, errors="replace")
+def rt(words, folder, given=None):
+    """A run of rt, with all that it and what it runs say as its output."""
+    return run(["rt", *words], RT_SECONDS, given, cwd=folder, stdout=subprocess.PIPE, stderr=subprocess.STDOUT, errors="replace")
 
 
 def text_of(path):

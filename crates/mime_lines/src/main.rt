@@ -20,10 +20,9 @@ pub use crate::device::{Device, Failed, Sink, Source};
 pub use crate::error::RunError;
 pub use crate::lines::run;
 pub use crate::mode::Mode;
-use std::env;
 use std::env::Args;
-use std::io;
 use std::process::ExitCode;
+use std::{env, io};
 
 /// The mode that the arguments ask for, or none where they ask for no mode. The first of them is the
 /// name of the program.

@@ -195,23 +195,26 @@ static CASES: &[Reported<'static>] = &[
     },
 ];
 
-/// A run that reads all of its input at once, and writes its report.
-fn whole(case: Reported<'_>) -> Run<'_> {
+/// A run of such a mode, which ends so.
+fn ending<'a>(
+    mode: Mode,
+    reader: Reader<'a>,
+    writer: Writer<'a>,
+    answer: Result<(), RunError>,
+) -> Run<'a> {
     Run {
-        mode: case.mode,
-        reader: giving(case.input, ENOUGH),
-        writer: taking(case.report, ENOUGH),
-        answer: Ok(()),
+        mode,
+        reader,
+        writer,
+        answer,
     }
 }
 
 #[test]
 fn reads_and_writes_a_byte_at_a_time(rt: HostRuntime) {
     for &case in CASES {
-        let mut slow = whole(case);
-        slow.reader.most = 1;
-        slow.writer.most = 1;
-        check(&rt, rt.alloc(), slow);
+        let (reader, writer) = (giving(case.input, 1), taking(case.report, 1));
+        check(&rt, rt.alloc(), ending(case.mode, reader, writer, Ok(())));
     }
 }
 
@@ -221,13 +224,12 @@ fn stops_where_a_read_fails(rt: HostRuntime) {
         // The last of these reads would have told the end.
         for reads in 0..=case.input.len() {
             for fails_once in [false, true] {
-                let mut failing = whole(case);
-                failing.reader.most = 1;
-                failing.reader.reads = reads;
-                failing.reader.fails_once = fails_once;
-                failing.writer.left = b"";
-                failing.answer = Err(RunError::Read);
-                check(&rt, rt.alloc(), failing);
+                let mut reader = giving(case.input, 1);
+                reader.reads = reads;
+                reader.fails_once = fails_once;
+                let writer = taking(b"", ENOUGH);
+                let run = ending(case.mode, reader, writer, Err(RunError::Read));
+                check(&rt, rt.alloc(), run);
             }
         }
     }
@@ -238,11 +240,11 @@ fn stops_where_a_write_fails(rt: HostRuntime) {
     for &case in CASES {
         for room in 0..case.report.len() {
             for fails_once in [false, true] {
-                let mut failing = whole(case);
-                failing.writer = taking(&case.report[..room], 1);
-                failing.writer.fails_once = fails_once;
-                failing.answer = Err(RunError::Write);
-                check(&rt, rt.alloc(), failing);
+                let mut writer = taking(&case.report[..room], 1);
+                writer.fails_once = fails_once;
+                let reader = giving(case.input, ENOUGH);
+                let run = ending(case.mode, reader, writer, Err(RunError::Write));
+                check(&rt, rt.alloc(), run);
             }
         }
     }
@@ -250,13 +252,14 @@ fn stops_where_a_write_fails(rt: HostRuntime) {
 
 /// A run writes this report, and stops where the flush after it fails.
 fn check_flush(rt: &impl Abort, alloc: Global, case: Reported<'_>) {
-    check(rt, alloc, whole(case));
+    let reader = giving(case.input, ENOUGH);
+    let mut writer = taking(case.report, ENOUGH);
+    check(rt, alloc, ending(case.mode, reader, writer, Ok(())));
+    writer.fails_at_flush = true;
     for fails_once in [false, true] {
-        let mut failing = whole(case);
-        failing.writer.fails_at_flush = true;
-        failing.writer.fails_once = fails_once;
-        failing.answer = Err(RunError::Write);
-        check(rt, alloc, failing);
+        writer.fails_once = fails_once;
+        let run = ending(case.mode, reader, writer, Err(RunError::Write));
+        check(rt, alloc, run);
     }
 }
 
@@ -270,13 +273,12 @@ fn stops_where_a_flush_fails(rt: HostRuntime) {
 
 /// A run over this input is too long.
 fn check_too_long(rt: &impl Abort, alloc: Global, mode: Mode, reader: Reader<'_>) {
-    let case = Run {
-        mode,
-        reader,
-        writer: taking(b"", ENOUGH),
-        answer: Err(RunError::TooLong),
-    };
-    check(rt, alloc, case);
+    let writer = taking(b"", ENOUGH);
+    check(
+        rt,
+        alloc,
+        ending(mode, reader, writer, Err(RunError::TooLong)),
+    );
 }
 
 #[test]
@@ -295,12 +297,8 @@ fn takes_1048576_bytes_and_no_more(rt: HostRuntime) -> Result<(), Fail> {
     let cases: [(Mode, u8, &[u8]); 2] = [(Mode::Parts, b'a', slashless), (Mode::List, b',', b"")];
     for (mode, byte, report) in cases {
         let mut input = vec![in rt.alloc(); byte; 1_048_576]?;
-        let longest = Reported {
-            mode,
-            input: input.as_slice(),
-            report,
-        };
-        check(&rt, rt.alloc(), whole(longest));
+        let (reader, writer) = (giving(input.as_slice(), ENOUGH), taking(report, ENOUGH));
+        check(&rt, rt.alloc(), ending(mode, reader, writer, Ok(())));
         input.push(byte)?;
         check_too_long(&rt, rt.alloc(), mode, giving(input.as_slice(), ENOUGH));
     }
@@ -328,13 +326,10 @@ fn a_report_may_be_longer_than_the_limit(rt: HostRuntime) -> Result<(), Fail> {
 #[test]
 fn reads_many_bytes_at_a_time(rt: HostRuntime) -> Result<(), Fail> {
     let commas = vec![in rt.alloc(); b','; 65_536]?;
-    let mut case = whole(Reported {
-        mode: Mode::List,
-        input: commas.as_slice(),
-        report: b"",
-    });
-    case.reader.reads = 100;
-    check(&rt, rt.alloc(), case);
+    let mut reader = giving(commas.as_slice(), ENOUGH);
+    reader.reads = 100;
+    let run = ending(Mode::List, reader, taking(b"", ENOUGH), Ok(()));
+    check(&rt, rt.alloc(), run);
     Ok(())
 }
 
