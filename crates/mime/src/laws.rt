@@ -9,6 +9,7 @@ ghost use Rattle.mime.specs.Values.{OwnedMedia, lowered};
 ghost use Rattle.mime.specs.Names.{name_table};
 ghost use Rattle.mime.specs.Views.{name_text};
 ghost use Rattle.mime.specs.Laws.{OneTree, OneReading, EmptyIsViable, FrontOfViableIsViable, AcceptedIsViable, OneCompletion, CompletedIsRefused, NoCompletion, OneFault, OneFront, FrontEndsBetweenCharacters, FrontIsInUtf8, PlusIsLast, KeptIsRead, EssenceIsRead, OneOrder, BeforeIsTransitive, BareTextIs, KeptTextIs, OneAnswer, FirstDifferenceTells};
+ghost use Rattle.mime.specs.HeaderLaws.{ParameterIsRead};
 ghost use Rattle.mime.specs.Comparison.{Same, Before};
 ghost use Rattle.mime.specs.CutLaws.{OneCut, CutHasItems, CutWritesText, OneCount, CommaContains, JoinedComesBack, PassesOneCharacter};
 ghost use Rattle.mime.specs.RunLaws.{RunGivesCut, PrintedListComesBack, CommaContainsOnRuns};
@@ -105,6 +106,13 @@ pub fn kept_is_read()
 /// `text/html; charset=utf-8` without its charset.
 pub fn essence_is_read()
     ensures { EssenceIsRead }
+{}
+
+/// The essence of a value that was read, with `; `, a token, an equals sign and quoted content in its quotes after it, is
+/// read as the value with that parameter alone: `a/b; P="X"` as `a/b` with the parameter `p`, whose value is `X` (RFC
+/// 7231, 3.1.1.1).
+pub fn parameter_is_read()
+    ensures { ParameterIsRead }
 {}
 
 /// Of two values exactly one is true: the first comes before the second, they are equal, or the second comes before
