@@ -1,5 +1,5 @@
 -- The first of the highest weights.
-use Rattle.std.specs.Prelude.{◌≡◌, ℕ, ◌<◌, ◌≤◌, List, Option, Some, slice_get}
+use Rattle.std.specs.Prelude.{◌≡◌, ℕ, ◌<◌, ◌≤◌, List, Some, slice_get}
 
 -- the weight at this position is above 0, at least every other, and above those before it
 pub record IsHighest (weights : List ℕ) (at : ℕ) : Type 0 where

@@ -10,7 +10,6 @@ mod best;
 mod boundary;
 mod callers;
 mod caret;
-mod charset;
 mod document;
 mod extensions;
 mod files;
@@ -19,6 +18,7 @@ mod header;
 mod html;
 mod json;
 mod key;
+mod parameter;
 mod parts;
 mod plain;
 mod range;
@@ -87,6 +87,7 @@ fn try_accept(rt: &HostRuntime, example: &str, text: &str, other: &str) -> io::R
 
 fn try_text(rt: &HostRuntime, example: &str, text: &str, other: &str) -> io::Result<()> {
     match example {
+        "form_with_boundary" => say_mime(rt, parameter::form_with_boundary(rt.alloc(), text)?),
         "has_suffix" => say_read(rt, callers::has_suffix(rt.alloc(), text).ok()),
         "printed, has_param" => try_printed(rt, text, other),
         "reads_alike" => say_read(rt, callers::reads_alike(rt.alloc(), text).ok()),
@@ -122,7 +123,7 @@ fn try_with_memory(rt: &HostRuntime, example: &str, mime: &Mime, other: &str) ->
         "described" => try_described(rt, mime),
         "extensions" => try_extensions(rt, mime),
         "unescape" => try_unescape(rt, mime, other),
-        "with_charset" => say_mime(rt, charset::with_charset(rt.alloc(), mime, other)),
+        "with_charset" => say_mime(rt, parameter::with_charset(rt.alloc(), mime, other)?),
         _ => say(rt, "no example"),
     }
 }
