@@ -1,0 +1,1 @@
+-- Each call has one outcome, unless memory runs out.
