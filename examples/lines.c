@@ -1,10 +1,9 @@
-/* Prints what the program mime_lines prints, by the calls of include/mime.h alone. After `rt lib` in crates/mime_c it is built by
- *     cc -Iinclude examples/lines.c crates/mime_c/out/libmime_c.a KIT/c/liblibc_c.a -o lines */
+/* Prints what the program mime_lines prints, by the calls of include/mime.h alone:
+ *     cc -Iinclude examples/lines.c out/libmime.a -o lines */
 #define _POSIX_C_SOURCE 200809L
 #include "mime.h"
 #include <stdio.h>
 #include <stdlib.h>
-#include <string.h>
 #include <sys/types.h>
 
 static const char *const faults[] = {
@@ -29,20 +28,20 @@ static uint32_t print_items(const char *text, size_t len, char *out)
 static uint32_t print_parts(const char *text, size_t len, char *out)
 {
     struct mime_found found;
-    uint32_t answer = mime_read(text, len, out, len + 1, &found);
+    uint32_t answer = mime_read(text, len, out, 2 * len + 2, &found);
     if (answer == MIME_INVALID_BYTE)
         return printf("bad mime parse error: an invalid token was encountered, %X at position %zu\n", found.byte, found.pos), MIME_OK;
     if (answer >= MIME_MISSING_SLASH && answer <= MIME_MISSING_QUOTE)
         return printf("bad mime parse error: %s\n", faults[answer]), MIME_OK;
-    /* As it is printed a media type is the one item of itself. */
-    if (answer != MIME_OK || (answer = print_items(text, len, out + len + 1)) != MIME_OK)
+    if (answer != MIME_OK)
         return answer;
+    printf("ok %s\n", out + found.printed);
     printf("type %.*s\n", (int)found.slash, out);
     printf("subtype %.*s\n", (int)(found.subtype_end - found.slash - 1), out + found.slash + 1);
     if (out[found.subtype_end] == '+')
         printf("suffix %s\n", out + found.subtype_end + 1);
     const char *name = out + strlen(out) + 1;
-    while (name < out + found.length) {
+    for (size_t left = found.params; left > 0; left--) {
         const char *value = name + strlen(name) + 1;
         printf("param %s=%s\n", name, value);
         name = value + strlen(value) + 1;
@@ -60,7 +59,7 @@ int main(int argc, char **argv)
     ssize_t read;
     while ((read = getline(&line, &size, stdin)) >= 0) {
         size_t len = (size_t)read - (line[read - 1] == '\n');
-        char *out = malloc(3 * len + 1);
+        char *out = malloc(2 * len + 2);
         uint32_t answer = out == NULL ? MIME_NO_MEMORY : (is_list ? print_items : print_parts)(line, len, out);
         free(out);
         if (answer == MIME_NO_MEMORY)

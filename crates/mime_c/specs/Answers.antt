@@ -1,7 +1,7 @@
 -- What each call answers, and what the caller's buffer and structs hold then.
-use Rattle.std.specs.Prelude.{◌≢◌, ℕ, ◌+◌, ◌*◌, ◌<◌, ◌≤◌, Bool, IsTrue, if◌then◌else◌, List, ◌∷◌, ◌++◌, length, unwrap_or, ◌↔◌, codes}
+use Rattle.std.specs.Prelude.{◌≢◌, ℕ, ◌+◌, ◌*◌, ◌<◌, ◌≤◌, Bool, IsTrue, if◌then◌else◌, List, ◌∷◌, ◌++◌, length, ◌↔◌, codes}
 use Rattle.std.specs.Str.{IsUtf8}
-use Rattle.mime.specs.Values.{MediaType, Reads}
+use Rattle.mime.specs.Values.{MediaType, Reads, type_of, subtype_of}
 use Rattle.mime.specs.Comparison.{Same}
 use Rattle.mime.specs.Refusals.{Explains}
 use Rattle.mime.specs.Cut.{CutItem, good, Cut}
@@ -33,14 +33,14 @@ found_of_fault (InvalidToken pos byte) = found_at pos byte
 found_of_fault other = nothing
 
 -- what is found of a media type: how many bytes its strings are, how many parameters there are, where the string begins that it is
--- printed as, and where in the essence the slash is, and the end of the subtype, which is the plus of a suffix if there is one
+-- printed as, and where in the essence, which begins with type, slash and subtype, the slash is and the subtype ends
 abbrev pub found_of : MediaType → MimeFound
 found_of media = record {
   length = length (strings (texts_of media));
   params = length media.pairs;
   printed = length (strings (parts_of media));
-  slash = media.slash;
-  subtype_end = unwrap_or media.plus (length media.essence);
+  slash = length (type_of media);
+  subtype_end = length (type_of media) + 1 + length (subtype_of media);
   pos = 0;
   byte = 0;
 }

@@ -3,7 +3,7 @@ use Rattle.std.proofs.Common.{◌≡◌, ◌+◌, ap, refl, sym, ◌∙◌, subs
 use Rattle.mime.specs.Items.{items_of}
 use Rattle.mime_c.specs.Strings.{texts_of, pair_texts}
 use Rattle.mime_c.proofs.Writing.{Fills, fills-first, fills-fits, fills-next, fills-last}
-use Rattle.mime_c.proofs.Parts.{given_texts, given_texts-items_of, given-next, given-last, found-places}
+use Rattle.mime_c.proofs.Parts.{given_texts, given_texts-items_of, given-next, given-last, found-there}
 use Rattle.mime_c.proofs.put_parts.Goals as goal
 
 pub loop-name-init : goal.loop-name-init
@@ -52,6 +52,6 @@ returns-clause-found c =
     (given-last _ _ _ c.in-None.ensures.steps.0 c.as_str-2.ensures.text) c.put.ensures.end c.put.ensures.bytes) in
     let count : c.size_hint-count.result.0 ≡ length (items_of media.pairs) =
     ap (λ hint. hint.0) c.size_hint-count.ensures.exact ∙ ap length c.params-params.ensures.items in
-    found-places _ media _ _ _ _ _ c.requires.read.1 last.1 count
+    found-there media _ _ _ _ _ last.1 count
     (c.put.ensures.end ∙ ap (λ text. c.loop-name.at + (length text + 1)) c.as_str-2.ensures.text)
     (ap length c.as_str-slash.ensures ∙ ap length c.type_.ensures.text) (ap length c.as_str-3.ensures ∙ ap length c.subtype.ensures.text)
