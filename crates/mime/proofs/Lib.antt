@@ -51,3 +51,5 @@ pub mod RunProofs
 pub mod Characters
 -- laws on which no code rests
 pub mod LawProofs
+pub mod EssenceParts
+pub mod HeaderProofs

@@ -11,6 +11,7 @@ pub mod Atoms
 pub mod Items
 pub mod Views
 pub mod Laws
+pub mod HeaderLaws
 pub mod Cut
 pub mod Runs
 pub mod CutLaws

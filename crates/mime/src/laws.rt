@@ -8,9 +8,10 @@ ghost use Rattle.std.specs.Ordering.{MatchOrdering, ordering_then, bool_cmp, nat
 ghost use Rattle.mime.specs.Values.{OwnedMedia, lowered};
 ghost use Rattle.mime.specs.Names.{name_table};
 ghost use Rattle.mime.specs.Views.{name_text};
-ghost use Rattle.mime.specs.Laws.{OneTree, OneReading, EmptyIsViable, FrontOfViableIsViable, AcceptedIsViable, OneCompletion, CompletedIsRefused, NoCompletion, OneFault, OneFront, FrontEndsBetweenCharacters, FrontIsInUtf8, PlusIsLast, KeptIsRead, EssenceIsRead, OneOrder, BeforeIsTransitive, BareTextIs, KeptTextIs, OneAnswer, FirstDifferenceTells};
+ghost use Rattle.mime.specs.Laws.{OneTree, OneReading, EmptyIsViable, FrontOfViableIsViable, AcceptedIsViable, OneCompletion, CompletedIsRefused, NoCompletion, OneFault, OneFront, FrontEndsBetweenCharacters, FrontIsInUtf8, PlusIsLast, KeptIsRead, EssenceIsRead, OneOrder, BeforeIsTransitive, BareTextIs, KeptTextIs, OneAnswer, HasAnswer, IsDecided, FirstDifferenceTells, AcceptedOrRefused, EssenceIsParts, SameEssence};
+ghost use Rattle.mime.specs.HeaderLaws.{KeptIsSafe, ParameterIsRead};
 ghost use Rattle.mime.specs.Comparison.{Same, Before};
-ghost use Rattle.mime.specs.CutLaws.{OneCut, CutHasItems, CutWritesText, OneCount, CommaContains, JoinedComesBack, PassesOneCharacter};
+ghost use Rattle.mime.specs.CutLaws.{OneCut, CutHasItems, CutWritesText, OneCount, CommaContains, JoinedComesBack, HttpListIsCut, PassesOneCharacter};
 ghost use Rattle.mime.specs.RunLaws.{RunGivesCut, PrintedListComesBack, CommaContainsOnRuns};
 
 use crate::atoms::Atom;
@@ -35,6 +36,11 @@ pub fn one_tree()
 /// A text is read as at most one value: every reading of `Text/Plain` is `text/plain`.
 pub fn one_reading()
     ensures { OneReading }
+{}
+
+/// A text is accepted or refused: `a/b` is accepted, and `a` is refused.
+pub fn accepted_or_refused()
+    ensures { AcceptedOrRefused }
 {}
 
 /// The empty text is viable: `a/b` begins with it.
@@ -107,6 +113,32 @@ pub fn essence_is_read()
     ensures { EssenceIsRead }
 {}
 
+/// The essence of a value that was read is its type, a slash, its subtype, and a plus with its suffix if there is one:
+/// that of `image/svg+xml` is `image`, `/`, `svg` and `+xml` (RFC 6838, 4.2.8).
+pub fn essence_is_parts()
+    ensures { EssenceIsParts }
+{}
+
+/// Two values that were read have the same essence exactly where they have the same type, subtype and suffix:
+/// `a/b+c;p=x` and `A/B+C`.
+pub fn same_essence()
+    ensures { SameEssence }
+{}
+
+/// A value that was read is safe in a header (RFC 7230, 3.2): each byte of its kept text is a tab, or from 32 to 255
+/// and not 127, so there is no line feed, carriage return or zero. Its type, its subtype and its names are tokens, its
+/// suffix a token or empty, and its values quoted content: in `a/b; p="x y"` the value `x y`.
+pub fn kept_is_safe()
+    ensures { KeptIsSafe }
+{}
+
+/// The essence of a value that was read, with `; `, a token, an equals sign and quoted content in its quotes after it, is
+/// read as the value with that parameter alone: `a/b; P="X"` as `a/b` with the parameter `p`, whose value is `X` (RFC
+/// 7231, 3.1.1.1).
+pub fn parameter_is_read()
+    ensures { ParameterIsRead }
+{}
+
 /// Of two values exactly one is true: the first comes before the second, they are equal, or the second comes before
 /// the first. `a/b` comes before `a/b;p=1`, and that before `a/c`.
 pub fn one_order()
@@ -130,10 +162,17 @@ pub fn kept_text_is()
     ensures { KeptTextIs }
 {}
 
-/// A key finds exactly one answer in a list of items, if it accepts each name or doesn't: `TextKey("P")` finds `1` in
-/// `a/b;p=1;p=2`, and nothing else.
+/// A key finds at most one answer in a list of items, and one if it accepts each name or doesn't: `TextKey("P")` finds
+/// `1` in `a/b;p=1;p=2`, and nothing else.
 pub fn one_answer<K: ParamKey>(key: &K)
-    ensures { OneAnswer (K.Accepts key.now) }
+    ensures most { OneAnswer (K.Accepts key.now) }
+    ensures least { HasAnswer (K.Accepts key.now) }
+{}
+
+/// A `TextKey` accepts a name or doesn't, and so does a `Name`: `TextKey("P")` accepts `p`, and doesn't accept `q`.
+pub fn keys_decide()
+    ensures text { (key : TextKey) → IsDecided (⟦<TextKey<'static> as ParamKey>⟧.Accepts key) }
+    ensures name { (key : Name) → IsDecided (⟦<Name<'static> as ParamKey>⟧.Accepts key) }
 {}
 
 /// Two values are equal exactly where their essences and their pairs are the same: `a/b; p="x"` and `A/B;P=x`.
@@ -195,6 +234,13 @@ pub fn comma_contains()
 /// nothing else does: `a/b, c/d` gives `a/b` and `c/d`.
 pub fn joined_comes_back()
     ensures { JoinedComesBack }
+{}
+
+/// A list as HTTP writes it (RFC 7230, 7) is cut into its elements, and nothing else: accepted texts with a comma
+/// between each and the next, and with spaces, tabs and further commas after each comma and before the first.
+/// `a/b, ,\tc/d` is cut into `a/b` and `c/d`.
+pub fn http_list_is_cut()
+    ensures { HttpListIsCut }
 {}
 
 /// A run gives the items of the cut, over `a/b, e, c/d` two media types and a bad piece. Out of memory may come

@@ -9,7 +9,7 @@ use Rattle.mime.specs.Values.{MediaType, OwnedMedia, Reads, IsRefused}
 use Rattle.mime.specs.Comparison.{Same, Before, TextIs}
 use Rattle.mime.specs.Refusals.{IsViable, IsFront, Lacks, IsFault}
 use Rattle.mime.specs.Items.{IsFirstAccepted}
-use Rattle.mime.specs.Laws.{OneTree, OneReading, EmptyIsViable, FrontOfViableIsViable, AcceptedIsViable, OneCompletion, CompletedIsRefused, NoCompletion, OneFault, OneFront, FrontEndsBetweenCharacters, IsViableInUtf8, FrontIsInUtf8, HasNoPlusFrom, PlusIsLast, KeptIsRead, EssenceIsRead, OneOrder, BeforeIsTransitive, BareTextIs, KeptTextIs, IsDecided, OneAnswer, FirstDifferenceTells}
+use Rattle.mime.specs.Laws.{OneTree, OneReading, EmptyIsViable, FrontOfViableIsViable, AcceptedIsViable, OneCompletion, CompletedIsRefused, NoCompletion, OneFault, OneFront, FrontEndsBetweenCharacters, IsViableInUtf8, FrontIsInUtf8, HasNoPlusFrom, PlusIsLast, KeptIsRead, EssenceIsRead, OneOrder, BeforeIsTransitive, BareTextIs, KeptTextIs, OneAnswer, FirstDifferenceTells}
 use Rattle.mime.specs.Cut.{CutItem, good, bad, Cut, Pieces, TakesSteps}
 use Rattle.mime.specs.CutLaws.{OneCut, CutHasItems, text_of_pieces, CutWritesText, OneCount, CommaContains, JoinedComesBack, PassesOneCharacter}
 use Rattle.mime.specs.Runs.{Iteration, IsNext}
@@ -106,11 +106,10 @@ different_texts : FirstDifferenceTells → (first second : MediaType) → Reads 
     → ¬ (Same first second)
 different_texts law first second reads also = law (codes "a/b") (codes "A/c") first second reads also letters_tell
 
-answer_of_key : (Accepts : List ℕ → Bool → Type 0) → OneAnswer Accepts → IsDecided Accepts → (first second : Option (List ℕ × Bool))
+answer_of_key : (Accepts : List ℕ → Bool → Type 0) → OneAnswer Accepts → (first second : Option (List ℕ × Bool))
     → IsFirstAccepted Accepts (exact_item ∷ charset_item ∷ []) first → IsFirstAccepted Accepts (exact_item ∷ charset_item ∷ []) second
     → first ≡ second
-answer_of_key Accepts law decided first second is also =
-    let one = law decided (exact_item ∷ charset_item ∷ []) in one.2 first is ∙ sym (one.2 second also)
+answer_of_key Accepts law first second is also = law _ second first also is
 
 -- ---- the cut
 
