@@ -7,3 +7,5 @@ pub mod RefusalFacts
 pub mod CutFacts
 pub mod RunFacts
 pub mod LawFacts
+pub mod HeaderFacts
+pub mod HashFacts
