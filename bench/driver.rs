@@ -9,9 +9,10 @@ extern crate mime;
 use mime::{Mime, APPLICATION_JSON, IMAGE_SVG, TEXT_HTML, TEXT_PLAIN_UTF_8};
 use std::arch::asm;
 use std::collections::hash_map::DefaultHasher;
+use std::collections::HashMap;
 use std::env;
 use std::fmt::Write;
-use std::hash::{Hash, Hasher};
+use std::hash::{BuildHasherDefault, Hash, Hasher};
 use std::io::{self, Read};
 
 /// A text on its way into crates/mime_bench, where a Global crosses as nothing.
@@ -37,12 +38,9 @@ macro_rules! operations {
             }
         )*
 
-        /// Makes an operation so many times with the Rust crate.
-        fn there(operation: &str, text: &str, other: &str, times: usize) -> usize {
-            match operation {
-                $(stringify!($name) => $name(text, other, times),)*
-                _ => panic!("there is no {operation}"),
-            }
+        /// The twins by name. A program that hashes has maps, too: so the hasher isn't made part of the one place that calls it.
+        fn twins() -> HashMap<&'static str, fn(&str, &str, usize) -> usize, BuildHasherDefault<DefaultHasher>> {
+            [$((stringify!($name), $name as fn(&str, &str, usize) -> usize)),*].into_iter().collect()
         }
     };
 }
@@ -50,19 +48,27 @@ macro_rules! operations {
 operations! {
     read(text, _other) {
         repeat length {
-            length = hidden(text).parse::<Mime>().map_or(0, |mime| mime.as_ref().len());
+            length = match hidden(text).parse::<Mime>() {
+                Ok(mime) => mime.as_ref().len(),
+                Err(_) => 0,
+            };
         }
     }
     look_up(text, other) {
         let mime = value_of(text);
         repeat length {
-            length = hidden(&mime).get_param(other).map_or(0, |value| value.as_str().len());
+            if let Some(value) = hidden(&mime).get_param(other) {
+                length = value.as_str().len();
+            }
         }
     }
     walk(text, _other) {
         let mime = value_of(text);
         repeat length {
-            length = hidden(&mime).params().map(|(name, value)| name.as_str().len() + value.as_str().len()).sum();
+            length = 0;
+            for (name, value) in hidden(&mime).params() {
+                length += name.as_str().len() + value.as_str().len();
+            }
         }
     }
     name_eq(text, other) {
@@ -73,7 +79,12 @@ operations! {
     // The release has no iterator, so this is what its user writes.
     items(text, _other) {
         repeat length {
-            length = hidden(text).split(',').map(|entry| entry.trim().parse::<Mime>().map_or(0, |mime| mime.as_ref().len())).sum();
+            length = 0;
+            for entry in hidden(text).split(',') {
+                if let Ok(mime) = entry.trim().parse::<Mime>() {
+                    length += mime.as_ref().len();
+                }
+            }
         }
     }
     eq(text, other) {
@@ -149,7 +160,7 @@ fn main() {
     let slice = |text: &str| Slice(text.as_ptr(), text.len());
     let run = |times| match &*words[2] {
         "here" => unsafe { mime_bench(slice(&words[1]), slice(text), slice(other), times) },
-        _ => there(&words[1], text, other, times),
+        _ => twins()[&*words[1]](text, other, times),
     };
     // Memory was used before, as in a program that has run for a while: else a block can grow where it is.
     drop(hidden(&(20..80).map(|length| "x".repeat(length)).collect::<Vec<_>>()).clone());
