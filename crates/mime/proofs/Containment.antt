@@ -5,21 +5,20 @@ use Rattle.std.proofs.lemmas.Bool.{and_parts, cond-false}
 use Rattle.std.proofs.lemmas.Bool.Decides.{nat_tests}
 use Rattle.mime.proofs.Begun.{Begun, in_type, grow, walk}
 use Rattle.mime.proofs.Borders.{high_token}
-use Rattle.mime.proofs.Cuts.{empty-refused, Following, following_of, split-size, split-from_dead, split_inv, has_cut, cut_unique, takes_unique}
+use Rattle.mime.proofs.Cuts.{Following, following_of, split-size, split-from_dead, split_inv, empty-cut, has_cut, cut_unique, takes_unique}
 use Rattle.mime.proofs.KeptText.{kept_is_read}
-use Rattle.mime.proofs.Readings.{stopped-from_walk}
-use Rattle.mime.proofs.Viability.{walk-from_viable, front-from_walk, quote_fault-from_walk, accepted_is_viable, empty_is_viable, front_of_viable_is_viable}
+use Rattle.mime.proofs.Viability.{walk-from_viable, front-from_walk, quote_fault-from_walk, accepted_is_viable, front_of_viable_is_viable}
 use Rattle.std.specs.Prelude.{IsTrue, map}
-use Rattle.std.specs.List.{list_all}
+use Rattle.std.specs.List.{list_all, AllByRecursion}
 use Rattle.mime.specs.Bytes.{is_token_byte, comma_byte, space_byte}
-use Rattle.mime.specs.Values.{IsAccepted, IsRefused}
+use Rattle.mime.specs.Values.{MediaType, IsAccepted, IsRefused}
 use Rattle.mime.specs.Refusals.{IsViable, IsUnclosed}
 use Rattle.mime.specs.declared.scan.fault.ParseError.TheVariants.{MissingQuote}
 use Rattle.mime.proofs.ForeignBytes.{IsForeign, IsOpen, grow-foreign}
 use Rattle.mime.proofs.OneFault.{completed_is_refused}
-use Rattle.std.specs.Prelude.{MatchOption, codes}
+use Rattle.std.specs.Prelude.{MatchOption}
 use Rattle.mime.specs.Cut.{is_following_byte, BeginsCharacter, IsCharacter, IsSplit, CutItem, good, ItemsOf, is_read, is_refused, is_empty, Cut, whole, unfinished, goes_on, Pieces, last, next, steps_of, TakesSteps}
-use Rattle.mime.specs.CutLaws.{OneCut, text_of_pieces, CutWritesText, OneCount, items_of_rest, CommaContains, joined, kept_item, JoinedComesBack}
+use Rattle.mime.specs.CutLaws.{OneCut, text_of_pieces, CutWritesText, OneCount, items_of_rest, CommaContains, joined, IsRead, kept_item, JoinedComesBack, is_separator, IsHttpList, no_element, separated, one_element, more_elements, HttpListIsCut}
 
 -- a text has exactly one cut
 pub one_cut : OneCut
@@ -188,23 +187,29 @@ comma_contains before after items others rest end (goes_on t p c l first own r s
 
 -- ---- a printed list
 
--- no type begins with a space
-space-dead : grow (in_type []) space_byte ≡ None
+-- no type begins with a space, a tab or a comma
+separator-dead : (b : ℕ) → IsTrue (is_separator b) → grow (in_type []) b ≡ None
 unfolding is_token_byte
-space-dead = refl
+separator-dead b is = cond-false (is_token_byte b) _ _ (grind (arith, nat_tests, is))
 
--- the empty text is no open quoted value
-empty-closed : ¬ (IsUnclosed [])
-unfolding is_token_byte
-empty-closed unclosed = stopped-from_walk (codes "x\"") refl unclosed.0
+-- a list as HTTP writes it is cut into its elements
+pub http_list_is_cut : HttpListIsCut
+http_list_is_cut text elements no_element = empty-cut
+http_list_is_cut text elements (separated b list _ is others) =
+    cut-after_dead b list elements [] (separator-dead b is) (http_list_is_cut list elements others)
+http_list_is_cut text elements (one_element _ value reads) = whole text value reads
+http_list_is_cut text elements (more_elements first value list others reads more) =
+    comma-cut first list (good first value ∷ []) others [] (accepted_is_viable first (value, reads))
+    (accepted-closed first (value, reads)) (is_read value reads) (http_list_is_cut list others more)
+
+-- joined kept texts are such a list
+joined_is_list : (values : List MediaType) → AllByRecursion IsRead values → IsHttpList (joined values) (map kept_item values)
+joined_is_list [] are = no_element
+joined_is_list (value ∷ []) are = one_element value.kept value (kept_is_read are.0.0 value are.0.1)
+joined_is_list (value ∷ (second ∷ values)) are =
+    more_elements value.kept value _ _ (kept_is_read are.0.0 value are.0.1)
+    (separated space_byte _ _ refl (joined_is_list (second ∷ values) are.1))
 
 -- values come back from their joined kept texts
 pub joined_comes_back : JoinedComesBack
-joined_comes_back [] are = unfinished [] empty_is_viable empty-refused
-joined_comes_back (value ∷ []) are = whole value.kept value (kept_is_read are.0.0 value are.0.1)
-joined_comes_back (value ∷ (second ∷ values)) are =
-    let reads = kept_is_read are.0.0 value are.0.1 in
-    comma_contains value.kept (space_byte ∷ joined (second ∷ values)) (good value.kept value ∷ []) (map kept_item (second ∷ values)) [] []
-    (whole value.kept value reads) empty-closed
-    (cut-after_dead space_byte (joined (second ∷ values)) (map kept_item (second ∷ values)) [] space-dead
-    (joined_comes_back (second ∷ values) are.1))
+joined_comes_back values are = http_list_is_cut (joined values) (map kept_item values) (joined_is_list values are)

@@ -1,9 +1,151 @@
 -- What is written into a header: the bytes of a kept text, and a parameter that is put after an essence.
-use Rattle.std.proofs.Common.{[], ◌∷◌, refl, subst, append_assoc}
-use Rattle.mime.specs.Grammar.{SyntaxTree, quoted, final, listed}
-use Rattle.mime.specs.Values.{MediaType, Reads, lowered, lowered_value}
-use Rattle.mime.specs.HeaderLaws.{text_with_parameter, with_parameter, ParameterIsRead}
-use Rattle.mime.proofs.Lowering.{lowered-lowered, length-lowered, IsToken-lowered}
+use Rattle.std.proofs.Common.{◌≡◌, ℕ, zero, suc, ◌+◌, ◌-◌, ◌<◌, Bool, true, false, List, [], ◌∷◌, ◌++◌, length, take, drop, Option, Some, None, refl, sym, ap, ◌∙◌, subst, arith, append_assoc}
+use Rattle.std.specs.Prelude.{IsTrue, IsFalse, MatchOption, unwrap_or, ◌==◌, ◌&&◌, not}
+use Rattle.std.specs.List.{list_all, AllByRecursion}
+use Rattle.std.specs.Option.{IfSome, option_map}
+use Rattle.std.proofs.lemmas.Bool.{and_parts, and_from, cond-false}
+use Rattle.std.proofs.lemmas.Bool.Decides.{nat_tests}
+use Rattle.std.proofs.lemmas.List.{take-append-drop, length-drop}
+use Rattle.std.proofs.lemmas.List.Folds.{list_all-append}
+use Rattle.std.proofs.lemmas.Option.{none-some, option_and_then_some}
+use Rattle.mime.specs.Bytes.{is_token_byte, is_quoted_byte, is_quoted_text_byte, quote_byte, plus_byte}
+use Rattle.mime.specs.Grammar.{Parameter, plain, quoted, Parameters, blank, final, more, Tail, no_list, listed, SyntaxTree, AreTokenBytes, IsToken, IsContent, IsParameter, AreParameters, IsTail}
+use Rattle.mime.specs.Values.{MediaType, Reads, lowered, lowered_value, lowered_tail, pair_of, pairs_of_list, pairs_of_tail, subtype_of, suffix_of}
+use Rattle.mime.specs.Laws.{suffix_text}
+use Rattle.mime.specs.HeaderLaws.{AreHeaderBytes, IsSafePair, KeptIsSafe, text_with_parameter, with_parameter, ParameterIsRead}
+use Rattle.mime.specs.Quoted.{awaits_first, takes, awaits_after, continues}
+use Rattle.mime.proofs.Begun.{Begun, in_type, in_list, in_quotes, list_at, grow, walk_from}
+use Rattle.mime.proofs.Classes.{list_all-wider, AreTokenBytes-from_token}
+use Rattle.mime.proofs.EssenceParts.{type_of-read, after_slash-read, after_slash}
+use Rattle.mime.proofs.ForeignBytes.{IsForeign, IsOpen, grow-foreign}
+use Rattle.mime.proofs.KeptText.{kept_is_read}
+use Rattle.mime.proofs.Lowering.{lowered-lowered, length-lowered, IsToken-lowered, IsWellFormed-lowered_tree}
+use Rattle.mime.proofs.Parts.{plus_in}
+use Rattle.mime.proofs.Quoted.{IsContent-taken, takes_all-text, awaits_after-text}
+use Rattle.mime.proofs.Readings.{walk-accepted}
+
+-- ---- the bytes of an accepted text
+
+-- a byte that a header doesn't have is foreign to the grammar
+unsafe-foreign : (b : ℕ) → IsFalse (is_quoted_byte b) → IsForeign b
+unfolding is_token_byte is_quoted_byte
+unsafe-foreign b unsafe = record {
+  token = grind (arith, nat_tests);
+  space = grind (arith, nat_tests);
+  slash = grind (arith, nat_tests);
+  semicolon = grind (arith, nat_tests);
+  equals = grind (arith, nat_tests);
+  quote = grind (arith, nat_tests);
+}
+
+-- no quoted value takes it
+unsafe-untaken : (awaiting : Bool) (b : ℕ) → IsFalse (is_quoted_byte b) → IsFalse (takes awaiting b)
+unsafe-untaken true b unsafe = unsafe
+unsafe-untaken false b unsafe = ap (λ t. t && not (b == quote_byte)) unsafe
+
+-- so it leads nowhere
+unsafe-dead : (begun : Begun) (b : ℕ) → IsFalse (is_quoted_byte b) → grow begun b ≡ None
+unsafe-dead begun b unsafe =
+    elim (grow begun b) as (λ o. MatchOption o (Unit {0}) (λ next. IsOpen begun × IsOpen next) → grow begun b ≡ o → o ≡ None) [
+      | None ↦ λ leads is. refl
+      | Some next ↦ λ leads is. sym is ∙ ap (λ (state : Begun). grow state b) leads.0.is ∙ closed leads.0
+    ]
+    (grow-foreign begun b foreign) refl
+  where
+    foreign : IsForeign b
+    foreign = unsafe-foreign b unsafe
+
+    closed : (at : IsOpen begun) → grow (in_list at.top at.sub (list_at at.closed (in_quotes at.spaces at.name at.content))) b ≡ None
+    closed at =
+        ap (option_map (in_list at.top at.sub))
+        (cond-false (continues at.content b) _ _ (unsafe-untaken (awaits_after awaits_first at.content) b unsafe)
+        ∙ cond-false (b == quote_byte) _ None foreign.quote)
+
+-- a text that is walked has no such byte
+pub walked-safe : (start last : Begun) (text : List ℕ) → walk_from start text ≡ Some last → AreHeaderBytes text
+walked-safe start last [] walked = refl
+walked-safe start last (b ∷ text) walked =
+    option_and_then_some (λ next. walk_from next text) (grow start b) last walked
+    (λ next grows goes. and_from (is_quoted_byte b) _ (go (is_quoted_byte b) refl next grows) (walked-safe next last text goes))
+  where
+    go : (safe : Bool) → is_quoted_byte b ≡ safe → (next : Begun) → grow start b ≡ Some next → safe ≡ true
+    go true is next grows = refl
+    go false is next grows = absurd (none-some next (sym (unsafe-dead start b is) ∙ grows))
+
+-- ---- the parts
+
+-- a token byte may be quoted without a backslash
+token_byte-text : (b : ℕ) → is_token_byte b ≡ true → is_quoted_text_byte b ≡ true
+unfolding is_token_byte is_quoted_byte
+token_byte-text b token = grind (arith, nat_tests)
+
+-- so a token is quoted content
+content-from_token : (bytes : List ℕ) → IsToken bytes → IsContent bytes
+content-from_token bytes token =
+    let text = list_all-wider is_token_byte is_quoted_text_byte token_byte-text bytes (AreTokenBytes-from_token bytes token) in
+    IsContent-taken bytes (takes_all-text bytes text) (awaits_after-text bytes text)
+
+-- the pairs of a well-formed list, lowercased
+safe_pair : (p : Parameter) → IsParameter p → IsSafePair (pair_of p)
+safe_pair (plain name value) well = (well.0, content-from_token value well.1)
+safe_pair (quoted name content n) well = (well.0, well.1)
+
+safe_pairs : (list : Parameters) → AreParameters list → AllByRecursion IsSafePair (pairs_of_list list)
+safe_pairs (blank n) well = tt
+safe_pairs (final n p) well = (safe_pair p well.1, tt)
+safe_pairs (more n p rest) well = (safe_pair p well.1, safe_pairs rest well.2)
+
+safe_pairs-tail : (tail : Tail) → IsTail tail → AllByRecursion IsSafePair (pairs_of_tail tail)
+safe_pairs-tail no_list well = tt
+safe_pairs-tail (listed list) well = safe_pairs list well
+
+-- bytes of a class that are two parts
+both_parts : (class : ℕ → Bool) (front back bytes : List ℕ) → bytes ≡ front ++ back → IsTrue (list_all class bytes)
+    → IsTrue (list_all class front) × IsTrue (list_all class back)
+both_parts class front back bytes is all =
+    and_parts (list_all class front) (list_all class back)
+    (sym (list_all-append class front back) ∙ ap (list_all class) (sym is) ∙ all)
+
+-- the beginning of a token
+token-take : (n : ℕ) (bytes : List ℕ) → 0 < n → IsToken bytes → IsToken (take n bytes)
+token-take n [] some token = absurd token
+token-take zero (b ∷ bytes) some token = absurd (omega (arith, some))
+token-take (suc n) (b ∷ bytes) some token =
+    (both_parts is_token_byte (b ∷ take n bytes) (drop n bytes) (b ∷ bytes) (ap (λ t. b ∷ t) (sym (take-append-drop n bytes))) token).0
+
+-- the subtype isn't empty
+subtype_some : (text : List ℕ) (value : MediaType) (plus : Option ℕ) → Reads text value → value.plus ≡ plus
+    → 0 < unwrap_or plus (length value.essence) - (value.slash + 1)
+subtype_some text value None reads is =
+    let size = token-size (lowered reads.tree.sub) (IsToken-lowered reads.tree.sub reads.well_formed.1) in
+    omega (arith, size, ap length (after_slash-read text value reads), length-drop (value.slash + 1) value.essence)
+  where
+    token-size : (bytes : List ℕ) → IsToken bytes → 0 < length bytes
+    token-size [] token = absurd token
+    token-size (b ∷ bytes) token = omega arith
+subtype_some text value (Some p) reads is = omega (arith, (plus_in text value.essence value p reads refl is).above)
+
+-- the suffix has token bytes
+suffix_bytes : (suffix : Option (List ℕ)) → AreTokenBytes (suffix_text suffix) → IfSome suffix AreTokenBytes
+suffix_bytes None all = tt
+suffix_bytes (Some suffix) all = (and_parts (is_token_byte plus_byte) _ all).1
+
+-- a value that was read is safe in a header
+pub kept_is_safe : KeptIsSafe
+kept_is_safe text value reads =
+    let walked = walk-accepted value.kept (value, kept_is_read text value reads) in
+    let low = IsWellFormed-lowered_tree reads.tree reads.well_formed in
+    let after = subst IsToken (sym (after_slash-read text value reads)) low.1 in
+    record {
+      kept = walked-safe (in_type []) walked.0 value.kept walked.2.0;
+      top = subst IsToken (sym (type_of-read text value reads)) low.0;
+      sub = token-take _ (drop (value.slash + 1) value.essence) (subtype_some text value value.plus reads refl) after;
+      suffix = suffix_bytes (suffix_of value)
+          (both_parts is_token_byte (subtype_of value) (suffix_text (suffix_of value)) (drop (value.slash + 1) value.essence)
+          (after_slash text value value.plus reads refl) (AreTokenBytes-from_token _ after)).1;
+      pairs = subst (λ (v : MediaType). AllByRecursion IsSafePair v.pairs) reads.valued
+          (safe_pairs-tail (lowered_tail reads.tree.tail) low.2);
+    }
 
 -- ---- a parameter
 

@@ -20,7 +20,7 @@ use Rattle.mime.proofs.Pluses.{plus_is_last}
 -- ---- where the essence may be cut
 
 -- the slash lies in the essence
-slash_in : (text essence : List ℕ) (value : MediaType) → Reads text value → essence ≡ value.essence
+pub slash_in : (text essence : List ℕ) (value : MediaType) → Reads text value → essence ≡ value.essence
     → slice_get essence value.slash ≡ Some slash_byte
 slash_in text essence value reads is =
     let there = slice_get-front (lowered reads.tree.top) slash_byte (lowered reads.tree.sub) _ (sym (length-lowered reads.tree.top)) in
@@ -32,12 +32,12 @@ pub subtype_start : (text essence : List ℕ) (value : MediaType) → Reads text
 subtype_start text essence value reads is utf8 = boundary_after essence _ slash_byte utf8 (slash_in text essence value reads is) (lit< tt)
 
 -- the plus lies in the essence, after the subtype's first byte
-record PlusIn (essence : List ℕ) (slash plus : ℕ) : Type 0 where
-  above : slash + 1 < plus
-  there : slice_get essence plus ≡ Some plus_byte
+pub record PlusIn (essence : List ℕ) (slash plus : ℕ) : Type 0 where
+  pub above : slash + 1 < plus
+  pub there : slice_get essence plus ≡ Some plus_byte
 
 -- the plus of a value that was read lies in its essence
-plus_in : (text essence : List ℕ) (value : MediaType) (plus : ℕ) → Reads text value → essence ≡ value.essence → value.plus ≡ Some plus
+pub plus_in : (text essence : List ℕ) (value : MediaType) (plus : ℕ) → Reads text value → essence ≡ value.essence → value.plus ≡ Some plus
     → PlusIn essence value.slash plus
 plus_in text essence value plus reads is found =
     let last = MatchOption-at_some (HasNoPlusFrom value.essence (value.slash + 2)) _ plus found (plus_is_last text value reads) in

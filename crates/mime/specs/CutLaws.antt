@@ -1,11 +1,12 @@
 -- The laws of the cut.
-use Rattle.std.specs.Prelude.{◌≡◌, ◌≢◌, ◌⊎◌, ℕ, List, [], ◌∷◌, ◌++◌, map}
+use Rattle.std.specs.Prelude.{◌≡◌, ◌≢◌, ◌⊎◌, ℕ, Bool, ◌||◌, ◌==◌, IsTrue, List, [], ◌∷◌, ◌++◌, map}
 use Rattle.std.specs.List.{AllByRecursion}
 use Rattle.mime.specs.Values.{MediaType, Reads, IsAccepted, IsRefused}
 use Rattle.mime.specs.Refusals.{IsViable, IsUnclosed}
 use Rattle.std.specs.Char.{IsScalar, encode_utf8}
 use Rattle.std.specs.Str.{IsUtf8}
 use Rattle.mime.specs.Bytes.{comma_byte, space_byte}
+use Rattle.mime.specs.Grammar.{is_space}
 use Rattle.mime.specs.Cut.{IsSplit, CutItem, good, bad, Cut, Pieces, TakesSteps}
 
 -- A text has exactly one cut.
@@ -70,6 +71,27 @@ kept_item value = good value.kept value
 -- The joined kept texts of values that were read are cut into these values, and nothing else.
 abbrev pub JoinedComesBack : Type 0
 JoinedComesBack = (values : List MediaType) → AllByRecursion IsRead values → Cut (joined values) (map kept_item values) []
+
+-- a space, a tab or a comma
+abbrev pub is_separator : ℕ → Bool
+is_separator b = is_space b || b == comma_byte
+
+-- a list as HTTP writes it, and its elements (RFC 7230, 7), where no white space separates an element from the comma after it
+pub data IsHttpList : List ℕ → List CutItem → Type 0 where
+  -- the empty text has no element
+  no_element : IsHttpList [] []
+  -- a space, a tab or a comma may come before a list
+  separated : (b : ℕ) (list : List ℕ) (elements : List CutItem) → IsTrue (is_separator b) → IsHttpList list elements
+      → IsHttpList (b ∷ list) elements
+  -- an accepted text is a list of one element
+  one_element : (text : List ℕ) (value : MediaType) → Reads text value → IsHttpList text (good text value ∷ [])
+  -- an accepted text, a comma and a list are a list
+  more_elements : (text : List ℕ) (value : MediaType) (list : List ℕ) (elements : List CutItem) → Reads text value
+      → IsHttpList list elements → IsHttpList (text ++ (comma_byte ∷ list)) (good text value ∷ elements)
+
+-- A list as HTTP writes it is cut into its elements, and nothing else.
+abbrev pub HttpListIsCut : Type 0
+HttpListIsCut = (text : List ℕ) (elements : List CutItem) → IsHttpList text elements → Cut text elements []
 
 -- In a text of valid UTF-8 what is passed after a piece is one character, a scalar value, and the texts before and after it are
 -- valid UTF-8.

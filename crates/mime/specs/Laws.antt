@@ -1,9 +1,9 @@
 -- The laws: what follows from the definitions alone.
-use Rattle.std.specs.Prelude.{◌≡◌, ◌≢◌, ℕ, ◌+◌, ◌<◌, ◌≤◌, ◌⊎◌, Bool, List, [], ◌++◌, length, take, slice_get, Option, Some, MatchOption, ◌↔◌}
+use Rattle.std.specs.Prelude.{◌≡◌, ◌≢◌, ℕ, ◌+◌, ◌<◌, ◌≤◌, ◌⊎◌, Bool, List, [], ◌∷◌, ◌++◌, length, take, slice_get, Option, Some, None, MatchOption, ◌↔◌}
 use Rattle.std.specs.Str.{IsUtf8, IsCharBoundary}
-use Rattle.mime.specs.Bytes.{plus_byte}
+use Rattle.mime.specs.Bytes.{slash_byte, plus_byte}
 use Rattle.mime.specs.Grammar.{SyntaxTree, text_of, IsWellFormed}
-use Rattle.mime.specs.Values.{MediaType, Reads, IsAccepted, IsRefused, lowered}
+use Rattle.mime.specs.Values.{MediaType, Reads, IsAccepted, IsRefused, lowered, type_of, subtype_of, suffix_of}
 use Rattle.mime.specs.Comparison.{Same, Before, TextIs}
 use Rattle.mime.specs.Difference.{DifferTellingly}
 use Rattle.mime.specs.Refusals.{IsViable, IsFront, Lacks, IsFault}
@@ -17,6 +17,10 @@ OneTree = (first second : SyntaxTree) → IsWellFormed first → IsWellFormed se
 -- A text is read as at most one value.
 abbrev pub OneReading : Type 0
 OneReading = (text : List ℕ) (first second : MediaType) → Reads text first → Reads text second → first ≡ second
+
+-- A text is accepted or refused.
+abbrev pub AcceptedOrRefused : Type 0
+AcceptedOrRefused = (text : List ℕ) → IsAccepted text ⊎ IsRefused text
 
 -- The empty text is viable.
 abbrev pub EmptyIsViable : Type 0
@@ -97,6 +101,28 @@ without_parameters value = record value { pairs = []; kept = value.essence }
 abbrev pub EssenceIsRead : Type 0
 EssenceIsRead = (text : List ℕ) (value : MediaType) → Reads text value → Reads value.essence (without_parameters value)
 
+-- a plus and the suffix, or nothing where there is none
+abbrev pub suffix_text : Option (List ℕ) → List ℕ
+suffix_text None = []
+suffix_text (Some suffix) = plus_byte ∷ suffix
+
+-- The essence of a value that was read is its type, a slash, its subtype, and a plus with its suffix if there is one.
+abbrev pub EssenceIsParts : Type 0
+EssenceIsParts =
+    (text : List ℕ) (value : MediaType) → Reads text value
+    → value.essence ≡ type_of value ++ (slash_byte ∷ (subtype_of value ++ suffix_text (suffix_of value)))
+
+-- the same type, subtype and suffix
+abbrev pub HaveSameParts : MediaType → MediaType → Type 0
+HaveSameParts first second =
+    (type_of first ≡ type_of second) × (subtype_of first ≡ subtype_of second) × (suffix_of first ≡ suffix_of second)
+
+-- Two values that were read have the same essence exactly where they have the same type, subtype and suffix.
+abbrev pub SameEssence : Type 0
+SameEssence =
+    (one other : List ℕ) (first second : MediaType) → Reads one first → Reads other second
+    → (first.essence ≡ second.essence) ↔ HaveSameParts first second
+
 -- exactly one of the three: the first comes before the second, they are equal, the second comes before the first
 abbrev pub OneOf : MediaType → MediaType → Type 0
 OneOf first second =
@@ -126,12 +152,16 @@ KeptTextIs = (text : List ℕ) (value : MediaType) → Reads text value → (oth
 abbrev pub IsDecided : (List ℕ → Bool → Type 0) → Type 0
 IsDecided Accepts = (name : List ℕ) (ignores_case : Bool) → Accepts name ignores_case ⊎ ¬ (Accepts name ignores_case)
 
--- A key finds exactly one answer in a list of items, if it accepts each name or doesn't.
+-- A key finds at most one answer in a list of items.
 abbrev pub OneAnswer : (List ℕ → Bool → Type 0) → Type 0
 OneAnswer Accepts =
-    IsDecided Accepts → (items : List Item)
-    → (found : Option (List ℕ × Bool)) × IsFirstAccepted Accepts items found
-    × ((other : Option (List ℕ × Bool)) → IsFirstAccepted Accepts items other → other ≡ found)
+    (items : List Item) (found other : Option (List ℕ × Bool)) → IsFirstAccepted Accepts items found
+    → IsFirstAccepted Accepts items other → other ≡ found
+
+-- A key that accepts each name or doesn't finds an answer in a list of items.
+abbrev pub HasAnswer : (List ℕ → Bool → Type 0) → Type 0
+HasAnswer Accepts =
+    IsDecided Accepts → (items : List Item) → (found : Option (List ℕ × Bool)) × IsFirstAccepted Accepts items found
 
 -- Texts whose first difference tells are not read as equal values.
 abbrev pub FirstDifferenceTells : Type 0

@@ -8,20 +8,16 @@ ghost use Rattle.std.specs.Ordering.{MatchOrdering, ordering_then, bool_cmp, nat
 ghost use Rattle.mime.specs.Values.{OwnedMedia, lowered};
 ghost use Rattle.mime.specs.Names.{name_table};
 ghost use Rattle.mime.specs.Views.{name_text};
-ghost use Rattle.mime.specs.Laws.{OneTree, OneReading, EmptyIsViable, FrontOfViableIsViable, AcceptedIsViable, OneCompletion, CompletedIsRefused, NoCompletion, OneFault, OneFront, FrontEndsBetweenCharacters, FrontIsInUtf8, PlusIsLast, KeptIsRead, EssenceIsRead, OneOrder, BeforeIsTransitive, BareTextIs, KeptTextIs, OneAnswer, FirstDifferenceTells};
-ghost use Rattle.mime.specs.HeaderLaws.{ParameterIsRead};
+ghost use Rattle.mime.specs.Laws.{OneTree, OneReading, EmptyIsViable, FrontOfViableIsViable, AcceptedIsViable, OneCompletion, CompletedIsRefused, NoCompletion, OneFault, OneFront, FrontEndsBetweenCharacters, FrontIsInUtf8, PlusIsLast, KeptIsRead, EssenceIsRead, OneOrder, BeforeIsTransitive, BareTextIs, KeptTextIs, OneAnswer, HasAnswer, IsDecided, FirstDifferenceTells, AcceptedOrRefused, EssenceIsParts, SameEssence};
+ghost use Rattle.mime.specs.HeaderLaws.{KeptIsSafe, ParameterIsRead};
 ghost use Rattle.mime.specs.Comparison.{Same, Before};
-ghost use Rattle.mime.specs.CutLaws.{OneCut, CutHasItems, CutWritesText, OneCount, CommaContains, JoinedComesBack, PassesOneCharacter};
+ghost use Rattle.mime.specs.HashLaws.{IsPrefixFree};
+ghost use Rattle.mime.specs.CutLaws.{OneCut, CutHasItems, CutWritesText, OneCount, CommaContains, JoinedComesBack, HttpListIsCut, PassesOneCharacter};
 ghost use Rattle.mime.specs.RunLaws.{RunGivesCut, PrintedListComesBack, CommaContainsOnRuns};
 
 use crate::atoms::Atom;
 use crate::iter::Bad;
-use crate::name::constants::{
-    APPLICATION, AUDIO, BASIC, BMP, BOUNDARY, CHARSET, CSS, CSV, EVENT_STREAM, FONT, FORM_DATA,
-    GIF, HTML, IMAGE, JAVASCRIPT, JPEG, JSON, MESSAGE, MODEL, MP4, MPEG, MSGPACK, MULTIPART,
-    OCTET_STREAM, OGG, PDF, PLAIN, PNG, STAR, SVG, TEXT, UTF_8, VCARD, VIDEO, WOFF, WOFF2,
-    WWW_FORM_URLENCODED, XML,
-};
+use crate::name::constants::NAMES;
 use crate::name::{Name, ParamKey, TextKey};
 use crate::scan::ParseError;
 use crate::value::Mime;
@@ -36,6 +32,11 @@ pub fn one_tree()
 /// A text is read as at most one value: every reading of `Text/Plain` is `text/plain`.
 pub fn one_reading()
     ensures { OneReading }
+{}
+
+/// A text is accepted or refused: `a/b` is accepted, and `a` is refused.
+pub fn accepted_or_refused()
+    ensures { AcceptedOrRefused }
 {}
 
 /// The empty text is viable: `a/b` begins with it.
@@ -108,6 +109,25 @@ pub fn essence_is_read()
     ensures { EssenceIsRead }
 {}
 
+/// The essence of a value that was read is its type, a slash, its subtype, and a plus with its suffix if there is one:
+/// that of `image/svg+xml` is `image`, `/`, `svg` and `+xml` (RFC 6838, 4.2.8).
+pub fn essence_is_parts()
+    ensures { EssenceIsParts }
+{}
+
+/// Two values that were read have the same essence exactly where they have the same type, subtype and suffix:
+/// `a/b+c;p=x` and `A/B+C`.
+pub fn same_essence()
+    ensures { SameEssence }
+{}
+
+/// A value that was read is safe in a header (RFC 7230, 3.2): each byte of its kept text is a tab, or from 32 to 255
+/// and not 127, so there is no line feed, carriage return or zero. Its type, its subtype and its names are tokens, its
+/// suffix a token or empty, and its values quoted content: in `a/b; p="x y"` the value `x y`.
+pub fn kept_is_safe()
+    ensures { KeptIsSafe }
+{}
+
 /// The essence of a value that was read, with `; `, a token, an equals sign and quoted content in its quotes after it, is
 /// read as the value with that parameter alone: `a/b; P="X"` as `a/b` with the parameter `p`, whose value is `X` (RFC
 /// 7231, 3.1.1.1).
@@ -138,10 +158,17 @@ pub fn kept_text_is()
     ensures { KeptTextIs }
 {}
 
-/// A key finds exactly one answer in a list of items, if it accepts each name or doesn't: `TextKey("P")` finds `1` in
-/// `a/b;p=1;p=2`, and nothing else.
+/// A key finds at most one answer in a list of items, and one if it accepts each name or doesn't: `TextKey("P")` finds
+/// `1` in `a/b;p=1;p=2`, and nothing else.
 pub fn one_answer<K: ParamKey>(key: &K)
-    ensures { OneAnswer (K.Accepts key.now) }
+    ensures most { OneAnswer (K.Accepts key.now) }
+    ensures least { HasAnswer (K.Accepts key.now) }
+{}
+
+/// A `TextKey` accepts a name or doesn't, and so does a `Name`: `TextKey("P")` accepts `p`, and doesn't accept `q`.
+pub fn keys_decide()
+    ensures text { (key : TextKey) → IsDecided (⟦<TextKey<'static> as ParamKey>⟧.Accepts key) }
+    ensures name { (key : Name) → IsDecided (⟦<Name<'static> as ParamKey>⟧.Accepts key) }
 {}
 
 /// Two values are equal exactly where their essences and their pairs are the same: `a/b; p="x"` and `A/B;P=x`.
@@ -157,6 +184,12 @@ pub fn mime_order()
 /// Equal values feed a hasher the same: `a/b; p="x"` and `A/B;P=x`.
 pub fn equal_values_hash_alike()
     ensures { (first second : OwnedMedia) → Same first.media second.media → ⟦<Mime as Hash>⟧.hash_input first ≡ ⟦<Mime as Hash>⟧.hash_input second }
+{}
+
+/// What values feed a hasher is prefix-free: of two unequal values neither feeds bytes with which the other's begin, so a
+/// pair of a value and a text feeds what no other pair does. `a/bx` with `c` and `a/b` with `xc` feed different bytes.
+pub fn hash_is_prefix_free()
+    ensures { IsPrefixFree ⟦<Mime as Hash>⟧.hash_input }
 {}
 
 /// Texts that first differ, but for case, where neither byte is a space, a tab or a quote, are not read as equal values:
@@ -205,6 +238,13 @@ pub fn joined_comes_back()
     ensures { JoinedComesBack }
 {}
 
+/// A list as HTTP writes it (RFC 7230, 7) is cut into its elements, and nothing else: accepted texts with a comma
+/// between each and the next, and with spaces, tabs and further commas after each comma and before the first.
+/// `a/b, ,\tc/d` is cut into `a/b` and `c/d`.
+pub fn http_list_is_cut()
+    ensures { HttpListIsCut }
+{}
+
 /// A run gives the items of the cut, over `a/b, e, c/d` two media types and a bad piece. Out of memory may come
 /// for an item that is a media type other than `*/*`, and ends the run.
 pub fn run_gives_cut()
@@ -222,48 +262,6 @@ pub fn comma_contains_on_runs()
 pub fn printed_list_comes_back()
     ensures { PrintedListComesBack }
 {}
-
-/// The constant names, as a table: an array in the body of `name_constants` would be a statement a row for its proof.
-static NAMES: [Name<'static>; 38] = [
-    STAR,
-    TEXT,
-    IMAGE,
-    AUDIO,
-    VIDEO,
-    APPLICATION,
-    MULTIPART,
-    MESSAGE,
-    MODEL,
-    FONT,
-    PLAIN,
-    HTML,
-    XML,
-    JAVASCRIPT,
-    CSS,
-    CSV,
-    EVENT_STREAM,
-    VCARD,
-    JSON,
-    WWW_FORM_URLENCODED,
-    MSGPACK,
-    OCTET_STREAM,
-    PDF,
-    WOFF,
-    WOFF2,
-    FORM_DATA,
-    BMP,
-    GIF,
-    JPEG,
-    PNG,
-    SVG,
-    BASIC,
-    MPEG,
-    MP4,
-    OGG,
-    CHARSET,
-    BOUNDARY,
-    UTF_8,
-];
 
 /// The constant names, in the order of their table, from `*` on. Each has its text, ignores case, and holds no
 /// ASCII capital.

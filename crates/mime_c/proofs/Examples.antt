@@ -1,0 +1,1 @@
+-- What the definitions of `Strings` and `Answers` say of some texts.

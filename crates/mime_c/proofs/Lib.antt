@@ -1,0 +1,7 @@
+pub mod Writing
+pub mod Room
+pub mod Parts
+pub mod NoZero
+pub mod Listing
+pub mod OneOutcome
+mod Examples

@@ -1,0 +1,6 @@
+-- The items of what is left are left to write.
+use Rattle.mime_c.proofs.Listing.{Lists}
+use Rattle.mime_c.proofs.mime_list.Given as goal
+
+abbrev pub invariant-loop-item : goal.invariant-loop-item
+invariant-loop-item l = Lists l.text l.initial.out l.out l.at l.item-iterator.left

@@ -1,0 +1,18 @@
+//! What follows from the definitions of the calls alone: each law is the clause of an empty function.
+
+ghost use Rattle.mime_c.specs.Laws.{ReadsToOne, ListsToOne, ComparesAsOne};
+
+/// Unless memory runs out, `mime_read` of a text into a buffer has exactly one outcome.
+pub fn reads_to_one()
+    ensures { ReadsToOne }
+{}
+
+/// Unless memory runs out, `mime_list` of a text into a buffer has exactly one outcome.
+pub fn lists_to_one()
+    ensures { ListsToOne }
+{}
+
+/// Unless memory runs out, `mime_is` of two texts has exactly one outcome.
+pub fn compares_as_one()
+    ensures { ComparesAsOne }
+{}

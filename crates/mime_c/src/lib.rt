@@ -1,0 +1,251 @@
+//! Media types for programs that aren't in Rattle: the calls that include/mime.h declares.
+//!
+//! No call keeps a pointer or a state. Each answers with a number, and writes strings, with the byte 0 after each, into
+//! the caller's buffer. The pages `Strings` and `Answers` of `Rattle.mime_c.specs` say which.
+#![tactic(auto)]
+
+ghost use Rattle.std.specs.Prelude.{◌≡◌, ◌+◌, ◌<◌, ◌≤◌, ◌∷◌, length, IfOk, IfErr};
+ghost use Rattle.std.specs.Str.{IsUtf8};
+ghost use Rattle.std.proofs.Math.Seq.{paste};
+ghost use Rattle.mime.specs.Values.{Reads};
+ghost use Rattle.mime.specs.CutLaws.{IsRead};
+ghost use Rattle.mime_c.specs.Strings.{string_of, strings, texts_of, written};
+ghost use Rattle.mime_c.specs.Answers.{number_of, found_of_fault, found_of, Fails, ReadsTo, ListsTo, Compares};
+
+pub mod laws;
+
+use mime::{Bad, Mime, MimeIter, ParseError};
+use std::alloc::Global;
+
+/// The answers of all calls, by the names and numbers of include/mime.h, which says what they mean.
+const MIME_OK: u32 = 0;
+
+const MIME_MISSING_SLASH: u32 = 1;
+
+const MIME_MISSING_SUBTYPE: u32 = 2;
+
+const MIME_MISSING_EQUAL: u32 = 3;
+
+const MIME_MISSING_VALUE: u32 = 4;
+
+const MIME_MISSING_QUOTE: u32 = 5;
+
+const MIME_INVALID_BYTE: u32 = 6;
+
+const MIME_NO_MEMORY: u32 = 7;
+
+const MIME_NOT_UTF8: u32 = 8;
+
+const MIME_NO_ROOM: u32 = 9;
+
+/// The first byte of each string of `mime_list`.
+const MIME_GOOD: u8 = b'+';
+
+const MIME_BAD: u8 = b'-';
+
+/// What `mime_read` finds beside the strings.
+#[repr(C)]
+#[derive(Clone, Copy)]
+pub struct MimeFound {
+    /// How many bytes were written.
+    pub length: usize,
+    /// How many parameters there are.
+    pub params: usize,
+    /// Where the string begins that the media type is printed as.
+    pub printed: usize,
+    /// Where the slash is in the essence.
+    pub slash: usize,
+    /// Where the subtype ends in the essence: at the plus of a suffix, or at the 0 after the essence.
+    pub subtype_end: usize,
+    /// Where the invalid byte is in the text.
+    pub pos: usize,
+    /// The invalid byte.
+    pub byte: u8,
+}
+
+/// Where nothing is found.
+const NOTHING: MimeFound = MimeFound {
+    length: 0,
+    params: 0,
+    printed: 0,
+    slash: 0,
+    subtype_end: 0,
+    pos: 0,
+    byte: 0,
+};
+
+/// Why a text is read as no media type: the answer of a call, and what is found.
+#[derive(Clone, Copy)]
+struct Failure {
+    answer: u32,
+    found: MimeFound,
+}
+
+/// The number of a fault.
+fn number_of(fault: &ParseError) -> u32
+    ensures { result ≡ number_of fault.now }
+{
+    match fault {
+        ParseError::MissingSlash => MIME_MISSING_SLASH,
+        ParseError::MissingSubtype => MIME_MISSING_SUBTYPE,
+        ParseError::MissingEqual => MIME_MISSING_EQUAL,
+        ParseError::MissingValue => MIME_MISSING_VALUE,
+        ParseError::MissingQuote => MIME_MISSING_QUOTE,
+        ParseError::InvalidToken { .. } => MIME_INVALID_BYTE,
+        ParseError::NoMemory => MIME_NO_MEMORY,
+    }
+}
+
+/// What is found of a fault.
+fn found_of_fault(fault: &ParseError) -> MimeFound
+    ensures { result ≡ found_of_fault fault.now }
+{
+    match fault {
+        ParseError::InvalidToken { pos, byte } => MimeFound {
+            pos: *pos,
+            byte: *byte,
+            ..NOTHING
+        },
+        _ => NOTHING,
+    }
+}
+
+/// The media type that a text is read as.
+fn read(alloc: Global, text: &[u8]) -> Result<Mime, Failure>
+    ensures read { IfOk result (λ mime. IsUtf8 text.now × Reads text.now mime.media) }
+    ensures fails { IfErr result (λ failure. Fails text.now failure.answer failure.found) }
+{
+    let Ok(text) = str::from_utf8(text) else {
+        return Err(Failure {
+            answer: MIME_NOT_UTF8,
+            found: NOTHING,
+        });
+    };
+    match Mime::from_str(alloc, text) {
+        Ok(mime) => Ok(mime),
+        Err(error) => {
+            let fault = error.fault();
+            Err(Failure {
+                answer: number_of(fault),
+                found: found_of_fault(fault),
+            })
+        }
+    }
+}
+
+/// Writes a text and a 0 at a position, and gives the position after them.
+fn put(out: &mut [u8], at: usize, text: &str) -> usize
+    requires { at + length text.now < length out.old }
+    ensures end { result ≡ at + (length text.now + 1) }
+    ensures bytes { out.new ≡ paste out.old at (string_of text.now) (length text.now + 1) }
+{
+    let end = at + text.len();
+    out[at..end].copy_from_slice(text.as_bytes());
+    out[end] = 0;
+    end + 1
+}
+
+/// Writes the strings of a media type, and says what is found.
+fn put_parts(out: &mut [u8], mime: &Mime) -> MimeFound
+    requires read { IsRead mime.now.media }
+    requires room { length (strings (texts_of mime.now.media)) ≤ length out.old }
+    ensures bytes { out.new ≡ written (strings (texts_of mime.now.media)) out.old }
+    ensures found { result ≡ found_of mime.now.media }
+{
+    let params = mime.params();
+    let (count, _) = params.size_hint();
+    let mut at = put(out, 0, mime.essence_str());
+    for (name, value) in params {
+        at = put(out, at, name.as_str());
+        at = put(out, at, value.as_str());
+    }
+    let slash = mime.type_().as_str().len();
+    MimeFound {
+        length: put(out, at, mime.as_str()),
+        params: count,
+        printed: at,
+        slash,
+        subtype_end: slash + 1 + mime.subtype().as_str().len(),
+        ..NOTHING
+    }
+}
+
+/// Reads a media type from the whole of `text`, and writes its parts and the text that it is printed as to `out`, whose
+/// first `2 * text.len() + 2` bytes are enough.
+#[unsafe(no_mangle)]
+pub extern "C" fn mime_read(
+    alloc: Global,
+    text: &[u8],
+    out: &mut [u8],
+    found: &mut MimeFound,
+) -> u32
+    ensures { ReadsTo text.now out.old result out.new found.new }
+{
+    *found = NOTHING;
+    if out.len() / 2 <= text.len() {
+        return MIME_NO_ROOM;
+    }
+    match read(alloc, text) {
+        Ok(mime) => {
+            *found = put_parts(out, &mime);
+            MIME_OK
+        }
+        Err(failure) => {
+            *found = failure.found;
+            failure.answer
+        }
+    }
+}
+
+/// Writes an item of a list at a position, and gives the position after it.
+fn put_item(out: &mut [u8], at: usize, mark: u8, text: &str) -> usize
+    requires { at + length (mark ∷ text.now) < length out.old }
+    ensures end { result ≡ at + (length (mark ∷ text.now) + 1) }
+    ensures bytes { out.new ≡ paste out.old at (string_of (mark ∷ text.now)) (length (mark ∷ text.now) + 1) }
+{
+    out[at] = mark;
+    put(out, at + 1, text)
+}
+
+/// Takes the media types one by one out of `text`, and writes a string for each, and for each bad piece, to `out`, whose
+/// first `2 * text.len()` bytes are enough.
+#[unsafe(no_mangle)]
+pub extern "C" fn mime_list(alloc: Global, text: &[u8], out: &mut [u8], length: &mut usize) -> u32
+    ensures { ListsTo text.now out.old result out.new length.new }
+{
+    *length = 0;
+    if out.len() / 2 < text.len() {
+        return MIME_NO_ROOM;
+    }
+    let Ok(text) = str::from_utf8(text) else {
+        return MIME_NOT_UTF8;
+    };
+    let mut at = 0;
+    for item in MimeIter::new(alloc, text) {
+        match item {
+            Ok(mime) => at = put_item(out, at, MIME_GOOD, mime.as_str()),
+            Err(Bad::Piece(piece)) => at = put_item(out, at, MIME_BAD, piece),
+            Err(Bad::NoMemory) => return MIME_NO_MEMORY,
+        }
+    }
+    *length = at;
+    MIME_OK
+}
+
+/// Sets `equal` to 1 if two texts are read as equal media types, else to 0.
+#[unsafe(no_mangle)]
+pub extern "C" fn mime_is(alloc: Global, one: &[u8], other: &[u8], equal: &mut u8) -> u32
+    ensures { Compares one.now other.now result equal.new }
+{
+    *equal = 0;
+    let first = match read(alloc, one) {
+        Ok(mime) => mime,
+        Err(failure) => return failure.answer,
+    };
+    let second = match read(alloc, other) {
+        Ok(mime) => mime,
+        Err(failure) => return failure.answer,
+    };
+    *equal = u8::from(first == second);
+    MIME_OK
+}

@@ -1,0 +1,72 @@
+/* Prints what the program mime_lines prints, by the calls of include/mime.h alone:
+ *     cc -Iinclude examples/lines.c out/libmime.a -o lines */
+#define _POSIX_C_SOURCE 200809L
+#include "mime.h"
+#include <stdio.h>
+#include <stdlib.h>
+#include <sys/types.h>
+
+static const char *const faults[] = {
+    [MIME_MISSING_SLASH] = "a slash (/) was missing between the type and subtype",
+    [MIME_MISSING_SUBTYPE] = "a subtype was missing behind the slash (/)",
+    [MIME_MISSING_EQUAL] = "an equals sign (=) was missing between a parameter and its value",
+    [MIME_MISSING_VALUE] = "a value was missing behind the equals sign (=)",
+    [MIME_MISSING_QUOTE] = "a quote (\") was missing from a parameter value",
+};
+
+/* A row for each item of a text. */
+static uint32_t print_items(const char *text, size_t len, char *out)
+{
+    size_t length;
+    uint32_t answer = mime_list(text, len, out, 2 * len, &length);
+    for (const char *item = out; item < out + length; item += strlen(item) + 1)
+        printf("%s %s\n", *item == MIME_GOOD ? "ok" : "bad", item + 1);
+    return answer;
+}
+
+/* Rows for the parts of a media type, or its fault. */
+static uint32_t print_parts(const char *text, size_t len, char *out)
+{
+    struct mime_found found;
+    uint32_t answer = mime_read(text, len, out, 2 * len + 2, &found);
+    if (answer == MIME_INVALID_BYTE)
+        return printf("bad mime parse error: an invalid token was encountered, %X at position %zu\n", found.byte, found.pos), MIME_OK;
+    if (answer >= MIME_MISSING_SLASH && answer <= MIME_MISSING_QUOTE)
+        return printf("bad mime parse error: %s\n", faults[answer]), MIME_OK;
+    if (answer != MIME_OK)
+        return answer;
+    printf("ok %s\n", out + found.printed);
+    printf("type %.*s\n", (int)found.slash, out);
+    printf("subtype %.*s\n", (int)(found.subtype_end - found.slash - 1), out + found.slash + 1);
+    if (out[found.subtype_end] == '+')
+        printf("suffix %s\n", out + found.subtype_end + 1);
+    const char *name = out + strlen(out) + 1;
+    for (size_t left = found.params; left > 0; left--) {
+        const char *value = name + strlen(name) + 1;
+        printf("param %s=%s\n", name, value);
+        name = value + strlen(value) + 1;
+    }
+    return MIME_OK;
+}
+
+int main(int argc, char **argv)
+{
+    int is_list = argc == 2 && strcmp(argv[1], "list") == 0;
+    if (argc > 1 && !is_list)
+        return fputs("usage: lines [list]\n", stderr), 2;
+    char *line = NULL;
+    size_t size = 0;
+    ssize_t read;
+    while ((read = getline(&line, &size, stdin)) >= 0) {
+        size_t len = (size_t)read - (line[read - 1] == '\n');
+        char *out = malloc(2 * len + 2);
+        uint32_t answer = out == NULL ? MIME_NO_MEMORY : (is_list ? print_items : print_parts)(line, len, out);
+        free(out);
+        if (answer == MIME_NO_MEMORY)
+            return fputs("no memory\n", stderr), 1;
+        if (answer == MIME_NOT_UTF8)
+            puts("not text");
+    }
+    free(line);
+    return ferror(stdin) || fflush(stdout) ? 1 : 0;
+}
