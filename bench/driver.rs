@@ -2,7 +2,8 @@
 //!
 //! `driver OPERATION here TIMES` and `driver OPERATION there TIMES` make an operation so many times, and print its answer: the
 //! difference of two runs is what the operation costs. Standard input has the text, and after a line feed the text or name that an
-//! operation on two takes.
+//! operation on two takes. Without words it is the program `mime_lines` over the Rust crate, written the same way: labels and texts are
+//! pushed, and a fault is written by its `Display`.
 
 extern crate mime;
 
@@ -11,9 +12,9 @@ use std::arch::asm;
 use std::collections::hash_map::DefaultHasher;
 use std::collections::HashMap;
 use std::env;
-use std::fmt::Write;
+use std::fmt::{self, Write as _};
 use std::hash::{BuildHasherDefault, Hash, Hasher};
-use std::io::{self, Read};
+use std::io::{self, Read, Write as _};
 
 /// A text on its way into crates/mime_bench, where a Global crosses as nothing.
 #[repr(C)]
@@ -153,9 +154,53 @@ fn hidden<T: ?Sized>(value: &T) -> &T {
     kept
 }
 
-fn main() {
-    let (words, mut given): (Vec<String>, _) = (env::args().collect(), String::new());
-    io::stdin().read_to_string(&mut given).unwrap();
+/// Adds the report on a line.
+fn push_line(report: &mut String, line: &[u8]) -> fmt::Result {
+    let Ok(text) = std::str::from_utf8(line) else {
+        return push_row(report, "not text", "");
+    };
+    let mime = match text.parse::<Mime>() {
+        Ok(mime) => mime,
+        Err(error) => return writeln!(report, "bad {error}"),
+    };
+    push_row(report, "ok ", mime.as_ref())?;
+    push_row(report, "type ", mime.type_().as_str())?;
+    push_row(report, "subtype ", mime.subtype().as_str())?;
+    if let Some(suffix) = mime.suffix() {
+        push_row(report, "suffix ", suffix.as_str())?;
+    }
+    for (name, value) in mime.params() {
+        report.push_str("param ");
+        report.push_str(name.as_str());
+        push_row(report, "=", value.as_str())?;
+    }
+    Ok(())
+}
+
+fn push_row(report: &mut String, label: &str, text: &str) -> fmt::Result {
+    report.push_str(label);
+    report.push_str(text);
+    report.push('\n');
+    Ok(())
+}
+
+fn write_report(input: &[u8]) -> io::Result<()> {
+    let mut report = String::new();
+    if !input.is_empty() {
+        for line in input.strip_suffix(b"\n").unwrap_or(input).split(|byte| *byte == b'\n') {
+            push_line(&mut report, line).expect("a String takes all that is written to it");
+        }
+    }
+    io::stdout().write_all(report.as_bytes())
+}
+
+fn main() -> io::Result<()> {
+    let (words, mut input): (Vec<String>, _) = (env::args().collect(), Vec::new());
+    io::stdin().read_to_end(&mut input)?;
+    if words.len() == 1 {
+        return write_report(&input);
+    }
+    let given = String::from_utf8(input).unwrap();
     let (text, other) = given.split_once('\n').unwrap();
     let slice = |text: &str| Slice(text.as_ptr(), text.len());
     let run = |times| match &*words[2] {
@@ -169,4 +214,5 @@ fn main() {
         run(1);
     }
     println!("{}", run(words[3].parse().unwrap()));
+    Ok(())
 }
