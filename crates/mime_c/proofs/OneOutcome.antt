@@ -10,18 +10,18 @@ use Rattle.mime.specs.Comparison.{Same, media_cmp}
 use Rattle.mime.specs.Refusals.{IsFault, Explains}
 use Rattle.mime.specs.declared.scan.fault.ParseError.{ParseError}
 use Rattle.mime.specs.declared.scan.fault.ParseError.TheVariants.{NoMemory}
-use Rattle.mime.proofs.OneFault.{one_fault}
-use Rattle.mime.proofs.Outcomes.{refused-from_fault, Explains-from_fault}
-use Rattle.mime.proofs.Readings.{one_reading}
-use Rattle.mime.proofs.Ordering.{eq_by_cmp-tells, eq_by_cmp-same}
-use Rattle.mime.proofs.Cuts.{accepted_or_refused, HasCut, has_cut, cut_unique}
+use Rattle.mime.proofs.GrammarLemmas.Faults.{one_fault}
+use Rattle.mime.proofs.ValueLemmas.Reading.{refused-from_fault, Explains-from_fault}
+use Rattle.mime.proofs.GrammarLemmas.Readings.{one_reading}
+use Rattle.mime.proofs.ValueLemmas.Traits.{eq_by_cmp-tells, eq_by_cmp-same}
+use Rattle.mime.proofs.CutLemmas.{accepted_or_refused, HasCut, has_cut, cut_unique}
 use Rattle.mime_c.specs.Strings.{strings, texts_of, item_texts, written}
 use Rattle.mime_c.specs.Answers.{number_of, nothing, found_of, found_of_fault, Fails, is_refused, is_not_text, ReadsTo, is_read, fails, has_no_room, ListsTo, is_listed, has_no_memory, Compares, are_read, first_fails, second_fails}
-use Rattle.mime_c.specs.Answers as answers
 use Rattle.mime_c.specs.Laws.{HasOneReading, ReadsToOne, HasOneListing, ListsToOne, HasOneComparison, ComparesAsOne}
 use Rattle.mime_c.specs.declared.MimeFound.{MimeFound}
 use Rattle.mime_c.specs.declared.TheConstants.{MIME_OK, MIME_NO_MEMORY, MIME_NOT_UTF8, MIME_NO_ROOM}
 use Rattle.mime_c.proofs.NoZero.{texts_come_back, items_come_back}
+use Rattle.mime_c.specs.Answers as answers
 
 -- ---- one text
 

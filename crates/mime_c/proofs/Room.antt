@@ -7,10 +7,10 @@ use Rattle.mime.specs.Values.{MediaType, Reads, pair_of, pairs_of_list, pairs_of
 use Rattle.mime.specs.Scanning.{places_of}
 use Rattle.mime.specs.KeptText.{kept_text_of}
 use Rattle.mime.specs.Cut.{CutItem, ItemsOf, is_read, is_refused, is_empty, Cut, whole, unfinished, goes_on}
-use Rattle.mime.proofs.Lowering.{length-lowered}
-use Rattle.mime.proofs.Utf8.{length-in_part}
-use Rattle.mime.proofs.KeptText.{text_of-essence, length-essence_of, value_of_low, value_of-lowering, keeps-tree, kept-in_part}
-use Rattle.mime.proofs.Cuts.{split-size}
+use Rattle.mime.proofs.ValueLemmas.Lowercase.{length-lowered}
+use Rattle.mime.proofs.ValueLemmas.Utf8.{length-in_part}
+use Rattle.mime.proofs.ValueLemmas.KeptText.{text_of-essence, length-essence_of, value_of_low, value_of-lowering, keeps-tree, kept-in_part}
+use Rattle.mime.proofs.CutLemmas.{split-size}
 use Rattle.mime_c.specs.Strings.{strings, pair_texts, texts_of, item_text, item_texts}
 use Rattle.mime_c.specs.declared.TheConstants.{MIME_GOOD, MIME_BAD}
 use Rattle.mime_c.proofs.Writing.{strings-append, length-strings}
