@@ -1,18 +1,18 @@
 -- How a text begins: its first character, and its first piece.
-use Rattle.std.proofs.Common.{◌≡◌, ◌≢◌, ℕ, suc, ◌+◌, ◌-◌, ◌<◌, true, false, List, [], ◌∷◌, ◌++◌, length, take, drop, get_or, Option, Some, None, MatchOption, refl, sym, ap, ◌∙◌, subst, arith, append_assoc, length-append, length-drop}
-use Rattle.std.proofs.Math.Seq.{drop-cons, drop-length}
+use Rattle.std.proofs.Common.{◌≡◌, ◌≢◌, ℕ, zero, suc, ◌+◌, ◌-◌, ◌<◌, ◌≤◌, false, List, [], ◌∷◌, ◌++◌, length, take, drop, Option, Some, None, MatchOption, refl, sym, ap, ◌∙◌, subst, arith, ⊎_elim, length-drop}
+use Rattle.std.proofs.lemmas.Bool.{cases_Bool}
+use Rattle.std.proofs.lemmas.Bool.Decides.{nat_tests}
 use Rattle.std.proofs.lemmas.List.{take-append-drop, length-take-le}
-use Rattle.std.proofs.lemmas.List.Folds.{list_all-append}
 use Rattle.std.proofs.lemmas.Option.{slice_get_within}
 use Rattle.std.specs.Prelude.{IsTrue, IsFalse, ◌&&◌}
 use Rattle.std.specs.List.{list_all}
 use Rattle.std.specs.Str.{IsUtf8, IsCharBoundary}
 use Rattle.mime.specs.Values.{IsAccepted, IsRefused}
 use Rattle.mime.specs.Refusals.{IsViable, IsFront}
-use Rattle.mime.specs.Cut.{is_following_byte, BeginsCharacter, IsSplit, CutItem, good, bad, ItemsOf, is_read, is_refused, is_empty, Cut, whole, unfinished, goes_on, TakesSteps}
+use Rattle.mime.specs.Cut.{is_following_byte, BeginsCharacter, IsCharacter, IsSplit, CutItem, good, bad, ItemsOf, is_read, is_refused, is_empty, Cut, whole, unfinished, goes_on, TakesSteps}
 use Rattle.mime.specs.Remaining.{Remaining}
 use Rattle.mime.specs.Scanning.{HasPlaces, IsStopped, Judges, Scans}
-use Rattle.mime.specs.UnderWay.{IsAfterCharacter, IsUnderWay, IsFirstPiece, PassesPiece}
+use Rattle.mime.specs.UnderWay.{IsUnderWay, IsFirstPiece, PassesPiece}
 use Rattle.mime.specs.declared.scan.fault.ParseError.{ParseError}
 use Rattle.mime.specs.declared.scan.Places.{Places}
 use Rattle.mime.specs.declared.scan.Verdict.{Verdict}
@@ -24,47 +24,46 @@ use Rattle.mime.proofs.Viability.{accepted_is_viable}
 
 -- ---- the first character of a text
 
--- a character's `end` bytes were passed: the first, and those that follow it
-pub record PassedTo (text : List ℕ) (end : ℕ) : Type 0 where
-  pub first : ℕ
-  pub following : List ℕ
-  pub spelled : text ≡ first ∷ (following ++ drop end text)
-  pub of_class : IsTrue (list_all is_following_byte following)
-  pub counted : end ≡ length following + 1
+-- what comes after the first character of a text
+abbrev IsAfterCharacter : List ℕ → List ℕ → Type 0
+IsAfterCharacter text left = (character : List ℕ) × (text ≡ character ++ left) × IsCharacter character left
 
--- the first byte is passed
-pub passed_first : (text : List ℕ) → 0 < length text → PassedTo text 1
-passed_first [] some = absurd (omega arith)
-passed_first (b ∷ bytes) some = record { first = b; following = []; spelled = refl; of_class = refl; counted = refl }
+-- a byte that follows is none before which a text may be cut
+not_following : (b : ℕ) (bytes : List ℕ) → IsCharBoundary (b ∷ bytes) 0 → IsFalse (is_following_byte b)
+not_following b bytes border =
+    ⊎_elim (λ follows. absurd (omega (arith, border.1 (omega arith) (grind (arith, nat_tests, follows)), high b follows))) (λ is. is)
+    (cases_Bool (is_following_byte b))
+  where
+    high : (b : ℕ) → IsTrue (is_following_byte b) → b < 192
+    high b follows = grind (arith, nat_tests, follows)
 
--- one more byte of a character is passed
-pub passed_more : (text : List ℕ) (end : ℕ) → PassedTo text end → end < length text
-    → IsTrue (is_following_byte (get_or text end 0)) → PassedTo text (end + 1)
-passed_more text end p within follows = let after : suc end ≡ end + 1 = omega arith in record {
-  first = p.first;
-  following = p.following ++ (get_or text end 0 ∷ []);
-  spelled =
-      p.spelled
-      ∙ ap (λ t. p.first ∷ (p.following ++ t)) (drop-cons text end 0 within ∙ ap (λ n. get_or text end 0 ∷ drop n text) after)
-      ∙ ap (λ t. p.first ∷ t) (sym (append_assoc p.following (get_or text end 0 ∷ []) (drop (end + 1) text)));
-  of_class =
-      list_all-append is_following_byte p.following (get_or text end 0 ∷ [])
-      ∙ ap (λ x. x && list_all is_following_byte (get_or text end 0 ∷ [])) p.of_class
-      ∙ ap (λ x. x && true) follows;
-  counted = omega (arith, p.counted, length-append p.following (get_or text end 0 ∷ []));
-}
+-- up to the first position where a text may be cut all bytes follow
+follow_to : (bytes : List ℕ) (n : ℕ) → IsCharBoundary bytes n → ((j : ℕ) → j < n → ¬ (IsCharBoundary bytes j))
+    → IsTrue (list_all is_following_byte (take n bytes)) × BeginsCharacter (drop n bytes)
+follow_to [] zero border none = (refl, tt)
+follow_to [] (suc n) border none = (refl, tt)
+follow_to (b ∷ bytes) zero border none = (refl, not_following b bytes border)
+follow_to (b ∷ bytes) (suc n) border none =
+    let rest = follow_to bytes n (omega (arith, border.0), λ within high. border.1 (omega (arith, within)) high)
+    (λ j before cut. none (suc j) (omega (arith, before)) (omega (arith, cut.0), λ within high. cut.1 (omega (arith, within)) high)) in
+    (ap (λ x. x && list_all is_following_byte (take n bytes)) (follows b bytes (none 0 (omega arith))) ∙ rest.0, rest.1)
+  where
+    follows : (b : ℕ) (bytes : List ℕ) → ¬ (IsCharBoundary (b ∷ bytes) 0) → IsTrue (is_following_byte b)
+    follows b bytes none =
+        ⊎_elim (λ is. is) (λ isnt. absurd (none (omega arith, λ within high. grind (arith, nat_tests, isnt, high))))
+        (cases_Bool (is_following_byte b))
 
--- the character ends where no such byte is next
-passed_character : (text : List ℕ) (end : ℕ) → PassedTo text end → BeginsCharacter (drop end text)
-    → IsAfterCharacter text (drop end text)
-passed_character text end p begins = (p.first ∷ p.following, p.spelled, (p.of_class, begins))
-
-pub passed_stop : (text : List ℕ) (end : ℕ) → PassedTo text end → end < length text
-    → IsFalse (is_following_byte (get_or text end 0)) → IsAfterCharacter text (drop end text)
-passed_stop text end p within stops = passed_character text end p (subst BeginsCharacter (sym (drop-cons text end 0 within)) stops)
-
-pub passed_end : (text : List ℕ) (end : ℕ) → PassedTo text end → end ≡ length text → IsAfterCharacter text (drop end text)
-passed_end text end p is = passed_character text end p (subst BeginsCharacter (sym (ap (λ n. drop n text) is ∙ drop-length text)) tt)
+-- from the first position after a text's first byte where it may be cut on, it is what comes after its first character
+after_character : (text : List ℕ) (at : ℕ) → 0 < length text → 1 ≤ at → IsCharBoundary text at
+    → ((i : ℕ) → 1 ≤ i → i < at → ¬ (IsCharBoundary text i)) → IsAfterCharacter text (drop at text)
+after_character [] at some past border none = absurd (omega arith)
+after_character (b ∷ bytes) zero some past border none = absurd (omega arith)
+after_character (b ∷ bytes) (suc n) some past border none = (
+  b ∷ take n bytes,
+  ap (λ t. b ∷ t) (sym (take-append-drop n bytes)),
+  follow_to bytes n (omega (arith, border.0), λ within high. border.1 (omega (arith, within)) high)
+      (λ j before cut. none (suc j) (omega arith) (omega (arith, before)) (omega (arith, cut.0), λ within high. cut.1 (omega (arith, within)) high)),
+)
 
 -- ---- the first piece of a text
 
@@ -153,18 +152,22 @@ passes-split text piece character left places split is =
     first (Some p) has some = (has, λ value reads. on (good piece value ∷ []) (is_read value reads))
 
 -- a text is split where the scanner stops
-pub passes-stopped : (text piece rest left : List ℕ) (steps at byte : ℕ) (places : Option Places) → Judges text steps (Stopped byte places)
-    → at ≡ steps - 1 → piece ≡ take at text → rest ≡ drop at text → IsAfterCharacter rest left
+pub passes-stopped : (text piece rest left : List ℕ) (steps at end byte : ℕ) (places : Option Places)
+    → Judges text steps (Stopped byte places) → at ≡ steps - 1 → piece ≡ take at text → rest ≡ drop at text → left ≡ drop end rest
+    → (1 ≤ length rest → 1 ≤ end) → IsCharBoundary rest end → ((i : ℕ) → 1 ≤ i → i < end → ¬ (IsCharBoundary rest i))
     → PassesPiece text piece places left steps
-passes-stopped text piece rest left steps at byte places (pos, is, stopped) is_at is_piece is_rest (character, spelled, is_character) =
+passes-stopped text piece rest left steps at end byte places (pos, is, stopped) is_at is_piece is_rest is_left past border nearest =
     let same : pos ≡ at = omega (arith, is, is_at) in
     let before = subst (λ n. IsStopped text n byte places) same stopped in
     let size : length (take at text) ≡ at = length-take-le at text before.fault.front.within in
+    let some : 0 < length rest =
+    omega (arith, ap length is_rest, length-drop at text, slice_get_within text at byte before.fault.there) in
+    let after = after_character rest end some (past (omega (arith, some))) border nearest in
     subst (λ p. PassesPiece text p places left steps) (sym is_piece)
     (subst (PassesPiece text (take at text) places left) (omega (arith, is, same, size))
-    (passes-split text (take at text) character left places
+    (passes-split text (take at text) after.0 left places
     (record {
-      spelled = sym (take-append-drop at text) ∙ ap (λ t. take at text ++ t) (sym is_rest ∙ spelled);
+      spelled = sym (take-append-drop at text) ∙ ap (λ t. take at text ++ t) (sym is_rest ∙ after.1 ∙ ap (λ t. after.0 ++ t) (sym is_left));
       front = subst (IsFront text) (sym size) before.fault.front;
-      is_character = is_character;
+      is_character = subst (IsCharacter after.0) (sym is_left) after.2;
     }) before.before))

@@ -5,7 +5,7 @@ use Rattle.std.proofs.lemmas.Bool.Decides.{Decides-eqb}
 use Rattle.std.proofs.lemmas.Option.{slice_get-get_or, slice_get_within, get_or_from_slice_get}
 use Rattle.std.proofs.lemmas.List.Sums.{passes_at_first}
 use Rattle.std.proofs.lemmas.Str.{IsCharBoundary-before_ascii, IsCharBoundary-after_ascii}
-use Rattle.mime.specs.Pairs.{first_position}
+use Rattle.mime.specs.Blocks.{first_position}
 
 -- a text may be cut before an ASCII byte
 pub boundary_before : (text : List ℕ) (at b : ℕ) → slice_get text at ≡ Some b → b < 128 → IsCharBoundary text at

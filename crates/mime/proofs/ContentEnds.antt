@@ -6,7 +6,7 @@ use Rattle.std.proofs.lemmas.List.{drop_more, drop_all}
 use Rattle.std.proofs.lemmas.Bool.{and_parts, cond-false, eqb-true, true≢false}
 use Rattle.mime.specs.Bytes.{quote_byte, backslash_byte}
 use Rattle.mime.specs.Grammar.{IsContent}
-use Rattle.mime.specs.Pairs.{first_position}
+use Rattle.mime.specs.Blocks.{first_position}
 use Rattle.mime.specs.Quoted.{awaits_first, awaits_next, takes, takes_all, awaits_after, len_from, content_len}
 use Rattle.mime.proofs.Quoted.{taken-closes_not, content-taken, content-awaits}
 

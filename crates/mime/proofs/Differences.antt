@@ -12,8 +12,7 @@ use Rattle.std.proofs.lemmas.List.Sums.{prefix_len-le-length, prefix_len_stops}
 use Rattle.std.proofs.lemmas.Simd.{length-zip2, get_or-zip2, leading_from_mask_l}
 use lib.Count.{count_trailing_zeros}
 use Rattle.mime.specs.Difference.{FirstDifference}
-use Rattle.mime.specs.Marks.{mark, marks_of}
-use Rattle.mime.specs.Pairs.{first_position}
+use Rattle.mime.specs.Blocks.{difference_bit, mask_of, first_position}
 use Rattle.mime.specs.Values.{lowered}
 use Rattle.mime.proofs.Lowering.{lowered-take, lowered-drop}
 use Rattle.mime.proofs.Marks.{position-marked, all_pass}
@@ -44,36 +43,36 @@ same_take-cons x y n xs ys one rest =
 
 -- up to the first mark
 alike_to_mark : (xs ys : List ℕ)
-    → take (first_position 1 (zip2 mark xs ys)) (lowered xs) ≡ take (first_position 1 (zip2 mark xs ys)) (lowered ys)
+    → take (first_position 1 (zip2 difference_bit xs ys)) (lowered xs) ≡ take (first_position 1 (zip2 difference_bit xs ys)) (lowered ys)
 alike_to_mark [] ys = refl
 alike_to_mark (x ∷ xs) [] = refl
 alike_to_mark (x ∷ xs) (y ∷ ys) = go (to_ascii_lowercase x == to_ascii_lowercase y) refl (alike_to_mark xs ys)
   where
     go : (same : Bool) → (to_ascii_lowercase x == to_ascii_lowercase y) ≡ same
-        → take (first_position 1 (zip2 mark xs ys)) (lowered xs) ≡ take (first_position 1 (zip2 mark xs ys)) (lowered ys)
-        → take (first_position 1 (cond same 0 1 ∷ zip2 mark xs ys)) (lowered (x ∷ xs))
-        ≡ take (first_position 1 (cond same 0 1 ∷ zip2 mark xs ys)) (lowered (y ∷ ys))
-    go true is rest = same_take-cons _ _ (first_position 1 (zip2 mark xs ys)) (lowered xs) (lowered ys) (eqb-true _ _ is) rest
+        → take (first_position 1 (zip2 difference_bit xs ys)) (lowered xs) ≡ take (first_position 1 (zip2 difference_bit xs ys)) (lowered ys)
+        → take (first_position 1 (cond same 0 1 ∷ zip2 difference_bit xs ys)) (lowered (x ∷ xs))
+        ≡ take (first_position 1 (cond same 0 1 ∷ zip2 difference_bit xs ys)) (lowered (y ∷ ys))
+    go true is rest = same_take-cons _ _ (first_position 1 (zip2 difference_bit xs ys)) (lowered xs) (lowered ys) (eqb-true _ _ is) rest
     go false is rest = refl
 
 -- bytes are not marked exactly where they are the same but for case
-pub no_mark_at : (x y found : ℕ) → found ≡ mark x y → (found ≡ 0) ↔ (to_ascii_lowercase x ≡ to_ascii_lowercase y)
+pub no_mark_at : (x y found : ℕ) → found ≡ difference_bit x y → (found ≡ 0) ↔ (to_ascii_lowercase x ≡ to_ascii_lowercase y)
 no_mark_at x y found is = (λ none. grind (arith, nat_tests), λ same. is ∙ ap (λ b. cond b 0 1) (eq-eqb _ _ same))
 
 -- at a mark they differ
-differ_at_mark : (x y : ℕ) → mark x y ≡ 1 → to_ascii_lowercase x ≢ to_ascii_lowercase y
+differ_at_mark : (x y : ℕ) → difference_bit x y ≡ 1 → to_ascii_lowercase x ≢ to_ascii_lowercase y
 differ_at_mark x y is same = absurd (omega (arith, sym is ∙ ap (λ b. cond b 0 1) (eq-eqb _ _ same)))
 
 -- in the first 16 bytes, as the marks show it
 module _ (a b marks : List ℕ) (found : ℕ) (room : 16 ≤ length a) (other_room : 16 ≤ length b)
-    (is : marks ≡ zip2 mark (take 16 a) (take 16 b)) (found_is : found ≡ marks_of 1 (take 16 marks)) where
+    (is : marks ≡ zip2 difference_bit (take 16 a) (take 16 b)) (found_is : found ≡ mask_of 1 (take 16 marks)) where
   long : length marks ≡ 16
   long =
-      ap length is ∙ length-zip2 mark (take 16 a) (take 16 b) (length-take-le 16 a room ∙ sym (length-take-le 16 b other_room))
+      ap length is ∙ length-zip2 difference_bit (take 16 a) (take 16 b) (length-take-le 16 a room ∙ sym (length-take-le 16 b other_room))
       ∙ length-take-le 16 a room
 
-  whole : marks_of 1 (take 16 marks) ≡ marks_of 1 marks
-  whole = ap (marks_of 1) (take_all 16 marks (omega (arith, long)))
+  whole : mask_of 1 (take 16 marks) ≡ mask_of 1 marks
+  whole = ap (mask_of 1) (take_all 16 marks (omega (arith, long)))
 
   alike : (n : ℕ) → n ≤ 16 → n ≡ first_position 1 marks → take n (lowered a) ≡ take n (lowered b)
   alike n few first =
@@ -103,11 +102,11 @@ module _ (a b marks : List ℕ) (found : ℕ) (room : 16 ≤ length a) (other_ro
       ] in
       let stop : get_or marks n 0 ≡ 1 =
       (let stops = prefix_len_stops (λ b. not (b == 1)) marks 0 near in grind (arith, nat_tests)) in
-      let mark : mark (get_or a n 0) (get_or b n 0) ≡ 1 =
+      let differ : difference_bit (get_or a n 0) (get_or b n 0) ≡ 1 =
       cc (
         stop,
         ap (λ m. get_or m n 0) is,
-        get_or-zip2 mark (take 16 a) (take 16 b) n 0 0 0 (omega (arith, near, long, length-take-le 16 a room))
+        get_or-zip2 difference_bit (take 16 a) (take 16 b) n 0 0 0 (omega (arith, near, long, length-take-le 16 a room))
             (omega (arith, near, long, length-take-le 16 b other_room)),
         get_or-take 16 a n 0 (omega (arith, near, long)),
         get_or-take 16 b n 0 (omega (arith, near, long)),
@@ -116,7 +115,7 @@ module _ (a b marks : List ℕ) (found : ℕ) (room : 16 ≤ length a) (other_ro
         within = omega (arith, near, long, room);
         within_other = omega (arith, near, long, other_room);
         alike = alike n (omega (arith, near, long)) refl;
-        differ = differ_at_mark (get_or a n 0) (get_or b n 0) mark;
+        differ = differ_at_mark (get_or a n 0) (get_or b n 0) differ;
       })
 
 -- after what is alike: more of it, or a difference

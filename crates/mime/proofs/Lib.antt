@@ -23,7 +23,7 @@ pub mod TextScan
 pub mod CharBorders
 pub mod Lowering
 pub mod Marks
-pub mod Blocks
+pub mod BlockByBlock
 pub mod Utf8
 pub mod PairCuts
 pub mod Ranges
@@ -37,6 +37,7 @@ pub mod Ordering
 pub mod SameItems
 pub mod Counts
 pub mod HashBuffer
+pub mod HashProofs
 pub mod Constants
 pub mod SmallLetters
 pub mod TextComparison

@@ -10,7 +10,8 @@ use Rattle.mime.specs.Bytes.{is_token_byte, semicolon_byte, equals_byte, quote_b
 use Rattle.mime.specs.Grammar.{Parameter, plain, quoted, Parameters, blank, final, more, text_of_list, text_of_parameter, is_space, AreSpaces, AreTokenBytes, IsToken, IsContent, AreParameters, IsParameter}
 use Rattle.mime.specs.Values.{lowered, lowered_value, lowered_parameter, lowered_list, pair_of, pairs_of_list}
 use Rattle.mime.specs.Quoted.{content_len, content_of, after_content}
-use Rattle.mime.specs.Pairs.{PairCut, before_byte, after_byte, cut_after_equals, leading_spaces, without_gap, cut_of, pairs_within, lowered_within}
+use Rattle.mime.specs.Blocks.{before_byte, after_byte}
+use Rattle.mime.specs.Pairs.{PairCut, cut_after_equals, leading_spaces, without_gap, cut_of, pairs_within, lowered_within}
 use Rattle.mime.proofs.ContentEnds.{content_len-content}
 use Rattle.mime.proofs.Classes.{semicolon_is_no_token, equals_is_no_token, quote_is_no_token, token_byte-not, token_byte-not_space, is_other, are_other-token, are_other-spaces, AreTokenBytes-from_token}
 use Rattle.mime.proofs.Lowering.{lowered-append}

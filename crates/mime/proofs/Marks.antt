@@ -10,8 +10,7 @@ use Rattle.std.proofs.Math.Nat.{div-div-eq-div-mul, div-one, zero-div, pow-suc, 
 use Rattle.std.specs.List.{prefix_len}
 use Rattle.std.specs.Simd.Lanes.{mask_l}
 use lib.Count.{count_trailing_zeros}
-use Rattle.mime.specs.Marks.{marks_of}
-use Rattle.mime.specs.Pairs.{IsEndOf, first_position}
+use Rattle.mime.specs.Blocks.{mask_of, IsEndOf, first_position}
 
 -- nothing is the end of any list
 pub end_nothing : (whole : List ℕ) → IsEndOf [] whole
@@ -49,7 +48,7 @@ split byte text n =
     ap (first_position byte) (sym (take-append-drop n text)) ∙ prefix_len-append (λ b. not (b == byte)) (take n text) (drop n text)
 
 -- where none of the first bytes is marked, the others decide
-pub position-unmarked : (byte : ℕ) (text : List ℕ) (n : ℕ) → n ≤ length text → marks_of byte (take n text) ≡ 0
+pub position-unmarked : (byte : ℕ) (text : List ℕ) (n : ℕ) → n ≤ length text → mask_of byte (take n text) ≡ 0
     → first_position byte text ≡ n + first_position byte (drop n text)
 position-unmarked byte text n room none =
     split byte text n
@@ -58,8 +57,8 @@ position-unmarked byte text n room none =
     ∙ ap (λ k. k + first_position byte (drop n text)) (length-take-le n text room)
 
 -- else the lowest mark is the first position
-pub position-marked : (byte : ℕ) (text : List ℕ) (n : ℕ) → n ≤ length text → n ≤ 64 → 0 < marks_of byte (take n text)
-    → first_position byte text ≡ count_trailing_zeros 64 (marks_of byte (take n text))
+pub position-marked : (byte : ℕ) (text : List ℕ) (n : ℕ) → n ≤ length text → n ≤ 64 → 0 < mask_of byte (take n text)
+    → first_position byte text ≡ count_trailing_zeros 64 (mask_of byte (take n text))
 position-marked byte text n room few some =
     let front = take n text in
     split byte text n
@@ -82,13 +81,13 @@ marks-drop (suc n) (b ∷ ms) =
 
 -- the marks of a whole's last bytes are those of a shorter end, when those before it are dropped
 marks-end : (byte : ℕ) (whole text : List ℕ) → IsEndOf text whole → 16 ≤ length whole → length text < 16
-    → marks_of byte (drop (length whole - 16) whole) / 2 ^ (16 - length text) ≡ marks_of byte text
+    → mask_of byte (drop (length whole - 16) whole) / 2 ^ (16 - length text) ≡ mask_of byte text
 marks-end byte whole text is long short =
     let back = drop (length whole - 16) whole in
     let at : length whole - 16 + (16 - length text) ≡ length whole - length text = omega (arith, long, short) in
     marks-drop (16 - length text) (map (λ b. b == byte) back)
     ∙ ap mask_l (drop-map (λ b. b == byte) (16 - length text) back)
-    ∙ ap (marks_of byte) (drop-drop (16 - length text) (length whole - 16) whole ∙ ap (λ n. drop n whole) at ∙ sym is)
+    ∙ ap (mask_of byte) (drop-drop (16 - length text) (length whole - 16) whole ∙ ap (λ n. drop n whole) at ∙ sym is)
 
 -- the whole's last bytes, as they are looked at
 last_bytes : (whole : List ℕ) → 16 ≤ length whole
@@ -99,12 +98,12 @@ last_bytes whole long =
 
 -- the marks of the last 16 bytes show the first position in a shorter end
 module _ (byte found : ℕ) (whole text : List ℕ) (is : IsEndOf text whole) (long : 16 ≤ length whole) (short : length text < 16)
-    (found_is : found ≡ marks_of byte (take 16 (take (length whole - (length whole - 16)) (drop (length whole - 16) whole)))) where
+    (found_is : found ≡ mask_of byte (take 16 (take (length whole - (length whole - 16)) (drop (length whole - 16) whole)))) where
   shown : cond (eqb (found / 2 ^ (16 - length text)) 0) (length text) (count_trailing_zeros 64 (found / 2 ^ (16 - length text)))
       ≡ first_position byte text
   shown =
       ap (λ m. cond (eqb m 0) (length text) (count_trailing_zeros 64 m))
-      (ap (λ n. n / 2 ^ (16 - length text)) (found_is ∙ ap (marks_of byte) (last_bytes whole long))
+      (ap (λ n. n / 2 ^ (16 - length text)) (found_is ∙ ap (mask_of byte) (last_bytes whole long))
       ∙ marks-end byte whole text is long short)
       ∙ first_set_mask_l (λ b. b == byte) text (length text) refl (omega (arith, short))
 
@@ -117,7 +116,7 @@ module _ (byte found : ℕ) (whole text : List ℕ) (is : IsEndOf text whole) (l
 
 -- the next bytes are passed, where none is marked
 module _ (byte : ℕ) (text left : List ℕ) (is : IsEndOf left text) (room : 16 ≤ length left)
-    (none : marks_of byte (take 16 left) ≡ 0)
+    (none : mask_of byte (take 16 left) ≡ 0)
     (so_far : length text - length left + first_position byte left ≡ first_position byte text) where
   abbrev next : List ℕ
   next = take (length left - 16) (drop 16 left)

@@ -6,9 +6,9 @@ use Rattle.std.proofs.lemmas.List.{take_at, drop_at, drop-drop, take-append-drop
 use Rattle.mime.specs.Bytes.{semicolon_byte, equals_byte, quote_byte}
 use Rattle.mime.specs.Values.{lowered, lowered_value}
 use Rattle.mime.specs.Quoted.{content_len, after_content}
-use Rattle.mime.specs.Pairs.{IsEndOf, PairCut, first_position, before_byte, after_byte, cut_after_equals, leading_spaces, without_gap, cut_of, lowered_first, lowered_within}
+use Rattle.mime.specs.Blocks.{first_position, before_byte, after_byte}
+use Rattle.mime.specs.Pairs.{PairCut, cut_after_equals, leading_spaces, without_gap, cut_of, lowered_first, lowered_within}
 use Rattle.mime.proofs.Lowering.{lowered_value-either}
-use Rattle.mime.proofs.Marks.{end_drop}
 use Rattle.mime.proofs.Utf8.{IsLoweredInPart, same, small, in_parts, length-in_part}
 
 -- the first list is the second without some of its first bytes
@@ -51,15 +51,6 @@ cut_value-lies list name (b ∷ bytes) end =
     (IsEnd-trans bytes (b ∷ bytes) list (1, refl) end)
     (IsEnd-trans _ (after_content bytes) _ (_, refl) (1, sym (drop-drop 1 (content_len bytes) bytes))))
     (λ _. lies_from_end list (b ∷ bytes) name _ _ end (1, sym (drop-drop 1 (first_position semicolon_byte (b ∷ bytes)) (b ∷ bytes))))
-
--- what is left after it is an end of what the list is an end of
-pub cut_after_equals-end : (size : ℕ) (name bytes whole : List ℕ) → IsEndOf bytes whole
-    → IsEndOf (cut_after_equals size name bytes).rest whole
-cut_after_equals-end size name [] whole is = is
-cut_after_equals-end size name (b ∷ bytes) whole is =
-    cond_both (b == quote_byte) _ _ (λ (cut : PairCut). IsEndOf cut.rest whole)
-    (λ _. end_drop _ (after_content bytes) whole (end_drop (content_len bytes + 1) bytes whole (end_drop 1 (b ∷ bytes) whole is)))
-    (λ _. end_drop _ (b ∷ bytes) whole is)
 
 -- the cut of any list lies in it
 pub cut_of-lies : (list : List ℕ) → LiesIn list (cut_of list)

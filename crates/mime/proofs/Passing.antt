@@ -1,15 +1,15 @@
 -- What a pass over a reader's bytes has given so far, one byte or one run more, and at its end.
 use Rattle.std.proofs.Common.{◌≡◌, ℕ, ◌+◌, ◌<◌, Bool, true, false, eqb, List, [], ◌∷◌, ◌++◌, length, Option, Some, None, refl, sym, ap, ◌∙◌, subst, arith, append_assoc, append-nil, length-append}
-use Rattle.std.specs.Prelude.{IsTrue, IsFalse, MatchOption}
+use Rattle.std.specs.Prelude.{IsTrue, IsFalse, not, MatchOption}
 use Rattle.std.specs.List.{list_all}
 use Rattle.std.specs.Option.{option_eq, option_to_list}
-use Rattle.std.proofs.lemmas.Bool.{and_from, eqb-true, true≢false}
+use Rattle.std.proofs.lemmas.Bool.{and_from, and_parts, eqb-true, true≢false}
 use Rattle.std.proofs.lemmas.List.Folds.{list_all-append}
-use Rattle.mime.specs.Bytes.{is_quoted_byte, is_quoted_text_byte, plus_byte, backslash_byte}
+use Rattle.mime.specs.Bytes.{is_token_byte, is_quoted_byte, is_quoted_text_byte, plus_byte, backslash_byte}
 use Rattle.mime.specs.Quoted.{awaits_first, awaits_next, takes, takes_all, awaits_after, IsOpenContent, continues}
 use Rattle.mime.specs.Values.{last_plus}
-use Rattle.mime.specs.Remaining.{Remaining}
-use Rattle.mime.specs.Scanning.{Given, GivesFirst, Passes, PassesContent}
+use Rattle.mime.specs.Remaining.{Remaining, is_token_except_plus}
+use Rattle.mime.specs.Scanning.{Given, GivesFirst, Passes, PassesContent, PassesSubtype}
 use Rattle.mime.proofs.Quoted.{takes_all-backslash, takes_all-text, awaits_after-text, awaits_after-append, takes_all-append, not_taken}
 
 -- a run, and what was given from where it ended
@@ -45,6 +45,11 @@ given_sum g = omega (arith, g.counted, simp length-append at (ap length g.bytes)
 -- what was given is no longer left
 pub given_less : {old new : Remaining} {xs : List ℕ} {b : ℕ} → Given old new xs (Some b) → length new.left < length old.left
 given_less g = omega (arith, g.counted, given_sum g)
+
+-- where the test holds, this byte stopped the pass
+pub stopped_by : (byte : ℕ) (stop : Option ℕ) → option_eq eqb stop (Some byte) ≡ true → stop ≡ Some byte
+stopped_by byte None test = absurd (true≢false (sym test))
+stopped_by byte (Some b) test = ap Some (eqb-true b byte test)
 
 -- a run of a class was given so far
 pub record Passing (class : ℕ → Bool) (old now : Remaining) : Type 0 where
@@ -92,16 +97,11 @@ taking_run {run} p g taken = record {
   given = given_then p.given g;
 }
 
--- where the test holds, a backslash stopped the pass
-is_backslash : (stop : Option ℕ) → option_eq eqb stop (Some backslash_byte) ≡ true → stop ≡ Some backslash_byte
-is_backslash None test = absurd (true≢false (sym test))
-is_backslash (Some b) test = ap Some (eqb-true b backslash_byte test)
-
 -- quoted text, and a backslash, which awaits a byte
 pub taking_backslash : {old mid new : Remaining} {stop : Option ℕ} → Taking false old mid
     → Passes is_quoted_text_byte mid new stop → option_eq eqb stop (Some backslash_byte) ≡ true → Taking true old new
 taking_backslash {old} {mid} {new} {stop} p passes test =
-    let given = given_whole (subst (λ s. Given mid new passes.run s) (is_backslash stop test) passes.given) in
+    let given = given_whole (subst (λ s. Given mid new passes.run s) (stopped_by backslash_byte stop test) passes.given) in
     let text = awaits_after-text passes.run passes.of_class in
     subst (λ awaiting. Taking awaiting old new)
     (awaits_after-append false passes.run (backslash_byte ∷ []) ∙ ap (λ (a : Bool). awaits_next a backslash_byte) text)
@@ -154,3 +154,74 @@ last_plus-plus at (x ∷ xs) b place p e = rw (last_plus-plus (at + 1) xs b plac
 pub last_plus-other : (at : ℕ) (xs : List ℕ) (b : ℕ) → eqb b plus_byte ≡ false → last_plus at (xs ++ b ∷ []) ≡ last_plus at xs
 last_plus-other at [] b f = rw f
 last_plus-other at (x ∷ xs) b f = rw (last_plus-other (at + 1) xs b f)
+
+-- ---- a subtype, plus by plus
+
+-- bytes without a plus are token bytes, and keep the last plus
+pub token_run : (xs : List ℕ) → IsTrue (list_all is_token_except_plus xs) → IsTrue (list_all is_token_byte xs)
+token_run [] all = refl
+token_run (x ∷ xs) all =
+    let parts = and_parts (is_token_except_plus x) (list_all is_token_except_plus xs) all in
+    and_from _ _ (and_parts (is_token_byte x) _ parts.0).0 (token_run xs parts.1)
+
+no_plus : (at : ℕ) (xs : List ℕ) → IsTrue (list_all is_token_except_plus xs) → last_plus at xs ≡ None
+no_plus at [] all = refl
+no_plus at (x ∷ xs) all =
+    let parts = and_parts (is_token_except_plus x) (list_all is_token_except_plus xs) all in
+    let other : eqb x plus_byte ≡ false = not_plus (eqb x plus_byte) (and_parts (is_token_byte x) _ parts.0).1 in
+    rw (no_plus (at + 1) xs parts.1, other) refl
+  where
+    not_plus : (is : Bool) → not is ≡ true → is ≡ false
+    not_plus true fails = absurd (true≢false (sym fails))
+    not_plus false holds = refl
+
+last_plus-run : (at : ℕ) (xs ys : List ℕ) → IsTrue (list_all is_token_except_plus ys) → last_plus at (xs ++ ys) ≡ last_plus at xs
+last_plus-run at [] ys all = no_plus at ys all
+last_plus-run at (x ∷ xs) ys all = rw (last_plus-run (at + 1) xs ys all) refl
+
+-- token bytes were given so far, and then others up to a plus
+pub is_token_plus : is_token_byte plus_byte ≡ true
+unfolding is_token_byte
+is_token_plus = refl
+
+abbrev pub passing_plus : {old mid new : Remaining} {stop : Option ℕ} → Passing is_token_byte old mid
+    → Passes is_token_except_plus mid new stop → option_eq eqb stop (Some plus_byte) ≡ true → Passing is_token_byte old new
+passing_plus {old} {mid} {new} {stop} p passes test = record {
+  run = p.run ++ (passes.run ++ (plus_byte ∷ []));
+  of_class =
+      list_all-append is_token_byte p.run (passes.run ++ (plus_byte ∷ []))
+      ∙ and_from _ _ p.of_class (list_all-append is_token_byte passes.run (plus_byte ∷ [])
+      ∙ and_from _ _ (token_run passes.run passes.of_class) (and_from (is_token_byte plus_byte) true is_token_plus refl));
+  given =
+      given_then p.given (given_whole (subst (λ s. Given mid new passes.run s) (stopped_by plus_byte stop test) passes.given));
+}
+
+-- the plus is the last one
+pub last_plus-stop : (at : ℕ) (xs ys : List ℕ) (place : ℕ) → at + (length xs + length ys) ≡ place
+    → last_plus at (xs ++ (ys ++ (plus_byte ∷ []))) ≡ Some place
+last_plus-stop at xs ys place is =
+    ap (last_plus at) (sym (append_assoc xs ys (plus_byte ∷ [])))
+    ∙ last_plus-plus at (xs ++ ys) plus_byte place refl (omega (arith, is, length-append xs ys))
+
+-- token bytes were given so far, and then others up to the end, or to a byte that is no plus
+pub subtype_at : {old mid new : Remaining} (stop plus : Option ℕ) (at : ℕ) → (p : Passing is_token_byte old mid) → last_plus at p.run ≡ plus
+    → Passes is_token_except_plus mid new stop → option_eq eqb stop (Some plus_byte) ≡ false → PassesSubtype at old new (plus, stop)
+subtype_at {new = new} stop plus at p is passes other = record {
+  passes = record {
+    run = p.run ++ passes.run;
+    of_class = list_all-append is_token_byte p.run passes.run ∙ and_from _ _ p.of_class (token_run passes.run passes.of_class);
+    given = given_then p.given passes.given;
+    stopped = ends stop passes.stopped other;
+  };
+  plus = sym (last_plus-run at p.run passes.run passes.of_class ∙ is);
+}
+  where
+    no_token : (b : ℕ) (token : Bool) → is_token_byte b ≡ token → is_token_except_plus b ≡ false → eqb b plus_byte ≡ false
+        → is_token_byte b ≡ false
+    no_token b true is fails other = absurd (true≢false (sym (and_from _ _ is (ap not other)) ∙ fails))
+    no_token b false is fails other = is
+
+    ends : (stop : Option ℕ) → MatchOption stop (new.left ≡ []) (λ b. IsFalse (is_token_except_plus b))
+        → option_eq eqb stop (Some plus_byte) ≡ false → MatchOption stop (new.left ≡ []) (λ b. IsFalse (is_token_byte b))
+    ends None stopped other = stopped
+    ends (Some b) stopped other = no_token b (is_token_byte b) refl stopped other

@@ -23,6 +23,7 @@ pair_parts pair = pair.0 ∷ (255 ∷ []) ∷ pair.1 ∷ pair_end (pair_count pa
 abbrev pub pair_input : List ℕ × List ℕ → fed.HashWrites
 pair_input pair = if nat_lt (pair_count pair) 64 then pair_run pair ∷ [] else pair_parts pair
 
--- what a value feeds: its pairs, and then its essence, which has no byte 255 and no zero
+-- what a value feeds: its pairs, and then its essence as a `str`, so with the byte 255 after it. No name is an essence, which has
+-- a slash, so where the pairs end is told by the bytes
 abbrev pub media_input : MediaType → fed.HashWrites
-media_input media = flat_map pair_input media.pairs ++ media.essence ∷ []
+media_input media = flat_map pair_input media.pairs ++ fed.str media.essence

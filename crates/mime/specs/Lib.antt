@@ -16,11 +16,12 @@ pub mod Cut
 pub mod Runs
 pub mod CutLaws
 pub mod RunLaws
+pub mod HashLaws
 -- private
 pub mod Remaining
 pub mod Quoted
 pub mod Scanning
-pub mod Marks
+pub mod Blocks
 pub mod Pairs
 pub mod KeptText
 pub mod TextParts

@@ -1,8 +1,9 @@
 -- Private. The laws of order, equality and hash as terms: a type's `ghost laws` are among its contracts, and can't cite proofs/.
-use Rattle.std.specs.Prelude.{◌≡◌, true, ◌++◌, ◌∷◌, []}
+use Rattle.std.specs.Prelude.{◌≡◌, true, ◌++◌}
 use Rattle.std.specs.Cmp.{IsTotalOrder, on_total, then_total, Equal-is}
 use Rattle.std.specs.Cmp.Lexicographic.{slice_cmp, lists_total, nat_list_cmp_total}
 use Rattle.std.specs.FinMap.{slice_cmp-IsAntisymmetric}
+use Rattle.std.specs.Hash as fed
 use Rattle.std.specs.List.{flat_map}
 use Rattle.std.specs.Ordering.{nat_cmp, eq_by_cmp}
 use Rattle.std.proofs.Common.{ap}
@@ -30,4 +31,4 @@ same_from_cmp x y equal =
 
 -- equal values feed a hasher the same
 pub media_input-same : (x y : MediaType) → Same x y → media_input x ≡ media_input y
-media_input-same x y same i = flat_map pair_input (same.1 i) ++ same.0 i ∷ []
+media_input-same x y same i = flat_map pair_input (same.1 i) ++ fed.str (same.0 i)

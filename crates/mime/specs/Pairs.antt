@@ -1,26 +1,12 @@
 -- Private. The pairs of a parameter list's text, cut one by one from the left.
-use Rattle.std.specs.Prelude.{◌≡◌, ℕ, zero, suc, ◌+◌, ◌-◌, List, [], ◌∷◌, ◌++◌, length, take, drop, Option, None, Some, if◌then◌else◌, ◌==◌}
+use Rattle.std.specs.Prelude.{ℕ, zero, suc, ◌+◌, ◌-◌, List, [], ◌∷◌, ◌++◌, length, take, drop, Option, None, Some, if◌then◌else◌, ◌==◌}
 use Rattle.std.specs.Borrow.{Bor}
-use Rattle.std.specs.List.{prefix_len, position_or_len}
+use Rattle.std.specs.List.{prefix_len}
+use Rattle.mime.specs.Blocks.{before_byte, after_byte}
 use Rattle.mime.specs.Bytes.{semicolon_byte, equals_byte, quote_byte}
 use Rattle.mime.specs.Grammar.{is_space}
 use Rattle.mime.specs.Quoted.{content_of, after_content}
 use Rattle.mime.specs.Values.{lowered, lowered_value}
-
--- the first position of a byte, or the text's end
-abbrev pub first_position : ℕ → List ℕ → ℕ
-first_position byte text = position_or_len (λ b. b == byte) text
-
--- the text before that position, and the text after it
-abbrev pub before_byte : ℕ → List ℕ → List ℕ
-before_byte byte text = take (first_position byte text) text
-
-abbrev pub after_byte : ℕ → List ℕ → List ℕ
-after_byte byte text = drop (first_position byte text + 1) text
-
--- the first list is the second without some of its first bytes
-abbrev pub IsEndOf : List ℕ → List ℕ → Type 0
-IsEndOf end whole = end ≡ drop (length whole - length end) whole
 
 -- the first pair of a list: its name, the number of bytes before its value, its value without
 -- quotes, and the list after its semicolon

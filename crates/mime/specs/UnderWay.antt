@@ -1,15 +1,11 @@
 -- Private. How a text is passed piece by piece, and what a `MimeIter` keeps.
-use Rattle.std.specs.Prelude.{◌≡◌, ◌≢◌, ℕ, ◌+◌, ◌≤◌, ◌<◌, Bool, false, List, [], ◌++◌, length, Option, Some, None}
+use Rattle.std.specs.Prelude.{◌≡◌, ◌≢◌, ℕ, ◌+◌, ◌≤◌, ◌<◌, Bool, false, List, [], length, Option, Some, None}
 use Rattle.std.specs.Borrow.{Bor}
 use Rattle.mime.specs.Values.{MediaType, Reads}
 use Rattle.mime.specs.Scanning.{HasPlaces}
-use Rattle.mime.specs.Cut.{CutItem, good, bad, Cut, IsCharacter, TakesSteps}
+use Rattle.mime.specs.Cut.{CutItem, good, bad, Cut, TakesSteps}
 use Rattle.mime.specs.Runs.{Iteration, IsFirstItem, HasNoItem}
 use Rattle.mime.specs.declared.scan.Places.{Places}
-
--- what comes after the first character of a text
-abbrev pub IsAfterCharacter : List ℕ → List ℕ → Type 0
-IsAfterCharacter text left = (character : List ℕ) × (text ≡ character ++ left) × IsCharacter character left
 
 -- what was read of a text before what is left, and the steps that this took
 pub record IsUnderWay (text left : List ℕ) (starved : Bool) (steps : ℕ) : Type 0 where

@@ -1,12 +1,14 @@
 //! The constant media types.
 
-ghost use Rattle.std.specs.Prelude.{◌≡◌, true};
+ghost use Rattle.std.specs.Fmt.{styled_text};
+ghost use Rattle.std.specs.Prelude.{◌≡◌, true, Some};
 ghost use Rattle.mime.specs.Values.{Reads};
 ghost use Rattle.mime.specs.Atoms.{atom_text};
 ghost use Rattle.mime.specs.AtomPlaces.{places_in};
 
 use crate::scan::Places;
 use crate::value::Mime;
+use std::fmt;
 
 /// A constant media type (RFC 7231, 3.1.1.1): [`Atom::mime`] gives its value, [`Atom::text`] its text. It can be
 /// matched and copied, and takes no memory: `TEXT_PLAIN.mime()` is the media type `text/plain`.
@@ -29,7 +31,7 @@ use crate::value::Mime;
 ///
 /// IANA's registry of media types (RFC 6838) says what most of them mean. Those with a `*` are media ranges
 /// (RFC 7231, 5.3.2).
-#[derive(Clone, Copy, PartialEq, Eq, Debug)]
+#[derive(Clone, Copy, PartialEq, Eq, PartialOrd, Ord, Hash, Debug)]
 #[allow(non_camel_case_types)]
 pub enum Atom {
     /// `*/*`
@@ -178,5 +180,16 @@ impl Atom {
     {
         let (text, places) = self.constant();
         Mime::fixed(text, places)
+    }
+}
+
+/// Prints the constant's text, padded to a width where one is given: `TEXT_PLAIN` prints `text/plain`.
+impl fmt::Display for Atom {
+    ghost output = { λ atom. Some (atom_text atom) };
+
+    ghost styled_output = { λ atom spec. Some (styled_text spec (atom_text atom)) };
+
+    fn fmt<W: fmt::Write>(&self, f: &mut fmt::Formatter<W>) -> fmt::Result {
+        fmt::Display::fmt(self.text(), f)
     }
 }

@@ -2,47 +2,35 @@
 
 ghost use Rattle.std.specs.Prelude.{◌≡◌};
 ghost use Rattle.mime.specs.Bytes.{is_token_byte};
+ghost use Rattle.mime.specs.Remaining.{is_token_except_plus as is_token_except};
 ghost use Rattle.mime.specs.Grammar.{is_space as is_space_byte};
 ghost use Rattle.mime.specs.Bytes.{is_quoted_byte as is_quoted, is_quoted_text_byte as is_quoted_text};
 
-const T: bool = true;
+/// A byte that may stand nowhere.
+const N: u8 = 0;
 
-const F: bool = false;
+/// One that may stand in a quoted value after a backslash alone: a quote and a backslash.
+const B: u8 = 1;
 
-/// Whether each byte may occur in a token.
-static TOKEN: [bool; 256] = [
-    F, F, F, F, F, F, F, F, F, F, F, F, F, F, F, F, F, F, F, F, F, F, F, F, F, F, F, F, F, F, F, F,
-    F, T, F, T, T, T, T, T, F, F, T, T, F, T, T, F, T, T, T, T, T, T, T, T, T, T, F, F, F, F, F, F,
-    F, T, T, T, T, T, T, T, T, T, T, T, T, T, T, T, T, T, T, T, T, T, T, T, T, T, T, F, F, F, T, T,
-    T, T, T, T, T, T, T, T, T, T, T, T, T, T, T, T, T, T, T, T, T, T, T, T, T, T, T, F, T, F, T, F,
-    F, F, F, F, F, F, F, F, F, F, F, F, F, F, F, F, F, F, F, F, F, F, F, F, F, F, F, F, F, F, F, F,
-    F, F, F, F, F, F, F, F, F, F, F, F, F, F, F, F, F, F, F, F, F, F, F, F, F, F, F, F, F, F, F, F,
-    F, F, F, F, F, F, F, F, F, F, F, F, F, F, F, F, F, F, F, F, F, F, F, F, F, F, F, F, F, F, F, F,
-    F, F, F, F, F, F, F, F, F, F, F, F, F, F, F, F, F, F, F, F, F, F, F, F, F, F, F, F, F, F, F, F,
-];
+/// One that may stand in a quoted value, and in no token.
+const Q: u8 = 2;
 
-/// Whether each byte may follow a backslash in a quoted value.
-static QUOTED: [bool; 256] = [
-    F, F, F, F, F, F, F, F, F, T, F, F, F, F, F, F, F, F, F, F, F, F, F, F, F, F, F, F, F, F, F, F,
-    T, T, T, T, T, T, T, T, T, T, T, T, T, T, T, T, T, T, T, T, T, T, T, T, T, T, T, T, T, T, T, T,
-    T, T, T, T, T, T, T, T, T, T, T, T, T, T, T, T, T, T, T, T, T, T, T, T, T, T, T, T, T, T, T, T,
-    T, T, T, T, T, T, T, T, T, T, T, T, T, T, T, T, T, T, T, T, T, T, T, T, T, T, T, T, T, T, T, F,
-    T, T, T, T, T, T, T, T, T, T, T, T, T, T, T, T, T, T, T, T, T, T, T, T, T, T, T, T, T, T, T, T,
-    T, T, T, T, T, T, T, T, T, T, T, T, T, T, T, T, T, T, T, T, T, T, T, T, T, T, T, T, T, T, T, T,
-    T, T, T, T, T, T, T, T, T, T, T, T, T, T, T, T, T, T, T, T, T, T, T, T, T, T, T, T, T, T, T, T,
-    T, T, T, T, T, T, T, T, T, T, T, T, T, T, T, T, T, T, T, T, T, T, T, T, T, T, T, T, T, T, T, T,
-];
+/// The plus, which may begin a suffix.
+const P: u8 = 3;
 
-/// Whether each byte may occur in a quoted value without a backslash before it.
-static QUOTED_TEXT: [bool; 256] = [
-    F, F, F, F, F, F, F, F, F, T, F, F, F, F, F, F, F, F, F, F, F, F, F, F, F, F, F, F, F, F, F, F,
-    T, T, F, T, T, T, T, T, T, T, T, T, T, T, T, T, T, T, T, T, T, T, T, T, T, T, T, T, T, T, T, T,
-    T, T, T, T, T, T, T, T, T, T, T, T, T, T, T, T, T, T, T, T, T, T, T, T, T, T, T, T, F, T, T, T,
-    T, T, T, T, T, T, T, T, T, T, T, T, T, T, T, T, T, T, T, T, T, T, T, T, T, T, T, T, T, T, T, F,
-    T, T, T, T, T, T, T, T, T, T, T, T, T, T, T, T, T, T, T, T, T, T, T, T, T, T, T, T, T, T, T, T,
-    T, T, T, T, T, T, T, T, T, T, T, T, T, T, T, T, T, T, T, T, T, T, T, T, T, T, T, T, T, T, T, T,
-    T, T, T, T, T, T, T, T, T, T, T, T, T, T, T, T, T, T, T, T, T, T, T, T, T, T, T, T, T, T, T, T,
-    T, T, T, T, T, T, T, T, T, T, T, T, T, T, T, T, T, T, T, T, T, T, T, T, T, T, T, T, T, T, T, T,
+/// Any other byte that may stand in a token.
+const T: u8 = 4;
+
+/// Where each byte may stand: each kind also where the kind before it may.
+static KINDS: [u8; 256] = [
+    N, N, N, N, N, N, N, N, N, Q, N, N, N, N, N, N, N, N, N, N, N, N, N, N, N, N, N, N, N, N, N, N,
+    Q, T, B, T, T, T, T, T, Q, Q, T, P, Q, T, T, Q, T, T, T, T, T, T, T, T, T, T, Q, Q, Q, Q, Q, Q,
+    Q, T, T, T, T, T, T, T, T, T, T, T, T, T, T, T, T, T, T, T, T, T, T, T, T, T, T, Q, B, Q, T, T,
+    T, T, T, T, T, T, T, T, T, T, T, T, T, T, T, T, T, T, T, T, T, T, T, T, T, T, T, Q, T, Q, T, N,
+    Q, Q, Q, Q, Q, Q, Q, Q, Q, Q, Q, Q, Q, Q, Q, Q, Q, Q, Q, Q, Q, Q, Q, Q, Q, Q, Q, Q, Q, Q, Q, Q,
+    Q, Q, Q, Q, Q, Q, Q, Q, Q, Q, Q, Q, Q, Q, Q, Q, Q, Q, Q, Q, Q, Q, Q, Q, Q, Q, Q, Q, Q, Q, Q, Q,
+    Q, Q, Q, Q, Q, Q, Q, Q, Q, Q, Q, Q, Q, Q, Q, Q, Q, Q, Q, Q, Q, Q, Q, Q, Q, Q, Q, Q, Q, Q, Q, Q,
+    Q, Q, Q, Q, Q, Q, Q, Q, Q, Q, Q, Q, Q, Q, Q, Q, Q, Q, Q, Q, Q, Q, Q, Q, Q, Q, Q, Q, Q, Q, Q, Q,
 ];
 
 /// Whether a byte may occur in a token: a type, a subtype, a parameter's name, an unquoted value
@@ -51,7 +39,15 @@ static QUOTED_TEXT: [bool; 256] = [
 pub fn is_token(b: u8) -> bool
     ensures { result ≡ is_token_byte b }
 {
-    TOKEN[b as usize]
+    KINDS[b as usize] >= P
+}
+
+/// Whether a byte other than the plus may occur in a token.
+#[inline(always)]
+pub(crate) fn is_token_except_plus(b: u8) -> bool
+    ensures { result ≡ is_token_except b }
+{
+    KINDS[b as usize] == T
 }
 
 /// Whether a byte is a space or a tab, which may precede a parameter and follow a quoted value.
@@ -68,7 +64,7 @@ pub(crate) fn is_space(b: u8) -> bool
 pub fn is_quoted_byte(b: u8) -> bool
     ensures { result ≡ is_quoted b }
 {
-    QUOTED[b as usize]
+    KINDS[b as usize] >= B
 }
 
 /// Whether a byte may occur in a quoted value without a backslash before it (qdtext of RFC 7230, 3.2.6): any byte
@@ -77,5 +73,5 @@ pub fn is_quoted_byte(b: u8) -> bool
 pub fn is_quoted_text_byte(b: u8) -> bool
     ensures { result ≡ is_quoted_text b }
 {
-    QUOTED_TEXT[b as usize]
+    KINDS[b as usize] >= Q
 }

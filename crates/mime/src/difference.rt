@@ -1,22 +1,22 @@
-//! Where two texts first differ but for case.
+//! Where two texts first differ, ignoring ASCII case.
 
 ghost use Rattle.std.specs.Prelude.{◌≡◌, ◌≤◌, IsTrue, IfSome, None, length, take};
 ghost use Rattle.std.specs.Simd.Lanes.{zip2};
 ghost use Rattle.mime.specs.Difference.{is_telling as tells, FirstDifference, DifferTellingly};
-ghost use Rattle.mime.specs.Marks.{mark};
+ghost use Rattle.mime.specs.Blocks.{difference_bit};
 ghost use Rattle.mime.specs.Values.{lowered};
 ghost use Rattle.mime.specs.declared.difference.Seen.TheVariants.{Alike, Apart};
 
+use crate::blocks::{BLOCK, mask};
 use crate::bytes::is_space;
-use crate::value::pairs::{BLOCK, marks};
 
 /// The bit that tells a small ASCII letter from its capital.
 const CASE_BIT: u8 = 0x20;
 
-/// A mark where two bytes differ but for case: 1, or else 0.
+/// 1 if two bytes differ ignoring ASCII case, else 0.
 #[inline(always)]
 pub(crate) fn difference(x: u8, y: u8) -> u8
-    ensures { result ≡ mark x y }
+    ensures { result ≡ difference_bit x y }
 {
     let case = if (x | CASE_BIT).is_ascii_lowercase() {
         CASE_BIT
@@ -26,14 +26,14 @@ pub(crate) fn difference(x: u8, y: u8) -> u8
     u8::from((x ^ y) & !case != 0)
 }
 
-/// A mark for each of the first 16 bytes that differ but for case.
+/// For each byte of the first blocks, 1 if the two differ ignoring ASCII case, else 0.
 #[inline(always)]
-fn differences(a: &[u8], b: &[u8]) -> [u8; 16]
-    requires room { 16 ≤ length a.now }
-    requires other_room { 16 ≤ length b.now }
-    ensures { result ≡ zip2 mark (take 16 a.now) (take 16 b.now) }
+fn differences(a: &[u8], b: &[u8]) -> [u8; BLOCK]
+    requires room { BLOCK ≤ length a.now }
+    requires other_room { BLOCK ≤ length b.now }
+    ensures { result ≡ zip2 difference_bit (take BLOCK a.now) (take BLOCK b.now) }
 {
-    let mut found = [0; 16];
+    let mut found = [0; BLOCK];
     let mut at = 0;
     while at < BLOCK {
         found[at] = difference(a[at], b[at]);
@@ -42,15 +42,15 @@ fn differences(a: &[u8], b: &[u8]) -> [u8; 16]
     found
 }
 
-/// Where the first 16 bytes first differ but for case, if they do.
+/// Where the first blocks first differ ignoring ASCII case, if they do.
 #[inline(always)]
 fn difference_in_block(a: &[u8], b: &[u8]) -> Option<usize>
-    requires room { 16 ≤ length a.now }
-    requires other_room { 16 ≤ length b.now }
+    requires room { BLOCK ≤ length a.now }
+    requires other_room { BLOCK ≤ length b.now }
     ensures some { IfSome result (FirstDifference a.now b.now) }
-    ensures none { result ≡ None → take 16 (lowered a.now) ≡ take 16 (lowered b.now) }
+    ensures none { result ≡ None → take BLOCK (lowered a.now) ≡ take BLOCK (lowered b.now) }
 {
-    let found = marks(&differences(a, b), 1);
+    let found = mask(&differences(a, b), 1);
     if found == 0 {
         None
     } else {
@@ -58,17 +58,16 @@ fn difference_in_block(a: &[u8], b: &[u8]) -> Option<usize>
     }
 }
 
-/// Where two texts of at least 16 bytes first differ but for case, if they do before one of them ends. The last block
-/// may overlap the one before.
+/// Where two texts of at least a block first differ ignoring ASCII case, if they do before one of them ends. The last
+/// block may overlap the one before.
 #[inline(always)]
 pub(crate) fn first_difference(a: &[u8], b: &[u8]) -> Option<usize>
-    requires room { 16 ≤ length a.now }
-    requires other_room { 16 ≤ length b.now }
+    requires room { BLOCK ≤ length a.now }
+    requires other_room { BLOCK ≤ length b.now }
     ensures some { IfSome result (FirstDifference a.now b.now) }
     ensures none { result ≡ None → length a.now ≡ length b.now → lowered a.now ≡ lowered b.now }
 {
-    let end = if a.len() < b.len() { a.len() } else { b.len() };
-    let last = end - BLOCK;
+    let last = a.len().min(b.len()) - BLOCK;
     let mut from = 0;
     while from < last {
         match difference_in_block(&a[from..], &b[from..]) {

@@ -3,9 +3,8 @@
 ghost use Rattle.std.specs.Prelude.{◌≡◌, ◌+◌, ◌-◌, ◌<◌, ◌≤◌, ◌^◌, false, length, IfSome, None, ⊤};
 ghost use Rattle.std.specs.Iterator.{UpTo, at_most};
 ghost use Rattle.std.specs.Iterator.SizeHint.{IsWithinCount};
-ghost use Rattle.mime.specs.Cut.{is_following_byte};
 ghost use Rattle.mime.specs.Runs.{IsNext};
-ghost use Rattle.mime.specs.UnderWay.{IsAfterCharacter, PassesPiece, IsFound};
+ghost use Rattle.mime.specs.UnderWay.{PassesPiece, IsFound};
 
 use crate::scan::{ByteReader, Places, Verdict, scan};
 use crate::value::Mime;
@@ -33,28 +32,6 @@ struct Passed<'a> {
     left: &'a str,
     /// How many bytes were read so far.
     steps: u128,
-}
-
-/// Whether a byte begins no character.
-#[inline(always)]
-fn is_continuation_byte(byte: u8) -> bool
-    ensures { result ≡ is_following_byte byte }
-{
-    (128..192).contains(&byte)
-}
-
-/// What comes after the first character of a text.
-#[inline]
-fn after_character(text: &str) -> &str
-    requires { 0 < length text.now }
-    ensures { IsAfterCharacter text.now result.now }
-{
-    let bytes = text.as_bytes();
-    let mut end = 1;
-    while end < bytes.len() && is_continuation_byte(bytes[end]) {
-        end += 1;
-    }
-    &text[end..]
 }
 
 /// Passes the first piece of a text, and the character after it, by a reader that counts on from `from`.
@@ -85,7 +62,7 @@ fn pass<'a>(text: &'a str, from: u128) -> Passed<'a>
             Passed {
                 piece,
                 places,
-                left: after_character(rest),
+                left: &rest[rest.ceil_char_boundary(1)..],
                 steps,
             }
         }
@@ -155,10 +132,10 @@ impl<'a> MimeIter<'a> {
         self.steps
     }
 
-    /// Passes pieces up to the first that is an item: that piece, with the positions of its parts if it is a
-    /// media type.
+    /// Passes pieces up to the first that is an item, and yields it, with the positions of its parts if it is a media
+    /// type.
     #[inline(always)]
-    fn find(&mut self) -> Option<(&'a str, Option<Places>)>
+    fn next_piece(&mut self) -> Option<(&'a str, Option<Places>)>
         ensures { IsFound self.old result self.new }
     {
         while !self.left.is_empty() {
@@ -199,7 +176,7 @@ impl<'a> Iterator for MimeIter<'a> {
     ghost remaining = { λ i. at_most (length i.left) };
 
     fn next(&mut self) -> Option<Result<Mime, Bad<'a>>> {
-        let Some((piece, places)) = self.find() else {
+        let Some((piece, places)) = self.next_piece() else {
             return None;
         };
         let Some(places) = places else {

@@ -11,17 +11,13 @@ ghost use Rattle.mime.specs.Views.{name_text};
 ghost use Rattle.mime.specs.Laws.{OneTree, OneReading, EmptyIsViable, FrontOfViableIsViable, AcceptedIsViable, OneCompletion, CompletedIsRefused, NoCompletion, OneFault, OneFront, FrontEndsBetweenCharacters, FrontIsInUtf8, PlusIsLast, KeptIsRead, EssenceIsRead, OneOrder, BeforeIsTransitive, BareTextIs, KeptTextIs, OneAnswer, HasAnswer, IsDecided, FirstDifferenceTells, AcceptedOrRefused, EssenceIsParts, SameEssence};
 ghost use Rattle.mime.specs.HeaderLaws.{KeptIsSafe, ParameterIsRead};
 ghost use Rattle.mime.specs.Comparison.{Same, Before};
+ghost use Rattle.mime.specs.HashLaws.{IsPrefixFree};
 ghost use Rattle.mime.specs.CutLaws.{OneCut, CutHasItems, CutWritesText, OneCount, CommaContains, JoinedComesBack, HttpListIsCut, PassesOneCharacter};
 ghost use Rattle.mime.specs.RunLaws.{RunGivesCut, PrintedListComesBack, CommaContainsOnRuns};
 
 use crate::atoms::Atom;
 use crate::iter::Bad;
-use crate::name::constants::{
-    APPLICATION, AUDIO, BASIC, BMP, BOUNDARY, CHARSET, CSS, CSV, EVENT_STREAM, FONT, FORM_DATA,
-    GIF, HTML, IMAGE, JAVASCRIPT, JPEG, JSON, MESSAGE, MODEL, MP4, MPEG, MSGPACK, MULTIPART,
-    OCTET_STREAM, OGG, PDF, PLAIN, PNG, STAR, SVG, TEXT, UTF_8, VCARD, VIDEO, WOFF, WOFF2,
-    WWW_FORM_URLENCODED, XML,
-};
+use crate::name::constants::NAMES;
 use crate::name::{Name, ParamKey, TextKey};
 use crate::scan::ParseError;
 use crate::value::Mime;
@@ -190,6 +186,12 @@ pub fn equal_values_hash_alike()
     ensures { (first second : OwnedMedia) → Same first.media second.media → ⟦<Mime as Hash>⟧.hash_input first ≡ ⟦<Mime as Hash>⟧.hash_input second }
 {}
 
+/// What values feed a hasher is prefix-free: of two unequal values neither feeds bytes with which the other's begin, so a
+/// pair of a value and a text feeds what no other pair does. `a/bx` with `c` and `a/b` with `xc` feed different bytes.
+pub fn hash_is_prefix_free()
+    ensures { IsPrefixFree ⟦<Mime as Hash>⟧.hash_input }
+{}
+
 /// Texts that first differ, but for case, where neither byte is a space, a tab or a quote, are not read as equal values:
 /// `a/b;p=x` and `A/B;P=y`. Where one has a quote, they may be: `a/b;p=x` and `a/b;p="x"`.
 pub fn first_difference_tells()
@@ -260,48 +262,6 @@ pub fn comma_contains_on_runs()
 pub fn printed_list_comes_back()
     ensures { PrintedListComesBack }
 {}
-
-/// The constant names, as a table: an array in the body of `name_constants` would be a statement a row for its proof.
-static NAMES: [Name<'static>; 38] = [
-    STAR,
-    TEXT,
-    IMAGE,
-    AUDIO,
-    VIDEO,
-    APPLICATION,
-    MULTIPART,
-    MESSAGE,
-    MODEL,
-    FONT,
-    PLAIN,
-    HTML,
-    XML,
-    JAVASCRIPT,
-    CSS,
-    CSV,
-    EVENT_STREAM,
-    VCARD,
-    JSON,
-    WWW_FORM_URLENCODED,
-    MSGPACK,
-    OCTET_STREAM,
-    PDF,
-    WOFF,
-    WOFF2,
-    FORM_DATA,
-    BMP,
-    GIF,
-    JPEG,
-    PNG,
-    SVG,
-    BASIC,
-    MPEG,
-    MP4,
-    OGG,
-    CHARSET,
-    BOUNDARY,
-    UTF_8,
-];
 
 /// The constant names, in the order of their table, from `*` on. Each has its text, ignores case, and holds no
 /// ASCII capital.

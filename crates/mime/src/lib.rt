@@ -44,6 +44,7 @@
 #![tactic(auto)]
 
 mod atoms;
+mod blocks;
 mod bytes;
 mod compare;
 mod difference;

@@ -7,6 +7,7 @@ ghost use Rattle.mime.specs.Values.{lowered};
 
 pub(crate) mod constants;
 
+use crate::blocks::BLOCK;
 use crate::difference::{difference, first_difference};
 use std::fmt;
 
@@ -91,7 +92,7 @@ pub(crate) fn eq_ignoring_case(a: &[u8], b: &[u8]) -> bool
     if a.len() != b.len() {
         return false;
     }
-    if a.len() >= 16 {
+    if a.len() >= BLOCK {
         return first_difference(a, b).is_none();
     }
     if a.len() >= 8 {
@@ -113,8 +114,8 @@ pub fn name_eq_str(name: &Name<'_>, s: &str) -> bool
     name.text == s || name.ignores_case && eq_ignoring_case(name.text.as_bytes(), s.as_bytes())
 }
 
-/// A key that looks a parameter up by its name, with [`Mime::get_param`](crate::Mime::get_param): a [`TextKey`], a
-/// [`Name`], or a type of your own, for which `Accepts` says what it accepts.
+/// A key that looks a parameter up by its name, with [`Mime::get_param`](crate::Mime::get_param): a `&str`, a
+/// [`TextKey`], a [`Name`], or a type of your own, for which `Accepts` says what it accepts.
 pub trait ParamKey: Drop {
     /// The names that the key accepts, by text and flag.
     ghost Accepts: { Self → List ℕ → Bool → Type 0 };
@@ -135,6 +136,16 @@ impl ParamKey for TextKey<'_> {
 
     fn accepts(&self, name: Name<'_>) -> bool {
         name_eq_str(&name, self.0)
+    }
+}
+
+/// A text as a key accepts what [`TextKey`] of it accepts: `"Charset"` accepts `charset`, so that `get_param("charset")` gives
+/// `utf-8` for `text/html; charset=UTF-8` (names ignore case: RFC 7231, 3.1.1.1).
+impl ParamKey for &str {
+    ghost Accepts = { λ key name ignores_case. NameIs name ignores_case key.now };
+
+    fn accepts(&self, name: Name<'_>) -> bool {
+        name_eq_str(&name, self)
     }
 }
 

@@ -3,12 +3,13 @@
 ghost use Rattle.std.specs.Prelude.{◌+◌, ◌-◌, ◌<◌, ◌^◌, length};
 ghost use Rattle.mime.specs.Bytes.{is_token_byte, is_quoted_text_byte as is_quoted_text};
 ghost use Rattle.mime.specs.Grammar.{is_space as is_space_byte};
+ghost use Rattle.mime.specs.Remaining.{is_token_except_plus as is_token_except};
 ghost use Rattle.mime.specs.Scanning.{Passes, PassesContent, PassesSubtype, ScansList, Scans};
 
 mod fault;
 mod reader;
 
-use crate::bytes::{is_quoted_byte, is_quoted_text_byte, is_space, is_token};
+use crate::bytes::{is_quoted_byte, is_quoted_text_byte, is_space, is_token, is_token_except_plus};
 pub use crate::scan::fault::{FromStrError, ParseError};
 pub(crate) use crate::scan::reader::ByteReader;
 
@@ -40,6 +41,19 @@ fn token(reader: &mut ByteReader<'_>) -> Option<u8>
 {
     while let Some(byte) = reader.next() {
         if !is_token(byte) {
+            return Some(byte);
+        }
+    }
+    None
+}
+
+/// Passes the bytes of a token up to a plus, and gives the byte that ends them.
+#[inline(always)]
+fn token_to_plus(reader: &mut ByteReader<'_>) -> Option<u8>
+    ensures { Passes is_token_except reader.old reader.new result }
+{
+    while let Some(byte) = reader.next() {
+        if !is_token_except_plus(byte) {
             return Some(byte);
         }
     }
@@ -99,17 +113,11 @@ fn subtype(reader: &mut ByteReader<'_>, from: u128) -> (Option<usize>, Option<u8
 {
     // 0 means none yet: position 0 is in the type.
     let mut plus = 0;
-    let stop = loop {
-        let Some(byte) = reader.next() else {
-            break None;
-        };
-        if !is_token(byte) {
-            break Some(byte);
-        }
-        if byte == b'+' {
-            plus = reader.position(from);
-        }
-    };
+    let mut stop = token_to_plus(reader);
+    while stop == Some(b'+') {
+        plus = reader.position(from);
+        stop = token_to_plus(reader);
+    }
     (if plus == 0 { None } else { Some(plus) }, stop)
 }
 

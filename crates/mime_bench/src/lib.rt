@@ -1,8 +1,7 @@
-//! A call over byte slices for each operation that bench/ measures.
+//! A call over byte slices for the operations that bench/ measures.
 //!
-//! Each call repeats its operation, so that the difference of two calls is the operation alone,
-//! without the test that the bytes are a text. No clause says what they answer: the driver compares
-//! that with the Rust crate's answers.
+//! It repeats an operation, so that the difference of two calls is the operation alone. No clause says what it answers:
+//! the driver compares that with the Rust crate's answers.
 #![tactic(auto)]
 
 use mime::{
@@ -13,236 +12,180 @@ use std::alloc::Global;
 use std::fmt::Write;
 use std::hash::{DefaultHasher, Hash, Hasher};
 
-/// Reads a media type and drops it, `times` times: the length of its kept text, or 0 where it is
-/// refused.
-#[unsafe(no_mangle)]
-pub extern "C" fn mime_bench_read(alloc: Global, text: &[u8], times: usize) -> usize {
-    let Ok(text) = std::str::from_utf8(text) else {
-        return 0;
+/// The value of a text; without one the operation answers 0.
+macro_rules! value {
+    ($alloc:ident, $text:ident) => {
+        match Mime::from_str($alloc, $text) {
+            Ok(mime) => mime,
+            Err(_) => return 0,
+        }
     };
-    let mut length = 0;
-    for _ in 0..times {
-        length = match Mime::from_str(alloc, text) {
-            Ok(mime) => mime.as_str().len(),
-            Err(_) => 0,
-        };
-    }
-    length
 }
 
-/// Walks all parameters of a media type, `times` times: the bytes of their names and values.
+/// The answer of the last of so many turns.
+macro_rules! repeat {
+    ($times:ident => $turn:expr) => {{
+        let mut answer = 0usize;
+        for _ in 0..$times {
+            answer = $turn;
+        }
+        answer
+    }};
+}
+
+/// How many of so many turns say yes. Each takes one of two equal things, by the answer before: so the compiler leaves none
+/// out.
+macro_rules! count {
+    ($times:ident, $it:ident = $one:expr, $other:expr => $turn:expr) => {{
+        let mut count = 0usize;
+        let mut $it = $one;
+        for _ in 0..$times {
+            if $turn {
+                count = count.wrapping_add(1);
+                $it = $one;
+            } else {
+                $it = $other;
+            }
+        }
+        count
+    }};
+}
+
+/// Makes an operation `times` times.
 #[unsafe(no_mangle)]
-pub extern "C" fn mime_bench_walk(alloc: Global, text: &[u8], times: usize) -> usize {
-    let Ok(text) = std::str::from_utf8(text) else {
+pub extern "C" fn mime_bench(
+    alloc: Global,
+    operation: &[u8],
+    text: &[u8],
+    other: &[u8],
+    times: usize,
+) -> usize {
+    let (Ok(text), Ok(other)) = (std::str::from_utf8(text), std::str::from_utf8(other)) else {
         return 0;
     };
-    let Ok(mime) = Mime::from_str(alloc, text) else {
-        return 0;
-    };
-    let mut length = 0usize;
-    for _ in 0..times {
-        length = 0;
+    match operation {
+        b"read" => read(alloc, text, times),
+        b"walk" => walk(alloc, text, times),
+        b"look_up" => look_up(alloc, text, other, times),
+        b"name_eq" => name_eq(text, other, times),
+        b"eq" => eq(alloc, text, other, times),
+        b"cmp" => cmp(alloc, text, other, times),
+        b"hash" => hash(alloc, text, times),
+        b"clone" => clone(alloc, text, times),
+        b"print" => print(alloc, text, times),
+        b"eq_str" => eq_str(alloc, text, other, times),
+        b"atom" => atom(times),
+        b"items" => items(alloc, text, times),
+        _ => 0,
+    }
+}
+
+/// Reads a media type and drops it: the length of its kept text, or 0 where it is refused.
+#[inline(never)]
+fn read(alloc: Global, text: &str, times: usize) -> usize {
+    repeat!(times => match Mime::from_str(alloc, text) {
+        Ok(mime) => mime.as_str().len(),
+        Err(_) => 0,
+    })
+}
+
+/// Walks all parameters: the bytes of their names and values.
+#[inline(never)]
+fn walk(alloc: Global, text: &str, times: usize) -> usize {
+    let mime = value!(alloc, text);
+    repeat!(times => {
+        let mut length = 0usize;
         for (name, value) in mime.params() {
             length = length
                 .wrapping_add(name.text.len())
                 .wrapping_add(value.text.len());
         }
-    }
-    length
+        length
+    })
 }
 
-/// Looks a parameter up by its name, `times` times: the length of its value, or 0 without one.
-#[unsafe(no_mangle)]
-pub extern "C" fn mime_bench_look_up(
-    alloc: Global,
-    text: &[u8],
-    name: &[u8],
-    times: usize,
-) -> usize {
-    let (Ok(text), Ok(name)) = (std::str::from_utf8(text), std::str::from_utf8(name)) else {
-        return 0;
-    };
-    let Ok(mime) = Mime::from_str(alloc, text) else {
-        return 0;
-    };
-    let mut length = 0;
-    for _ in 0..times {
-        if let Some(value) = mime.get_param(TextKey(name)) {
-            length = value.text.len();
-        }
-    }
-    length
+/// Looks a parameter up by its name: the length of its value, or 0 without one.
+#[inline(never)]
+fn look_up(alloc: Global, text: &str, name: &str, times: usize) -> usize {
+    let mime = value!(alloc, text);
+    repeat!(times => match mime.get_param(TextKey(name)) {
+        Some(value) => value.text.len(),
+        None => 0,
+    })
 }
 
-/// Compares a name that ignores case with a text, `times` times: how often they were the same.
-#[unsafe(no_mangle)]
-pub extern "C" fn mime_bench_name_eq(name: &[u8], text: &[u8], times: usize) -> usize {
-    let (Ok(name), Ok(text)) = (std::str::from_utf8(name), std::str::from_utf8(text)) else {
-        return 0;
-    };
+/// Compares a name that ignores case with a text.
+#[inline(never)]
+fn name_eq(name: &str, text: &str, times: usize) -> usize {
     let name = Name {
         text: name,
         ignores_case: true,
     };
-    // Each text depends on the answer before, so the compiler leaves no comparison out.
-    let mut same = 0usize;
-    let mut against = text;
-    for _ in 0..times {
-        if name_eq_str(&name, against) {
-            same = same.wrapping_add(1);
-            against = text;
-        } else {
-            against = name.text;
-        }
-    }
-    same
+    count!(times, against = text, name.text => name_eq_str(&name, against))
 }
 
-/// Compares two values, `times` times: how often they were equal.
-#[unsafe(no_mangle)]
-pub extern "C" fn mime_bench_eq(alloc: Global, one: &[u8], other: &[u8], times: usize) -> usize {
-    let (Ok(one), Ok(other)) = (std::str::from_utf8(one), std::str::from_utf8(other)) else {
-        return 0;
-    };
-    let (Ok(first), Ok(second), Ok(third)) = (
-        Mime::from_str(alloc, one),
-        Mime::from_str(alloc, other),
-        Mime::from_str(alloc, other),
-    ) else {
-        return 0;
-    };
-    let mut same = 0usize;
-    let mut against = &second;
-    for _ in 0..times {
-        if first == *against {
-            same = same.wrapping_add(1);
-            against = &second;
-        } else {
-            against = &third;
-        }
-    }
-    same
+/// Compares two values.
+#[inline(never)]
+fn eq(alloc: Global, one: &str, other: &str, times: usize) -> usize {
+    let first = value!(alloc, one);
+    let (second, third) = (value!(alloc, other), value!(alloc, other));
+    count!(times, against = &second, &third => first == *against)
 }
 
-/// Orders two values, `times` times: how often the first was less.
-#[unsafe(no_mangle)]
-pub extern "C" fn mime_bench_cmp(alloc: Global, one: &[u8], other: &[u8], times: usize) -> usize {
-    let (Ok(one), Ok(other)) = (std::str::from_utf8(one), std::str::from_utf8(other)) else {
-        return 0;
-    };
-    let (Ok(first), Ok(second), Ok(third)) = (
-        Mime::from_str(alloc, one),
-        Mime::from_str(alloc, other),
-        Mime::from_str(alloc, other),
-    ) else {
-        return 0;
-    };
-    let mut less = 0usize;
-    let mut against = &second;
-    for _ in 0..times {
-        if first.cmp(against).is_lt() {
-            less = less.wrapping_add(1);
-            against = &second;
-        } else {
-            against = &third;
-        }
-    }
-    less
+/// Orders two values: how often the first was less.
+#[inline(never)]
+fn cmp(alloc: Global, one: &str, other: &str, times: usize) -> usize {
+    let first = value!(alloc, one);
+    let (second, third) = (value!(alloc, other), value!(alloc, other));
+    count!(times, against = &second, &third => first.cmp(against).is_lt())
 }
 
-/// Hashes a value, `times` times: 1, since which bytes are fed is open.
-#[unsafe(no_mangle)]
-pub extern "C" fn mime_bench_hash(alloc: Global, text: &[u8], times: usize) -> usize {
-    let Ok(text) = std::str::from_utf8(text) else {
-        return 0;
-    };
-    let (Ok(first), Ok(second)) = (Mime::from_str(alloc, text), Mime::from_str(alloc, text)) else {
-        return 0;
-    };
-    let mut even = 0usize;
-    let mut next = &first;
-    for _ in 0..times {
+/// Hashes a value: 1, since which bytes are fed is open.
+#[inline(never)]
+fn hash(alloc: Global, text: &str, times: usize) -> usize {
+    let (first, second) = (value!(alloc, text), value!(alloc, text));
+    let even = count!(times, next = &second, &first => {
         let mut hasher = DefaultHasher::new();
         next.hash(&mut hasher);
-        if hasher.finish() % 2 == 0 {
-            even = even.wrapping_add(1);
-            next = &second;
-        } else {
-            next = &first;
-        }
-    }
-    if even <= times { 1 } else { 0 }
+        hasher.finish() % 2 == 0
+    });
+    (even <= times) as usize
 }
 
-/// Copies a value and drops the copy, `times` times: the length of its kept text.
-#[unsafe(no_mangle)]
-pub extern "C" fn mime_bench_clone(alloc: Global, text: &[u8], times: usize) -> usize {
-    let Ok(text) = std::str::from_utf8(text) else {
-        return 0;
-    };
-    let (Ok(first), Ok(second)) = (Mime::from_str(alloc, text), Mime::from_str(alloc, text)) else {
-        return 0;
-    };
-    let mut length = 0usize;
-    for _ in 0..times {
-        let next = if length == 0 { &first } else { &second };
-        length = match next.clone() {
-            Ok(copy) => copy.as_str().len(),
-            Err(_) => 0,
-        };
-    }
-    length
+/// Copies a value and drops the copy: how often its text isn't empty.
+#[inline(never)]
+fn clone(alloc: Global, text: &str, times: usize) -> usize {
+    let (first, second) = (value!(alloc, text), value!(alloc, text));
+    count!(times, next = &second, &first => match next.clone() {
+        Ok(copy) => !copy.as_str().is_empty(),
+        Err(_) => false,
+    })
 }
 
-/// Prints a value into a text that has room for it, `times` times: the length of what was printed.
-#[unsafe(no_mangle)]
-pub extern "C" fn mime_bench_print(alloc: Global, text: &[u8], times: usize) -> usize {
-    let Ok(text) = std::str::from_utf8(text) else {
+/// Prints a value into a text that has room for it: the length of what was printed.
+#[inline(never)]
+fn print(alloc: Global, text: &str, times: usize) -> usize {
+    let mime = value!(alloc, text);
+    let Ok(mut printed) = String::with_capacity(alloc, text.len()) else {
         return 0;
     };
-    let (Ok(mime), Ok(mut printed)) = (
-        Mime::from_str(alloc, text),
-        String::with_capacity(alloc, text.len()),
-    ) else {
-        return 0;
-    };
-    for _ in 0..times {
+    repeat!(times => {
         printed.clear();
         let _ = write!(printed, "{mime}");
-    }
-    printed.len()
+        printed.len()
+    })
 }
 
-/// Compares a value with a text, `times` times: how often they were equal.
-#[unsafe(no_mangle)]
-pub extern "C" fn mime_bench_eq_str(
-    alloc: Global,
-    one: &[u8],
-    other: &[u8],
-    times: usize,
-) -> usize {
-    let (Ok(one), Ok(other)) = (std::str::from_utf8(one), std::str::from_utf8(other)) else {
-        return 0;
-    };
-    let (Ok(first), Ok(second)) = (Mime::from_str(alloc, one), Mime::from_str(alloc, one)) else {
-        return 0;
-    };
-    let mut same = 0usize;
-    let mut against = &first;
-    for _ in 0..times {
-        if mime_eq_str(against, other) {
-            same = same.wrapping_add(1);
-            against = &second;
-        } else {
-            against = &first;
-        }
-    }
-    same
+/// Compares a value with a text.
+#[inline(never)]
+fn eq_str(alloc: Global, one: &str, other: &str, times: usize) -> usize {
+    let (first, second) = (value!(alloc, one), value!(alloc, one));
+    count!(times, against = &second, &first => mime_eq_str(against, other))
 }
 
-/// Makes one of four constants, `times` times: the sum of the lengths of their texts.
-#[unsafe(no_mangle)]
-pub extern "C" fn mime_bench_atom(_text: &[u8], times: usize) -> usize {
+/// Makes one of four constants: the sum of the lengths of their texts.
+#[inline(never)]
+fn atom(times: usize) -> usize {
     let atoms = [TEXT_HTML, APPLICATION_JSON, TEXT_PLAIN_UTF_8, IMAGE_SVG];
     let mut length = 0usize;
     for _ in 0..times {
@@ -251,20 +194,16 @@ pub extern "C" fn mime_bench_atom(_text: &[u8], times: usize) -> usize {
     length
 }
 
-/// Goes over the media types of a list, `times` times: how many bytes their kept texts have.
-#[unsafe(no_mangle)]
-pub extern "C" fn mime_bench_items(alloc: Global, text: &[u8], times: usize) -> usize {
-    let Ok(text) = std::str::from_utf8(text) else {
-        return 0;
-    };
-    let mut length = 0usize;
-    for _ in 0..times {
-        length = 0;
+/// Goes over the media types of a list: how many bytes their kept texts have.
+#[inline(never)]
+fn items(alloc: Global, text: &str, times: usize) -> usize {
+    repeat!(times => {
+        let mut length = 0usize;
         for item in MimeIter::new(alloc, text) {
             if let Ok(mime) = item {
                 length = length.wrapping_add(mime.as_str().len());
             }
         }
-    }
-    length
+        length
+    })
 }

@@ -1,2 +1,4 @@
+pub mod Boundary
+pub mod Highest
 pub mod Html
 pub mod Unescaped

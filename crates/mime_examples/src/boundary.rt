@@ -1,54 +1,65 @@
-//! A form's boundary, byte for byte, read and written.
+//! A form's boundary, read and written.
 
-ghost use Rattle.std.specs.Prelude.{◌≡◌, ◌≤◌, ◌<◌, ◌⊎◌, ◌++◌, ℕ, List, Bool, Option, Some, IsSome, IfSome, MatchOption, length, codes, option_map};
-ghost use Rattle.mime.specs.Values.{Reads};
+ghost use Rattle.std.specs.Prelude.{◌≡◌, ◌≢◌, ◌↔◌, ◌⊎◌, ℕ, List, Bool, Option, IsTrue, Some, IfSome, IfOk, MatchOption, codes, option_map};
+ghost use Rattle.std.specs.Vec.{vec_items};
 ghost use Rattle.mime.specs.Names.{NameIs};
 ghost use Rattle.mime.specs.Items.{items_of, IsFirstAccepted};
+ghost use Rattle.mime_examples.specs.Boundary.{is_bchar, IsBoundary};
+ghost use Rattle.mime_examples.specs.Unescaped.{unescaped};
 
+use crate::unescape::unescape;
 use mime::{Mime, TextKey};
-use std::alloc::Global;
+use std::alloc::{AllocError, Global};
 
-/// The boundary between the parts of a form's body (RFC 7578, 4.1), byte for byte as it was sent
-/// but for its quotes; none where the media type isn't a form's, or where its first `boundary` is missing,
-/// empty, or longer than 70 bytes (RFC 2046, 5.1.1).
-pub fn form_boundary(mime: &Mime) -> Option<&str>
-    // Only a form has one, of 1 to 70 bytes.
-    ensures form { IsSome result → mime.now.media.essence ≡ codes "multipart/form-data" }
-    ensures length { IfSome result (λ boundary. (1 ≤ length boundary.now) × (length boundary.now ≤ 70)) }
-    // It is the value of the first parameter whose name is `boundary`, in any case. A form has none only
-    // where that value is missing, empty, or longer.
-    ensures first { mime.now.media.essence ≡ codes "multipart/form-data"
-        → (found : Option (List ℕ × Bool))
-        × IsFirstAccepted (λ name flag. NameIs name flag (codes "boundary")) (items_of mime.now.media.pairs) found
-        × MatchOption result
-        (IfSome found (λ value. (length value.0 ≡ 0) ⊎ (70 < length value.0)))
-        (λ boundary. option_map (λ value. value.0) found ≡ Some boundary.now) }
+/// Whether a byte may stand in a boundary.
+fn is_boundary_byte(byte: u8) -> bool
+    ensures { result ≡ is_bchar byte }
 {
-    if mime.essence_str() != "multipart/form-data" {
-        return None;
-    }
-    let boundary = mime.get_param(TextKey("boundary"))?.as_str();
-    if boundary.is_empty() || boundary.len() > 70 {
-        return None;
-    }
-    Some(boundary)
+    matches!(byte, b'0'..=b'9' | b'A'..=b'Z' | b'a'..=b'z' | b'\'' | b'(' | b')' | b'+' | b'_' | b',' | b'-' | b'.' | b'/' | b':' | b'=' | b'?' | b' ')
 }
 
-/// A form's media type with this boundary; none where a form can't have this boundary, or memory ran out.
-pub fn form_with_boundary(alloc: Global, boundary: &str) -> Option<Mime>
-    // It is what this text is read as,
-    ensures read { IfSome result (λ mime.
-        Reads (codes "multipart/form-data; boundary=\"" ++ (boundary.now ++ codes "\"")) mime.media) }
-    // and its first parameter `boundary` has this value, byte for byte.
-    ensures boundary { IfSome result (λ mime. (value : List ℕ × Bool)
-        × IsFirstAccepted (λ name flag. NameIs name flag (codes "boundary")) (items_of mime.media.pairs) (Some value)
-        × (value.0 ≡ boundary.now)) }
+/// Whether bytes are a boundary: 1 to 70 of those that RFC 2046 allows, with no space at the end
+/// (5.1.1).
+pub fn is_boundary(bytes: &[u8]) -> bool
+    ensures { IsTrue result ↔ IsBoundary bytes.now }
 {
-    let text = format!(in alloc; "multipart/form-data; boundary=\"{boundary}\"").ok()?;
-    let mime = Mime::from_str(alloc, &text).ok()?;
-    if form_boundary(&mime) == Some(boundary) {
-        Some(mime)
+    for &byte in bytes {
+        if !is_boundary_byte(byte) {
+            return false;
+        }
+    }
+    match bytes.last() {
+        Some(last) => bytes.len() <= 70 && *last != b' ',
+        None => false,
+    }
+}
+
+/// The boundary between the parts of a form's body (RFC 7578, 4.1), byte for byte as it stands in the
+/// body; none where the media type isn't a form's, or its first `boundary` is missing or none.
+///
+/// # Errors
+/// `AllocError` where memory runs out.
+pub fn form_boundary(alloc: Global, mime: &Mime) -> Result<Option<Vec<u8>>, AllocError>
+    // It is what the first value under `boundary`, in any case, means; a form has none only where there is no such value, or it
+    // means no boundary.
+    ensures { IfOk result (λ answer. (found : Option (List ℕ × Bool))
+        × IsFirstAccepted (λ name flag. NameIs name flag (codes "boundary")) (items_of mime.now.media.pairs) found
+        × MatchOption answer
+        ((mime.now.media.essence ≢ codes "multipart/form-data") ⊎ IfSome found (λ value. ¬ (IsBoundary (unescaped value.0))))
+        (λ boundary. (mime.now.media.essence ≡ codes "multipart/form-data") × IsBoundary (vec_items boundary)
+        × (option_map (λ value. unescaped value.0) found ≡ Some (vec_items boundary)))) }
+{
+    let Some(value) = mime.get_param(TextKey("boundary")) else {
+        return Ok(None);
+    };
+    if mime.essence_str() != "multipart/form-data" {
+        return Ok(None);
+    }
+    let mut boundary = Vec::new(alloc);
+    unescape(value.text, &mut boundary)?;
+    if is_boundary(&boundary) {
+        Ok(Some(boundary))
     } else {
-        None
+        Ok(None)
     }
 }

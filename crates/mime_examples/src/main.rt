@@ -10,7 +10,6 @@ mod best;
 mod boundary;
 mod callers;
 mod caret;
-mod charset;
 mod document;
 mod extensions;
 mod files;
@@ -19,6 +18,7 @@ mod header;
 mod html;
 mod json;
 mod key;
+mod parameter;
 mod parts;
 mod plain;
 mod range;
@@ -74,6 +74,7 @@ fn try_content_type(rt: &HostRuntime, example: &str, text: &str, other: &str) ->
 fn try_accept(rt: &HostRuntime, example: &str, text: &str, other: &str) -> io::Result<()> {
     match example {
         "best" => try_best(rt, text),
+        "given" => try_given(rt, text, other),
         "entries_of" => try_entries_of(rt, text),
         "last weight" => try_last_weight(rt, text),
         "names_html" => try_names_html(rt, text),
@@ -86,7 +87,7 @@ fn try_accept(rt: &HostRuntime, example: &str, text: &str, other: &str) -> io::R
 
 fn try_text(rt: &HostRuntime, example: &str, text: &str, other: &str) -> io::Result<()> {
     match example {
-        "form_with_boundary" => say_mime(rt, boundary::form_with_boundary(rt.alloc(), text)),
+        "form_with_boundary" => say_mime(rt, parameter::form_with_boundary(rt.alloc(), text)?),
         "has_suffix" => say_read(rt, callers::has_suffix(rt.alloc(), text).ok()),
         "printed, has_param" => try_printed(rt, text, other),
         "reads_alike" => say_read(rt, callers::reads_alike(rt.alloc(), text).ok()),
@@ -107,7 +108,7 @@ fn try_with_mime(rt: &HostRuntime, example: &str, text: &str, other: &str) -> io
 fn try_mime(rt: &HostRuntime, example: &str, mime: &Mime, other: &str) -> io::Result<()> {
     match example {
         "covers" => try_covers(rt, mime, other),
-        "form_boundary" => say_any(rt, boundary::form_boundary(mime)),
+        "form_boundary" => try_form_boundary(rt, mime),
         "handler_of" => try_handler_of(rt, mime),
         "is_json" => say_whether(rt, json::is_json(mime)),
         "is_plain" => say_whether(rt, plain::is_plain(mime)),
@@ -122,7 +123,7 @@ fn try_with_memory(rt: &HostRuntime, example: &str, mime: &Mime, other: &str) ->
         "described" => try_described(rt, mime),
         "extensions" => try_extensions(rt, mime),
         "unescape" => try_unescape(rt, mime, other),
-        "with_charset" => say_mime(rt, charset::with_charset(rt.alloc(), mime, other)),
+        "with_charset" => say_mime(rt, parameter::with_charset(rt.alloc(), mime, other)?),
         _ => say(rt, "no example"),
     }
 }
@@ -138,12 +139,21 @@ fn try_bare_of(rt: &HostRuntime, mime: &Mime) -> io::Result<()> {
     }
 }
 
-/// Prints the best of three offers.
+/// Prints the position of the best of three offers.
 fn try_best(rt: &HostRuntime, accept: &str) -> io::Result<()> {
     let offers = [TEXT_HTML.mime(), TEXT_PLAIN.mime(), APPLICATION_JSON.mime()];
     match best::best(rt.alloc(), accept, &offers)? {
-        Some(mime) => say(rt, mime.as_str()),
+        Some(at) => print!(rt; "{at}|"),
         None => say(rt, "none"),
+    }
+}
+
+/// Prints what a header gives a media type, in thousandths.
+fn try_given(rt: &HostRuntime, accept: &str, offer: &str) -> io::Result<()> {
+    let ranges = accept::entries_of(rt.alloc(), accept)?;
+    match Mime::from_str(rt.alloc(), offer).ok() {
+        Some(mime) => say_number(rt, Some(best::given(&ranges.good, &mime))),
+        None => say(rt, "not read"),
     }
 }
 
@@ -181,6 +191,13 @@ fn try_entries_of(rt: &HostRuntime, accept: &str) -> io::Result<()> {
 fn try_extensions(rt: &HostRuntime, mime: &Mime) -> io::Result<()> {
     let extensions = extensions::extensions(rt.alloc())?;
     say_any(rt, extensions.get(mime).copied())
+}
+
+fn try_form_boundary(rt: &HostRuntime, mime: &Mime) -> io::Result<()> {
+    match boundary::form_boundary(rt.alloc(), mime)? {
+        Some(boundary) => say(rt, str::from_utf8(&boundary).unwrap_or("not text")),
+        None => say(rt, "none"),
+    }
 }
 
 fn try_handler_of(rt: &HostRuntime, mime: &Mime) -> io::Result<()> {

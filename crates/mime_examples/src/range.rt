@@ -20,3 +20,19 @@ pub fn covers(range: &Mime, mime: &Mime) -> bool
     }
     range.type_() == STAR || range.type_() == mime.type_()
 }
+
+/// How many parameters a range has before its weight `q`; none where one of them isn't the media
+/// type's, too. The range `text/html;level=1` is for `text/html;level=1`, and not for all HTML.
+pub fn shared_parameters(range: &Mime, mime: &Mime) -> Option<usize> {
+    let mut shared: usize = 0;
+    for (name, value) in range.params() {
+        if name.as_str() == "q" {
+            break;
+        }
+        if mime.get_param(name) != Some(value) {
+            return None;
+        }
+        shared = shared.saturating_add(1);
+    }
+    Some(shared)
+}

@@ -1,37 +1,50 @@
 //! White space before semicolons, taken out.
 
+use mime::is_token;
 use std::alloc::{AllocError, Global};
 
-/// Whether a quoted value is open after a text, where one was open before it or not.
-fn is_open_after(text: &str, was_open: bool) -> bool {
-    let mut is_open = was_open;
-    let mut is_paired = false;
-    for byte in text.bytes() {
-        if byte == b'"' && !is_paired {
-            is_open = !is_open;
-        }
-        is_paired = is_open && byte == b'\\' && !is_paired;
+/// Adds a text without the white space before its semicolons.
+fn push_tight(tight: &mut String, text: &str) -> Result<(), AllocError> {
+    let (parts, last) = match text.rsplit_once(';') {
+        Some(parts) => parts,
+        None => return tight.push_str(text),
+    };
+    for part in parts.split(';') {
+        tight.push_str(part.trim_end_matches([' ', '\t']))?;
+        tight.push(';')?;
     }
-    is_open
+    tight.push_str(last)
 }
 
-/// A header's value without the white space before each semicolon outside quotes, and at its end.
+/// Whether a quote after this text begins a quoted value: a semicolon, a name and an equals sign are
+/// before it. Any other quote is a stray one.
+fn begins_value(text: &str) -> bool {
+    let name = match text.rsplit_once(';') {
+        Some((_, parameter)) => parameter.trim_start_matches([' ', '\t']).strip_suffix('='),
+        None => None,
+    };
+    name.is_some_and(|name| !name.is_empty() && name.bytes().all(|byte| is_token(byte)))
+}
+
+/// A header's value without the white space before each semicolon outside quoted values.
 ///
 /// # Errors
 /// `AllocError` where memory runs out.
 pub fn tightened(alloc: Global, value: &str) -> Result<String, AllocError> {
     let mut tight = String::new(alloc);
-    let mut is_open = false;
-    for (number, piece) in value.split(';').enumerate() {
+    let mut is_quoted = false;
+    for (number, part) in value.split('"').enumerate() {
         if number > 0 {
-            tight.push(';')?;
+            tight.push('"')?;
         }
-        is_open = is_open_after(piece, is_open);
-        tight.push_str(if is_open {
-            piece
+        if is_quoted {
+            // A quote after an odd number of backslashes is paired, and ends nothing.
+            is_quoted = (part.len() - part.trim_end_matches('\\').len()) % 2 == 1;
+            tight.push_str(part)?;
         } else {
-            piece.trim_end_matches([' ', '\t'])
-        })?;
+            is_quoted = begins_value(part);
+            push_tight(&mut tight, part)?;
+        }
     }
     Ok(tight)
 }

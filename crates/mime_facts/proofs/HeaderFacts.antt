@@ -1,20 +1,23 @@
 -- What is written into a header, and what is read there: values and lists for which each definition is true and others for which
 -- it is false, and what each law says of a text.
-use Rattle.std.proofs.Common.{◌≡◌, ◌≢◌, ℕ, Bool, true, false, ◌⊎◌, inl, inr, List, [], ◌∷◌, Option, Some, None, refl, ap, codes, absurd}
-use Rattle.std.proofs.lemmas.Bool.{true≢false}
+use Rattle.std.proofs.Common.{◌≡◌, ℕ, Bool, true, false, ◌⊎◌, inl, inr, List, [], ◌∷◌, ◌++◌, map, Option, Some, None, refl, sym, codes}
+use Rattle.std.proofs.lemmas.Bool.{false≢true}
+use Rattle.std.specs.List.{list_any}
 use Rattle.mime.specs.Bytes.{is_token_byte, is_quoted_byte}
-use Rattle.mime.specs.Grammar.{IsContent, no_byte, text_byte}
-use Rattle.mime.specs.Values.{MediaType, Reads, IsAccepted, IsRefused, type_of, subtype_of, suffix_of}
+use Rattle.mime.specs.Grammar.{IsContent}
+use Rattle.mime.specs.Values.{MediaType, Reads, IsAccepted, IsRefused, type_of, subtype_of}
 use Rattle.mime.specs.Items.{IsFirstAccepted}
-use Rattle.mime.specs.Names.{NameIs}
 use Rattle.mime.specs.Laws.{AcceptedOrRefused, suffix_text, EssenceIsParts, HaveSameParts, SameEssence, IsDecided, HasAnswer}
 use Rattle.mime.specs.HeaderLaws.{AreHeaderBytes, IsSafePair, IsSafe, KeptIsSafe, text_with_parameter, with_parameter, ParameterIsRead}
-use Rattle.mime.specs.Cut.{CutItem, good, bad, Cut}
+use Rattle.mime.specs.Cut.{good, Cut, whole}
 use Rattle.mime.specs.CutLaws.{is_separator, IsHttpList, no_element, separated, one_element, more_elements, HttpListIsCut}
 use Rattle.mime.proofs.Containment.{http_list_is_cut}
-use Rattle.mime_facts.proofs.CutFacts.{list_items, no_item_left_out, e_is_refused}
+use Rattle.mime.proofs.Cuts.{cut_unique}
+use Rattle.mime.proofs.Quoted.{IsContent-taken, content-taken}
+use Rattle.mime_facts.proofs.ComparisonFacts.{quoted_x, reads_quoted}
+use Rattle.mime_facts.proofs.CutFacts.{no_item_left_out}
 use Rattle.mime_facts.proofs.StandardFacts.{media, plus_twice}
-use Rattle.mime_facts.proofs.ValueFacts.{differ, plain_value, reads_capitals, exact_item, charset_item}
+use Rattle.mime_facts.proofs.ValueFacts.{differ, plain_value, reads_capitals, exact_item}
 
 -- ---- accepted and refused
 
@@ -58,21 +61,44 @@ essence_of_both law text value reads =
 
 -- ---- a key
 
--- whether a name is a text is decided, and then an answer is found
-answer_found : HasAnswer (λ name ignores_case. NameIs name ignores_case (codes "p")) → IsDecided (λ name ignores_case. NameIs name ignores_case (codes "p"))
-    → (found : Option (List ℕ × Bool)) × IsFirstAccepted (λ name ignores_case. NameIs name ignores_case (codes "p")) (exact_item ∷ []) found
-answer_found law decided = law decided (exact_item ∷ [])
+-- a key that decides finds an answer
+answer_found : (Accepts : List ℕ → Bool → Type 0) → HasAnswer Accepts → IsDecided Accepts
+    → (found : Option (List ℕ × Bool)) × IsFirstAccepted Accepts (exact_item ∷ []) found
+answer_found Accepts law decided = law decided (exact_item ∷ [])
 
 -- ---- a safe value
 
--- a tab, a space, marks and bytes past ASCII may stand in a header; the zero, line ends, controls and 127 may not
+-- a tab, a space, marks and bytes past ASCII may stand in a header; line ends, other controls and 127 may not
 header_bytes :
     AreHeaderBytes (9 ∷ 32 ∷ 34 ∷ 44 ∷ 59 ∷ 92 ∷ 126 ∷ 128 ∷ 255 ∷ [])
-    × ¬ (AreHeaderBytes (0 ∷ [])) × ¬ (AreHeaderBytes (97 ∷ 10 ∷ [])) × ¬ (AreHeaderBytes (13 ∷ [])) × ¬ (AreHeaderBytes (31 ∷ []))
-    × ¬ (AreHeaderBytes (127 ∷ [])) × ¬ (AreHeaderBytes (256 ∷ []))
+    × (list_any is_quoted_byte (0 ∷ 8 ∷ 10 ∷ 13 ∷ 31 ∷ 127 ∷ 256 ∷ []) ≡ false)
 unfolding is_quoted_byte
-header_bytes =
-    (refl, (λ is. false≢true is), (λ is. false≢true is), (λ is. false≢true is), (λ is. false≢true is), (λ is. false≢true is), λ is. false≢true is)
+header_bytes = (refl, refl)
+
+-- a pair has a token and quoted content
+safe_pairs : IsSafePair (codes "p", []) × ¬ (IsSafePair ([], codes "x")) × ¬ (IsSafePair (codes "p", codes "\""))
+unfolding is_token_byte is_quoted_byte
+safe_pairs = ((refl, IsContent-taken [] refl refl), (λ is. is.0), λ is. false≢true (content-taken _ is.1))
+
+-- a value with a line feed, without a type or a subtype, with a space in its suffix, or with a parameter without a name isn't safe
+unsafe_values :
+    ¬ (IsSafe (record plain_value { kept = codes "a/b\n" }))
+    × ¬ (IsSafe (record plain_value { slash = 0 }))
+    × ¬ (IsSafe (record plain_value { essence = codes "a/" }))
+    × ¬ (IsSafe (record two_pluses { essence = codes "a/b+c+ " }))
+    × ¬ (IsSafe (record plain_value { pairs = ([], []) ∷ [] }))
+unfolding is_token_byte is_quoted_byte
+unsafe_values = (
+  (λ is. false≢true is.kept),
+  (λ is. is.top),
+  (λ is. is.sub),
+  (λ is. false≢true is.suffix),
+  λ is. is.pairs.0.0,
+)
+
+-- what is read of `A/B;P="x"`, and of `a/b+c+d`, is safe
+safe_values : KeptIsSafe → IsSafe quoted_x × IsSafe two_pluses
+safe_values law = (law _ quoted_x reads_quoted, law _ two_pluses plus_twice)
 
 -- ---- a parameter
 
@@ -88,3 +114,29 @@ parameter_of_text : ParameterIsRead → IsContent (codes "X")
     → Reads (codes "a/b; Charset=\"X\"") (media (codes "a/b") 1 None ((codes "charset", codes "x") ∷ []) (codes "a/b; charset=\"x\""))
 unfolding is_token_byte
 parameter_of_text law is = law (codes "A/B") plain_value (codes "Charset") (codes "X") reads_capitals refl is
+
+-- ---- a list
+
+-- spaces, tabs and commas separate
+separators : map is_separator (codes " \t,;x") ≡ true ∷ true ∷ true ∷ false ∷ false ∷ []
+separators = refl
+
+-- a list may begin with separators, have some after a comma, and end with a comma
+two_elements : IsHttpList (codes " ,A/B,\t,A/B,") (good (codes "A/B") plain_value ∷ good (codes "A/B") plain_value ∷ [])
+two_elements =
+    separated 32 _ _ refl (separated 44 _ _ refl (more_elements (codes "A/B") plain_value _ _ reads_capitals
+    (separated 9 _ _ refl (separated 44 _ _ refl (more_elements (codes "A/B") plain_value [] [] reads_capitals no_element)))))
+
+-- or end with an element
+one_of_two : IsHttpList (codes ",A/B") (good (codes "A/B") plain_value ∷ [])
+one_of_two = separated 44 _ _ refl (one_element (codes "A/B") plain_value reads_capitals)
+
+-- it has no other elements, and no refused ones
+no_such_list : ¬ (IsHttpList (codes "A/B") []) × ¬ (IsHttpList (codes "e,A/B") (good (codes "A/B") plain_value ∷ []))
+no_such_list = (
+  (λ list. absurd (cc (cut_unique _ _ _ (whole (codes "A/B") plain_value reads_capitals) _ _ (http_list_is_cut _ _ list)).0)),
+  λ list. no_item_left_out (http_list_is_cut _ _ list),
+)
+
+cut_of_elements : HttpListIsCut → Cut (codes " ,A/B,\t,A/B,") (good (codes "A/B") plain_value ∷ good (codes "A/B") plain_value ∷ []) []
+cut_of_elements law = law _ _ two_elements

@@ -1,15 +1,18 @@
 -- What each law says of a text: from the law alone, so that one that says less doesn't check.
-use Rattle.std.proofs.Common.{◌≡◌, ◌≢◌, ℕ, Bool, ◌⊎◌, inl, inr, List, [], ◌∷◌, length, Option, None, Result, refl, sym, ap, ◌∙◌, subst, arith, codes}
+use Rattle.std.proofs.Common.{◌≡◌, ◌≢◌, ℕ, zero, suc, ◌≤◌, Bool, true, false, ◌⊎◌, inl, inr, IsTrue, List, [], ◌∷◌, ◌++◌, length, Option, Some, None, Result, refl, sym, ap, ◌∙◌, subst, arith, codes}
+use Rattle.std.proofs.lemmas.Bool.{false≢true}
+use Rattle.std.proofs.lemmas.Option.{none-some, same_Some}
+use Rattle.std.specs.Prelude.{slice_get}
 use Rattle.std.specs.Char.{IsScalar, encode_utf8}
 use Rattle.std.specs.Iterator.{Drains}
 use Rattle.std.specs.Str.{IsUtf8, IsCharBoundary}
-use Rattle.mime.specs.Bytes.{is_token_byte}
+use Rattle.mime.specs.Bytes.{is_token_byte, plus_byte}
 use Rattle.mime.specs.Grammar.{no_list, SyntaxTree, text_of, IsWellFormed}
-use Rattle.mime.specs.Values.{MediaType, OwnedMedia, Reads, IsRefused}
+use Rattle.mime.specs.Values.{MediaType, OwnedMedia, Reads, IsAccepted, IsRefused}
 use Rattle.mime.specs.Comparison.{Same, Before, TextIs}
 use Rattle.mime.specs.Refusals.{IsViable, IsFront, Lacks, IsFault}
 use Rattle.mime.specs.Items.{IsFirstAccepted}
-use Rattle.mime.specs.Laws.{OneTree, OneReading, EmptyIsViable, FrontOfViableIsViable, AcceptedIsViable, OneCompletion, CompletedIsRefused, NoCompletion, OneFault, OneFront, FrontEndsBetweenCharacters, IsViableInUtf8, FrontIsInUtf8, HasNoPlusFrom, PlusIsLast, KeptIsRead, EssenceIsRead, OneOrder, BeforeIsTransitive, BareTextIs, KeptTextIs, OneAnswer, FirstDifferenceTells}
+use Rattle.mime.specs.Laws.{OneTree, OneReading, EmptyIsViable, FrontOfViableIsViable, AcceptedIsViable, OneCompletion, CompletedIsRefused, NoCompletion, OneFault, OneFront, FrontEndsBetweenCharacters, IsViableInUtf8, IsFrontInUtf8, FrontIsInUtf8, HasNoPlusFrom, PlusIsLast, KeptIsRead, EssenceIsRead, OneOrder, BeforeIsTransitive, BareTextIs, KeptTextIs, IsDecided, OneAnswer, FirstDifferenceTells}
 use Rattle.mime.specs.Cut.{CutItem, good, bad, Cut, Pieces, TakesSteps}
 use Rattle.mime.specs.CutLaws.{OneCut, CutHasItems, text_of_pieces, CutWritesText, OneCount, CommaContains, JoinedComesBack, PassesOneCharacter}
 use Rattle.mime.specs.Runs.{Iteration, IsNext}
@@ -17,6 +20,8 @@ use Rattle.mime.specs.RunLaws.{AreGiven, RunGivesCut, CommaContainsOnRuns, Print
 use Rattle.mime.specs.declared.iter.Bad.{Bad}
 use Rattle.mime.specs.declared.scan.fault.ParseError.{ParseError}
 use Rattle.mime.specs.declared.scan.fault.ParseError.TheVariants.{MissingSlash, MissingSubtype, InvalidToken}
+use Rattle.mime.proofs.HashProofs.{utf8_bytes}
+use Rattle.mime.proofs.KeptText.{kept_is_read}
 use Rattle.mime_facts.proofs.ComparisonFacts.{quoted_x, plain_x, plain_y, other_value, reads_quoted, letters_tell}
 use Rattle.mime_facts.proofs.CutFacts.{e_is_refused, e_is_viable, list_items, cut_of_list, rest_of_text, split_at_comma, read_value}
 use Rattle.mime_facts.proofs.RefusalFacts.{e_lacks_slash, e_is_closed}
@@ -33,8 +38,22 @@ tree_of_text law tree fine is = law tree (tree_from_parts (codes "a") (codes "b"
 value_of_text : OneReading → (value : MediaType) → Reads (codes "A/B") value → value ≡ plain_value
 value_of_text law value reads = law (codes "A/B") value plain_value reads reads_capitals
 
-last_plus : PlusIsLast → HasNoPlusFrom (codes "a/b+c+d") 6
-last_plus law = (law (codes "a/b+c+d") _ plus_twice).2
+-- the plus is there, after the subtype's first byte, and is the last
+last_plus : PlusIsLast → (3 ≤ 5) × (slice_get (codes "a/b+c+d") 5 ≡ Some plus_byte) × HasNoPlusFrom (codes "a/b+c+d") 6
+last_plus law = law (codes "a/b+c+d") _ plus_twice
+
+-- where a value has no plus, none stands after the subtype's first byte
+no_plus : PlusIsLast → HasNoPlusFrom (codes "a/b") 3
+no_plus law = law (codes "A/B") plain_value reads_capitals
+
+-- a plus before the position doesn't count, and one at it does
+no_plus_after : HasNoPlusFrom (codes "+b") 1
+no_plus_after zero from is = absurd (omega (arith, from))
+no_plus_after (suc zero) from is = absurd (omega (arith, same_Some _ _ is))
+no_plus_after (suc (suc place)) from is = none-some _ is
+
+plus_at : ¬ (HasNoPlusFrom (codes "b+") 1)
+plus_at none = none 1 (omega arith) refl
 
 kept_text : KeptIsRead → Reads (codes "a/b") plain_value
 kept_text law = law (codes "A/B") plain_value reads_capitals
@@ -57,6 +76,10 @@ completion : OneCompletion → (fault : ParseError) → Lacks (codes "e") fault 
 completion law fault lacks =
     let one = law (codes "e") e_is_viable e_is_refused in one.2 fault lacks ∙ sym (one.2 MissingSlash e_lacks_slash)
 
+-- and there is one
+some_completion : OneCompletion → (fault : ParseError) × Lacks (codes "e") fault
+some_completion law = let one = law (codes "e") e_is_viable e_is_refused in (one.0, one.1)
+
 completed : CompletedIsRefused → IsRefused (codes "text/")
 completed law = law (codes "text/") MissingSubtype no_subtype
 
@@ -67,6 +90,12 @@ fault_of_text : OneFault → IsRefused (codes "a b") → (fault : ParseError) �
 fault_of_text law refused fault is =
     let one = law (codes "a b") refused in one.2 fault is ∙ sym (one.2 (InvalidToken 1 32) space_in_type)
 
+some_fault : OneFault → IsRefused (codes "a b") → (fault : ParseError) × IsFault (codes "a b") fault
+some_fault law refused = let one = law (codes "a b") refused in (one.0, one.1)
+
+some_front : OneFront → (count : ℕ) × IsFront (codes "a b") count
+some_front law = let one = law (codes "a b") in (one.0, one.1)
+
 front_of_text : OneFront → (count : ℕ) → IsFront (codes "a b") count → count ≡ 1
 front_of_text law count is = let one = law (codes "a b") in one.2 count is ∙ sym (one.2 1 space_in_type.front)
 
@@ -75,6 +104,35 @@ border_of_text law utf8 = law (codes "a b") 1 utf8 space_in_type.front
 
 front_in_utf8 : FrontIsInUtf8 → IsUtf8 (codes "a b") → IsViableInUtf8 (codes "a") × ¬ (IsViableInUtf8 (codes "a b"))
 front_in_utf8 law utf8 = let is = (law (codes "a b") 1 utf8).0 space_in_type.front in (is.viable, is.longest 3 (omega arith) (omega arith))
+
+-- what some accepted text of valid UTF-8 begins with, what no accepted text does, and what only accepted texts do that aren't valid UTF-8
+viable_in_utf8 : IsViableInUtf8 (codes "a") × ¬ (IsViableInUtf8 (codes "a b")) × ¬ (IsViableInUtf8 (codes "a/b;p=\"" ++ (255 ∷ [])))
+unfolding encode_utf8
+viable_in_utf8 = (
+  (codes "/b", (codes "a/b", (refl, refl)), (plain_value, kept_is_read _ plain_value reads_capitals)),
+  (λ is. space_in_type.front.longest 2 (omega arith) (omega arith) (codes "b" ++ is.0, is.2)),
+  λ is. false≢true (utf8_bytes _ is.1),
+)
+
+-- the longest of them has one byte of `a b`, no fewer, and no more; and no more than the text has
+fronts_in_utf8 :
+    IsFrontInUtf8 (codes "a b") 1
+    × ¬ (IsFrontInUtf8 (codes "a b") 0)
+    × ¬ (IsFrontInUtf8 (codes "a b") 3)
+    × ¬ (IsFrontInUtf8 (codes "a") 2)
+fronts_in_utf8 = (
+  record {
+    within = omega arith;
+    viable = viable_in_utf8.0;
+    longest = λ n above within is. space_in_type.front.longest n above within (is.0, is.2);
+  },
+  (λ is. is.longest 1 (omega arith) (omega arith) viable_in_utf8.0),
+  (λ is. viable_in_utf8.1 is.viable),
+  λ is. absurd (omega (arith, is.within)),
+)
+
+front_from_utf8 : FrontIsInUtf8 → IsUtf8 (codes "a b") → IsFront (codes "a b") 1
+front_from_utf8 law utf8 = (law (codes "a b") 1 utf8).1 fronts_in_utf8.0
 
 -- ---- comparison
 
@@ -109,9 +167,23 @@ different_texts law first second reads also = law (codes "a/b") (codes "A/c") fi
 answer_of_key : (Accepts : List ℕ → Bool → Type 0) → OneAnswer Accepts → (first second : Option (List ℕ × Bool))
     → IsFirstAccepted Accepts (exact_item ∷ charset_item ∷ []) first → IsFirstAccepted Accepts (exact_item ∷ charset_item ∷ []) second
     → first ≡ second
-answer_of_key Accepts law first second is also = law _ second first also is
+answer_of_key Accepts law first second is also = law (exact_item ∷ charset_item ∷ []) second first also is
+
+-- each name is accepted, or isn't
+decided : IsDecided (λ name ignores_case. IsTrue ignores_case)
+decided name true = inl refl
+decided name false = inr false≢true
+
+name_is_decided : (Accepts : List ℕ → Bool → Type 0) → IsDecided Accepts → Accepts (codes "p") true ⊎ ¬ (Accepts (codes "p") true)
+name_is_decided Accepts decides = decides (codes "p") true
 
 -- ---- the cut
+
+some_cut : OneCut → (items : List CutItem) × (rest : List ℕ) × Cut (codes "e,A/B") items rest
+some_cut law = let one = law (codes "e,A/B") in (one.0, one.1, one.2)
+
+some_steps : OneCount → (steps : ℕ) × TakesSteps (codes "e,A/B") steps
+some_steps law = let one = law (codes "e,A/B") in (one.0, one.1)
 
 cut_of_text : OneCut → (items : List CutItem) (rest : List ℕ) → Cut (codes "e,A/B") items rest
     → (items ≡ list_items) × (rest ≡ [])
@@ -127,8 +199,8 @@ items_of_text law text piece rest cut =
     let is = law text (bad piece ∷ []) rest cut in (is.0.0.0, is.0.0.1, is.0.0.2, is.1, is.2)
 
 pieces_of_text : CutWritesText → (pieces : List (List ℕ × List ℕ)) × (end : List ℕ) × Pieces (codes "e") pieces end
-    × (text_of_pieces pieces end ≡ codes "e")
-pieces_of_text law = let is = law (codes "e") [] (codes "e") rest_of_text in (is.0, is.1, is.2, is.3)
+    × (text_of_pieces pieces end ≡ codes "e") × (IsAccepted end ⊎ (end ≡ codes "e"))
+pieces_of_text law = law (codes "e") [] (codes "e") rest_of_text
 
 steps_of_text : OneCount → (first second : ℕ) → TakesSteps (codes "e,A/B") first → TakesSteps (codes "e,A/B") second → first ≡ second
 steps_of_text law first second is also = let one = law (codes "e,A/B") in one.2 first is ∙ sym (one.2 second also)

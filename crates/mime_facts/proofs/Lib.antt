@@ -8,3 +8,4 @@ pub mod CutFacts
 pub mod RunFacts
 pub mod LawFacts
 pub mod HeaderFacts
+pub mod HashFacts

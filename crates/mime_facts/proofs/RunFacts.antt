@@ -1,5 +1,6 @@
 -- Calls of `next` for which each definition of a run is true, and others for which it is false: over `e`, `e,A/B` and `*/*`.
 use Rattle.std.proofs.Common.{◌≡◌, ℕ, true, false, List, [], ◌∷◌, length, Some, None, Result, Ok, Err, refl, sym, ap, subst, arith, codes, Bor}
+use Rattle.std.proofs.lemmas.Bool.{true≢false}
 use Rattle.std.proofs.lemmas.Option.{none-some}
 use Rattle.mime.specs.Bytes.{is_token_byte}
 use Rattle.mime.specs.Grammar.{no_list}
@@ -20,6 +21,10 @@ begun text = record { text = text; left = text; starved = false; steps = 0 }
 
 abbrev ended_run : List ℕ → ℕ → Iteration
 ended_run text steps = record { text = text; left = []; starved = false; steps = steps }
+
+-- the same, where memory ran out
+abbrev out_of_memory : Iteration → Iteration
+out_of_memory i = record i { starved = true }
 
 -- `*/*`, read
 abbrev star_value : MediaType
@@ -81,6 +86,32 @@ star_is_fixed old new at end mime (piece, first, star, same) =
     let cut = first [] [] (subst (λ l. Cut l [] []) (sym end) empty-cut) in
     star (star_piece _ _ _ _ (subst (λ t. Cut t (good piece mime.media ∷ []) []) at cut))
 
+-- that memory ran out is said where it did
+no_memory_starves : ¬ (GivesItem (begun (codes "A/B")) (Some (Err NoMemory)) (ended_run (codes "A/B") 3))
+no_memory_starves given = true≢false (sym given.2)
+
+-- and nowhere else: not where none is given, nor with a media type or a bad piece
+none_keeps_memory : ¬ (GivesItem (begun (codes "e")) None (out_of_memory (ended_run (codes "e") 1)))
+none_keeps_memory given = true≢false given.2
+
+value_keeps_memory : (mime : OwnedMedia) → ¬ (GivesItem (begun (codes "A/B")) (Some (Ok mime)) (out_of_memory (ended_run (codes "A/B") 3)))
+value_keeps_memory mime (piece, first, star, same) = true≢false same
+
+piece_keeps_memory : (piece : Bor (List ℕ))
+    → ¬ (GivesItem (begun (codes "e,A/B")) (Some (Err (Piece piece))) (out_of_memory (begun (codes "A/B"))))
+piece_keeps_memory piece given = true≢false given.1
+
+-- where none is given, or memory ran out, nothing is left
+none_ends : ¬ (GivesItem (begun (codes "e")) None (begun (codes "e")))
+none_ends given = differ (codes "e") [] refl given.1
+
+no_memory_ends : ¬ (GivesItem (begun (codes "A/B")) (Some (Err NoMemory)) (out_of_memory (begun (codes "A/B"))))
+no_memory_ends given = differ (codes "A/B") [] refl given.1
+
+-- none is given only where there is no item
+none_at_no_item : ¬ (GivesItem (begun (codes "e,A/B")) None (ended_run (codes "e,A/B") 5))
+none_at_no_item given = no_items.1 given.0
+
 -- over `e` none is given, after one step
 ends_at_rest : IsNext (begun (codes "e")) None (ended_run (codes "e") 1)
 ends_at_rest = record {
@@ -104,6 +135,14 @@ steps_are_exact next =
 stays_ended : (reason : Bad) → ¬ (IsNext (ended_run (codes "e") 1) (Some (Err reason)) (ended_run (codes "e") 1))
 stays_ended reason next = none-some _ (sym (next.stays refl).0)
 
+-- the text stays
+text_stays : ¬ (IsNext (begun (codes "e")) None (ended_run (codes "f") 1))
+text_stays next = differ (codes "f") (codes "e") refl next.text
+
+-- what has ended stays as it is
+ended_stays : ¬ (IsNext (ended_run (codes "e") 1) None (ended_run (codes "e") 0))
+ended_stays next = absurd (omega (arith, ap (λ (i : Iteration). i.steps) (next.stays refl).1))
+
 -- ---- a whole run
 
 -- a bad piece is given as itself
@@ -124,3 +163,12 @@ gives_star given items none_left is star = absurd cc
 gives_star given items (a_value mime piece more others are) is star = absurd cc
 gives_star given items (a_piece piece more others are) is star = absurd cc
 gives_star given items (no_memory piece value others not_star) is star = not_star cc
+
+-- a media type is given for a good piece with its value, and for nothing else
+gives_value : (given : List (Result OwnedMedia Bad)) (items : List CutItem) → AreGiven given items
+    → (mime : OwnedMedia) (others : List (Result OwnedMedia Bad)) → given ≡ Ok mime ∷ others
+    → (item : CutItem) (left : List CutItem) → items ≡ item ∷ left → (piece : List ℕ) × (item ≡ good piece mime.media)
+gives_value given items none_left mime others is item left of = absurd cc
+gives_value given items (a_value read piece more rest are) mime others is item left of = (piece, cc)
+gives_value given items (a_piece piece more rest are) mime others is item left of = absurd cc
+gives_value given items (no_memory piece value rest not_star) mime others is item left of = absurd cc

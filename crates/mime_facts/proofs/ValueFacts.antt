@@ -6,7 +6,6 @@ use Rattle.std.proofs.lemmas.Option.{none-some, same_Some}
 use Rattle.std.proofs.lemmas.Slice.Eq.{bytes_eq-Decides}
 use Rattle.std.specs.Fmt.{digits}
 use Rattle.std.specs.Str.{bytes_eq}
-use Rattle.std.specs.Prelude.{slice_get}
 use Rattle.mime.specs.Bytes.{is_token_byte}
 use Rattle.mime.specs.Grammar.{plain, quoted, blank, final, more, no_list, listed, SyntaxTree}
 use Rattle.mime.specs.Values.{MediaType, lowered, is_charset, lowered_value, lowered_parameter, lowered_list, lowered_tail, lowered_tree, pair_of, pairs_of_list, pairs_of_tail, last_plus, essence_of, kept_text, Reads, IsAccepted, IsRefused, type_of, subtype_of, suffix_of}
@@ -15,7 +14,7 @@ use Rattle.mime.specs.Names.{NameIs, name_table}
 use Rattle.mime.specs.Atoms.{atom_text}
 use Rattle.mime.specs.Printed.{token_text, fault_text, error_text}
 use Rattle.mime.specs.Views.{item_seen, name_seen, name_text}
-use Rattle.mime.specs.declared.atoms.Atom.TheVariants.{STAR_STAR, TEXT_PLAIN_UTF_8, IMAGE_SVG, APPLICATION_WWW_FORM_URLENCODED}
+use Rattle.mime.specs.declared.atoms.Atom.TheVariants.{STAR_STAR, TEXT_STAR, TEXT_PLAIN, TEXT_PLAIN_UTF_8, TEXT_HTML, TEXT_HTML_UTF_8, TEXT_CSS, TEXT_CSS_UTF_8, TEXT_JAVASCRIPT, TEXT_XML, TEXT_EVENT_STREAM, TEXT_CSV, TEXT_CSV_UTF_8, TEXT_TAB_SEPARATED_VALUES, TEXT_TAB_SEPARATED_VALUES_UTF_8, TEXT_VCARD, IMAGE_STAR, IMAGE_JPEG, IMAGE_GIF, IMAGE_PNG, IMAGE_BMP, IMAGE_SVG, FONT_WOFF, FONT_WOFF2, APPLICATION_JSON, APPLICATION_JAVASCRIPT, APPLICATION_JAVASCRIPT_UTF_8, APPLICATION_WWW_FORM_URLENCODED, APPLICATION_OCTET_STREAM, APPLICATION_MSGPACK, APPLICATION_PDF, MULTIPART_FORM_DATA}
 use Rattle.mime.specs.declared.name.Name.{Name}
 use Rattle.mime.specs.declared.scan.fault.ParseError.TheVariants.{MissingSlash, MissingSubtype, MissingEqual, MissingValue, MissingQuote, InvalidToken, NoMemory}
 use Rattle.mime.proofs.Readings.{one_reading, stopped-from_walk}
@@ -179,23 +178,52 @@ names :
     × ¬ (NameIs (codes "Abc") false (codes "abc"))
 names = (refl, differ (codes "text") (codes "texts") refl, refl, differ (codes "Abc") (codes "abc") refl)
 
--- the first of the constant names, the last, and how many they are
+-- the constant names, from `*` on
 constant_names :
-    (slice_get name_table 0 ≡ Some (codes "*")) × (slice_get name_table 37 ≡ Some (codes "utf-8")) × (length name_table ≡ 38)
-constant_names = (refl, refl, refl)
+    name_table
+    ≡ codes "*" ∷ codes "text" ∷ codes "image" ∷ codes "audio" ∷ codes "video"
+    ∷ codes "application" ∷ codes "multipart" ∷ codes "message" ∷ codes "model" ∷ codes "font"
+    ∷ codes "plain" ∷ codes "html" ∷ codes "xml" ∷ codes "javascript" ∷ codes "css" ∷ codes "csv"
+    ∷ codes "event-stream" ∷ codes "vcard" ∷ codes "json" ∷ codes "x-www-form-urlencoded"
+    ∷ codes "msgpack" ∷ codes "octet-stream" ∷ codes "pdf" ∷ codes "woff" ∷ codes "woff2"
+    ∷ codes "form-data" ∷ codes "bmp" ∷ codes "gif" ∷ codes "jpeg" ∷ codes "png" ∷ codes "svg"
+    ∷ codes "basic" ∷ codes "mpeg" ∷ codes "mp4" ∷ codes "ogg"
+    ∷ codes "charset" ∷ codes "boundary" ∷ codes "utf-8" ∷ []
+constant_names = refl
 
--- the texts of some constant media types
+-- the texts of the constant media types
 constant_texts :
-    map atom_text (STAR_STAR ∷ TEXT_PLAIN_UTF_8 ∷ IMAGE_SVG ∷ APPLICATION_WWW_FORM_URLENCODED ∷ [])
-    ≡ codes "*/*" ∷ codes "text/plain; charset=utf-8" ∷ codes "image/svg+xml" ∷ codes "application/x-www-form-urlencoded" ∷ []
+    map atom_text
+    (STAR_STAR ∷ TEXT_STAR ∷ TEXT_PLAIN ∷ TEXT_PLAIN_UTF_8
+    ∷ TEXT_HTML ∷ TEXT_HTML_UTF_8 ∷ TEXT_CSS ∷ TEXT_CSS_UTF_8
+    ∷ TEXT_JAVASCRIPT ∷ TEXT_XML ∷ TEXT_EVENT_STREAM ∷ TEXT_CSV
+    ∷ TEXT_CSV_UTF_8 ∷ TEXT_TAB_SEPARATED_VALUES ∷ TEXT_TAB_SEPARATED_VALUES_UTF_8 ∷ TEXT_VCARD
+    ∷ IMAGE_STAR ∷ IMAGE_JPEG ∷ IMAGE_GIF ∷ IMAGE_PNG
+    ∷ IMAGE_BMP ∷ IMAGE_SVG ∷ FONT_WOFF ∷ FONT_WOFF2
+    ∷ APPLICATION_JSON ∷ APPLICATION_JAVASCRIPT ∷ APPLICATION_JAVASCRIPT_UTF_8 ∷ APPLICATION_WWW_FORM_URLENCODED
+    ∷ APPLICATION_OCTET_STREAM ∷ APPLICATION_MSGPACK ∷ APPLICATION_PDF ∷ MULTIPART_FORM_DATA ∷ [])
+    ≡ codes "*/*" ∷ codes "text/*" ∷ codes "text/plain"
+    ∷ codes "text/plain; charset=utf-8" ∷ codes "text/html" ∷ codes "text/html; charset=utf-8"
+    ∷ codes "text/css" ∷ codes "text/css; charset=utf-8" ∷ codes "text/javascript"
+    ∷ codes "text/xml" ∷ codes "text/event-stream" ∷ codes "text/csv"
+    ∷ codes "text/csv; charset=utf-8" ∷ codes "text/tab-separated-values" ∷ codes "text/tab-separated-values; charset=utf-8"
+    ∷ codes "text/vcard" ∷ codes "image/*" ∷ codes "image/jpeg"
+    ∷ codes "image/gif" ∷ codes "image/png" ∷ codes "image/bmp"
+    ∷ codes "image/svg+xml" ∷ codes "font/woff" ∷ codes "font/woff2"
+    ∷ codes "application/json" ∷ codes "application/javascript" ∷ codes "application/javascript; charset=utf-8"
+    ∷ codes "application/x-www-form-urlencoded" ∷ codes "application/octet-stream" ∷ codes "application/msgpack"
+    ∷ codes "application/pdf" ∷ codes "multipart/form-data" ∷ []
 constant_texts = refl
 
 -- what callers see of a name and of a parameter
 views : (name value : Name)
     → (name_text name ≡ name.text.now)
     × (name_seen name ≡ (name.text.now, name.ignores_case))
+    × ((item_seen (name, value)).name ≡ name.text.now)
+    × ((item_seen (name, value)).name_ignores_case ≡ name.ignores_case)
     × ((item_seen (name, value)).value ≡ value.text.now)
-views name value = (refl, refl, refl)
+    × ((item_seen (name, value)).value_ignores_case ≡ value.ignores_case)
+views name value = (refl, refl, refl, refl, refl, refl)
 
 -- a byte in capital hexadecimal without leading zeros, and its position
 printed_tokens :

@@ -71,7 +71,8 @@ fn push_text(alloc: Global, report: &mut String, text: &str, mode: Mode) -> Resu
 /// Adds the rows of the media type that a text is, or its fault.
 #[inline(never)]
 fn push_reading(alloc: Global, report: &mut String, text: &str) -> Result<(), AllocError>
-    ensures { OnOk result ((rows : List ℕ) × ReportsText Mode.Parts text.now rows × (string_bytes report.new ≡ string_bytes report.old ++ rows)) }
+    ensures { OnOk result
+        ((rows : List ℕ) × ReportsText Mode.Parts text.now rows × (string_bytes report.new ≡ string_bytes report.old ++ rows)) }
 {
     match Mime::from_str(alloc, text) {
         Ok(mime) => push_value(report, &mime),
@@ -84,7 +85,8 @@ fn push_reading(alloc: Global, report: &mut String, text: &str) -> Result<(), Al
 
 /// Adds a row for each item of a text.
 fn push_items(alloc: Global, report: &mut String, text: &str) -> Result<(), AllocError>
-    ensures { OnOk result ((rows : List ℕ) × ReportsText Mode.List text.now rows × (string_bytes report.new ≡ string_bytes report.old ++ rows)) }
+    ensures { OnOk result
+        ((rows : List ℕ) × ReportsText Mode.List text.now rows × (string_bytes report.new ≡ string_bytes report.old ++ rows)) }
 {
     for item in MimeIter::new(alloc, text) {
         match item {

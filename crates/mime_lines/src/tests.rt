@@ -13,28 +13,31 @@ use std::{fmt, io};
 const ENOUGH: usize = 1 << 22;
 
 /// Gives its bytes, at most so many a read, or the letter `a` without end. After so many reads it is
-/// interrupted, which is a failure like any other.
+/// interrupted, which is a failure like any other, once or for ever.
 #[derive(Clone, Copy)]
 struct Reader<'a> {
     left: &'a [u8],
     is_endless: bool,
     most: usize,
     reads: usize,
+    fails_once: bool,
 }
 
-/// Gives these bytes, at most so many a read, and is interrupted after so many reads.
-fn giving(bytes: &[u8], most: usize, reads: usize) -> Reader<'_> {
+/// Gives these bytes, at most so many a read.
+fn giving(bytes: &[u8], most: usize) -> Reader<'_> {
     Reader {
         left: bytes,
         is_endless: false,
         most,
-        reads,
+        reads: ENOUGH,
+        fails_once: false,
     }
 }
 
 impl Read for Reader<'_> {
     fn read(&mut self, buf: &mut [u8]) -> io::Result<usize> {
         if self.reads == 0 {
+            self.reads = if self.fails_once { ENOUGH } else { 0 };
             return Err(io::Error::from(io::ErrorKind::Interrupted));
         }
         self.reads -= 1;
@@ -47,12 +50,15 @@ impl Read for Reader<'_> {
     }
 }
 
-/// Takes its bytes, at most so many a write, and fails at any others, or at each flush.
+/// Takes its bytes, at most so many a write, and fails at any others, or at a flush. After a failure it takes
+/// anything, if it fails once.
 #[derive(Clone, Copy)]
 struct Writer<'a> {
     left: &'a [u8],
     most: usize,
     fails_at_flush: bool,
+    fails_once: bool,
+    takes_all: bool,
 }
 
 /// Takes these bytes, at most so many a write, and fails at no flush.
@@ -61,23 +67,32 @@ fn taking(bytes: &[u8], most: usize) -> Writer<'_> {
         left: bytes,
         most,
         fails_at_flush: false,
+        fails_once: false,
+        takes_all: false,
     }
 }
 
 impl Write for Writer<'_> {
     fn write(&mut self, buf: &[u8]) -> io::Result<usize> {
+        if self.takes_all {
+            return Ok(buf.len());
+        }
         let count = buf.len().min(self.left.len()).min(self.most);
         match self.left.strip_prefix(&buf[..count]) {
             Some(left) if count > 0 => {
                 self.left = left;
                 Ok(count)
             }
-            _ => Err(io::Error::from(io::ErrorKind::Other)),
+            _ => {
+                self.takes_all = self.fails_once;
+                Err(io::Error::from(io::ErrorKind::Other))
+            }
         }
     }
 
     fn flush(&mut self) -> io::Result<()> {
-        if self.fails_at_flush {
+        if self.fails_at_flush && !self.takes_all {
+            self.takes_all = self.fails_once;
             return Err(io::Error::from(io::ErrorKind::BrokenPipe));
         }
         Ok(())
@@ -90,172 +105,204 @@ impl fmt::Write for Writer<'_> {
     }
 }
 
-/// A run gives this answer, its writer has taken all its bytes, and just what the answer names has failed.
-fn check(
-    rt: &impl Abort,
-    alloc: Global,
+/// A run: what it reads and writes, and how it ends.
+#[derive(Clone, Copy)]
+struct Run<'a> {
     mode: Mode,
-    reader: Reader<'_>,
-    writer: Writer<'_>,
+    reader: Reader<'a>,
+    writer: Writer<'a>,
     answer: Result<(), RunError>,
-) {
+}
+
+/// The run ends so, its writer has taken all its bytes, and just what the answer names has failed.
+fn check(rt: &impl Abort, alloc: Global, case: Run<'_>) {
     let mut source = Device {
-        inner: reader,
+        inner: case.reader,
         failed: false,
     };
     let mut sink = Device {
-        inner: writer,
+        inner: case.writer,
         failed: false,
     };
-    let got = run(alloc, &mut source, &mut sink, mode);
-    let is_right = got == answer
+    let got = run(alloc, &mut source, &mut sink, case.mode);
+    let is_right = got == case.answer
         && sink.inner.left.is_empty()
-        && source.failed == (answer == Err(RunError::Read))
-        && sink.failed == (answer == Err(RunError::Write));
+        && source.failed == (case.answer == Err(RunError::Read))
+        && sink.failed == (case.answer == Err(RunError::Write));
     assert!(rt;
         is_right,
         "{got:?}, with {} reads and {} bytes to write",
-        reader.reads,
-        writer.left.len()
+        case.reader.reads,
+        case.writer.left.len()
     );
 }
 
 /// A mode, an input and its report.
-static CASES: &[(Mode, &[u8], &[u8])] = &[
-    (
-        Mode::Parts,
-        b"IMAGE/SVG+XML\n\xff\ntext/",
-        b"ok image/svg+xml\ntype image\nsubtype svg\nsuffix xml\nnot text\n\
+#[derive(Clone, Copy)]
+struct Reported<'a> {
+    mode: Mode,
+    input: &'a [u8],
+    report: &'a [u8],
+}
+
+static CASES: &[Reported<'static>] = &[
+    Reported {
+        mode: Mode::Parts,
+        input: b"IMAGE/SVG+XML\n\xff\ntext/",
+        report: b"ok image/svg+xml\ntype image\nsubtype svg\nsuffix xml\nnot text\n\
           bad mime parse error: a subtype was missing behind the slash (/)\n",
-    ),
-    (
-        Mode::List,
-        b"application/json, invalid, text/html\ninvalid\n\xff",
-        b"ok application/json\nbad invalid\nok text/html\nnot text\n",
-    ),
-    (Mode::Parts, b"", b""),
-    (Mode::List, b"", b""),
+    },
+    Reported {
+        mode: Mode::Parts,
+        input: b"TEXT/HTML+XML; Charset=\"UTF-8\" ;q=1",
+        report: b"ok text/html+xml; charset=\"utf-8\" ;q=1\ntype text\nsubtype html\nsuffix xml\n\
+          param charset=utf-8\nparam q=1\n",
+    },
+    Reported {
+        mode: Mode::Parts,
+        input: b"a/b",
+        report: b"ok a/b\ntype a\nsubtype b\n",
+    },
+    Reported {
+        mode: Mode::Parts,
+        input: b"text/html",
+        report: b"ok text/html\ntype text\nsubtype html\n",
+    },
+    Reported {
+        mode: Mode::Parts,
+        input: b"\n",
+        report: b"bad mime parse error: a slash (/) was missing between the type and subtype\n",
+    },
+    Reported {
+        mode: Mode::Parts,
+        input: b"\xff\n",
+        report: b"not text\n",
+    },
+    Reported {
+        mode: Mode::List,
+        input: b"application/json, invalid, text/html\ninvalid\n\xff",
+        report: b"ok application/json\nbad invalid\nok text/html\nnot text\n",
+    },
+    Reported {
+        mode: Mode::Parts,
+        input: b"",
+        report: b"",
+    },
+    Reported {
+        mode: Mode::List,
+        input: b"",
+        report: b"",
+    },
 ];
+
+/// A run of such a mode, which ends so.
+fn ending<'a>(
+    mode: Mode,
+    reader: Reader<'a>,
+    writer: Writer<'a>,
+    answer: Result<(), RunError>,
+) -> Run<'a> {
+    Run {
+        mode,
+        reader,
+        writer,
+        answer,
+    }
+}
 
 #[test]
 fn reads_and_writes_a_byte_at_a_time(rt: HostRuntime) {
-    for &(mode, input, report) in CASES {
-        check(
-            &rt,
-            rt.alloc(),
-            mode,
-            giving(input, 1, ENOUGH),
-            taking(report, 1),
-            Ok(()),
-        );
+    for &case in CASES {
+        let (reader, writer) = (giving(case.input, 1), taking(case.report, 1));
+        check(&rt, rt.alloc(), ending(case.mode, reader, writer, Ok(())));
     }
 }
 
 #[test]
 fn stops_where_a_read_fails(rt: HostRuntime) {
-    for &(mode, input, _) in CASES {
+    for &case in CASES {
         // The last of these reads would have told the end.
-        for reads in 0..=input.len() {
-            check(
-                &rt,
-                rt.alloc(),
-                mode,
-                giving(input, 1, reads),
-                taking(b"", ENOUGH),
-                Err(RunError::Read),
-            );
+        for reads in 0..=case.input.len() {
+            for fails_once in [false, true] {
+                let mut reader = giving(case.input, 1);
+                reader.reads = reads;
+                reader.fails_once = fails_once;
+                let writer = taking(b"", ENOUGH);
+                let run = ending(case.mode, reader, writer, Err(RunError::Read));
+                check(&rt, rt.alloc(), run);
+            }
         }
     }
 }
 
 #[test]
-fn stops_where_a_write_or_a_flush_fails(rt: HostRuntime) {
-    for &(mode, input, report) in CASES {
-        let whole = giving(input, ENOUGH, ENOUGH);
-        for room in 0..report.len() {
-            check(
-                &rt,
-                rt.alloc(),
-                mode,
-                whole,
-                taking(&report[..room], 1),
-                Err(RunError::Write),
-            );
+fn stops_where_a_write_fails(rt: HostRuntime) {
+    for &case in CASES {
+        for room in 0..case.report.len() {
+            for fails_once in [false, true] {
+                let mut writer = taking(&case.report[..room], 1);
+                writer.fails_once = fails_once;
+                let reader = giving(case.input, ENOUGH);
+                let run = ending(case.mode, reader, writer, Err(RunError::Write));
+                check(&rt, rt.alloc(), run);
+            }
         }
-        // A flush is made for an empty report too.
-        check_flush(&rt, rt.alloc(), mode, input, report);
     }
+}
+
+/// A run writes this report, and stops where the flush after it fails.
+fn check_flush(rt: &impl Abort, alloc: Global, case: Reported<'_>) {
+    let reader = giving(case.input, ENOUGH);
+    let mut writer = taking(case.report, ENOUGH);
+    check(rt, alloc, ending(case.mode, reader, writer, Ok(())));
+    writer.fails_at_flush = true;
+    for fails_once in [false, true] {
+        writer.fails_once = fails_once;
+        let run = ending(case.mode, reader, writer, Err(RunError::Write));
+        check(rt, alloc, run);
+    }
+}
+
+#[test]
+fn stops_where_a_flush_fails(rt: HostRuntime) {
+    for &case in CASES {
+        // A flush is made for an empty report too.
+        check_flush(&rt, rt.alloc(), case);
+    }
+}
+
+/// A run over this input is too long.
+fn check_too_long(rt: &impl Abort, alloc: Global, mode: Mode, reader: Reader<'_>) {
+    let writer = taking(b"", ENOUGH);
+    check(
+        rt,
+        alloc,
+        ending(mode, reader, writer, Err(RunError::TooLong)),
+    );
 }
 
 #[test]
 fn an_endless_input_is_too_long(rt: HostRuntime) {
-    let endless = Reader {
-        left: b"",
-        is_endless: true,
-        most: ENOUGH,
-        reads: ENOUGH,
-    };
-    check(
-        &rt,
-        rt.alloc(),
-        Mode::Parts,
-        endless,
-        taking(b"", ENOUGH),
-        Err(RunError::TooLong),
-    );
-    check(
-        &rt,
-        rt.alloc(),
-        Mode::List,
-        endless,
-        taking(b"", ENOUGH),
-        Err(RunError::TooLong),
-    );
-}
-
-/// A run takes this input, but not with a byte more.
-fn check_longest(
-    rt: &impl Abort,
-    alloc: Global,
-    mode: Mode,
-    mut input: Vec<u8>,
-    report: &[u8],
-) -> Result<(), Fail> {
-    let longest = giving(input.as_slice(), ENOUGH, ENOUGH);
-    check(rt, alloc, mode, longest, taking(report, ENOUGH), Ok(()));
-    input.push(b'a')?;
-    let longer = giving(input.as_slice(), ENOUGH, ENOUGH);
-    check(
-        rt,
-        alloc,
-        mode,
-        longer,
-        taking(b"", ENOUGH),
-        Err(RunError::TooLong),
-    );
-    Ok(())
+    for mode in [Mode::Parts, Mode::List] {
+        let mut endless = giving(b"", ENOUGH);
+        endless.is_endless = true;
+        check_too_long(&rt, rt.alloc(), mode, endless);
+    }
 }
 
 #[test]
 fn takes_1048576_bytes_and_no_more(rt: HostRuntime) -> Result<(), Fail> {
-    let report = b"bad mime parse error: a slash (/) was missing between the type and subtype\n";
-    let letters = vec![in rt.alloc(); b'a'; 1_048_576]?;
-    check_longest(&rt, rt.alloc(), Mode::Parts, letters, report)
-}
-
-#[test]
-fn a_list_may_have_1048576_bytes(rt: HostRuntime) -> Result<(), Fail> {
-    let commas = vec![in rt.alloc(); b','; 1_048_576]?;
-    check_longest(&rt, rt.alloc(), Mode::List, commas, b"")
-}
-
-/// A run over this input writes this report, and then flushes it.
-fn check_flush(rt: &impl Abort, alloc: Global, mode: Mode, input: &[u8], report: &[u8]) {
-    let reader = giving(input, ENOUGH, ENOUGH);
-    let mut writer = taking(report, ENOUGH);
-    check(rt, alloc, mode, reader, writer, Ok(()));
-    writer.fails_at_flush = true;
-    check(rt, alloc, mode, reader, writer, Err(RunError::Write));
+    let slashless: &[u8] =
+        b"bad mime parse error: a slash (/) was missing between the type and subtype\n";
+    let cases: [(Mode, u8, &[u8]); 2] = [(Mode::Parts, b'a', slashless), (Mode::List, b',', b"")];
+    for (mode, byte, report) in cases {
+        let mut input = vec![in rt.alloc(); byte; 1_048_576]?;
+        let (reader, writer) = (giving(input.as_slice(), ENOUGH), taking(report, ENOUGH));
+        check(&rt, rt.alloc(), ending(mode, reader, writer, Ok(())));
+        input.push(byte)?;
+        check_too_long(&rt, rt.alloc(), mode, giving(input.as_slice(), ENOUGH));
+    }
+    Ok(())
 }
 
 #[test]
@@ -267,27 +314,22 @@ fn a_report_may_be_longer_than_the_limit(rt: HostRuntime) -> Result<(), Fail> {
     for part in parts {
         report.extend_from_slice(part)?;
     }
-    check_flush(
-        &rt,
-        rt.alloc(),
-        Mode::List,
-        input.as_slice(),
-        report.as_slice(),
-    );
+    let case = Reported {
+        mode: Mode::List,
+        input: input.as_slice(),
+        report: report.as_slice(),
+    };
+    check_flush(&rt, rt.alloc(), case);
     Ok(())
 }
 
 #[test]
 fn reads_many_bytes_at_a_time(rt: HostRuntime) -> Result<(), Fail> {
     let commas = vec![in rt.alloc(); b','; 65_536]?;
-    check(
-        &rt,
-        rt.alloc(),
-        Mode::List,
-        giving(commas.as_slice(), ENOUGH, 100),
-        taking(b"", ENOUGH),
-        Ok(()),
-    );
+    let mut reader = giving(commas.as_slice(), ENOUGH);
+    reader.reads = 100;
+    let run = ending(Mode::List, reader, taking(b"", ENOUGH), Ok(()));
+    check(&rt, rt.alloc(), run);
     Ok(())
 }
 
@@ -326,57 +368,6 @@ fn passes_on_what_it_writes(rt: HostRuntime) {
         let answer = run(rt.alloc(), &mut source, &mut sink, Mode::Parts);
         assert!(rt; answer.is_ok() && !sink.is_pending);
     }
-}
-
-/// All memory, in blocks from the largest to the smallest that could be taken, or none where memory
-/// doesn't end: the address sanitizer of `rt try` takes and gives it in a way of its own.
-fn all_memory(alloc: Global) -> Result<Option<Vec<Vec<u8>>>, Fail> {
-    const BLOCKS: usize = 1 << 17;
-    let mut blocks = Vec::with_capacity(alloc, BLOCKS)?;
-    let mut size = 1usize << 46;
-    for _ in 0..BLOCKS {
-        match Vec::with_capacity(alloc, size) {
-            Ok(block) => blocks.push(block)?,
-            Err(_) if size > 1_024 => size /= 2,
-            Err(_) if size > 8 => size -= 8,
-            Err(_) => return Ok(Some(blocks)),
-        }
-    }
-    Ok(None)
-}
-
-/// Whether a run over `a/b` to a slice of 24 bytes gives this answer and writes these bytes.
-fn ends_in_slice(alloc: Global, mode: Mode, answer: Result<(), RunError>, written: &[u8]) -> bool {
-    let mut room = [0u8; 24];
-    let mut source = Device {
-        inner: b"a/b".as_slice(),
-        failed: false,
-    };
-    let mut sink = Device {
-        inner: room.as_mut_slice(),
-        failed: false,
-    };
-    let got = run(alloc, &mut source, &mut sink, mode);
-    let left = sink.inner.len();
-    got == answer && left + written.len() == 24 && room.starts_with(written)
-}
-
-#[test]
-fn writes_nothing_without_memory(rt: HostRuntime) -> Result<(), Fail> {
-    static CASES: &[(Mode, &[u8])] = &[
-        (Mode::Parts, b"ok a/b\ntype a\nsubtype b\n"),
-        (Mode::List, b"ok a/b\n"),
-    ];
-    for &(mode, report) in CASES {
-        let Some(blocks) = all_memory(rt.alloc())? else {
-            return Ok(());
-        };
-        let is_refused = ends_in_slice(rt.alloc(), mode, Err(RunError::NoMemory), b"");
-        drop(blocks);
-        assert!(rt; is_refused);
-        assert!(rt; ends_in_slice(rt.alloc(), mode, Ok(()), report));
-    }
-    Ok(())
 }
 
 /// Whether an error prints this text, to a writer that takes it alone.

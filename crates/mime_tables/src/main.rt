@@ -7,6 +7,7 @@
 //! - `print TEXT`: a value within several widths;
 //! - `key TEXT KEY OTHER`: the value that a key finds, and whether it equals the other text;
 //! - `compare TEXTS`, `sets TEXTS`: the values against each other and against the texts, and in sets;
+//! - `with_text TEXT TEXT TEXT TEXT`: a value with a text in a set, against another value with another text;
 //! - `pair TEXT TEXT`: two values, in few walks;
 //! - `against VALUE TEXTS`: a value against texts;
 //! - `names NAMES`: names against each other, each with `~` before it where it ignores case, and with `=` where it doesn't;
@@ -34,7 +35,7 @@ use crate::constants::{bytes, constants, copies};
 use crate::fields::{text_at, text_of};
 use crate::items::{again, items};
 use crate::names::{case, names};
-use crate::relations::{against, compare, pair, sets};
+use crate::relations::{against, compare, pair, sets, with_text};
 use crate::rooms::rooms;
 use crate::short_against::short_against;
 use crate::short_cuts::short_cuts;
@@ -101,6 +102,7 @@ fn answer(alloc: Global, out: &mut String, word: &str, texts: &[String]) -> Resu
         "pair" => pair(alloc, out, first, second),
         "compare" => compare(alloc, out, texts),
         "sets" => sets(alloc, out, texts),
+        "with_text" => with_text(alloc, out, texts),
         "against" => against(alloc, out, texts),
         "names" => names(out, texts),
         "bytes" => bytes(out),

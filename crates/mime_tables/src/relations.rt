@@ -76,6 +76,24 @@ fn are_found(alloc: Global, one: &Mime, other: &Mime) -> Result<(bool, bool), Al
     Ok((hashed.contains(other), ordered.contains(other)))
 }
 
+/// Prints whether a set that has a value with a text finds another value with another text.
+pub(crate) fn with_text(alloc: Global, out: &mut String, texts: &[String]) -> Result<(), AllocError> {
+    let first = Mime::from_str(alloc, text_at(texts, 0));
+    let second = Mime::from_str(alloc, text_at(texts, 2));
+    let (Ok(one), Ok(other)) = (first, second) else {
+        return writeln!(out, "not two media types");
+    };
+    let (one, other) = ((one, text_at(texts, 1)), (other, text_at(texts, 3)));
+    let (mut first, mut second) = (Digits(1), Digits(1));
+    one.hash(&mut first);
+    other.hash(&mut second);
+    let by_hash = first.finish() == second.finish();
+    let mut hashed = HashSet::new(alloc);
+    hashed.insert(one)?;
+    let is_found = hashed.contains(&other);
+    writeln!(out, "found {is_found}, by hash {by_hash}")
+}
+
 /// `?` where the two kinds of sets don't agree.
 fn sign_of_found(found: (bool, bool)) -> char {
     match found {

@@ -227,6 +227,9 @@ pub(crate) fn key(
     }
     let found = mime.get_param(TextKey(key));
     print_found(out, &mime, found, other)?;
+    if mime.get_param(key) != found {
+        writeln!(out, "not found by the text alone")?;
+    }
     if let Some(name) = name_of(key) {
         let is_found = mime.get_param(name) == found;
         writeln!(out, "by the constant {is_found}")?;

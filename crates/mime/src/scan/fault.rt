@@ -1,11 +1,12 @@
 //! How a refusal is reported, and what it prints.
 
-ghost use Rattle.std.specs.Prelude.{◌≡◌, ◌<◌, true, Some};
-ghost use Rattle.std.specs.Fmt.{digit_glyph, digits, DisplaysOnOk};
-ghost use Rattle.mime.specs.Printed.{token_text};
+ghost use Rattle.std.specs.Prelude.{◌≡◌, IfOk, Some};
+ghost use Rattle.std.specs.Fmt.InlineText.{inline_text};
+ghost use Rattle.mime.specs.Printed.{token_text as printed_token};
 
 use std::error::Error;
 use std::fmt;
+use std::fmt::{InlineText, Write};
 use std::marker::Model;
 
 /// Why a text isn't read as a media type (RFC 7231, 3.1.1.1).
@@ -34,47 +35,28 @@ pub enum ParseError {
     NoMemory,
 }
 
-/// A digit of a number below 16, in capitals.
-fn hex_digit(value: u8) -> char
-    requires { value < 16 }
-    ensures digit { result ≡ digit_glyph true value }
-    ensures ascii { result < 128 }
+/// What the invalid byte prints, apart from a formatter, whose width would count for the numbers. It has 73 bytes at most.
+fn token_text(pos: usize, byte: u8) -> Result<InlineText<80>, fmt::Error>
+    ensures { IfOk result (λ text. inline_text text ≡ printed_token pos byte) }
 {
-    if value < 10 {
-        (b'0' + value) as char
-    } else {
-        (b'A' + (value - 10)) as char
-    }
-}
-
-/// Writes a byte in capital hexadecimal without leading zeros.
-fn write_byte<W: fmt::Write>(f: &mut fmt::Formatter<W>, byte: u8) -> fmt::Result
-    ensures { DisplaysOnOk W.write_str_gives f.old result (Some (digits 16 true byte)) f.new }
-{
-    if byte < 16 {
-        return f.write_char(hex_digit(byte));
-    }
-    f.write_char(hex_digit(byte / 16))?;
-    f.write_char(hex_digit(byte % 16))
-}
-
-/// Writes the invalid byte and its position.
-fn write_token<W: fmt::Write>(f: &mut fmt::Formatter<W>, pos: usize, byte: u8) -> fmt::Result
-    ensures { DisplaysOnOk W.write_str_gives f.old result (Some (token_text pos byte)) f.new }
-{
-    f.write_str("an invalid token was encountered, ")?;
-    write_byte(f, byte)?;
-    write!(f, " at position {pos}")
+    let mut text = InlineText::new();
+    write!(
+        text,
+        "an invalid token was encountered, {byte:X} at position {pos}"
+    )?;
+    Ok(text)
 }
 
 /// Prints what is missing, or the byte in capital hexadecimal with its position in decimal, or that memory ran out. A
-/// width is ignored.
+/// width and a precision are ignored.
 ///
 /// `text/;` is refused with `an invalid token was encountered, 3B at position 5`.
 impl fmt::Display for ParseError {
     ghost use Rattle.mime.specs.Printed.{fault_text};
 
     ghost output = { λ fault. Some (fault_text fault) };
+
+    ghost styled_output = { λ fault spec. Some (fault_text fault) };
 
     fn fmt<W: fmt::Write>(&self, f: &mut fmt::Formatter<W>) -> fmt::Result {
         match self {
@@ -91,7 +73,10 @@ impl fmt::Display for ParseError {
             ParseError::MissingQuote => f.write_str(
                 "a quote (\") was missing from a parameter value",
             ),
-            ParseError::InvalidToken { pos, byte } => write_token(f, *pos, *byte),
+            ParseError::InvalidToken { pos, byte } => {
+                let token = token_text(*pos, *byte)?;
+                f.write_str(token.as_str())
+            }
             ParseError::NoMemory => f.write_str("memory ran out"),
         }
     }
@@ -131,15 +116,17 @@ impl FromStrError {
     }
 }
 
-/// Prints `mime parse error: ` and then what its fault prints. A width is ignored.
+/// Prints `mime parse error: ` and then what its fault prints. A width and a precision are ignored.
 impl fmt::Display for FromStrError {
     ghost use Rattle.mime.specs.Printed.{error_text};
 
     ghost output = { λ error. Some (error_text error) };
 
+    ghost styled_output = { λ error spec. Some (error_text error) };
+
     fn fmt<W: fmt::Write>(&self, f: &mut fmt::Formatter<W>) -> fmt::Result {
-        let fault = self.fault;
-        write!(f, "mime parse error: {fault}")
+        f.write_str("mime parse error: ")?;
+        fmt::Display::fmt(self.fault(), f)
     }
 }
 

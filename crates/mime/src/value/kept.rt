@@ -3,10 +3,11 @@
 ghost use Rattle.std.specs.Prelude.{◌≡◌, ◌+◌, ◌++◌, ◌≤◌, ◌↔◌, IsFalse, IfOk, take, drop, length, slice_get, slice_range, string_bytes};
 ghost use Rattle.mime.specs.Bytes.{semicolon_byte};
 ghost use Rattle.mime.specs.Values.{lowered, is_charset};
-ghost use Rattle.mime.specs.Pairs.{IsEndOf, cut_of, lowered_first, lowered_within};
+ghost use Rattle.mime.specs.Pairs.{cut_of, lowered_first, lowered_within};
 ghost use Rattle.mime.specs.Scanning.{HasPlaces};
 ghost use Rattle.mime.specs.KeptText.{with_pairs_lowered, kept_places, kept_text_of};
 
+use crate::blocks::TextEnd;
 use crate::name::eq_ignoring_case;
 use crate::scan::Places;
 use crate::value::pairs::cut;
@@ -43,16 +44,14 @@ fn lower_range(bytes: &mut [u8], from: usize, to: usize)
     bytes[from..to].make_ascii_lowercase();
 }
 
-/// Lowers the first pair of a list, whose bytes these are, and gives the list after it. It is the end of a whole text.
+/// Lowers the first pair of a list, whose bytes these are, and gives the list after it.
 #[inline]
-fn lower_first<'a>(bytes: &mut [u8], whole: &str, list: &'a str) -> &'a str
-    requires same { bytes.old ≡ list.now }
-    requires end { IsEndOf list.now whole.now }
-    ensures lowered { bytes.new ≡ lowered_first list.entry.now }
-    ensures rest { result.now ≡ (cut_of list.entry.now).rest }
-    ensures end { IsEndOf result.now whole.now }
+fn lower_first<'a>(bytes: &mut [u8], list: &TextEnd<'a>) -> TextEnd<'a>
+    requires { bytes.old ≡ list.now }
+    ensures lowered { bytes.new ≡ lowered_first list.now }
+    ensures rest { result ≡ (cut_of list.now).rest }
 {
-    let pair = cut(whole, list);
+    let pair = cut(list);
     lower_range(bytes, 0, pair.head);
     if names_charset(pair.name) {
         lower_range(bytes, pair.head, pair.head + pair.value.len());
@@ -60,17 +59,16 @@ fn lower_first<'a>(bytes: &mut [u8], whole: &str, list: &'a str) -> &'a str
     pair.rest
 }
 
-/// Lowers the first `count` pairs of a list, whose bytes these are. It is the end of a whole text.
+/// Lowers the first `count` pairs of a list, whose bytes these are.
 #[inline]
-fn lower_pairs(bytes: &mut [u8], whole: &str, list: &str, count: usize)
-    requires same { bytes.old ≡ list.now }
-    requires end { IsEndOf list.now whole.now }
-    ensures { bytes.new ≡ lowered_within count list.now }
+fn lower_pairs(bytes: &mut [u8], list: TextEnd<'_>, count: usize)
+    requires { bytes.old ≡ list }
+    ensures { bytes.new ≡ lowered_within count list.entry }
 {
     let mut left = list;
     for _ in 0..count {
-        let from = bytes.len() - left.len();
-        left = lower_first(&mut bytes[from..], whole, left);
+        let from = bytes.len() - left.text().len();
+        left = lower_first(&mut bytes[from..], &left);
     }
 }
 
@@ -83,7 +81,7 @@ fn lower_text(bytes: &mut [u8], text: &str, semicolon: usize, pairs: usize)
 {
     let list = semicolon + 1;
     lower_range(bytes, 0, list);
-    lower_pairs(&mut bytes[list..], text, &text[list..], pairs);
+    lower_pairs(&mut bytes[list..], TextEnd::of(text, list), pairs);
 }
 
 /// A text with pairs as it is kept: only what ignores case is lowered.

@@ -2,145 +2,35 @@
 
 ghost use Rattle.std.specs.Iterator.{YieldsFirstBy, item_count, UpTo, at_most};
 ghost use Rattle.std.specs.Iterator.SizeHint.{IsWithinCount};
-ghost use Rattle.std.specs.Prelude.{◌≡◌, ◌+◌, ◌<◌, ◌≤◌, IsTrue, length, take, drop, slice_get, slice_index, IfSome, Some};
+ghost use Rattle.std.specs.Prelude.{◌≡◌, ◌≤◌, IsTrue, length, slice_get, IfSome, Some};
 ghost use Rattle.std.specs.Str.{IsCharBoundary};
-ghost use Rattle.mime.specs.Pairs.{IsEndOf, before_byte, after_byte, cut_of};
-ghost use Rattle.mime.specs.Marks.{marks_of};
-ghost use Rattle.mime.specs.Pairs.{leading_spaces, first_position, cut_after_equals, pairs_after, pair_seen};
-ghost use Rattle.mime.specs.Bytes.{semicolon_byte};
+ghost use Rattle.mime.specs.Blocks.{after_byte, first_position};
+ghost use Rattle.mime.specs.Pairs.{cut_of, leading_spaces, cut_after_equals, pairs_after, pair_seen};
+ghost use Rattle.mime.specs.Bytes.{quote_byte, semicolon_byte};
 ghost use Rattle.mime.specs.TextParts.{IsLoneCharset};
 ghost use Rattle.mime.specs.Quoted.{content_len as len_of};
 
+use crate::blocks::TextEnd;
 use crate::bytes::is_space;
 use std::marker::Model;
-use std::simd::prelude::*;
 
 /// The first pair of a list, and the list after its semicolon.
-#[derive(Clone, Copy)]
+#[derive(Drop)]
 pub(crate) struct Pair<'a> {
     pub(crate) name: &'a str,
     /// The number of bytes before the value.
     pub(crate) head: usize,
     /// The value without its quotes; backslashes stay: `\"x` for `"\"x"`.
     pub(crate) value: &'a str,
-    pub(crate) rest: &'a str,
+    pub(crate) rest: TextEnd<'a>,
 }
 
-/// How many bytes are looked at together.
-pub(crate) const BLOCK: usize = 16;
-
-/// Which of the first 16 bytes are this one: the bit for each.
+/// The content's length in bytes, up to its first unpaired quote or its end, from the position of its first quote.
 #[inline(always)]
-pub(crate) fn marks(text: &[u8], byte: u8) -> u64
-    requires { 16 ≤ length text.now }
-    ensures { result ≡ marks_of byte (take 16 text.now) }
-{
-    u8x16::from_slice(text)
-        .simd_eq(u8x16::splat(byte))
-        .to_bitmask()
-}
-
-/// The first position of a byte in a text of less than 16 bytes, or its end. The last 16 bytes of the whole are
-/// looked at together, where it has as many.
-#[inline(always)]
-fn position_in_end(whole: &[u8], text: &[u8], byte: u8) -> usize
-    requires end { IsEndOf text.now whole.now }
-    requires short { length text.now < 16 }
-    ensures { result ≡ first_position byte text.now }
-{
-    if whole.len() < BLOCK {
-        return position_by_one(text, byte);
-    }
-    let found = marks(&whole[whole.len() - BLOCK..], byte) >> (BLOCK - text.len());
-    if found == 0 {
-        text.len()
-    } else {
-        found.trailing_zeros() as usize
-    }
-}
-
-/// The first position of a byte, or the end, byte by byte.
-#[inline(always)]
-fn position_by_one(text: &[u8], byte: u8) -> usize
-    ensures { result ≡ first_position byte text.now }
-{
-    let mut position = 0;
-    while position < text.len() {
-        if text[position] == byte {
-            return position;
-        }
-        position += 1;
-    }
-    position
-}
-
-/// The first position of a byte, or the end, 16 bytes at a time.
-#[inline(never)]
-fn position_by_blocks(text: &[u8], byte: u8) -> usize
-    requires { 16 ≤ length text.now }
-    ensures { result ≡ first_position byte text.now }
-{
-    let mut left = text;
-    while left.len() >= BLOCK {
-        let found = marks(left, byte);
-        if found != 0 {
-            return text.len() - left.len() + found.trailing_zeros() as usize;
-        }
-        left = &left[BLOCK..];
-    }
-    text.len() - left.len() + position_in_end(text, left, byte)
-}
-
-/// The first position of a byte, or the end, in the end of a whole.
-#[inline(always)]
-fn position_of(whole: &[u8], text: &[u8], byte: u8) -> usize
-    requires { IsEndOf text.now whole.now }
-    ensures { result ≡ first_position byte text.now }
-{
-    if text.len() < BLOCK {
-        return position_in_end(whole, text, byte);
-    }
-    let found = marks(text, byte);
-    if found == 0 {
-        return position_by_blocks(text, byte);
-    }
-    found.trailing_zeros() as usize
-}
-
-/// The text before the ASCII byte at a position, and the text after it; all of it and nothing at the end. With
-/// `#[inline]` alone short walks took up to a tenth more.
-#[inline(always)]
-fn split_around<'a>(text: &'a str, position: usize) -> (&'a str, &'a str)
-    requires { position < length text.now → slice_index text.now position < 128 }
-    ensures before { result.0.now ≡ take position text.entry.now }
-    ensures after { result.1.now ≡ drop (position + 1) text.entry.now }
-{
-    if position < text.len() {
-        (&text[..position], &text[position + 1..])
-    } else {
-        (text, "")
-    }
-}
-
-/// The text before the first such byte, and the text after it; all of it and nothing if there is none.
-#[inline(always)]
-fn split_at_first<'a>(whole: &str, text: &'a str, byte: u8) -> (&'a str, &'a str)
-    requires ascii { byte < 128 }
-    requires end { IsEndOf text.now whole.now }
-    ensures before { result.0.now ≡ before_byte byte text.entry.now }
-    ensures after { result.1.now ≡ after_byte byte text.entry.now }
-{
-    let position = position_of(whole.as_bytes(), text.as_bytes(), byte);
-    split_around(text, position)
-}
-
-/// The content's length in bytes: up to the first unpaired quote, or to the end.
-#[inline(always)]
-fn content_len(whole: &[u8], text: &[u8]) -> usize
-    requires { IsEndOf text.now whole.now }
+fn content_len(text: &[u8], quote: usize) -> usize
+    requires { quote ≡ first_position quote_byte text.now }
     ensures { result ≡ len_of text.now }
 {
-    let quote = position_of(whole, text, b'"');
     if quote == 0 || text[quote - 1] != b'\\' {
         // No backslash precedes it, so nothing pairs it.
         return quote;
@@ -183,43 +73,42 @@ pub(crate) fn gap_of(list: &str) -> usize
 
 /// The text after the first semicolon, or nothing. Most texts begin with it, or are empty.
 #[inline(always)]
-fn after_semicolon<'a>(whole: &str, text: &'a str) -> &'a str
-    requires { IsEndOf text.now whole.now }
-    ensures { result.now ≡ after_byte semicolon_byte text.entry.now }
+fn after_semicolon<'a>(end: TextEnd<'a>) -> TextEnd<'a>
+    ensures { result ≡ after_byte semicolon_byte end.entry }
 {
+    let text = end.text();
     if text.is_empty() {
-        return "";
+        return end;
     }
     if text.as_bytes()[0] == b';' {
-        return &text[1..];
+        return end.after(1);
     }
-    split_at_first(whole, text, b';').1
+    end.split_at_first(b';').1
 }
 
 /// The pair of a name, cut from the text after its equals sign, with a quoted value or a plain one. `list` is the
 /// list's length in bytes.
 #[inline(always)]
-fn cut_value<'a>(whole: &str, list: usize, name: &'a str, text: &'a str) -> Pair<'a>
-    requires within { length text.now ≤ list }
-    requires end { IsEndOf text.now whole.now }
-    ensures name { result.name.now ≡ (cut_after_equals list name.entry.now text.entry.now).name }
-    ensures head { result.head ≡ (cut_after_equals list name.entry.now text.entry.now).head }
-    ensures value { result.value.now ≡ (cut_after_equals list name.entry.now text.entry.now).value }
-    ensures rest { result.rest.now ≡ (cut_after_equals list name.entry.now text.entry.now).rest }
+fn cut_value<'a>(list: usize, name: &'a str, end: &TextEnd<'a>) -> Pair<'a>
+    requires { length end.now ≤ list }
+    ensures name { result.name.now ≡ (cut_after_equals list name.entry.now end.now).name }
+    ensures head { result.head ≡ (cut_after_equals list name.entry.now end.now).head }
+    ensures value { result.value.now ≡ (cut_after_equals list name.entry.now end.now).value }
+    ensures rest { result.rest ≡ (cut_after_equals list name.entry.now end.now).rest }
 {
+    let text = end.text();
     if !text.is_empty() && text.as_bytes()[0] == b'"' {
-        let content = &text[1..];
-        let length = content_len(whole.as_bytes(), content.as_bytes());
-        let (value, others) = split_around(content, length);
-        let rest = after_semicolon(whole, others);
+        let content = end.after(1);
+        let length = content_len(content.text().as_bytes(), content.position_of(b'"'));
+        let (value, others) = content.split_around(length);
         return Pair {
             name,
-            head: list - content.len(),
+            head: list - content.text().len(),
             value,
-            rest,
+            rest: after_semicolon(others),
         };
     }
-    let (value, rest) = split_at_first(whole, text, b';');
+    let (value, rest) = end.split_at_first(b';');
     Pair {
         name,
         head: list - text.len(),
@@ -228,40 +117,34 @@ fn cut_value<'a>(whole: &str, list: usize, name: &'a str, text: &'a str) -> Pair
     }
 }
 
-/// The first pair of a list that is the end of a whole: the text that it stands in, or the list itself. Where less than
-/// 16 bytes are left of the list, those before them are looked at too, in one step.
+/// Cuts the first pair off a list.
 #[tactic(auto, unfolding(crate::specs::Pairs::cut_of))]
 #[inline(always)]
-pub(crate) fn cut<'a>(whole: &str, list: &'a str) -> Pair<'a>
-    requires { IsEndOf list.now whole.now }
-    ensures name { result.name.now ≡ (cut_of list.entry.now).name }
-    ensures head { result.head ≡ (cut_of list.entry.now).head }
-    ensures value { result.value.now ≡ (cut_of list.entry.now).value }
-    ensures rest { result.rest.now ≡ (cut_of list.entry.now).rest }
-    ensures end { IsEndOf result.rest.now whole.now }
+pub(crate) fn cut<'a>(list: &TextEnd<'a>) -> Pair<'a>
+    ensures name { result.name.now ≡ (cut_of list.now).name }
+    ensures head { result.head ≡ (cut_of list.now).head }
+    ensures value { result.value.now ≡ (cut_of list.now).value }
+    ensures rest { result.rest ≡ (cut_of list.now).rest }
 {
-    let gap = gap_of(list);
-    let (name, text) = split_at_first(whole, &list[gap..], b'=');
-    cut_value(whole, list.len(), name, text)
+    let text = list.text();
+    let (name, rest) = list.after(gap_of(text)).split_at_first(b'=');
+    cut_value(text.len(), name, &rest)
 }
 
-/// The pairs of a list that are still to come, each a name and a value. The list is the end of a whole text.
+/// The pairs of a list that are still to come, each a name and a value.
 #[derive(Drop)]
 pub(crate) struct Pairs<'a> {
-    whole: &'a str,
-    list: &'a str,
+    list: TextEnd<'a>,
     left: usize,
 }
 
 impl<'a> Model for Pairs<'a> {
     ghost use Rattle.std.specs.Prelude.{List, ℕ};
-    ghost use Rattle.mime.specs.Pairs.{IsEndOf, pairs_within};
+    ghost use Rattle.mime.specs.Pairs.{pairs_within};
 
     ghost Value = { List (List ℕ × List ℕ) };
 
-    ghost view = { λ pairs. pairs_within pairs.left pairs.list.now };
-
-    ghost invariant = { λ pairs. IsEndOf pairs.list.now pairs.whole.now };
+    ghost view = { λ pairs. pairs_within pairs.left pairs.list };
 }
 
 impl<'a> Pairs<'a> {
@@ -273,13 +156,11 @@ impl<'a> Pairs<'a> {
     {
         match semicolon {
             None => Pairs {
-                whole: text,
-                list: "",
+                list: TextEnd::of(text, text.len()),
                 left: 0,
             },
             Some(at) => Pairs {
-                whole: text,
-                list: &text[at + 1..],
+                list: TextEnd::of(text, at + 1),
                 left: count,
             },
         }
@@ -290,7 +171,7 @@ impl<'a> Pairs<'a> {
     pub(crate) fn is_lone_charset(&self) -> bool
         ensures { IsTrue result → IsLoneCharset self.now }
     {
-        self.left == 1 && self.list.as_bytes().starts_with(b" charset=")
+        self.left == 1 && self.list.text().as_bytes().starts_with(b" charset=")
     }
 }
 
@@ -306,7 +187,7 @@ impl<'a> Iterator for Pairs<'a> {
         if self.left == 0 {
             return None;
         }
-        let pair = cut(self.whole, self.list);
+        let pair = cut(&self.list);
         self.left -= 1;
         self.list = pair.rest;
         Some((pair.name, pair.value))

@@ -4,7 +4,7 @@ ghost use Rattle.std.specs.Prelude.{◌≡◌, codes, length, IfSome, Some};
 ghost use Rattle.std.specs.Iterator.{YieldsFirstBy, item_count, UpTo, at_most};
 ghost use Rattle.std.specs.Iterator.SizeHint.{IsWithinCount};
 ghost use Rattle.mime.specs.Items.{items_of};
-ghost use Rattle.mime.specs.Pairs.{IsEndOf, pairs_within};
+ghost use Rattle.mime.specs.Pairs.{pairs_within};
 ghost use Rattle.mime.specs.Views.{item_seen};
 
 use crate::name::Name;

@@ -3,7 +3,6 @@
 ghost use Rattle.std.specs.Prelude.{◌≡◌, ◌↔◌, IsTrue, Some, true, refl};
 ghost use Rattle.std.specs.Cmp.{partial_equiv_from_equiv, partial_order_from_total, on_equiv, on_total, eq_by_cmp_equiv};
 ghost use Rattle.std.specs.Fmt.{debug_str, styled_text};
-ghost use Rattle.std.specs.List.{fold};
 ghost use Rattle.std.specs.Ordering.{MatchOrdering, eq_by_cmp, on, as_partial_cmp};
 ghost use Rattle.mime.specs.Comparison.{Same, Before, media_cmp};
 ghost use Rattle.mime.specs.HashInput.{media_input};
@@ -16,43 +15,12 @@ use std::cmp::Ordering;
 use std::fmt;
 use std::hash::{Hash, Hasher};
 
-/// Whether two values are equal.
-#[inline]
-fn same(first: &Mime, second: &Mime) -> bool
-    ensures { IsTrue result ↔ Same first.now.media second.now.media }
-{
-    if first.count() != second.count() {
-        return false;
-    }
-    // One text is read as one value.
-    if first.as_str() == second.as_str() {
-        return true;
-    }
-    // Without parameters the text is the essence, and the essences differ.
-    if first.count() == 0 {
-        return false;
-    }
-    same_parts(first, second)
-}
-
 /// Whether two values are equal, part by part: a list of parameters can be written in more than one way.
 #[inline(never)]
 fn same_parts(first: &Mime, second: &Mime) -> bool
     ensures { IsTrue result ↔ Same first.now.media second.now.media }
 {
     first.essence_str() == second.essence_str() && first.pairs().eq(second.pairs())
-}
-
-/// How two values compare.
-#[inline]
-fn order(first: &Mime, second: &Mime) -> Ordering
-    ensures { result ≡ media_cmp first.now.media second.now.media }
-{
-    // One text is read as one value.
-    if first.as_str() == second.as_str() {
-        return Ordering::Equal;
-    }
-    order_parts(first, second)
 }
 
 /// How two values compare, part by part.
@@ -67,21 +35,6 @@ fn order_parts(first: &Mime, second: &Mime) -> Ordering
     first.pairs().cmp(second.pairs())
 }
 
-/// Feeds a hasher the parameters of a value, and then its essence.
-#[inline]
-fn feed<H: Hasher>(mime: &Mime, state: &mut H)
-    ensures { state.new ≡ fold H.write state.old (media_input mime.now.media) }
-{
-    let essence = mime.essence_str().as_bytes();
-    // Only for speed, since `feed_pairs` feeds nothing then: a fresh hasher takes an essence alone in whole words.
-    if mime.count() == 0 {
-        state.write(essence);
-        return;
-    }
-    feed_pairs(mime.pairs(), state);
-    state.write(essence);
-}
-
 /// Two values are equal if their essences are the same and so are their parameters, in the same
 /// order: `a/b; p="x"` and `A/B;P=x` are (RFC 7231, 3.1.1.1). It asks for no memory.
 impl PartialEq for Mime {
@@ -94,7 +47,18 @@ impl PartialEq for Mime {
         ensures computed { result ≡ eq_by_cmp media_cmp self.now.media other.now.media }
         ensures same { IsTrue result ↔ Same self.now.media other.now.media }
     {
-        same(self, other)
+        if self.count() != other.count() {
+            return false;
+        }
+        // One text is read as one value.
+        if self.as_str() == other.as_str() {
+            return true;
+        }
+        // Without parameters the text is the essence, and the essences differ.
+        if self.count() == 0 {
+            return false;
+        }
+        same_parts(self, other)
     }
 }
 
@@ -109,7 +73,7 @@ impl PartialOrd for Mime {
 
     #[inline]
     fn partial_cmp(&self, other: &Mime) -> Option<Ordering> {
-        Some(order(self, other))
+        Some(self.cmp(other))
     }
 }
 
@@ -130,20 +94,25 @@ impl Ord for Mime {
         ensures computed { result ≡ media_cmp self.now.media other.now.media }
         ensures told { MatchOrdering result (Before self.now.media other.now.media) (Same self.now.media other.now.media) (Before other.now.media self.now.media) }
     {
-        order(self, other)
+        // One text is read as one value.
+        if self.as_str() == other.as_str() {
+            return Ordering::Equal;
+        }
+        order_parts(self, other)
     }
 }
 
-/// Feeds a hasher the parameters and the essence, so equal values feed it the same: `a/b; p="x"` and
-/// `A/B;P=x` do. The bytes may change between versions; rely only on equal values feeding the same. It asks for no
-/// memory.
+/// Feeds a hasher the parameters and the essence. Equal values feed it the same bytes: `a/b; p="x"` and `A/B;P=x`. Of
+/// two unequal values neither feeds bytes with which the other's begin, so a tuple of a value and a text is as good a
+/// key as the value alone. Which bytes are fed may change between versions. It doesn't allocate.
 impl Hash for Mime {
     ghost hash_input = { λ mime. media_input mime.media };
 
     ghost respects_eq = { λ first second is. media_input-same first.media second.media (same_from_cmp first.media second.media is) };
 
     fn hash<H: Hasher>(&self, state: &mut H) {
-        feed(self, state);
+        feed_pairs(self.pairs(), state);
+        self.essence_str().hash(state);
     }
 }
 

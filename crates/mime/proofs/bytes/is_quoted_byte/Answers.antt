@@ -1,10 +1,10 @@
 -- The table holds the class of each byte.
-use Rattle.std.proofs.Common.{refl, arith}
+use Rattle.std.proofs.Common.{refl, arith, nat_le}
 use Rattle.mime.specs.Bytes.{is_quoted_byte as is_quoted}
-use Rattle.mime.specs.declared.bytes.TheConstants.{QUOTED}
+use Rattle.mime.specs.declared.bytes.TheConstants.{KINDS}
 use Rattle.mime.proofs.ByteTables.{in_table}
 use Rattle.mime.proofs.bytes.is_quoted_byte.Goals as goal
 
 pub returns : goal.returns
 unfolding is_quoted
-returns c = in_table is_quoted QUOTED refl c.args.b (omega arith)
+returns c = in_table is_quoted (nat_le 1) KINDS refl refl c.args.b (omega arith)

@@ -1,10 +1,10 @@
 -- The table holds the class of each byte.
-use Rattle.std.proofs.Common.{refl, arith}
+use Rattle.std.proofs.Common.{refl, arith, nat_le}
 use Rattle.mime.specs.Bytes.{is_token_byte}
-use Rattle.mime.specs.declared.bytes.TheConstants.{TOKEN}
+use Rattle.mime.specs.declared.bytes.TheConstants.{KINDS}
 use Rattle.mime.proofs.ByteTables.{in_table}
 use Rattle.mime.proofs.bytes.is_token.Goals as goal
 
 pub returns : goal.returns
 unfolding is_token_byte
-returns c = in_table is_token_byte TOKEN refl c.args.b (omega arith)
+returns c = in_table is_token_byte (nat_le 3) KINDS refl refl c.args.b (omega arith)

@@ -5,7 +5,7 @@ use Rattle.std.specs.Char.{is_ascii_lowercase}
 use Rattle.std.specs.List.{list_all, range_with_len}
 use Rattle.std.proofs.lemmas.Bool.{eqb-true}
 use mir.Val.{bool_byte}
-use Rattle.mime.specs.Marks.{mark}
+use Rattle.mime.specs.Blocks.{difference_bit}
 use Rattle.mime.proofs.EachByte.{at_byte}
 use Rattle.mime.proofs.difference.difference.Goals as goal
 use Rattle.mime.proofs.difference.difference.Goals.{then-is_ascii_lowercase, else-is_ascii_lowercase}
@@ -19,13 +19,13 @@ case_of x = cond (is_ascii_lowercase (bit_or x 32)) 32 0
 
 -- the computed bits are the mark, for all pairs of bytes
 agrees : ℕ → ℕ → Bool
-agrees x y = nat_eq (found (case_of x) x y) (mark x y)
+agrees x y = nat_eq (found (case_of x) x y) (difference_bit x y)
 
 agrees_at_all : list_all (λ x. list_all (agrees x) (range_with_len 0 256)) (range_with_len 0 256) ≡ true
 unfolding agrees case_of
 agrees_at_all = refl
 
-marked : (x y case : ℕ) → x < 256 → y < 256 → case ≡ case_of x → found case x y ≡ mark x y
+marked : (x y case : ℕ) → x < 256 → y < 256 → case ≡ case_of x → found case x y ≡ difference_bit x y
 unfolding agrees
 marked x y case fits fits_too is =
     let row = at_byte (λ x. list_all (agrees x) (range_with_len 0 256)) x fits agrees_at_all in

@@ -2,7 +2,7 @@
 use Rattle.std.proofs.Common.{◌≡◌, ◌+◌, ◌∙◌, sym, ap, subst, take, arith, rules, slice_set}
 use Rattle.std.specs.Simd.Lanes.{zip2}
 use Rattle.std.proofs.lemmas.List.{take_all}
-use Rattle.mime.specs.Marks.{mark}
+use Rattle.mime.specs.Blocks.{difference_bit}
 use Rattle.mime.proofs.Differences.{one_more}
 use Rattle.mime.proofs.difference.differences.Goals as goal
 
@@ -16,7 +16,7 @@ loop-at-preserved c =
       long = search rules;
       so_far =
           ap (λ m. take (n + 1) (slice_set c.loop-at.found n m)) c.difference.ensures
-          ∙ one_more mark a b c.loop-at.found n (omega arith) (omega arith)
+          ∙ one_more difference_bit a b c.loop-at.found n (omega arith) (omega arith)
           (omega (arith, c.loop-at.invariant.long)) c.loop-at.invariant.so_far;
     }
 
@@ -25,4 +25,4 @@ returns c =
     let found = c.loop-at.found in
     let full : c.loop-at.at ≡ 16 = omega (arith, c.loop-at-test.false, c.loop-at.invariant.within) in
     sym (take_all 16 found (omega (arith, c.loop-at.invariant.long)))
-    ∙ subst (λ n. take n found ≡ zip2 mark (take n c.args.a.now) (take n c.args.b.now)) full c.loop-at.invariant.so_far
+    ∙ subst (λ n. take n found ≡ zip2 difference_bit (take n c.args.a.now) (take n c.args.b.now)) full c.loop-at.invariant.so_far

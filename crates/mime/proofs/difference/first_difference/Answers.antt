@@ -5,7 +5,6 @@ use Rattle.mime.specs.Values.{lowered}
 use Rattle.mime.proofs.Lowering.{length-lowered}
 use Rattle.mime.proofs.Differences.{alike_onward, difference_onward}
 use Rattle.mime.proofs.difference.first_difference.Goals as goal
-use Rattle.mime.proofs.difference.first_difference.Goals.{then-a-b, else-a-b}
 
 -- fronts that are the same have the same shorter fronts
 shorter : (a b : List ℕ) (n m : ℕ) → n ≤ m → take m a ≡ take m b → take n a ≡ take n b
@@ -23,7 +22,7 @@ loop-from-preserved c = record {
 
 pub returns-in-Some-difference_in_block-clause-some : goal.returns-in-Some-difference_in_block-clause-some
 returns-in-Some-difference_in_block-clause-some c =
-    let last = c.if-a-b.end - 16 in
+    let last = c.min-last.result - 16 in
     let front =
     shorter (lowered c.args.a.now) (lowered c.args.b.now) last c.loop-from.from c.loop-from-test.false c.loop-from.invariant.same in
     difference_onward c.args.a.now c.args.b.now last front c.in-Some-difference_in_block.at c.in-Some-difference_in_block.ensures.some
@@ -32,10 +31,9 @@ pub returns-in-None-difference_in_block-clause-none : goal.returns-in-None-diffe
 returns-in-None-difference_in_block-clause-none c = λ _ long.
     let a = c.args.a.now in
     let b = c.args.b.now in
-    let last = c.if-a-b.end - 16 in
+    let last = c.min-last.result - 16 in
     let front = shorter (lowered a) (lowered b) last c.loop-from.from c.loop-from-test.false c.loop-from.invariant.same in
     let all = alike_onward a b last front 16 (c.in-None-difference_in_block.ensures.none refl) in
-    let end : c.if-a-b.end ≡ length a =
-    elim c.if-a-b.branch [ then-a-b w ↦ w.end-is | else-a-b w ↦ w.end-is ∙ sym long ] in
+    let end : c.min-last.result ≡ length a = omega (arith, c.min-last.ensures, long) in
     sym (take_all (last + 16) (lowered a) (omega (arith, end, length-lowered a))) ∙ all
     ∙ take_all (last + 16) (lowered b) (omega (arith, end, long, length-lowered b))

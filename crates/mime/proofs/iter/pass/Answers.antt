@@ -1,5 +1,5 @@
 -- The scanner's verdict says how a text begins.
-use Rattle.std.proofs.Common.{ap, length, arith}
+use Rattle.std.proofs.Common.{arith}
 use Rattle.mime.proofs.Beginnings.{judged-from_scan, stopped-boundary, passes-whole, passes-unfinished, passes-stopped}
 use Rattle.mime.proofs.iter.pass.Goals as goal
 
@@ -8,14 +8,6 @@ split_at-requires c =
     let judged =
     judged-from_scan _ _ _ _ _ _ c.in-Stopped.ensures c.new-reader.ensures.left c.new-reader.ensures.count c.count-steps.ensures.count in
     (stopped-boundary _ _ _ _ _ c.utf8.text judged (omega (arith, c.position.ensures, c.count-steps.ensures.count))).0
-
-pub after_character-requires : goal.after_character-requires
-after_character-requires c =
-    let judged =
-    judged-from_scan _ _ _ _ _ _ c.in-Stopped.ensures c.new-reader.ensures.left c.new-reader.ensures.count c.count-steps.ensures.count in
-    let boundary =
-    stopped-boundary _ _ c.position.result _ _ c.utf8.text judged (omega (arith, c.position.ensures, c.count-steps.ensures.count)) in
-    omega (arith, ap length c.split_at.ensures.back, boundary.1)
 
 pub returns-in-Accepted-clause-passes : goal.returns-in-Accepted-clause-passes
 returns-in-Accepted-clause-passes c =
@@ -29,7 +21,8 @@ returns-in-Unfinished-clause-passes c =
 
 pub returns-in-Stopped-clause-passes : goal.returns-in-Stopped-clause-passes
 returns-in-Stopped-clause-passes c =
-    passes-stopped _ _ _ _ _ _ _ _
+    let next = c.ceil_char_boundary.ensures in
+    passes-stopped _ _ _ _ _ _ _ _ _
     (judged-from_scan _ _ _ _ _ _ c.in-Stopped.ensures c.new-reader.ensures.left c.new-reader.ensures.count c.count-steps.ensures.count)
     (omega (arith, c.position.ensures, c.count-steps.ensures.count))
-    c.split_at.ensures.front c.split_at.ensures.back c.after_character.ensures
+    c.split_at.ensures.front c.split_at.ensures.back c.range_from.ensures.value next.bound next.boundary next.nearest

@@ -2,7 +2,7 @@
 use Rattle.mime.proofs.Differences.{none_found}
 use Rattle.mime.proofs.name.eq_ignoring_case.Goals as goal
 
-pub returns-then-a-ge16 : goal.returns-then-a-ge16
-returns-then-a-ge16 c =
+pub returns-then-a-ge-BLOCK : goal.returns-then-a-ge-BLOCK
+returns-then-a-ge-BLOCK c =
     none_found c.args.a.now c.args.b.now c.first_difference.result c.is_none.result c.is_none.ensures c.if-a-b.false
     c.first_difference.ensures.some c.first_difference.ensures.none

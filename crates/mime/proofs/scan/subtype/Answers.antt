@@ -1,67 +1,51 @@
--- The run so far and its last plus go on, byte by byte.
-use Rattle.std.proofs.Common.{◌≡◌, ◌+◌, [], Some, None, MatchOption, ◌-◌, length, refl, sym, ◌∙◌, arith, ne_eqb, eq-eqb}
-use Rattle.std.specs.Prelude.{IsFalse, ◌==◌}
+-- The run up to the last plus goes on, plus by plus.
+use Rattle.std.proofs.Common.{◌≡◌, ◌-◌, ◌+◌, length, [], None, Some, true, refl, sym, ap, ◌∙◌, arith, eqb, ne_eqb, eq-eqb}
+use Rattle.std.specs.Prelude.{◌==◌}
+use Rattle.std.specs.Option.{option_eq, option_to_list}
 use Rattle.std.proofs.lemmas.Bool.{cond-true, cond-false}
-use Rattle.mime.specs.Bytes.{is_token_byte}
-use Rattle.mime.specs.Scanning.{GivesFirst}
-use Rattle.mime.proofs.Passing.{passing_more, passes_at, last_plus-plus, last_plus-other}
-use Rattle.mime.proofs.scan.subtype.Goals.{Joined-next, in_default, in-Some+then-not-is_token}
+use Rattle.mime.specs.Bytes.{plus_byte}
+use Rattle.mime.proofs.Passing.{passing_plus, last_plus-stop, subtype_at, stopped_by, given_sum}
 use Rattle.mime.proofs.scan.subtype.Goals as goal
 
-pub loop-byte-init : goal.loop-byte-init
-loop-byte-init c = record {
+pub loop-plus-init : goal.loop-plus-init
+loop-plus-init c = record {
+  mid = c.args.reader.now;
   passing = record { run = []; of_class = refl; given = record { bytes = refl; counted = omega arith } };
   plus = refl;
+  passes = c.token_to_plus-stop.ensures;
 }
 
-pub loop-byte-preserved-then-byte-eq43 : goal.loop-byte-preserved-then-byte-eq43
-loop-byte-preserved-then-byte-eq43 c =
-    let p = c.loop-byte.invariant.passing in
+pub loop-plus-preserved : goal.loop-plus-preserved
+loop-plus-preserved c =
+    let so_far = c.loop-plus.invariant in
     let place = c.position-plus.result in
-    let at : place ≡ c.args.reader.now.count - c.args.from + length p.run =
-    omega (arith, p.given.counted, c.in-Some.ensures.0.counted, c.position-plus.ensures, c.requires.begun) in
+    let test : option_eq eqb c.loop-plus.stop (Some plus_byte) ≡ true = sym c.eq.ensures ∙ c.loop-plus-test.true in
+    let size = ap (λ s. length (option_to_list s)) (stopped_by plus_byte c.loop-plus.stop test) in
+    let at : c.args.reader.now.count - c.args.from + (length so_far.passing.run + length so_far.passes.run) ≡ place =
+    omega (arith, size, so_far.passing.given.counted, so_far.passes.given.counted, c.position-plus.ensures, c.requires.begun) in
     record {
-      passing = passing_more p c.in-Some.ensures (sym c.is_token.ensures ∙ c.if-not-is_token.false);
+      mid = c.loop-plus.reader;
+      passing = passing_plus so_far.passing so_far.passes test;
       plus =
-          last_plus-plus (c.args.reader.now.count - c.args.from) p.run _ place c.if-byte-eq43.true
-          (sym at)
-          ∙ sym (cond-false (place == 0) None (Some place) (ne_eqb place 0 (λ zero. omega (arith, at, c.requires.begun))));
+          last_plus-stop _ so_far.passing.run so_far.passes.run place at
+          ∙ sym (cond-false (place == 0) None (Some place) (ne_eqb place 0 (λ zero. omega (arith, at, zero, c.requires.begun))));
+      passes = c.token_to_plus-stop-in-loop-plus.ensures;
     }
 
-pub loop-byte-preserved : goal.loop-byte-preserved
-loop-byte-preserved c =
-    let p = c.loop-byte.invariant.passing in
-    record {
-      passing = passing_more p c.in-Some.ensures (sym c.is_token.ensures ∙ c.if-not-is_token.false);
-      plus =
-          last_plus-other (c.args.reader.now.count - c.args.from) p.run _ (ne_eqb c.in-Some.byte 43 c.if-byte-eq43.false)
-          ∙ c.loop-byte.invariant.plus;
-    }
-
--- the end, or a byte that is no token byte
-stopped : (c : Joined-next) → record {
-  given : GivesFirst c.loop-byte.reader c.next.new.self c.match-next.stop;
-  stopped : MatchOption c.match-next.stop (c.next.new.self.left ≡ []) (λ b. IsFalse (is_token_byte b));
-}
-stopped c =
-    elim c.match-next.branch [
-      | in_default w ↦ rw w.stop-is (record { given = w.in_default.ensures; stopped = w.in_default.ensures.1 })
-      | in-Some+then-not-is_token w ↦
-          rw w.stop-is (record { given = w.in-Some.ensures; stopped = sym w.is_token.ensures ∙ w.if-not-is_token.true })
-    ]
+pub loop-plus-smaller : goal.loop-plus-smaller
+loop-plus-smaller c =
+    let test : option_eq eqb c.loop-plus.stop (Some plus_byte) ≡ true = sym c.eq.ensures ∙ c.loop-plus-test.true in
+    let given = c.token_to_plus-stop-in-loop-plus.ensures.given in
+    omega (arith, ap (λ s. length (option_to_list s)) (stopped_by plus_byte c.loop-plus.stop test), given.counted, given_sum given)
 
 pub returns-then-plus-eq0 : goal.returns-then-plus-eq0
 returns-then-plus-eq0 c =
-    let s = stopped (goal.at.returns-then-plus-eq0 c).Joined-next in
-    record {
-      passes = passes_at c.loop-byte.invariant.passing s.given s.stopped;
-      plus = sym (c.loop-byte.invariant.plus ∙ cond-true _ _ _ (eq-eqb _ 0 c.if-plus-eq0.true));
-    }
+    let so_far = c.loop-plus.invariant in
+    subtype_at c.loop-plus.stop None _ so_far.passing (so_far.plus ∙ cond-true _ _ _ (eq-eqb _ 0 c.if-plus-eq0.true)) so_far.passes
+    (sym c.eq.ensures ∙ c.loop-plus-test.false)
 
 pub returns-else-plus-eq0 : goal.returns-else-plus-eq0
 returns-else-plus-eq0 c =
-    let s = stopped (goal.at.returns-else-plus-eq0 c).Joined-next in
-    record {
-      passes = passes_at c.loop-byte.invariant.passing s.given s.stopped;
-      plus = sym (c.loop-byte.invariant.plus ∙ cond-false _ _ _ (ne_eqb _ 0 c.if-plus-eq0.false));
-    }
+    let so_far = c.loop-plus.invariant in
+    subtype_at c.loop-plus.stop _ _ so_far.passing (so_far.plus ∙ cond-false _ _ _ (ne_eqb _ 0 c.if-plus-eq0.false)) so_far.passes
+    (sym c.eq.ensures ∙ c.loop-plus-test.false)

@@ -1,16 +1,21 @@
--- The run so far, with the position of its last plus, or 0.
-use Rattle.std.proofs.Common.{◌≡◌, ◌-◌, length, Some, None}
+-- The run up to the last plus, with its position, or 0, and then the bytes up to the one that stops them.
+use Rattle.std.proofs.Common.{◌≡◌, ◌+◌, ◌-◌, length, Some, None}
 use Rattle.std.specs.Prelude.{if◌then◌else◌, ◌==◌}
+use Rattle.std.specs.Option.{option_to_list}
 use Rattle.mime.specs.Bytes.{is_token_byte}
+use Rattle.mime.specs.Remaining.{Remaining, is_token_except_plus}
+use Rattle.mime.specs.Scanning.{Passes}
 use Rattle.mime.specs.Values.{last_plus}
 use Rattle.mime.proofs.Passing.{Passing}
 use Rattle.mime.proofs.scan.subtype.Given as goal
 
-abbrev pub invariant-loop-byte : goal.invariant-loop-byte
-invariant-loop-byte l = record {
-  passing : Passing is_token_byte l.initial.reader l.reader;
-  plus : last_plus (l.initial.reader.count - l.from) passing.run ≡ (if l.plus == 0 then None else Some l.plus);
+abbrev pub invariant-loop-plus : goal.invariant-loop-plus
+invariant-loop-plus l = record {
+  mid : Remaining;
+  passing : Passing is_token_byte l.fn.reader mid;
+  plus : last_plus (l.fn.reader.count - l.fn.from) passing.run ≡ (if l.plus == 0 then None else Some l.plus);
+  passes : Passes is_token_except_plus mid l.reader l.stop;
 }
 
-abbrev pub decreases-loop-byte : goal.decreases-loop-byte
-decreases-loop-byte l = length l.reader.left
+abbrev pub decreases-loop-plus : goal.decreases-loop-plus
+decreases-loop-plus l = length l.reader.left + length (option_to_list l.stop)

@@ -1,9 +1,12 @@
--- The value that was found, and its length.
-use Rattle.std.proofs.Common.{rules, sym, ap, Some}
+-- The value that was found, and what it means.
+use Rattle.std.proofs.Common.{rules}
 use Rattle.mime_examples.proofs.boundary.form_boundary.Goals as goal
 
-pub returns-then-is_empty-clause-first : goal.returns-then-is_empty-clause-first
-returns-then-is_empty-clause-first c = λ form. (_, c.in_ok-get_param.ensures.found, search rules)
+pub returns-then-ne : goal.returns-then-ne
+returns-then-ne c = (_, c.get_param.ensures.found, search rules)
 
-pub returns-clause-first : goal.returns-clause-first
-returns-clause-first c = λ form. (_, c.in_ok-get_param.ensures.found, ap Some (sym c.as_str-boundary.ensures))
+pub returns-then-is_boundary : goal.returns-then-is_boundary
+returns-then-is_boundary c = (_, c.get_param.ensures.found, search rules)
+
+pub returns-else-is_boundary : goal.returns-else-is_boundary
+returns-else-is_boundary c = (_, c.get_param.ensures.found, search rules)

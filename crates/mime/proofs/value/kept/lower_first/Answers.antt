@@ -4,29 +4,28 @@ use Rattle.mime.specs.Values.{is_charset}
 use Rattle.mime.proofs.PairCuts.{cut_of-within}
 use Rattle.mime.proofs.Ranges.{lowered_first-plain, lowered_first-charset}
 use Rattle.mime.proofs.value.kept.lower_first.Goals as goal
-use Rattle.mime.proofs.value.kept.lower_first.Goals.{then-names_charset, else-names_charset}
 
 pub lower_range-requires-clause-within : goal.lower_range-requires-clause-within
-lower_range-requires-clause-within c = omega (arith, cut_of-within c.args.list.now, ap length c.requires.same)
+lower_range-requires-clause-within c = omega (arith, cut_of-within c.args.list.now, ap length c.requires)
 
 pub overflow_add-pair : goal.overflow_add-pair
-overflow_add-pair c = omega (arith, cut_of-within c.args.list.now, ap length c.cut-pair.ensures.value)
+overflow_add-pair c = omega (arith, ap length c.requires, cut_of-within c.args.list.now, ap length c.cut-pair.ensures.value)
 
 pub lower_range-requires-then-names_charset-clause-within : goal.lower_range-requires-then-names_charset-clause-within
 lower_range-requires-then-names_charset-clause-within c =
-    omega (arith, cut_of-within c.args.list.now, ap length c.cut-pair.ensures.value, ap length c.requires.same)
+    omega (arith, cut_of-within c.args.list.now, ap length c.cut-pair.ensures.value, ap length c.requires)
 
-pub returns-clause-lowered : goal.returns-clause-lowered
-returns-clause-lowered c =
-    let list = c.args.list.now in
+pub returns-then-names_charset-clause-lowered : goal.returns-then-names_charset-clause-lowered
+returns-then-names_charset-clause-lowered c =
     let cut = c.cut-pair.ensures in
     let charset = c.names_charset.ensures ∙ ap is_charset cut.name in
-    elim c.if-names_charset.branch [
-      | then-names_charset w ↦
-          w.bytes-is ∙ w.lower_range-then-names_charset.ensures
-          ∙ rw (c.lower_range.ensures, c.requires.same, cut.head, cut.value)
-          (lowered_first-charset list (sym charset ∙ w.if-names_charset.true))
-      | else-names_charset w ↦
-          w.bytes-is ∙ c.lower_range.ensures
-          ∙ rw (c.requires.same, cut.head) (lowered_first-plain list (sym charset ∙ w.if-names_charset.false))
-    ]
+    c.lower_range-then-names_charset.ensures
+    ∙ rw (c.lower_range.ensures, c.requires, cut.head, cut.value)
+    (lowered_first-charset c.args.list.now (sym charset ∙ c.if-names_charset.true))
+
+pub returns-else-names_charset-clause-lowered : goal.returns-else-names_charset-clause-lowered
+returns-else-names_charset-clause-lowered c =
+    let cut = c.cut-pair.ensures in
+    let charset = c.names_charset.ensures ∙ ap is_charset cut.name in
+    c.lower_range.ensures
+    ∙ rw (c.requires, cut.head) (lowered_first-plain c.args.list.now (sym charset ∙ c.if-names_charset.false))

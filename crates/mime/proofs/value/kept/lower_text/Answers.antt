@@ -3,5 +3,5 @@ use Rattle.std.proofs.Common.{lit<}
 use Rattle.mime.proofs.CharBorders.{boundary_after}
 use Rattle.mime.proofs.value.kept.lower_text.Goals as goal
 
-pub range_from-requires : goal.range_from-requires
-range_from-requires c = λ _. boundary_after _ _ _ c.utf8.text c.requires.parted (lit< tt)
+pub of-requires : goal.of-requires
+of-requires c = boundary_after _ _ _ c.utf8.text c.requires.parted (lit< tt)

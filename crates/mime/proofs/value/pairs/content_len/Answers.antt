@@ -28,16 +28,16 @@ loop-position-preserved c =
 
 pub bounds-text-quote : goal.bounds-text-quote
 bounds-text-quote c =
-    omega (arith, c.position_of-quote.ensures, prefix_len-le-length (λ b. not (b == quote_byte)) c.args.text.now, c.if-quote-eq0.false)
+    omega (arith, c.requires, prefix_len-le-length (λ b. not (b == quote_byte)) c.args.text.now, c.if-quote-eq0.false)
 
 pub returns-then-quote-eq0 : goal.returns-then-quote-eq0
 returns-then-quote-eq0 c =
     let text = c.args.text.now in
-    let quote = c.position_of-quote.result in
+    let quote = c.args.quote in
     elim c.then-quote-eq0.branch [
       | then-quote-eq0-via-then-quote-eq0 w ↦
-          content_len-first_quote text quote c.position_of-quote.ensures (λ m same. absurd (omega (arith, same, w.if-quote-eq0.true)))
+          content_len-first_quote text quote c.requires (λ m same. absurd (omega (arith, same, w.if-quote-eq0.true)))
       | then-quote-eq0-via-else-quote-eq0+then-text-quote-ne92 w ↦
-          content_len-first_quote text quote c.position_of-quote.ensures (λ m same.
+          content_len-first_quote text quote c.requires (λ m same.
           subst (λ at. get_or text at 0 ≢ backslash_byte) (omega (arith, same)) w.if-text-quote-ne92.true)
     ]

@@ -3,5 +3,5 @@ use Rattle.std.proofs.Common.{lit<}
 use Rattle.mime.proofs.CharBorders.{boundary_after}
 use Rattle.mime.proofs.value.pairs.Pairs.after.Goals as goal
 
-pub range_from-requires : goal.range_from-requires
-range_from-requires c = λ _. boundary_after _ _ _ c.utf8.text (rw c.in-Some.is at c.requires) (lit< tt)
+pub of-requires-in-Some : goal.of-requires-in-Some
+of-requires-in-Some c = boundary_after _ _ _ c.utf8.text (rw c.in-Some.is at c.requires) (lit< tt)

@@ -1,6 +1,19 @@
--- What the answer says.
-use Rattle.mime.proofs.Ordering.{tells_answer}
+-- One text is read as one value, and what the answer says.
+use Rattle.std.proofs.Common.{◌∙◌, sym}
+use Rattle.std.specs.Cmp.Lexicographic.{same_text}
+use Rattle.std.specs.declared.cmp.Ordering.TheVariants.{Equal}
+use Rattle.mime.proofs.Counts.{same_from_text}
+use Rattle.mime.proofs.Ordering.{equal-media, tells_answer}
 use Rattle.mime.proofs.value.traits.MimeOrd.cmp.Goals as goal
 
+pub returns-then-eq-clause-computed : goal.returns-then-eq-clause-computed
+returns-then-eq-clause-computed c =
+    sym (equal-media c.args.self.now.media c.args.other.now.media
+    (same_from_text _ _ c.args.self.now.media c.args.other.now.media c.as_str.ensures.reads c.as_str-2.ensures.reads
+    (same_text _ _ (sym c.if-eq.true ∙ c.eq.ensures))))
+
+pub returns-then-eq-clause-told : goal.returns-then-eq-clause-told
+returns-then-eq-clause-told c = tells_answer c.args.self.now.media c.args.other.now.media Equal (returns-then-eq-clause-computed c)
+
 pub returns-clause-told : goal.returns-clause-told
-returns-clause-told c = tells_answer c.args.self.now.media c.args.other.now.media c.order.result c.order.ensures
+returns-clause-told c = tells_answer c.args.self.now.media c.args.other.now.media c.order_parts.result c.order_parts.ensures

@@ -1,0 +1,10 @@
+-- What is left has the first position where the whole does.
+use Rattle.std.proofs.Common.{◌≡◌, ◌+◌, ◌-◌, length, drop}
+use Rattle.mime.specs.Blocks.{first_position}
+use Rattle.mime.proofs.blocks.position_by_one.Given as goal
+
+abbrev pub invariant-loop-position : goal.invariant-loop-position
+invariant-loop-position l = l.position + first_position l.byte (drop l.position l.text) ≡ first_position l.byte l.text
+
+abbrev pub decreases-loop-position : goal.decreases-loop-position
+decreases-loop-position l = length l.text - l.position

@@ -1,0 +1,11 @@
+-- Pieces without an item were passed.
+use Rattle.std.proofs.Common.{length}
+use Rattle.mime.specs.UnderWay.{IsSound}
+use Rattle.mime.proofs.Iterating.{IsLooking, seen}
+use Rattle.mime.proofs.iter.MimeIter.next_piece.Given as goal
+
+abbrev pub invariant-loop-self : goal.invariant-loop-self
+invariant-loop-self l = IsLooking l.fn.self (seen l.self-inside) × IsSound (seen l.self-inside)
+
+abbrev pub decreases-loop-self : goal.decreases-loop-self
+decreases-loop-self l = length l.self-inside.left.now

@@ -1,0 +1,8 @@
+-- One byte more of the class was passed.
+use Rattle.std.proofs.Common.{sym, ◌∙◌}
+use Rattle.mime.proofs.Passing.{passing_more}
+use Rattle.mime.proofs.scan.token_to_plus.Goals as goal
+
+pub loop-byte-preserved : goal.loop-byte-preserved
+loop-byte-preserved c =
+    passing_more c.loop-byte.invariant c.in-Some.ensures (sym c.is_token_except_plus.ensures ∙ c.if-not-is_token_except_plus.false)

@@ -1,0 +1,80 @@
+-- What values feed a hasher, by computation; texts that a prefix-free input tells from others, and an input that isn't prefix-free.
+use Rattle.std.proofs.Common.{◌≡◌, ◌≢◌, ℕ, false, List, [], ◌∷◌, ◌++◌, None, refl, sym, ap, ◌∙◌, codes}
+use Rattle.std.proofs.lemmas.Bool.{false≢true}
+use Rattle.std.specs.Char.{encode_utf8}
+use Rattle.std.specs.Hash.{HashWrites}
+use Rattle.std.specs.Hash as fed
+use Rattle.std.specs.List.{concat}
+use Rattle.mime.specs.Bytes.{is_token_byte}
+use Rattle.mime.specs.Grammar.{no_list}
+use Rattle.mime.specs.Values.{MediaType, OwnedMedia, Reads}
+use Rattle.mime.specs.HashInput.{media_input}
+use Rattle.mime.specs.HashLaws.{IsReadInUtf8, IsPrefixFree}
+use Rattle.mime.proofs.HashProofs.{fed-read}
+use Rattle.mime.proofs.KeptText.{kept_is_read}
+use Rattle.mime_facts.proofs.ComparisonFacts.{quoted_x, plain_x, plain_y}
+use Rattle.mime_facts.proofs.StandardFacts.{media, reads}
+use Rattle.mime_facts.proofs.ValueFacts.{differ, plain_value, reads_capitals, keeps_no_capitals}
+
+-- the value of `a/bx`
+abbrev longer_value : MediaType
+longer_value = media (codes "a/bx") 1 None [] (codes "a/bx")
+
+reads_longer : Reads (codes "a/bx") longer_value
+unfolding is_token_byte
+reads_longer = reads (codes "a") (codes "bx") no_list (refl, refl, tt)
+
+-- what a value and a text after it feed, as a tuple does
+abbrev pair_fed : MediaType → List ℕ → List ℕ
+pair_fed value text = concat (media_input value ++ fed.str text)
+
+-- a value with a text feeds what no other value feeds with another text, however the two are written together
+fed_with_text :
+    (pair_fed longer_value (codes "c") ≢ pair_fed plain_value (codes "xc"))
+    × (pair_fed plain_x (codes "") ≢ pair_fed plain_value (codes "px"))
+    × (concat (media_input plain_x) ≢ concat (media_input plain_y))
+    × (concat (media_input quoted_x) ≡ concat (media_input plain_x))
+unfolding fed.le_bytes
+fed_with_text = (
+  differ (pair_fed longer_value (codes "c")) (pair_fed plain_value (codes "xc")) refl,
+  differ (pair_fed plain_x (codes "")) (pair_fed plain_value (codes "px")) refl,
+  differ (concat (media_input plain_x)) (concat (media_input plain_y)) refl,
+  refl,
+)
+
+-- ---- values that were read from valid UTF-8
+
+read_plain : IsReadInUtf8 plain_value
+unfolding encode_utf8
+read_plain = (codes "A/B", (codes "A/B", (refl, refl)), reads_capitals)
+
+read_longer : IsReadInUtf8 longer_value
+unfolding encode_utf8
+read_longer = (codes "a/bx", (codes "a/bx", (refl, refl)), reads_longer)
+
+-- a value that keeps a capital of its essence isn't read, and one with the byte 255 not from valid UTF-8
+not_read_in_utf8 :
+    ¬ (IsReadInUtf8 (record plain_value { kept = codes "A/B" }))
+    × ¬ (IsReadInUtf8 (record plain_value { pairs = (codes "p", 255 ∷ []) ∷ [] }))
+not_read_in_utf8 = (
+  (λ is. keeps_no_capitals (kept_is_read is.0 _ is.2)),
+  λ is. false≢true (fed-read _ is).pairs.0.1,
+)
+
+-- ---- prefix-free inputs
+
+abbrev owned : MediaType → OwnedMedia
+owned value = record { media = value; fixed = false }
+
+-- neither of `a/b` and `a/bx` begins the other
+neither_begins : (input : OwnedMedia → HashWrites) → IsPrefixFree input → (more : List ℕ)
+    → (concat (input (owned plain_value)) ++ more ≢ concat (input (owned longer_value)))
+    × (concat (input (owned longer_value)) ++ more ≢ concat (input (owned plain_value)))
+neither_begins input law more = (
+  (λ is. differ (codes "a/b") (codes "a/bx") refl (law (owned plain_value) (owned longer_value) more read_plain read_longer is).0),
+  λ is. differ (codes "a/bx") (codes "a/b") refl (law (owned longer_value) (owned plain_value) more read_longer read_plain is).0,
+)
+
+-- an essence without an end isn't prefix-free
+essence_alone : ¬ (IsPrefixFree (λ value. value.media.essence ∷ []))
+essence_alone law = (neither_begins (λ value. value.media.essence ∷ []) law (codes "x")).0 refl
