@@ -2,17 +2,19 @@
 //!
 //! `driver OPERATION here TIMES` and `driver OPERATION there TIMES` make an operation so many times, and print its answer: the
 //! difference of two runs is what the operation costs. Standard input has the text, and after a line feed the text or name that an
-//! operation on two takes.
+//! operation on two takes. Without words it is the program `mime_lines` over the Rust crate, written the same way: labels and texts are
+//! pushed, and a fault is written by its `Display`.
 
 extern crate mime;
 
 use mime::{Mime, APPLICATION_JSON, IMAGE_SVG, TEXT_HTML, TEXT_PLAIN_UTF_8};
 use std::arch::asm;
 use std::collections::hash_map::DefaultHasher;
+use std::collections::HashMap;
 use std::env;
-use std::fmt::Write;
-use std::hash::{Hash, Hasher};
-use std::io::{self, Read};
+use std::fmt::{self, Write as _};
+use std::hash::{BuildHasherDefault, Hash, Hasher};
+use std::io::{self, Read, Write as _};
 
 /// A text on its way into crates/mime_bench, where a Global crosses as nothing.
 #[repr(C)]
@@ -37,12 +39,9 @@ macro_rules! operations {
             }
         )*
 
-        /// Makes an operation so many times with the Rust crate.
-        fn there(operation: &str, text: &str, other: &str, times: usize) -> usize {
-            match operation {
-                $(stringify!($name) => $name(text, other, times),)*
-                _ => panic!("there is no {operation}"),
-            }
+        /// The twins by name. A program that hashes has maps, too: so the hasher isn't made part of the one place that calls it.
+        fn twins() -> HashMap<&'static str, fn(&str, &str, usize) -> usize, BuildHasherDefault<DefaultHasher>> {
+            [$((stringify!($name), $name as fn(&str, &str, usize) -> usize)),*].into_iter().collect()
         }
     };
 }
@@ -50,19 +49,27 @@ macro_rules! operations {
 operations! {
     read(text, _other) {
         repeat length {
-            length = hidden(text).parse::<Mime>().map_or(0, |mime| mime.as_ref().len());
+            length = match hidden(text).parse::<Mime>() {
+                Ok(mime) => mime.as_ref().len(),
+                Err(_) => 0,
+            };
         }
     }
     look_up(text, other) {
         let mime = value_of(text);
         repeat length {
-            length = hidden(&mime).get_param(other).map_or(0, |value| value.as_str().len());
+            if let Some(value) = hidden(&mime).get_param(other) {
+                length = value.as_str().len();
+            }
         }
     }
     walk(text, _other) {
         let mime = value_of(text);
         repeat length {
-            length = hidden(&mime).params().map(|(name, value)| name.as_str().len() + value.as_str().len()).sum();
+            length = 0;
+            for (name, value) in hidden(&mime).params() {
+                length += name.as_str().len() + value.as_str().len();
+            }
         }
     }
     name_eq(text, other) {
@@ -73,7 +80,12 @@ operations! {
     // The release has no iterator, so this is what its user writes.
     items(text, _other) {
         repeat length {
-            length = hidden(text).split(',').map(|entry| entry.trim().parse::<Mime>().map_or(0, |mime| mime.as_ref().len())).sum();
+            length = 0;
+            for entry in hidden(text).split(',') {
+                if let Ok(mime) = entry.trim().parse::<Mime>() {
+                    length += mime.as_ref().len();
+                }
+            }
         }
     }
     eq(text, other) {
@@ -142,14 +154,58 @@ fn hidden<T: ?Sized>(value: &T) -> &T {
     kept
 }
 
-fn main() {
-    let (words, mut given): (Vec<String>, _) = (env::args().collect(), String::new());
-    io::stdin().read_to_string(&mut given).unwrap();
+/// Adds the report on a line.
+fn push_line(report: &mut String, line: &[u8]) -> fmt::Result {
+    let Ok(text) = std::str::from_utf8(line) else {
+        return push_row(report, "not text", "");
+    };
+    let mime = match text.parse::<Mime>() {
+        Ok(mime) => mime,
+        Err(error) => return writeln!(report, "bad {error}"),
+    };
+    push_row(report, "ok ", mime.as_ref())?;
+    push_row(report, "type ", mime.type_().as_str())?;
+    push_row(report, "subtype ", mime.subtype().as_str())?;
+    if let Some(suffix) = mime.suffix() {
+        push_row(report, "suffix ", suffix.as_str())?;
+    }
+    for (name, value) in mime.params() {
+        report.push_str("param ");
+        report.push_str(name.as_str());
+        push_row(report, "=", value.as_str())?;
+    }
+    Ok(())
+}
+
+fn push_row(report: &mut String, label: &str, text: &str) -> fmt::Result {
+    report.push_str(label);
+    report.push_str(text);
+    report.push('\n');
+    Ok(())
+}
+
+fn write_report(input: &[u8]) -> io::Result<()> {
+    let mut report = String::new();
+    if !input.is_empty() {
+        for line in input.strip_suffix(b"\n").unwrap_or(input).split(|byte| *byte == b'\n') {
+            push_line(&mut report, line).expect("a String takes all that is written to it");
+        }
+    }
+    io::stdout().write_all(report.as_bytes())
+}
+
+fn main() -> io::Result<()> {
+    let (words, mut input): (Vec<String>, _) = (env::args().collect(), Vec::new());
+    io::stdin().read_to_end(&mut input)?;
+    if words.len() == 1 {
+        return write_report(&input);
+    }
+    let given = String::from_utf8(input).unwrap();
     let (text, other) = given.split_once('\n').unwrap();
     let slice = |text: &str| Slice(text.as_ptr(), text.len());
     let run = |times| match &*words[2] {
         "here" => unsafe { mime_bench(slice(&words[1]), slice(text), slice(other), times) },
-        _ => there(&words[1], text, other, times),
+        _ => twins()[&*words[1]](text, other, times),
     };
     // Memory was used before, as in a program that has run for a while: else a block can grow where it is.
     drop(hidden(&(20..80).map(|length| "x".repeat(length)).collect::<Vec<_>>()).clone());
@@ -158,4 +214,5 @@ fn main() {
         run(1);
     }
     println!("{}", run(words[3].parse().unwrap()));
+    Ok(())
 }

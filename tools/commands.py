@@ -18,63 +18,39 @@ PROVED = os.environ.get("PROVED") or TOP
 # How many seconds rt may take for one command, and a program for one input. Both take far less.
 RT_SECONDS, PROGRAM_SECONDS = 20 * 60, 60
 
-_running = set()
-_is_ended = False
-
-
-class Ended(Exception):
-    """Nothing is begun any more, since the tool was told to end."""
+_running, _is_ended = set(), False
 
 
 def run(words, seconds, given=None, **how):
-    """Runs a command on these bytes, or on nothing, as subprocess.run does. What takes longer is ended, with all that it
-    began, and is a TimeoutError."""
+    """Runs a command on these bytes, or on nothing, as subprocess.run does. What takes longer is ended, with all that it began, and is a
+    TimeoutError; and once the tool was told to end, nothing is begun any more."""
     how = {"stdin": subprocess.DEVNULL if given is None else subprocess.PIPE, **how}
-    process = subprocess.Popen(words, start_new_session=True, **how)
+    process = subprocess.Popen(["timeout", "-k", "5", str(seconds), *words], **how)
     _running.add(process)
     try:
         if _is_ended:
-            raise Ended
-        output, errors = process.communicate(given, seconds)
-        if _is_ended:
-            raise Ended
-        return subprocess.CompletedProcess(words, process.returncode, output, errors)
-    except subprocess.TimeoutExpired:
-        raise TimeoutError(f"`{shlex.join(map(str, words))}` took longer than {seconds} s, and was ended") from None
+            process.terminate()
+        output, errors = process.communicate(given)
     finally:
-        if process.returncode is None:
-            _end(process)
         _running.discard(process)
-
-
-def _end(process):
-    _signal(process, signal.SIGTERM)
-    with contextlib.suppress(subprocess.TimeoutExpired):
-        process.wait(5)
-    _signal(process, signal.SIGKILL)
-    process.wait()
-
-
-def _signal(process, number):
-    """It goes to all that the process began, too: they are one group."""
-    with contextlib.suppress(ProcessLookupError):
-        os.killpg(process.pid, number)
+    if _is_ended:
+        raise SystemExit("ended")
+    if process.returncode == 124:
+        raise TimeoutError(f"`{shlex.join(map(str, words))}` took longer than {seconds} s, and was ended")
+    return subprocess.CompletedProcess(words, process.returncode, output, errors)
 
 
 def end_on_signals():
     """Lets SIGTERM and SIGINT end a tool as an error does, so that its folders are removed, and with it what it runs."""
     for number in (signal.SIGTERM, signal.SIGINT):
-        signal.signal(number, _end_all)
+        signal.signal(number, _end)
 
 
-def _end_all(number, _frame):
+def _end(number, _frame):
     global _is_ended
     _is_ended = True
-    for it in (signal.SIGTERM, signal.SIGINT):
-        signal.signal(it, signal.SIG_IGN)
     for process in list(_running):
-        if process.returncode is None:
-            _signal(process, signal.SIGTERM)
+        process.terminate()
     raise SystemExit(128 + number)
 
 
@@ -104,8 +80,9 @@ def refuse(library, words, given, number, **how):
     """Runs a program with one request for memory refused, or none if the number is 0: what it did, and how many requests and bytes each
     count had, with whether one was refused. REFUSE_FROM="start" makes the whole run one count."""
     with tempfile.TemporaryFile() as counted:
-        env = {"LD_PRELOAD": library, "REFUSE": str(number), "REFUSE_COUNT": str(counted.fileno()), **how}
-        done = run(words, PROGRAM_SECONDS, given, stdout=subprocess.PIPE, stderr=subprocess.PIPE, env=env, pass_fds=(counted.fileno(),))
+        how = {"LD_PRELOAD": library, "REFUSE": str(number), "REFUSE_COUNT": str(counted.fileno()), **how}
+        words = ["env", "-i", *(f"{name}={value}" for name, value in how.items()), *words]
+        done = run(words, PROGRAM_SECONDS, given, stdout=subprocess.PIPE, stderr=subprocess.PIPE, pass_fds=[counted.fileno()])
         counted.seek(0)
         return done, [(int(it.split()[0]), int(it.split()[1]), b"refused" in it) for it in counted.read().splitlines()]
 
@@ -127,23 +104,19 @@ def write(path, text):
         file.write(text)
 
 
-def _is_found(what):
-    return bool(shutil.which(what)) or os.path.exists(what)
-
-
 def is_there(what, *packages):
     """Whether a command can be run, or a file is there. Where not, Debian's packages that have it are installed, if they can be."""
-    if _is_found(what):
+    is_found = lambda: bool(shutil.which(what)) or os.path.exists(what)
+    if is_found():
         return True
     print(f"{what} is missing: apt-get installs {' '.join(packages)}", flush=True)
     said = ""
-    with contextlib.suppress(OSError):
-        run(["apt-get", "update", "-qq"], RT_SECONDS, stdout=subprocess.DEVNULL, stderr=subprocess.DEVNULL)
-        said = run(["apt-get", "install", "-y", "-qq", "--no-install-recommends", *packages], RT_SECONDS,
-                   stdout=subprocess.PIPE, stderr=subprocess.STDOUT, errors="replace").stdout
-    if not _is_found(what):
+    for words in (["update", "-qq"], ["install", "-y", "-qq", "--no-install-recommends", *packages]):
+        with contextlib.suppress(OSError):
+            said = run(["apt-get", *words], RT_SECONDS, stdout=subprocess.PIPE, stderr=subprocess.STDOUT, errors="replace").stdout
+    if not is_found():
         print(f"{said[-600:]}\n{what} is needed, and could not be installed: install it (on Debian: {' '.join(packages)})".lstrip())
-    return _is_found(what)
+    return is_found()
 
 
 def copied(crates, room, top=TOP, without=("out",)):

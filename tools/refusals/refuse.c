@@ -6,7 +6,6 @@
  * and of bytes goes to the file descriptor REFUSE_COUNT, with the word "refused" if one was refused. */
 #define _GNU_SOURCE
 #include <errno.h>
-#include <stddef.h>
 #include <stdio.h>
 #include <stdlib.h>
 #include <string.h>
@@ -31,7 +30,7 @@ __attribute__((constructor)) static void begin(void)
     counting = getenv("REFUSE_FROM") != NULL;
 }
 
-static void end_count(void)
+__attribute__((destructor)) static void end_count(void)
 {
     char said[64];
     int length = snprintf(said, sizeof said, "%ld %zu%s\n", requests, bytes, refused ? " refused" : "");
@@ -39,8 +38,6 @@ static void end_count(void)
         syscall(SYS_write, counts, said, (size_t)length);
     counting = 0;
 }
-
-__attribute__((destructor)) static void end(void) { end_count(); }
 
 static int refuses(size_t size)
 {
@@ -54,10 +51,7 @@ static int refuses(size_t size)
     return 1;
 }
 
-#define REQUEST(asked, call, ...) \
-    { \
-        return refuses(asked) ? NULL : call(__VA_ARGS__); \
-    }
+#define REQUEST(asked, call, ...) { return refuses(asked) ? NULL : call(__VA_ARGS__); }
 
 void *malloc(size_t size) REQUEST(size, __libc_malloc, size)
 void *calloc(size_t count, size_t size) REQUEST(count * size, __libc_calloc, count, size)
@@ -73,8 +67,7 @@ int posix_memalign(void **block, size_t align, size_t size)
 
 static int is_line(const char *line, struct iovec part)
 {
-    const char *start = part.iov_base;
-    return part.iov_len >= 3 && memcmp(start, line, 3) == 0 && (part.iov_len == 3 || start[3] == '\n');
+    return part.iov_len >= 3 && memcmp(part.iov_base, line, 3) == 0 && (part.iov_len == 3 || ((char *)part.iov_base)[3] == '\n');
 }
 
 /* The line "now" begins a count, and the line "end" ends it. */
@@ -82,8 +75,7 @@ ssize_t writev(int fd, const struct iovec *parts, int count)
 {
     ssize_t done = syscall(SYS_writev, fd, parts, count);
     if (fd == 1 && count > 0 && is_line("now", *parts)) {
-        requests = refused = 0;
-        bytes = 0;
+        requests = refused = bytes = 0;
         counting = 1;
     } else if (fd == 1 && count > 0 && is_line("end", *parts)) {
         end_count();

@@ -1,5 +1,5 @@
 -- The table of the bytes' kinds holds each class: a byte is of a class where its kind is one from some kind on.
-use Rattle.std.proofs.Common.{◌≡◌, ℕ, ◌<◌, Bool, List, get_or, map, ap, sym, ◌∙◌, arith, nat_le, length}
+use Rattle.std.proofs.Common.{◌≡◌, ℕ, ◌<◌, Bool, List, get_or, map, ap, sym, ◌∙◌, arith, length}
 use Rattle.std.specs.List.{range_with_len}
 use Rattle.std.proofs.lemmas.List.{get_or-map}
 use Rattle.std.proofs.lemmas.List.FromFn.{get_or-map-range_with_len}

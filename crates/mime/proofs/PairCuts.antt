@@ -6,10 +6,9 @@ use Rattle.std.proofs.lemmas.List.{take_at, drop_at, drop-drop, take-append-drop
 use Rattle.mime.specs.Bytes.{semicolon_byte, equals_byte, quote_byte}
 use Rattle.mime.specs.Values.{lowered, lowered_value}
 use Rattle.mime.specs.Quoted.{content_len, after_content}
-use Rattle.mime.specs.Blocks.{IsEndOf, first_position, before_byte, after_byte}
+use Rattle.mime.specs.Blocks.{first_position, before_byte, after_byte}
 use Rattle.mime.specs.Pairs.{PairCut, cut_after_equals, leading_spaces, without_gap, cut_of, lowered_first, lowered_within}
 use Rattle.mime.proofs.Lowering.{lowered_value-either}
-use Rattle.mime.proofs.Marks.{end_drop}
 use Rattle.mime.proofs.Utf8.{IsLoweredInPart, same, small, in_parts, length-in_part}
 
 -- the first list is the second without some of its first bytes

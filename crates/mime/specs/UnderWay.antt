@@ -1,5 +1,5 @@
 -- Private. How a text is passed piece by piece, and what a `MimeIter` keeps.
-use Rattle.std.specs.Prelude.{◌≡◌, ◌≢◌, ℕ, ◌+◌, ◌≤◌, ◌<◌, Bool, false, List, [], ◌++◌, length, Option, Some, None}
+use Rattle.std.specs.Prelude.{◌≡◌, ◌≢◌, ℕ, ◌+◌, ◌≤◌, ◌<◌, Bool, false, List, [], length, Option, Some, None}
 use Rattle.std.specs.Borrow.{Bor}
 use Rattle.mime.specs.Values.{MediaType, Reads}
 use Rattle.mime.specs.Scanning.{HasPlaces}

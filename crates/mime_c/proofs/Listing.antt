@@ -6,7 +6,7 @@ use Rattle.mime.specs.Cut.{CutItem, Cut}
 use Rattle.mime.specs.Runs.{IsFirstItem, HasNoItem}
 use Rattle.mime.specs.Runs as runs
 use Rattle.mime.proofs.Cuts.{has_cut, cut_unique}
-use Rattle.mime_c.specs.Strings.{string_of, item_text, strings, item_texts, written}
+use Rattle.mime_c.specs.Strings.{string_of, item_text, item_texts}
 use Rattle.mime_c.specs.Answers.{ListsTo, is_listed, has_no_memory}
 use Rattle.mime_c.specs.declared.TheConstants.{MIME_OK, MIME_NO_MEMORY}
 use Rattle.mime_c.proofs.Writing.{Fills, fills-first, fills-fits, fills-next, fills-last}

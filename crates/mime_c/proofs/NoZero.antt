@@ -5,7 +5,7 @@ use Rattle.std.specs.List.{list_all, onto_first, AllByRecursion}
 use Rattle.std.proofs.lemmas.Bool.{and_parts, and_from, cond-false}
 use Rattle.std.proofs.lemmas.Bool.Decides.{nat_tests}
 use Rattle.mime.specs.Bytes.{is_token_byte, is_quoted_byte}
-use Rattle.mime.specs.Grammar.{IsToken, IsContent, no_byte, text_byte, quoted_pair}
+use Rattle.mime.specs.Grammar.{IsContent, no_byte, text_byte, quoted_pair}
 use Rattle.mime.specs.Values.{MediaType, Reads}
 use Rattle.mime.specs.Refusals.{IsViable}
 use Rattle.mime.specs.HeaderLaws.{AreHeaderBytes, IsSafePair}

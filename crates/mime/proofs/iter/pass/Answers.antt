@@ -1,5 +1,5 @@
 -- The scanner's verdict says how a text begins.
-use Rattle.std.proofs.Common.{ap, length, arith}
+use Rattle.std.proofs.Common.{arith}
 use Rattle.mime.proofs.Beginnings.{judged-from_scan, stopped-boundary, passes-whole, passes-unfinished, passes-stopped}
 use Rattle.mime.proofs.iter.pass.Goals as goal
 
