@@ -30,7 +30,7 @@ mod weights;
 
 use crate::handler::Handler;
 use crate::header::HeaderError;
-use mime::{APPLICATION_JSON, Mime, ParseError, TEXT_HTML, TEXT_PLAIN, TextKey};
+use mime::{APPLICATION_JSON, Mime, ParseError, TEXT_HTML, TEXT_PLAIN};
 use std::io;
 use std::io::Read;
 
@@ -278,7 +278,7 @@ fn try_type_of_file(rt: &HostRuntime, name: &str) -> io::Result<()> {
 
 /// Prints what the value of `p` means, with what another value means added to it.
 fn try_unescape(rt: &HostRuntime, mime: &Mime, other: &str) -> io::Result<()> {
-    let Some(value) = mime.get_param(TextKey("p")) else {
+    let Some(value) = mime.get_param("p") else {
         return say(rt, "no p");
     };
     let mut buffer = Vec::new(rt.alloc());
