@@ -1,4 +1,5 @@
-//! What callers do with media types: a module for each task. README.md, docs/RECIPES.md and crates/mime/CALLING.md quote them whole.
+//! What callers do with media types: a module for each task, which docs/RECIPES.md lists. README.md and crates/mime/CALLING.md quote
+//! some of them whole.
 //! The program tries them: each row of standard input names an example and has its texts, each with a bar behind it, and is
 //! printed with what the example answers, again with a bar behind each answer.
 #![tactic(auto)]
@@ -76,7 +77,6 @@ fn try_accept(rt: &HostRuntime, example: &str, text: &str, other: &str) -> io::R
         "best" => try_best(rt, text),
         "given" => try_given(rt, text, other),
         "entries_of" => try_entries_of(rt, text),
-        "last weight" => try_last_weight(rt, text),
         "names_html" => try_names_html(rt, text),
         "tightened" => try_tightened(rt, text),
         "thousandths" => say_number(rt, best::thousandths(text)),
@@ -226,20 +226,6 @@ fn try_header_in_latin_1(rt: &HostRuntime, text: &str) -> io::Result<()> {
         value.push(u8::try_from(character).unwrap_or(b'?'))?;
     }
     try_header_value(rt, &value)
-}
-
-/// Prints the last weight of a header, and that of the header without the white space before its semicolons.
-fn try_last_weight(rt: &HostRuntime, accept: &str) -> io::Result<()> {
-    say_last_weight(rt, accept)?;
-    say_last_weight(rt, semicolons::tightened(rt.alloc(), accept)?.as_str())
-}
-
-fn say_last_weight(rt: &HostRuntime, accept: &str) -> io::Result<()> {
-    let weights = weights::weights(rt.alloc(), accept)?;
-    match weights.last() {
-        Some((_, weight)) => say(rt, weight.as_str()),
-        None => say(rt, "none"),
-    }
 }
 
 fn try_names_html(rt: &HostRuntime, accept: &str) -> io::Result<()> {
