@@ -8,7 +8,7 @@ ghost use Rattle.mime_examples.specs.Boundary.{is_bchar, IsBoundary};
 ghost use Rattle.mime_examples.specs.Unescaped.{unescaped};
 
 use crate::unescape::unescape;
-use mime::{Mime, TextKey};
+use mime::Mime;
 use std::alloc::{AllocError, Global};
 
 /// Whether a byte may stand in a boundary.
@@ -49,7 +49,7 @@ pub fn form_boundary(alloc: Global, mime: &Mime) -> Result<Option<Vec<u8>>, Allo
         (λ boundary. (mime.now.media.essence ≡ codes "multipart/form-data") × IsBoundary (vec_items boundary)
         × (option_map (λ value. unescaped value.0) found ≡ Some (vec_items boundary)))) }
 {
-    let Some(value) = mime.get_param(TextKey("boundary")) else {
+    let Some(value) = mime.get_param("boundary") else {
         return Ok(None);
     };
     if mime.essence_str() != "multipart/form-data" {

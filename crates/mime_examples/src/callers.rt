@@ -7,7 +7,7 @@ ghost use Rattle.mime.specs.Names.{NameIs};
 ghost use Rattle.mime.specs.Items.{items_of, IsFirstAccepted};
 
 use mime::laws::one_reading;
-use mime::{FromStrError, Mime, TextKey};
+use mime::{FromStrError, Mime};
 use std::alloc::Global;
 
 /// Whether a content type has a suffix, as `image/svg+xml` has.
@@ -28,7 +28,7 @@ pub fn has_param(mime: &Mime, name: &str) -> bool
         × IsFirstAccepted (λ n flag. NameIs n flag name.now) (items_of mime.now.media.pairs) found
         × (result ≡ is_some found) }
 {
-    mime.get_param(TextKey(name)).is_some()
+    mime.get_param(name).is_some()
 }
 
 /// A text is read as the same media type as what is printed of it.

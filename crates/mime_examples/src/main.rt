@@ -1,4 +1,5 @@
-//! What callers do with media types: a module for each task. README.md, docs/RECIPES.md and crates/mime/CALLING.md quote them whole.
+//! What callers do with media types: a module for each task, which docs/RECIPES.md lists. README.md and crates/mime/CALLING.md quote
+//! some of them whole.
 //! The program tries them: each row of standard input names an example and has its texts, each with a bar behind it, and is
 //! printed with what the example answers, again with a bar behind each answer.
 #![tactic(auto)]
@@ -30,7 +31,7 @@ mod weights;
 
 use crate::handler::Handler;
 use crate::header::HeaderError;
-use mime::{APPLICATION_JSON, Mime, ParseError, TEXT_HTML, TEXT_PLAIN, TextKey};
+use mime::{APPLICATION_JSON, Mime, ParseError, TEXT_HTML, TEXT_PLAIN};
 use std::io;
 use std::io::Read;
 
@@ -76,7 +77,6 @@ fn try_accept(rt: &HostRuntime, example: &str, text: &str, other: &str) -> io::R
         "best" => try_best(rt, text),
         "given" => try_given(rt, text, other),
         "entries_of" => try_entries_of(rt, text),
-        "last weight" => try_last_weight(rt, text),
         "names_html" => try_names_html(rt, text),
         "tightened" => try_tightened(rt, text),
         "thousandths" => say_number(rt, best::thousandths(text)),
@@ -228,20 +228,6 @@ fn try_header_in_latin_1(rt: &HostRuntime, text: &str) -> io::Result<()> {
     try_header_value(rt, &value)
 }
 
-/// Prints the last weight of a header, and that of the header without the white space before its semicolons.
-fn try_last_weight(rt: &HostRuntime, accept: &str) -> io::Result<()> {
-    say_last_weight(rt, accept)?;
-    say_last_weight(rt, semicolons::tightened(rt.alloc(), accept)?.as_str())
-}
-
-fn say_last_weight(rt: &HostRuntime, accept: &str) -> io::Result<()> {
-    let weights = weights::weights(rt.alloc(), accept)?;
-    match weights.last() {
-        Some((_, weight)) => say(rt, weight.as_str()),
-        None => say(rt, "none"),
-    }
-}
-
 fn try_names_html(rt: &HostRuntime, accept: &str) -> io::Result<()> {
     say_whether(rt, html::names_html(rt.alloc(), accept)?)
 }
@@ -278,7 +264,7 @@ fn try_type_of_file(rt: &HostRuntime, name: &str) -> io::Result<()> {
 
 /// Prints what the value of `p` means, with what another value means added to it.
 fn try_unescape(rt: &HostRuntime, mime: &Mime, other: &str) -> io::Result<()> {
-    let Some(value) = mime.get_param(TextKey("p")) else {
+    let Some(value) = mime.get_param("p") else {
         return say(rt, "no p");
     };
     let mut buffer = Vec::new(rt.alloc());

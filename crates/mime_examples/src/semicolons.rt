@@ -19,11 +19,18 @@ fn push_tight(tight: &mut String, text: &str) -> Result<(), AllocError> {
 /// Whether a quote after this text begins a quoted value: a semicolon, a name and an equals sign are
 /// before it. Any other quote is a stray one.
 fn begins_value(text: &str) -> bool {
-    let name = match text.rsplit_once(';') {
-        Some((_, parameter)) => parameter.trim_start_matches([' ', '\t']).strip_suffix('='),
-        None => None,
+    let Some((_, parameter)) = text.rsplit_once(';') else {
+        return false;
     };
-    name.is_some_and(|name| !name.is_empty() && name.bytes().all(|byte| is_token(byte)))
+    let Some(name) = parameter.trim_start_matches([' ', '\t']).strip_suffix('=') else {
+        return false;
+    };
+    for &byte in name.as_bytes() {
+        if !is_token(byte) {
+            return false;
+        }
+    }
+    !name.is_empty()
 }
 
 /// A header's value without the white space before each semicolon outside quoted values.

@@ -4,7 +4,7 @@ ghost use Rattle.std.specs.Prelude.{◌≡◌, ℕ, List, Bool, Option, codes, o
 ghost use Rattle.mime.specs.Names.{NameIs};
 ghost use Rattle.mime.specs.Items.{items_of, IsFirstAccepted};
 
-use mime::{Bad, Mime, MimeIter, TextKey};
+use mime::{Bad, Mime, MimeIter};
 use std::alloc::{AllocError, Global};
 
 /// The weight of an entry as it is written, or `1` where it has none (RFC 7231, 5.3.1).
@@ -13,7 +13,7 @@ pub fn weight_of(mime: &Mime) -> &str
         × IsFirstAccepted (λ name flag. NameIs name flag (codes "q")) (items_of mime.now.media.pairs) found
         × (result.now ≡ unwrap_or (option_map (λ value. value.0) found) (codes "1")) }
 {
-    match mime.get_param(TextKey("q")) {
+    match mime.get_param("q") {
         Some(weight) => weight.as_str(),
         None => "1",
     }

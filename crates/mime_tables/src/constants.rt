@@ -1,7 +1,5 @@
 //! The constants, and the classes of bytes.
 
-ghost use Rattle.std.specs.Prelude.{◌≡◌, ◌↔◌, ◌⊎◌, IsTrue};
-
 use crate::relations::relation;
 use crate::values::{parts_of, print_copy, sign};
 use mime::{
@@ -120,22 +118,10 @@ pub(crate) fn name_of(text: &str) -> Option<Name<'static>> {
     None
 }
 
-/// Whether a constant is a page of HTML.
-fn is_page(atom: Atom) -> bool
-    ensures { IsTrue result ↔ (atom ≡ Atom.TEXT_HTML) ⊎ (atom ≡ Atom.TEXT_HTML_UTF_8) }
-{
+/// Whether a constant is a page of HTML, or JavaScript by its old spelling, which is no variant.
+fn is_page_or_script(atom: Atom) -> bool {
     match atom {
-        TEXT_HTML | TEXT_HTML_UTF_8 => true,
-        _ => false,
-    }
-}
-
-/// Whether a constant is JavaScript, by its old spelling, which is no variant.
-fn is_script(atom: Atom) -> bool
-    ensures { IsTrue result ↔ atom ≡ Atom.TEXT_JAVASCRIPT }
-{
-    match atom {
-        TEXT_JAVSCRIPT => true,
+        TEXT_HTML | TEXT_HTML_UTF_8 | TEXT_JAVSCRIPT => true,
         _ => false,
     }
 }
@@ -171,7 +157,7 @@ fn print_atoms(alloc: Global, out: &mut String) -> Result<(), AllocError> {
             alike = alike.wrapping_add((*other == *atom) as u32);
         }
         writeln!(out, "as often in the table: {alike}")?;
-        if is_page(*atom) || is_script(*atom) {
+        if is_page_or_script(*atom) {
             writeln!(out, "a page or a script")?;
         }
         let Ok(read) = Mime::from_str(alloc, atom.text()) else {

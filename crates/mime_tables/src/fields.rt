@@ -42,21 +42,16 @@ fn push_run(alloc: Global, text: &mut String, run: &str) -> Result<(), AllocErro
     Ok(())
 }
 
-/// Adds a text, with controls in place of their signs.
+/// Adds a text, with the controls that signs stand for in place of them.
 fn push_signs(text: &mut String, signs: &str) -> Result<(), AllocError> {
     for sign in signs.chars() {
-        text.push(meant_by(sign))?;
+        text.push(match (sign as u32).wrapping_sub(0x2400) {
+            0x21 => '\u{7F}',
+            number if number < 0x20 => char::from_u32(number).unwrap_or(sign),
+            _ => sign,
+        })?;
     }
     Ok(())
-}
-
-/// The character that a sign stands for: a control, or itself.
-fn meant_by(sign: char) -> char {
-    match (sign as u32).wrapping_sub(0x2400) {
-        0x21 => '\u{7F}',
-        number if number < 0x20 => char::from_u32(number).unwrap_or(sign),
-        _ => sign,
-    }
 }
 
 /// A text in which `⟨x×61⟩` stands for 61 letters `x`, where that many or more follow each other.

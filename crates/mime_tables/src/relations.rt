@@ -67,17 +67,26 @@ pub(crate) fn relation(one: &Mime, other: &Mime) -> char {
     }
 }
 
-/// Whether a hash set and an ordered set that have the one value say that they have the other.
-fn are_found(alloc: Global, one: &Mime, other: &Mime) -> Result<(bool, bool), AllocError> {
+/// Whether a hash set and an ordered set that have the one value say that they have the other (`=`) or that they haven't
+/// (`-`); `?` where they don't agree.
+fn sign_of_sets(alloc: Global, one: &Mime, other: &Mime) -> Result<char, AllocError> {
     let mut hashed = HashSet::new(alloc);
     hashed.insert(one.clone()?)?;
     let mut ordered = BTreeSet::new(alloc);
     ordered.insert(one.clone()?)?;
-    Ok((hashed.contains(other), ordered.contains(other)))
+    Ok(match (hashed.contains(other), ordered.contains(other)) {
+        (true, true) => '=',
+        (false, false) => '-',
+        _ => '?',
+    })
 }
 
 /// Prints whether a set that has a value with a text finds another value with another text.
-pub(crate) fn with_text(alloc: Global, out: &mut String, texts: &[String]) -> Result<(), AllocError> {
+pub(crate) fn with_text(
+    alloc: Global,
+    out: &mut String,
+    texts: &[String],
+) -> Result<(), AllocError> {
     let first = Mime::from_str(alloc, text_at(texts, 0));
     let second = Mime::from_str(alloc, text_at(texts, 2));
     let (Ok(one), Ok(other)) = (first, second) else {
@@ -92,15 +101,6 @@ pub(crate) fn with_text(alloc: Global, out: &mut String, texts: &[String]) -> Re
     hashed.insert(one)?;
     let is_found = hashed.contains(&other);
     writeln!(out, "found {is_found}, by hash {by_hash}")
-}
-
-/// `?` where the two kinds of sets don't agree.
-fn sign_of_found(found: (bool, bool)) -> char {
-    match found {
-        (true, true) => '=',
-        (false, false) => '-',
-        _ => '?',
-    }
 }
 
 /// Reads texts that are media types.
@@ -136,7 +136,7 @@ pub(crate) fn sets(alloc: Global, out: &mut String, texts: &[String]) -> Result<
     let values = values_of(alloc, texts)?;
     for one in &values {
         for other in &values {
-            out.push(sign_of_found(are_found(alloc, one, other)?))?;
+            out.push(sign_of_sets(alloc, one, other)?)?;
         }
         writeln!(out, ".")?;
     }

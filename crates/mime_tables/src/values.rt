@@ -123,13 +123,9 @@ fn print_error(out: &mut String, error: &FromStrError) -> Result<(), AllocError>
 fn count_of_p(mime: &Mime) -> u64 {
     let mut count = 0u64;
     for (name, value) in mime.params() {
-        count = count.wrapping_add(is_p(name, value) as u64);
+        count = count.wrapping_add((name.text == "p" && value.text == "x") as u64);
     }
     count
-}
-
-fn is_p(name: Name<'_>, value: Name<'_>) -> bool {
-    name.text == "p" && value.text == "x"
 }
 
 /// Prints the numbers of a text with many parameters `p=x`.
