@@ -3,20 +3,18 @@ use Rattle.std.proofs.Common.{◌≡◌, ℕ, suc, ◌≤◌, List, [], ◌∷�
 use Rattle.std.proofs.lemmas.List.{take-append-le, take-append-drop, take-take}
 use Rattle.std.proofs.lemmas.Bool.{and_parts, cond-false}
 use Rattle.std.proofs.lemmas.Bool.Decides.{nat_tests}
-use Rattle.mime.proofs.Begun.{Begun, in_type, grow, walk}
-use Rattle.mime.proofs.Borders.{high_token}
-use Rattle.mime.proofs.Cuts.{Following, following_of, split-size, split-from_dead, split_inv, empty-cut, has_cut, cut_unique, takes_unique}
-use Rattle.mime.proofs.KeptText.{kept_is_read}
-use Rattle.mime.proofs.Viability.{walk-from_viable, front-from_walk, quote_fault-from_walk, accepted_is_viable, front_of_viable_is_viable}
-use Rattle.std.specs.Prelude.{IsTrue, map}
+use Rattle.mime.proofs.GrammarLemmas.Begun.{Begun, in_type, grow, walk}
+use Rattle.mime.proofs.GrammarLemmas.Characters.{high_token, IsForeign, IsOpen, grow-foreign}
+use Rattle.mime.proofs.CutLemmas.{Following, following_of, split-size, split-from_dead, split_inv, empty-cut, has_cut, cut_unique, takes_unique}
+use Rattle.mime.proofs.ValueLemmas.KeptText.{kept_is_read}
+use Rattle.mime.proofs.GrammarLemmas.Viability.{walk-from_viable, front-from_walk, quote_fault-from_walk, accepted_is_viable, front_of_viable_is_viable}
+use Rattle.std.specs.Prelude.{IsTrue, map, MatchOption}
 use Rattle.std.specs.List.{list_all, AllByRecursion}
 use Rattle.mime.specs.Bytes.{is_token_byte, comma_byte, space_byte}
 use Rattle.mime.specs.Values.{MediaType, IsAccepted, IsRefused}
 use Rattle.mime.specs.Refusals.{IsViable, IsUnclosed}
 use Rattle.mime.specs.declared.scan.fault.ParseError.TheVariants.{MissingQuote}
-use Rattle.mime.proofs.ForeignBytes.{IsForeign, IsOpen, grow-foreign}
-use Rattle.mime.proofs.OneFault.{completed_is_refused}
-use Rattle.std.specs.Prelude.{MatchOption}
+use Rattle.mime.proofs.GrammarLemmas.Faults.{completed_is_refused}
 use Rattle.mime.specs.Cut.{is_following_byte, BeginsCharacter, IsCharacter, IsSplit, CutItem, good, ItemsOf, is_read, is_refused, is_empty, Cut, whole, unfinished, goes_on, Pieces, last, next, steps_of, TakesSteps}
 use Rattle.mime.specs.CutLaws.{OneCut, text_of_pieces, CutWritesText, OneCount, items_of_rest, CommaContains, joined, IsRead, kept_item, JoinedComesBack, is_separator, IsHttpList, no_element, separated, one_element, more_elements, HttpListIsCut}
 

@@ -12,10 +12,10 @@ use Rattle.mime.specs.Grammar.{Parameter, plain, quoted, Parameters, blank, fina
 use Rattle.mime.specs.Values.{MediaType, Reads, value_of, essence_of, lowered, lowered_parameter, lowered_list, lowered_tail, pair_of, pairs_of_list, pairs_of_tail}
 use Rattle.mime.specs.Comparison.{Same, TextIs}
 use Rattle.mime.specs.Difference.{is_telling, DifferTellingly}
-use Rattle.mime.proofs.KeptText.{text_of-essence}
-use Rattle.mime.proofs.Lowering.{lowered-append, lowered-lowered, lowered-drop}
-use Rattle.mime.proofs.SmallLetters.{lowered-lowered_value}
-use Rattle.mime.proofs.TextComparison.{essence-lowered}
+use Rattle.mime.proofs.ValueLemmas.KeptText.{text_of-essence}
+use Rattle.mime.proofs.ValueLemmas.Lowercase.{lowered-append, lowered-lowered, lowered-drop}
+use Rattle.mime.proofs.IgnoringCase.{lowered-lowered_value}
+use Rattle.mime.proofs.CompareLemmas.{essence-lowered}
 
 -- what a text tells: its bytes in small letters, without spaces, tabs and quotes
 abbrev stripped : List ℕ → List ℕ

@@ -1,8 +1,15 @@
--- Private. What a value feeds a hasher.
-use Rattle.std.specs.Prelude.{ℕ, ◌+◌, ◌-◌, ◌%◌, nat_lt, if◌then◌else◌, List, [], ◌∷◌, ◌++◌, length, replicate}
-use Rattle.std.specs.Hash as fed
+-- Private. What a value feeds a hasher, and the laws of order, equality and hash as terms: a type's `ghost laws` are among its contracts, and can't cite proofs/.
+use Rattle.std.specs.Prelude.{ℕ, ◌+◌, ◌-◌, ◌%◌, nat_lt, if◌then◌else◌, List, [], ◌∷◌, ◌++◌, length, replicate, ◌≡◌, true}
 use Rattle.std.specs.List.{flat_map}
 use Rattle.mime.specs.Values.{MediaType}
+use Rattle.std.specs.Cmp.{IsTotalOrder, on_total, then_total, Equal-is}
+use Rattle.std.specs.Cmp.Lexicographic.{slice_cmp, lists_total, nat_list_cmp_total}
+use Rattle.std.specs.FinMap.{slice_cmp-IsAntisymmetric}
+use Rattle.std.specs.Ordering.{nat_cmp, eq_by_cmp}
+use Rattle.std.proofs.Common.{ap}
+use Rattle.std.proofs.lemmas.Map.Lookups.{exact_bytes, exact_pairs}
+use Rattle.mime.specs.Comparison.{Same, pair_cmp, media_cmp}
+use Rattle.std.specs.Hash as fed
 
 -- what is fed after a pair of `count` bytes: the byte 255, which no UTF-8 has, and zeros up to a whole word
 abbrev pub pair_end : ℕ → List ℕ
@@ -27,3 +34,24 @@ pair_input pair = if nat_lt (pair_count pair) 64 then pair_run pair ∷ [] else 
 -- a slash, so where the pairs end is told by the bytes
 abbrev pub media_input : MediaType → fed.HashWrites
 media_input media = flat_map pair_input media.pairs ++ fed.str media.essence
+
+-- the order of pairs is total
+pub pair_cmp_total : IsTotalOrder pair_cmp
+pair_cmp_total = then_total (on_total (λ pair. pair.0) nat_list_cmp_total) (on_total (λ pair. pair.1) nat_list_cmp_total)
+
+-- the order of values is total
+pub media_cmp_total : IsTotalOrder media_cmp
+media_cmp_total =
+    then_total (on_total (λ media. media.essence) nat_list_cmp_total) (on_total (λ media. media.pairs) (lists_total pair_cmp_total))
+
+-- values that the order finds equal are the same
+pub same_from_cmp : (x y : MediaType) → eq_by_cmp media_cmp x y ≡ true → Same x y
+same_from_cmp x y equal =
+    let pairs = slice_cmp-IsAntisymmetric (exact_pairs (slice_cmp nat_cmp) (slice_cmp nat_cmp) exact_bytes exact_bytes) in
+    let both = exact_pairs (slice_cmp nat_cmp) (slice_cmp pair_cmp) exact_bytes pairs (x.essence, x.pairs) (y.essence, y.pairs)
+    ((Equal-is (media_cmp x y)).0 equal) in
+    (ap (λ value. value.0) both, ap (λ value. value.1) both)
+
+-- equal values feed a hasher the same
+pub media_input-same : (x y : MediaType) → Same x y → media_input x ≡ media_input y
+media_input-same x y same i = flat_map pair_input (same.1 i) ++ fed.str (same.0 i)

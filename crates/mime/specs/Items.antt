@@ -1,7 +1,8 @@
--- What callers see of a parameter: two names, one with the parameter's name and one with its value.
+-- The items that `Params` gives, how contracts see a `Name`, and what a key finds.
 use Rattle.std.specs.Prelude.{◌≡◌, ℕ, Bool, true, List, [], ◌∷◌, map, codes, Option, Some, None}
 use Rattle.std.specs.Str.{bytes_eq}
 use Rattle.mime.specs.Values.{lowered}
+use Rattle.mime.specs.declared.name.Name.{Name}
 
 -- a parameter's name and its value, each with a flag that says whether it ignores ASCII case
 pub record Item : Type 0 where
@@ -36,3 +37,20 @@ IsFirstAccepted Accepts [] found = found ≡ None
 IsFirstAccepted Accepts (item ∷ items) found =
     (Accepts item.name item.name_ignores_case → found ≡ Some (item.value, item.value_ignores_case))
     × (¬ (Accepts item.name item.name_ignores_case) → IsFirstAccepted Accepts items found)
+
+-- two names, a parameter's and its value's, as an item
+abbrev pub item_seen : Name × Name → Item
+item_seen (name, value) = record {
+  name = name.text.now;
+  name_ignores_case = name.ignores_case;
+  value = value.text.now;
+  value_ignores_case = value.ignores_case;
+}
+
+-- a name as its text and its flag
+abbrev pub name_seen : Name → List ℕ × Bool
+name_seen name = (name.text.now, name.ignores_case)
+
+-- a name's text
+abbrev pub name_text : Name → List ℕ
+name_text name = name.text.now

@@ -1,11 +1,13 @@
 -- Private. The kept text of a value, with the positions of its parts.
-use Rattle.std.specs.Prelude.{◌≡◌, ℕ, zero, suc, ◌+◌, List, ◌++◌, length, take, drop, Option, Some, None, unwrap_or}
-use Rattle.std.specs.List.{AllByRecursion}
+use Rattle.std.specs.Prelude.{◌≡◌, ℕ, zero, suc, ◌+◌, List, ◌++◌, length, take, drop, Option, Some, None, unwrap_or, ◌==◌}
+use Rattle.std.specs.List.{AllByRecursion, position}
 use Rattle.mime.specs.Grammar.{Tail, no_list, listed, blank, final, more, SyntaxTree, text_of, IsWellFormed}
 use Rattle.mime.specs.Values.{MediaType, lowered, lowered_value, lowered_tree}
 use Rattle.mime.specs.Pairs.{pairs_after, lowered_within}
 use Rattle.mime.specs.Scanning.{places_of}
 use Rattle.mime.specs.declared.scan.Places.{Places}
+use Rattle.std.specs.Option.{option_to_list}
+use Rattle.mime.specs.Bytes.{slash_byte, plus_byte, semicolon_byte}
 
 -- the value that a kept text and the positions of its parts give
 abbrev pub media_of : List ℕ → Places → MediaType
@@ -62,3 +64,16 @@ IsLowPair pair = lowered_pair pair ≡ pair
 
 abbrev pub AreLowPairs : List (List ℕ × List ℕ) → Type 0
 AreLowPairs pairs = AllByRecursion IsLowPair pairs
+
+-- where a byte first occurs in a text
+abbrev first_of : ℕ → List ℕ → Option ℕ
+first_of byte text = position (λ b. b == byte) text
+
+-- the positions of the parts of a text with at most one plus and at most one parameter
+abbrev pub places_in : List ℕ → Places
+places_in text = record {
+  slash = unwrap_or (first_of slash_byte text) 0;
+  plus = first_of plus_byte text;
+  semicolon = first_of semicolon_byte text;
+  pairs = length (option_to_list (first_of semicolon_byte text));
+}

@@ -10,7 +10,7 @@ use Rattle.mime.specs.declared.scan.Places.{Places}
 use Rattle.mime.specs.declared.scan.fault.ParseError.TheVariants.{InvalidToken}
 use Rattle.mime.specs.declared.scan.Verdict.{Verdict}
 use Rattle.mime.specs.declared.scan.Verdict.TheVariants.{Accepted, Unfinished, Stopped}
-use Rattle.mime.specs.Remaining.{Remaining}
+use Rattle.mime.specs.ReaderState.{Remaining}
 use Rattle.mime.specs.Quoted.{IsOpenContent, continues}
 
 -- the bytes of a run and the one after it, if any, were given

@@ -3,7 +3,7 @@
 ghost use Rattle.std.specs.Prelude.{◌≡◌, ◌≢◌, ◌↔◌, IsTrue, Some, [], map};
 ghost use Rattle.mime.specs.Comparison.{TextIs};
 ghost use Rattle.mime.specs.KeptText.{AreLowPairs, IsLowPair, lowered_pair};
-ghost use Rattle.mime.specs.TextParts.{IsListAfter, IsAcceptedAt};
+ghost use Rattle.mime.specs.ComparedText.{IsListAfter, IsAcceptedAt};
 ghost use Rattle.mime.specs.Values.{Reads, lowered};
 
 use crate::difference::{Seen, look};

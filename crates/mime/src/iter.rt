@@ -4,7 +4,7 @@ ghost use Rattle.std.specs.Prelude.{◌≡◌, ◌+◌, ◌-◌, ◌<◌, ◌≤
 ghost use Rattle.std.specs.Iterator.{UpTo, at_most};
 ghost use Rattle.std.specs.Iterator.SizeHint.{IsWithinCount};
 ghost use Rattle.mime.specs.Runs.{IsNext};
-ghost use Rattle.mime.specs.UnderWay.{PassesPiece, IsFound};
+ghost use Rattle.mime.specs.BetweenCalls.{PassesPiece, IsFound};
 
 use crate::scan::{ByteReader, Places, Verdict, scan};
 use crate::value::Mime;
@@ -95,7 +95,7 @@ pub struct MimeIter<'a> {
 
 impl<'a> Model for MimeIter<'a> {
     ghost use Rattle.mime.specs.Runs.{Iteration};
-    ghost use Rattle.mime.specs.UnderWay.{IsUnderWay};
+    ghost use Rattle.mime.specs.BetweenCalls.{IsUnderWay};
 
     ghost Value = { Iteration };
 

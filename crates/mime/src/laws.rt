@@ -7,13 +7,13 @@ ghost use Rattle.std.specs.List.{list_all};
 ghost use Rattle.std.specs.Ordering.{MatchOrdering, ordering_then, bool_cmp, nat_cmp};
 ghost use Rattle.mime.specs.Values.{OwnedMedia, lowered};
 ghost use Rattle.mime.specs.Names.{name_table};
-ghost use Rattle.mime.specs.Views.{name_text};
+ghost use Rattle.mime.specs.Items.{name_text};
 ghost use Rattle.mime.specs.Laws.{OneTree, OneReading, EmptyIsViable, FrontOfViableIsViable, AcceptedIsViable, OneCompletion, CompletedIsRefused, NoCompletion, OneFault, OneFront, FrontEndsBetweenCharacters, FrontIsInUtf8, PlusIsLast, KeptIsRead, EssenceIsRead, OneOrder, BeforeIsTransitive, BareTextIs, KeptTextIs, OneAnswer, HasAnswer, IsDecided, FirstDifferenceTells, AcceptedOrRefused, EssenceIsParts, SameEssence};
 ghost use Rattle.mime.specs.HeaderLaws.{KeptIsSafe, ParameterIsRead};
 ghost use Rattle.mime.specs.Comparison.{Same, Before};
 ghost use Rattle.mime.specs.HashLaws.{IsPrefixFree};
 ghost use Rattle.mime.specs.CutLaws.{OneCut, CutHasItems, CutWritesText, OneCount, CommaContains, JoinedComesBack, HttpListIsCut, PassesOneCharacter};
-ghost use Rattle.mime.specs.RunLaws.{RunGivesCut, PrintedListComesBack, CommaContainsOnRuns};
+ghost use Rattle.mime.specs.CutLaws.{RunGivesCut, PrintedListComesBack, CommaContainsOnRuns};
 
 use crate::atoms::Atom;
 use crate::iter::Bad;

@@ -3,7 +3,7 @@
 ghost use Rattle.std.specs.Prelude.{◌+◌, ◌-◌, ◌<◌, ◌^◌, length};
 ghost use Rattle.mime.specs.Bytes.{is_token_byte, is_quoted_text_byte as is_quoted_text};
 ghost use Rattle.mime.specs.Grammar.{is_space as is_space_byte};
-ghost use Rattle.mime.specs.Remaining.{is_token_except_plus as is_token_except};
+ghost use Rattle.mime.specs.ReaderState.{is_token_except_plus as is_token_except};
 ghost use Rattle.mime.specs.Scanning.{Passes, PassesContent, PassesSubtype, ScansList, Scans};
 
 mod fault;

@@ -5,10 +5,10 @@ ghost use Rattle.std.specs.List.{AllByRecursion};
 ghost use Rattle.mime.specs.Values.{Reads, IsAccepted, lowered, type_of, subtype_of, suffix_of};
 ghost use Rattle.mime.specs.Refusals.{Explains};
 ghost use Rattle.mime.specs.Items.{items_of, IsLowIf, IsLowItem, IsFirstAccepted};
-ghost use Rattle.mime.specs.Views.{name_seen, name_text};
+ghost use Rattle.mime.specs.Items.{name_seen, name_text};
 ghost use Rattle.mime.specs.Scanning.{HasPlaces};
 ghost use Rattle.mime.specs.KeptText.{IsKept, media_of, AreLowPairs};
-ghost use Rattle.mime.specs.Owner.{bytes_of};
+ghost use Rattle.mime.specs.StoredText.{bytes_of};
 
 mod hashing;
 mod kept;
@@ -60,7 +60,7 @@ impl Model for Mime {
 
     ghost Value = { OwnedMedia };
 
-    ghost use Rattle.mime.specs.Owner.{bytes_of, is_fixed};
+    ghost use Rattle.mime.specs.StoredText.{bytes_of, is_fixed};
     ghost use Rattle.mime.specs.KeptText.{media_of, IsKept};
 
     ghost view = { λ mime. record { media = media_of (bytes_of mime.text) mime.places; fixed = is_fixed mime.text } };

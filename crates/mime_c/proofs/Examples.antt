@@ -1,1 +1,122 @@
--- What the definitions of `Strings` and `Answers` say of some texts.
+-- What the trusted pages say of some texts: each definition is held from two sides.
+use Rattle.std.proofs.Common.{◌≡◌, ◌≢◌, ℕ, true, get_or, List, [], ◌∷◌, ◌++◌, map, length, refl, sym, ap, ◌∙◌, arith, codes, Some, None, length-append}
+use Rattle.std.specs.Str.{IsUtf8}
+use Rattle.mime.specs.Bytes.{is_token_byte}
+use Rattle.mime.specs.Grammar.{no_list}
+use Rattle.mime.specs.Values.{MediaType, Reads}
+use Rattle.mime.specs.Cut.{good, bad, whole}
+use Rattle.mime.specs.declared.scan.fault.ParseError.TheVariants.{MissingSlash, MissingSubtype, MissingEqual, MissingValue, MissingQuote, InvalidToken, NoMemory}
+use Rattle.mime.proofs.Cuts.{empty-cut, cut_unique}
+use Rattle.mime_c.specs.Strings.{strings, ComeBack, texts_of, item_texts, written}
+use Rattle.mime_c.specs.Answers.{number_of, found_at, found_of, found_of_fault, nothing, is_not_text, ReadsTo, is_read, fails, has_no_room, NeedsMemory, ListsTo, is_listed, Compares, are_read, first_fails, second_fails}
+use Rattle.mime_c.proofs.OneOutcome.{reads_to_one, lists_to_one, compares_as_one}
+use Rattle.mime_c.specs.declared.MimeFound.{MimeFound}
+use Rattle.mime_c.specs.declared.TheConstants.{MIME_OK, MIME_NO_MEMORY, MIME_NOT_UTF8, MIME_NO_ROOM}
+
+-- ---- strings
+
+svg : MediaType
+svg = record { essence = codes "image/svg+xml"; slash = 5; plus = Some 9; pairs = (codes "q", []) ∷ []; kept = codes "image/svg+xml;q=\"\"" }
+
+-- essence, name, an empty value and the printed text, over the first of 36 bytes
+svg_written : written (strings (texts_of svg)) (codes "-----------------------------------+")
+    ≡ codes "image/svg+xml" ++ 0 ∷ 113 ∷ 0 ∷ 0 ∷ codes "image/svg+xml;q=\"\"" ++ 0 ∷ []
+unfolding svg
+svg_written = refl
+
+-- what is found beside them, by each field, and of an invalid byte
+svg_found : found_of svg ≡ record { length = 36; params = 1; printed = 17; slash = 5; subtype_end = 9; pos = 0; byte = 0 }
+unfolding svg
+svg_found = refl
+
+invalid_found : (found_of_fault (InvalidToken 7 40) ≡ record { length = 0; params = 0; printed = 0; slash = 0; subtype_end = 0; pos = 7; byte = 40 })
+    × (found_of_fault MissingQuote ≡ found_at 0 0)
+invalid_found = (refl, refl)
+
+-- the items of a list
+items_written : strings (item_texts (good (codes "A/b") (record svg { kept = codes "a/b" }) ∷ bad (codes "e") ∷ []))
+    ≡ codes "+a/b" ++ 0 ∷ codes "-e" ++ 0 ∷ []
+items_written = refl
+
+-- texts come back, an empty one too, but not one with a 0
+come_back : ComeBack (codes "a/b" ∷ [] ∷ [])
+come_back = refl
+
+not_with_zero : ¬ (ComeBack ((1 ∷ 0 ∷ 2 ∷ []) ∷ []))
+not_with_zero back = absurd (omega (arith, ap length back))
+
+-- the numbers of the header
+numbers : map number_of (MissingSlash ∷ MissingSubtype ∷ MissingEqual ∷ MissingValue ∷ MissingQuote ∷ InvalidToken 7 40 ∷ NoMemory ∷ [])
+    ≡ 1 ∷ 2 ∷ 3 ∷ 4 ∷ 5 ∷ 6 ∷ 7 ∷ []
+numbers = refl
+
+-- ---- answers
+
+ab : MediaType
+ab = record { essence = codes "a/b"; slash = 1; plus = None; pairs = []; kept = codes "a/b" }
+
+reads_ab : Reads (codes "A/B") ab
+unfolding ab is_token_byte
+reads_ab = record { tree = record { top = codes "A"; sub = codes "B"; tail = no_list }; well_formed = (refl, refl, tt); spelled = refl; valued = refl }
+
+-- a buffer of eight bytes is enough for a text of three, and nothing else is answered
+ab_read : IsUtf8 (codes "A/B") → ReadsTo (codes "A/B") (codes "--------") MIME_OK (codes "a/b" ++ 0 ∷ codes "a/b" ++ 0 ∷ []) (record { length = 8; params = 0; printed = 4; slash = 1; subtype_end = 3; pos = 0; byte = 0 })
+unfolding ab
+ab_read utf8 = is_read ab (omega arith) utf8 reads_ab refl
+
+ab_not_else : IsUtf8 (codes "A/B") → (answer : ℕ) (new : List ℕ) (found : MimeFound) → answer ≢ MIME_NO_MEMORY → answer ≢ MIME_OK
+    → ¬ (ReadsTo (codes "A/B") (codes "--------") answer new found)
+ab_not_else utf8 answer new found some other answers =
+    let only = (reads_to_one (codes "A/B") (codes "--------")).5 in
+    other ((only answer new found some answers).0 ∙ sym (only MIME_OK _ _ (λ is. omega (arith, is)) (ab_read utf8)).0)
+
+-- seven aren't, whatever the text is
+ab_no_room : ReadsTo (codes "A/B") (codes "-------") MIME_NO_ROOM (codes "-------") nothing
+ab_no_room = has_no_room (omega arith)
+
+not_text : ¬ (IsUtf8 (255 ∷ [])) → ReadsTo (255 ∷ []) (codes "----") MIME_NOT_UTF8 (codes "----") nothing
+not_text isnt = fails MIME_NOT_UTF8 nothing (omega arith) (is_not_text isnt)
+
+-- a list of one item, and nothing else is answered
+ab_listed : IsUtf8 (codes "A/B") → ListsTo (codes "A/B") (codes "------") MIME_OK (codes "+a/b" ++ 0 ∷ codes "-") 5
+unfolding ab
+ab_listed utf8 = is_listed (good (codes "A/B") ab ∷ []) [] (omega arith) utf8 (whole (codes "A/B") ab reads_ab) refl
+
+ab_not_listed_else : IsUtf8 (codes "A/B") → (answer : ℕ) (new : List ℕ) (size : ℕ) → answer ≢ MIME_NO_MEMORY → size ≢ 5
+    → ¬ (ListsTo (codes "A/B") (codes "------") answer new size)
+ab_not_listed_else utf8 answer new size some other answers =
+    let only = (lists_to_one (codes "A/B") (codes "------")).5 in
+    other ((only answer new size some answers).2 ∙ sym (only MIME_OK _ 5 (λ is. omega (arith, is)) (ab_listed utf8)).2)
+
+-- it needs memory, and the empty text needs none
+ab_needs : NeedsMemory (codes "A/B")
+ab_needs = record {
+  before = [];
+  piece = codes "A/B";
+  media = ab;
+  after = [];
+  rest = [];
+  cut = whole (codes "A/B") ab reads_ab;
+  not_star = λ is. omega (arith, ap (λ text. get_or text 0 0) is);
+}
+
+empty_needs_none : ¬ (NeedsMemory [])
+empty_needs_none needs =
+    let none = (cut_unique [] [] [] empty-cut (needs.before ++ good needs.piece needs.media ∷ needs.after) needs.rest needs.cut).0 in
+    absurd (omega (arith, ap length none, length-append needs.before (good needs.piece needs.media ∷ needs.after)))
+
+-- equal, and nothing else is answered
+same_ab : IsUtf8 (codes "A/B") → Compares (codes "A/B") (codes "A/B") MIME_OK 1
+same_ab utf8 = are_read ab ab true utf8 utf8 reads_ab reads_ab ((λ is. (refl, refl)), (λ is. refl))
+
+not_different : IsUtf8 (codes "A/B") → ¬ (Compares (codes "A/B") (codes "A/B") MIME_OK 0)
+not_different utf8 different =
+    let only = (compares_as_one (codes "A/B") (codes "A/B")).4 in
+    let some : MIME_OK ≢ MIME_NO_MEMORY = λ is. omega (arith, is) in
+    absurd (omega (arith, (only MIME_OK 0 some different).1, (only MIME_OK 1 some (same_ab utf8)).1))
+
+-- the first or the second is no text
+no_text : ¬ (IsUtf8 (255 ∷ [])) → IsUtf8 (codes "A/B")
+    → Compares (255 ∷ []) (codes "A/B") MIME_NOT_UTF8 0 × Compares (codes "A/B") (255 ∷ []) MIME_NOT_UTF8 0
+no_text isnt utf8 =
+    (first_fails MIME_NOT_UTF8 nothing (is_not_text isnt), second_fails ab MIME_NOT_UTF8 nothing utf8 reads_ab (is_not_text isnt))

@@ -4,14 +4,14 @@ use Rattle.std.proofs.Math.Seq.{paste}
 use Rattle.std.specs.Str.{IsUtf8}
 use Rattle.mime.specs.Cut.{CutItem, Cut}
 use Rattle.mime.specs.Runs.{IsFirstItem, HasNoItem}
-use Rattle.mime.specs.Runs as runs
-use Rattle.mime.proofs.Cuts.{has_cut, cut_unique}
-use Rattle.mime_c.specs.Strings.{string_of, item_text, strings, item_texts, written}
+use Rattle.mime.proofs.CutLemmas.{has_cut, cut_unique}
+use Rattle.mime_c.specs.Strings.{string_of, item_text, item_texts}
 use Rattle.mime_c.specs.Answers.{ListsTo, is_listed, has_no_memory}
 use Rattle.mime_c.specs.declared.TheConstants.{MIME_OK, MIME_NO_MEMORY}
 use Rattle.mime_c.proofs.Writing.{Fills, fills-first, fills-fits, fills-next, fills-last}
 use Rattle.mime_c.proofs.NoZero.{items_come_back}
 use Rattle.mime_c.proofs.Room.{items_fit}
+use Rattle.mime.specs.Runs as runs
 
 -- of the items of the text some are written, and those of what is left of it are left to write
 pub record Lists (text old new : List ℕ) (at : ℕ) (left : List ℕ) : Type 0 where

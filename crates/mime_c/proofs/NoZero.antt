@@ -5,17 +5,17 @@ use Rattle.std.specs.List.{list_all, onto_first, AllByRecursion}
 use Rattle.std.proofs.lemmas.Bool.{and_parts, and_from, cond-false}
 use Rattle.std.proofs.lemmas.Bool.Decides.{nat_tests}
 use Rattle.mime.specs.Bytes.{is_token_byte, is_quoted_byte}
-use Rattle.mime.specs.Grammar.{IsToken, IsContent, no_byte, text_byte, quoted_pair}
+use Rattle.mime.specs.Grammar.{IsContent, no_byte, text_byte, quoted_pair}
 use Rattle.mime.specs.Values.{MediaType, Reads}
 use Rattle.mime.specs.Refusals.{IsViable}
 use Rattle.mime.specs.HeaderLaws.{AreHeaderBytes, IsSafePair}
 use Rattle.mime.specs.Laws.{without_parameters}
 use Rattle.mime.specs.Cut.{CutItem, good, bad, Cut}
 use Rattle.mime.specs.CutLaws.{IsItem}
-use Rattle.mime.proofs.Classes.{is_other, list_all-wider, are_other-token, AreTokenBytes-from_token}
-use Rattle.mime.proofs.Viability.{accepted_is_viable, walk-from_viable}
-use Rattle.mime.proofs.HeaderProofs.{walked-safe, kept_is_safe}
-use Rattle.mime.proofs.LawProofs.{essence_is_read, cut_has_items}
+use Rattle.mime.proofs.BytesLemmas.{is_other, list_all-wider, are_other-token, AreTokenBytes-from_token}
+use Rattle.mime.proofs.GrammarLemmas.Viability.{accepted_is_viable, walk-from_viable}
+use Rattle.mime.proofs.HeaderLawsLemmas.{walked-safe, kept_is_safe}
+use Rattle.mime.proofs.LawsLemmas.{essence_is_read, cut_has_items}
 use Rattle.mime_c.specs.Strings.{string_of, strings, texts_in, ComeBack, pair_texts, texts_of, item_texts}
 
 -- a text without the byte 0

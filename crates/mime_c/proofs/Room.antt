@@ -6,11 +6,11 @@ use Rattle.mime.specs.Grammar.{Parameter, plain, quoted, Parameters, blank, fina
 use Rattle.mime.specs.Values.{MediaType, Reads, pair_of, pairs_of_list, pairs_of_tail, essence_of, kept_text}
 use Rattle.mime.specs.Scanning.{places_of}
 use Rattle.mime.specs.KeptText.{kept_text_of}
-use Rattle.mime.specs.Cut.{CutItem, good, bad, ItemsOf, is_read, is_refused, is_empty, Cut, whole, unfinished, goes_on}
-use Rattle.mime.proofs.Lowering.{length-lowered}
-use Rattle.mime.proofs.Utf8.{length-in_part}
-use Rattle.mime.proofs.KeptText.{text_of-essence, length-essence_of, value_of_low, value_of-lowering, keeps-tree, kept-in_part}
-use Rattle.mime.proofs.Cuts.{split-size}
+use Rattle.mime.specs.Cut.{CutItem, ItemsOf, is_read, is_refused, is_empty, Cut, whole, unfinished, goes_on}
+use Rattle.mime.proofs.ValueLemmas.Lowercase.{length-lowered}
+use Rattle.mime.proofs.ValueLemmas.Utf8.{length-in_part}
+use Rattle.mime.proofs.ValueLemmas.KeptText.{text_of-essence, length-essence_of, value_of_low, value_of-lowering, keeps-tree, kept-in_part}
+use Rattle.mime.proofs.CutLemmas.{split-size}
 use Rattle.mime_c.specs.Strings.{strings, pair_texts, texts_of, item_text, item_texts}
 use Rattle.mime_c.specs.declared.TheConstants.{MIME_GOOD, MIME_BAD}
 use Rattle.mime_c.proofs.Writing.{strings-append, length-strings}
@@ -77,16 +77,16 @@ lengths-low text tree size some =
     record {
       kept = omega (arith, room-kept tree pairs, size);
       strings = omega (
-            arith,
-            ap length (strings-append parts (kept ∷ [])),
-            length-append (strings parts) (strings (kept ∷ [])),
-            length-strings (essence_of tree) (pair_texts pairs),
-            length-strings kept [],
-            room-kept tree pairs,
-            room-tail tree.tail,
-            length-tree tree,
-            size,
-          );
+        arith,
+        ap length (strings-append parts (kept ∷ [])),
+        length-append (strings parts) (strings (kept ∷ [])),
+        length-strings (essence_of tree) (pair_texts pairs),
+        length-strings kept [],
+        room-kept tree pairs,
+        room-tail tree.tail,
+        length-tree tree,
+        size,
+      );
       some = some;
     }
 

@@ -9,8 +9,8 @@ use Rattle.mime.specs.Grammar.{quoted, final, listed}
 use Rattle.mime.specs.Values.{MediaType, Reads}
 use Rattle.mime.specs.Difference.{FirstDifference, is_telling, DifferTellingly}
 use Rattle.mime.specs.Comparison.{Same, IsListBefore, IsTextBefore, IsPairBefore, Before, pair_cmp, media_cmp, HasNoSemicolon, TextIs}
-use Rattle.mime.proofs.Quoted.{IsContent-taken}
-use Rattle.mime.proofs.Readings.{one_reading}
+use Rattle.mime.proofs.GrammarLemmas.Content.{IsContent-taken}
+use Rattle.mime.proofs.GrammarLemmas.Readings.{one_reading}
 use Rattle.mime_facts.proofs.StandardFacts.{media, reads}
 use Rattle.mime_facts.proofs.ValueFacts.{differ, plain_value, reads_capitals}
 

@@ -4,7 +4,7 @@ use Rattle.std.proofs.lemmas.Bool.{true≢false, false≢true}
 use Rattle.std.specs.List.{list_all, list_any}
 use Rattle.mime.specs.Bytes.{is_token_byte, is_quoted_byte, is_quoted_text_byte, slash_byte, plus_byte, semicolon_byte, equals_byte, quote_byte, backslash_byte, space_byte, tab_byte, comma_byte}
 use Rattle.mime.specs.Grammar.{plain, quoted, Parameters, blank, final, more, no_list, listed, is_space, AreSpaces, text_of_parameter, text_of_list, text_of_tail, text_of, AreTokenBytes, IsToken, IsContent, IsParameter, AreParameters, IsTail, IsWellFormed}
-use Rattle.mime.proofs.Quoted.{IsContent-taken, content-taken, content-closed}
+use Rattle.mime.proofs.GrammarLemmas.Content.{IsContent-taken, content-taken, content-closed}
 
 -- ---- bytes
 

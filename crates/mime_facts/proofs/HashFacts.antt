@@ -3,18 +3,18 @@ use Rattle.std.proofs.Common.{◌≡◌, ◌≢◌, ℕ, false, List, [], ◌∷
 use Rattle.std.proofs.lemmas.Bool.{false≢true}
 use Rattle.std.specs.Char.{encode_utf8}
 use Rattle.std.specs.Hash.{HashWrites}
-use Rattle.std.specs.Hash as fed
 use Rattle.std.specs.List.{concat}
 use Rattle.mime.specs.Bytes.{is_token_byte}
 use Rattle.mime.specs.Grammar.{no_list}
 use Rattle.mime.specs.Values.{MediaType, OwnedMedia, Reads}
 use Rattle.mime.specs.HashInput.{media_input}
 use Rattle.mime.specs.HashLaws.{IsReadInUtf8, IsPrefixFree}
-use Rattle.mime.proofs.HashProofs.{fed-read}
-use Rattle.mime.proofs.KeptText.{kept_is_read}
+use Rattle.mime.proofs.ValueLemmas.Hash.{fed-read}
+use Rattle.mime.proofs.ValueLemmas.KeptText.{kept_is_read}
 use Rattle.mime_facts.proofs.ComparisonFacts.{quoted_x, plain_x, plain_y}
 use Rattle.mime_facts.proofs.StandardFacts.{media, reads}
 use Rattle.mime_facts.proofs.ValueFacts.{differ, plain_value, reads_capitals, keeps_no_capitals}
+use Rattle.std.specs.Hash as fed
 
 -- the value of `a/bx`
 abbrev longer_value : MediaType

@@ -12,8 +12,8 @@ use Rattle.mime.specs.HeaderLaws.{AreHeaderBytes, IsSafePair, IsSafe, KeptIsSafe
 use Rattle.mime.specs.Cut.{good, Cut, whole}
 use Rattle.mime.specs.CutLaws.{is_separator, IsHttpList, no_element, separated, one_element, more_elements, HttpListIsCut}
 use Rattle.mime.proofs.Containment.{http_list_is_cut}
-use Rattle.mime.proofs.Cuts.{cut_unique}
-use Rattle.mime.proofs.Quoted.{IsContent-taken, content-taken}
+use Rattle.mime.proofs.CutLemmas.{cut_unique}
+use Rattle.mime.proofs.GrammarLemmas.Content.{IsContent-taken, content-taken}
 use Rattle.mime_facts.proofs.ComparisonFacts.{quoted_x, reads_quoted}
 use Rattle.mime_facts.proofs.CutFacts.{no_item_left_out}
 use Rattle.mime_facts.proofs.StandardFacts.{media, plus_twice}

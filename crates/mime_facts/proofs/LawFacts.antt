@@ -14,14 +14,13 @@ use Rattle.mime.specs.Refusals.{IsViable, IsFront, Lacks, IsFault}
 use Rattle.mime.specs.Items.{IsFirstAccepted}
 use Rattle.mime.specs.Laws.{OneTree, OneReading, EmptyIsViable, FrontOfViableIsViable, AcceptedIsViable, OneCompletion, CompletedIsRefused, NoCompletion, OneFault, OneFront, FrontEndsBetweenCharacters, IsViableInUtf8, IsFrontInUtf8, FrontIsInUtf8, HasNoPlusFrom, PlusIsLast, KeptIsRead, EssenceIsRead, OneOrder, BeforeIsTransitive, BareTextIs, KeptTextIs, IsDecided, OneAnswer, FirstDifferenceTells}
 use Rattle.mime.specs.Cut.{CutItem, good, bad, Cut, Pieces, TakesSteps}
-use Rattle.mime.specs.CutLaws.{OneCut, CutHasItems, text_of_pieces, CutWritesText, OneCount, CommaContains, JoinedComesBack, PassesOneCharacter}
+use Rattle.mime.specs.CutLaws.{OneCut, CutHasItems, text_of_pieces, CutWritesText, OneCount, CommaContains, JoinedComesBack, PassesOneCharacter, AreGiven, RunGivesCut, CommaContainsOnRuns, PrintedListComesBack}
 use Rattle.mime.specs.Runs.{Iteration, IsNext}
-use Rattle.mime.specs.RunLaws.{AreGiven, RunGivesCut, CommaContainsOnRuns, PrintedListComesBack}
 use Rattle.mime.specs.declared.iter.Bad.{Bad}
 use Rattle.mime.specs.declared.scan.fault.ParseError.{ParseError}
 use Rattle.mime.specs.declared.scan.fault.ParseError.TheVariants.{MissingSlash, MissingSubtype, InvalidToken}
-use Rattle.mime.proofs.HashProofs.{utf8_bytes}
-use Rattle.mime.proofs.KeptText.{kept_is_read}
+use Rattle.mime.proofs.ValueLemmas.Hash.{utf8_bytes}
+use Rattle.mime.proofs.ValueLemmas.KeptText.{kept_is_read}
 use Rattle.mime_facts.proofs.ComparisonFacts.{quoted_x, plain_x, plain_y, other_value, reads_quoted, letters_tell}
 use Rattle.mime_facts.proofs.CutFacts.{e_is_refused, e_is_viable, list_items, cut_of_list, rest_of_text, split_at_comma, read_value}
 use Rattle.mime_facts.proofs.RefusalFacts.{e_lacks_slash, e_is_closed}

@@ -6,11 +6,11 @@ use Rattle.mime.specs.Bytes.{is_token_byte}
 use Rattle.mime.specs.Refusals.{IsViable, IsFront, completion_of, last_byte_of, EndsIn, Lacks, IsUnclosed, IsDeadAt, IsFault, Explains}
 use Rattle.mime.specs.declared.scan.fault.ParseError.{ParseError}
 use Rattle.mime.specs.declared.scan.fault.ParseError.TheVariants.{MissingSlash, MissingSubtype, MissingEqual, MissingValue, MissingQuote, InvalidToken, NoMemory}
-use Rattle.mime.proofs.OneFault.{one_fault, completed_is_refused, fault-from_lacks}
-use Rattle.mime.proofs.Readings.{stopped-from_walk, refused-from_walk}
+use Rattle.mime.proofs.GrammarLemmas.Faults.{one_fault, completed_is_refused, fault-from_lacks}
+use Rattle.mime.proofs.GrammarLemmas.Readings.{stopped-from_walk, refused-from_walk}
 use Rattle.mime_facts.proofs.StandardFacts.{slash_fault-from_walk, no_slash, no_subtype, no_equals, no_value, no_quote, space_in_type}
 use Rattle.mime_facts.proofs.ValueFacts.{differ, plain_value, reads_capitals}
-use Rattle.mime.proofs.Viability.{accepted_is_viable, not_viable-at_dead, front_unique, viable-from_lacks}
+use Rattle.mime.proofs.GrammarLemmas.Viability.{accepted_is_viable, not_viable-at_dead, front_unique, viable-from_lacks}
 
 -- what lacks something is viable, and what has a byte at fault isn't
 viable_texts : IsViable (codes "A/B") × IsViable (codes "a/b;p") × ¬ (IsViable (codes "a b"))

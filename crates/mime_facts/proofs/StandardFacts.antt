@@ -8,10 +8,10 @@ use Rattle.mime.specs.Refusals.{IsFault}
 use Rattle.mime.specs.declared.atoms.Atom.TheVariants.{TEXT_JAVASCRIPT}
 use Rattle.mime.specs.declared.atoms.TheConstants.{TEXT_JAVSCRIPT}
 use Rattle.mime.specs.declared.scan.fault.ParseError.TheVariants.{MissingSlash, MissingSubtype, MissingEqual, MissingValue, MissingQuote, InvalidToken}
-use Rattle.mime.proofs.Begun.{Closed, in_type, in_subtype, in_list, in_name, in_value, list_at, walk}
+use Rattle.mime.proofs.GrammarLemmas.Begun.{Closed, in_type, in_subtype, in_list, in_name, in_value, list_at, walk}
 use Rattle.mime.proofs.FirstDifference.{told_apart}
-use Rattle.mime.proofs.Quoted.{IsContent-taken}
-use Rattle.mime.proofs.Viability.{lacks-from_walk, quote_fault-from_walk, dead-from_walk}
+use Rattle.mime.proofs.GrammarLemmas.Content.{IsContent-taken}
+use Rattle.mime.proofs.GrammarLemmas.Viability.{lacks-from_walk, quote_fault-from_walk, dead-from_walk}
 
 -- ---- accepted texts
 

@@ -9,15 +9,14 @@ use Rattle.std.specs.Str.{bytes_eq}
 use Rattle.mime.specs.Bytes.{is_token_byte}
 use Rattle.mime.specs.Grammar.{plain, quoted, blank, final, more, no_list, listed, SyntaxTree}
 use Rattle.mime.specs.Values.{MediaType, lowered, is_charset, lowered_value, lowered_parameter, lowered_list, lowered_tail, lowered_tree, pair_of, pairs_of_list, pairs_of_tail, last_plus, essence_of, kept_text, Reads, IsAccepted, IsRefused, type_of, subtype_of, suffix_of}
-use Rattle.mime.specs.Items.{Item, item_of, items_of, IsLowIf, IsLowItem, IsFirstAccepted}
+use Rattle.mime.specs.Items.{Item, item_of, items_of, IsLowIf, IsLowItem, IsFirstAccepted, item_seen, name_seen, name_text}
 use Rattle.mime.specs.Names.{NameIs, name_table}
 use Rattle.mime.specs.Atoms.{atom_text}
 use Rattle.mime.specs.Printed.{token_text, fault_text, error_text}
-use Rattle.mime.specs.Views.{item_seen, name_seen, name_text}
 use Rattle.mime.specs.declared.atoms.Atom.TheVariants.{STAR_STAR, TEXT_STAR, TEXT_PLAIN, TEXT_PLAIN_UTF_8, TEXT_HTML, TEXT_HTML_UTF_8, TEXT_CSS, TEXT_CSS_UTF_8, TEXT_JAVASCRIPT, TEXT_XML, TEXT_EVENT_STREAM, TEXT_CSV, TEXT_CSV_UTF_8, TEXT_TAB_SEPARATED_VALUES, TEXT_TAB_SEPARATED_VALUES_UTF_8, TEXT_VCARD, IMAGE_STAR, IMAGE_JPEG, IMAGE_GIF, IMAGE_PNG, IMAGE_BMP, IMAGE_SVG, FONT_WOFF, FONT_WOFF2, APPLICATION_JSON, APPLICATION_JAVASCRIPT, APPLICATION_JAVASCRIPT_UTF_8, APPLICATION_WWW_FORM_URLENCODED, APPLICATION_OCTET_STREAM, APPLICATION_MSGPACK, APPLICATION_PDF, MULTIPART_FORM_DATA}
 use Rattle.mime.specs.declared.name.Name.{Name}
 use Rattle.mime.specs.declared.scan.fault.ParseError.TheVariants.{MissingSlash, MissingSubtype, MissingEqual, MissingValue, MissingQuote, InvalidToken, NoMemory}
-use Rattle.mime.proofs.Readings.{one_reading, stopped-from_walk}
+use Rattle.mime.proofs.GrammarLemmas.Readings.{one_reading, stopped-from_walk}
 use Rattle.mime_facts.proofs.StandardFacts.{media, tree_from_parts, reads}
 
 -- texts that a test tells apart differ

@@ -4,7 +4,7 @@ use Rattle.std.proofs.lemmas.List.{take-append-drop, take_all, drop_all, drop-dr
 use Rattle.std.proofs.lemmas.Bool.{true≢false}
 use Rattle.std.specs.List.{list_any, position_or_len, onto_first}
 use Rattle.std.proofs.lemmas.List.Sums.{prefix_len-le-length}
-use Rattle.mime.proofs.CharBorders.{slice_get-first_position}
+use Rattle.mime.proofs.BytesLemmas.{slice_get-first_position}
 use Rattle.mime_lines.specs.Report.{lines_of}
 use Rattle.std.proofs.lemmas.Grind.{common_steps}
 

@@ -14,7 +14,7 @@ pub(crate) struct ByteReader<'a> {
 
 impl<'a> Model for ByteReader<'a> {
     ghost use Rattle.std.specs.Prelude.{◌-◌, ◌≤◌, length};
-    ghost use Rattle.mime.specs.Remaining.{Remaining};
+    ghost use Rattle.mime.specs.ReaderState.{Remaining};
 
     ghost Value = { Remaining };
 

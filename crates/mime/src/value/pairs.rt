@@ -7,7 +7,7 @@ ghost use Rattle.std.specs.Str.{IsCharBoundary};
 ghost use Rattle.mime.specs.Blocks.{after_byte, first_position};
 ghost use Rattle.mime.specs.Pairs.{cut_of, leading_spaces, cut_after_equals, pairs_after, pair_seen};
 ghost use Rattle.mime.specs.Bytes.{quote_byte, semicolon_byte};
-ghost use Rattle.mime.specs.TextParts.{IsLoneCharset};
+ghost use Rattle.mime.specs.ComparedText.{IsLoneCharset};
 ghost use Rattle.mime.specs.Quoted.{content_len as len_of};
 
 use crate::blocks::TextEnd;

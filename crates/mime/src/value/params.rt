@@ -5,7 +5,7 @@ ghost use Rattle.std.specs.Iterator.{YieldsFirstBy, item_count, UpTo, at_most};
 ghost use Rattle.std.specs.Iterator.SizeHint.{IsWithinCount};
 ghost use Rattle.mime.specs.Items.{items_of};
 ghost use Rattle.mime.specs.Pairs.{pairs_within};
-ghost use Rattle.mime.specs.Views.{item_seen};
+ghost use Rattle.mime.specs.Items.{item_seen};
 
 use crate::name::Name;
 use crate::value::pairs::Pairs;

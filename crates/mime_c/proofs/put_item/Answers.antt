@@ -1,5 +1,5 @@
 -- The byte that says which item it is, and then the string.
-use Rattle.std.proofs.Common.{◌≡◌, ◌+◌, ap, refl, sym, ◌∙◌, ◌∷◌, [], arith, length, length-append}
+use Rattle.std.proofs.Common.{◌+◌, ap, refl, sym, ◌∙◌, ◌∷◌, [], arith, length, length-append}
 use Rattle.std.proofs.Math.Seq.{paste}
 use Rattle.std.proofs.lemmas.List.Edits.{paste-paste}
 use Rattle.mime_c.specs.Strings.{string_of}

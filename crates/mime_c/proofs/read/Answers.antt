@@ -1,7 +1,7 @@
 -- A failure is what it says.
-use Rattle.std.proofs.Common.{ap, sym, ◌∙◌, subst, rules}
+use Rattle.std.proofs.Common.{ap, ◌∙◌, subst, rules}
 use Rattle.mime.specs.Refusals.{Explains}
-use Rattle.mime_c.specs.Answers.{number_of, found_of_fault, Fails, is_refused, is_not_text}
+use Rattle.mime_c.specs.Answers.{number_of, found_of_fault, is_refused, is_not_text}
 use Rattle.mime_c.proofs.read.Goals as goal
 
 pub returns-in_default-clause-fails : goal.returns-in_default-clause-fails

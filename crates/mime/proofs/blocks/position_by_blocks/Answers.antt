@@ -2,7 +2,7 @@
 use Rattle.std.proofs.Common.{◌∙◌, ap, sym, arith}
 use Rattle.std.specs.Prelude.{◌==◌, not}
 use Rattle.std.proofs.lemmas.List.Sums.{prefix_len-le-length}
-use Rattle.mime.proofs.Marks.{position-marked, next-end, next-onward, end-le}
+use Rattle.mime.proofs.BlocksLemmas.{position-marked, next-end, next-onward, end-le}
 use lib.Count.{count_trailing_zeros}
 use Rattle.mime.proofs.blocks.position_by_blocks.Goals as goal
 

@@ -1,5 +1,5 @@
 -- The marks of the whole's last bytes, without those before the text, show the position.
-use Rattle.mime.proofs.Marks.{position-end_none, position-end_some}
+use Rattle.mime.proofs.BlocksLemmas.{position-end_none, position-end_some}
 use Rattle.mime.proofs.blocks.position_in_end.Goals as goal
 
 pub returns-then-found-eq0 : goal.returns-then-found-eq0

@@ -1,9 +1,9 @@
 -- A text that differs tellingly isn't the value; one that is alike is, where all of it ignores case.
 use Rattle.std.proofs.Common.{◌∙◌, sym, ap, refl, subst}
 use Rattle.mime.specs.Values.{lowered}
-use Rattle.mime.specs.TextParts.{IsLoneCharset}
+use Rattle.mime.specs.ComparedText.{IsLoneCharset}
 use Rattle.mime.proofs.FirstDifference.{text_is-telling}
-use Rattle.mime.proofs.TextComparison.{text_is-lone_charset}
+use Rattle.mime.proofs.CompareLemmas.{text_is-lone_charset}
 use Rattle.mime.proofs.compare.eq_otherwise.Goals as goal
 
 pub returns-in-Apart : goal.returns-in-Apart

@@ -5,9 +5,9 @@ use Rattle.mime.specs.Scanning.{HasPlaces, Judges}
 use Rattle.mime.specs.declared.scan.Places.{Places}
 use Rattle.mime.specs.declared.scan.Verdict.{Verdict}
 use Rattle.mime.specs.declared.scan.Verdict.TheVariants.{Accepted, Unfinished, Stopped}
-use Rattle.mime.proofs.Outcomes.{refused-from_fault}
-use Rattle.mime.proofs.TextComparison.{one_places, IsAccepted-at}
-use Rattle.mime.proofs.Viability.{refused-at_dead}
+use Rattle.mime.proofs.ValueLemmas.Reading.{refused-from_fault}
+use Rattle.mime.proofs.CompareLemmas.{one_places, IsAccepted-at}
+use Rattle.mime.proofs.GrammarLemmas.Viability.{refused-at_dead}
 use Rattle.mime.proofs.compare.is_accepted_at.Goals as goal
 
 -- a text that isn't judged to be accepted is refused

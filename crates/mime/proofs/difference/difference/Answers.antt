@@ -6,9 +6,9 @@ use Rattle.std.specs.List.{list_all, range_with_len}
 use Rattle.std.proofs.lemmas.Bool.{eqb-true}
 use mir.Val.{bool_byte}
 use Rattle.mime.specs.Blocks.{difference_bit}
-use Rattle.mime.proofs.EachByte.{at_byte}
-use Rattle.mime.proofs.difference.difference.Goals as goal
+use Rattle.mime.proofs.BytesLemmas.{at_byte}
 use Rattle.mime.proofs.difference.difference.Goals.{then-is_ascii_lowercase, else-is_ascii_lowercase}
+use Rattle.mime.proofs.difference.difference.Goals as goal
 
 -- the mark of two bytes, as the code finds it: with the bit that tells a letter's cases, if the first is a letter
 abbrev found : ℕ → ℕ → ℕ → ℕ

@@ -1,6 +1,6 @@
 -- The lowest mark is the first difference.
 use Rattle.std.proofs.Common.{arith}
-use Rattle.mime.proofs.Differences.{no_mark, first_mark}
+use Rattle.mime.proofs.DifferenceLemmas.{no_mark, first_mark}
 use Rattle.mime.proofs.difference.difference_in_block.Goals as goal
 
 pub returns-then-found-eq0-clause-none : goal.returns-then-found-eq0-clause-none

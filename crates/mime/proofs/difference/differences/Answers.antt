@@ -3,7 +3,7 @@ use Rattle.std.proofs.Common.{◌≡◌, ◌+◌, ◌∙◌, sym, ap, subst, tak
 use Rattle.std.specs.Simd.Lanes.{zip2}
 use Rattle.std.proofs.lemmas.List.{take_all}
 use Rattle.mime.specs.Blocks.{difference_bit}
-use Rattle.mime.proofs.Differences.{one_more}
+use Rattle.mime.proofs.DifferenceLemmas.{one_more}
 use Rattle.mime.proofs.difference.differences.Goals as goal
 
 pub loop-at-preserved : goal.loop-at-preserved

@@ -2,8 +2,8 @@
 use Rattle.std.proofs.Common.{◌≡◌, ◌≤◌, ◌-◌, ◌+◌, ℕ, List, take, length, sym, ap, ◌∙◌, arith, refl}
 use Rattle.std.proofs.lemmas.List.{take-take, take_all}
 use Rattle.mime.specs.Values.{lowered}
-use Rattle.mime.proofs.Lowering.{length-lowered}
-use Rattle.mime.proofs.Differences.{alike_onward, difference_onward}
+use Rattle.mime.proofs.ValueLemmas.Lowercase.{length-lowered}
+use Rattle.mime.proofs.DifferenceLemmas.{alike_onward, difference_onward}
 use Rattle.mime.proofs.difference.first_difference.Goals as goal
 
 -- fronts that are the same have the same shorter fronts

@@ -1,6 +1,6 @@
 -- The scanner's verdict says how a text begins.
-use Rattle.std.proofs.Common.{ap, length, arith}
-use Rattle.mime.proofs.Beginnings.{judged-from_scan, stopped-boundary, passes-whole, passes-unfinished, passes-stopped}
+use Rattle.std.proofs.Common.{arith}
+use Rattle.mime.proofs.PieceLemmas.{judged-from_scan, stopped-boundary, passes-whole, passes-unfinished, passes-stopped}
 use Rattle.mime.proofs.iter.pass.Goals as goal
 
 pub split_at-requires : goal.split_at-requires

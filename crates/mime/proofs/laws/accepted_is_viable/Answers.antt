@@ -1,5 +1,5 @@
 -- An accepted text is viable.
-use Rattle.mime.proofs.Viability.{accepted_is_viable}
+use Rattle.mime.proofs.GrammarLemmas.Viability.{accepted_is_viable}
 use Rattle.mime.proofs.laws.accepted_is_viable.Goals as goal
 
 pub returns : goal.returns

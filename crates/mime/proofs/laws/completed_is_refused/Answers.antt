@@ -1,4 +1,4 @@
-use Rattle.mime.proofs.OneFault.{completed_is_refused}
+use Rattle.mime.proofs.GrammarLemmas.Faults.{completed_is_refused}
 use Rattle.mime.proofs.laws.completed_is_refused.Goals as goal
 
 pub returns : goal.returns

@@ -1,5 +1,5 @@
 -- The test of the order, and what it says.
-use Rattle.mime.proofs.Ordering.{eq_by_cmp-tells}
+use Rattle.mime.proofs.ValueLemmas.Traits.{eq_by_cmp-tells}
 use Rattle.mime.proofs.laws.mime_equality.Goals as goal
 
 pub returns : goal.returns

@@ -1,5 +1,5 @@
 -- What the order says.
-use Rattle.mime.proofs.Ordering.{tells_media}
+use Rattle.mime.proofs.ValueLemmas.Traits.{tells_media}
 use Rattle.mime.proofs.laws.mime_order.Goals as goal
 
 pub returns : goal.returns

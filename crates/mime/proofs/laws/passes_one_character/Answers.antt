@@ -1,4 +1,4 @@
-use Rattle.mime.proofs.Characters.{passes_one_character}
+use Rattle.mime.proofs.GrammarLemmas.Characters.{passes_one_character}
 use Rattle.mime.proofs.laws.passes_one_character.Goals as goal
 
 pub returns : goal.returns

@@ -1,4 +1,4 @@
-use Rattle.mime.proofs.RunProofs.{printed_list_comes_back}
+use Rattle.mime.proofs.IterLemmas.{printed_list_comes_back}
 use Rattle.mime.proofs.laws.printed_list_comes_back.Goals as goal
 
 pub returns : goal.returns

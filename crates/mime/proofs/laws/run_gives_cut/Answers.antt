@@ -1,4 +1,4 @@
-use Rattle.mime.proofs.RunProofs.{run_gives_cut}
+use Rattle.mime.proofs.IterLemmas.{run_gives_cut}
 use Rattle.mime.proofs.laws.run_gives_cut.Goals as goal
 
 pub returns : goal.returns

@@ -3,8 +3,7 @@ use Rattle.std.proofs.Common.{◌≡◌, ◌+◌, [], ◌∷◌, ◌++◌, get_o
 use Rattle.std.specs.Char.{to_ascii_lowercase}
 use Rattle.std.proofs.lemmas.List.{map_more, same_from_push}
 use Rattle.mime.specs.Values.{lowered}
-use Rattle.mime.proofs.BlockByBlock.{together}
-use Rattle.mime.proofs.Differences.{no_mark_at}
+use Rattle.mime.proofs.DifferenceLemmas.{together, no_mark_at}
 use Rattle.mime.proofs.name.all_alike.Goals as goal
 
 pub loop-at-preserved : goal.loop-at-preserved

@@ -1,7 +1,7 @@
 -- Texts whose last and first blocks reach over the whole are alike exactly where those are.
 use Rattle.std.proofs.Common.{◌-◌, length, take, drop, ap, arith}
 use Rattle.mime.specs.Values.{lowered}
-use Rattle.mime.proofs.BlockByBlock.{of_first, of_last, lapped}
+use Rattle.mime.proofs.DifferenceLemmas.{of_first, of_last, lapped}
 use Rattle.mime.proofs.name.ends_alike.Goals as goal
 
 pub returns-then-all_alike : goal.returns-then-all_alike

@@ -1,5 +1,5 @@
 -- Texts are alike exactly where no first difference is found.
-use Rattle.mime.proofs.Differences.{none_found}
+use Rattle.mime.proofs.DifferenceLemmas.{none_found}
 use Rattle.mime.proofs.name.eq_ignoring_case.Goals as goal
 
 pub returns-then-a-ge-BLOCK : goal.returns-then-a-ge-BLOCK

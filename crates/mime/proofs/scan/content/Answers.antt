@@ -1,6 +1,6 @@
 -- Quoted text, and a backslash with the byte that it pairs, were passed; what isn't taken ends the content.
 use Rattle.std.proofs.Common.{sym, ◌∙◌}
-use Rattle.mime.proofs.Passing.{taking_none, taking_backslash, taking_paired, content_pair, content_text}
+use Rattle.mime.proofs.ScanLemmas.Passing.{taking_none, taking_backslash, taking_paired, content_pair, content_text}
 use Rattle.mime.proofs.scan.content.Goals as goal
 
 pub loop-stop-init : goal.loop-stop-init

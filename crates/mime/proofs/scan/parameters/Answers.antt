@@ -3,10 +3,10 @@ use Rattle.std.proofs.Common.{ℕ, List, ◌∷◌, [], None, Some, refl, sym, a
 use Rattle.std.proofs.lemmas.Bool.{cond-false}
 use Rattle.mime.specs.Bytes.{quote_byte, equals_byte}
 use Rattle.mime.specs.Grammar.{Parameter}
-use Rattle.mime.proofs.Begun.{in_value}
-use Rattle.mime.proofs.Passing.{given_less}
-use Rattle.mime.proofs.Verdicts.{ListReaches, list_run, list_byte, list_scans_at}
-use Rattle.mime.proofs.ListScan.{one_pair_more, spaces_walked, name_walked, equals_walked, quotes_walked, Valued, valued_token, valued_quotes}
+use Rattle.mime.proofs.GrammarLemmas.Begun.{in_value}
+use Rattle.mime.proofs.ScanLemmas.Passing.{given_less}
+use Rattle.mime.proofs.ScanLemmas.Verdicts.{ListReaches, list_run, list_byte, list_scans_at}
+use Rattle.mime.proofs.ScanLemmas.Lists.{one_pair_more, spaces_walked, name_walked, equals_walked, quotes_walked, Valued, valued_token, valued_quotes}
 use Rattle.mime.proofs.scan.parameters.Goals.{In-Some-eq61, Joined-first-eq34, then-first-eq34+in-Some-eq34, else-first-eq34+then-is_token}
 use Rattle.mime.proofs.scan.parameters.Goals as goal
 

@@ -1,6 +1,6 @@
 -- The parameters that were closed so far.
 use Rattle.std.proofs.Common.{length}
-use Rattle.mime.proofs.ListScan.{Turn}
+use Rattle.mime.proofs.ScanLemmas.Lists.{Turn}
 use Rattle.mime.proofs.scan.parameters.Given as goal
 
 abbrev pub invariant-loop-first : goal.invariant-loop-first

@@ -1,7 +1,7 @@
 -- The quoted text so far.
 use Rattle.std.proofs.Common.{length}
 use Rattle.mime.specs.Bytes.{is_quoted_text_byte}
-use Rattle.mime.proofs.Passing.{Passing}
+use Rattle.mime.proofs.ScanLemmas.Passing.{Passing}
 use Rattle.mime.proofs.scan.quoted_text.Given as goal
 
 abbrev pub invariant-loop-byte : goal.invariant-loop-byte

@@ -5,10 +5,10 @@ use Rattle.mime.specs.Bytes.{slash_byte, semicolon_byte}
 use Rattle.mime.specs.Values.{last_plus}
 use Rattle.mime.specs.declared.scan.Places.{Places}
 use Rattle.mime.specs.Scanning.{places_of, before_list}
-use Rattle.mime.proofs.Begun.{in_type, in_subtype}
-use Rattle.mime.proofs.Passing.{given_sum}
-use Rattle.mime.proofs.Verdicts.{Reaches, reaches_run, reaches_byte, scans_at}
-use Rattle.mime.proofs.TextScan.{none_walked, type_walked, subtype_walked, Subtyped, essence_is, scans_list}
+use Rattle.mime.proofs.GrammarLemmas.Begun.{in_type, in_subtype}
+use Rattle.mime.proofs.ScanLemmas.Passing.{given_sum}
+use Rattle.mime.proofs.ScanLemmas.Verdicts.{Reaches, reaches_run, reaches_byte, scans_at}
+use Rattle.mime.proofs.ScanLemmas.Lists.{none_walked, type_walked, subtype_walked, Subtyped, essence_is, scans_list}
 use Rattle.mime.proofs.scan.scan.Goals.{After-position-slash, After-subtype-plus}
 use Rattle.mime.proofs.scan.scan.Goals as goal
 

@@ -4,7 +4,7 @@ use Rattle.std.specs.Prelude.{◌==◌}
 use Rattle.std.specs.Option.{option_eq, option_to_list}
 use Rattle.std.proofs.lemmas.Bool.{cond-true, cond-false}
 use Rattle.mime.specs.Bytes.{plus_byte}
-use Rattle.mime.proofs.Passing.{passing_plus, last_plus-stop, subtype_at, stopped_by, given_sum}
+use Rattle.mime.proofs.ScanLemmas.Passing.{passing_plus, last_plus-stop, subtype_at, stopped_by, given_sum}
 use Rattle.mime.proofs.scan.subtype.Goals as goal
 
 pub loop-plus-init : goal.loop-plus-init

@@ -1,7 +1,7 @@
 -- The token bytes so far.
 use Rattle.std.proofs.Common.{length}
 use Rattle.mime.specs.Bytes.{is_token_byte}
-use Rattle.mime.proofs.Passing.{Passing}
+use Rattle.mime.proofs.ScanLemmas.Passing.{Passing}
 use Rattle.mime.proofs.scan.token.Given as goal
 
 abbrev pub invariant-loop-byte : goal.invariant-loop-byte

@@ -1,6 +1,6 @@
 -- One byte more of the class was passed.
 use Rattle.std.proofs.Common.{sym, ◌∙◌}
-use Rattle.mime.proofs.Passing.{passing_more}
+use Rattle.mime.proofs.ScanLemmas.Passing.{passing_more}
 use Rattle.mime.proofs.scan.token_to_plus.Goals as goal
 
 pub loop-byte-preserved : goal.loop-byte-preserved

@@ -1,7 +1,7 @@
 -- The token bytes so far, without a plus.
 use Rattle.std.proofs.Common.{length}
-use Rattle.mime.specs.Remaining.{is_token_except_plus}
-use Rattle.mime.proofs.Passing.{Passing}
+use Rattle.mime.specs.ReaderState.{is_token_except_plus}
+use Rattle.mime.proofs.ScanLemmas.Passing.{Passing}
 use Rattle.mime.proofs.scan.token_to_plus.Given as goal
 
 abbrev pub invariant-loop-byte : goal.invariant-loop-byte

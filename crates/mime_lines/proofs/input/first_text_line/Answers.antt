@@ -1,6 +1,6 @@
 -- The end of a line is an ASCII byte: the text may be cut before it and after it.
 use Rattle.std.proofs.Common.{arith, rules}
-use Rattle.mime.proofs.CharBorders.{boundary_before, boundary_after}
+use Rattle.mime.proofs.BytesLemmas.{boundary_before, boundary_after}
 use Rattle.mime_lines.proofs.LineCuts.{line_end-found, lines_of-cut, lines_of-last}
 use Rattle.mime_lines.proofs.input.first_text_line.Goals as goal
 

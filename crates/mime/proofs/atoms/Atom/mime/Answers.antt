@@ -1,5 +1,5 @@
 -- Each constant is kept with these positions.
-use Rattle.mime.proofs.Constants.{kept_atom}
+use Rattle.mime.proofs.ValueLemmas.Reading.{kept_atom}
 use Rattle.mime.proofs.atoms.Atom.mime.Goals as goal
 
 pub fixed-requires : goal.fixed-requires

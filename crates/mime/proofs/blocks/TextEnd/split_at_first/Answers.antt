@@ -1,7 +1,7 @@
 -- The byte at the position found is the one that was looked for.
 use Rattle.std.proofs.Common.{arith}
 use Rattle.std.proofs.lemmas.Option.{get_or_from_slice_get}
-use Rattle.mime.proofs.CharBorders.{slice_get-first_position}
+use Rattle.mime.proofs.BytesLemmas.{slice_get-first_position}
 use Rattle.mime.proofs.blocks.TextEnd.split_at_first.Goals as goal
 
 pub split_around-requires : goal.split_around-requires

@@ -1,6 +1,6 @@
 -- Each piece that is passed is a step of the search.
 use Rattle.std.proofs.Common.{sym, subst, rules}
-use Rattle.mime.proofs.Iterating.{IsLooking, looking-first, looking-more, found-none, found-some}
+use Rattle.mime.proofs.IterLemmas.{IsLooking, looking-first, looking-more, found-none, found-some}
 use Rattle.mime.proofs.iter.MimeIter.next_piece.Goals as goal
 
 pub loop-self-init : goal.loop-self-init

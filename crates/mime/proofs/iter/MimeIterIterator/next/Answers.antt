@@ -1,7 +1,7 @@
 -- The piece that was found is the item, as it is read.
 use Rattle.std.proofs.Common.{[], true, ap, rules}
 use Rattle.mime.specs.Runs.{Iteration}
-use Rattle.mime.proofs.Iterating.{next-none, next-bad, next-good, next-starved}
+use Rattle.mime.proofs.IterLemmas.{next-none, next-bad, next-good, next-starved}
 use Rattle.mime.proofs.iter.MimeIterIterator.next.Goals as goal
 
 pub returns-in_default-clause-steps : goal.returns-in_default-clause-steps

@@ -1,5 +1,5 @@
 -- The kept text reads as the value.
-use Rattle.mime.proofs.KeptText.{reads-from_kept}
+use Rattle.mime.proofs.ValueLemmas.KeptText.{reads-from_kept}
 use Rattle.mime.proofs.value.Mime.as_str.Goals as goal
 
 pub returns-clause-reads : goal.returns-clause-reads

@@ -1,6 +1,6 @@
 -- The count is that of the pairs.
 use Rattle.std.proofs.Common.{ap, ◌∙◌, length}
-use Rattle.mime.proofs.Counts.{kept-count}
+use Rattle.mime.proofs.ValueLemmas.Parts.{kept-count}
 use Rattle.mime.proofs.value.Mime.count.Goals as goal
 
 pub returns : goal.returns

@@ -1,5 +1,5 @@
 -- A kept text reads as the value that it gives.
-use Rattle.mime.proofs.KeptText.{reads-from_kept}
+use Rattle.mime.proofs.ValueLemmas.KeptText.{reads-from_kept}
 use Rattle.mime.proofs.value.Mime.fixed.Goals as goal
 
 pub returns-clause-reads : goal.returns-clause-reads

@@ -1,7 +1,7 @@
 -- The scanner's verdict is what the call answers.
 use Rattle.std.proofs.Common.{◌≡◌, arith, rules}
-use Rattle.mime.proofs.Outcomes.{accepted-from_places, Explains-from_fault, Explains-no_memory, refused-from_fault, star-accepted}
-use Rattle.mime.proofs.Viability.{refused-at_dead}
+use Rattle.mime.proofs.ValueLemmas.Reading.{accepted-from_places, Explains-from_fault, Explains-no_memory, refused-from_fault, star-accepted}
+use Rattle.mime.proofs.GrammarLemmas.Viability.{refused-at_dead}
 use Rattle.mime.proofs.value.Mime.from_str.Goals as goal
 
 pub returns-in-Accepted-clause-explained : goal.returns-in-Accepted-clause-explained

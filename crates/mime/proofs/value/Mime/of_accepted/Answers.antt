@@ -1,8 +1,8 @@
 -- An accepted text is kept, and reads as the value of what is kept.
 use Rattle.std.proofs.Common.{◌≡◌, ◌∙◌, ◌∷◌, [], sym}
 use Rattle.std.specs.Cmp.Lexicographic.{same_text}
-use Rattle.mime.proofs.KeptText.{kept-from_places, reads-from_kept, kept_reads}
-use Rattle.mime.proofs.Outcomes.{star-IsKept}
+use Rattle.mime.proofs.ValueLemmas.KeptText.{kept-from_places, reads-from_kept, kept_reads}
+use Rattle.mime.proofs.ValueLemmas.Reading.{star-IsKept}
 use Rattle.mime.proofs.value.Mime.of_accepted.Goals as goal
 
 pub invariant_of-result : goal.invariant_of-result

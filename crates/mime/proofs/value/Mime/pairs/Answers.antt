@@ -3,8 +3,8 @@ use Rattle.std.proofs.Common.{ap, ◌∙◌, subst}
 use Rattle.mime.specs.Values.{OwnedMedia}
 use Rattle.mime.specs.KeptText.{AreLowPairs}
 use Rattle.mime.specs.Pairs.{pairs_after}
-use Rattle.mime.proofs.KeptText.{reads-from_kept}
-use Rattle.mime.proofs.Parts.{read-low_pairs}
+use Rattle.mime.proofs.ValueLemmas.KeptText.{reads-from_kept}
+use Rattle.mime.proofs.ValueLemmas.Parts.{read-low_pairs}
 use Rattle.mime.proofs.value.Mime.pairs.Goals as goal
 
 pub returns-clause-pairs : goal.returns-clause-pairs

@@ -1,7 +1,7 @@
 -- The items are those of the pairs, which are low.
 use Rattle.std.proofs.Common.{ap, ◌∙◌}
 use Rattle.mime.specs.Items.{items_of}
-use Rattle.mime.proofs.Parts.{items_of-low}
+use Rattle.mime.proofs.ValueLemmas.Parts.{items_of-low}
 use Rattle.mime.proofs.value.Mime.params.Goals as goal
 
 pub returns-clause-items : goal.returns-clause-items

@@ -1,7 +1,7 @@
 -- The subtype lies between characters of the essence, and is in small letters.
 use Rattle.std.proofs.Common.{refl, ap, sym, ◌∙◌}
-use Rattle.mime.proofs.KeptText.{reads-from_kept}
-use Rattle.mime.proofs.Parts.{subtype_start, subtype_end, read-low_essence, low_take, low_drop}
+use Rattle.mime.proofs.ValueLemmas.KeptText.{reads-from_kept}
+use Rattle.mime.proofs.ValueLemmas.Parts.{subtype_start, subtype_end, read-low_essence, low_take, low_drop}
 use Rattle.mime.proofs.value.Mime.subtype.Goals as goal
 
 pub range-requires-clause-start_le_end : goal.range-requires-clause-start_le_end

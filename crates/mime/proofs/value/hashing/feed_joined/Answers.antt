@@ -1,6 +1,6 @@
 -- What is joined is the pair's run.
 use Rattle.std.proofs.Common.{◌∙◌, ap}
-use Rattle.mime.proofs.HashBuffer.{joined_pair}
+use Rattle.mime.proofs.ValueLemmas.Hash.{joined_pair}
 use Rattle.mime.proofs.value.hashing.feed_joined.Goals as goal
 
 pub returns : goal.returns

@@ -1,5 +1,5 @@
 -- The semicolon of an accepted text is where its position says.
-use Rattle.mime.proofs.KeptText.{slice_get-semicolon}
+use Rattle.mime.proofs.ValueLemmas.KeptText.{slice_get-semicolon}
 use Rattle.mime.proofs.value.kept.keep.Goals as goal
 
 pub keep_pairs-requires : goal.keep_pairs-requires

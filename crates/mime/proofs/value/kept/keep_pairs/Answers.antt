@@ -2,8 +2,8 @@
 use Rattle.std.proofs.Common.{List, ℕ, ◌≡◌, IfOk, string_bytes, length, drop, sym, ◌∙◌, subst}
 use Rattle.std.specs.Str.{IsUtf8}
 use Rattle.std.proofs.lemmas.List.{take_at}
-use Rattle.mime.proofs.Utf8.{IsUtf8-in_part, low-in_part}
-use Rattle.mime.proofs.KeptText.{kept-in_part}
+use Rattle.mime.proofs.ValueLemmas.Utf8.{IsUtf8-in_part, low-in_part}
+use Rattle.mime.proofs.ValueLemmas.KeptText.{kept-in_part}
 use Rattle.mime.proofs.value.kept.keep_pairs.Goals as goal
 
 pub returns-then-not-has_capital : goal.returns-then-not-has_capital

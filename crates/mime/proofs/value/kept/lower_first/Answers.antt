@@ -1,8 +1,8 @@
 -- The first pair lies within its list: before its value all is lowered, then perhaps the value.
 use Rattle.std.proofs.Common.{length, ap, sym, ◌∙◌, arith}
 use Rattle.mime.specs.Values.{is_charset}
-use Rattle.mime.proofs.PairCuts.{cut_of-within}
-use Rattle.mime.proofs.Ranges.{lowered_first-plain, lowered_first-charset}
+use Rattle.mime.proofs.ValueLemmas.Pairs.{cut_of-within}
+use Rattle.mime.proofs.ValueLemmas.ListText.{lowered_first-plain, lowered_first-charset}
 use Rattle.mime.proofs.value.kept.lower_first.Goals as goal
 
 pub lower_range-requires-clause-within : goal.lower_range-requires-clause-within

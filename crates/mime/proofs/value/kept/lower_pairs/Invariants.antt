@@ -1,7 +1,7 @@
 -- The pairs so far are lowered, and the remaining list follows them.
 use Rattle.std.proofs.Common.{◌-◌}
 use Rattle.mime.specs.Pairs.{lowered_within}
-use Rattle.mime.proofs.Ranges.{IsLoweredTo}
+use Rattle.mime.proofs.ValueLemmas.ListText.{IsLoweredTo}
 use Rattle.mime.proofs.value.kept.lower_pairs.Given as goal
 
 abbrev pub invariant-loop : goal.invariant-loop

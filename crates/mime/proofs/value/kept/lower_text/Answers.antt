@@ -1,6 +1,6 @@
 -- A semicolon is ASCII: the text may be cut after it.
 use Rattle.std.proofs.Common.{lit<}
-use Rattle.mime.proofs.CharBorders.{boundary_after}
+use Rattle.mime.proofs.BytesLemmas.{boundary_after}
 use Rattle.mime.proofs.value.kept.lower_text.Goals as goal
 
 pub of-requires : goal.of-requires

@@ -3,10 +3,9 @@ use Rattle.std.proofs.Common.{◌≢◌, arith, get_or, subst}
 use Rattle.std.specs.Prelude.{◌==◌, not}
 use Rattle.std.proofs.lemmas.List.Sums.{prefix_len-le-length}
 use Rattle.mime.specs.Bytes.{quote_byte, backslash_byte}
-use Rattle.mime.proofs.ContentEnds.{search_past, search_past_last, search_past_pair, content_len-first_quote}
+use Rattle.mime.proofs.ValueLemmas.Pairs.{search_past, search_past_last, search_past_pair, content_len-first_quote}
+use Rattle.mime.proofs.value.pairs.content_len.Goals.{then-text-position-eq92+then-position-text, else-text-position-eq92, else-text-position-eq92-via-then-text-position-eq92+else-position-text, else-text-position-eq92-via-else-text-position-eq92, then-quote-eq0-via-then-quote-eq0, then-quote-eq0-via-else-quote-eq0+then-text-quote-ne92}
 use Rattle.mime.proofs.value.pairs.content_len.Goals as goal
-use Rattle.mime.proofs.value.pairs.content_len.Goals.{then-text-position-eq92+then-position-text, else-text-position-eq92, else-text-position-eq92-via-then-text-position-eq92+else-position-text, else-text-position-eq92-via-else-text-position-eq92}
-use Rattle.mime.proofs.value.pairs.content_len.Goals.{then-quote-eq0-via-then-quote-eq0, then-quote-eq0-via-else-quote-eq0+then-text-quote-ne92}
 
 pub loop-position-preserved : goal.loop-position-preserved
 loop-position-preserved c =

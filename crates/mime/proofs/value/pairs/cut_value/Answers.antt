@@ -4,7 +4,7 @@ use Rattle.std.proofs.lemmas.Bool.Decides.{nat_tests}
 use Rattle.std.proofs.lemmas.Str.{IsCharBoundary-after_ascii}
 use Rattle.std.specs.Str.{IsCharBoundary}
 use Rattle.mime.specs.Bytes.{quote_byte}
-use Rattle.mime.proofs.ContentEnds.{get_or-content_len}
+use Rattle.mime.proofs.ValueLemmas.Pairs.{get_or-content_len}
 use Rattle.mime.proofs.value.pairs.cut_value.Goals as goal
 
 pub after-content-requires : goal.after-content-requires

@@ -1,5 +1,5 @@
 -- The text of the fault follows what is written first.
-use Rattle.std.proofs.Common.{◌≡◌, List, ℕ, [], ◌∷◌, ◌++◌, ◌∙◌, sym, ap, subst, refl, codes}
+use Rattle.std.proofs.Common.{List, ℕ, [], ◌∷◌, ◌++◌, ◌∙◌, sym, ap, subst, refl, codes}
 use Rattle.std.proofs.lemmas.List.Folds.{concat-append}
 use Rattle.std.specs.List.{FoldsTo, concat}
 use Rattle.mime.specs.Printed.{fault_text}

@@ -1,6 +1,6 @@
 -- A semicolon is ASCII: the text may be cut after it, and what follows is its end.
 use Rattle.std.proofs.Common.{lit<}
-use Rattle.mime.proofs.CharBorders.{boundary_after}
+use Rattle.mime.proofs.BytesLemmas.{boundary_after}
 use Rattle.mime.proofs.value.pairs.Pairs.after.Goals as goal
 
 pub of-requires-in-Some : goal.of-requires-in-Some

@@ -1,6 +1,6 @@
 -- As many pairs are left as the count says.
 use Rattle.std.proofs.Common.{◌≡◌, length, Some, ap, sym, ◌∙◌, arith}
-use Rattle.mime.proofs.Parts.{length-pairs_within}
+use Rattle.mime.proofs.ValueLemmas.Parts.{length-pairs_within}
 use Rattle.mime.proofs.value.pairs.PairsIterator.size_hint.Goals as goal
 
 pub returns : goal.returns

@@ -2,8 +2,8 @@
 use Rattle.std.proofs.Common.{◌∙◌, sym}
 use Rattle.std.specs.Cmp.Lexicographic.{same_text}
 use Rattle.std.specs.declared.cmp.Ordering.TheVariants.{Equal}
-use Rattle.mime.proofs.Counts.{same_from_text}
-use Rattle.mime.proofs.Ordering.{equal-media, tells_answer}
+use Rattle.mime.proofs.ValueLemmas.Parts.{same_from_text}
+use Rattle.mime.proofs.ValueLemmas.Traits.{equal-media, tells_answer}
 use Rattle.mime.proofs.value.traits.MimeOrd.cmp.Goals as goal
 
 pub returns-then-eq-clause-computed : goal.returns-then-eq-clause-computed

@@ -1,0 +1,112 @@
+-- Bytes: their classes and tables, the byte at a position of joined bytes, and where a text may be cut at an ASCII byte.
+use Rattle.std.proofs.Common.{◌≡◌, ℕ, ◌<◌, Bool, List, get_or, map, ap, sym, ◌∙◌, arith, length, true, subst, zero-add, suc, ◌+◌, [], ◌∷◌, ◌++◌, Some, slice_get, refl, false, ◌==◌}
+use Rattle.std.specs.List.{range_with_len, list_all}
+use Rattle.std.proofs.lemmas.List.{get_or-map}
+use Rattle.std.proofs.lemmas.List.FromFn.{get_or-map-range_with_len, get_or-range_with_len}
+use Rattle.std.proofs.lemmas.List.Sums.{AllPass-from_list_all, passes_at_first}
+use Rattle.std.specs.Prelude.{IsTrue, IsFalse, ◌==◌, not}
+use Rattle.std.proofs.lemmas.Bool.{and_parts, and_from}
+use Rattle.std.proofs.lemmas.Bool.Decides.{nat_tests, Decides-eqb}
+use Rattle.mime.specs.Bytes.{is_token_byte, semicolon_byte, equals_byte, quote_byte}
+use Rattle.mime.specs.Grammar.{is_space, AreSpaces, AreTokenBytes, IsToken}
+use Rattle.std.specs.Str.{IsUtf8, IsCharBoundary}
+use Rattle.std.proofs.lemmas.Option.{slice_get-get_or, slice_get_within, get_or_from_slice_get}
+use Rattle.std.proofs.lemmas.Str.{IsCharBoundary-before_ascii, IsCharBoundary-after_ascii}
+use Rattle.mime.specs.Blocks.{first_position}
+
+-- what a test of a table says of a byte is whether the byte is of the class, if it does byte by byte
+pub in_table : (class test : ℕ → Bool) (table : List ℕ) → map test table ≡ map class (range_with_len 0 256) → length table ≡ 256
+    → (b : ℕ) → b < 256 → test (get_or table b 0) ≡ class b
+in_table class test table is size b below =
+    sym (get_or-map test table b 0 (class b) (omega (arith, size, below)))
+    ∙ ap (λ t. get_or t b (class b)) is ∙ get_or-map-range_with_len class 0 256 b b (class b) (omega arith) (omega arith)
+
+-- what holds of all bytes holds of each
+pub at_byte : (p : ℕ → Bool) (b : ℕ) → b < 256 → list_all p (range_with_len 0 256) ≡ true → p b ≡ true
+at_byte p b within all =
+    subst (λ x. p x ≡ true) (get_or-range_with_len 0 256 b 0 within ∙ zero-add b)
+    (AllPass-from_list_all p (range_with_len 0 256) all b 0 within)
+
+-- a byte after a front
+pub slice_get-after : (front after : List ℕ) (i n : ℕ) → n ≡ length front + i → slice_get (front ++ after) n ≡ slice_get after i
+slice_get-after [] after i n is = ap (slice_get after) (omega (arith, is))
+slice_get-after (b ∷ front) after i n is =
+    let next : n ≡ suc (length front + i) = omega (arith, is) in
+    ap (slice_get (b ∷ (front ++ after))) next ∙ slice_get-after front after i (length front + i) refl
+
+-- the first byte after a front
+pub slice_get-front : (front : List ℕ) (b : ℕ) (after : List ℕ) (n : ℕ) → n ≡ length front → slice_get (front ++ b ∷ after) n ≡ Some b
+slice_get-front front b after n long = slice_get-after front (b ∷ after) 0 n (omega (arith, long))
+
+-- a semicolon is no token byte
+pub semicolon_is_no_token : IsFalse (is_token_byte semicolon_byte)
+unfolding is_token_byte
+semicolon_is_no_token = refl
+
+-- an equals sign is no token byte
+pub equals_is_no_token : IsFalse (is_token_byte equals_byte)
+unfolding is_token_byte
+equals_is_no_token = refl
+
+-- a quote is no token byte
+pub quote_is_no_token : IsFalse (is_token_byte quote_byte)
+unfolding is_token_byte
+quote_is_no_token = refl
+
+-- a token byte is no space
+pub token_byte-not_space : (b : ℕ) → IsTrue (is_token_byte b) → IsFalse (is_space b)
+unfolding is_token_byte
+token_byte-not_space b token = grind (arith, nat_tests)
+
+-- a token byte differs from a byte that is no token byte
+pub token_byte-not : (b mark : ℕ) → IsFalse (is_token_byte mark) → IsTrue (is_token_byte b) → IsFalse (b == mark)
+token_byte-not b mark none token = grind (arith, nat_tests, ap is_token_byte {x = b} {y = mark})
+
+-- a list of a class is one of a wider class
+pub list_all-wider : (class wider : ℕ → Bool) → ((b : ℕ) → class b ≡ true → wider b ≡ true)
+    → (bytes : List ℕ) → list_all class bytes ≡ true → list_all wider bytes ≡ true
+list_all-wider class wider within [] all = refl
+list_all-wider class wider within (b ∷ bytes) all =
+    let parts = and_parts (class b) (list_all class bytes) all in
+    and_from (wider b) (list_all wider bytes) (within b parts.0) (list_all-wider class wider within bytes parts.1)
+
+-- whether a byte differs from a given one
+abbrev pub is_other : ℕ → ℕ → Bool
+is_other byte b = not (b == byte)
+
+-- a byte outside a class isn't among bytes of it
+are_other : (class : ℕ → Bool) (byte : ℕ) → class byte ≡ false → (bytes : List ℕ) → list_all class bytes ≡ true
+    → list_all (is_other byte) bytes ≡ true
+are_other class byte out = list_all-wider class (is_other byte) (λ b member. grind (arith, nat_tests, ap class {x = b} {y = byte}))
+
+-- a byte that is no token byte isn't among token bytes
+pub are_other-token : (byte : ℕ) → is_token_byte byte ≡ false → (bytes : List ℕ) → AreTokenBytes bytes
+    → list_all (is_other byte) bytes ≡ true
+are_other-token = are_other is_token_byte
+
+-- a byte that is no space isn't among spaces
+pub are_other-spaces : (byte : ℕ) → is_space byte ≡ false → (bytes : List ℕ) → AreSpaces bytes → list_all (is_other byte) bytes ≡ true
+are_other-spaces = are_other is_space
+
+-- a token is token bytes
+pub AreTokenBytes-from_token : (bytes : List ℕ) → IsToken bytes → AreTokenBytes bytes
+AreTokenBytes-from_token [] token = absurd token
+AreTokenBytes-from_token (b ∷ bytes) token = token
+
+-- a text may be cut before an ASCII byte
+pub boundary_before : (text : List ℕ) (at b : ℕ) → slice_get text at ≡ Some b → b < 128 → IsCharBoundary text at
+boundary_before text at b there small =
+    IsCharBoundary-before_ascii text at (slice_get_within text at b there) (omega (arith, get_or_from_slice_get text at b 0 there))
+
+-- a text may be cut after an ASCII byte
+pub boundary_after : (text : List ℕ) (at b : ℕ) → IsUtf8 text → slice_get text at ≡ Some b → b < 128 → IsCharBoundary text (at + 1)
+boundary_after text at b utf8 there small =
+    IsCharBoundary-after_ascii text at utf8 (slice_get_within text at b there) (omega (arith, get_or_from_slice_get text at b 0 there))
+
+-- the byte that was looked for is at the position found
+pub slice_get-first_position : (byte : ℕ) (text : List ℕ) (position : ℕ) → position ≡ first_position byte text → position < length text
+    → slice_get text position ≡ Some byte
+slice_get-first_position byte text position is within =
+    let inside : first_position byte text < length text = omega (arith, is, within) in
+    let there = (Decides-eqb _ _).0 (passes_at_first (λ b. b == byte) text 0 inside) in
+    rw is (slice_get-get_or text (first_position byte text) 0 inside ∙ ap Some there)

@@ -1,0 +1,261 @@
+-- A text against a value: what a text has that is equal to the value, and what suffices.
+use Rattle.std.proofs.Common.{◌≡◌, ℕ, ◌+◌, true, false, List, [], ◌∷◌, ◌++◌, length, take, drop, Some, map, refl, sym, ap, ◌∙◌, subst, ◌↔◌, append-nil}
+use Rattle.std.specs.Prelude.{◌≢◌, ◌==◌, not, codes}
+use Rattle.std.proofs.lemmas.Bool.{and_parts, cond_both}
+use Rattle.std.proofs.lemmas.List.{nil_from_length, take-append-drop}
+use Rattle.std.specs.List.{list_all}
+use Rattle.std.proofs.lemmas.List.Folds.{list_all-append}
+use Rattle.mime.specs.Bytes.{slash_byte, semicolon_byte, quote_byte}
+use Rattle.mime.specs.Grammar.{plain, quoted, Parameters, blank, final, more, Tail, no_list, listed, SyntaxTree, text_of, text_of_tail, text_of_list, IsToken, IsWellFormed}
+use Rattle.mime.specs.Values.{MediaType, Reads, IsAccepted, value_of, essence_of, lowered, lowered_list, pairs_of_list, pairs_of_tail, is_charset}
+use Rattle.mime.specs.Comparison.{TextIs, HasNoSemicolon}
+use Rattle.mime.specs.Pairs.{PairCut, cut_after_equals, cut_of, pairs_within}
+use Rattle.mime.specs.Scanning.{HasPlaces, places_of, semicolon_of}
+use Rattle.mime.specs.KeptText.{lowered_pair}
+use Rattle.mime.specs.ComparedText.{IsListAfter, IsAcceptedAt, IsLoneCharset}
+use Rattle.mime.specs.declared.scan.Places.{Places}
+use Rattle.mime.proofs.BytesLemmas.{AreTokenBytes-from_token, are_other-token, semicolon_is_no_token}
+use Rattle.mime.proofs.ValueLemmas.Parts.{kept-essence, read-low_essence}
+use Rattle.mime.proofs.ValueLemmas.KeptText.{text_of-essence, take-essence, drop-to_semicolon, length-essence_of, slice_get-semicolon, kept_is_read}
+use Rattle.mime.proofs.ValueLemmas.ListText.{pairs_within-text_of_list}
+use Rattle.mime.proofs.ValueLemmas.Lowercase.{lowered-append, length-lowered, length-pairs_lowered}
+use Rattle.mime.proofs.GrammarLemmas.Readings.{one_tree, one_reading}
+use Rattle.mime.proofs.IgnoringCase.{semicolon-lower, case_read, case_read-count, case_read-lone_charset}
+
+-- ---- what an accepted text with parameters is read as
+
+-- a value's essence is its tree's, lowered
+pub essence-lowered : (tree : SyntaxTree) → (value_of tree).essence ≡ lowered (essence_of tree)
+essence-lowered tree = sym (lowered-append tree.top (slash_byte ∷ tree.sub))
+
+-- the pairs of a lowered list are those of the list, each lowered
+pairs_of_list-lowered : (list : Parameters) → pairs_of_list (lowered_list list) ≡ map lowered_pair (pairs_of_list list)
+pairs_of_list-lowered (blank n) = refl
+pairs_of_list-lowered (final n (plain name value)) = refl
+pairs_of_list-lowered (final n (quoted name content m)) = refl
+pairs_of_list-lowered (more n (plain name value) rest) = ap (λ pairs. lowered_pair (name, value) ∷ pairs) (pairs_of_list-lowered rest)
+pairs_of_list-lowered (more n (quoted name content m) rest) = ap (λ pairs. lowered_pair (name, content) ∷ pairs)
+    (pairs_of_list-lowered rest)
+
+-- a value's essence is as long as its tree's
+length-value_essence : (tree : SyntaxTree) → length (value_of tree).essence ≡ length tree.top + 1 + length tree.sub
+length-value_essence tree = ap length (essence-lowered tree) ∙ length-lowered (essence_of tree) ∙ length-essence_of tree
+
+-- the value of an accepted text that has a semicolon, by its positions
+record ReadAt (text : List ℕ) (end count : ℕ) : Type 0 where
+  value : MediaType
+  reads : Reads text value
+  essence : value.essence ≡ lowered (take end text)
+  pairs : value.pairs ≡ map lowered_pair (pairs_within count (drop (end + 1) text))
+
+-- of the text of a tree
+read_at-tree : (top sub : List ℕ) (list : Parameters) → IsWellFormed (record { top = top; sub = sub; tail = listed list })
+    → ReadAt (text_of (record { top = top; sub = sub; tail = listed list })) (length top + 1 + length sub) (length (pairs_of_list list))
+read_at-tree top sub list well =
+    let tree : SyntaxTree = record { top = top; sub = sub; tail = listed list } in
+    record {
+      value = value_of tree;
+      reads = record { tree = tree; well_formed = well; spelled = refl; valued = refl };
+      essence = essence-lowered tree ∙ ap lowered (sym (take-essence tree));
+      pairs = pairs_of_list-lowered list
+          ∙ ap (map lowered_pair) (sym (ap (pairs_within (length (pairs_of_list list))) (drop-to_semicolon top sub (text_of_list list))
+          ∙ pairs_within-text_of_list list well.2));
+    }
+
+-- of every such text
+read_at : (text : List ℕ) (end count : ℕ) → IsAcceptedAt text end count → ReadAt text end count
+read_at text end count is =
+    subst (λ t. ReadAt t end count) is.has.spelled
+    (go is.has.tree.top is.has.tree.sub is.has.tree.tail is.has.well_formed
+    (ap (λ (p : Places). p.semicolon) is.has.placed ∙ is.at) (ap (λ (p : Places). p.pairs) is.has.placed ∙ is.counted))
+  where
+    go : (top sub : List ℕ) (tail : Tail) → IsWellFormed (record { top = top; sub = sub; tail = tail })
+        → semicolon_of (length top + 1 + length sub) tail ≡ Some end → length (pairs_of_tail tail) ≡ count
+        → ReadAt (text_of (record { top = top; sub = sub; tail = tail })) end count
+    go top sub no_list well at counted = absurd cc
+    go top sub (listed list) well at counted =
+        let same : length top + 1 + length sub ≡ end = cc in
+        subst (λ n. ReadAt (text_of (record { top = top; sub = sub; tail = listed list })) n count) same
+        (subst (ReadAt (text_of (record { top = top; sub = sub; tail = listed list })) (length top + 1 + length sub)) counted
+        (read_at-tree top sub list well))
+
+-- a text that is read as a value with pairs is accepted so
+accepted_at : (text : List ℕ) (value : MediaType) → Reads text value → value.pairs ≢ []
+    → IsAcceptedAt text (length value.essence) (length value.pairs)
+accepted_at text value reads some =
+    go reads.tree.top reads.tree.sub reads.tree.tail reads.well_formed reads.spelled reads.valued
+  where
+    go : (top sub : List ℕ) (tail : Tail) → IsWellFormed (record { top = top; sub = sub; tail = tail })
+        → text_of (record { top = top; sub = sub; tail = tail }) ≡ text → value_of (record { top = top; sub = sub; tail = tail }) ≡ value
+        → IsAcceptedAt text (length value.essence) (length value.pairs)
+    go top sub no_list well spelled valued = absurd (some (ap (λ (v : MediaType). v.pairs) (sym valued)))
+    go top sub (listed list) well spelled valued =
+        let tree : SyntaxTree = record { top = top; sub = sub; tail = listed list } in
+        record {
+          places = places_of tree;
+          has = record { tree = tree; well_formed = well; spelled = spelled; placed = refl };
+          at = ap Some (sym (length-value_essence tree) ∙ ap (λ (v : MediaType). length v.essence) valued);
+          counted = sym (length-pairs_lowered list) ∙ ap (λ (v : MediaType). length v.pairs) valued;
+        }
+
+-- the same position and the same number, written in another way
+IsAcceptedAt-same : (text : List ℕ) {end also count number : ℕ} → end ≡ also → count ≡ number → IsAcceptedAt text end count
+    → IsAcceptedAt text also number
+IsAcceptedAt-same text {end} {also} {count} {number} ends counts is =
+    subst (λ n. IsAcceptedAt text n number) ends (subst (IsAcceptedAt text end) counts is)
+
+-- each part of an accepted text has one position
+pub one_places : (text : List ℕ) (first second : Places) → HasPlaces text first → HasPlaces text second → first ≡ second
+one_places text first second has also =
+    sym has.placed ∙ ap places_of (one_tree has.tree also.tree has.well_formed also.well_formed (has.spelled ∙ sym also.spelled))
+    ∙ also.placed
+
+-- a text that is accepted with these positions is accepted
+pub IsAccepted-at : (text : List ℕ) (end count : ℕ) → IsAcceptedAt text end count → IsAccepted text
+IsAccepted-at text end count is =
+    (value_of is.has.tree, record { tree = is.has.tree; well_formed = is.has.well_formed; spelled = is.has.spelled; valued = refl })
+
+-- ---- a text against a value with pairs
+
+-- what a text has that is equal to a value with pairs
+pub record TextParts (value : MediaType) (text : List ℕ) : Type 0 where
+  pub list : IsListAfter value.essence text
+  pub pairs : value.pairs ≡ map lowered_pair (pairs_within (length value.pairs) (drop (length value.essence + 1) text))
+  pub accepted : IsAcceptedAt text (length value.essence) (length value.pairs)
+
+-- a text is equal to a value with pairs exactly where it has these parts
+pub text_is-by_parts : (kept text : List ℕ) (value : MediaType) → Reads kept value → value.pairs ≢ []
+    → TextIs value text ↔ TextParts value text
+text_is-by_parts kept text value reads some =
+    let low = read-low_essence kept value reads in (
+      λ is.
+          let at : IsAcceptedAt text (length value.essence) (length value.pairs) =
+          IsAcceptedAt-same text (ap length (sym is.same.0)) (ap length (sym is.same.1))
+          (accepted_at text is.read is.reads (λ none. some (is.same.1 ∙ none))) in
+          let read = read_at text (length value.essence) (length value.pairs) at in
+          let one : is.read ≡ read.value = one_reading text is.read read.value is.reads read.reads in
+          record {
+            list = (
+              slice_get-semicolon text at.places (length value.essence) at.has at.at,
+              low ∙ is.same.0 ∙ ap (λ (v : MediaType). v.essence) one ∙ read.essence,
+            );
+            pairs = is.same.1 ∙ ap (λ (v : MediaType). v.pairs) one ∙ read.pairs;
+            accepted = at;
+          },
+      λ parts.
+          let read = read_at text (length value.essence) (length value.pairs) parts.accepted in
+          record {
+            read = read.value;
+            reads = read.reads;
+            same = (sym low ∙ parts.list.1 ∙ sym read.essence, parts.pairs ∙ sym read.pairs);
+            bare = λ none. absurd (some none);
+          },
+    )
+
+-- the kept text in another case is accepted as it is
+pub accepted_at-case : (kept text : List ℕ) (value : MediaType) → Reads kept value → value.pairs ≢ [] → lowered kept ≡ lowered text
+    → IsAcceptedAt text (length value.essence) (length value.pairs)
+accepted_at-case kept text value reads some is =
+    let found = case_read text kept value reads (sym is) in
+    let counted = case_read-count text value found in
+    IsAcceptedAt-same text (ap length (sym found.essence)) (sym counted)
+    (accepted_at text found.read found.reads (λ none. some (nil_from_length value.pairs (counted ∙ ap length none))))
+
+-- a kept text in another case is equal to the value, where the only parameter is a charset
+pub text_is-lone_charset : (kept text : List ℕ) (value : MediaType) → Reads kept value → value.pairs ≢ [] → lowered kept ≡ lowered text
+    → IsLoneCharset value.pairs → TextIs value text
+text_is-lone_charset kept text value reads some is lone =
+    let found = case_read text kept value reads (sym is) in
+    record {
+      read = found.read;
+      reads = found.reads;
+      same = case_read-lone_charset text kept value found reads lone;
+      bare = λ none. absurd (some none);
+    }
+
+-- ---- a lone charset
+
+-- the name of a pair that is cut out
+cut_value-name : (whole : ℕ) (name bytes : List ℕ) → (cut_after_equals whole name bytes).name ≡ name
+cut_value-name whole name [] = refl
+cut_value-name whole name (b ∷ bytes) =
+    cond_both (b == quote_byte) _ _ (λ (cut : PairCut). cut.name ≡ name) (λ _. refl) (λ _. refl)
+
+-- the first name of a list that begins with ` charset=`
+cut_of-charset : (after : List ℕ) → (cut_of (codes " charset=" ++ after)).name ≡ codes "charset"
+unfolding cut_of
+cut_of-charset after = cut_value-name (length (codes " charset=" ++ after)) (codes "charset") after
+
+-- the only pair of such a list is a charset
+pub lone_charset : (list : List ℕ) → take 9 list ≡ codes " charset=" → IsLoneCharset (pairs_within 1 list)
+lone_charset list is =
+    let whole : list ≡ codes " charset=" ++ drop 9 list = sym (take-append-drop 9 list) ∙ ap (λ front. front ++ drop 9 list) is in
+    let name = ap (λ l. (cut_of l).name) whole ∙ cut_of-charset (drop 9 list) in
+    ((cut_of list).name, (cut_of list).value, refl, subst (λ n. is_charset n ≡ true) (sym name) refl)
+
+-- ---- a text against a value without pairs
+
+-- the essence of a tree has no semicolon
+bare_essence : (top sub : List ℕ) → IsToken top → IsToken sub → HasNoSemicolon (top ++ (slash_byte ∷ sub))
+bare_essence top sub token sub_token =
+    list_all-append (λ b. not (b == semicolon_byte)) top (slash_byte ∷ sub)
+    ∙ cc (
+      are_other-token semicolon_byte semicolon_is_no_token top (AreTokenBytes-from_token top token),
+      are_other-token semicolon_byte semicolon_is_no_token sub (AreTokenBytes-from_token sub sub_token),
+    )
+
+-- lowering keeps semicolons
+HasNoSemicolon-lowered : (text : List ℕ)
+    → list_all (λ b. not (b == semicolon_byte)) (lowered text) ≡ list_all (λ b. not (b == semicolon_byte)) text
+HasNoSemicolon-lowered [] = refl
+HasNoSemicolon-lowered (b ∷ text) = rw (semicolon-lower b, HasNoSemicolon-lowered text) refl
+
+-- an accepted text without a semicolon is an essence
+text_of-bare : (tree : SyntaxTree) → HasNoSemicolon (text_of tree) → text_of tree ≡ essence_of tree
+text_of-bare tree bare = go tree.tail (subst HasNoSemicolon (text_of-essence tree) bare)
+  where
+    go : (tail : Tail) → HasNoSemicolon (essence_of tree ++ text_of_tail tail)
+        → tree.top ++ (slash_byte ∷ (tree.sub ++ text_of_tail tail)) ≡ essence_of tree
+    go no_list none = ap (λ x. tree.top ++ (slash_byte ∷ x)) (append-nil tree.sub)
+    go (listed list) none =
+        let parts = list_all-append (λ b. not (b == semicolon_byte)) (essence_of tree) (semicolon_byte ∷ text_of_list list) in
+        absurd (let last = (and_parts _ false (sym parts ∙ none)).1 in cc)
+
+-- a text that, lowered, is the essence of a value without pairs is equal to the value
+pub text_is-from_lowered : (text kept : List ℕ) (value : MediaType) → Reads kept value → value.pairs ≡ [] → lowered text ≡ value.essence
+    → TextIs value text
+text_is-from_lowered text kept value reads none is =
+    let low = read-low_essence kept value reads in
+    let same = sym (kept-essence value kept reads (ap length none)) in
+    let found = case_read text value.kept value (kept_is_read kept value reads) (is ∙ sym low ∙ ap lowered same) in
+    let tree = reads.tree in
+    let essence : lowered (essence_of tree) ≡ value.essence = sym (essence-lowered tree) ∙ ap (λ (v : MediaType). v.essence) reads.valued in
+    let bare = bare_essence tree.top tree.sub reads.well_formed.0 reads.well_formed.1 in
+    record {
+      read = found.read;
+      reads = found.reads;
+      same = (found.essence, none ∙ sym (nil_from_length found.read.pairs (sym (case_read-count text value found) ∙ ap length none)));
+      bare = λ _. sym (HasNoSemicolon-lowered text) ∙ ap (list_all _) (is ∙ sym essence) ∙ HasNoSemicolon-lowered (essence_of tree) ∙ bare;
+    }
+
+-- a text is equal to a value without pairs exactly where, lowered, it is the kept text
+pub text_is-bare : (kept : List ℕ) (value : MediaType) → Reads kept value → value.pairs ≡ []
+    → (text : List ℕ) → TextIs value text ↔ (lowered text ≡ value.kept)
+text_is-bare kept value reads none text =
+    subst (λ whole. TextIs value text ↔ (lowered text ≡ whole)) (sym (kept-essence value kept reads (ap length none))) (
+      λ is.
+          let tree = is.reads.tree in
+          let spelled = is.reads.spelled in
+          ap lowered (sym spelled ∙ text_of-bare tree (subst HasNoSemicolon (sym spelled) (is.bare none)))
+          ∙ sym (essence-lowered tree) ∙ ap (λ (v : MediaType). v.essence) is.reads.valued ∙ sym is.same.0,
+      λ low. text_is-from_lowered text kept value reads none low,
+    )
+
+-- a text is a value without parameters exactly where it is the kept text but for case
+pub text_is-kept_case : (kept text : List ℕ) (value : MediaType) → Reads kept value → kept ≡ value.kept → value.pairs ≡ []
+    → TextIs value text ↔ (lowered kept ≡ lowered text)
+text_is-kept_case kept text value reads is none =
+    let told = text_is-bare kept value reads none text in
+    let essence = is ∙ kept-essence value kept reads (ap length none) in
+    let low : lowered kept ≡ value.kept = ap lowered essence ∙ read-low_essence kept value reads ∙ sym essence ∙ is in
+    (λ at. low ∙ sym (told.0 at), λ at. told.1 (sym at ∙ low))

@@ -1,0 +1,253 @@
+-- Begun trees: the states in which a text can end that may still become a media type, and how each
+-- further byte changes the state.
+use Rattle.std.specs.Prelude.{ℕ, List, [], ◌∷◌, ◌++◌, Option, Some, None, if◌then◌else◌, ◌==◌, IsTrue}
+use Rattle.std.specs.Option.{option_and_then, option_map}
+use Rattle.mime.specs.Bytes.{is_token_byte, slash_byte, semicolon_byte, equals_byte, quote_byte}
+use Rattle.mime.specs.Grammar.{Parameter, plain, quoted, Parameters, blank, final, more, no_list, listed, SyntaxTree, is_space}
+use Rattle.mime.specs.Quoted.{continues, awaits_first, awaits_next, takes_all, awaits_after}
+use Rattle.mime.specs.declared.scan.fault.ParseError.{ParseError}
+use Rattle.mime.specs.declared.scan.fault.ParseError.TheVariants.{MissingSlash, MissingSubtype, MissingEqual, MissingValue, MissingQuote}
+use Rattle.std.proofs.Common.{◌≡◌, ℕ, Bool, List, [], ◌∷◌, ◌++◌, Option, Some, None, refl, sym, ap, ◌∙◌, subst, append_assoc, append-nil}
+use Rattle.std.proofs.lemmas.Bool.{and_parts, cond-true}
+use Rattle.std.specs.List.{list_all}
+use Rattle.mime.proofs.GrammarLemmas.Content.{awaits_after-append}
+
+-- the state of a parameter list after its last semicolon
+pub data ListState : Type 0 where
+  in_spaces : (n : List ℕ) → ListState
+  in_name : (n name : List ℕ) → ListState
+  in_value : (n name value : List ℕ) → ListState
+  in_quotes : (n name content : List ℕ) → ListState
+  after_quotes : (n name content m : List ℕ) → ListState
+
+-- the parameters that a semicolon closed, the last one first, each with the spaces before it
+abbrev pub Closed : Type 0
+Closed = List (List ℕ × Parameter)
+
+-- a begun parameter list: its closed parameters and the state after them
+pub record BegunList : Type 0 where
+  pub closed : Closed
+  pub place : ListState
+
+-- the begun list just after the subtype's semicolon
+abbrev pub begun_list : BegunList
+begun_list = record { closed = []; place = in_spaces [] }
+
+-- a begun tree: the text ends in its type, in its subtype, or in the list after them
+pub data Begun : Type 0 where
+  in_type : (top : List ℕ) → Begun
+  in_subtype : (top sub : List ℕ) → Begun
+  in_list : (top sub : List ℕ) → BegunList → Begun
+
+-- the begun list of closed parameters and a state
+abbrev pub list_at : Closed → ListState → BegunList
+list_at closed place = record { closed = closed; place = place }
+
+-- a list goes on in this state
+abbrev pub at_state : Closed → ListState → Option BegunList
+at_state closed place = Some (list_at closed place)
+
+-- a semicolon closes a parameter, which spaces precede
+abbrev pub close : Closed → List ℕ → Parameter → Option BegunList
+close closed n parameter = at_state ((n, parameter) ∷ closed) (in_spaces [])
+
+-- a state of a list after one more byte, or none where no accepted text goes on so
+abbrev pub grow_state : Closed → ListState → ℕ → Option BegunList
+grow_state closed (in_spaces n) b =
+    if is_space b then at_state closed (in_spaces (n ++ (b ∷ [])))
+    else (if is_token_byte b then at_state closed (in_name n (b ∷ [])) else None)
+grow_state closed (in_name n name) b =
+    if is_token_byte b then at_state closed (in_name n (name ++ (b ∷ [])))
+    else (if b == equals_byte then at_state closed (in_value n name []) else None)
+grow_state closed (in_value n name []) b =
+    if is_token_byte b then at_state closed (in_value n name (b ∷ []))
+    else (if b == quote_byte then at_state closed (in_quotes n name []) else None)
+grow_state closed (in_value n name (v ∷ value)) b =
+    if is_token_byte b then at_state closed (in_value n name (v ∷ value ++ (b ∷ [])))
+    else (if b == semicolon_byte then close closed n (plain name (v ∷ value)) else None)
+grow_state closed (in_quotes n name content) b =
+    if continues content b then at_state closed (in_quotes n name (content ++ (b ∷ [])))
+    else (if b == quote_byte then at_state closed (after_quotes n name content []) else None)
+grow_state closed (after_quotes n name content m) b =
+    if is_space b then at_state closed (after_quotes n name content (m ++ (b ∷ [])))
+    else (if b == semicolon_byte then close closed n (quoted name content m) else None)
+
+-- a begun list after one more byte, or none
+abbrev pub grow_list : BegunList → ℕ → Option BegunList
+grow_list list b = grow_state list.closed list.place b
+
+-- a begun tree after one more byte, or none
+abbrev pub grow : Begun → ℕ → Option Begun
+grow (in_type []) b = if is_token_byte b then Some (in_type (b ∷ [])) else None
+grow (in_type (t ∷ top)) b =
+    if is_token_byte b then Some (in_type (t ∷ top ++ (b ∷ [])))
+    else (if b == slash_byte then Some (in_subtype (t ∷ top) []) else None)
+grow (in_subtype top []) b = if is_token_byte b then Some (in_subtype top (b ∷ [])) else None
+grow (in_subtype top (s ∷ sub)) b =
+    if is_token_byte b then Some (in_subtype top (s ∷ sub ++ (b ∷ [])))
+    else (if b == semicolon_byte then Some (in_list top (s ∷ sub) begun_list) else None)
+grow (in_list top sub list) b = option_map (in_list top sub) (grow_list list b)
+
+-- a walk from a state: one step for each byte, or none where a step leads nowhere
+abbrev walk_by : {S : Type 0} → (S → ℕ → Option S) → S → List ℕ → Option S
+walk_by step state [] = Some state
+walk_by step state (b ∷ bytes) = option_and_then (λ next. walk_by step next bytes) (step state b)
+
+-- a walk from a begun list
+abbrev pub walk_list : BegunList → List ℕ → Option BegunList
+walk_list list bytes = walk_by grow_list list bytes
+
+-- a walk from a begun tree
+abbrev pub walk_from : Begun → List ℕ → Option Begun
+walk_from begun bytes = walk_by grow begun bytes
+
+-- the walk over a whole text, from its start
+abbrev pub walk : List ℕ → Option Begun
+walk text = walk_from (in_type []) text
+
+-- the list of the closed parameters and then of the rest
+abbrev pub with_closed : Closed → Parameters → Parameters
+with_closed [] rest = rest
+with_closed ((n, parameter) ∷ closed) rest = with_closed closed (more n parameter rest)
+
+-- the parameter list that ends in a state, if it may end there
+abbrev pub list_at_end : ListState → Option Parameters
+list_at_end (in_spaces n) = Some (blank n)
+list_at_end (in_name n name) = None
+list_at_end (in_value n name []) = None
+list_at_end (in_value n name (v ∷ value)) = Some (final n (plain name (v ∷ value)))
+list_at_end (in_quotes n name content) = None
+list_at_end (after_quotes n name content m) = Some (final n (quoted name content m))
+
+-- the parameter list that ends as a begun list, if it may end there
+abbrev pub ended_list : BegunList → Option Parameters
+ended_list list = option_map (with_closed list.closed) (list_at_end list.place)
+
+-- the syntax tree of a text that ends in a begun tree, if it may end there
+abbrev pub tree_of : Begun → Option SyntaxTree
+tree_of (in_type top) = None
+tree_of (in_subtype top []) = None
+tree_of (in_subtype top (s ∷ sub)) = Some (record { top = top; sub = s ∷ sub; tail = no_list })
+tree_of (in_list top sub list) = option_map (λ rest. record { top = top; sub = sub; tail = listed rest }) (ended_list list)
+
+-- what is missing from a text that ends too early, at a state of a list
+abbrev pub lacking_list : ListState → ParseError
+lacking_list (in_name n name) = MissingEqual
+lacking_list (in_value n name value) = MissingValue
+lacking_list place = MissingQuote
+
+-- what is missing from a text that ends too early, in a begun tree
+abbrev pub lacking : Begun → ParseError
+lacking (in_type top) = MissingSlash
+lacking (in_subtype top sub) = MissingSubtype
+lacking (in_list top sub list) = lacking_list list.place
+
+-- ---- by any step
+
+-- a walk takes a step and goes on
+pub walk_by-step : {S : Type 0} (step : S → ℕ → Option S) (state next : S) (b : ℕ) (bytes : List ℕ) → step state b ≡ Some next
+    → walk_by step state (b ∷ bytes) ≡ walk_by step next bytes
+walk_by-step step state next b bytes taken = ap (option_and_then (λ s. walk_by step s bytes)) taken
+
+-- a joined text is walked part by part
+pub walk_by-append : {S : Type 0} (step : S → ℕ → Option S) (state : S) (xs ys : List ℕ)
+    → walk_by step state (xs ++ ys) ≡ option_and_then (λ next. walk_by step next ys) (walk_by step state xs)
+walk_by-append step state [] ys = refl
+walk_by-append step state (b ∷ xs) ys =
+    elim (step state b) as (λ o. option_and_then (λ next. walk_by step next (xs ++ ys)) o
+    ≡ option_and_then (λ next. walk_by step next ys) (option_and_then (λ next. walk_by step next xs) o))
+    [ None ↦ refl | Some next ↦ walk_by-append step next xs ys ]
+
+-- the walk goes on from where the first part led
+walk_by-append_some : {S : Type 0} (step : S → ℕ → Option S) (state next : S) (xs ys : List ℕ)
+    → walk_by step state xs ≡ Some next → walk_by step state (xs ++ ys) ≡ walk_by step next ys
+walk_by-append_some step state next xs ys e =
+    walk_by-append step state xs ys ∙ ap (option_and_then (λ s. walk_by step s ys)) e
+
+-- a state that each byte of a class lengthens takes a run of the class
+walk_by-run : {S : Type 0} (step : S → ℕ → Option S) (class : ℕ → Bool) (place : List ℕ → S)
+    → ((taken : List ℕ) (b : ℕ) → IsTrue (class b) → step (place taken) b ≡ Some (place (taken ++ (b ∷ []))))
+    → (taken run : List ℕ) → IsTrue (list_all class run) → walk_by step (place taken) run ≡ Some (place (taken ++ run))
+walk_by-run step class place takes taken [] all = ap (λ t. Some (place t)) (sym (append-nil taken))
+walk_by-run step class place takes taken (b ∷ run) all =
+    let parts = and_parts (class b) (list_all class run) all in
+    walk_by-step step (place taken) (place (taken ++ (b ∷ []))) b run (takes taken b parts.0)
+    ∙ walk_by-run step class place takes (taken ++ (b ∷ [])) run parts.1
+    ∙ ap (λ t. Some (place t)) (append_assoc taken (b ∷ []) run)
+
+-- ---- from a begun tree
+
+-- a walk takes a step and goes on
+pub walk_from-step : (begun next : Begun) (b : ℕ) (bytes : List ℕ) → grow begun b ≡ Some next
+    → walk_from begun (b ∷ bytes) ≡ walk_from next bytes
+walk_from-step = walk_by-step grow
+
+-- a walk goes on from where the first part led
+pub walk_from-append_some : (begun next : Begun) (xs ys : List ℕ) → walk_from begun xs ≡ Some next
+    → walk_from begun (xs ++ ys) ≡ walk_from next ys
+walk_from-append_some = walk_by-append_some grow
+
+-- after the subtype's semicolon the list alone is walked
+pub walk_from-in_list : (top sub : List ℕ) (list : BegunList) (xs : List ℕ)
+    → walk_from (in_list top sub list) xs ≡ option_map (in_list top sub) (walk_list list xs)
+walk_from-in_list top sub list [] = refl
+walk_from-in_list top sub list (b ∷ xs) =
+    elim (grow_list list b) as (λ o. option_and_then (λ next. walk_from next xs) (option_map (in_list top sub) o)
+    ≡ option_map (in_list top sub) (option_and_then (λ next. walk_list next xs) o))
+    [ None ↦ refl | Some next ↦ walk_from-in_list top sub next xs ]
+
+-- token bytes are walked to a type
+pub walk-type : (t : ℕ) (run : List ℕ) → IsTrue (is_token_byte t) → IsTrue (list_all is_token_byte run)
+    → walk (t ∷ run) ≡ Some (in_type (t ∷ run))
+walk-type t run first all =
+    walk_from-step (in_type []) (in_type (t ∷ [])) t run (cond-true _ _ _ first)
+    ∙ walk_by-run grow is_token_byte (λ taken. in_type (t ∷ taken)) (λ taken b yes. cond-true _ _ _ yes) [] run all
+
+-- token bytes go on in the subtype
+pub walk_from-subtype : (top : List ℕ) (s : ℕ) (sub run : List ℕ) → IsTrue (list_all is_token_byte run)
+    → walk_from (in_subtype top (s ∷ sub)) run ≡ Some (in_subtype top (s ∷ sub ++ run))
+walk_from-subtype top s =
+    walk_by-run grow is_token_byte (λ taken. in_subtype top (s ∷ taken)) (λ taken b yes. cond-true _ _ _ yes)
+
+-- ---- within a list
+
+-- a walk goes on from where the first part led
+pub walk_list-append_some : (list next : BegunList) (xs ys : List ℕ) → walk_list list xs ≡ Some next
+    → walk_list list (xs ++ ys) ≡ walk_list next ys
+walk_list-append_some = walk_by-append_some grow_list
+
+-- spaces go on after a semicolon
+pub walk_list-spaces : (closed : Closed) (n run : List ℕ) → IsTrue (list_all is_space run)
+    → walk_list (list_at closed (in_spaces n)) run ≡ at_state closed (in_spaces (n ++ run))
+walk_list-spaces closed =
+    walk_by-run grow_list is_space (λ n. list_at closed (in_spaces n)) (λ n b yes. cond-true _ _ _ yes)
+
+-- token bytes go on in a parameter's name
+pub walk_list-name : (closed : Closed) (n : List ℕ) (b : ℕ) (name run : List ℕ) → IsTrue (list_all is_token_byte run)
+    → walk_list (list_at closed (in_name n (b ∷ name))) run ≡ at_state closed (in_name n (b ∷ name ++ run))
+walk_list-name closed n b =
+    walk_by-run grow_list is_token_byte (λ taken. list_at closed (in_name n (b ∷ taken))) (λ taken c yes. cond-true _ _ _ yes)
+
+-- token bytes go on in a plain value
+pub walk_list-value : (closed : Closed) (n name : List ℕ) (v : ℕ) (value run : List ℕ) → IsTrue (list_all is_token_byte run)
+    → walk_list (list_at closed (in_value n name (v ∷ value))) run ≡ at_state closed (in_value n name (v ∷ value ++ run))
+walk_list-value closed n name v =
+    walk_by-run grow_list is_token_byte (λ taken. list_at closed (in_value n name (v ∷ taken))) (λ taken b yes. cond-true _ _ _ yes)
+
+-- bytes that a quoted value takes go on in it
+pub walk_list-open : (closed : Closed) (n name taken run : List ℕ) → IsTrue (takes_all (awaits_after awaits_first taken) run)
+    → walk_list (list_at closed (in_quotes n name taken)) run ≡ at_state closed (in_quotes n name (taken ++ run))
+walk_list-open closed n name taken [] all = ap (λ t. at_state closed (in_quotes n name t)) (sym (append-nil taken))
+walk_list-open closed n name taken (b ∷ run) all =
+    let parts = and_parts (continues taken b) (takes_all (awaits_next (awaits_after awaits_first taken) b) run) all in
+    walk_by-step grow_list (list_at closed (in_quotes n name taken)) (list_at closed (in_quotes n name (taken ++ (b ∷ [])))) b run
+    (cond-true (continues taken b) _ _ parts.0)
+    ∙ walk_list-open closed n name (taken ++ (b ∷ [])) run
+    (subst (λ a. IsTrue (takes_all a run)) (sym (awaits_after-append awaits_first taken (b ∷ []))) parts.1)
+    ∙ ap (λ t. at_state closed (in_quotes n name t)) (append_assoc taken (b ∷ []) run)
+
+-- spaces go on after a quoted value
+pub walk_list-after_quotes : (closed : Closed) (n name content m run : List ℕ) → IsTrue (list_all is_space run)
+    → walk_list (list_at closed (after_quotes n name content m)) run ≡ at_state closed (after_quotes n name content (m ++ run))
+walk_list-after_quotes closed n name content =
+    walk_by-run grow_list is_space (λ m. list_at closed (after_quotes n name content m)) (λ m b yes. cond-true _ _ _ yes)

@@ -1,0 +1,240 @@
+-- Characters: the longest viable prefix ends between two, and what is passed after it is one.
+use Rattle.std.proofs.Common.{◌≡◌, ℕ, Bool, false, List, [], ◌∷◌, ◌++◌, Option, Some, None, refl, sym, ◌∙◌, subst, ◌+◌, ◌<◌, ◌≤◌, true, length, get_or, drop, ap, arith, ◌⊎◌, inl, inr, ⊎_elim, length-drop, zero, suc, take, append-nil, length-append}
+use Rattle.std.proofs.lemmas.Bool.{cond_both, cond-false, cases_lt, and_parts, both_ways, cases_Bool}
+use Rattle.std.specs.Prelude.{IsFalse, MatchOption, if◌then◌else◌, ◌==◌, IsTrue}
+use Rattle.std.specs.Option.{option_map}
+use Rattle.mime.specs.Bytes.{is_token_byte, slash_byte, semicolon_byte, equals_byte, quote_byte}
+use Rattle.mime.specs.Grammar.{is_space}
+use Rattle.mime.specs.Quoted.{continues, awaits_first, awaits_after}
+use Rattle.mime.proofs.GrammarLemmas.Begun.{Closed, Begun, in_type, in_subtype, in_list, ListState, in_spaces, in_name, in_value, in_quotes, after_quotes, list_at, grow, grow_state, grow_list, BegunList, walk, walk_from}
+use Rattle.std.proofs.lemmas.Bool.Decides.{nat_tests}
+use Rattle.std.proofs.lemmas.List.{drop_more}
+use Rattle.std.proofs.lemmas.Option.{none-some, same_Some, option_and_then_some, MatchOption-at_some}
+use Rattle.std.proofs.lemmas.Str.{IsCharBoundary-start, IsCharBoundary-end, IsCharBoundary-after_ascii, IsUtf8-take, IsUtf8-drop, IsCharBoundary-past_char, length-encode, len_utf8_bounds}
+use Rattle.std.specs.Str.{IsUtf8, IsCharBoundary, encode_utf8_all}
+use Rattle.mime.proofs.GrammarLemmas.Content.{takes-high}
+use Rattle.mime.specs.Laws.{FrontEndsBetweenCharacters}
+use Rattle.mime.proofs.GrammarLemmas.Viability.{whole_front-from_walk, front_unique, stop-from_walk, dead-from_stop}
+use Rattle.std.proofs.Math.Seq.{take-append_seam, drop-append_seam, get_or-append_seam}
+use Rattle.std.proofs.lemmas.List.Folds.{list_all_at}
+use Rattle.std.specs.List.{list_all}
+use Rattle.std.specs.Char.{IsScalar, encode_utf8, len_utf8}
+use Rattle.mime.specs.Cut.{is_following_byte, IsCharacter}
+use Rattle.mime.specs.CutLaws.{PassesOneCharacter}
+use lib.Utf8.{scalars, scalar}
+
+-- a foreign byte: no token byte, no space and no mark
+pub record IsForeign (b : ℕ) : Type 0 where
+  pub token : IsFalse (is_token_byte b)
+  pub space : IsFalse (is_space b)
+  pub slash : IsFalse (b == slash_byte)
+  pub semicolon : IsFalse (b == semicolon_byte)
+  pub equals : IsFalse (b == equals_byte)
+  pub quote : IsFalse (b == quote_byte)
+
+-- the begun tree ends in an open quoted value
+pub record IsOpen (begun : Begun) : Type 0 where
+  pub top : List ℕ
+  pub sub : List ℕ
+  pub closed : Closed
+  pub spaces : List ℕ
+  pub name : List ℕ
+  pub content : List ℕ
+  pub is : begun ≡ in_list top sub (list_at closed (in_quotes spaces name content))
+
+-- a state in open quotes is in an open quoted value
+open_at : (top sub : List ℕ) (closed : Closed) (n name content : List ℕ)
+    → IsOpen (in_list top sub (list_at closed (in_quotes n name content)))
+open_at top sub closed n name content =
+    record { top = top; sub = sub; closed = closed; spaces = n; name = name; content = content; is = refl }
+
+-- where both tests fail nothing goes on
+neither : {X : Type 0} (P : X → Type 0) (first second : Bool) (x y : Option X) → IsFalse first → IsFalse second
+    → MatchOption (if first then x else (if second then y else None)) (Unit {0}) P
+neither P first second x y fails fails_too =
+    subst (λ o. MatchOption o (Unit {0}) P) (sym (cond-false first x _ fails ∙ cond-false second y None fails_too)) tt
+
+-- from a state of a list a foreign byte leads nowhere, or from open quotes into open quotes
+grow_state-foreign : (top sub : List ℕ) (closed : Closed) (place : ListState) (b : ℕ) → IsForeign b
+    → MatchOption (grow_state closed place b) (Unit {0})
+    (λ next. IsOpen (in_list top sub (list_at closed place)) × IsOpen (in_list top sub next))
+grow_state-foreign top sub closed (in_spaces n) b foreign = neither _ _ _ _ _ foreign.space foreign.token
+grow_state-foreign top sub closed (in_name n name) b foreign = neither _ _ _ _ _ foreign.token foreign.equals
+grow_state-foreign top sub closed (in_value n name []) b foreign = neither _ _ _ _ _ foreign.token foreign.quote
+grow_state-foreign top sub closed (in_value n name (v ∷ value)) b foreign = neither _ _ _ _ _ foreign.token foreign.semicolon
+grow_state-foreign top sub closed (in_quotes n name content) b foreign =
+    cond_both (continues content b) _ _
+    (λ o. MatchOption o (Unit {0})
+    (λ next. IsOpen (in_list top sub (list_at closed (in_quotes n name content))) × IsOpen (in_list top sub next)))
+    (λ passes. (open_at top sub closed n name content, open_at top sub closed n name (content ++ (b ∷ []))))
+    (λ fails. neither _ false _ None _ refl foreign.quote)
+grow_state-foreign top sub closed (after_quotes n name content m) b foreign = neither _ _ _ _ _ foreign.space foreign.semicolon
+
+-- from any begun tree a foreign byte leads nowhere, or from open quotes into open quotes
+pub grow-foreign : (begun : Begun) (b : ℕ) → IsForeign b
+    → MatchOption (grow begun b) (Unit {0}) (λ next. IsOpen begun × IsOpen next)
+grow-foreign (in_type []) b foreign = neither _ (is_token_byte b) false _ None foreign.token refl
+grow-foreign (in_type (t ∷ top)) b foreign = neither _ _ _ _ _ foreign.token foreign.slash
+grow-foreign (in_subtype top []) b foreign = neither _ (is_token_byte b) false _ None foreign.token refl
+grow-foreign (in_subtype top (s ∷ sub)) b foreign = neither _ _ _ _ _ foreign.token foreign.semicolon
+grow-foreign (in_list top sub list) b foreign =
+    elim (grow_list list b)
+    as (λ o. MatchOption o (Unit {0}) (λ next. IsOpen (in_list top sub list) × IsOpen (in_list top sub next))
+    → MatchOption (option_map (in_list top sub) o) (Unit {0}) (λ next. IsOpen (in_list top sub list) × IsOpen next))
+    [ None ↦ λ opens. opens | Some next ↦ λ opens. opens ] (grow_state-foreign top sub list.closed list.place b foreign)
+
+-- ---- a byte past ASCII is foreign to the grammar
+
+-- a byte past ASCII is no token byte
+pub high_token : (b : ℕ) → 128 ≤ b → IsFalse (is_token_byte b)
+unfolding is_token_byte
+high_token b high = grind (arith, nat_tests)
+
+-- a byte past ASCII is no token byte, no space and no mark
+foreign-from_high : (b : ℕ) → 128 ≤ b → IsForeign b
+foreign-from_high b high = record {
+  token = high_token b high;
+  space = grind (arith, nat_tests);
+  slash = grind (arith, nat_tests);
+  semicolon = grind (arith, nat_tests);
+  equals = grind (arith, nat_tests);
+  quote = grind (arith, nat_tests);
+}
+
+-- a byte past ASCII that an open quoted value doesn't take begins a character
+high-untaken : (begun : Begun) (b : ℕ) → IsOpen begun → grow begun b ≡ None → 128 ≤ b → 192 ≤ b
+high-untaken begun b quotes dead high =
+    takes-high (awaits_after awaits_first quotes.content) b
+    (untaken (continues quotes.content b) (b == quote_byte) _ _ (sym (ap (λ t. grow t b) quotes.is) ∙ dead)) high
+  where
+    untaken : (test other : Bool) (x y : BegunList)
+        → option_map (in_list quotes.top quotes.sub) (if test then Some x else (if other then Some y else None)) ≡ None → IsFalse test
+    untaken true other x y dead = absurd (none-some _ (sym dead))
+    untaken false other x y dead = refl
+
+-- ---- the front
+
+-- a byte of a text, by what is left from its position on
+byte_at : (text : List ℕ) (at b : ℕ) (rest : List ℕ) → drop at text ≡ b ∷ rest
+    → (at < length text) × (get_or text at 0 ≡ b) × (drop (at + 1) text ≡ rest)
+byte_at text at b rest left =
+    let within : at < length text = omega (arith, length-drop at text, ap length left) in
+    let same = sym (drop_more text at 0 within) ∙ left in
+    (within, ap (λ t. get_or t 0 0) same, ap (λ t. drop 1 t) same)
+
+-- after a byte that was walked a character ends, or the quotes are open
+border-after : (text : List ℕ) (at b : ℕ) (rest : List ℕ) (begun next : Begun) → IsUtf8 text → drop at text ≡ b ∷ rest
+    → grow begun b ≡ Some next → IsCharBoundary text (at + 1) ⊎ IsOpen next
+border-after text at b rest begun next utf8 left grown =
+    let here = byte_at text at b rest left in
+    ⊎_elim (λ ascii. inl (IsCharBoundary-after_ascii text at utf8 here.0 (omega (arith, here.1, ascii))))
+    (λ high. inr (MatchOption-at_some (Unit {0}) (λ n. IsOpen begun × IsOpen n) next grown
+    (grow-foreign begun b (foreign-from_high b high))).1)
+    (cases_lt b 128)
+
+-- before a byte that leads nowhere a character ends
+border-before_dead : (text : List ℕ) (at : ℕ) (bytes rest : List ℕ) (b : ℕ) (start begun : Begun) → IsUtf8 text
+    → drop at text ≡ bytes ++ (b ∷ rest) → walk_from start bytes ≡ Some begun → grow begun b ≡ None
+    → IsCharBoundary text at ⊎ IsOpen start → IsCharBoundary text (at + length bytes)
+border-before_dead text at [] rest b start begun utf8 left walked dead border =
+    let here = byte_at text at b rest left in
+    let sum : at ≡ at + 0 = omega arith in
+    let dead_here = subst (λ s. grow s b ≡ None) (sym (same_Some start begun walked)) dead in
+    subst (IsCharBoundary text) sum
+    (⊎_elim (λ ends. ends)
+    (λ quotes. (
+      omega (arith, here.0),
+      λ within above.
+          omega (arith, here.1, high-untaken start b quotes dead_here (omega (arith, here.1, above))),
+    ))
+    border)
+border-before_dead text at (c ∷ bytes) rest b start begun utf8 left walked dead border =
+    option_and_then_some (λ next. walk_from next bytes) (grow start c) begun walked
+    (λ next grown goes.
+    let sum : at + 1 + length bytes ≡ at + length (c ∷ bytes) = omega arith in
+    subst (IsCharBoundary text) sum
+    (border-before_dead text (at + 1) bytes rest b next begun utf8 (byte_at text at c (bytes ++ (b ∷ rest)) left).2 goes dead
+    (border-after text at c (bytes ++ (b ∷ rest)) start next utf8 left grown)))
+
+-- the longest viable front ends between characters
+pub front_ends_between_characters : FrontEndsBetweenCharacters
+front_ends_between_characters text count utf8 front = reached (walk text) refl
+  where
+    reached : (o : Option Begun) → walk text ≡ o → IsCharBoundary text count
+    reached (Some begun) walked =
+        subst (IsCharBoundary text)
+        (front_unique text (length text) count (whole_front-from_walk text begun walked) front) (IsCharBoundary-end text)
+    reached None stopped =
+        let stop = stop-from_walk (in_type []) text stopped in
+        let same = front_unique text (length stop.front) count (dead-from_stop text stop).front front in
+        let sum : 0 + length stop.front ≡ count = omega (arith, same) in
+        subst (IsCharBoundary text) sum
+        (border-before_dead text 0 stop.front stop.rest stop.byte (in_type []) stop.begun utf8 stop.spelled stop.walked stop.dead
+        (inl (IsCharBoundary-start text utf8)))
+
+-- a byte past ASCII that isn't from 128 to 191 is 192 or above
+begins-high : (b : ℕ) → IsFalse (is_following_byte b) → 128 ≤ b → 192 ≤ b
+begins-high b begins high = grind (arith, nat_tests, begins, high)
+
+-- a byte that only follows is from 128 to 191
+following-low : (b : ℕ) → IsTrue (is_following_byte b) → (128 ≤ b) × (b < 192)
+following-low b follows = (grind (arith, nat_tests, follows), grind (arith, nat_tests, follows))
+
+-- a text may be cut after a character
+character-border : (c l : List ℕ) → IsCharacter c l → IsCharBoundary (c ++ l) (length c)
+character-border [] l one = absurd one
+character-border (a ∷ f) [] one = (omega (arith, length-append (a ∷ f) []), λ within high. absurd (omega (arith, length-append (a ∷ f) [])))
+character-border (a ∷ f) (b ∷ l) one =
+    let there : get_or ((a ∷ f) ++ (b ∷ l)) (length (a ∷ f)) 0 ≡ b = get_or-append_seam (a ∷ f) b l 0 in (
+      omega (arith, length-append (a ∷ f) (b ∷ l)),
+      λ within high. subst (λ (x : ℕ). 192 ≤ x) (sym there) (begins-high b one.1 (subst (λ (x : ℕ). 128 ≤ x) there high)),
+    )
+
+-- a byte of a run is of its class
+of_run : (class : ℕ → Bool) (f : List ℕ) (i : ℕ) → IsTrue (list_all class f) → i < length f → IsTrue (class (get_or f i 0))
+of_run class f i all within =
+    ⊎_elim (λ is. is) (λ isnt. absurd (both_ways (list_all class f) (list_all_at class f i 0 within isnt) all))
+    (cases_Bool (class (get_or f i 0)))
+
+-- between the bytes of a character a text may not be cut
+no-border : (b : ℕ) (f : List ℕ) (i : ℕ) → IsTrue (list_all is_following_byte f) → 1 ≤ i → i < length (b ∷ f)
+    → IsCharBoundary (b ∷ f) i → ⊥
+no-border b f zero all above within border = absurd (omega arith)
+no-border b f (suc i) all above within border =
+    let low = following-low _ (of_run is_following_byte f i all (omega arith)) in
+    let high = border.1 within low.0 in
+    omega (arith, low.1, high)
+
+-- the bytes of a character in valid UTF-8 are one character
+single : (c l : List ℕ) → IsCharacter c l → IsUtf8 c → (char : ℕ) × IsScalar char × (c ≡ encode_utf8 char)
+single [] l one utf8 = absurd one
+single (b ∷ f) l one utf8 = by_chars utf8.0 utf8.1.0 utf8.1.1
+  where
+    by_chars : (cs : List ℕ) → scalars cs ≡ true → encode_utf8_all cs ≡ b ∷ f
+        → (char : ℕ) × IsScalar char × (b ∷ f ≡ encode_utf8 char)
+    by_chars [] are e = absurd (omega (arith, ap length e))
+    by_chars (x ∷ []) are e = (x, (and_parts (scalar x) (scalars []) are).0, sym e ∙ append-nil (encode_utf8 x))
+    by_chars (x ∷ (y ∷ ys)) are e =
+        let rest = encode_utf8_all (y ∷ ys) in
+        let bounds = len_utf8_bounds x in
+        let more = len_utf8_bounds y in
+        let size = length-append (encode_utf8 x) rest in
+        let size_rest = length-append (encode_utf8 y) (encode_utf8_all ys) in
+        let whole = ap length e in
+        let border = IsCharBoundary-past_char (b ∷ f) rest 0 x (omega arith) utf8 (sym e) in
+        absurd (no-border b f (0 + len_utf8 x) one.0 (omega (arith, bounds.0))
+        (omega (arith, size, size_rest, whole, length-encode x, length-encode y, more.0)) border)
+
+-- what is passed in valid UTF-8 is one character
+pub passes_one_character : PassesOneCharacter
+passes_one_character text p c l utf8 split =
+    let border = front_ends_between_characters text (length p) utf8 split.front in
+    let piece : IsUtf8 p =
+    subst IsUtf8 (ap (take (length p)) split.spelled ∙ take-append_seam p (c ++ l)) (IsUtf8-take text (length p) utf8 border) in
+    let others : IsUtf8 (c ++ l) =
+    subst IsUtf8 (ap (drop (length p)) split.spelled ∙ drop-append_seam p (c ++ l)) (IsUtf8-drop text (length p) utf8 border) in
+    let cut = character-border c l split.is_character in
+    let whole : IsUtf8 c = subst IsUtf8 (take-append_seam c l) (IsUtf8-take (c ++ l) (length c) others cut) in
+    let left : IsUtf8 l = subst IsUtf8 (drop-append_seam c l) (IsUtf8-drop (c ++ l) (length c) others cut) in
+    let one = single c l split.is_character whole in
+    (one.0, one.1, one.2, piece, left)

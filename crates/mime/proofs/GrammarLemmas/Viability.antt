@@ -1,0 +1,249 @@
+-- Which texts may still become a media type, and what such a text lacks, read off the begun tree that it is walked to.
+use Rattle.std.proofs.Common.{◌≡◌, ℕ, Bool, suc, ◌+◌, ◌-◌, List, [], ◌∷◌, ◌++◌, length, take, Option, Some, None, refl, sym, ap, ◌∙◌, subst, arith, append_assoc, append-nil, length-append, ⊎_elim, codes}
+use Rattle.std.proofs.Math.Seq.{take-append_seam, take-append-add, take-length}
+use Rattle.std.proofs.lemmas.Bool.{cases_order, cond-false, false≢true}
+use Rattle.std.proofs.lemmas.Option.{none-some, option_and_then_some, slice_get_within}
+use Rattle.std.specs.Prelude.{IsTrue, MatchOption, is_some}
+use Rattle.std.specs.Option.{option_and_then, option_map}
+use Rattle.mime.specs.Bytes.{is_token_byte, quote_byte}
+use Rattle.mime.specs.Grammar.{SyntaxTree}
+use Rattle.mime.specs.Values.{value_of, IsAccepted, IsRefused}
+use Rattle.mime.specs.Refusals.{IsViable, IsFront, completion_of, Lacks, IsDeadAt, IsFault}
+use Rattle.mime.proofs.GrammarLemmas.Begun.{Closed, Begun, in_type, in_subtype, in_list, ListState, in_name, in_value, in_quotes, list_at, grow, walk, walk_from, tree_of, lacking, lacking_list, walk_from-step, walk_by-append, walk_from-append_some, walk_from-in_list, walk_list-open}
+use Rattle.mime.specs.Laws.{EmptyIsViable, FrontOfViableIsViable, AcceptedIsViable}
+use Rattle.mime.specs.declared.scan.fault.ParseError.{ParseError}
+use Rattle.mime.specs.declared.scan.fault.ParseError.TheVariants.{MissingQuote, InvalidToken}
+use Rattle.mime.specs.Quoted.{awaits_first, takes_all, awaits_after, continues}
+use Rattle.mime.proofs.GrammarLemmas.Content.{takes_all-letter, closed-letter}
+use Rattle.mime.proofs.GrammarLemmas.Spelling.{before_equals, spelled-from_walk, text-in_value}
+use Rattle.mime.proofs.GrammarLemmas.Readings.{accepted-from_walk, walk-accepted, stopped-from_walk}
+use Rattle.mime.proofs.BytesLemmas.{slice_get-front}
+
+-- ---- what may still become a media type
+
+-- a text that is walked to a complete tree is accepted
+pub accepted-from_complete : (text : List ℕ) (begun : Begun) (tree : SyntaxTree) → walk text ≡ Some begun
+    → tree_of begun ≡ Some tree → IsAccepted text
+accepted-from_complete text begun tree walked complete =
+    let found = accepted-from_walk text begun tree walked complete in
+    (value_of tree, record { tree = tree; well_formed = found.0; spelled = found.1; valued = refl })
+
+-- whether a continuation leads from a begun tree to a complete one
+abbrev pub completes : Begun → List ℕ → Bool
+completes begun more = is_some (option_and_then tree_of (walk_from begun more))
+
+-- a continuation that does makes the text an accepted one
+accepted-from_completes : (text more : List ℕ) (begun : Begun) → walk text ≡ Some begun → IsTrue (completes begun more)
+    → IsAccepted (text ++ more)
+accepted-from_completes text more begun walked passes =
+    reached (option_and_then tree_of (walk_from begun more)) refl passes
+  where
+    reached : (o : Option SyntaxTree) → option_and_then tree_of (walk_from begun more) ≡ o → IsTrue (is_some o)
+        → IsAccepted (text ++ more)
+    reached None same passes = absurd (false≢true passes)
+    reached (Some tree) same passes =
+        option_and_then_some tree_of (walk_from begun more) tree same
+        (λ last goes complete.
+        accepted-from_complete (text ++ more) last tree (walk_from-append_some (in_type []) begun text more walked ∙ goes) complete)
+
+-- what makes a walked text an accepted one completes its begun tree
+pub completes-from_accepted : (text more : List ℕ) (begun : Begun) → walk text ≡ Some begun → IsAccepted (text ++ more)
+    → IsTrue (completes begun more)
+completes-from_accepted text more begun walked accepted =
+    let found = walk-accepted (text ++ more) accepted in
+    ap (λ o. is_some (option_and_then tree_of o)) (sym (walk_from-append_some (in_type []) begun text more walked) ∙ found.2.0)
+    ∙ ap (λ o. is_some o) found.2.1
+
+-- what an open quoted value takes leaves it open
+pub walk_from-open : (top sub : List ℕ) (closed : Closed) (n name content more : List ℕ)
+    → IsTrue (takes_all (awaits_after awaits_first content) more)
+    → walk_from (in_list top sub (list_at closed (in_quotes n name content))) more
+    ≡ Some (in_list top sub (list_at closed (in_quotes n name (content ++ more))))
+walk_from-open top sub closed n name content more all =
+    walk_from-in_list top sub (list_at closed (in_quotes n name content)) more
+    ∙ ap (option_map (in_list top sub)) (walk_list-open closed n name content more all)
+
+-- a letter and a quote complete an open quoted value
+completes-open_quotes : (top sub : List ℕ) (closed : Closed) (n name content : List ℕ)
+    → IsTrue (completes (in_list top sub (list_at closed (in_quotes n name content))) (codes "x\""))
+completes-open_quotes top sub closed n name content =
+    ap (λ o. is_some (option_and_then tree_of o))
+    (walk_from-append_some (in_list top sub (list_at closed (in_quotes n name content)))
+    (in_list top sub (list_at closed (in_quotes n name (content ++ (120 ∷ []))))) (120 ∷ []) (quote_byte ∷ [])
+    (walk_from-open top sub closed n name content (120 ∷ []) (takes_all-letter (awaits_after awaits_first content))))
+    ∙ ap (λ o. is_some (option_and_then tree_of (option_and_then (λ next. walk_from next []) (option_map (in_list top sub) o))))
+    (cond-false (continues (content ++ (120 ∷ [])) quote_byte) _ _ (closed-letter content))
+
+-- a text that may not end where it ends lacks what the state at its end says
+pub lacks-from_walk : (text : List ℕ) (begun : Begun) → walk text ≡ Some begun → tree_of begun ≡ None → Lacks text (lacking begun)
+unfolding is_token_byte
+lacks-from_walk text (in_type []) walked unfinished =
+    (accepted-from_completes text (codes "x/x") (in_type []) walked refl, tt)
+lacks-from_walk text (in_type (t ∷ top)) walked unfinished =
+    (accepted-from_completes text (codes "x/x") (in_type (t ∷ top)) walked refl, tt)
+lacks-from_walk text (in_subtype top []) walked unfinished = (
+  accepted-from_completes text (codes "x") (in_subtype top []) walked refl,
+  (top, sym (spelled-from_walk text (in_subtype top []) walked)),
+)
+lacks-from_walk text (in_subtype top (s ∷ sub)) walked unfinished = absurd (none-some _ (sym unfinished))
+lacks-from_walk text (in_list top sub list) walked unfinished = at list.place list.closed walked unfinished
+  where
+    at : (place : ListState) (closed : Closed) → walk text ≡ Some (in_list top sub (list_at closed place))
+        → tree_of (in_list top sub (list_at closed place)) ≡ None → Lacks text (lacking_list place)
+    at (in_name n name) closed walked unfinished =
+        (accepted-from_completes text (codes "=x") (in_list top sub (list_at closed (in_name n name))) walked refl, tt)
+    at (in_value n name []) closed walked unfinished = (
+      accepted-from_completes text (codes "x") (in_list top sub (list_at closed (in_value n name []))) walked refl,
+      (
+        before_equals top sub closed n name,
+        sym (spelled-from_walk text _ walked) ∙ sym (text-in_value top sub closed n name []) ∙ append-nil _,
+      ),
+    )
+    at (in_quotes n name content) closed walked unfinished = (
+      accepted-from_completes text (codes "x\"") (in_list top sub (list_at closed (in_quotes n name content))) walked
+          (completes-open_quotes top sub closed n name content),
+      tt,
+    )
+    at other closed walked unfinished = absurd (none-some _ (sym unfinished))
+
+-- a text with a completion is viable
+pub viable-from_lacks : (text : List ℕ) (fault : ParseError) → Lacks text fault → IsViable text
+viable-from_lacks text fault lacks =
+    (elim (completion_of fault) as (λ o. MatchOption o ⊥ (λ more. IsAccepted (text ++ more)) → IsViable text)
+    [ None ↦ λ completed. absurd completed | Some more ↦ λ completed. (more, completed) ]) lacks.0
+
+-- an accepted text is viable
+pub accepted_is_viable : AcceptedIsViable
+accepted_is_viable text accepted = ([], subst IsAccepted (sym (append-nil text)) accepted)
+
+-- a text that can be walked is viable
+pub viable-from_walk : (text : List ℕ) (begun : Begun) → walk text ≡ Some begun → IsViable text
+viable-from_walk text begun walked = reached (tree_of begun) refl
+  where
+    reached : (o : Option SyntaxTree) → tree_of begun ≡ o → IsViable text
+    reached None unfinished = viable-from_lacks text (lacking begun) (lacks-from_walk text begun walked unfinished)
+    reached (Some tree) complete = accepted_is_viable text (accepted-from_complete text begun tree walked complete)
+
+-- a text that can't be walked isn't viable
+not_viable-from_walk : (text : List ℕ) → walk text ≡ None → IsViable text → ⊥
+not_viable-from_walk text stopped viable =
+    stopped-from_walk (text ++ viable.0)
+    (walk_by-append grow (in_type []) text viable.0 ∙ ap (option_and_then (λ next. walk_from next viable.0)) stopped)
+    viable.1
+
+-- a viable text can be walked
+pub walk-from_viable : (text : List ℕ) → IsViable text → (begun : Begun) × (walk text ≡ Some begun)
+walk-from_viable text viable = reached (walk text) refl
+  where
+    reached : (o : Option Begun) → walk text ≡ o → (begun : Begun) × (walk text ≡ Some begun)
+    reached None stopped = absurd (not_viable-from_walk text stopped viable)
+    reached (Some begun) walked = (begun, walked)
+
+-- the empty text is viable
+pub empty_is_viable : EmptyIsViable
+empty_is_viable = viable-from_walk [] (in_type []) refl
+
+-- each beginning of a viable text is viable
+pub front_of_viable_is_viable : FrontOfViableIsViable
+front_of_viable_is_viable front more viable =
+    (more ++ viable.0, subst IsAccepted (append_assoc front more viable.0) viable.1)
+
+-- ---- the front
+
+-- the whole text is its front if it can be walked
+pub whole_front-from_walk : (text : List ℕ) (begun : Begun) → walk text ≡ Some begun → IsFront text (length text)
+whole_front-from_walk text begun walked = record {
+  within = omega arith;
+  viable = subst IsViable (sym (take-length text)) (viable-from_walk text begun walked);
+  longest = λ n above within viable. absurd (omega arith);
+}
+
+-- after a byte that leads nowhere no walk goes on
+walk-dead : (front rest : List ℕ) (b : ℕ) (begun : Begun) → walk front ≡ Some begun → grow begun b ≡ None
+    → walk (front ++ (b ∷ rest)) ≡ None
+walk-dead front rest b begun walked dead =
+    walk_from-append_some (in_type []) begun front (b ∷ rest) walked ∙ ap (option_and_then (λ next. walk_from next rest)) dead
+
+-- the front ends before the first byte that leads nowhere
+pub front-from_walk : (front rest : List ℕ) (b : ℕ) (begun : Begun) → walk front ≡ Some begun → grow begun b ≡ None
+    → IsFront (front ++ (b ∷ rest)) (length front)
+front-from_walk front rest b begun walked dead = record {
+  within = omega (arith, length-append front (b ∷ rest));
+  viable = subst IsViable (sym (take-append_seam front (b ∷ rest))) (viable-from_walk front begun walked);
+  longest = λ n above within viable.
+      let more : n ≡ length front + suc (n - suc (length front)) = omega arith in
+      let text : take n (front ++ (b ∷ rest)) ≡ front ++ (b ∷ take (n - suc (length front)) rest) =
+      ap (λ k. take k (front ++ (b ∷ rest))) more
+      ∙ take-append-add front (b ∷ rest) (suc (n - suc (length front))) in
+      not_viable-from_walk (front ++ (b ∷ take (n - suc (length front)) rest))
+      (walk-dead front (take (n - suc (length front)) rest) b begun walked dead) (subst IsViable text viable);
+}
+
+-- a text has at most one front
+pub front_unique : (text : List ℕ) (m n : ℕ) → IsFront text m → IsFront text n → m ≡ n
+front_unique text m n first second =
+    ⊎_elim (λ same. same)
+    (⊎_elim (λ below. absurd (first.longest n below second.within second.viable))
+    (λ above. absurd (second.longest m above first.within first.viable)))
+    (cases_order m n)
+
+-- ---- the fault
+
+-- the fault of a text that ends in an open quoted value
+pub quote_fault-from_walk : (text top sub : List ℕ) (closed : Closed) (n name content : List ℕ)
+    → walk text ≡ Some (in_list top sub (list_at closed (in_quotes n name content))) → IsFault text MissingQuote
+quote_fault-from_walk text top sub closed n name content walked = lacks-from_walk text _ walked refl
+
+-- the fault of a text that goes on with a byte that leads nowhere
+pub dead-from_walk : (front rest : List ℕ) (b : ℕ) (begun : Begun) → walk front ≡ Some begun → grow begun b ≡ None
+    → IsFault (front ++ (b ∷ rest)) (InvalidToken (length front) b)
+dead-from_walk front rest b begun walked dead = record {
+  front = front-from_walk front rest b begun walked dead;
+  there = slice_get-front front b rest (length front) refl;
+}
+
+-- a text with a byte at fault isn't viable
+pub not_viable-at_dead : (text : List ℕ) (pos byte : ℕ) → IsDeadAt text pos byte → ¬ (IsViable text)
+not_viable-at_dead text pos byte dead viable =
+    dead.front.longest (length text) (slice_get_within text pos byte dead.there) (omega arith)
+    (subst IsViable (sym (take-length text)) viable)
+
+-- a text with a byte at fault is refused
+pub refused-at_dead : (text : List ℕ) (pos byte : ℕ) → IsDeadAt text pos byte → IsRefused text
+refused-at_dead text pos byte dead accepted = not_viable-at_dead text pos byte dead (accepted_is_viable text accepted)
+
+-- where a walk stops
+pub record Stop (start : Begun) (text : List ℕ) : Type 0 where
+  pub front : List ℕ
+  pub byte : ℕ
+  pub rest : List ℕ
+  pub begun : Begun
+  pub spelled : text ≡ front ++ (byte ∷ rest)
+  pub walked : walk_from start front ≡ Some begun
+  pub dead : grow begun byte ≡ None
+
+-- a text that can't be walked has a first byte that leads nowhere
+pub stop-from_walk : (start : Begun) (text : List ℕ) → walk_from start text ≡ None → Stop start text
+stop-from_walk start [] stopped = absurd (none-some start (sym stopped))
+stop-from_walk start (b ∷ bytes) stopped =
+    (elim (grow start b) as (λ o. grow start b ≡ o → option_and_then (λ next. walk_from next bytes) o ≡ None → Stop start (b ∷ bytes)) [
+      | None ↦ λ dead stops.
+          record { front = []; byte = b; rest = bytes; begun = start; spelled = refl; walked = refl; dead = dead }
+      | Some next ↦ λ grown stops.
+          let stop = stop-from_walk next bytes stops in
+          record {
+            front = b ∷ stop.front;
+            byte = stop.byte;
+            rest = stop.rest;
+            begun = stop.begun;
+            spelled = ap (λ t. b ∷ t) stop.spelled;
+            walked = walk_from-step start next b stop.front grown ∙ stop.walked;
+            dead = stop.dead;
+          }
+    ]) refl stopped
+
+-- the byte where a walk stops is at fault
+pub dead-from_stop : (text : List ℕ) (stop : Stop (in_type []) text) → IsDeadAt text (length stop.front) stop.byte
+dead-from_stop text stop =
+    subst (λ t. IsDeadAt t (length stop.front) stop.byte) (sym stop.spelled)
+    (dead-from_walk stop.front stop.rest stop.byte stop.begun stop.walked stop.dead)

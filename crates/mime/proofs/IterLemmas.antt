@@ -1,0 +1,253 @@
+-- One call of a `MimeIter`: pieces are passed up to the first that is an item, and that is given.
+use Rattle.std.proofs.Common.{◌≡◌, ◌≢◌, ℕ, ◌+◌, ◌-◌, ◌<◌, ◌≤◌, Bool, true, false, List, [], length, Option, Some, None, Result, Ok, Err, refl, sym, ap, ◌∙◌, subst, arith, Bor, ◌∷◌, ◌++◌, map}
+use Rattle.std.specs.Prelude.{codes}
+use Rattle.std.proofs.lemmas.Bool.{true≢false}
+use Rattle.std.proofs.lemmas.List.{nil_from_length}
+use Rattle.std.proofs.lemmas.Option.{none-some}
+use Rattle.mime.specs.Values.{OwnedMedia, Reads}
+use Rattle.mime.specs.Cut.{TakesSteps, Cut, CutItem, good, bad}
+use Rattle.mime.specs.Runs.{Iteration, GivesItem, IsNext}
+use Rattle.mime.specs.BetweenCalls.{IsUnderWay, PassesOn, IsFirstPiece, PassesPiece, IsSound, IsFound}
+use Rattle.mime.specs.declared.iter.Bad.{Bad}
+use Rattle.mime.specs.declared.iter.Bad.TheVariants.{Piece, NoMemory}
+use Rattle.mime.specs.declared.iter.MimeIter.TheInside.{Inside}
+use Rattle.mime.specs.declared.scan.Places.{Places}
+use Rattle.mime.proofs.CutLemmas.{empty-cut, takes-viable, has_cut, cut_unique}
+use Rattle.mime.proofs.ValueLemmas.Reading.{accepted-from_places}
+use Rattle.mime.proofs.GrammarLemmas.Viability.{empty_is_viable}
+use Rattle.std.specs.Iterator.{Drains}
+use Rattle.mime.specs.CutLaws.{items_of_rest, kept_item, AreGiven, none_left, a_value, a_piece, no_memory, RunGivesCut, PrintedListComesBack, CommaContainsOnRuns}
+use Rattle.mime.proofs.Containment.{comma_contains, joined_comes_back}
+
+-- ---- what is kept
+
+-- out of memory, nothing is left
+under_way-starved : (text left : List ℕ) (starved : Bool) (steps : ℕ) → IsUnderWay text left starved steps
+    → IsUnderWay text [] true steps
+under_way-starved text left starved steps kept = record {
+  few = omega (arith, kept.few);
+  exact = λ fed n takes. absurd (true≢false fed);
+}
+
+-- pieces without an item were passed since a call began
+pub record IsLooking (old now : Iteration) : Type 0 where
+  pub passed : PassesOn old.left now.left
+  pub starved : now.starved ≡ old.starved
+  pub text : now.text ≡ old.text
+  pub still : old.left ≡ [] → now ≡ old
+  pub less : length now.left ≤ length old.left
+
+-- a `MimeIter` as contracts see it
+abbrev pub seen : Inside → Iteration
+seen i = record { text = i.text.now; left = i.left.now; starved = i.starved; steps = i.steps }
+
+-- ---- the search
+
+-- the search begins
+pub looking-first : (old : Iteration) → IsLooking old old
+looking-first old = record {
+  passed = record {
+    carries = λ some items rest cut. cut;
+    ends = λ end. ([], subst (λ t. Cut t [] []) (sym end) empty-cut);
+  };
+  starved = refl;
+  text = refl;
+  still = λ ended. refl;
+  less = omega arith;
+}
+
+-- an iterator after a piece was passed
+abbrev after_piece : Iteration → List ℕ → ℕ → Iteration
+after_piece now left steps = record now { left = left; steps = steps }
+
+-- an iterator after a piece was passed keeps what every iterator keeps
+sound-after_piece : (now : Iteration) (left : List ℕ) (steps : ℕ) → IsSound now → IsUnderWay now.left left false (steps - now.steps)
+    → now.steps ≤ steps → IsSound (after_piece now left steps)
+sound-after_piece now left steps sound passes counted = record {
+  few = omega (arith, sound.few, passes.few, counted);
+  exact = λ fed n takes.
+      subst (TakesSteps now.text) (omega (arith, counted)) (sound.exact fed (steps - now.steps + n) (passes.exact refl n takes));
+}
+
+-- after an empty piece the search goes on
+pub looking-more : (old now : Iteration) (piece left : List ℕ) (places : Option Places) (steps : ℕ) → IsLooking old now × IsSound now
+    → 0 < length now.left → PassesPiece now.left piece places left (steps - now.steps) → now.steps ≤ steps → length piece ≡ 0
+    → IsLooking old (after_piece now left steps) × IsSound (after_piece now left steps)
+looking-more old now piece left places steps (looking, sound) some passes counted none =
+    let still_some : now.left ≢ [] = λ e. absurd (omega (arith, ap length e, some)) in
+    let onward = passes.empty (nil_from_length piece none) in (
+      record {
+        passed = record {
+          carries = λ left_some items rest cut. looking.passed.carries still_some items rest (onward.carries left_some items rest cut);
+          ends = λ end. let item = onward.ends end in (item.0, looking.passed.carries still_some [] item.0 item.1);
+        };
+        starved = looking.starved;
+        text = looking.text;
+        still = λ ended. absurd (still_some (ap (λ (i : Iteration). i.left) (looking.still ended) ∙ ended));
+        less = omega (arith, looking.less, passes.less some);
+      },
+      sound-after_piece now left steps sound passes.under_way counted,
+    )
+
+-- where nothing is left no piece was found
+pub found-none : (old now : Iteration) → IsLooking old now × IsSound now → length now.left ≡ 0 → IsFound old None now
+found-none old now (looking, sound) none =
+    let end = nil_from_length now.left none in
+    record {
+      gives = (looking.passed.ends end, end);
+      starved = looking.starved;
+      text = looking.text;
+      still = λ ended. (refl, looking.still ended);
+      sound = sound;
+    }
+
+-- the first piece of what is left is the first of the text
+first_piece-carries : (text now piece left : List ℕ) (places : Option Places) → now ≢ [] → PassesOn text now
+    → IsFirstPiece now piece places left → IsFirstPiece text piece places left
+first_piece-carries text now piece left None some passed first =
+    λ items rest cut. passed.carries some _ rest (first items rest cut)
+first_piece-carries text now piece left (Some places) some passed (has, first) =
+    (has, λ value reads items rest cut. passed.carries some _ rest (first value reads items rest cut))
+
+-- a piece that isn't empty was found
+pub found-some : (old now : Iteration) (piece : Bor (List ℕ)) (left : List ℕ) (places : Option Places) (steps : ℕ)
+    → IsLooking old now × IsSound now → 0 < length now.left → PassesPiece now.left piece.now places left (steps - now.steps)
+    → now.steps ≤ steps → 0 < length piece.now → IsFound old (Some (piece, places)) (after_piece now left steps)
+found-some old now piece left places steps (looking, sound) some passes counted item =
+    let still_some : now.left ≢ [] = λ e. absurd (omega (arith, ap length e, some)) in
+    let is_item : piece.now ≢ [] = λ e. absurd (omega (arith, ap length e, item)) in
+    record {
+      gives = (
+        first_piece-carries old.left now.left piece.now left places still_some looking.passed (passes.item is_item),
+        omega (arith, looking.less, passes.less some),
+      );
+      starved = looking.starved;
+      text = looking.text;
+      still = λ ended. absurd (still_some (ap (λ (i : Iteration). i.left) (looking.still ended) ∙ ended));
+      sound = sound-after_piece now left steps sound passes.under_way counted;
+    }
+
+-- ---- a whole call
+
+-- at the end of a run the steps are those that the text takes
+sound-exact : (i : Iteration) → IsSound i → i.left ≡ [] → i.starved ≡ false → TakesSteps i.text i.steps
+sound-exact i sound ended fed =
+    let none : TakesSteps i.left 0 = subst (λ t. TakesSteps t 0) (sym ended) (takes-viable [] empty_is_viable) in
+    subst (TakesSteps i.text) (omega arith) (sound.exact fed 0 none)
+
+-- a call gives none
+pub next-none : (old new : Iteration) → IsFound old None new → IsNext old None new
+next-none old new found = record {
+  item = (found.gives.0, found.gives.1, found.starved);
+  text = found.text;
+  few = omega (arith, found.sound.few);
+  exact = sound-exact new found.sound;
+  stays = λ ended. (refl, (found.still ended).1);
+}
+
+-- a call gives what was made of the piece that was found
+next-some : (old now new : Iteration) (piece : Bor (List ℕ) × Option Places) (given : Result OwnedMedia Bad) → IsFound old (Some piece) now
+    → IsSound new → new.text ≡ now.text → GivesItem old (Some given) new → IsNext old (Some given) new
+next-some old now new piece given found sound text item = record {
+  item = item;
+  text = text ∙ found.text;
+  few = omega (arith, sound.few);
+  exact = sound-exact new sound;
+  stays = λ ended. absurd (none-some piece (sym (found.still ended).0));
+}
+
+-- a call gives a bad piece
+pub next-bad : (old new : Iteration) (piece : Bor (List ℕ)) → IsFound old (Some (piece, None)) new
+    → IsNext old (Some (Err (Piece piece))) new
+next-bad old new piece found =
+    next-some old new new (piece, None) (Err (Piece piece)) found found.sound refl (found.gives.0, found.starved)
+
+-- a call gives a media type
+pub next-good : (old new : Iteration) (piece : Bor (List ℕ)) (places : Places) (mime : OwnedMedia)
+    → IsFound old (Some (piece, Some places)) new → Reads piece.now mime.media
+    → (piece.now ≡ codes "*/*" → mime.fixed ≡ true) → IsNext old (Some (Ok mime)) new
+next-good old new piece places mime found reads star =
+    next-some old new new (piece, Some places) (Ok mime) found found.sound refl
+    (piece.now, found.gives.0.1 mime.media reads, star, found.starved)
+
+-- a call gives out of memory, which ends the run
+pub next-starved : (old now new : Iteration) (piece : Bor (List ℕ)) (places : Places) → IsFound old (Some (piece, Some places)) now
+    → piece.now ≢ codes "*/*" → new ≡ record now { left = []; starved = true } → IsNext old (Some (Err NoMemory)) new
+next-starved old now new piece places found not_star is =
+    let accepted = accepted-from_places piece.now places found.gives.0.0 in
+    let others = has_cut now.left in
+    next-some old now new (piece, Some places) (Err NoMemory) found
+    (subst IsSound (sym is) (under_way-starved now.text now.left now.starved now.steps found.sound))
+    (ap (λ (i : Iteration). i.text) is) (
+      record {
+        piece = piece.now;
+        value = accepted.0;
+        items = others.items;
+        rest = others.rest;
+        cut = found.gives.0.1 accepted.0 accepted.1 others.items others.rest others.cut;
+        not_star = not_star;
+      },
+      ap (λ (i : Iteration). i.left) is,
+      ap (λ (i : Iteration). i.starved) is,
+    )
+
+-- the items of a run
+record RunItems (text : List ℕ) (given : List (Result OwnedMedia Bad)) : Type 0 where
+  items : List CutItem
+  rest : List ℕ
+  cut : Cut text items rest
+  are : AreGiven given items
+
+-- nothing is given after an end
+given_ended : (first : Iteration) (given : List (Result OwnedMedia Bad)) → first.left ≡ [] → Drains IsNext first given → given ≡ []
+given_ended first [] ended drains = refl
+given_ended first (item ∷ given) ended (end, (last, (next, step, others), none)) = absurd (none-some item (sym (step.stays ended).0))
+
+run_items : (first : Iteration) (given : List (Result OwnedMedia Bad)) → Drains IsNext first given → RunItems first.left given
+run_items first [] (end, (last, same, none)) =
+    let has = none.item.0 in
+    record { items = []; rest = has.0; cut = subst (λ (i : Iteration). Cut i.left [] has.0) (sym same) has.1; are = none_left }
+run_items first (Ok mime ∷ given) (end, (last, (next, step, others), none)) =
+    let after = run_items next given (end, (last, others, none)) in
+    record {
+      items = good step.item.0 mime.media ∷ after.items;
+      rest = after.rest;
+      cut = step.item.1 after.items after.rest after.cut;
+      are = a_value mime step.item.0 given after.items after.are;
+    }
+run_items first (Err (Piece p) ∷ given) (end, (last, (next, step, others), none)) =
+    let after = run_items next given (end, (last, others, none)) in
+    record {
+      items = bad p.now ∷ after.items;
+      rest = after.rest;
+      cut = step.item.0 after.items after.rest after.cut;
+      are = a_piece p given after.items after.are;
+    }
+run_items first (Err NoMemory ∷ given) (end, (last, (next, step, others), none)) =
+    let needs = step.item.0 in
+    record {
+      items = good needs.piece needs.value ∷ needs.items;
+      rest = needs.rest;
+      cut = needs.cut;
+      are = subst (λ g. AreGiven (Err NoMemory ∷ g) (good needs.piece needs.value ∷ needs.items))
+          (sym (given_ended next given step.item.1 (end, (last, others, none))))
+          (no_memory needs.piece needs.value needs.items needs.not_star);
+    }
+
+-- a whole run gives the items of the cut
+pub run_gives_cut : RunGivesCut
+run_gives_cut first given drains items rest cut =
+    let run = run_items first given drains in
+    subst (AreGiven given) (cut_unique first.left items rest cut run.items run.rest run.cut).0 run.are
+
+-- a run over a text with a comma gives the items before it, the rest, and the items after it
+pub comma_contains_on_runs : CommaContainsOnRuns
+comma_contains_on_runs before after items others rest end cut closed follows first given is drains =
+    run_gives_cut first given drains (items ++ (items_of_rest rest ++ others)) end
+    (subst (λ t. Cut t (items ++ (items_of_rest rest ++ others)) end) (sym is)
+    (comma_contains before after items others rest end cut closed follows))
+
+pub printed_list_comes_back : PrintedListComesBack
+printed_list_comes_back values are first given is drains =
+    run_gives_cut first given drains (map kept_item values) []
+    (subst (λ t. Cut t (map kept_item values) []) (sym is) (joined_comes_back values are))

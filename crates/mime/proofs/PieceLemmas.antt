@@ -1,0 +1,173 @@
+-- How a text begins: its first character, and its first piece.
+use Rattle.std.proofs.Common.{◌≡◌, ◌≢◌, ℕ, zero, suc, ◌+◌, ◌-◌, ◌<◌, ◌≤◌, false, List, [], ◌∷◌, ◌++◌, length, take, drop, Option, Some, None, MatchOption, refl, sym, ap, ◌∙◌, subst, arith, ⊎_elim, length-drop}
+use Rattle.std.proofs.lemmas.Bool.{cases_Bool}
+use Rattle.std.proofs.lemmas.Bool.Decides.{nat_tests}
+use Rattle.std.proofs.lemmas.List.{take-append-drop, length-take-le}
+use Rattle.std.proofs.lemmas.Option.{slice_get_within}
+use Rattle.std.specs.Prelude.{IsTrue, IsFalse, ◌&&◌}
+use Rattle.std.specs.List.{list_all}
+use Rattle.std.specs.Str.{IsUtf8, IsCharBoundary}
+use Rattle.mime.specs.Values.{IsAccepted, IsRefused}
+use Rattle.mime.specs.Refusals.{IsViable, IsFront}
+use Rattle.mime.specs.Cut.{is_following_byte, BeginsCharacter, IsCharacter, IsSplit, CutItem, good, bad, ItemsOf, is_read, is_refused, is_empty, Cut, whole, unfinished, goes_on, TakesSteps}
+use Rattle.mime.specs.ReaderState.{Remaining}
+use Rattle.mime.specs.Scanning.{HasPlaces, IsStopped, Judges, Scans}
+use Rattle.mime.specs.BetweenCalls.{IsUnderWay, IsFirstPiece, PassesPiece}
+use Rattle.mime.specs.declared.scan.fault.ParseError.{ParseError}
+use Rattle.mime.specs.declared.scan.Places.{Places}
+use Rattle.mime.specs.declared.scan.Verdict.{Verdict}
+use Rattle.mime.specs.declared.scan.Verdict.TheVariants.{Accepted, Unfinished, Stopped}
+use Rattle.mime.proofs.GrammarLemmas.Characters.{front_ends_between_characters}
+use Rattle.mime.proofs.CutLemmas.{empty-refused, empty-cut, split-size, cut_unique, takes-split, takes-viable, takes-empty}
+use Rattle.mime.proofs.ValueLemmas.Reading.{accepted-from_places, refused-from_fault}
+use Rattle.mime.proofs.GrammarLemmas.Viability.{accepted_is_viable}
+
+-- ---- the first character of a text
+
+-- what comes after the first character of a text
+abbrev IsAfterCharacter : List ℕ → List ℕ → Type 0
+IsAfterCharacter text left = (character : List ℕ) × (text ≡ character ++ left) × IsCharacter character left
+
+-- a byte that follows is none before which a text may be cut
+not_following : (b : ℕ) (bytes : List ℕ) → IsCharBoundary (b ∷ bytes) 0 → IsFalse (is_following_byte b)
+not_following b bytes border =
+    ⊎_elim (λ follows. absurd (omega (arith, border.1 (omega arith) (grind (arith, nat_tests, follows)), high b follows))) (λ is. is)
+    (cases_Bool (is_following_byte b))
+  where
+    high : (b : ℕ) → IsTrue (is_following_byte b) → b < 192
+    high b follows = grind (arith, nat_tests, follows)
+
+-- up to the first position where a text may be cut all bytes follow
+follow_to : (bytes : List ℕ) (n : ℕ) → IsCharBoundary bytes n → ((j : ℕ) → j < n → ¬ (IsCharBoundary bytes j))
+    → IsTrue (list_all is_following_byte (take n bytes)) × BeginsCharacter (drop n bytes)
+follow_to [] zero border none = (refl, tt)
+follow_to [] (suc n) border none = (refl, tt)
+follow_to (b ∷ bytes) zero border none = (refl, not_following b bytes border)
+follow_to (b ∷ bytes) (suc n) border none =
+    let rest = follow_to bytes n (omega (arith, border.0), λ within high. border.1 (omega (arith, within)) high)
+    (λ j before cut. none (suc j) (omega (arith, before)) (omega (arith, cut.0), λ within high. cut.1 (omega (arith, within)) high)) in
+    (ap (λ x. x && list_all is_following_byte (take n bytes)) (follows b bytes (none 0 (omega arith))) ∙ rest.0, rest.1)
+  where
+    follows : (b : ℕ) (bytes : List ℕ) → ¬ (IsCharBoundary (b ∷ bytes) 0) → IsTrue (is_following_byte b)
+    follows b bytes none =
+        ⊎_elim (λ is. is) (λ isnt. absurd (none (omega arith, λ within high. grind (arith, nat_tests, isnt, high))))
+        (cases_Bool (is_following_byte b))
+
+-- from the first position after a text's first byte where it may be cut on, it is what comes after its first character
+after_character : (text : List ℕ) (at : ℕ) → 0 < length text → 1 ≤ at → IsCharBoundary text at
+    → ((i : ℕ) → 1 ≤ i → i < at → ¬ (IsCharBoundary text i)) → IsAfterCharacter text (drop at text)
+after_character [] at some past border none = absurd (omega arith)
+after_character (b ∷ bytes) zero some past border none = absurd (omega arith)
+after_character (b ∷ bytes) (suc n) some past border none = (
+  b ∷ take n bytes,
+  ap (λ t. b ∷ t) (sym (take-append-drop n bytes)),
+  follow_to bytes n (omega (arith, border.0), λ within high. border.1 (omega (arith, within)) high)
+      (λ j before cut. none (suc j) (omega arith) (omega (arith, before)) (omega (arith, cut.0), λ within high. cut.1 (omega (arith, within)) high)),
+)
+
+-- ---- the first piece of a text
+
+-- what the scanner found in a text that a reader counted on from somewhere
+pub judged-from_scan : (old new : Remaining) (text : List ℕ) (from steps : ℕ) (verdict : Verdict) → Scans old new verdict
+    → old.left ≡ text → old.count ≡ from → steps ≡ new.count → Judges text (steps - from) verdict
+judged-from_scan old new text from steps verdict scans left begin end =
+    let count : scans.count ≡ steps - from = omega (arith, scans.counted, begin, end) in
+    subst (λ n. Judges text n verdict) count (subst (λ t. Judges t scans.count verdict) left scans.judged)
+
+-- where it stopped the text may be cut, and isn't at its end
+pub stopped-boundary : (text : List ℕ) (steps at byte : ℕ) (places : Option Places) → IsUtf8 text
+    → Judges text steps (Stopped byte places) → at ≡ steps - 1 → IsCharBoundary text at × (0 < length (drop at text))
+stopped-boundary text steps at byte places utf8 (pos, is, stopped) is_at =
+    let same : pos ≡ at = omega (arith, is, is_at) in
+    let within = slice_get_within text pos byte stopped.fault.there in (
+      subst (IsCharBoundary text) same (front_ends_between_characters text pos utf8 stopped.fault.front),
+      omega (arith, length-drop at text, same, within),
+    )
+
+-- a text that was read to its end
+under_way-viable : (text : List ℕ) → IsViable text → IsUnderWay text [] false (length text)
+under_way-viable text viable = record {
+  few = omega arith;
+  exact = λ fed n takes.
+      let none : n ≡ 0 = takes-empty n takes in
+      subst (TakesSteps text) (omega (arith, none)) (takes-viable text viable);
+}
+
+-- an accepted text is its first piece
+pub passes-whole : (text : List ℕ) (places : Places) (steps : ℕ) → Judges text steps (Accepted places)
+    → PassesPiece text text (Some places) [] steps
+passes-whole text places steps (is, has) =
+    let accepted = accepted-from_places text places has in
+    record {
+      empty = λ none. absurd (empty-refused (subst IsAccepted none accepted));
+      item = λ some. (
+        has,
+        λ value reads items rest cut.
+            let same = cut_unique [] [] [] empty-cut items rest cut in
+            subst (Cut text (good text value ∷ items)) (sym same.1)
+            (subst (λ i. Cut text (good text value ∷ i) []) (sym same.0) (whole text value reads)),
+      );
+      less = λ some. some;
+      under_way = subst (IsUnderWay text [] false) (sym is) (under_way-viable text (accepted_is_viable text accepted));
+    }
+
+-- an unfinished text has no piece
+pub passes-unfinished : (text : List ℕ) (fault : ParseError) (steps : ℕ) → Judges text steps (Unfinished fault)
+    → PassesPiece text [] None [] steps
+passes-unfinished text fault steps (is, fault_is, viable) = record {
+  empty = λ e. record {
+    carries = λ some. absurd (some refl);
+    ends = λ end. (text, unfinished text viable (refused-from_fault text fault fault_is));
+  };
+  item = λ some. absurd (some refl);
+  less = λ some. some;
+  under_way = subst (IsUnderWay text [] false) (sym is) (under_way-viable text viable);
+}
+
+-- a character that can't follow ends the piece
+passes-split : (text piece character left : List ℕ) (places : Option Places) → IsSplit text piece character left
+    → MatchOption places (IsRefused piece) (λ p. HasPlaces piece p) → PassesPiece text piece places left (length piece + 1)
+passes-split text piece character left places split is =
+    let size = split-size text piece character left split in
+    record {
+      empty = λ none. record {
+        carries = λ some items rest cut. on [] (is_empty none) items rest cut;
+        ends = λ end. ([], on [] (is_empty none) [] [] (subst (λ t. Cut t [] []) (sym end) empty-cut));
+      };
+      item = first places is;
+      less = λ some. omega (arith, size.0, size.1);
+      under_way = record {
+        few = omega (arith, size.0, size.1);
+        exact = λ fed n takes. takes-split text piece character left n split takes;
+      };
+    }
+  where
+    on : (first : List CutItem) → ItemsOf piece first → (items : List CutItem) (rest : List ℕ) → Cut left items rest
+        → Cut text (first ++ items) rest
+    on first of_piece items rest cut = goes_on text piece character left first items rest split of_piece cut
+
+    first : (places : Option Places) → MatchOption places (IsRefused piece) (λ p. HasPlaces piece p) → piece ≢ []
+        → IsFirstPiece text piece places left
+    first None is some = on (bad piece ∷ []) (is_refused is some)
+    first (Some p) has some = (has, λ value reads. on (good piece value ∷ []) (is_read value reads))
+
+-- a text is split where the scanner stops
+pub passes-stopped : (text piece rest left : List ℕ) (steps at end byte : ℕ) (places : Option Places)
+    → Judges text steps (Stopped byte places) → at ≡ steps - 1 → piece ≡ take at text → rest ≡ drop at text → left ≡ drop end rest
+    → (1 ≤ length rest → 1 ≤ end) → IsCharBoundary rest end → ((i : ℕ) → 1 ≤ i → i < end → ¬ (IsCharBoundary rest i))
+    → PassesPiece text piece places left steps
+passes-stopped text piece rest left steps at end byte places (pos, is, stopped) is_at is_piece is_rest is_left past border nearest =
+    let same : pos ≡ at = omega (arith, is, is_at) in
+    let before = subst (λ n. IsStopped text n byte places) same stopped in
+    let size : length (take at text) ≡ at = length-take-le at text before.fault.front.within in
+    let some : 0 < length rest =
+    omega (arith, ap length is_rest, length-drop at text, slice_get_within text at byte before.fault.there) in
+    let after = after_character rest end some (past (omega (arith, some))) border nearest in
+    subst (λ p. PassesPiece text p places left steps) (sym is_piece)
+    (subst (PassesPiece text (take at text) places left) (omega (arith, is, same, size))
+    (passes-split text (take at text) after.0 left places
+    (record {
+      spelled = sym (take-append-drop at text) ∙ ap (λ t. take at text ++ t) (sym is_rest ∙ after.1 ∙ ap (λ t. after.0 ++ t) (sym is_left));
+      front = subst (IsFront text) (sym size) before.fault.front;
+      is_character = subst (IsCharacter after.0) (sym is_left) after.2;
+    }) before.before))

@@ -1,0 +1,4 @@
+-- Lemmas for src/scan.rt.
+pub mod Passing
+pub mod Verdicts
+pub mod Lists

@@ -1,0 +1,227 @@
+-- What a pass over a reader's bytes has given so far, one byte or one run more, and at its end.
+use Rattle.std.proofs.Common.{◌≡◌, ℕ, ◌+◌, ◌<◌, Bool, true, false, eqb, List, [], ◌∷◌, ◌++◌, length, Option, Some, None, refl, sym, ap, ◌∙◌, subst, arith, append_assoc, append-nil, length-append}
+use Rattle.std.specs.Prelude.{IsTrue, IsFalse, not, MatchOption}
+use Rattle.std.specs.List.{list_all}
+use Rattle.std.specs.Option.{option_eq, option_to_list}
+use Rattle.std.proofs.lemmas.Bool.{and_from, and_parts, eqb-true, true≢false}
+use Rattle.std.proofs.lemmas.List.Folds.{list_all-append}
+use Rattle.mime.specs.Bytes.{is_token_byte, is_quoted_byte, is_quoted_text_byte, plus_byte, backslash_byte}
+use Rattle.mime.specs.Quoted.{awaits_first, awaits_next, takes, takes_all, awaits_after, IsOpenContent, continues}
+use Rattle.mime.specs.Values.{last_plus}
+use Rattle.mime.specs.ReaderState.{Remaining, is_token_except_plus}
+use Rattle.mime.specs.Scanning.{Given, GivesFirst, Passes, PassesContent, PassesSubtype}
+use Rattle.mime.proofs.GrammarLemmas.Content.{takes_all-backslash, takes_all-text, awaits_after-text, awaits_after-append, takes_all-append, not_taken}
+
+-- a run, and what was given from where it ended
+pub given_then : {old mid new : Remaining} {xs ys : List ℕ} {stop : Option ℕ}
+    → Given old mid xs None → Given mid new ys stop → Given old new (xs ++ ys) stop
+given_then {new} {xs} {ys} {stop} g h = record {
+  bytes = g.bytes ∙ ap (λ rest. xs ++ rest) h.bytes ∙ sym (append_assoc xs ys (option_to_list stop ++ new.left));
+  counted = omega (arith, g.counted, h.counted, length-append xs ys);
+}
+
+-- a run with the byte that ended it is a run
+pub given_whole : {old new : Remaining} {xs : List ℕ} {b : ℕ} → Given old new xs (Some b) → Given old new (xs ++ b ∷ []) None
+given_whole {new} {xs} {b} g = record {
+  bytes = g.bytes ∙ sym (append_assoc xs (b ∷ []) new.left);
+  counted = omega (arith, g.counted, length-append xs (b ∷ []));
+}
+
+-- a run, and one byte more
+pub given_more : {old mid new : Remaining} {xs : List ℕ} {b : ℕ} → Given old mid xs None → GivesFirst mid new (Some b)
+    → Given old new (xs ++ b ∷ []) None
+given_more g first = given_then g (given_whole first.0)
+
+-- a run, and the byte that ended it, or the end of the text
+pub given_stop : {old mid new : Remaining} {xs : List ℕ} {stop : Option ℕ} → Given old mid xs None → GivesFirst mid new stop
+    → Given old new xs stop
+given_stop {xs = xs} g first = rw (sym (append-nil xs)) (given_then g first.0)
+
+-- what is counted and what is left make one sum
+pub given_sum : {old new : Remaining} {xs : List ℕ} {stop : Option ℕ} → Given old new xs stop
+    → new.count + length new.left ≡ old.count + length old.left
+given_sum g = omega (arith, g.counted, simp length-append at (ap length g.bytes))
+
+-- what was given is no longer left
+pub given_less : {old new : Remaining} {xs : List ℕ} {b : ℕ} → Given old new xs (Some b) → length new.left < length old.left
+given_less g = omega (arith, g.counted, given_sum g)
+
+-- where the test holds, this byte stopped the pass
+pub stopped_by : (byte : ℕ) (stop : Option ℕ) → option_eq eqb stop (Some byte) ≡ true → stop ≡ Some byte
+stopped_by byte None test = absurd (true≢false (sym test))
+stopped_by byte (Some b) test = ap Some (eqb-true b byte test)
+
+-- a run of a class was given so far
+pub record Passing (class : ℕ → Bool) (old now : Remaining) : Type 0 where
+  pub run : List ℕ
+  pub of_class : IsTrue (list_all class run)
+  pub given : Given old now run None
+
+-- one byte more of the class
+abbrev pub passing_more : {class : ℕ → Bool} {old mid new : Remaining} {b : ℕ} → (p : Passing class old mid)
+    → GivesFirst mid new (Some b) → class b ≡ true → Passing class old new
+passing_more {class} {b = b} p g fits = record {
+  run = p.run ++ b ∷ [];
+  of_class = list_all-append class p.run (b ∷ []) ∙ and_from _ _ p.of_class (and_from (class b) true fits refl);
+  given = given_more p.given g;
+}
+
+-- the text ended the run, or a byte outside the class did
+abbrev passes_at : {class : ℕ → Bool} {old mid new : Remaining} {stop : Option ℕ} → Passing class old mid → GivesFirst mid new stop
+    → MatchOption stop (new.left ≡ []) (λ b. IsFalse (class b)) → Passes class old new stop
+passes_at p g stopped = record {
+  run = p.run;
+  of_class = p.of_class;
+  given = given_stop p.given g;
+  stopped = stopped;
+}
+
+-- open content was given so far, which awaits a byte or not
+pub record Taking (awaiting : Bool) (old now : Remaining) : Type 0 where
+  pub run : List ℕ
+  pub of_class : IsOpenContent run
+  pub awaits : awaits_after awaits_first run ≡ awaiting
+  pub given : Given old now run None
+
+-- no content was given yet
+pub taking_none : (now : Remaining) → Taking false now now
+taking_none now = record { run = []; of_class = refl; awaits = refl; given = record { bytes = refl; counted = omega arith } }
+
+-- more content was given
+taking_run : {awaiting : Bool} {old mid new : Remaining} {run : List ℕ} → Taking awaiting old mid → Given mid new run None
+    → IsTrue (takes_all awaiting run) → Taking (awaits_after awaiting run) old new
+taking_run {run} p g taken = record {
+  run = p.run ++ run;
+  of_class = takes_all-append awaits_first p.run run p.of_class (rw p.awaits taken);
+  awaits = awaits_after-append awaits_first p.run run ∙ ap (λ (a : Bool). awaits_after a run) p.awaits;
+  given = given_then p.given g;
+}
+
+-- quoted text, and a backslash, which awaits a byte
+pub taking_backslash : {old mid new : Remaining} {stop : Option ℕ} → Taking false old mid
+    → Passes is_quoted_text_byte mid new stop → option_eq eqb stop (Some backslash_byte) ≡ true → Taking true old new
+taking_backslash {old} {mid} {new} {stop} p passes test =
+    let given = given_whole (subst (λ s. Given mid new passes.run s) (stopped_by backslash_byte stop test) passes.given) in
+    let text = awaits_after-text passes.run passes.of_class in
+    subst (λ awaiting. Taking awaiting old new)
+    (awaits_after-append false passes.run (backslash_byte ∷ []) ∙ ap (λ (a : Bool). awaits_next a backslash_byte) text)
+    (taking_run p given
+    (takes_all-append false passes.run (backslash_byte ∷ []) (takes_all-text passes.run passes.of_class)
+    (subst (λ awaiting. IsTrue (takes_all awaiting (backslash_byte ∷ []))) (sym text) takes_all-backslash)))
+
+-- a backslash was given, and the byte that it pairs
+pub taking_paired : {old mid new : Remaining} {b : ℕ} → Taking true old mid → GivesFirst mid new (Some b)
+    → IsTrue (is_quoted_byte b) → Taking false old new
+taking_paired {b} p g fits = taking_run p (given_whole g.0) (and_from (is_quoted_byte b) true fits refl)
+
+-- the text ended after a backslash, or a byte came that it doesn't pair
+pub content_pair : {old mid new : Remaining} {stop : Option ℕ} → Taking true old mid → GivesFirst mid new stop
+    → MatchOption stop (new.left ≡ []) (λ b. IsFalse (is_quoted_byte b)) → PassesContent old new stop
+content_pair p g stopped = record {
+  run = p.run;
+  of_class = p.of_class;
+  given = given_stop p.given g;
+  stopped = rw p.awaits stopped;
+}
+
+-- quoted text up to the end, or to a byte that is no backslash
+pub content_text : {old mid new : Remaining} (stop : Option ℕ) → Taking false old mid → Passes is_quoted_text_byte mid new stop
+    → option_eq eqb stop (Some backslash_byte) ≡ false → PassesContent old new stop
+content_text {new = new} stop p passes other = record {
+  run = p.run ++ passes.run;
+  of_class = takes_all-append awaits_first p.run passes.run p.of_class (rw p.awaits (takes_all-text passes.run passes.of_class));
+  given = given_then p.given passes.given;
+  stopped = ends stop passes.stopped other;
+}
+  where
+    closes : awaits_after awaits_first (p.run ++ passes.run) ≡ false
+    closes = awaits_after-append awaits_first p.run passes.run
+        ∙ ap (λ (a : Bool). awaits_after a passes.run) p.awaits ∙ awaits_after-text passes.run passes.of_class
+
+    ends : (stop : Option ℕ) → MatchOption stop (new.left ≡ []) (λ b. IsFalse (is_quoted_text_byte b))
+        → option_eq eqb stop (Some backslash_byte) ≡ false
+        → MatchOption stop (new.left ≡ []) (λ b. IsFalse (continues (p.run ++ passes.run) b))
+    ends None stopped other = stopped
+    ends (Some b) stopped other = ap (λ (a : Bool). takes a b) closes ∙ not_taken b stopped other
+
+-- a plus at the end is the last one
+pub last_plus-plus : (at : ℕ) (xs : List ℕ) (b place : ℕ) → b ≡ plus_byte → at + length xs ≡ place
+    → last_plus at (xs ++ b ∷ []) ≡ Some place
+last_plus-plus at [] b place p e = rw p (ap Some (omega arith))
+last_plus-plus at (x ∷ xs) b place p e = rw (last_plus-plus (at + 1) xs b place p (omega arith))
+
+-- another byte at the end keeps the last plus
+pub last_plus-other : (at : ℕ) (xs : List ℕ) (b : ℕ) → eqb b plus_byte ≡ false → last_plus at (xs ++ b ∷ []) ≡ last_plus at xs
+last_plus-other at [] b f = rw f
+last_plus-other at (x ∷ xs) b f = rw (last_plus-other (at + 1) xs b f)
+
+-- ---- a subtype, plus by plus
+
+-- bytes without a plus are token bytes, and keep the last plus
+pub token_run : (xs : List ℕ) → IsTrue (list_all is_token_except_plus xs) → IsTrue (list_all is_token_byte xs)
+token_run [] all = refl
+token_run (x ∷ xs) all =
+    let parts = and_parts (is_token_except_plus x) (list_all is_token_except_plus xs) all in
+    and_from _ _ (and_parts (is_token_byte x) _ parts.0).0 (token_run xs parts.1)
+
+no_plus : (at : ℕ) (xs : List ℕ) → IsTrue (list_all is_token_except_plus xs) → last_plus at xs ≡ None
+no_plus at [] all = refl
+no_plus at (x ∷ xs) all =
+    let parts = and_parts (is_token_except_plus x) (list_all is_token_except_plus xs) all in
+    let other : eqb x plus_byte ≡ false = not_plus (eqb x plus_byte) (and_parts (is_token_byte x) _ parts.0).1 in
+    rw (no_plus (at + 1) xs parts.1, other) refl
+  where
+    not_plus : (is : Bool) → not is ≡ true → is ≡ false
+    not_plus true fails = absurd (true≢false (sym fails))
+    not_plus false holds = refl
+
+last_plus-run : (at : ℕ) (xs ys : List ℕ) → IsTrue (list_all is_token_except_plus ys) → last_plus at (xs ++ ys) ≡ last_plus at xs
+last_plus-run at [] ys all = no_plus at ys all
+last_plus-run at (x ∷ xs) ys all = rw (last_plus-run (at + 1) xs ys all) refl
+
+-- token bytes were given so far, and then others up to a plus
+pub is_token_plus : is_token_byte plus_byte ≡ true
+unfolding is_token_byte
+is_token_plus = refl
+
+abbrev pub passing_plus : {old mid new : Remaining} {stop : Option ℕ} → Passing is_token_byte old mid
+    → Passes is_token_except_plus mid new stop → option_eq eqb stop (Some plus_byte) ≡ true → Passing is_token_byte old new
+passing_plus {old} {mid} {new} {stop} p passes test = record {
+  run = p.run ++ (passes.run ++ (plus_byte ∷ []));
+  of_class =
+      list_all-append is_token_byte p.run (passes.run ++ (plus_byte ∷ []))
+      ∙ and_from _ _ p.of_class (list_all-append is_token_byte passes.run (plus_byte ∷ [])
+      ∙ and_from _ _ (token_run passes.run passes.of_class) (and_from (is_token_byte plus_byte) true is_token_plus refl));
+  given =
+      given_then p.given (given_whole (subst (λ s. Given mid new passes.run s) (stopped_by plus_byte stop test) passes.given));
+}
+
+-- the plus is the last one
+pub last_plus-stop : (at : ℕ) (xs ys : List ℕ) (place : ℕ) → at + (length xs + length ys) ≡ place
+    → last_plus at (xs ++ (ys ++ (plus_byte ∷ []))) ≡ Some place
+last_plus-stop at xs ys place is =
+    ap (last_plus at) (sym (append_assoc xs ys (plus_byte ∷ [])))
+    ∙ last_plus-plus at (xs ++ ys) plus_byte place refl (omega (arith, is, length-append xs ys))
+
+-- token bytes were given so far, and then others up to the end, or to a byte that is no plus
+pub subtype_at : {old mid new : Remaining} (stop plus : Option ℕ) (at : ℕ) → (p : Passing is_token_byte old mid) → last_plus at p.run ≡ plus
+    → Passes is_token_except_plus mid new stop → option_eq eqb stop (Some plus_byte) ≡ false → PassesSubtype at old new (plus, stop)
+subtype_at {new = new} stop plus at p is passes other = record {
+  passes = record {
+    run = p.run ++ passes.run;
+    of_class = list_all-append is_token_byte p.run passes.run ∙ and_from _ _ p.of_class (token_run passes.run passes.of_class);
+    given = given_then p.given passes.given;
+    stopped = ends stop passes.stopped other;
+  };
+  plus = sym (last_plus-run at p.run passes.run passes.of_class ∙ is);
+}
+  where
+    no_token : (b : ℕ) (token : Bool) → is_token_byte b ≡ token → is_token_except_plus b ≡ false → eqb b plus_byte ≡ false
+        → is_token_byte b ≡ false
+    no_token b true is fails other = absurd (true≢false (sym (and_from _ _ is (ap not other)) ∙ fails))
+    no_token b false is fails other = is
+
+    ends : (stop : Option ℕ) → MatchOption stop (new.left ≡ []) (λ b. IsFalse (is_token_except_plus b))
+        → option_eq eqb stop (Some plus_byte) ≡ false → MatchOption stop (new.left ≡ []) (λ b. IsFalse (is_token_byte b))
+    ends None stopped other = stopped
+    ends (Some b) stopped other = no_token b (is_token_byte b) refl stopped other

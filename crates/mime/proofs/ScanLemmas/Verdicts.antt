@@ -1,0 +1,164 @@
+-- The scanner's verdict where it stops: what was walked up to there, and what a text is that ends there.
+use Rattle.std.proofs.Common.{◌≡◌, ℕ, ◌+◌, List, [], ◌∷◌, ◌++◌, length, Option, Some, None, MatchOption, refl, sym, ap, ◌∙◌, subst, arith, append-nil}
+use Rattle.std.specs.Option.{option_map}
+use Rattle.std.proofs.lemmas.List.{take_at}
+use Rattle.mime.specs.Grammar.{Parameter, Parameters, more, listed, SyntaxTree, text_of}
+use Rattle.mime.specs.Values.{pairs_of_list, IsRefused}
+use Rattle.mime.specs.Refusals.{IsFault}
+use Rattle.mime.specs.ReaderState.{Remaining}
+use Rattle.mime.specs.Scanning.{Given, places_of, HasPlaces, Judges, before_list, ScansList, Scans}
+use Rattle.mime.specs.declared.scan.Places.{Places}
+use Rattle.mime.specs.declared.scan.fault.ParseError.{ParseError}
+use Rattle.mime.specs.declared.scan.Verdict.{Verdict}
+use Rattle.mime.specs.declared.scan.Verdict.TheVariants.{Accepted, Unfinished, Stopped}
+use Rattle.mime.proofs.GrammarLemmas.Begun.{Begun, in_type, in_list, BegunList, begun_list, grow, grow_list, walk, walk_from, walk_list, with_closed, list_at_end, tree_of, lacking, lacking_list, walk_from-append_some, walk_from-in_list}
+use Rattle.mime.proofs.ScanLemmas.Passing.{given_then, given_whole}
+use Rattle.mime.proofs.GrammarLemmas.Readings.{accepted-from_walk, refused-from_walk, walk-head}
+use Rattle.mime.proofs.GrammarLemmas.Viability.{lacks-from_walk, viable-from_walk, dead-from_walk}
+use Rattle.mime.proofs.GrammarLemmas.Faults.{fault-from_lacks}
+
+-- ---- what was walked
+
+-- the bytes given lead from one begun tree to another; one byte more may have been given
+pub record Reaches (start : Begun) (old now : Remaining) (stop : Option ℕ) (begun : Begun) : Type 0 where
+  pub run : List ℕ
+  pub given : Given old now run stop
+  pub walked : walk_from start run ≡ Some begun
+
+-- one more run was given
+pub reaches_run : {start begun next : Begun} {old mid new : Remaining} {stop : Option ℕ} {run : List ℕ}
+    → Reaches start old mid None begun → Given mid new run stop → walk_from begun run ≡ Some next → Reaches start old new stop next
+reaches_run {start} {begun} {run = run} r g e = record {
+  run = r.run ++ run;
+  given = given_then r.given g;
+  walked = walk_from-append_some start begun r.run run r.walked ∙ e;
+}
+
+-- the byte after a run was given
+pub reaches_byte : {start begun next : Begun} {old now : Remaining} {b : ℕ}
+    → Reaches start old now (Some b) begun → grow begun b ≡ Some next → Reaches start old now None next
+reaches_byte {start} {begun} {b = b} r e = record {
+  run = r.run ++ b ∷ [];
+  given = given_whole r.given;
+  walked = walk_from-append_some start begun r.run (b ∷ []) r.walked ∙ rw e;
+}
+
+-- the bytes given lead from the start of a list to a begun list, after any type and subtype
+abbrev pub ListReaches : Remaining → Remaining → Option ℕ → BegunList → Type 0
+ListReaches old now stop list = (top sub : List ℕ) → Reaches (in_list top sub begun_list) old now stop (in_list top sub list)
+
+-- one more run in a list was given
+pub list_run : {list next : BegunList} {old mid new : Remaining} {stop : Option ℕ} {run : List ℕ}
+    → ListReaches old mid None list → Given mid new run stop → walk_list list run ≡ Some next → ListReaches old new stop next
+list_run {list} {run = run} r g e = λ top sub.
+    reaches_run (r top sub) g (walk_from-in_list top sub list run ∙ ap (option_map (in_list top sub)) e)
+
+-- the byte after a run in a list was given
+pub list_byte : {list next : BegunList} {old now : Remaining} {b : ℕ}
+    → ListReaches old now (Some b) list → grow_list list b ≡ Some next → ListReaches old now None next
+list_byte r e = λ top sub. reaches_byte (r top sub) (ap (option_map (in_list top sub)) e)
+
+-- ---- a text that ends at a begun tree
+
+-- the verdict at a byte that can't follow, or at the end
+abbrev verdict_at : Option ℕ → Option Places → ParseError → Verdict
+verdict_at None None fault = Unfinished fault
+verdict_at None (Some places) fault = Accepted places
+verdict_at (Some b) places fault = Stopped b places
+
+-- what is lacking is the fault of a text that ends where no text may end
+lacking-fault : (text : List ℕ) (begun : Begun) → walk text ≡ Some begun → tree_of begun ≡ None → IsFault text (lacking begun)
+lacking-fault text begun w e = fault-from_lacks text (lacking begun) (lacks-from_walk text begun w e)
+
+-- a text that is walked to a complete tree has that tree's positions
+has_places : (text : List ℕ) (begun : Begun) (tree : SyntaxTree) → walk text ≡ Some begun → tree_of begun ≡ Some tree
+    → HasPlaces text (places_of tree)
+has_places text begun tree w e =
+    let found = accepted-from_walk text begun tree w e in
+    record { tree = tree; well_formed = found.0; spelled = found.1; placed = refl }
+
+-- a text that is walked is judged by the tree that it makes, if any
+judged : (text : List ℕ) (begun : Begun) (tree : Option SyntaxTree) → walk text ≡ Some begun → tree_of begun ≡ tree
+    → Judges text (length text) (verdict_at None (option_map places_of tree) (lacking begun))
+judged text begun None w e = (refl, lacking-fault text begun w e, viable-from_walk text begun w)
+judged text begun (Some tree) w e = (refl, has_places text begun tree w e)
+
+-- the text before a byte that leads nowhere is judged by the tree that it makes, if any
+judged_before : (text : List ℕ) (begun : Begun) (tree : Option SyntaxTree) → walk text ≡ Some begun → tree_of begun ≡ tree
+    → MatchOption (option_map places_of tree) (IsRefused text) (λ places. HasPlaces text places)
+judged_before text begun None w e = refused-from_walk text begun w e
+judged_before text begun (Some tree) w e = has_places text begun tree w e
+
+-- the scanner's answer where it stops, at the end or at a byte that leads nowhere
+pub scans_at : {old now : Remaining} {stop : Option ℕ} {begun : Begun} (places : Option Places) → Reaches (in_type []) old now stop begun
+    → MatchOption stop (now.left ≡ []) (λ b. grow begun b ≡ None) → places ≡ option_map places_of (tree_of begun)
+    → Scans old now (verdict_at stop places (lacking begun))
+scans_at {stop = None} {begun = begun} places r end e =
+    rw e (record {
+      count = length r.run;
+      counted = omega (arith, r.given.counted);
+      judged = subst (λ text. Judges text (length r.run) (verdict_at None (option_map places_of (tree_of begun)) (lacking begun)))
+          (sym (r.given.bytes ∙ ap (λ rest. r.run ++ rest) end ∙ append-nil r.run)) (judged r.run begun (tree_of begun) r.walked refl);
+    })
+scans_at {now = now} {stop = Some b} {begun = begun} places r dead e =
+    rw e (record {
+      count = length r.run + 1;
+      counted = r.given.counted;
+      judged = (
+        length r.run,
+        refl,
+        record {
+          fault = rw r.given.bytes (dead-from_walk r.run now.left b begun r.walked dead);
+          before = rw (r.given.bytes, take_at r.run (b ∷ now.left) (length r.run) refl)
+              (judged_before r.run begun (tree_of begun) r.walked refl);
+        },
+      );
+    })
+
+-- ---- a text that ends at a begun list
+
+-- how many pairs the closed parameters and the rest have
+length-with_closed : (closed : List (List ℕ × Parameter)) (rest : Parameters)
+    → length (pairs_of_list (with_closed closed rest)) ≡ length closed + length (pairs_of_list rest)
+length-with_closed [] rest = omega arith
+length-with_closed ((n, parameter) ∷ closed) rest = length-with_closed closed (more n parameter rest) ∙ omega arith
+
+-- the positions of a text that ends in a list, if it may end there, with those before the list
+abbrev pub places_of_list : Places → BegunList → Option Places
+places_of_list head list =
+    option_map (λ rest. record head { pairs = head.pairs + (length list.closed + length (pairs_of_list rest)) })
+    (list_at_end list.place)
+
+-- the positions of a text that ends in a list are those of its tree
+places_of_list-tree : (top sub : List ℕ) (list : BegunList)
+    → places_of_list (places_of (before_list top sub)) list ≡ option_map places_of (tree_of (in_list top sub list))
+places_of_list-tree top sub list = at_end (list_at_end list.place)
+  where
+    at_end : (end : Option Parameters)
+        → option_map
+        (λ rest. record (places_of (before_list top sub)) { pairs = 0 + (length list.closed + length (pairs_of_list rest)) }) end
+        ≡ option_map places_of
+        (option_map (λ rest. record { top = top; sub = sub; tail = listed rest }) (option_map (with_closed list.closed) end))
+    at_end None = refl
+    at_end (Some rest) =
+        ap (λ n. Some (record (places_of (before_list top sub)) { pairs = n })) (omega (arith, length-with_closed list.closed rest))
+
+-- a byte that leads nowhere in a list leads nowhere
+stopped_in_list : (top sub left : List ℕ) (list : BegunList) (stop : Option ℕ)
+    → MatchOption stop (left ≡ []) (λ b. grow_list list b ≡ None)
+    → MatchOption stop (left ≡ []) (λ b. grow (in_list top sub list) b ≡ None)
+stopped_in_list top sub left list None end = end
+stopped_in_list top sub left list (Some b) dead = ap (option_map (in_list top sub)) dead
+
+-- the scanner's answer on a list where it stops
+pub list_scans_at : {head : Places} {old new : Remaining} {stop : Option ℕ} {list : BegunList} (places : Option Places)
+    → ListReaches old new stop list → MatchOption stop (new.left ≡ []) (λ b. grow_list list b ≡ None)
+    → places ≡ places_of_list head list → ScansList head old new (verdict_at stop places (lacking_list list.place))
+list_scans_at {new = new} {stop = stop} {list = list} places r stopped e = λ start top sub top_token sub_token head_is given.
+    let before : Reaches (in_type []) start _ None (in_list top sub begun_list) = record {
+      run = text_of (before_list top sub);
+      given = given;
+      walked = walk-head top sub [] top_token sub_token;
+    } in
+    scans_at places (reaches_run before (r top sub).given (r top sub).walked) (stopped_in_list top sub new.left list stop stopped)
+    (e ∙ ap (λ h. places_of_list h list) head_is ∙ places_of_list-tree top sub list)

@@ -1,0 +1,10 @@
+-- Lemmas for src/value.rt and its modules.
+pub mod Lowercase
+pub mod Utf8
+pub mod Pairs
+pub mod ListText
+pub mod KeptText
+pub mod Parts
+pub mod Reading
+pub mod Traits
+pub mod Hash

@@ -1,0 +1,267 @@
+-- What a value feeds a hasher: the buffer in which a pair is joined, and that what is fed is prefix-free.
+use Rattle.std.proofs.Common.{◌≡◌, ℕ, suc, ◌+◌, ◌-◌, ◌%◌, ◌<◌, ◌≤◌, List, [], ◌∷◌, ◌++◌, length, take, drop, replicate, refl, sym, ap, ◌∙◌, arith, ◌/◌, Bool, true, false, cond, subst, append-nil, append_assoc, ⊎_elim}
+use Rattle.std.proofs.Math.ListN.{set}
+use Rattle.std.proofs.Math.Seq.{take-append-add}
+use Rattle.std.proofs.lemmas.List.{append_assoc, take_at, drop_at, set_at, drop-replicate, take-replicate, length-append, append_cancel_left}
+use Rattle.mime.specs.HashInput.{pair_count, pair_run, pair_end, pair_parts, pair_input, media_input}
+use Rattle.std.specs.Prelude.{IsTrue, IsUtf8, nat_lt}
+use Rattle.std.specs.Char.{to_ascii_lowercase}
+use Rattle.std.specs.Hash.{HashWrites}
+use Rattle.std.specs.List.{list_all, flat_map, concat, AllByRecursion}
+use Rattle.std.proofs.lemmas.Bool.{and_parts, and_from}
+use Rattle.std.proofs.lemmas.Bool.Decides.{nat_tests}
+use Rattle.std.proofs.lemmas.Grind.{flat_map-append}
+use Rattle.std.proofs.lemmas.List.Concat.{concat_is, flat_map-cons}
+use Rattle.std.proofs.lemmas.List.Folds.{list_all-append, list_all-map}
+use Rattle.mime.specs.Bytes.{is_token_byte, slash_byte}
+use Rattle.mime.specs.Grammar.{Parameter, plain, quoted, Parameters, blank, final, more, Tail, no_list, listed, AreTokenBytes, IsParameter, AreParameters, IsTail, text_of, text_of_parameter, text_of_list, text_of_tail}
+use Rattle.mime.specs.Values.{MediaType, Reads, lowered, lowered_parameter, lowered_list, lowered_tail, pair_of, pairs_of_list, pairs_of_tail}
+use Rattle.mime.specs.Comparison.{Same}
+use Rattle.mime.specs.HashLaws.{IsReadInUtf8, IsPrefixFree}
+use Rattle.mime.proofs.BytesLemmas.{list_all-wider, is_other, AreTokenBytes-from_token, are_other-token}
+use Rattle.mime.proofs.ValueLemmas.Lowercase.{AreTokenBytes-lowered, lowered_value-either}
+use lib.Dec.{T, ltb, ltb→lt}
+use lib.Utf8.{scalars, scalar, encodes, encode, scalar_cases}
+
+-- a text copied in after what the buffer holds
+put-text : (free at count : ℕ) (held text : List ℕ) → length held ≡ at
+    → take at (held ++ replicate free 0) ++ (text ++ drop count (drop at (held ++ replicate free 0)))
+    ≡ held ++ text ++ replicate (free - count) 0
+put-text free at count held text is =
+    rw (take_at held (replicate free 0) at is, drop_at held (replicate free 0) at is, drop-replicate {X = ℕ} count free 0)
+    (sym (append_assoc held text (replicate (free - count) 0)))
+
+-- the byte 255 after what the buffer holds
+put-mark : (free left at : ℕ) (held : List ℕ) → length held ≡ at → free ≡ suc left
+    → set (held ++ replicate free 0) at 255 ≡ held ++ 255 ∷ [] ++ replicate left 0
+put-mark free left at held is room =
+    rw room (set_at held 0 (replicate left 0) 255 at is ∙ sym (append_assoc held (255 ∷ []) (replicate left 0)))
+
+-- the front of the buffer
+take-held : (free kept count : ℕ) (held : List ℕ) → count ≡ length held + kept → kept ≤ free
+    → take count (held ++ replicate free 0) ≡ held ++ replicate kept 0
+take-held free kept count held is within =
+    rw is (take-append-add held (replicate free 0) kept ∙ ap (λ zeros. held ++ zeros) (take-replicate {X = ℕ} kept free 0 within))
+
+-- a name, the byte 255, a value and the byte 255, up to a whole word, are the pair's run
+pub joined_pair : (name value one other : List ℕ) → one ≡ name → other ≡ value → pair_count (name, value) < 64
+    → take (length name + 1 + length value + 8 - (length name + 1 + length value) % 8)
+    (set (take (length name + 1) (set (one ++ drop (length name) (replicate 64 0)) (length name) 255)
+    ++ (other ++ drop (length name + 1 + length value - (length name + 1))
+    (drop (length name + 1) (set (one ++ drop (length name) (replicate 64 0)) (length name) 255))))
+    (length name + 1 + length value) 255)
+    ≡ pair_run (name, value)
+joined_pair name value one other first second short =
+    let marked : length (name ++ 255 ∷ []) ≡ length name + 1 = length-append name (255 ∷ []) in
+    let filled : length (name ++ 255 ∷ [] ++ value) ≡ length name + 1 + length value = length-append (name ++ 255 ∷ []) value
+    ∙ ap (λ n. n + length value) marked in
+    let closed : length (name ++ 255 ∷ [] ++ value ++ 255 ∷ []) ≡ length name + 1 + length value + 1 =
+    length-append (name ++ 255 ∷ [] ++ value) (255 ∷ []) ∙ ap (λ n. n + 1) filled in
+    rw (
+      first,
+      second,
+      drop-replicate {X = ℕ} (length name) 64 0,
+      put-mark (64 - length name) (63 - length name) (length name) name refl (omega (arith, short)),
+      put-text (63 - length name) (length name + 1) (length name + 1 + length value - (length name + 1)) (name ++ 255 ∷ []) value marked,
+      put-mark (63 - length name - (length name + 1 + length value - (length name + 1))) (63 - (length name + 1 + length value))
+          (length name + 1 + length value) (name ++ 255 ∷ [] ++ value) filled (omega (arith, short)),
+      take-held (63 - (length name + 1 + length value)) (7 - (length name + 1 + length value) % 8)
+          (length name + 1 + length value + 8 - (length name + 1 + length value) % 8) (name ++ 255 ∷ [] ++ value ++ 255 ∷ [])
+          (omega (arith, closed)) (omega (arith, short)),
+    )
+    (simp append_assoc)
+
+-- ---- the byte 255
+
+-- no byte is 255
+abbrev AreTextBytes : List ℕ → Type 0
+AreTextBytes bytes = list_all (is_other 255) bytes ≡ true
+
+-- the parts of bytes none of which is 255
+text_parts : (front back : List ℕ) → AreTextBytes (front ++ back) → AreTextBytes front × AreTextBytes back
+text_parts front back all =
+    and_parts (list_all (is_other 255) front) (list_all (is_other 255) back) (sym (list_all-append (is_other 255) front back) ∙ all)
+
+text_join : (front back : List ℕ) → AreTextBytes front → AreTextBytes back → AreTextBytes (front ++ back)
+text_join front back first second = list_all-append (is_other 255) front back ∙ and_from _ _ first second
+
+-- a test of numbers, either way
+by_test : (P : List ℕ → Type 0) (m n : ℕ) (one other : List ℕ) → (m < n → P one) → P other → P (cond (ltb m n) one other)
+by_test P m n one other under over = go (ltb m n) refl
+  where
+    go : (b : Bool) → ltb m n ≡ b → P (cond b one other)
+    go true is = under (ltb→lt m n (subst T (sym is) tt))
+    go false is = over
+
+-- a scalar value is below 1,114,112
+scalar-below : (c : ℕ) → scalar c ≡ true → c < 1114112
+scalar-below c is = ⊎_elim (λ under. omega (arith, under)) (λ over. over.1) (scalar_cases c is)
+
+-- no character has the byte 255
+character_bytes : (c : ℕ) → scalar c ≡ true → AreTextBytes (encode c)
+unfolding encode
+character_bytes c is =
+    let below = scalar-below c is in
+    by_test AreTextBytes c 128 _ _ (λ under. grind (arith, nat_tests))
+    (by_test AreTextBytes c 2048 _ _ (λ under. grind (arith, nat_tests))
+    (by_test AreTextBytes c 65536 _ _ (λ under. grind (arith, nat_tests)) (grind (arith, nat_tests))))
+
+-- no valid UTF-8 has it
+characters_bytes : (characters : List ℕ) → scalars characters ≡ true → AreTextBytes (encodes characters)
+characters_bytes [] are = refl
+characters_bytes (c ∷ characters) are =
+    let parts = and_parts (scalar c) (scalars characters) are in
+    text_join (encode c) (encodes characters) (character_bytes c parts.0) (characters_bytes characters parts.1)
+
+pub utf8_bytes : (text : List ℕ) → IsUtf8 text → AreTextBytes text
+utf8_bytes text utf8 = subst AreTextBytes utf8.1.1 (characters_bytes utf8.0 utf8.1.0)
+
+-- lowering adds none
+lowered_bytes : (text : List ℕ) → AreTextBytes text → AreTextBytes (lowered text)
+lowered_bytes text all =
+    list_all-map (is_other 255) to_ascii_lowercase text
+    ∙ list_all-wider (is_other 255) (λ b. is_other 255 (to_ascii_lowercase b)) (λ b other. grind (arith, nat_tests)) text all
+
+-- two runs up to the first byte 255 are the same, and so is what follows
+first_mark : (xs ys m n : List ℕ) → AreTextBytes xs → AreTextBytes ys → xs ++ (255 ∷ m) ≡ ys ++ (255 ∷ n) → (xs ≡ ys) × (m ≡ n)
+first_mark [] [] m n one other same = (refl, cc)
+first_mark [] (y ∷ ys) m n one other same =
+    let first : 255 ≡ y = cc in
+    absurd (grind (arith, nat_tests, first, (and_parts (is_other 255 y) (list_all (is_other 255) ys) other).0))
+first_mark (x ∷ xs) [] m n one other same =
+    let first : 255 ≡ x = cc in
+    absurd (grind (arith, nat_tests, first, (and_parts (is_other 255 x) (list_all (is_other 255) xs) one).0))
+first_mark (x ∷ xs) (y ∷ ys) m n one other same =
+    let rest = first_mark xs ys m n (and_parts (is_other 255 x) (list_all (is_other 255) xs) one).1
+    (and_parts (is_other 255 y) (list_all (is_other 255) ys) other).1 (cc) in
+    let runs : xs ≡ ys = rest.0 in
+    (cc, rest.1)
+
+-- ---- the values that are read
+
+-- a pair whose name is a token, and whose value has no byte 255
+abbrev IsFedPair : List ℕ × List ℕ → Type 0
+IsFedPair (name, value) = AreTokenBytes name × AreTextBytes value
+
+-- those of a text without the byte 255 are such pairs
+fed_pair : (p : Parameter) → IsParameter p → AreTextBytes (text_of_parameter p) → IsFedPair (pair_of (lowered_parameter p))
+fed_pair (plain name value) well all =
+    let bytes = and_parts (is_other 255 61) (list_all (is_other 255) value) (text_parts name (61 ∷ value) all).1 in (
+      AreTokenBytes-lowered name (AreTokenBytes-from_token name well.0),
+      lowered_value-either AreTextBytes name value bytes.1 (lowered_bytes value bytes.1),
+    )
+fed_pair (quoted name content n) well all =
+    let bytes = text_parts content (34 ∷ n) (text_parts name (61 ∷ 34 ∷ (content ++ (34 ∷ n))) all).1 in (
+      AreTokenBytes-lowered name (AreTokenBytes-from_token name well.0),
+      lowered_value-either AreTextBytes name content bytes.0 (lowered_bytes content bytes.0),
+    )
+
+fed_list : (list : Parameters) → AreParameters list → AreTextBytes (text_of_list list)
+    → AllByRecursion IsFedPair (pairs_of_list (lowered_list list))
+fed_list (blank n) well all = tt
+fed_list (final n p) well all = (fed_pair p well.1 (text_parts n (text_of_parameter p) all).1, tt)
+fed_list (more n p rest) well all =
+    let bytes = text_parts (text_of_parameter p) (59 ∷ text_of_list rest) (text_parts n _ all).1 in
+    (fed_pair p well.1 bytes.0, fed_list rest well.2 bytes.1)
+
+fed_tail : (tail : Tail) → IsTail tail → AreTextBytes (text_of_tail tail) → AllByRecursion IsFedPair (pairs_of_tail (lowered_tail tail))
+fed_tail no_list well all = tt
+fed_tail (listed list) well all = fed_list list well all
+
+-- a text with a slash is no token
+slash_is_no_token : (front back : List ℕ) → ¬ (AreTokenBytes (front ++ (slash_byte ∷ back)))
+unfolding is_token_byte
+slash_is_no_token front back all =
+    let parts = and_parts (list_all is_token_byte front) _ (sym (list_all-append is_token_byte front (slash_byte ∷ back)) ∙ all) in
+    absurd cc
+
+-- what is known of a value that was read
+pub record IsFed (value : MediaType) : Type 0 where
+  pub pairs : AllByRecursion IsFedPair value.pairs
+  pub essence : AreTextBytes value.essence
+  pub slash : ¬ (AreTokenBytes value.essence)
+
+pub fed-read : (value : MediaType) → IsReadInUtf8 value → IsFed value
+fed-read value (text, utf8, reads) =
+    let tree = reads.tree in
+    let well = reads.well_formed in
+    let parts = text_parts tree.top _ (subst AreTextBytes (sym reads.spelled) (utf8_bytes text utf8)) in
+    let after = text_parts tree.sub (text_of_tail tree.tail) parts.1 in
+    subst IsFed reads.valued (record {
+      pairs = fed_tail tree.tail well.2 after.1;
+      essence = text_join (lowered tree.top) (47 ∷ lowered tree.sub) (lowered_bytes tree.top parts.0) (lowered_bytes tree.sub after.0);
+      slash = slash_is_no_token (lowered tree.top) (lowered tree.sub);
+    })
+
+-- ---- the bytes that are fed
+
+-- of two lists of writes the bytes follow one another
+concat-append : (first second : HashWrites) → concat (first ++ second) ≡ concat first ++ concat second
+concat-append first second =
+    concat_is (first ++ second) ∙ flat_map-append (λ x. x) first second
+    ∙ ap (λ xs. xs ++ flat_map (λ x. x) second) (sym (concat_is first)) ∙ ap (λ ys. concat first ++ ys) (sym (concat_is second))
+
+-- a pair feeds its run, in one piece or part by part
+pair_bytes : (pair : List ℕ × List ℕ) → concat (pair_input pair) ≡ pair_run pair
+pair_bytes pair =
+    elim (nat_lt (pair_count pair) 64) as (λ b. concat (cond b (pair_run pair ∷ []) (pair_parts pair)) ≡ pair_run pair) [
+      | true ↦ append-nil (pair_run pair)
+      | false ↦ ap (λ end. pair.0 ++ (255 ∷ (pair.1 ++ end))) (append-nil (pair_end (pair_count pair)))
+    ]
+
+pairs_bytes : (pairs : List (List ℕ × List ℕ)) → concat (flat_map pair_input pairs) ≡ flat_map pair_run pairs
+pairs_bytes [] = refl
+pairs_bytes (pair ∷ pairs) =
+    ap concat (flat_map-cons pair_input pair pairs) ∙ concat-append (pair_input pair) (flat_map pair_input pairs)
+    ∙ ap (λ xs. xs ++ concat (flat_map pair_input pairs)) (pair_bytes pair) ∙ ap (λ xs. pair_run pair ++ xs) (pairs_bytes pairs)
+    ∙ sym (flat_map-cons pair_run pair pairs)
+
+-- a value feeds the runs of its pairs, its essence, and the byte 255
+media_bytes : (media : MediaType) (after : List ℕ)
+    → concat (media_input media) ++ after ≡ flat_map pair_run media.pairs ++ (media.essence ++ (255 ∷ after))
+media_bytes media after =
+    let end = media.essence ∷ (255 ∷ []) ∷ [] in
+    ap (λ xs. xs ++ after) (concat-append (flat_map pair_input media.pairs) end)
+    ∙ ap (λ xs. (xs ++ concat end) ++ after) (pairs_bytes media.pairs)
+    ∙ simp append_assoc
+
+-- the runs of pairs, and what follows them
+more_runs : (pair : List ℕ × List ℕ) (pairs : List (List ℕ × List ℕ)) (after : List ℕ)
+    → flat_map pair_run (pair ∷ pairs) ++ after
+    ≡ pair.0 ++ (255 ∷ (pair.1 ++ (255 ∷ (replicate (7 - pair_count pair % 8) 0 ++ (flat_map pair_run pairs ++ after)))))
+more_runs pair pairs after = ap (λ xs. xs ++ after) (flat_map-cons pair_run pair pairs) ∙ simp append_assoc
+
+-- pairs and essences whose bytes begin alike are the same
+pairs_same : (xs ys : List (List ℕ × List ℕ)) (one other m n : List ℕ) → AllByRecursion IsFedPair xs → AllByRecursion IsFedPair ys
+    → AreTextBytes one → AreTextBytes other → ¬ (AreTokenBytes one) → ¬ (AreTokenBytes other)
+    → flat_map pair_run xs ++ (one ++ (255 ∷ m)) ≡ flat_map pair_run ys ++ (other ++ (255 ∷ n))
+    → (one ≡ other) × (xs ≡ ys)
+unfolding is_token_byte
+pairs_same [] [] one other m n first second text also slash slashed same = ((first_mark one other m n text also same).0, refl)
+pairs_same [] (y ∷ ys) one other m n first second text also slash slashed same =
+    let cut = first_mark one y.0 m _ text (are_other-token 255 refl y.0 second.0.0) (same ∙ more_runs y ys _) in
+    absurd (slash (subst AreTokenBytes (sym cut.0) second.0.0))
+pairs_same (x ∷ xs) [] one other m n first second text also slash slashed same =
+    let cut = first_mark x.0 other _ n (are_other-token 255 refl x.0 first.0.0) also (sym (more_runs x xs _) ∙ same) in
+    absurd (slashed (subst AreTokenBytes cut.0 first.0.0))
+pairs_same (x ∷ xs) (y ∷ ys) one other m n first second text also slash slashed same =
+    let named = first_mark x.0 y.0 _ _ (are_other-token 255 refl x.0 first.0.0) (are_other-token 255 refl y.0 second.0.0)
+    (sym (more_runs x xs _) ∙ same ∙ more_runs y ys _) in
+    let valued = first_mark x.1 y.1 _ _ first.0.1 second.0.1 named.1 in
+    let pair : x ≡ y = λ i. (named.0 i, valued.0 i) in
+    let rest = pairs_same xs ys one other m n first.1 second.1 text also slash slashed
+    (zeros (7 - pair_count x % 8) (7 - pair_count y % 8) _ _ (ap (λ p. 7 - pair_count p % 8) pair) valued.1) in
+    (rest.0, λ i. pair i ∷ rest.1 i)
+  where
+    zeros : (k l : ℕ) (first second : List ℕ) → k ≡ l → replicate k 0 ++ first ≡ replicate l 0 ++ second → first ≡ second
+    zeros k l first second is same = append_cancel_left (replicate l 0) first second (sym (ap (λ k. replicate k 0 ++ first) is) ∙ same)
+
+-- what values feed is prefix-free
+pub hash_is_prefix_free : IsPrefixFree (λ value. media_input value.media)
+hash_is_prefix_free first second after one other same =
+    let x = first.media in
+    let y = second.media in
+    let fed = fed-read x one in
+    let also = fed-read y other in
+    pairs_same x.pairs y.pairs x.essence y.essence after [] fed.pairs also.pairs fed.essence also.essence fed.slash also.slash
+    (sym (media_bytes x after) ∙ same ∙ sym (append-nil (concat (media_input y))) ∙ media_bytes y [])

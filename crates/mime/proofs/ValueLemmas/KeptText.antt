@@ -1,0 +1,227 @@
+-- What an accepted text is kept as, and what a kept text gives.
+use Rattle.std.proofs.Common.{◌≡◌, ℕ, ◌+◌, List, [], ◌∷◌, ◌++◌, length, take, drop, Some, refl, sym, ap, ◌∙◌, subst, arith, append-nil, append_assoc, length-append}
+use Rattle.std.specs.Prelude.{slice_get}
+use Rattle.std.proofs.lemmas.List.{take_at, drop_at, take_all, take-append-drop}
+use Rattle.mime.specs.Bytes.{slash_byte, semicolon_byte}
+use Rattle.mime.specs.Grammar.{Parameters, blank, final, more, Tail, no_list, listed, SyntaxTree, text_of, text_of_tail, text_of_list, IsToken, AreParameters, IsTail, IsWellFormed}
+use Rattle.mime.specs.Values.{MediaType, Reads, value_of, essence_of, kept_text, lowered, lowered_tree, last_plus, pairs_of_list, pairs_of_tail}
+use Rattle.mime.specs.Pairs.{pairs_within, lowered_within}
+use Rattle.mime.specs.Scanning.{HasPlaces, places_of, semicolon_of, before_list}
+use Rattle.mime.specs.KeptText.{media_of, HoldsParameter, IsKept, with_pairs_lowered, kept_text_of, kept_places}
+use Rattle.mime.specs.declared.scan.Places.{Places}
+use Rattle.mime.proofs.BytesLemmas.{slice_get-front}
+use Rattle.mime.proofs.ValueLemmas.Lowercase.{length-lowered, lowered-append, lowered_tree-lowered_tree, IsWellFormed-lowered_tree, places_of-lowered_tree}
+use Rattle.mime.proofs.ValueLemmas.Utf8.{IsLoweredInPart, small, in_parts}
+use Rattle.mime.proofs.ValueLemmas.Pairs.{lowered_within-in_part}
+use Rattle.mime.proofs.ValueLemmas.ListText.{pairs_within-text_of_list, lowered_within-text_of_list}
+
+-- a tree by its parts
+abbrev tree_with : List ℕ → List ℕ → Tail → SyntaxTree
+tree_with top sub tail = record { top = top; sub = sub; tail = tail }
+
+-- the text of a tree is its essence and what follows that
+pub text_of-essence : (tree : SyntaxTree) → text_of tree ≡ essence_of tree ++ text_of_tail tree.tail
+text_of-essence tree = sym (append_assoc tree.top (slash_byte ∷ tree.sub) (text_of_tail tree.tail))
+
+-- the length of a tree's essence
+pub length-essence_of : (tree : SyntaxTree) → length (essence_of tree) ≡ length tree.top + 1 + length tree.sub
+length-essence_of tree = omega (arith, length-append tree.top (slash_byte ∷ tree.sub))
+
+-- the essence is the text before that position
+pub take-essence : (tree : SyntaxTree) → take (length tree.top + 1 + length tree.sub) (text_of tree) ≡ essence_of tree
+take-essence tree =
+    ap (take (length tree.top + 1 + length tree.sub)) (text_of-essence tree)
+    ∙ take_at (essence_of tree) (text_of_tail tree.tail) _ (length-essence_of tree)
+
+-- a text is its head, which ends in the semicolon, and the rest
+semicolon_split : (top sub after : List ℕ)
+    → top ++ (slash_byte ∷ (sub ++ (semicolon_byte ∷ after))) ≡ text_of (before_list top sub) ++ after
+semicolon_split top sub after = simp append_assoc
+
+-- the length of the head
+length-before_list : (top sub : List ℕ) → length (text_of (before_list top sub)) ≡ length top + 1 + length sub + 1
+length-before_list top sub =
+    omega (arith, length-append top (slash_byte ∷ (sub ++ (semicolon_byte ∷ []))), length-append sub (semicolon_byte ∷ []))
+
+-- the head of a text
+take-to_semicolon : (top sub after : List ℕ)
+    → take (length top + 1 + length sub + 1) (top ++ (slash_byte ∷ (sub ++ (semicolon_byte ∷ after)))) ≡ text_of (before_list top sub)
+take-to_semicolon top sub after = ap (take _) (semicolon_split top sub after) ∙ take_at _ after _ (length-before_list top sub)
+
+-- the rest of a text after its head
+pub drop-to_semicolon : (top sub after : List ℕ)
+    → drop (length top + 1 + length sub + 1) (top ++ (slash_byte ∷ (sub ++ (semicolon_byte ∷ after)))) ≡ after
+drop-to_semicolon top sub after = ap (drop _) (semicolon_split top sub after) ∙ drop_at _ after _ (length-before_list top sub)
+
+-- the value of a tree that is its own lowering
+abbrev pub value_of_low : SyntaxTree → MediaType
+value_of_low low = record {
+  essence = essence_of low;
+  slash = length low.top;
+  plus = last_plus (length low.top + 2) (drop 1 low.sub);
+  pairs = pairs_of_tail low.tail;
+  kept = kept_text (pairs_of_tail low.tail) low;
+}
+
+-- a tree's value is that of its lowering
+pub value_of-lowering : (tree : SyntaxTree) → value_of tree ≡ value_of_low (lowered_tree tree)
+value_of-lowering tree = rw (length-lowered tree.top)
+
+-- a text is kept, with the value of a tree
+pub record Keeps (tree : SyntaxTree) (text : List ℕ) (places : Places) : Type 0 where
+  pub is_kept : IsKept text places
+  pub valued : value_of tree ≡ value_of is_kept.tree
+
+-- a tree is kept as another that has its value: the tree itself, or the one that its essence spells
+keeps_as : (tree kept : SyntaxTree) (text : List ℕ) → IsWellFormed kept → HoldsParameter (lowered_tree kept).tail
+    → text_of (lowered_tree kept) ≡ text → value_of tree ≡ value_of kept → Keeps tree text (places_of kept)
+keeps_as tree kept text well holds spelled valued = record {
+  is_kept = record {
+    tree = lowered_tree kept;
+    well_formed = IsWellFormed-lowered_tree kept well;
+    low = lowered_tree-lowered_tree kept;
+    kept = holds;
+    spelled = spelled;
+    placed = places_of-lowered_tree kept;
+  };
+  valued = valued ∙ value_of-lowering kept ∙ sym (value_of-lowering (lowered_tree kept) ∙ ap value_of_low (lowered_tree-lowered_tree kept));
+}
+
+-- the lowered text of a tree with a list: lowered up to the semicolon, and then pair by pair
+whole_text : (top sub : List ℕ) (list : Parameters) → AreParameters list
+    → text_of (lowered_tree (tree_with top sub (listed list)))
+    ≡ lowered (take (length top + 1 + length sub + 1) (text_of (tree_with top sub (listed list))))
+    ++ lowered_within (length (pairs_of_list list)) (drop (length top + 1 + length sub + 1) (text_of (tree_with top sub (listed list))))
+whole_text top sub list well =
+    rw (
+      take-to_semicolon top sub (text_of_list list),
+      drop-to_semicolon top sub (text_of_list list),
+      lowered_within-text_of_list list well,
+      lowered-append top (slash_byte ∷ (sub ++ (semicolon_byte ∷ []))),
+      lowered-append sub (semicolon_byte ∷ []),
+    ) (simp append_assoc)
+
+-- the lowered text of a tree without a list: the essence lowered
+essence_text : (top sub text : List ℕ) → text ≡ top ++ (slash_byte ∷ sub)
+    → text_of (lowered_tree (tree_with top sub no_list)) ≡ lowered text
+essence_text top sub text is = rw (is, lowered-append top (slash_byte ∷ sub), append-nil (lowered sub)) refl
+
+-- every accepted text is kept so
+keeps_parts : (top sub : List ℕ) (tail : Tail) → IsToken top → IsToken sub → IsTail tail
+    → Keeps (tree_with top sub tail)
+    (kept_text_of (length (pairs_of_tail tail)) (semicolon_of (length top + 1 + length sub) tail) (text_of (tree_with top sub tail)))
+    (kept_places (places_of (tree_with top sub tail)))
+keeps_parts top sub no_list top_well sub_well well =
+    keeps_as _ (tree_with top sub no_list) _ (top_well, sub_well, tt) tt
+    (essence_text top sub _ (ap (λ x. top ++ (slash_byte ∷ x)) (append-nil sub))) refl
+keeps_parts top sub (listed (blank n)) top_well sub_well well =
+    keeps_as _ (tree_with top sub no_list) _ (top_well, sub_well, tt) tt
+    (essence_text top sub _ (take-essence (tree_with top sub (listed (blank n))))) refl
+keeps_parts top sub (listed (final n p)) top_well sub_well well =
+    keeps_as _ (tree_with top sub (listed (final n p))) _ (top_well, sub_well, well) tt (whole_text top sub (final n p) well) refl
+keeps_parts top sub (listed (more n p rest)) top_well sub_well well =
+    keeps_as _ (tree_with top sub (listed (more n p rest))) _ (top_well, sub_well, well) tt (whole_text top sub (more n p rest) well) refl
+
+-- the same, by the positions that the tree gives
+pub keeps-tree : (tree : SyntaxTree) → IsWellFormed tree
+    → Keeps tree (kept_text_of (places_of tree).pairs (places_of tree).semicolon (text_of tree)) (kept_places (places_of tree))
+keeps-tree tree well = keeps_parts tree.top tree.sub tree.tail well.0 well.1 well.2
+
+-- the value of a tree with a parameter, cut out of its text
+media_whole : (top sub : List ℕ) (list : Parameters) → AreParameters list
+    → let tree = tree_with top sub (listed list) in kept_text (pairs_of_list list) tree ≡ text_of tree
+    → value_of_low tree ≡ media_of (text_of tree) (places_of tree)
+media_whole top sub list well kept =
+    let tree : SyntaxTree = tree_with top sub (listed list) in
+    let essence = take-essence tree in
+    let pairs : pairs_within (length (pairs_of_list list)) (drop (length top + 1 + length sub + 1) (text_of tree)) ≡ pairs_of_list list =
+    ap (pairs_within (length (pairs_of_list list))) (drop-to_semicolon top sub (text_of_list list)) ∙ pairs_within-text_of_list list well in
+    cc
+
+-- the value of a kept tree is what its text and its positions give
+media_parts : (top sub : List ℕ) (tail : Tail) → IsTail tail → HoldsParameter tail
+    → value_of_low (tree_with top sub tail) ≡ media_of (text_of (tree_with top sub tail)) (places_of (tree_with top sub tail))
+media_parts top sub no_list well holds =
+    rw (append-nil sub, take_all (length (top ++ (slash_byte ∷ sub))) (top ++ (slash_byte ∷ sub)) (omega arith))
+media_parts top sub (listed (blank n)) well holds = absurd holds
+media_parts top sub (listed (final n p)) well holds = media_whole top sub (final n p) well refl
+media_parts top sub (listed (more n p rest)) well holds = media_whole top sub (more n p rest) well refl
+
+-- the value of a kept text's tree is what its positions give
+media_of-kept : (text : List ℕ) (places : Places) (is_kept : IsKept text places) → value_of is_kept.tree ≡ media_of text places
+media_of-kept text places is_kept =
+    value_of-lowering is_kept.tree ∙ ap value_of_low is_kept.low
+    ∙ media_parts is_kept.tree.top is_kept.tree.sub is_kept.tree.tail is_kept.well_formed.2 is_kept.kept
+    ∙ cc (is_kept.spelled, is_kept.placed)
+
+-- a kept text reads as the value that it gives
+pub reads-from_kept : (text : List ℕ) (places : Places) → IsKept text places → Reads text (media_of text places)
+reads-from_kept text places is_kept = record {
+  tree = is_kept.tree;
+  well_formed = is_kept.well_formed;
+  spelled = is_kept.spelled;
+  valued = media_of-kept text places is_kept;
+}
+
+-- a text that keeps a tree gives the tree's value
+kept_media : (tree : SyntaxTree) (text : List ℕ) (places : Places) → Keeps tree text places → value_of tree ≡ media_of text places
+kept_media tree text places keeps = keeps.valued ∙ media_of-kept text places keeps.is_kept
+
+-- what holds of the text and the positions of a tree holds of an accepted text
+at_tree : (P : List ℕ → Places → Type 0) (text : List ℕ) (places : Places) (has : HasPlaces text places)
+    → P (text_of has.tree) (places_of has.tree) → P text places
+at_tree P text places has here = subst (λ x. P x places) has.spelled (subst (P (text_of has.tree)) has.placed here)
+
+-- an accepted text keeps its tree
+keeps-accepted : (text : List ℕ) (places : Places) (has : HasPlaces text places)
+    → Keeps has.tree (kept_text_of places.pairs places.semicolon text) (kept_places places)
+keeps-accepted text places has =
+    at_tree (λ t p. Keeps has.tree (kept_text_of p.pairs p.semicolon t) (kept_places p)) text places has
+    (keeps-tree has.tree has.well_formed)
+
+-- the kept text of an accepted text is kept
+pub kept-from_places : (text : List ℕ) (places : Places) → HasPlaces text places
+    → IsKept (kept_text_of places.pairs places.semicolon text) (kept_places places)
+kept-from_places text places has = (keeps-accepted text places has).is_kept
+
+-- an accepted text reads as the value that its kept text gives
+pub kept_reads : (text : List ℕ) (places : Places) → HasPlaces text places
+    → Reads text (media_of (kept_text_of places.pairs places.semicolon text) (kept_places places))
+kept_reads text places has = record {
+  tree = has.tree;
+  well_formed = has.well_formed;
+  spelled = has.spelled;
+  valued = kept_media has.tree _ _ (keeps-accepted text places has);
+}
+
+-- the kept text of a value that was read reads as the value
+pub kept_is_read : (text : List ℕ) (value : MediaType) → Reads text value → Reads value.kept value
+kept_is_read text value reads =
+    let keeps = keeps-tree reads.tree reads.well_formed in
+    let is = sym reads.valued ∙ kept_media reads.tree _ _ keeps in
+    subst (λ (v : MediaType). Reads v.kept v) (sym is) (reads-from_kept _ _ keeps.is_kept)
+
+-- the semicolon is at the position that the tree gives
+semicolon-there : (top sub : List ℕ) (tail : Tail) (s : ℕ) → semicolon_of (length top + 1 + length sub) tail ≡ Some s
+    → slice_get (text_of (tree_with top sub tail)) s ≡ Some semicolon_byte
+semicolon-there top sub no_list s is = absurd cc
+semicolon-there top sub (listed list) s is =
+    let tree : SyntaxTree = tree_with top sub (listed list) in
+    let place : length top + 1 + length sub ≡ s = cc in
+    ap (λ t. slice_get t s) (text_of-essence tree)
+    ∙ slice_get-front (essence_of tree) semicolon_byte (text_of_list list) s (omega (arith, place, length-essence_of tree))
+
+-- an accepted text has a semicolon where its positions say so
+pub slice_get-semicolon : (text : List ℕ) (places : Places) (s : ℕ) → HasPlaces text places → places.semicolon ≡ Some s
+    → slice_get text s ≡ Some semicolon_byte
+slice_get-semicolon text places s has is =
+    at_tree (λ t q. q.semicolon ≡ Some s → slice_get t s ≡ Some semicolon_byte) text places has
+    (semicolon-there has.tree.top has.tree.sub has.tree.tail s) is
+
+-- the kept text of a text with a pair is that text with some parts lowered
+pub kept-in_part : (count s : ℕ) (text : List ℕ)
+    → IsLoweredInPart text (with_pairs_lowered count s text)
+kept-in_part count s text =
+    subst (λ t. IsLoweredInPart t (with_pairs_lowered count s text))
+    (take-append-drop (s + 1) text)
+    (in_parts _ _ _ _ (small (take (s + 1) text)) (lowered_within-in_part count (drop (s + 1) text)))

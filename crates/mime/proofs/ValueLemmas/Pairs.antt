@@ -1,0 +1,236 @@
+-- What a cut of a list is, and where its quoted content ends.
+use Rattle.std.proofs.Common.{◌≡◌, ◌≢◌, ℕ, zero, suc, ◌+◌, ◌<◌, ◌≤◌, Bool, true, false, List, [], ◌∷◌, ◌++◌, length, get_or, drop, refl, sym, ap, ◌∙◌, ne_eqb, arith, cond, ◌-◌, take, subst, append-nil, append_assoc, length-append}
+use Rattle.std.specs.Prelude.{IsTrue, ◌==◌, ◌&&◌, not}
+use Rattle.std.specs.List.{position_or_len}
+use Rattle.std.proofs.lemmas.List.{drop_more, drop_all, take_at, drop_at, drop-drop, take-append-drop}
+use Rattle.std.proofs.lemmas.Bool.{and_parts, cond-false, eqb-true, true≢false, cond_both}
+use Rattle.mime.specs.Bytes.{quote_byte, backslash_byte, semicolon_byte, equals_byte}
+use Rattle.mime.specs.Grammar.{IsContent}
+use Rattle.mime.specs.Blocks.{first_position, before_byte, after_byte}
+use Rattle.mime.specs.Quoted.{awaits_first, awaits_next, takes, takes_all, awaits_after, len_from, content_len, after_content}
+use Rattle.mime.proofs.GrammarLemmas.Content.{taken-closes_not, content-taken, content-awaits}
+use Rattle.mime.specs.Values.{lowered, lowered_value}
+use Rattle.mime.specs.Pairs.{PairCut, cut_after_equals, leading_spaces, without_gap, cut_of, lowered_first, lowered_within}
+use Rattle.mime.proofs.ValueLemmas.Lowercase.{lowered_value-either}
+use Rattle.mime.proofs.ValueLemmas.Utf8.{IsLoweredInPart, same, small, in_parts, length-in_part}
+
+-- ---- the length of content
+
+-- the quote that closes is found
+len_from-run : (awaiting : Bool) (run after : List ℕ) → IsTrue (takes_all awaiting run) → awaits_after awaiting run ≡ false
+    → len_from awaiting (run ++ quote_byte ∷ after) ≡ length run
+len_from-run true [] after all done = absurd (true≢false done)
+len_from-run false [] after all done = refl
+len_from-run awaiting (b ∷ run) after all done =
+    let parts = and_parts (takes awaiting b) (takes_all (awaits_next awaiting b) run) all in
+    cond-false (not awaiting && b == quote_byte) _ _ (taken-closes_not awaiting b parts.0)
+    ∙ omega (arith, len_from-run (awaits_next awaiting b) run after parts.1 done)
+
+-- content that a quote follows ends at that quote
+pub content_len-content : (content after : List ℕ) → IsContent content
+    → content_len (content ++ quote_byte ∷ after) ≡ length content
+content_len-content content after is = len_from-run awaits_first content after (content-taken content is) (content-awaits content is)
+
+-- at the length of the content that a text begins with there is a quote, or the text ends
+quote_at_len : (awaiting : Bool) (text : List ℕ) → len_from awaiting text < length text
+    → get_or text (len_from awaiting text) 0 ≡ quote_byte
+quote_at_len awaiting [] within = absurd (omega arith)
+quote_at_len awaiting (b ∷ text) within =
+    go (not awaiting && b == quote_byte) (λ closes. eqb-true b quote_byte (and_parts (not awaiting) (b == quote_byte) closes).1)
+    (len_from (awaits_next awaiting b) text) (quote_at_len (awaits_next awaiting b) text) within
+  where
+    go : (closes : Bool) → (IsTrue closes → b ≡ quote_byte) → (n : ℕ) → (n < length text → get_or text n 0 ≡ quote_byte)
+        → cond closes 0 (suc n) < length (b ∷ text) → get_or (b ∷ text) (cond closes 0 (suc n)) 0 ≡ quote_byte
+    go true quote n after within = quote refl
+    go false quote n after within = after (omega (arith, within))
+
+-- at the content's end there is a quote
+pub get_or-content_len : (text : List ℕ) (n : ℕ) → n ≡ content_len text → n < length text → get_or text n 0 ≡ quote_byte
+get_or-content_len text n e within = rw e (quote_at_len awaits_first text (omega (arith, e, within)))
+
+-- ---- the search for the end of content, position by position
+
+-- what a position leaves to search for the end of quoted content
+len_from-at : (text : List ℕ) (place : ℕ) → place < length text
+    → len_from false (drop place text)
+    ≡ cond (get_or text place 0 == quote_byte) 0 (suc (len_from (get_or text place 0 == backslash_byte) (drop (place + 1) text)))
+len_from-at text place within = ap (len_from false) (drop_more text place 0 within)
+
+-- in that search a byte that is no quote and no backslash is passed alone
+pub search_past : (text : List ℕ) (place whole : ℕ) → place + len_from false (drop place text) ≡ whole → place < length text
+    → get_or text place 0 ≢ quote_byte → get_or text place 0 ≢ backslash_byte
+    → place + 1 + len_from false (drop (place + 1) text) ≡ whole
+search_past text place whole e within no_quote no_backslash =
+    let at = len_from-at text place within in
+    omega (arith, e, rw (ne_eqb (get_or text place 0) quote_byte no_quote, ne_eqb (get_or text place 0) backslash_byte no_backslash) at at)
+
+-- in that search a backslash at the end is passed alone
+pub search_past_last : (text : List ℕ) (place whole : ℕ) → place + len_from false (drop place text) ≡ whole → place < length text
+    → get_or text place 0 ≡ backslash_byte → length text ≤ place + 1
+    → place + 1 + len_from false (drop (place + 1) text) ≡ whole
+search_past_last text place whole e within backslash last =
+    let at = rw backslash at (len_from-at text place within) in
+    let after = drop_all (place + 1) text last in
+    omega (arith, e, rw after at at, ap (len_from false) after)
+
+-- in that search a backslash is passed with the byte that it pairs
+pub search_past_pair : (text : List ℕ) (place whole : ℕ) → place + len_from false (drop place text) ≡ whole → place + 1 < length text
+    → get_or text place 0 ≡ backslash_byte
+    → place + 1 + 1 + len_from false (drop (place + 1 + 1) text) ≡ whole
+search_past_pair text place whole e within backslash =
+    let at = rw backslash at (len_from-at text place (omega arith)) in
+    omega (arith, e, at, ap (len_from true) (drop_more text (place + 1) 0 within))
+
+-- ---- the first quote
+
+-- a byte before the first quote is no backslash, so none is awaited after it
+awaits_next-not_backslash : (awaiting : Bool) (b : ℕ) → b ≢ backslash_byte → awaits_next awaiting b ≡ false
+awaits_next-not_backslash true b other = refl
+awaits_next-not_backslash false b other = ne_eqb b backslash_byte other
+
+-- a byte that is no quote closes nothing
+not_quote-closes_not : (awaiting : Bool) (b : ℕ) → b == quote_byte ≡ false → not awaiting && b == quote_byte ≡ false
+not_quote-closes_not true b other = refl
+not_quote-closes_not false b other = other
+
+-- the first quote closes, if no byte is awaited at it: if no backslash precedes it
+first_quote : (awaiting : Bool) (text : List ℕ) (n : ℕ) → n ≡ position_or_len (λ b. b == quote_byte) text → (n ≡ 0 → awaiting ≡ false)
+    → ((m : ℕ) → suc m ≡ n → get_or text m 0 ≢ backslash_byte) → len_from awaiting text ≡ n
+first_quote awaiting [] n e free before = sym e
+first_quote awaiting (b ∷ text) n e free before = go (first_quote (awaits_next awaiting b) text) (b == quote_byte) refl n e free before
+  where
+    go : ((n : ℕ) → n ≡ position_or_len (λ b. b == quote_byte) text → (n ≡ 0 → awaits_next awaiting b ≡ false)
+        → ((m : ℕ) → suc m ≡ n → get_or text m 0 ≢ backslash_byte) → len_from (awaits_next awaiting b) text ≡ n)
+        → (closes : Bool) → b == quote_byte ≡ closes → (n : ℕ) → n ≡ cond (not closes) (1 + position_or_len (λ b. b == quote_byte) text) 0
+        → (n ≡ 0 → awaiting ≡ false) → ((m : ℕ) → suc m ≡ n → get_or (b ∷ text) m 0 ≢ backslash_byte) → len_from awaiting (b ∷ text) ≡ n
+    go after true quote zero e free before = rw (free refl, quote) refl
+    go after true quote (suc n) e free before = absurd (omega (arith, e))
+    go after false other zero e free before = absurd (omega (arith, e))
+    go after false other (suc n) e free before =
+        cond-false (not awaiting && b == quote_byte) _ _ (not_quote-closes_not awaiting b other)
+        ∙ ap suc (after n (omega (arith, e)) (λ none. awaits_next-not_backslash awaiting b (before 0 (ap suc (sym none))))
+        (λ m same. before (suc m) (ap suc same)))
+
+-- content ends at the first quote, if no backslash precedes it
+pub content_len-first_quote : (text : List ℕ) (n : ℕ) → n ≡ first_position quote_byte text
+    → ((m : ℕ) → suc m ≡ n → get_or text m 0 ≢ backslash_byte) → n ≡ content_len text
+content_len-first_quote text n e before = sym (first_quote awaits_first text n e (λ _. refl) before)
+
+-- the first list is the second without some of its first bytes
+abbrev IsEnd : List ℕ → List ℕ → Type 0
+IsEnd end list = (n : ℕ) × (end ≡ drop n list)
+
+-- an end of an end of a list is an end of the list
+IsEnd-trans : (end middle list : List ℕ) → IsEnd end middle → IsEnd middle list → IsEnd end list
+IsEnd-trans end middle list first second = (second.0 + first.0, first.1 ∙ ap (drop first.0) second.1 ∙ drop-drop first.0 second.0 list)
+
+-- where the parts of a cut lie in a list
+pub record LiesIn (list : List ℕ) (cut : PairCut) : Type 0 where
+  pub front : List ℕ
+  pub middle : List ℕ
+  pub parts : list ≡ front ++ (cut.value ++ (middle ++ cut.rest))
+  pub head : cut.head ≡ length front
+
+-- a value that begins an end of the list lies in the list
+lies_from_end : (list bytes name rest : List ℕ) (k : ℕ) → IsEnd bytes list → IsEnd rest (drop k bytes)
+    → LiesIn list (record { name = name; head = length list - length bytes; value = take k bytes; rest = rest })
+lies_from_end list bytes name rest k end after =
+    let front = take end.0 list in
+    let middle = take after.0 (drop k bytes) in
+    let whole : list ≡ front ++ bytes = sym (ap (λ x. front ++ x) end.1 ∙ take-append-drop end.0 list) in
+    record {
+      front = front;
+      middle = middle;
+      parts =
+          whole ∙ ap (λ x. front ++ x) (sym (take-append-drop k bytes)
+          ∙ ap (λ x. take k bytes ++ x) (sym (ap (λ x. middle ++ x) after.1 ∙ take-append-drop after.0 (drop k bytes))));
+      head = omega (arith, ap length whole, length-append front bytes);
+    }
+
+-- the cut after the equals sign lies in the list
+cut_value-lies : (list name bytes : List ℕ) → IsEnd bytes list → LiesIn list (cut_after_equals (length list) name bytes)
+cut_value-lies list name [] end = record { front = list; middle = []; parts = sym (append-nil list); head = refl }
+cut_value-lies list name (b ∷ bytes) end =
+    cond_both (b == quote_byte) _ _ (LiesIn list)
+    (λ _. lies_from_end list bytes name _ (content_len bytes)
+    (IsEnd-trans bytes (b ∷ bytes) list (1, refl) end)
+    (IsEnd-trans _ (after_content bytes) _ (_, refl) (1, sym (drop-drop 1 (content_len bytes) bytes))))
+    (λ _. lies_from_end list (b ∷ bytes) name _ _ end (1, sym (drop-drop 1 (first_position semicolon_byte (b ∷ bytes)) (b ∷ bytes))))
+
+-- the cut of any list lies in it
+pub cut_of-lies : (list : List ℕ) → LiesIn list (cut_of list)
+unfolding cut_of
+cut_of-lies list =
+    let body = without_gap list in
+    cut_value-lies list (before_byte equals_byte body) (after_byte equals_byte body)
+    (IsEnd-trans _ body list (_, refl) (leading_spaces list, refl))
+
+-- the first value and the rest lie apart within the list
+pub cut_of-within : (list : List ℕ) → (cut_of list).head + length (cut_of list).value + length (cut_of list).rest ≤ length list
+cut_of-within list =
+    let cut = cut_of list in
+    let lies = cut_of-lies list in
+    let size : length list ≡ length lies.front + (length cut.value + (length lies.middle + length cut.rest)) =
+    ap length lies.parts ∙ simp length-append in
+    omega (arith, size, lies.head)
+
+-- all before the rest, and the same with the first pair lowered
+abbrev before_rest : (list : List ℕ) → LiesIn list (cut_of list) → List ℕ
+before_rest list lies = lies.front ++ ((cut_of list).value ++ lies.middle)
+
+abbrev pub first_lowered : (list : List ℕ) → LiesIn list (cut_of list) → List ℕ
+first_lowered list lies = lowered lies.front ++ (lowered_value (cut_of list).name (cut_of list).value ++ lies.middle)
+
+-- the list is that and the rest
+before_rest-joined : (list : List ℕ) (lies : LiesIn list (cut_of list)) → before_rest list lies ++ (cut_of list).rest ≡ list
+before_rest-joined list lies = sym (lies.parts ∙ simp append_assoc)
+
+-- a list with its first pair lowered is that pair lowered, and the rest
+pub lowered_first-joined : (list : List ℕ) (lies : LiesIn list (cut_of list))
+    → lowered_first list ≡ first_lowered list lies ++ (cut_of list).rest
+lowered_first-joined list lies =
+    let cut = cut_of list in
+    let front : take cut.head list ≡ lies.front =
+    rw (lies.head) (ap (take (length lies.front)) lies.parts ∙ take_at lies.front _ (length lies.front) refl) in
+    let back : drop (cut.head + length cut.value) list ≡ lies.middle ++ cut.rest =
+    ap (drop (cut.head + length cut.value)) (lies.parts ∙ sym (append_assoc lies.front cut.value (lies.middle ++ cut.rest)))
+    ∙ drop_at (lies.front ++ cut.value) _ _ (omega (arith, lies.head, length-append lies.front cut.value)) in
+    rw (front, back) (simp append_assoc)
+
+-- only capitals are made small
+first_lowered-in_part : (list : List ℕ) (lies : LiesIn list (cut_of list))
+    → IsLoweredInPart (before_rest list lies) (first_lowered list lies)
+first_lowered-in_part list lies =
+    let cut = cut_of list in
+    in_parts _ _ _ _ (small lies.front)
+    (in_parts _ _ _ _ (lowered_value-either (IsLoweredInPart cut.value) cut.name cut.value (same cut.value) (small cut.value))
+    (same lies.middle))
+
+-- lowering the first pair keeps the position of the rest
+length-first_lowered : (list : List ℕ) (lies : LiesIn list (cut_of list))
+    → length (first_lowered list lies) + length (cut_of list).rest ≡ length list
+length-first_lowered list lies =
+    omega (
+      arith,
+      length-in_part _ _ (first_lowered-in_part list lies),
+      ap length (before_rest-joined list lies),
+      length-append (before_rest list lies) (cut_of list).rest,
+    )
+
+-- the list with its first pairs lowered: the first, and then the others
+pub lowered_within-first : (count : ℕ) (list : List ℕ) (lies : LiesIn list (cut_of list))
+    → lowered_within (suc count) list ≡ first_lowered list lies ++ lowered_within count (cut_of list).rest
+lowered_within-first count list lies =
+    let rest = (cut_of list).rest in
+    ap (λ x. x ++ lowered_within count rest)
+    (ap (take (length list - length rest)) (lowered_first-joined list lies)
+    ∙ take_at (first_lowered list lies) rest (length list - length rest) (omega (arith, length-first_lowered list lies)))
+
+-- the pairs of any list, lowered, are the list with some parts lowered
+pub lowered_within-in_part : (count : ℕ) (list : List ℕ) → IsLoweredInPart list (lowered_within count list)
+lowered_within-in_part zero list = same list
+lowered_within-in_part (suc count) list =
+    let lies = cut_of-lies list in
+    let parts = in_parts _ _ _ _ (first_lowered-in_part list lies) (lowered_within-in_part count (cut_of list).rest) in
+    subst (λ x. IsLoweredInPart x (lowered_within (suc count) list)) (before_rest-joined list lies)
+    (subst (IsLoweredInPart (before_rest list lies ++ (cut_of list).rest)) (sym (lowered_within-first count list lies)) parts)

@@ -1,0 +1,195 @@
+-- The parts of a value that was read: its plus, where its essence may be cut, what is lowercase, and how many pairs it has.
+use Rattle.std.proofs.Common.{◌≡◌, ℕ, suc, ◌+◌, ◌-◌, ◌<◌, List, [], ◌∷◌, ◌++◌, length, drop, Option, Some, None, refl, sym, ap, ◌∙◌, subst, arith, ⊎_elim, zero, ◌≤◌, true, take, lit<}
+use Rattle.std.specs.Prelude.{slice_get, MatchOption, if◌then◌else◌, ◌==◌, unwrap_or, IsUtf8, codes}
+use Rattle.std.specs.Option.{option_or}
+use Rattle.std.proofs.lemmas.Bool.{cond_both, cases_lt, eqb-true, eqb-false}
+use Rattle.std.proofs.lemmas.Option.{same_Some, none-some, slice_get_within, MatchOption-at_some}
+use Rattle.mime.specs.Bytes.{slash_byte, plus_byte}
+use Rattle.mime.specs.Values.{lowered, last_plus, MediaType, Reads, lowered_parameter, lowered_list, lowered_tail, pair_of, pairs_of_list, pairs_of_tail, lowered_tree, kept_text, essence_of}
+use Rattle.mime.specs.Laws.{HasNoPlusFrom, PlusIsLast}
+use Rattle.mime.proofs.BytesLemmas.{slice_get-after, slice_get-front, boundary_before, boundary_after}
+use Rattle.mime.proofs.ValueLemmas.Lowercase.{length-lowered, lowered-lowered, lowered-append, lowered-take, lowered-drop, lowered_value-lowered, low_pair-parts}
+use Rattle.std.specs.List.{AllByRecursion}
+use Rattle.std.specs.Str.{IsCharBoundary, bytes_eq}
+use Rattle.std.proofs.lemmas.Str.{IsCharBoundary-end}
+use Rattle.mime.specs.Grammar.{Parameter, plain, quoted, Parameters, blank, final, more, Tail, no_list, listed}
+use Rattle.mime.specs.Pairs.{cut_of, pairs_within, pairs_after}
+use Rattle.mime.specs.Items.{items_of, IsLowItem}
+use Rattle.mime.specs.KeptText.{IsLowPair, AreLowPairs, media_of, IsKept}
+use Rattle.mime.specs.Comparison.{Same}
+use Rattle.mime.specs.Scanning.{semicolon_of}
+use Rattle.mime.specs.declared.scan.Places.{Places}
+use Rattle.mime.proofs.GrammarLemmas.Readings.{one_reading}
+
+-- the last plus of a text from a position on, if there is one
+abbrev IsLastPlus : List ℕ → ℕ → ℕ → Option ℕ → Type 0
+IsLastPlus text below from found =
+    MatchOption found (HasNoPlusFrom text from)
+    (λ place. (below < place) × (slice_get text place ≡ Some plus_byte) × HasNoPlusFrom text (place + 1))
+
+-- the computed position is the last, and there is none only if no plus is there
+last_plus-is_last : (text : List ℕ) (below from : ℕ) (bytes : List ℕ) → below < from
+    → ((i : ℕ) → slice_get text (from + i) ≡ slice_get bytes i) → IsLastPlus text below from (last_plus from bytes)
+last_plus-is_last text below from [] above view =
+    λ place after there. none-some plus_byte (sym (view (place - from)) ∙ ap (slice_get text) (omega (arith, after)) ∙ there)
+last_plus-is_last text below from (b ∷ bytes) above view =
+    with_rest (last_plus (from + 1) bytes)
+    (last_plus-is_last text below (from + 1) bytes (omega (arith, above)) (λ i. ap (slice_get text) (omega arith) ∙ view (suc i)))
+  where
+    here : slice_get text from ≡ Some b
+    here = ap (slice_get text) (omega arith) ∙ view 0
+
+    with_rest : (rest : Option ℕ) → IsLastPlus text below (from + 1) rest
+        → IsLastPlus text below from (option_or rest (if b == plus_byte then Some from else None))
+    with_rest (Some place) found = found
+    with_rest None none =
+        cond_both (b == plus_byte) (Some from) None (IsLastPlus text below from)
+        (λ passes. (above, here ∙ ap Some (eqb-true b plus_byte passes), none))
+        (λ fails place after there. ⊎_elim
+        (λ at. eqb-false b plus_byte fails (same_Some b plus_byte (sym here ∙ ap (slice_get text) (omega (arith, at, after)) ∙ there)))
+        (λ beyond. none place beyond there)
+        (cases_lt place (from + 1)))
+
+-- a byte after the first of a list
+slice_get-drop : (bytes : List ℕ) (i : ℕ) → slice_get bytes (suc i) ≡ slice_get (drop 1 bytes) i
+slice_get-drop [] i = refl
+slice_get-drop (b ∷ bytes) i = refl
+
+-- the plus of a value is the last one
+pub plus_is_last : PlusIsLast
+plus_is_last text value reads =
+    let top = lowered reads.tree.top in
+    let sub = lowered reads.tree.sub in
+    let slash = length reads.tree.top in
+    let view : (i : ℕ) → slice_get (top ++ (slash_byte ∷ sub)) (slash + 2 + i) ≡ slice_get (drop 1 sub) i =
+    λ i. slice_get-after top (slash_byte ∷ sub) (suc (suc i)) _ (omega (arith, length-lowered reads.tree.top)) ∙ slice_get-drop sub i in
+    subst (λ (v : MediaType). IsLastPlus v.essence (v.slash + 1) (v.slash + 2) v.plus) reads.valued
+    (last_plus-is_last (top ++ (slash_byte ∷ sub)) (slash + 1) (slash + 2) (drop 1 sub) (omega arith) view)
+
+-- ---- where the essence may be cut
+
+-- the slash lies in the essence
+pub slash_in : (text essence : List ℕ) (value : MediaType) → Reads text value → essence ≡ value.essence
+    → slice_get essence value.slash ≡ Some slash_byte
+slash_in text essence value reads is =
+    let there = slice_get-front (lowered reads.tree.top) slash_byte (lowered reads.tree.sub) _ (sym (length-lowered reads.tree.top)) in
+    rw is (subst (λ (v : MediaType). slice_get v.essence v.slash ≡ Some slash_byte) reads.valued there)
+
+-- the subtype begins after it, at a character
+pub subtype_start : (text essence : List ℕ) (value : MediaType) → Reads text value → essence ≡ value.essence → IsUtf8 essence
+    → IsCharBoundary essence (value.slash + 1)
+subtype_start text essence value reads is utf8 = boundary_after essence _ slash_byte utf8 (slash_in text essence value reads is) (lit< tt)
+
+-- the plus lies in the essence, after the subtype's first byte
+pub record PlusIn (essence : List ℕ) (slash plus : ℕ) : Type 0 where
+  pub above : slash + 1 < plus
+  pub there : slice_get essence plus ≡ Some plus_byte
+
+-- the plus of a value that was read lies in its essence
+pub plus_in : (text essence : List ℕ) (value : MediaType) (plus : ℕ) → Reads text value → essence ≡ value.essence → value.plus ≡ Some plus
+    → PlusIn essence value.slash plus
+plus_in text essence value plus reads is found =
+    let last = MatchOption-at_some (HasNoPlusFrom value.essence (value.slash + 2)) _ plus found (plus_is_last text value reads) in
+    record { above = last.0; there = rw is (last.1) }
+
+-- the subtype ends before the plus or at the essence's end, at a character after its start
+pub subtype_end : (text essence : List ℕ) (value : MediaType) (plus : Option ℕ) → Reads text value → essence ≡ value.essence
+    → value.plus ≡ plus → (value.slash + 1 ≤ unwrap_or plus (length essence)) × IsCharBoundary essence (unwrap_or plus (length essence))
+subtype_end text essence value None reads is found =
+    (omega (arith, slice_get_within essence value.slash slash_byte (slash_in text essence value reads is)), IsCharBoundary-end essence)
+subtype_end text essence value (Some plus) reads is found =
+    let at = plus_in text essence value plus reads is found in
+    (omega (arith, at.above), boundary_before essence plus plus_byte at.there (lit< tt))
+
+-- the suffix begins after the plus, at a character within the essence
+pub suffix_start : (text essence : List ℕ) (value : MediaType) (plus : ℕ) → Reads text value → essence ≡ value.essence → IsUtf8 essence
+    → value.plus ≡ Some plus → (plus < length essence) × IsCharBoundary essence (plus + 1)
+suffix_start text essence value plus reads is utf8 found =
+    let at = plus_in text essence value plus reads is found in
+    (slice_get_within essence plus plus_byte at.there, boundary_after essence plus plus_byte utf8 at.there (lit< tt))
+
+-- ---- what is in small letters
+
+-- the text before a position in a text of small letters
+pub low_take : (n : ℕ) (text : List ℕ) → lowered text ≡ text → lowered (take n text) ≡ take n text
+low_take n text low = lowered-take n text ∙ ap (take n) low
+
+-- the text after it
+pub low_drop : (n : ℕ) (text : List ℕ) → lowered text ≡ text → lowered (drop n text) ≡ drop n text
+low_drop n text low = lowered-drop n text ∙ ap (drop n) low
+
+-- the essence of a value that was read
+pub read-low_essence : (text : List ℕ) (value : MediaType) → Reads text value → lowered value.essence ≡ value.essence
+read-low_essence text value reads =
+    let top = lowered reads.tree.top in
+    let sub = lowered reads.tree.sub in
+    subst (λ (v : MediaType). lowered v.essence ≡ v.essence) reads.valued
+    (lowered-append top (slash_byte ∷ sub) ∙ rw (lowered-lowered reads.tree.top, lowered-lowered reads.tree.sub) refl)
+
+-- the pair of a lowered parameter is low
+low_pair : (p : Parameter) → IsLowPair (pair_of (lowered_parameter p))
+low_pair (plain name value) = cc (lowered-lowered name, lowered_value-lowered name value)
+low_pair (quoted name content n) = cc (lowered-lowered name, lowered_value-lowered name content)
+
+-- the pairs of a lowered list are low
+low_pairs : (list : Parameters) → AreLowPairs (pairs_of_list (lowered_list list))
+low_pairs (blank n) = tt
+low_pairs (final n p) = (low_pair p, tt)
+low_pairs (more n p rest) = (low_pair p, low_pairs rest)
+
+-- the pairs of a lowered tail are low
+low_pairs-tail : (tail : Tail) → AreLowPairs (pairs_of_tail (lowered_tail tail))
+low_pairs-tail no_list = tt
+low_pairs-tail (listed list) = low_pairs list
+
+-- the pairs of a value that was read are low
+pub read-low_pairs : (text : List ℕ) (value : MediaType) → Reads text value → AreLowPairs value.pairs
+read-low_pairs text value reads = subst (λ (v : MediaType). AreLowPairs v.pairs) reads.valued (low_pairs-tail reads.tree.tail)
+
+-- ---- the items of pairs
+
+-- the items of low pairs are in small letters where their flags are set
+pub items_of-low : (pairs : List (List ℕ × List ℕ)) → AreLowPairs pairs → AllByRecursion IsLowItem (items_of pairs)
+items_of-low [] low = tt
+items_of-low ((name, value) ∷ pairs) (low, others) =
+    let parts = low_pair-parts name value low in
+    ((λ _. parts.0, λ is. parts.1 (subst (λ n. bytes_eq n (codes "charset") ≡ true) (sym parts.0) is)), items_of-low pairs others)
+
+-- as many pairs are cut from a list as the count says
+pub length-pairs_within : (count : ℕ) (list : List ℕ) → length (pairs_within count list) ≡ count
+length-pairs_within zero list = refl
+length-pairs_within (suc count) list = ap suc (length-pairs_within count (cut_of list).rest)
+
+-- without a semicolon there is no pair
+kept-none : (text : List ℕ) (places : Places) → IsKept text places → places.semicolon ≡ None → places.pairs ≡ 0
+kept-none text places is_kept none =
+    ap (λ p. p.pairs) (sym is_kept.placed) ∙ go is_kept.tree.tail _ (ap (λ p. p.semicolon) is_kept.placed ∙ none)
+  where
+    go : (tail : Tail) (at : ℕ) → semicolon_of at tail ≡ None → length (pairs_of_tail tail) ≡ 0
+    go no_list at is = refl
+    go (listed list) at is = absurd cc
+
+-- the count is that of the pairs
+pub kept-count : (text : List ℕ) (places : Places) → IsKept text places → places.pairs ≡ length (media_of text places).pairs
+kept-count text places is_kept = go places.semicolon refl
+  where
+    go : (semicolon : Option ℕ) → places.semicolon ≡ semicolon → places.pairs ≡ length (pairs_after places.pairs semicolon text)
+    go None is = kept-none text places is_kept is
+    go (Some semicolon) is = sym (length-pairs_within places.pairs (drop (semicolon + 1) text))
+
+-- values that were read from one text are equal
+pub same_from_text : (text other : List ℕ) (x y : MediaType) → Reads text x → Reads other y → text ≡ other → Same x y
+same_from_text text other x y reads also is =
+    let one : x ≡ y = one_reading other x y (subst (λ t. Reads t x) is reads) also in
+    (ap (λ m. m.essence) one, ap (λ m. m.pairs) one)
+
+-- without pairs the kept text is the essence
+pub kept-essence : (x : MediaType) (text : List ℕ) → Reads text x → length x.pairs ≡ 0 → x.kept ≡ x.essence
+kept-essence x text reads none =
+    subst (λ (value : MediaType). length value.pairs ≡ 0 → value.kept ≡ value.essence) reads.valued
+    (go (pairs_of_tail (lowered_tree reads.tree).tail)) none
+  where
+    go : (pairs : List (List ℕ × List ℕ)) → length pairs ≡ 0
+        → kept_text pairs (lowered_tree reads.tree) ≡ essence_of (lowered_tree reads.tree)
+    go [] none = refl
+    go (pair ∷ pairs) none = absurd (omega arith)

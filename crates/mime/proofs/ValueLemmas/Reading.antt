@@ -1,0 +1,106 @@
+-- What reading a text answers, and that the constant media types are stored with their positions.
+use Rattle.std.proofs.Common.{◌≡◌, ℕ, List, [], ◌∷◌, refl, sym, ap, ◌∙◌, subst, ◌+◌, length, take, drop, Option, Some, None, codes}
+use Rattle.std.specs.Prelude.{◌≢◌, Result, Ok, Err, IfErr, codes, unwrap_or}
+use Rattle.mime.specs.Bytes.{is_token_byte, space_byte}
+use Rattle.mime.specs.Grammar.{SyntaxTree, no_list, IsWellFormed, plain, final, Tail, listed, text_of, IsToken, IsTail}
+use Rattle.mime.specs.Values.{value_of, IsAccepted, IsRefused, lowered_tree}
+use Rattle.mime.specs.Refusals.{IsFault, Explains}
+use Rattle.mime.specs.Scanning.{HasPlaces, places_of}
+use Rattle.mime.specs.KeptText.{IsKept, HoldsParameter, places_in}
+use Rattle.mime.specs.declared.scan.fault.ParseError.{ParseError}
+use Rattle.mime.specs.declared.scan.fault.ParseError.TheVariants.{InvalidToken, NoMemory}
+use Rattle.mime.specs.declared.scan.Places.{Places}
+use Rattle.mime.proofs.GrammarLemmas.Readings.{one_tree}
+use Rattle.mime.proofs.GrammarLemmas.Viability.{refused-at_dead}
+use Rattle.mime.proofs.GrammarLemmas.Faults.{completed_is_refused}
+use Rattle.mime.specs.Atoms.{atom_text}
+use Rattle.mime.specs.declared.atoms.Atom.{Atom}
+use Rattle.mime.specs.declared.atoms.Atom.TheVariants.{STAR_STAR}
+
+-- a text with positions of its parts is accepted
+pub accepted-from_places : (text : List ℕ) (places : Places) → HasPlaces text places → IsAccepted text
+accepted-from_places text places has =
+    (value_of has.tree, record { tree = has.tree; well_formed = has.well_formed; spelled = has.spelled; valued = refl })
+
+-- running out of memory is explained where the text is accepted
+pub Explains-no_memory : {T : Type 0} (text : List ℕ) (result : Result T ParseError) → IsAccepted text
+    → IfErr result (λ error. (error ≡ NoMemory) × (text ≢ codes "*/*")) → IfErr result (λ error. Explains text error)
+Explains-no_memory text (Ok value) accepted memory = tt
+Explains-no_memory text (Err error) accepted memory = subst (Explains text) (sym memory.0) (accepted, memory.1)
+
+-- a text with a fault is refused
+pub refused-from_fault : (text : List ℕ) (fault : ParseError) → IsFault text fault → IsRefused text
+refused-from_fault text (InvalidToken pos byte) fault = refused-at_dead text pos byte fault
+refused-from_fault text other fault = completed_is_refused text other fault
+
+-- the tree of `*/*`
+abbrev star_tree : SyntaxTree
+star_tree = record { top = 42 ∷ []; sub = 42 ∷ []; tail = no_list }
+
+-- the tree of `*/*` is well formed
+star_tree-IsWellFormed : IsWellFormed star_tree
+unfolding is_token_byte
+star_tree-IsWellFormed = (refl, refl, tt)
+
+-- `*/*` is kept as it is
+pub star-IsKept : (places : Places) → HasPlaces (42 ∷ 47 ∷ 42 ∷ []) places → IsKept (42 ∷ 47 ∷ 42 ∷ []) places
+star-IsKept places has = record {
+  tree = star_tree;
+  well_formed = star_tree-IsWellFormed;
+  low = refl;
+  kept = tt;
+  spelled = refl;
+  placed = ap places_of (one_tree star_tree has.tree star_tree-IsWellFormed has.well_formed (sym has.spelled)) ∙ has.placed;
+}
+
+-- `*/*` is accepted
+pub star-accepted : (text : List ℕ) → text ≡ 42 ∷ 47 ∷ 42 ∷ [] → IsAccepted text
+star-accepted text is =
+    (value_of star_tree, record { tree = star_tree; well_formed = star_tree-IsWellFormed; spelled = sym is; valued = refl })
+
+-- a fault explains a refusal
+pub Explains-from_fault : (text : List ℕ) (fault : ParseError) → IsFault text fault → Explains text fault
+Explains-from_fault text NoMemory fault = absurd fault.0
+Explains-from_fault text other fault = fault
+
+-- the tail of a constant's text: a charset where there is a semicolon
+abbrev tail_at : Option ℕ → Tail
+tail_at None = no_list
+tail_at (Some semicolon) = listed (final (space_byte ∷ []) (plain (codes "charset") (codes "utf-8")))
+
+-- the tail of a constant's text is well formed
+is_tail : (semicolon : Option ℕ) → IsTail (tail_at semicolon)
+unfolding is_token_byte
+is_tail None = tt
+is_tail (Some semicolon) = (refl, (refl, refl))
+
+-- the tail of a constant's text holds a parameter if it is a list
+holds_parameter : (semicolon : Option ℕ) → HoldsParameter (tail_at semicolon)
+holds_parameter None = tt
+holds_parameter (Some semicolon) = tt
+
+-- the tree of a constant's text
+abbrev tree_in : List ℕ → SyntaxTree
+tree_in text = record {
+  top = take (places_in text).slash text;
+  sub = drop ((places_in text).slash + 1) (take (unwrap_or (places_in text).semicolon (length text)) text);
+  tail = tail_at (places_in text).semicolon;
+}
+
+-- a text is kept if it is that of the tree in it, which is well formed and its own lowering
+kept_by : (text : List ℕ) → IsToken (tree_in text).top → IsToken (tree_in text).sub → lowered_tree (tree_in text) ≡ tree_in text
+    → text_of (tree_in text) ≡ text → places_of (tree_in text) ≡ places_in text → IsKept text (places_in text)
+kept_by text top sub low spelled placed = record {
+  tree = tree_in text;
+  well_formed = (top, sub, is_tail (places_in text).semicolon);
+  low = low;
+  kept = holds_parameter (places_in text).semicolon;
+  spelled = spelled;
+  placed = placed;
+}
+
+-- each constant's text is kept: the second line is one case for each constant but the first
+pub kept_atom : (atom : Atom) → IsKept (atom_text atom) (places_in (atom_text atom))
+unfolding is_token_byte
+kept_atom STAR_STAR = kept_by (atom_text STAR_STAR) refl refl refl refl refl
+kept_atom atom = kept_by (atom_text atom) refl refl refl refl refl

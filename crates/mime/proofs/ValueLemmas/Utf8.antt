@@ -1,0 +1,106 @@
+-- A text of which parts are lowered: what holds of it, and that it keeps UTF-8.
+use Rattle.std.proofs.Common.{◌≡◌, ℕ, suc, ◌<◌, ◌≤◌, true, List, [], ◌∷◌, ◌++◌, length, take, drop, get_or, refl, sym, ap, ◌∙◌, subst, arith, append-nil, ⊎_elim}
+use Rattle.std.specs.Prelude.{IsUtf8}
+use Rattle.std.specs.Char.{to_ascii_lowercase}
+use Rattle.std.proofs.lemmas.Bool.{and_parts, cases_lt}
+use Rattle.std.proofs.lemmas.Bool.Decides.{nat_tests}
+use Rattle.std.proofs.lemmas.List.{take_at, drop_at, take-append-drop}
+use Rattle.std.proofs.lemmas.Str.{IsUtf8-nil, IsUtf8-append, IsUtf8-encode, IsUtf8-from_ascii, encode_ascii, inside_one}
+use Rattle.std.proofs.lemmas.Str.Ascii.{IsAscii-cons, IsAscii-nil}
+use Rattle.mime.specs.Values.{lowered}
+use Rattle.mime.proofs.ValueLemmas.Lowercase.{lowered-lowered, length-lowered, lowered-append, lowered-take, lowered-drop}
+use lib.Utf8.{scalars, scalar, encodes, encode}
+
+-- the second text is the first with some of its parts lowered
+pub data IsLoweredInPart : List ℕ → List ℕ → Type 0 where
+  same : (text : List ℕ) → IsLoweredInPart text text
+  small : (text : List ℕ) → IsLoweredInPart text (lowered text)
+  in_parts : (front back low_front low_back : List ℕ) → IsLoweredInPart front low_front → IsLoweredInPart back low_back
+      → IsLoweredInPart (front ++ back) (low_front ++ low_back)
+
+-- a text lowered in part has the same lowering
+lowered-in_part : (text partly : List ℕ) → IsLoweredInPart text partly → lowered partly ≡ lowered text
+lowered-in_part text partly (same _) = refl
+lowered-in_part text partly (small _) = lowered-lowered text
+lowered-in_part text partly (in_parts front back low_front low_back first second) =
+    lowered-append low_front low_back
+    ∙ rw (lowered-in_part front low_front first, lowered-in_part back low_back second) (sym (lowered-append front back))
+
+-- a text lowered in part has the same length
+pub length-in_part : (text partly : List ℕ) → IsLoweredInPart text partly → length partly ≡ length text
+length-in_part text partly lowers =
+    sym (length-lowered partly) ∙ ap length (lowered-in_part text partly lowers) ∙ length-lowered text
+
+-- the parts of a text without capitals have none
+low_parts : (front back : List ℕ) → lowered (front ++ back) ≡ front ++ back → (lowered front ≡ front) × (lowered back ≡ back)
+low_parts [] back low = (refl, low)
+low_parts (b ∷ front) back low = let parts = low_parts front back (cc) in let first : lowered front ≡ front = parts.0 in (cc, parts.1)
+
+-- a text without capitals stays as it is, lowered in part
+pub low-in_part : (text partly : List ℕ) → IsLoweredInPart text partly → lowered text ≡ text → partly ≡ text
+low-in_part text partly (same _) low = refl
+low-in_part text partly (small _) low = low
+low-in_part text partly (in_parts front back low_front low_back first second) low =
+    let parts = low_parts front back low in
+    rw (low-in_part front low_front first parts.0, low-in_part back low_back second parts.1) refl
+
+-- the lowerings of a front and of what follows it, taken from the lowering of the whole
+lowered-parts : (front back partly : List ℕ) → lowered partly ≡ lowered (front ++ back)
+    → (lowered (take (length front) partly) ≡ lowered front) × (lowered (drop (length front) partly) ≡ lowered back)
+lowered-parts front back partly is =
+    let n = length front in
+    let whole = is ∙ lowered-append front back in
+    let size = length-lowered front in (
+      lowered-take n partly ∙ ap (take n) whole ∙ take_at (lowered front) (lowered back) n size,
+      lowered-drop n partly ∙ ap (drop n) whole ∙ drop_at (lowered front) (lowered back) n size,
+    )
+
+-- a text with the lowering of bytes past ASCII is these bytes
+high_stays : (text partly : List ℕ) → lowered partly ≡ lowered text → ((k : ℕ) → k < length text → 128 ≤ get_or text k 0) → partly ≡ text
+high_stays [] [] is high = refl
+high_stays [] (c ∷ partly) is high = absurd cc
+high_stays (b ∷ text) [] is high = absurd cc
+high_stays (b ∷ text) (c ∷ partly) is high =
+    let above : 128 ≤ b = high 0 (omega arith) in
+    let lowers : to_ascii_lowercase c ≡ to_ascii_lowercase b = cc in
+    let byte : c ≡ b = grind (arith, nat_tests) in
+    let rest : partly ≡ text = high_stays text partly (cc) (λ k l. high (suc k) (omega arith)) in
+    cc
+
+-- a text with the lowering of an ASCII character is in UTF-8
+of_ascii : (c : ℕ) (partly : List ℕ) → c < 128 → lowered partly ≡ lowered (c ∷ []) → IsUtf8 partly
+of_ascii c [] ascii is = absurd cc
+of_ascii c (b ∷ []) ascii is =
+    let lowers : to_ascii_lowercase b ≡ to_ascii_lowercase c = cc in
+    IsUtf8-from_ascii (b ∷ []) (IsAscii-cons b [] (grind (arith, nat_tests)) IsAscii-nil)
+of_ascii c (b ∷ d ∷ partly) ascii is = absurd cc
+
+-- a text with the lowering of a character is valid UTF-8
+of_character : (c : ℕ) (partly : List ℕ) → scalar c ≡ true → lowered partly ≡ lowered (encode c) → IsUtf8 partly
+of_character c partly is low = ⊎_elim
+    (λ ascii. of_ascii c partly ascii (low ∙ ap lowered (encode_ascii c ascii)))
+    (λ above. subst IsUtf8 (sym (high_stays (encode c) partly low (high above))) (IsUtf8-encode c is))
+    (cases_lt c 128)
+  where
+    high : 128 ≤ c → (k : ℕ) → k < length (encode c) → 128 ≤ get_or (encode c) k 0
+    high above k l = ⊎_elim
+        (λ under. absurd (omega (arith, inside_one c [] (encode c) k (sym (append-nil (encode c))) l under)))
+        (λ enough. enough)
+        (cases_lt (get_or (encode c) k 0) 128)
+
+-- a text with the lowering of characters is valid UTF-8
+of_characters : (characters partly : List ℕ) → scalars characters ≡ true → lowered partly ≡ lowered (encodes characters) → IsUtf8 partly
+of_characters [] [] are is = IsUtf8-nil
+of_characters [] (b ∷ partly) are is = absurd cc
+of_characters (c ∷ characters) partly are is =
+    let parts = and_parts (scalar c) (scalars characters) are in
+    let cut = lowered-parts (encode c) (encodes characters) partly is in
+    let n = length (encode c) in
+    subst IsUtf8 (take-append-drop n partly)
+    (IsUtf8-append (take n partly) (drop n partly)
+    (of_character c (take n partly) parts.0 cut.0) (of_characters characters (drop n partly) parts.1 cut.1))
+
+-- a text in UTF-8, lowered in part, is in UTF-8
+pub IsUtf8-in_part : (text partly : List ℕ) → IsLoweredInPart text partly → IsUtf8 text → IsUtf8 partly
+IsUtf8-in_part text partly lowers utf8 =
+    of_characters utf8.0 partly utf8.1.0 (lowered-in_part text partly lowers ∙ ap lowered (sym utf8.1.1))
