@@ -5,15 +5,16 @@ use crate::values::{parts_of, print_copy, sign};
 use mime::{
     APPLICATION, APPLICATION_JAVASCRIPT, APPLICATION_JAVASCRIPT_UTF_8, APPLICATION_JSON,
     APPLICATION_MSGPACK, APPLICATION_OCTET_STREAM, APPLICATION_PDF,
-    APPLICATION_WWW_FORM_URLENCODED, AUDIO, Atom, BASIC, BMP, BOUNDARY, CHARSET, CSS, CSV,
-    EVENT_STREAM, FONT, FONT_WOFF, FONT_WOFF2, FORM_DATA, GIF, HTML, IMAGE, IMAGE_BMP, IMAGE_GIF,
-    IMAGE_JPEG, IMAGE_PNG, IMAGE_STAR, IMAGE_SVG, JAVASCRIPT, JPEG, JSON, MESSAGE, MODEL, MP4,
-    MPEG, MSGPACK, MULTIPART, MULTIPART_FORM_DATA, Mime, Name, OCTET_STREAM, OGG, PDF, PLAIN, PNG,
-    ParseError, STAR, STAR_STAR, SVG, TEXT, TEXT_CSS, TEXT_CSS_UTF_8, TEXT_CSV, TEXT_CSV_UTF_8,
-    TEXT_EVENT_STREAM, TEXT_HTML, TEXT_HTML_UTF_8, TEXT_JAVASCRIPT, TEXT_JAVSCRIPT, TEXT_PLAIN,
-    TEXT_PLAIN_UTF_8, TEXT_STAR, TEXT_TAB_SEPARATED_VALUES, TEXT_TAB_SEPARATED_VALUES_UTF_8,
-    TEXT_VCARD, TEXT_XML, UTF_8, VCARD, VIDEO, WOFF, WOFF2, WWW_FORM_URLENCODED, XML,
-    is_quoted_byte, is_quoted_text_byte, is_token, name_eq_str,
+    APPLICATION_WWW_FORM_URLENCODED, AUDIO, Atom, BASIC, BMP, BOUNDARY, Bad, CHARSET, CSS, CSV,
+    EVENT_STREAM, FONT, FONT_WOFF, FONT_WOFF2, FORM_DATA, FromStrError, GIF, HTML, IMAGE,
+    IMAGE_BMP, IMAGE_GIF, IMAGE_JPEG, IMAGE_PNG, IMAGE_STAR, IMAGE_SVG, JAVASCRIPT, JPEG, JSON,
+    MESSAGE, MODEL, MP4, MPEG, MSGPACK, MULTIPART, MULTIPART_FORM_DATA, Mime, MimeIter, Name,
+    OCTET_STREAM, OGG, PDF, PLAIN, PNG, Params, ParseError, STAR, STAR_STAR, SVG, TEXT, TEXT_CSS,
+    TEXT_CSS_UTF_8, TEXT_CSV, TEXT_CSV_UTF_8, TEXT_EVENT_STREAM, TEXT_HTML, TEXT_HTML_UTF_8,
+    TEXT_JAVASCRIPT, TEXT_JAVSCRIPT, TEXT_PLAIN, TEXT_PLAIN_UTF_8, TEXT_STAR,
+    TEXT_TAB_SEPARATED_VALUES, TEXT_TAB_SEPARATED_VALUES_UTF_8, TEXT_VCARD, TEXT_XML, TextKey,
+    UTF_8, VCARD, VIDEO, WOFF, WOFF2, WWW_FORM_URLENCODED, XML, is_quoted_byte,
+    is_quoted_text_byte, is_token, name_eq_str,
 };
 use std::alloc::{AllocError, Global};
 use std::collections::{BTreeSet, HashSet};
@@ -126,8 +127,25 @@ fn is_page_or_script(atom: Atom) -> bool {
     }
 }
 
+/// Compiles only for a type whose values threads may hand over and share.
+fn crosses_threads<T: Send + Sync>() {}
+
+/// Compiles only if that is so of each public type.
+fn public_types_cross_threads() {
+    crosses_threads::<Mime>();
+    crosses_threads::<Params<'static>>();
+    crosses_threads::<Name<'static>>();
+    crosses_threads::<Atom>();
+    crosses_threads::<MimeIter<'static>>();
+    crosses_threads::<Bad<'static>>();
+    crosses_threads::<TextKey<'static>>();
+    crosses_threads::<ParseError>();
+    crosses_threads::<FromStrError>();
+}
+
 /// Prints the copies of the constant media types.
 pub(crate) fn copies(out: &mut String) -> Result<(), AllocError> {
+    public_types_cross_threads();
     for atom in ATOMS {
         print_copy(out, &atom.mime())?;
     }
