@@ -295,7 +295,7 @@ fn say_any(rt: &HostRuntime, answer: Option<&str>) -> io::Result<()> {
 
 fn say_mime(rt: &HostRuntime, answer: Option<Mime>) -> io::Result<()> {
     match answer {
-        Some(mime) => say(rt, mime.as_str()),
+        Some(mime) => say(rt, parameter::header_text(&mime)),
         None => say(rt, "none"),
     }
 }

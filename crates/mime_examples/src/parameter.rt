@@ -1,13 +1,13 @@
-//! A charset or a form's boundary, written as a parameter.
+//! A charset or a form's boundary, written as a parameter, and the text that a header then holds.
 
 ghost use Rattle.std.specs.Prelude.{◌≡◌, ◌↔◌, IsTrue, IfOk, MatchOption, codes};
 ghost use Rattle.mime.specs.Grammar.{IsToken, IsContent};
 ghost use Rattle.mime.specs.Values.{MediaType, Reads, lowered, lowered_value};
-ghost use Rattle.mime.specs.HeaderLaws.{with_parameter};
+ghost use Rattle.mime.specs.HeaderLaws.{AreHeaderBytes, with_parameter};
 ghost use Rattle.mime_examples.specs.Boundary.{IsBoundary};
 
 use crate::boundary::is_boundary;
-use mime::laws::{one_reading, parameter_is_read};
+use mime::laws::{kept_is_safe, one_reading, parameter_is_read};
 use mime::{MULTIPART_FORM_DATA, Mime, is_token};
 use std::alloc::{AllocError, Global};
 
@@ -75,4 +75,14 @@ pub fn form_with_boundary(alloc: Global, boundary: &str) -> Result<Option<Mime>,
     }
     let made = put_on(alloc, &MULTIPART_FORM_DATA.mime(), "boundary", boundary)?;
     Ok(Some(made))
+}
+
+/// The text of a media type, as a header holds it (RFC 7231, 3.1.1.5).
+pub fn header_text(mime: &Mime) -> &str
+    ensures text { result.now ≡ mime.now.media.kept }
+    // It has no line feed, no carriage return and no zero, so nothing can be put into the response by it.
+    ensures safe { AreHeaderBytes result.now }
+{
+    kept_is_safe();
+    mime.as_str()
 }
