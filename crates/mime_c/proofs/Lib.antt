@@ -4,4 +4,4 @@ pub mod Parts
 pub mod NoZero
 pub mod Listing
 pub mod OneOutcome
-mod Examples
+mod AnswerFacts

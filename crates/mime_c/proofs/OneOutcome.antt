@@ -14,14 +14,14 @@ use Rattle.mime.proofs.GrammarLemmas.Faults.{one_fault}
 use Rattle.mime.proofs.ValueLemmas.Reading.{refused-from_fault, Explains-from_fault}
 use Rattle.mime.proofs.GrammarLemmas.Readings.{one_reading}
 use Rattle.mime.proofs.ValueLemmas.Traits.{eq_by_cmp-tells, eq_by_cmp-same}
-use Rattle.mime.proofs.CutLemmas.{accepted_or_refused, HasCut, has_cut, cut_unique}
+use Rattle.mime.proofs.CutLemmas.{accepted_or_refused, has_cut, cut_unique}
 use Rattle.mime_c.specs.Strings.{strings, texts_of, item_texts, written}
 use Rattle.mime_c.specs.Answers.{number_of, nothing, found_of, found_of_fault, Fails, is_refused, is_not_text, ReadsTo, is_read, fails, has_no_room, ListsTo, is_listed, has_no_memory, Compares, are_read, first_fails, second_fails}
+use Rattle.mime_c.specs.Answers as answers
 use Rattle.mime_c.specs.Laws.{HasOneReading, ReadsToOne, HasOneListing, ListsToOne, HasOneComparison, ComparesAsOne}
 use Rattle.mime_c.specs.declared.MimeFound.{MimeFound}
 use Rattle.mime_c.specs.declared.TheConstants.{MIME_OK, MIME_NO_MEMORY, MIME_NOT_UTF8, MIME_NO_ROOM}
 use Rattle.mime_c.proofs.NoZero.{texts_come_back, items_come_back}
-use Rattle.mime_c.specs.Answers as answers
 
 -- ---- one text
 
@@ -80,116 +80,101 @@ one_failure text n m found besides h k (is_not_text not_text) (is_not_text too) 
 -- ---- `mime_read`
 
 module _ (text old : List ℕ) where
-  read_short : length old < 2 * length text + 2 → HasOneReading text old
-  read_short short = (MIME_NO_ROOM, old, nothing, (λ same. omega (arith, same)), has_no_room short, only) where
-    only : (n : ℕ) (new : List ℕ) (found : MimeFound) → n ≢ MIME_NO_MEMORY → ReadsTo text old n new found
-        → (n ≡ MIME_NO_ROOM) × (new ≡ old) × (found ≡ nothing)
-    only n new found h (is_read media room utf8 reads back) = absurd (omega (arith, short, room))
-    only n new found h (fails m besides room why) = absurd (omega (arith, short, room))
-    only n new found h (has_no_room too) = (refl, refl, refl)
+  same_reading : (n m : ℕ) (new bytes : List ℕ) (found other : MimeFound) → n ≢ MIME_NO_MEMORY → m ≢ MIME_NO_MEMORY
+      → ReadsTo text old n new found → ReadsTo text old m bytes other → (m ≡ n) × (bytes ≡ new) × (other ≡ found)
+  same_reading n m new bytes found other h k (is_read media room utf8 reads back) (is_read again room_too utf8_too too back_too) =
+      let same = one_reading text again media too reads in
+      (refl, ap (λ (it : MediaType). written (strings (texts_of it)) old) same, ap found_of same)
+  same_reading n m new bytes found other h k (is_read media room utf8 reads back) (fails p besides room_too why) =
+      absurd (not_both text media p besides utf8 reads why k)
+  same_reading n m new bytes found other h k (fails p besides room why) (is_read media room_too utf8 reads back) =
+      absurd (not_both text media p besides utf8 reads why h)
+  same_reading n m new bytes found other h k (fails p besides room why) (fails q another room_too why_too) =
+      let same = one_failure text p q besides another h k why why_too in
+      (same.0, refl, same.1)
+  same_reading n m new bytes found other h k (has_no_room short) (has_no_room too) = (refl, refl, refl)
+  same_reading n m new bytes found other h k (has_no_room short) (is_read media room utf8 reads back) = absurd (omega (arith, short, room))
+  same_reading n m new bytes found other h k (has_no_room short) (fails p besides room why) = absurd (omega (arith, short, room))
+  same_reading n m new bytes found other h k (is_read media room utf8 reads back) (has_no_room short) = absurd (omega (arith, short, room))
+  same_reading n m new bytes found other h k (fails p besides room why) (has_no_room short) = absurd (omega (arith, short, room))
+
+  has_one_reading : (n : ℕ) (new : List ℕ) (found : MimeFound) → n ≢ MIME_NO_MEMORY → ReadsTo text old n new found → HasOneReading text old
+  has_one_reading n new found h is = (n, new, found, h, is, λ m bytes other k. same_reading n m new bytes found other h k is)
 
   read_with_room : 2 * length text + 2 ≤ length old → Outcome text → HasOneReading text old
-  read_with_room room (gives media utf8 is) = (
-    MIME_OK,
-    written (strings (texts_of media)) old,
-    found_of media,
-    (λ same. omega (arith, same)),
-    is_read media room utf8 is (texts_come_back text media is),
-    only,
-  ) where
-    only : (n : ℕ) (new : List ℕ) (found : MimeFound) → n ≢ MIME_NO_MEMORY → ReadsTo text old n new found
-        → (n ≡ MIME_OK) × (new ≡ written (strings (texts_of media)) old) × (found ≡ found_of media)
-    only n new found h (is_read other room_too utf8_too reads back) =
-        let same = one_reading text other media reads is in
-        (refl, ap (λ (it : MediaType). written (strings (texts_of it)) old) same, ap found_of same)
-    only n new found h (fails m besides room_too why) = absurd (not_both text media m besides utf8 is why h)
-    only n new found h (has_no_room short) = absurd (omega (arith, short, room))
-  read_with_room room (refuses m besides k why) = (m, old, besides, k, fails m besides room why, only) where
-    only : (n : ℕ) (new : List ℕ) (found : MimeFound) → n ≢ MIME_NO_MEMORY → ReadsTo text old n new found
-        → (n ≡ m) × (new ≡ old) × (found ≡ besides)
-    only n new found h (is_read media room_too utf8 reads back) = absurd (not_both text media m besides utf8 reads why k)
-    only n new found h (fails p another room_too too) =
-        let same = one_failure text m p besides another k h why too in
-        (same.0, refl, same.1)
-    only n new found h (has_no_room short) = absurd (omega (arith, short, room))
+  read_with_room room (gives media utf8 reads) =
+      has_one_reading _ _ _ (λ same. omega (arith, same)) (is_read media room utf8 reads (texts_come_back text media reads))
+  read_with_room room (refuses p found h why) = has_one_reading p old found h (fails p found room why)
 
 pub reads_to_one : ReadsToOne
 reads_to_one text old =
-    ⊎_elim (read_short text old) (λ room. read_with_room text old room (outcome_of text)) (cases_lt (length old) (2 * length text + 2))
+    ⊎_elim (λ short. has_one_reading text old _ _ _ (λ same. omega (arith, same)) (has_no_room short))
+    (λ room. read_with_room text old room (outcome_of text)) (cases_lt (length old) (2 * length text + 2))
 
 -- ---- `mime_list`
 
 module _ (text old : List ℕ) where
-  list_short : length old < 2 * length text → HasOneListing text old
-  list_short short = (MIME_NO_ROOM, old, 0, (λ same. omega (arith, same)), answers.ListsTo.has_no_room short, only) where
-    only : (n : ℕ) (new : List ℕ) (size : ℕ) → n ≢ MIME_NO_MEMORY → ListsTo text old n new size
-        → (n ≡ MIME_NO_ROOM) × (new ≡ old) × (size ≡ 0)
-    only n new size h (is_listed items rest room utf8 cut back) = absurd (omega (arith, short, room))
-    only n new size h (has_no_memory bytes room utf8 needs) = absurd (omega (arith, short, room))
-    only n new size h (answers.ListsTo.is_not_text room not_text) = absurd (omega (arith, short, room))
-    only n new size h (answers.ListsTo.has_no_room too) = (refl, refl, refl)
+  same_listing : (n m : ℕ) (new bytes : List ℕ) (size other : ℕ) → n ≢ MIME_NO_MEMORY → m ≢ MIME_NO_MEMORY
+      → ListsTo text old n new size → ListsTo text old m bytes other → (m ≡ n) × (bytes ≡ new) × (other ≡ size)
+  same_listing n m new bytes size other h k (has_no_memory some room utf8 needs) lists = absurd (h refl)
+  same_listing n m new bytes size other h k lists (has_no_memory some room utf8 needs) = absurd (k refl)
+  same_listing n m new bytes size other h k (is_listed items rest room utf8 cut back) (is_listed others end room_too utf8_too too back_too) =
+      let same = (cut_unique text items rest cut others end too).0 in
+      (refl, ap (λ it. written (strings (item_texts it)) old) same, ap (λ it. length (strings (item_texts it))) same)
+  same_listing n m new bytes size other h k (is_listed items rest room utf8 cut back) (answers.ListsTo.is_not_text room_too isnt) = absurd (isnt utf8)
+  same_listing n m new bytes size other h k (answers.ListsTo.is_not_text room isnt) (is_listed items rest room_too utf8 cut back) = absurd (isnt utf8)
+  same_listing n m new bytes size other h k (answers.ListsTo.is_not_text room isnt) (answers.ListsTo.is_not_text too isnt_too) = (refl, refl, refl)
+  same_listing n m new bytes size other h k (answers.ListsTo.has_no_room short) (answers.ListsTo.has_no_room too) = (refl, refl, refl)
+  same_listing n m new bytes size other h k (answers.ListsTo.has_no_room short) (is_listed items rest room utf8 cut back) = absurd (omega (arith, short, room))
+  same_listing n m new bytes size other h k (answers.ListsTo.has_no_room short) (answers.ListsTo.is_not_text room isnt) = absurd (omega (arith, short, room))
+  same_listing n m new bytes size other h k (is_listed items rest room utf8 cut back) (answers.ListsTo.has_no_room short) = absurd (omega (arith, short, room))
+  same_listing n m new bytes size other h k (answers.ListsTo.is_not_text room isnt) (answers.ListsTo.has_no_room short) = absurd (omega (arith, short, room))
 
-  list_not_text : 2 * length text ≤ length old → ¬ (IsUtf8 text) → HasOneListing text old
-  list_not_text room isnt = (MIME_NOT_UTF8, old, 0, (λ same. omega (arith, same)), answers.ListsTo.is_not_text room isnt, only) where
-    only : (n : ℕ) (new : List ℕ) (size : ℕ) → n ≢ MIME_NO_MEMORY → ListsTo text old n new size
-        → (n ≡ MIME_NOT_UTF8) × (new ≡ old) × (size ≡ 0)
-    only n new size h (is_listed items rest room_too utf8 cut back) = absurd (isnt utf8)
-    only n new size h (has_no_memory bytes room_too utf8 needs) = absurd (isnt utf8)
-    only n new size h (answers.ListsTo.is_not_text room_too too) = (refl, refl, refl)
-    only n new size h (answers.ListsTo.has_no_room short) = absurd (omega (arith, short, room))
-
-  list_items : 2 * length text ≤ length old → IsUtf8 text → HasCut text → HasOneListing text old
-  list_items room utf8 has = (
-    MIME_OK,
-    written (strings (item_texts has.items)) old,
-    length (strings (item_texts has.items)),
-    (λ same. omega (arith, same)),
-    is_listed has.items has.rest room utf8 has.cut (items_come_back text has.items has.rest has.cut),
-    only,
-  ) where
-    only : (n : ℕ) (new : List ℕ) (size : ℕ) → n ≢ MIME_NO_MEMORY → ListsTo text old n new size
-        → (n ≡ MIME_OK) × (new ≡ written (strings (item_texts has.items)) old) × (size ≡ length (strings (item_texts has.items)))
-    only n new size h (is_listed others end room_too utf8_too cut back) =
-        let same = (cut_unique text has.items has.rest has.cut others end cut).0 in
-        (refl, ap (λ it. written (strings (item_texts it)) old) same, ap (λ it. length (strings (item_texts it))) same)
-    only n new size h (has_no_memory bytes room_too utf8_too needs) = absurd (h refl)
-    only n new size h (answers.ListsTo.is_not_text room_too isnt) = absurd (isnt utf8)
-    only n new size h (answers.ListsTo.has_no_room short) = absurd (omega (arith, short, room))
+  has_one_listing : (n : ℕ) (new : List ℕ) (size : ℕ) → n ≢ MIME_NO_MEMORY → ListsTo text old n new size → HasOneListing text old
+  has_one_listing n new size h is = (n, new, size, h, is, λ m bytes other k. same_listing n m new bytes size other h k is)
 
 pub lists_to_one : ListsToOne
 lists_to_one text old =
-    ⊎_elim (list_short text old)
-    (λ room. ⊎_elim (λ utf8. list_items text old room utf8 (has_cut text)) (list_not_text text old room) (utf8_or_not text))
+    let has = has_cut text in
+    ⊎_elim (λ short. has_one_listing text old _ _ _ (λ same. omega (arith, same)) (answers.ListsTo.has_no_room short))
+    (λ room. ⊎_elim
+    (λ utf8. has_one_listing text old _ _ _ (λ same. omega (arith, same))
+    (is_listed has.items has.rest room utf8 has.cut (items_come_back text has.items has.rest has.cut)))
+    (λ isnt. has_one_listing text old _ _ _ (λ same. omega (arith, same)) (answers.ListsTo.is_not_text room isnt)) (utf8_or_not text))
     (cases_lt (length old) (2 * length text))
 
 -- ---- `mime_is`
 
-one_comparison : (one other : List ℕ) → Outcome one → Outcome other → HasOneComparison one other
-one_comparison one other (gives first utf8 is) (gives second utf8_too is_too) = (
-  MIME_OK,
-  (if eq_by_cmp media_cmp first second then 1 else 0),
-  (λ same. omega (arith, same)),
-  are_read first second _ utf8 utf8_too is is_too (eq_by_cmp-tells first second),
-  only,
-) where
-  only : (n m : ℕ) → n ≢ MIME_NO_MEMORY → Compares one other n m
-      → (n ≡ MIME_OK) × (m ≡ (if eq_by_cmp media_cmp first second then 1 else 0))
-  only n m h (are_read third fourth equal u v reads reads_too tells) =
-      let tells_of = subst (λ (it : MediaType). IsTrue equal ↔ Same it second) (one_reading one third first reads is)
-      (subst (λ (it : MediaType). IsTrue equal ↔ Same third it) (one_reading other fourth second reads_too is_too) tells) in
-      (refl, ap (λ yes. if yes then 1 else 0) (eq_by_cmp-same first second equal tells_of))
-  only n m h (first_fails p found why) = absurd (not_both one first n found utf8 is why h)
-  only n m h (second_fails media p found u reads why) = absurd (not_both other second n found utf8_too is_too why h)
-one_comparison one other (gives first utf8 is) (refuses p found k why) = (p, 0, k, second_fails first p found utf8 is why, only) where
-  only : (n m : ℕ) → n ≢ MIME_NO_MEMORY → Compares one other n m → (n ≡ p) × (m ≡ 0)
-  only n m h (are_read third fourth equal u v reads reads_too tells) = absurd (not_both other fourth p found v reads_too why k)
-  only n m h (first_fails q besides too) = absurd (not_both one first n besides utf8 is too h)
-  only n m h (second_fails media q besides u reads too) = ((one_failure other p n found besides k h why too).0, refl)
-one_comparison one other (refuses p found k why) outcome = (p, 0, k, first_fails p found why, only) where
-  only : (n m : ℕ) → n ≢ MIME_NO_MEMORY → Compares one other n m → (n ≡ p) × (m ≡ 0)
-  only n m h (are_read third fourth equal u v reads reads_too tells) = absurd (not_both one third p found u reads why k)
-  only n m h (first_fails q besides too) = ((one_failure one p n found besides k h why too).0, refl)
-  only n m h (second_fails media q besides u reads too) = absurd (not_both one media p found u reads why k)
+module _ (one other : List ℕ) where
+  same_comparison : (n m equal besides : ℕ) → n ≢ MIME_NO_MEMORY → m ≢ MIME_NO_MEMORY → Compares one other n equal
+      → Compares one other m besides → (m ≡ n) × (besides ≡ equal)
+  same_comparison n m equal besides h k (are_read first second is u v reads reads_too tells) (are_read third fourth are w x again again_too too) =
+      let tells_of = subst (λ (it : MediaType). IsTrue are ↔ Same it second) (one_reading one third first again reads)
+      (subst (λ (it : MediaType). IsTrue are ↔ Same third it) (one_reading other fourth second again_too reads_too) too) in
+      (refl, ap (λ yes. if yes then 1 else 0) (eq_by_cmp-same first second are tells_of ∙ sym (eq_by_cmp-same first second is tells)))
+  same_comparison n m equal besides h k (are_read first second is u v reads reads_too tells) (first_fails p found why) =
+      absurd (not_both one first p found u reads why k)
+  same_comparison n m equal besides h k (are_read first second is u v reads reads_too tells) (second_fails media p found w again why) =
+      absurd (not_both other second p found v reads_too why k)
+  same_comparison n m equal besides h k (first_fails p found why) (are_read first second is u v reads reads_too tells) =
+      absurd (not_both one first p found u reads why h)
+  same_comparison n m equal besides h k (first_fails p found why) (first_fails q another too) = ((one_failure one p q found another h k why too).0, refl)
+  same_comparison n m equal besides h k (first_fails p found why) (second_fails media q another u reads too) = absurd (not_both one media p found u reads why h)
+  same_comparison n m equal besides h k (second_fails media p found w again why) (are_read first second is u v reads reads_too tells) =
+      absurd (not_both other second p found v reads_too why h)
+  same_comparison n m equal besides h k (second_fails media p found u reads why) (first_fails q another too) = absurd (not_both one media q another u reads too k)
+  same_comparison n m equal besides h k (second_fails media p found u reads why) (second_fails again q another v reads_too too) =
+      ((one_failure other p q found another h k why too).0, refl)
+
+  has_one_comparison : (n equal : ℕ) → n ≢ MIME_NO_MEMORY → Compares one other n equal → HasOneComparison one other
+  has_one_comparison n equal h is = (n, equal, h, is, λ m besides k. same_comparison n m equal besides h k is)
+
+  compared : Outcome one → Outcome other → HasOneComparison one other
+  compared (gives first utf8 reads) (gives second utf8_too reads_too) =
+      has_one_comparison _ _ (λ same. omega (arith, same))
+      (are_read first second (eq_by_cmp media_cmp first second) utf8 utf8_too reads reads_too (eq_by_cmp-tells first second))
+  compared (gives first utf8 reads) (refuses p found h why) = has_one_comparison p 0 h (second_fails first p found utf8 reads why)
+  compared (refuses p found h why) outcome = has_one_comparison p 0 h (first_fails p found why)
 
 pub compares_as_one : ComparesAsOne
-compares_as_one one other = one_comparison one other (outcome_of one) (outcome_of other)
+compares_as_one one other = compared one other (outcome_of one) (outcome_of other)

@@ -57,5 +57,4 @@ returns-in-Err-NoMemory c =
     lists-no_memory _ _ _ _ c.loop-item.at (omega (arith, c.if-out-text.false)) (search rules) c.loop-item.invariant gives.0
 
 pub returns : goal.returns
-returns c =
-    lists-last _ _ _ _ _ (omega (arith, c.if-out-text.false)) (search rules) c.loop-item.invariant c.in-None.ensures.steps.item.0
+returns c = lists-last _ _ _ _ _ (omega (arith, c.if-out-text.false)) (search rules) c.loop-item.invariant c.in-None.ensures.steps.item.0
