@@ -11,7 +11,7 @@ use crate::value::Mime;
 use std::fmt;
 
 /// A constant media type (RFC 7231, 3.1.1.1): [`Atom::mime`] gives its value, [`Atom::text`] its text. It can be
-/// matched and copied, and takes no memory: `TEXT_PLAIN.mime()` is the media type `text/plain`.
+/// matched and copied, and never allocates: `TEXT_PLAIN.mime()` is the media type `text/plain`.
 ///
 /// Each constant of the crate's root, such as [`TEXT_PLAIN`](crate::TEXT_PLAIN), is the variant of its name, so a
 /// `match` can name it:
@@ -171,7 +171,7 @@ impl Atom {
         self.constant().0
     }
 
-    /// The media type that its text is read as (RFC 7231, 3.1.1.1). It asks for no memory, and neither does cloning
+    /// The media type that its text is read as (RFC 7231, 3.1.1.1). It doesn't allocate, and neither does cloning
     /// it: `TEXT_PLAIN_UTF_8.mime()` is equal to what `text/plain;charset="utf-8"` is read as.
     pub fn mime(self) -> Mime
         ensures reads { Reads (atom_text self) result.media }

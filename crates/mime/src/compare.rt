@@ -12,7 +12,7 @@ use crate::scan::{ByteReader, Places, Verdict, scan};
 use crate::value::Mime;
 use crate::value::pairs::Pairs;
 
-/// Whether two texts are the same but for case.
+/// Whether two texts are equal ignoring ASCII case.
 #[inline(always)]
 fn alike(one: &str, other: &str) -> bool
     ensures { IsTrue result ↔ (lowered one.now ≡ lowered other.now) }
@@ -88,7 +88,7 @@ fn is_accepted_at(text: &str, semicolon: usize, count: usize) -> bool
 }
 
 /// Whether a text is a value with parameters, part by part: it has the essence, and then the parameters. A text that is
-/// the kept one but for case is accepted as that is; another is scanned.
+/// the kept one ignoring ASCII case is accepted as that is; another is scanned.
 #[inline(never)]
 fn eq_by_parts(mime: &Mime, s: &str, is_alike: bool) -> bool
     requires reads { Reads mime.now.media.kept mime.now.media }
@@ -107,8 +107,8 @@ fn eq_by_parts(mime: &Mime, s: &str, is_alike: bool) -> bool
     is_alike || is_accepted_at(s, end, mime.count())
 }
 
-/// Whether a text is a value with parameters that isn't its kept text: not where it differs from that tellingly, and
-/// surely where it is that but for case and all of it ignores case. Else its parts decide.
+/// Whether a text is a value with parameters that isn't its kept text. The first difference decides most texts; a lone
+/// charset in another case is equal; otherwise the parts are compared.
 #[inline(never)]
 fn eq_otherwise(mime: &Mime, s: &str) -> bool
     requires { mime.now.media.pairs ≢ [] }
@@ -122,7 +122,7 @@ fn eq_otherwise(mime: &Mime, s: &str) -> bool
 }
 
 /// Whether a text is read as a value equal to this one and, where this one has no parameter, has no
-/// semicolon (RFC 7231, 3.1.1.1). It asks for no memory.
+/// semicolon (RFC 7231, 3.1.1.1). It doesn't allocate.
 ///
 /// `TEXT/PLAIN;charset="UTF-8"; ` is `TEXT_PLAIN_UTF_8.mime()`. But `text/plain;` isn't
 /// `TEXT_PLAIN.mime()`, though reading it gives an equal value: a media type without parameters is

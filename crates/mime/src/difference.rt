@@ -10,7 +10,7 @@ ghost use Rattle.mime.specs.declared.difference.Seen.TheVariants.{Alike, Apart};
 use crate::blocks::{BLOCK, mask};
 use crate::bytes::is_space;
 
-/// The bit that tells a small ASCII letter from its capital.
+/// The bit in which a lowercase ASCII letter and its capital differ.
 const CASE_BIT: u8 = 0x20;
 
 /// 1 if two bytes differ ignoring ASCII case, else 0.
@@ -81,7 +81,7 @@ pub(crate) fn first_difference(a: &[u8], b: &[u8]) -> Option<usize>
     }
 }
 
-/// Whether a byte tells values apart: wherever it may stand, it adds itself to what a text is read as.
+/// Whether a difference at this byte means different values: all bytes but space, tab and quote reach the value.
 #[inline(always)]
 fn is_telling(byte: u8) -> bool
     ensures { result ≡ tells byte }
@@ -89,17 +89,17 @@ fn is_telling(byte: u8) -> bool
     !(is_space(byte) || byte == b'"')
 }
 
-/// What a look at two texts shows.
+/// What a comparison of two texts shows.
 pub(crate) enum Seen {
-    /// They are the same but for case.
+    /// They are equal ignoring ASCII case.
     Alike,
-    /// They tell values apart, where they first differ but for case.
+    /// They are read as different values: their first difference, ignoring ASCII case, reaches the value.
     Apart,
-    /// Neither is seen, or a text is short.
+    /// Undecided: a text is shorter than a block, or they first differ at a space, tab or quote, or one ends first.
     Open,
 }
 
-/// What a look at two texts, without regard to case, shows up to their first difference.
+/// Compares two texts up to their first difference, ignoring ASCII case.
 #[inline(always)]
 pub(crate) fn look(kept: &str, text: &str) -> Seen
     ensures alike { result ≡ Alike → lowered kept.now ≡ lowered text.now }

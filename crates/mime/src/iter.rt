@@ -17,14 +17,14 @@ use std::marker::Model;
 pub enum Bad<'a> {
     /// This piece of the text isn't a media type, as `invalid` in `invalid, a/b`.
     Piece(&'a str),
-    /// The piece is a media type, and there was no memory to keep it. Nothing comes after this.
+    /// The piece is a media type, and memory ran out. Nothing comes after this.
     NoMemory,
 }
 
 /// The first piece of a text, passed with the character after it.
 #[derive(Clone, Copy)]
 struct Passed<'a> {
-    /// The piece; empty where it is no item.
+    /// The piece; empty where it isn't yielded.
     piece: &'a str,
     /// The positions of its parts, if it is a media type.
     places: Option<Places>,
@@ -74,12 +74,12 @@ fn pass<'a>(text: &'a str, from: u128) -> Passed<'a>
 ///
 /// The text is cut into the longest pieces that some media type begins with. Each ends before a
 /// character that can't follow it, such as the comma of a list; that character is passed. A piece
-/// is a media type or a bad piece; an empty one is no item, and neither is a last piece that is
+/// is a media type or a bad piece; an empty one isn't yielded, nor is a last piece that is
 /// unfinished. So a bad entry doesn't change the entries after its comma, unless it ends in an open quoted value. The
 /// scanner reads no byte twice.
 ///
-/// A media type asks for memory once, for its kept text, but an entry `*/*` never does: like the `*/*` that
-/// [`Mime::from_str`] gives it is fixed, so that its clone takes no memory either.
+/// A media type allocates once, for its kept text, but an entry `*/*` never does: like the `*/*` that
+/// [`Mime::from_str`] gives it is fixed, so that its clone doesn't allocate either.
 ///
 /// Over `text/html, invalid, a/b; q=1` it gives `text/html`, the bad piece `invalid`, and
 /// `a/b; q=1`. Over `a/b ; q=1` it gives `a/b` and the bad piece `q`, since no space may precede the
@@ -105,8 +105,8 @@ impl<'a> Model for MimeIter<'a> {
 }
 
 impl<'a> MimeIter<'a> {
-    /// An iterator over the media types of `s`, such as `text/html, */*;q=0.8`. Nothing is read yet, and no memory
-    /// is asked for.
+    /// An iterator over the media types of `s`, such as `text/html, */*;q=0.8`. Nothing is read yet, and it
+    /// doesn't allocate.
     pub fn new(alloc: Global, s: &'a str) -> MimeIter<'a>
         ensures text { result.text ≡ s.now }
         ensures left { result.left ≡ s.now }
@@ -151,7 +151,7 @@ impl<'a> MimeIter<'a> {
 }
 
 /// Makes an iterator that goes on from the same place, with the same count of steps: after the first item of
-/// `a/b, c/d` both give `c/d`. It always succeeds, and asks for no memory.
+/// `a/b, c/d` both give `c/d`. It always succeeds, and doesn't allocate.
 impl<'a> Clone for MimeIter<'a> {
     ghost is_clone = { λ iter copy. copy ≡ iter };
 

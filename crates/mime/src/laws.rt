@@ -76,17 +76,17 @@ pub fn one_fault()
     ensures { OneFault }
 {}
 
-/// A text has exactly one longest viable front: that of `a/b c` is `a/b`.
+/// A text has exactly one longest viable prefix: that of `a/b c` is `a/b`.
 pub fn one_front()
     ensures { OneFront }
 {}
 
-/// The longest viable front of a text of valid UTF-8 ends between characters: that of `a/bé` before the `é`.
+/// The longest viable prefix of a text of valid UTF-8 ends between characters: that of `a/bé` before the `é`.
 pub fn front_ends_between_characters()
     ensures { FrontEndsBetweenCharacters }
 {}
 
-/// In a text of valid UTF-8 the longest viable front is the same whether it may be completed by any bytes or only to a
+/// In a text of valid UTF-8 the longest viable prefix is the same whether it may be completed by any bytes or only to a
 /// text of valid UTF-8: that of `a/b;p="é` is all of it, since `a/b;p="éx"` is accepted.
 pub fn front_is_in_utf8()
     ensures { FrontIsInUtf8 }
@@ -146,7 +146,7 @@ pub fn before_is_transitive()
     ensures { BeforeIsTransitive }
 {}
 
-/// A text is a value without parameters exactly where the text in small letters is the kept text: `Text/Plain` is
+/// A text is a value without parameters exactly where the text in lowercase is the kept text: `Text/Plain` is
 /// `text/plain`, and `text/plain;` isn't.
 pub fn bare_text_is()
     ensures { BareTextIs }
@@ -192,7 +192,7 @@ pub fn hash_is_prefix_free()
     ensures { IsPrefixFree ⟦<Mime as Hash>⟧.hash_input }
 {}
 
-/// Texts that first differ, but for case, where neither byte is a space, a tab or a quote, are not read as equal values:
+/// Texts that first differ, ignoring ASCII case, where neither byte is a space, a tab or a quote, are not read as equal values:
 /// `a/b;p=x` and `A/B;P=y`. Where one has a quote, they may be: `a/b;p=x` and `a/b;p="x"`.
 pub fn first_difference_tells()
     ensures { FirstDifferenceTells }

@@ -3,7 +3,7 @@
 //!
 //! [`Mime::from_str`] reads a media type from a text, [`MimeIter`] takes them one by one out of a list, such
 //! as an `Accept` header, and [`mime_eq_str`] compares one with a text. The 38 constants such as [`CHARSET`]
-//! are names, the 33 such as [`TEXT_PLAIN_UTF_8`] are media types. [`laws`] says what holds of all of them.
+//! are names, the 32 such as [`TEXT_PLAIN_UTF_8`] are media types. [`laws`] says what holds of all of them.
 //!
 //! # Example
 //! Is a body in UTF-8? It is for the `Content-Type` `TEXT/HTML; Charset="UTF-8"`.
@@ -25,12 +25,12 @@
 //! end, or the first byte that no media type could have there, with its position. Positions count bytes from
 //! 0. A piece of a list that isn't a media type is [`Bad::Piece`]. A bad entry doesn't change the entries after its
 //! comma, unless it ends in an open quoted value. A last entry that isn't a media type, but could still become one,
-//! is no item.
+//! isn't yielded.
 //!
 //! # Memory
 //! `Mime::from_str` and `MimeIter::new` take the allocator. Reading a media type, `clone` of a `Mime`, and each
-//! media type that a `MimeIter` gives ask for memory once, and have an error for running out of it. Refused texts,
-//! `*/*` and the constants never ask, and nothing else does.
+//! media type that a `MimeIter` yields allocate once, and have an error for running out of memory. Nothing else allocates;
+//! refused texts, `*/*` and constants don't either.
 //!
 //! # Standards
 //! The grammar is that of RFC 7231 and RFC 7230, with the departures that docs/DIFFERENCES.md lists. RFC 9110

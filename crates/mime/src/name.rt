@@ -54,7 +54,7 @@ impl fmt::Debug for Name<'_> {
     }
 }
 
-/// Whether two byte strings of one length are the same but for the case of ASCII letters. The loop doesn't end early: over
+/// Whether two byte strings of one length are equal ignoring ASCII case. The loop doesn't end early: over
 /// a known length it is a few vector instructions.
 #[inline(always)]
 fn all_alike(a: &[u8], b: &[u8]) -> bool
@@ -70,7 +70,7 @@ fn all_alike(a: &[u8], b: &[u8]) -> bool
     marks == 0
 }
 
-/// Whether two byte strings of one length are the same but for the case of ASCII letters, by
+/// Whether two byte strings of one length are equal ignoring ASCII case, by
 /// their last and first `block` bytes, which together cover texts of at most twice that length. Names and
 /// texts differ at their ends more often than where they begin.
 #[inline(always)]
@@ -84,7 +84,7 @@ fn ends_alike(a: &[u8], b: &[u8], block: usize) -> bool
     all_alike(&a[last..], &b[last..]) && all_alike(&a[..block], &b[..block])
 }
 
-/// Whether two byte strings are the same but for the case of ASCII letters.
+/// Whether two byte strings are equal ignoring ASCII case.
 #[inline(never)]
 pub(crate) fn eq_ignoring_case(a: &[u8], b: &[u8]) -> bool
     ensures { IsTrue result ↔ (lowered a.now ≡ lowered b.now) }
@@ -104,9 +104,9 @@ pub(crate) fn eq_ignoring_case(a: &[u8], b: &[u8]) -> bool
     all_alike(a, b)
 }
 
-/// Whether a name is the text `s`: without regard to ASCII case where the name ignores it, else
+/// Whether a name is the text `s`: ignoring ASCII case where the name does, else
 /// byte for byte (RFC 7231, 3.1.1.1). `name_eq_str(&TEXT, "Text")` is true; the boundary `ABC` isn't `abc`.
-/// It asks for no memory.
+/// It doesn't allocate.
 #[inline]
 pub fn name_eq_str(name: &Name<'_>, s: &str) -> bool
     ensures { IsTrue result ↔ NameIs name.now.text.now name.now.ignores_case s.now }
@@ -121,7 +121,7 @@ pub trait ParamKey: Drop {
     ghost Accepts: { Self → List ℕ → Bool → Type 0 };
 
     /// Whether the key accepts a parameter's name: `TextKey("P")` accepts `p`. `get_param` gives it the name in
-    /// small letters, with the flag `true`.
+    /// lowercase, with the flag `true`.
     fn accepts(&self, name: Name<'_>) -> bool
         ensures { IsTrue result ↔ Accepts self.now name.entry.text.now name.entry.ignores_case };
 }

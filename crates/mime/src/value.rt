@@ -45,10 +45,9 @@ impl Text {
 
 /// A media type, such as `text/plain; charset=utf-8` (RFC 7231, 3.1.1.1).
 ///
-/// Its text is kept as it was read, but for ASCII capitals, which are made small in the type, the
-/// subtype, the parameters' names and the value of `charset`, and but for a parameter list without
-/// a parameter, which is cut off: `Text/Plain; P=X` is kept as `text/plain; p=X`, and `text/plain;` as
-/// `text/plain`.
+/// Its text is stored as read, with two changes: type, subtype, parameter names and the `charset` value are
+/// lowercased, and an empty parameter list is dropped. `Text/Plain; P=X` is kept as `text/plain; p=X`, and
+/// `text/plain;` as `text/plain`.
 #[derive(Drop)]
 pub struct Mime {
     text: Text,
@@ -70,7 +69,7 @@ impl Model for Mime {
 
 impl Mime {
     /// Reads a media type from the whole of `s` (RFC 7231, 3.1.1.1, with the departures that
-    /// docs/DIFFERENCES.md lists). It asks for memory once, for the kept text, if `s` is a media type other
+    /// docs/DIFFERENCES.md lists). It allocates once, for the kept text, if `s` is a media type other
     /// than `*/*`, and else never.
     ///
     /// `TEXT/PLAIN; CHARSET=UTF-8; FOO=BAR` is kept as `text/plain; charset=utf-8; foo=BAR`, and
@@ -80,7 +79,7 @@ impl Mime {
     /// The one fault of a text that isn't a media type: what is missing at its end (`MissingSlash`,
     /// `MissingSubtype`, `MissingEqual`, `MissingValue` or `MissingQuote`), as `MissingEqual` for `a/b;p`, or
     /// else the position (`InvalidToken`, in bytes, from 0) of the first byte that no media type could have
-    /// there, as 5 for `text/;`. Reporting a fault takes no memory. [`ParseError::NoMemory`] comes only for a
+    /// there, as 5 for `text/;`. Reporting a fault doesn't allocate. [`ParseError::NoMemory`] comes only for a
     /// media type, and never for `*/*`.
     pub fn from_str(alloc: Global, s: &str) -> Result<Mime, FromStrError>
         // What is read has the value that the text is read as.
@@ -140,7 +139,7 @@ impl Mime {
         }
     }
 
-    /// The type, in small letters: `text` for `Text/Plain` (RFC 7231, 3.1.1.1).
+    /// The type, in lowercase: `text` for `Text/Plain` (RFC 7231, 3.1.1.1).
     pub fn type_(&self) -> Name<'_>
         ensures text { result.text.now ≡ type_of self.now.media }
         ensures flag { result.ignores_case ≡ true }
@@ -152,7 +151,7 @@ impl Mime {
         }
     }
 
-    /// The subtype without its suffix, in small letters: `svg` in `image/svg+xml`, `b+c` in
+    /// The subtype without its suffix, in lowercase: `svg` in `image/svg+xml`, `b+c` in
     /// `a/b+c+d` (RFC 6838, 4.2.8).
     pub fn subtype(&self) -> Name<'_>
         ensures text { result.text.now ≡ subtype_of self.now.media }
@@ -167,7 +166,7 @@ impl Mime {
         }
     }
 
-    /// The suffix, after the subtype's last `+` that isn't its first byte, in small letters:
+    /// The suffix, after the subtype's last `+` that isn't its first byte, in lowercase:
     /// `xml` in `image/svg+xml`, nothing in `a/b+`, and none in `a/+xml` (RFC 6838, 4.2.8).
     pub fn suffix(&self) -> Option<Name<'_>>
         ensures text { option_map name_text result ≡ suffix_of self.now.media }
@@ -181,7 +180,7 @@ impl Mime {
         })
     }
 
-    /// The essence, in small letters: the type and the subtype with its suffix, `image/svg+xml` for
+    /// The essence, in lowercase: the type and the subtype with its suffix, `image/svg+xml` for
     /// `Image/SVG+XML; q=1` (RFC 7231, 3.1.1.1).
     pub fn essence_str(&self) -> &str
         ensures { result.now ≡ self.now.media.essence }
@@ -194,7 +193,7 @@ impl Mime {
     }
 
     /// The kept text, which is what is printed. Where there is a parameter, it is the whole text that was
-    /// read, with type, subtype, parameters' names and charset in small letters; else it is the essence.
+    /// read, with type, subtype, parameter names and charset in lowercase; else it is the essence.
     /// `a/b;P=X; ` gives `a/b;p=X; `. Read again, it has the same value and the same text.
     pub fn as_str(&self) -> &str
         ensures text { result.now ≡ self.now.media.kept }
@@ -233,7 +232,7 @@ impl Mime {
     /// The value of the first parameter whose name the key accepts, or none if it accepts none:
     /// `TextKey("P")` finds `1` in `a/b;p=1;P=2`, and `CHARSET` finds `utf-8` in
     /// `text/html; Charset="UTF-8"` (RFC 7231, 3.1.1.1). The value is without its quotes. Backslashes stay: that of
-    /// `a/b;p="\"x"` is `\"x`. It asks for no memory.
+    /// `a/b;p="\"x"` is `\"x`. It doesn't allocate.
     pub fn get_param<K: ParamKey>(&self, key: K) -> Option<Name<'_>>
         ensures found { IsFirstAccepted (K.Accepts key) (items_of self.now.media.pairs) (option_map name_seen result) }
         ensures low { IfSome result (λ name. IsLowIf name.ignores_case name.text.now) }

@@ -13,7 +13,7 @@ pub enum RunError {
     Write,
     /// The source gave more than 1,048,576 bytes.
     TooLong,
-    /// There was no memory for the input or for its report.
+    /// Memory ran out for the input or for its report.
     NoMemory,
 }
 

@@ -5,7 +5,7 @@ ghost use Rattle.mime.specs.Scanning.{GivesFirst};
 
 use std::marker::Model;
 
-/// What is left of a text, and how many bytes will have been given at its end.
+/// The unread bytes, and the count at the end of the text.
 #[derive(Drop)]
 pub(crate) struct ByteReader<'a> {
     left: &'a [u8],

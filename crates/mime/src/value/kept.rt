@@ -100,7 +100,7 @@ fn keep_pairs(
     }
     let mut bytes = Vec::from_slice(alloc, text.as_bytes())?;
     lower_text(&mut bytes, text, semicolon, pairs);
-    // SAFETY: these are the bytes of a text, of which only ASCII capitals were made small: so they are UTF-8.
+    // SAFETY: these are the bytes of a text, of which only ASCII capitals were lowercased: so they are UTF-8.
     Ok(unsafe { String::from_utf8_unchecked(bytes) })
 }
 

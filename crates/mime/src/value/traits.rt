@@ -36,7 +36,7 @@ fn order_parts(first: &Mime, second: &Mime) -> Ordering
 }
 
 /// Two values are equal if their essences are the same and so are their parameters, in the same
-/// order: `a/b; p="x"` and `A/B;P=x` are (RFC 7231, 3.1.1.1). It asks for no memory.
+/// order: `a/b; p="x"` and `A/B;P=x` are (RFC 7231, 3.1.1.1). It doesn't allocate.
 impl PartialEq for Mime {
     ghost eq = { on (λ mime. mime.media) (eq_by_cmp media_cmp) };
 
@@ -50,7 +50,7 @@ impl PartialEq for Mime {
         if self.count() != other.count() {
             return false;
         }
-        // One text is read as one value.
+        // Equal texts are equal values.
         if self.as_str() == other.as_str() {
             return true;
         }
@@ -79,7 +79,7 @@ impl PartialOrd for Mime {
 
 /// Values are ordered by the bytes of their essences, and then by their parameters, pair by pair,
 /// each by its name and then its value; a list that begins another comes first: `a/b`, `a/b;p=1`, `a/b;p=2`, `a/c`.
-/// It asks for no memory.
+/// It doesn't allocate.
 impl Ord for Mime {
     ghost cmp = { on (λ mime. mime.media) media_cmp };
 
@@ -94,7 +94,7 @@ impl Ord for Mime {
         ensures computed { result ≡ media_cmp self.now.media other.now.media }
         ensures told { MatchOrdering result (Before self.now.media other.now.media) (Same self.now.media other.now.media) (Before other.now.media self.now.media) }
     {
-        // One text is read as one value.
+        // Equal texts are equal values.
         if self.as_str() == other.as_str() {
             return Ordering::Equal;
         }
@@ -116,8 +116,8 @@ impl Hash for Mime {
     }
 }
 
-/// Makes a copy with the same kept text. It asks for memory once, and its error says that there was none;
-/// a constant and `*/*` take none.
+/// Makes a copy with the same kept text. It allocates once, and its error says that memory ran out;
+/// a constant and `*/*` don't allocate.
 impl Clone for Mime {
     ghost is_clone = { λ mime copy. copy ≡ mime };
 
