@@ -5,7 +5,7 @@ use Rattle.mime.specs.Scanning.{HasPlaces}
 use Rattle.mime.specs.Values.{lowered, is_charset}
 use Rattle.mime.specs.declared.scan.Places.{Places}
 
--- a text that goes on with a semicolon after this essence, in any case
+-- a text that goes on with a semicolon after this essence, ignoring ASCII case
 abbrev pub IsListAfter : List ℕ → List ℕ → Type 0
 IsListAfter essence text =
     (slice_get text (length essence) ≡ Some semicolon_byte) × (lowered essence ≡ lowered (take (length essence) text))

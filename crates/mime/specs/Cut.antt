@@ -1,4 +1,4 @@
--- How a text is cut into media types and bad pieces: each piece is the longest viable front of what is left, and the
+-- How a text is cut into media types and bad pieces: each piece is the longest viable prefix of what is left, and the
 -- character after it, which can't follow it, is passed.
 use Rattle.std.specs.Prelude.{◌≡◌, ◌≢◌, ℕ, ◌+◌, Bool, ◌&&◌, nat_le, IsTrue, IsFalse, List, [], ◌∷◌, ◌++◌, length}
 use Rattle.std.specs.List.{list_all}
@@ -19,7 +19,7 @@ abbrev pub IsCharacter : List ℕ → List ℕ → Type 0
 IsCharacter [] left = ⊥
 IsCharacter (b ∷ following) left = IsTrue (list_all is_following_byte following) × BeginsCharacter left
 
--- the text is its longest viable front, the character after it, and what is left
+-- the text is its longest viable prefix, the character after it, and what is left
 pub record IsSplit (text piece character left : List ℕ) : Type 0 where
   pub spelled : text ≡ piece ++ (character ++ left)
   pub front : IsFront text (length piece)

@@ -1,4 +1,4 @@
--- Where two texts first differ but for case, and which bytes there tell that they are not read as equal values.
+-- Where two texts first differ, ignoring ASCII case, and which bytes there tell that they are not read as equal values.
 use Rattle.std.specs.Prelude.{◌≡◌, ◌≢◌, ◌<◌, ℕ, Bool, IsTrue, List, take, length, ◌==◌, ◌||◌, not}
 use Rattle.std.specs.Char.{to_ascii_lowercase}
 use Rattle.std.specs.List.{slice_index}
@@ -6,7 +6,7 @@ use Rattle.mime.specs.Bytes.{quote_byte}
 use Rattle.mime.specs.Grammar.{is_space}
 use Rattle.mime.specs.Values.{lowered}
 
--- the first position at which two texts differ but for case, in bytes from 0: both have a byte there
+-- the first position at which two texts differ, ignoring ASCII case, in bytes from 0: both have a byte there
 pub record FirstDifference (one other : List ℕ) (at : ℕ) : Type 0 where
   pub within : at < length one
   pub within_other : at < length other

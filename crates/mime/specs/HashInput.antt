@@ -1,4 +1,5 @@
--- Private. What a value feeds a hasher, and the laws of order, equality and hash as terms: a type's `ghost laws` are among its contracts, and can't cite proofs/.
+-- Private. What a value feeds a hasher, and the laws of order, equality and hash as terms: a type's `ghost laws` are among its
+-- contracts, and can't cite proofs/.
 use Rattle.std.specs.Prelude.{ℕ, ◌+◌, ◌-◌, ◌%◌, nat_lt, if◌then◌else◌, List, [], ◌∷◌, ◌++◌, length, replicate, ◌≡◌, true}
 use Rattle.std.specs.List.{flat_map}
 use Rattle.mime.specs.Values.{MediaType}

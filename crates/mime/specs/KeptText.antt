@@ -54,7 +54,7 @@ kept_text_of pairs None text = lowered text
 kept_text_of zero (Some semicolon) text = lowered (take semicolon text)
 kept_text_of (suc pairs) (Some semicolon) text = with_pairs_lowered (suc pairs) semicolon text
 
--- a pair as it is read: its name in small letters, and its value too where the name is `charset`
+-- a pair as it is read: its name in lowercase letters, and its value too where the name is `charset`
 abbrev pub lowered_pair : List ℕ × List ℕ → List ℕ × List ℕ
 lowered_pair (name, value) = (lowered name, lowered_value name value)
 

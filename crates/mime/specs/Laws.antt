@@ -54,11 +54,11 @@ OneFault =
     (text : List ℕ) → IsRefused text
     → (fault : ParseError) × IsFault text fault × ((other : ParseError) → IsFault text other → other ≡ fault)
 
--- A text has exactly one longest viable front.
+-- A text has exactly one longest viable prefix.
 abbrev pub OneFront : Type 0
 OneFront = (text : List ℕ) → (count : ℕ) × IsFront text count × ((other : ℕ) → IsFront text other → other ≡ count)
 
--- The longest viable front of a text of valid UTF-8 ends between characters.
+-- The longest viable prefix of a text of valid UTF-8 ends between characters.
 abbrev pub FrontEndsBetweenCharacters : Type 0
 FrontEndsBetweenCharacters = (text : List ℕ) (count : ℕ) → IsUtf8 text → IsFront text count → IsCharBoundary text count
 
@@ -72,7 +72,7 @@ pub record IsFrontInUtf8 (text : List ℕ) (count : ℕ) : Type 0 where
   pub viable : IsViableInUtf8 (take count text)
   pub longest : (n : ℕ) → count < n → n ≤ length text → ¬ (IsViableInUtf8 (take n text))
 
--- In a text of valid UTF-8 the longest viable front is the same whether it may be completed by any bytes or only to a text of
+-- In a text of valid UTF-8 the longest viable prefix is the same whether it may be completed by any bytes or only to a text of
 -- valid UTF-8.
 abbrev pub FrontIsInUtf8 : Type 0
 FrontIsInUtf8 = (text : List ℕ) (count : ℕ) → IsUtf8 text → IsFront text count ↔ IsFrontInUtf8 text count

@@ -9,7 +9,7 @@ use Rattle.mime.specs.declared.scan.fault.ParseError.TheVariants.{MissingSlash, 
 abbrev pub IsViable : List ℕ → Type 0
 IsViable front = (more : List ℕ) × IsAccepted (front ++ more)
 
--- the longest beginning of the text that is viable, its longest viable front, has this many bytes
+-- the longest beginning of the text that is viable, its longest viable prefix, has this many bytes
 pub record IsFront (text : List ℕ) (count : ℕ) : Type 0 where
   pub within : count ≤ length text
   pub viable : IsViable (take count text)
@@ -46,7 +46,7 @@ Lacks text fault =
 abbrev pub IsUnclosed : List ℕ → Type 0
 IsUnclosed text = Lacks text MissingQuote
 
--- the byte just after the longest viable front, at position `pos` in bytes from 0, is at fault: nothing after it helps
+-- the byte just after the longest viable prefix, at position `pos` in bytes from 0, is at fault: nothing after it helps
 pub record IsDeadAt (text : List ℕ) (pos byte : ℕ) : Type 0 where
   pub front : IsFront text pos
   pub there : slice_get text pos ≡ Some byte

@@ -5,11 +5,11 @@ use Rattle.std.specs.Option.{option_or, option_map}
 use Rattle.mime.specs.Bytes.{slash_byte, plus_byte}
 use Rattle.mime.specs.Grammar.{Parameter, plain, quoted, Parameters, blank, final, more, Tail, no_list, listed, SyntaxTree, text_of, IsWellFormed}
 
--- the text with each ASCII capital replaced by its small letter
+-- the text with each ASCII capital replaced by its lowercase letter
 abbrev pub lowered : List ℕ → List ℕ
 lowered text = str_to_ascii_lowercase text
 
--- whether a parameter's name is `charset`, in any case
+-- whether a parameter's name is `charset`, ignoring ASCII case
 abbrev pub is_charset : List ℕ → Bool
 is_charset name = bytes_eq (lowered name) (codes "charset")
 
