@@ -2,7 +2,7 @@
 //!
 //! `driver OPERATION here TIMES` and `driver OPERATION there TIMES` make an operation so many times, and print its answer: the
 //! difference of two runs is what the operation costs. Standard input has the text, and after a line feed the text or name that an
-//! operation on two takes. Without words it is the program `mime_lines` over the Rust crate, written the same way: labels and texts are
+//! operation on two takes. An operation `call_NAME` is here the call from C, and there the twin of that name. Without words it is the program `mime_lines` over the Rust crate, written the same way: labels and texts are
 //! pushed, and a fault is written by its `Display`.
 
 extern crate mime;
@@ -22,6 +22,51 @@ pub struct Slice(*const u8, usize);
 
 extern "C" {
     fn mime_bench(operation: Slice, text: Slice, other: Slice, times: usize) -> usize;
+
+    // The calls of include/mime.h.
+    fn mime_read(text: Slice, out: Slice, found: *mut Found) -> u32;
+    fn mime_list(text: Slice, out: Slice, length: *mut usize) -> u32;
+    fn mime_is(one: Slice, other: Slice, equal: *mut u8) -> u32;
+}
+
+/// What `mime_read` finds beside the strings.
+#[repr(C)]
+#[derive(Default)]
+struct Found {
+    length: usize,
+    params: usize,
+    printed: usize,
+    slash: usize,
+    subtype_end: usize,
+    pos: usize,
+    byte: u8,
+}
+
+/// Makes a call from C so many times, and answers as its twin does.
+fn called(call: &str, text: &str, other: &str, times: usize) -> usize {
+    let slice = |text: &str| Slice(text.as_ptr(), text.len());
+    let mut out = vec![0u8; 2 * text.len() + 2];
+    let mut answer = 0;
+    for _ in 0..times {
+        let (text, room) = (slice(hidden(text)), Slice(out.as_mut_ptr(), out.len()));
+        let (mut found, mut length, mut equal) = (Found::default(), 0, 0);
+        answer = match call {
+            "read" => match unsafe { mime_read(text, room, &mut found) } {
+                0 => found.length - found.printed - 1,
+                _ => 0,
+            },
+            "items" => {
+                unsafe { mime_list(text, room, &mut length) };
+                let items = out[..length].split(|byte| *byte == 0);
+                items.filter(|item| item.first() == Some(&b'+')).map(|item| item.len() - 1).sum()
+            }
+            _ => {
+                unsafe { mime_is(text, slice(other), &mut equal) };
+                answer + usize::from(equal)
+            }
+        };
+    }
+    answer
 }
 
 /// For each operation the twin of what `mime_bench` does, over the Rust crate and written the same way: what is made before, and a
@@ -92,6 +137,12 @@ operations! {
         let (one, other) = (value_of(text), value_of(other));
         repeat same {
             same += (*hidden(&one) == *hidden(&other)) as usize;
+        }
+    }
+    // Two texts that are read each time.
+    is(text, other) {
+        repeat same {
+            same += (hidden(text).parse::<Mime>().unwrap() == other.parse::<Mime>().unwrap()) as usize;
         }
     }
     cmp(text, other) {
@@ -203,9 +254,11 @@ fn main() -> io::Result<()> {
     let given = String::from_utf8(input).unwrap();
     let (text, other) = given.split_once('\n').unwrap();
     let slice = |text: &str| Slice(text.as_ptr(), text.len());
-    let run = |times| match &*words[2] {
-        "here" => unsafe { mime_bench(slice(&words[1]), slice(text), slice(other), times) },
-        _ => twins()[&*words[1]](text, other, times),
+    let call = words[1].strip_prefix("call_");
+    let run = |times| match (&*words[2], call) {
+        ("here", Some(call)) => called(call, text, other, times),
+        ("here", None) => unsafe { mime_bench(slice(&words[1]), slice(text), slice(other), times) },
+        _ => twins()[call.unwrap_or(&words[1])](text, other, times),
     };
     // Memory was used before, as in a program that has run for a while: else a block can grow where it is.
     drop(hidden(&(20..80).map(|length| "x".repeat(length)).collect::<Vec<_>>()).clone());
