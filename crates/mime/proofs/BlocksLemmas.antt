@@ -1,4 +1,4 @@
--- The first position of a byte, seen 16 bytes at a time through the number that marks where it stands.
+-- The first position of a byte, sought 16 bytes at a time by the bit mask of where it stands.
 use Rattle.std.proofs.Common.{◌≡◌, ◌≢◌, ℕ, ◌+◌, ◌*◌, ◌-◌, ◌/◌, ◌^◌, ◌<◌, ◌≤◌, zero, suc, Bool, true, false, not, cond, eqb, List, [], ◌∷◌, map, length, take, drop, refl, sym, ap, ◌∙◌, subst, arith, inl, inr, length-drop}
 use Rattle.std.specs.Prelude.{◌==◌}
 use Rattle.std.proofs.lemmas.Simd.{leading_from_mask_l, trailing_mask_l, first_set_mask_l}
@@ -35,7 +35,7 @@ none_fails : (b : Bool) (n l m : ℕ) → n ≤ l → cond (not b) (1 + n) 0 ≡
 none_fails true n l m le e rest = absurd (omega (arith, e))
 none_fails false n l m le e rest = let z = rest (omega (arith, e)) in omega (arith, z)
 
--- where no byte is marked, the search passes them all
+-- where no byte is flagged, the search passes them all
 pub all_pass : (p : ℕ → Bool) (xs : List ℕ) → prefix_len (λ x. not (p x)) xs ≡ length xs → mask_l (map p xs) ≡ 0
 all_pass p [] e = refl
 all_pass p (x ∷ xs) e = none_fails (p x) _ (length xs) _ (prefix_len-le-length (λ y. not (p y)) xs) (omega (arith, e)) (all_pass p xs)
@@ -47,45 +47,45 @@ split : (byte : ℕ) (text : List ℕ) (n : ℕ) → first_position byte text
 split byte text n =
     ap (first_position byte) (sym (take-append-drop n text)) ∙ prefix_len-append (λ b. not (b == byte)) (take n text) (drop n text)
 
--- where none of the first bytes is marked, the others decide
-position-unmarked : (byte : ℕ) (text : List ℕ) (n : ℕ) → n ≤ length text → mask_of byte (take n text) ≡ 0
+-- where none of the first bytes is flagged, the others decide
+position-unflagged : (byte : ℕ) (text : List ℕ) (n : ℕ) → n ≤ length text → mask_of byte (take n text) ≡ 0
     → first_position byte text ≡ n + first_position byte (drop n text)
-position-unmarked byte text n room none =
+position-unflagged byte text n room none =
     split byte text n
     ∙ ap (λ b. cond b (length (take n text) + first_position byte (drop n text)) (first_position byte (take n text)))
     (eq-eqb _ _ (leading_from_mask_l (λ b. b == byte) (take n text) none))
     ∙ ap (λ k. k + first_position byte (drop n text)) (length-take-le n text room)
 
--- else the lowest mark is the first position
-pub position-marked : (byte : ℕ) (text : List ℕ) (n : ℕ) → n ≤ length text → n ≤ 64 → 0 < mask_of byte (take n text)
+-- else the lowest flag is the first position
+pub position-flagged : (byte : ℕ) (text : List ℕ) (n : ℕ) → n ≤ length text → n ≤ 64 → 0 < mask_of byte (take n text)
     → first_position byte text ≡ count_trailing_zeros 64 (mask_of byte (take n text))
-position-marked byte text n room few some =
-    let front = take n text in
+position-flagged byte text n room few some =
+    let prefix = take n text in
     split byte text n
-    ∙ ap (λ b. cond b (length front + first_position byte (drop n text)) (first_position byte front))
-    (ne_eqb _ _ (λ (e : first_position byte front ≡ length front). omega (arith, some, all_pass (λ b. b == byte) front e)))
-    ∙ sym (trailing_mask_l (λ b. b == byte) 64 front (omega (arith, few, length-take-le n text room)) some)
+    ∙ ap (λ b. cond b (length prefix + first_position byte (drop n text)) (first_position byte prefix))
+    (ne_eqb _ _ (λ (e : first_position byte prefix ≡ length prefix). omega (arith, some, all_pass (λ b. b == byte) prefix e)))
+    ∙ sym (trailing_mask_l (λ b. b == byte) 64 prefix (omega (arith, few, length-take-le n text room)) some)
 
--- a number of marks without its lowest bit, and without more of them
+-- a bit mask without its lowest bit, and without more of them
 half : (b : Bool) (m : ℕ) → (cond b 1 0 + 2 * m) / 2 ≡ m
 half true m = omega arith
 half false m = omega arith
 
-marks-drop : (n : ℕ) (ms : List Bool) → mask_l ms / 2 ^ n ≡ mask_l (drop n ms)
-marks-drop zero ms = div-one (mask_l ms)
-marks-drop (suc n) [] = zero-div (2 ^ suc n)
-marks-drop (suc n) (b ∷ ms) =
+flags-drop : (n : ℕ) (ms : List Bool) → mask_l ms / 2 ^ n ≡ mask_l (drop n ms)
+flags-drop zero ms = div-one (mask_l ms)
+flags-drop (suc n) [] = zero-div (2 ^ suc n)
+flags-drop (suc n) (b ∷ ms) =
     ap (λ k. mask_l (b ∷ ms) / k) (pow-suc 2 n ∙ mul_comm (2 ^ n) 2)
     ∙ sym (div-div-eq-div-mul (mask_l (b ∷ ms)) 2 (2 ^ n))
-    ∙ ap (λ k. k / 2 ^ n) (half b (mask_l ms)) ∙ marks-drop n ms
+    ∙ ap (λ k. k / 2 ^ n) (half b (mask_l ms)) ∙ flags-drop n ms
 
--- the marks of a whole's last bytes are those of a shorter end, when those before it are dropped
-marks-end : (byte : ℕ) (whole text : List ℕ) → IsEndOf text whole → 16 ≤ length whole → length text < 16
+-- the bit mask of a whole's last bytes is that of a shorter end, when the bits before it are dropped
+flags-end : (byte : ℕ) (whole text : List ℕ) → IsEndOf text whole → 16 ≤ length whole → length text < 16
     → mask_of byte (drop (length whole - 16) whole) / 2 ^ (16 - length text) ≡ mask_of byte text
-marks-end byte whole text is long short =
+flags-end byte whole text is long short =
     let back = drop (length whole - 16) whole in
     let at : length whole - 16 + (16 - length text) ≡ length whole - length text = omega (arith, long, short) in
-    marks-drop (16 - length text) (map (λ b. b == byte) back)
+    flags-drop (16 - length text) (map (λ b. b == byte) back)
     ∙ ap mask_l (drop-map (λ b. b == byte) (16 - length text) back)
     ∙ ap (mask_of byte) (drop-drop (16 - length text) (length whole - 16) whole ∙ ap (λ n. drop n whole) at ∙ sym is)
 
@@ -96,7 +96,7 @@ last_bytes whole long =
     let at = length whole - 16 in
     ap (take 16) (take_rest whole at) ∙ take_all 16 (drop at whole) (omega (arith, long, length-drop at whole))
 
--- the marks of the last 16 bytes show the first position in a shorter end
+-- the bit mask of the last 16 bytes shows the first position in a shorter end
 module _ (byte found : ℕ) (whole text : List ℕ) (is : IsEndOf text whole) (long : 16 ≤ length whole) (short : length text < 16)
     (found_is : found ≡ mask_of byte (take 16 (take (length whole - (length whole - 16)) (drop (length whole - 16) whole)))) where
   shown : cond (eqb (found / 2 ^ (16 - length text)) 0) (length text) (count_trailing_zeros 64 (found / 2 ^ (16 - length text)))
@@ -104,7 +104,7 @@ module _ (byte found : ℕ) (whole text : List ℕ) (is : IsEndOf text whole) (l
   shown =
       ap (λ m. cond (eqb m 0) (length text) (count_trailing_zeros 64 m))
       (ap (λ n. n / 2 ^ (16 - length text)) (found_is ∙ ap (mask_of byte) (last_bytes whole long))
-      ∙ marks-end byte whole text is long short)
+      ∙ flags-end byte whole text is long short)
       ∙ first_set_mask_l (λ b. b == byte) text (length text) refl (omega (arith, short))
 
   pub position-end_none : found / 2 ^ (16 - length text) ≡ 0 → length text ≡ first_position byte text
@@ -114,7 +114,7 @@ module _ (byte found : ℕ) (whole text : List ℕ) (is : IsEndOf text whole) (l
       → count_trailing_zeros 64 (found / 2 ^ (16 - length text)) ≡ first_position byte text
   position-end_some some = sym (cond-false _ _ _ (ne_eqb _ _ some)) ∙ shown
 
--- the next bytes are passed, where none is marked
+-- the next bytes are passed, where none is flagged
 module _ (byte : ℕ) (text left : List ℕ) (is : IsEndOf left text) (room : 16 ≤ length left)
     (none : mask_of byte (take 16 left) ≡ 0)
     (so_far : length text - length left + first_position byte left ≡ first_position byte text) where
@@ -129,7 +129,7 @@ module _ (byte : ℕ) (text left : List ℕ) (is : IsEndOf left text) (room : 16
       omega (
         arith,
         so_far,
-        position-unmarked byte left 16 room none,
+        position-unflagged byte left 16 room none,
         ap (first_position byte) (take_rest left 16),
         ap length (take_rest left 16),
         length-drop 16 left,

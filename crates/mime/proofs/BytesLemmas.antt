@@ -27,16 +27,16 @@ at_byte p b within all =
     subst (λ x. p x ≡ true) (get_or-range_with_len 0 256 b 0 within ∙ zero-add b)
     (AllPass-from_list_all p (range_with_len 0 256) all b 0 within)
 
--- a byte after a front
-pub slice_get-after : (front after : List ℕ) (i n : ℕ) → n ≡ length front + i → slice_get (front ++ after) n ≡ slice_get after i
+-- a byte after a prefix
+pub slice_get-after : (prefix after : List ℕ) (i n : ℕ) → n ≡ length prefix + i → slice_get (prefix ++ after) n ≡ slice_get after i
 slice_get-after [] after i n is = ap (slice_get after) (omega (arith, is))
-slice_get-after (b ∷ front) after i n is =
-    let next : n ≡ suc (length front + i) = omega (arith, is) in
-    ap (slice_get (b ∷ (front ++ after))) next ∙ slice_get-after front after i (length front + i) refl
+slice_get-after (b ∷ prefix) after i n is =
+    let next : n ≡ suc (length prefix + i) = omega (arith, is) in
+    ap (slice_get (b ∷ (prefix ++ after))) next ∙ slice_get-after prefix after i (length prefix + i) refl
 
--- the first byte after a front
-pub slice_get-front : (front : List ℕ) (b : ℕ) (after : List ℕ) (n : ℕ) → n ≡ length front → slice_get (front ++ b ∷ after) n ≡ Some b
-slice_get-front front b after n long = slice_get-after front (b ∷ after) 0 n (omega (arith, long))
+-- the first byte after a prefix
+pub slice_get-prefix : (prefix : List ℕ) (b : ℕ) (after : List ℕ) (n : ℕ) → n ≡ length prefix → slice_get (prefix ++ b ∷ after) n ≡ Some b
+slice_get-prefix prefix b after n long = slice_get-after prefix (b ∷ after) 0 n (omega (arith, long))
 
 -- a semicolon is no token byte
 pub semicolon_is_no_token : IsFalse (is_token_byte semicolon_byte)
@@ -59,8 +59,8 @@ unfolding is_token_byte
 token_byte-not_space b token = grind (arith, nat_tests)
 
 -- a token byte differs from a byte that is no token byte
-pub token_byte-not : (b mark : ℕ) → IsFalse (is_token_byte mark) → IsTrue (is_token_byte b) → IsFalse (b == mark)
-token_byte-not b mark none token = grind (arith, nat_tests, ap is_token_byte {x = b} {y = mark})
+pub token_byte-not : (b flag : ℕ) → IsFalse (is_token_byte flag) → IsTrue (is_token_byte b) → IsFalse (b == flag)
+token_byte-not b flag none token = grind (arith, nat_tests, ap is_token_byte {x = b} {y = flag})
 
 -- a list of a class is one of a wider class
 pub list_all-wider : (class wider : ℕ → Bool) → ((b : ℕ) → class b ≡ true → wider b ≡ true)
@@ -95,12 +95,12 @@ AreTokenBytes-from_token (b ∷ bytes) token = token
 
 -- a text may be cut before an ASCII byte
 pub boundary_before : (text : List ℕ) (at b : ℕ) → slice_get text at ≡ Some b → b < 128 → IsCharBoundary text at
-boundary_before text at b there small =
+boundary_before text at b there lowercase =
     IsCharBoundary-before_ascii text at (slice_get_within text at b there) (omega (arith, get_or_from_slice_get text at b 0 there))
 
 -- a text may be cut after an ASCII byte
 pub boundary_after : (text : List ℕ) (at b : ℕ) → IsUtf8 text → slice_get text at ≡ Some b → b < 128 → IsCharBoundary text (at + 1)
-boundary_after text at b utf8 there small =
+boundary_after text at b utf8 there lowercase =
     IsCharBoundary-after_ascii text at utf8 (slice_get_within text at b there) (omega (arith, get_or_from_slice_get text at b 0 there))
 
 -- the byte that was looked for is at the position found

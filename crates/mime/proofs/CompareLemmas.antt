@@ -10,10 +10,10 @@ use Rattle.mime.specs.Grammar.{plain, quoted, Parameters, blank, final, more, Ta
 use Rattle.mime.specs.Values.{MediaType, Reads, IsAccepted, value_of, essence_of, lowered, lowered_list, pairs_of_list, pairs_of_tail, is_charset}
 use Rattle.mime.specs.Comparison.{TextIs, HasNoSemicolon}
 use Rattle.mime.specs.Pairs.{PairCut, cut_after_equals, cut_of, pairs_within}
-use Rattle.mime.specs.Scanning.{HasPlaces, places_of, semicolon_of}
+use Rattle.mime.specs.Scanning.{HasPositions, positions_of, semicolon_of}
 use Rattle.mime.specs.KeptText.{lowered_pair}
 use Rattle.mime.specs.ComparedText.{IsListAfter, IsAcceptedAt, IsLoneCharset}
-use Rattle.mime.specs.declared.scan.Places.{Places}
+use Rattle.mime.specs.declared.scan.Positions.{Positions}
 use Rattle.mime.proofs.BytesLemmas.{AreTokenBytes-from_token, are_other-token, semicolon_is_no_token}
 use Rattle.mime.proofs.ValueLemmas.Parts.{kept-essence, read-low_essence}
 use Rattle.mime.proofs.ValueLemmas.KeptText.{text_of-essence, take-essence, drop-to_semicolon, length-essence_of, slice_get-semicolon, kept_is_read}
@@ -24,11 +24,11 @@ use Rattle.mime.proofs.IgnoringCase.{semicolon-lower, case_read, case_read-count
 
 -- ---- what an accepted text with parameters is read as
 
--- a value's essence is its tree's, lowered
+-- a value's essence is its tree's, lowercased
 pub essence-lowered : (tree : SyntaxTree) → (value_of tree).essence ≡ lowered (essence_of tree)
 essence-lowered tree = sym (lowered-append tree.top (slash_byte ∷ tree.sub))
 
--- the pairs of a lowered list are those of the list, each lowered
+-- the pairs of a lowercased list are those of the list, each lowercased
 pairs_of_list-lowered : (list : Parameters) → pairs_of_list (lowered_list list) ≡ map lowered_pair (pairs_of_list list)
 pairs_of_list-lowered (blank n) = refl
 pairs_of_list-lowered (final n (plain name value)) = refl
@@ -67,7 +67,7 @@ read_at : (text : List ℕ) (end count : ℕ) → IsAcceptedAt text end count �
 read_at text end count is =
     subst (λ t. ReadAt t end count) is.has.spelled
     (go is.has.tree.top is.has.tree.sub is.has.tree.tail is.has.well_formed
-    (ap (λ (p : Places). p.semicolon) is.has.placed ∙ is.at) (ap (λ (p : Places). p.pairs) is.has.placed ∙ is.counted))
+    (ap (λ (p : Positions). p.semicolon) is.has.same_positions ∙ is.at) (ap (λ (p : Positions). p.pairs) is.has.same_positions ∙ is.counted))
   where
     go : (top sub : List ℕ) (tail : Tail) → IsWellFormed (record { top = top; sub = sub; tail = tail })
         → semicolon_of (length top + 1 + length sub) tail ≡ Some end → length (pairs_of_tail tail) ≡ count
@@ -92,8 +92,8 @@ accepted_at text value reads some =
     go top sub (listed list) well spelled valued =
         let tree : SyntaxTree = record { top = top; sub = sub; tail = listed list } in
         record {
-          places = places_of tree;
-          has = record { tree = tree; well_formed = well; spelled = spelled; placed = refl };
+          positions = positions_of tree;
+          has = record { tree = tree; well_formed = well; spelled = spelled; same_positions = refl };
           at = ap Some (sym (length-value_essence tree) ∙ ap (λ (v : MediaType). length v.essence) valued);
           counted = sym (length-pairs_lowered list) ∙ ap (λ (v : MediaType). length v.pairs) valued;
         }
@@ -105,10 +105,10 @@ IsAcceptedAt-same text {end} {also} {count} {number} ends counts is =
     subst (λ n. IsAcceptedAt text n number) ends (subst (IsAcceptedAt text end) counts is)
 
 -- each part of an accepted text has one position
-pub one_places : (text : List ℕ) (first second : Places) → HasPlaces text first → HasPlaces text second → first ≡ second
-one_places text first second has also =
-    sym has.placed ∙ ap places_of (one_tree has.tree also.tree has.well_formed also.well_formed (has.spelled ∙ sym also.spelled))
-    ∙ also.placed
+pub one_positions : (text : List ℕ) (first second : Positions) → HasPositions text first → HasPositions text second → first ≡ second
+one_positions text first second has also =
+    sym has.same_positions ∙ ap positions_of (one_tree has.tree also.tree has.well_formed also.well_formed (has.spelled ∙ sym also.spelled))
+    ∙ also.same_positions
 
 -- a text that is accepted with these positions is accepted
 pub IsAccepted-at : (text : List ℕ) (end count : ℕ) → IsAcceptedAt text end count → IsAccepted text
@@ -136,7 +136,7 @@ text_is-by_parts kept text value reads some =
           let one : is.read ≡ read.value = one_reading text is.read read.value is.reads read.reads in
           record {
             list = (
-              slice_get-semicolon text at.places (length value.essence) at.has at.at,
+              slice_get-semicolon text at.positions (length value.essence) at.has at.at,
               low ∙ is.same.0 ∙ ap (λ (v : MediaType). v.essence) one ∙ read.essence,
             );
             pairs = is.same.1 ∙ ap (λ (v : MediaType). v.pairs) one ∙ read.pairs;
@@ -189,7 +189,7 @@ cut_of-charset after = cut_value-name (length (codes " charset=" ++ after)) (cod
 -- the only pair of such a list is a charset
 pub lone_charset : (list : List ℕ) → take 9 list ≡ codes " charset=" → IsLoneCharset (pairs_within 1 list)
 lone_charset list is =
-    let whole : list ≡ codes " charset=" ++ drop 9 list = sym (take-append-drop 9 list) ∙ ap (λ front. front ++ drop 9 list) is in
+    let whole : list ≡ codes " charset=" ++ drop 9 list = sym (take-append-drop 9 list) ∙ ap (λ prefix. prefix ++ drop 9 list) is in
     let name = ap (λ l. (cut_of l).name) whole ∙ cut_of-charset (drop 9 list) in
     ((cut_of list).name, (cut_of list).value, refl, subst (λ n. is_charset n ≡ true) (sym name) refl)
 
@@ -221,7 +221,7 @@ text_of-bare tree bare = go tree.tail (subst HasNoSemicolon (text_of-essence tre
         let parts = list_all-append (λ b. not (b == semicolon_byte)) (essence_of tree) (semicolon_byte ∷ text_of_list list) in
         absurd (let last = (and_parts _ false (sym parts ∙ none)).1 in cc)
 
--- a text that, lowered, is the essence of a value without pairs is equal to the value
+-- a text that, lowercased, is the essence of a value without pairs is equal to the value
 pub text_is-from_lowered : (text kept : List ℕ) (value : MediaType) → Reads kept value → value.pairs ≡ [] → lowered text ≡ value.essence
     → TextIs value text
 text_is-from_lowered text kept value reads none is =
@@ -238,7 +238,7 @@ text_is-from_lowered text kept value reads none is =
       bare = λ _. sym (HasNoSemicolon-lowered text) ∙ ap (list_all _) (is ∙ sym essence) ∙ HasNoSemicolon-lowered (essence_of tree) ∙ bare;
     }
 
--- a text is equal to a value without pairs exactly where, lowered, it is the kept text
+-- a text is equal to a value without pairs exactly where, lowercased, it is the kept text
 pub text_is-bare : (kept : List ℕ) (value : MediaType) → Reads kept value → value.pairs ≡ []
     → (text : List ℕ) → TextIs value text ↔ (lowered text ≡ value.kept)
 text_is-bare kept value reads none text =
@@ -251,7 +251,7 @@ text_is-bare kept value reads none text =
       λ low. text_is-from_lowered text kept value reads none low,
     )
 
--- a text is a value without parameters exactly where it is the kept text but for case
+-- a text is a value without parameters exactly where it is the kept text ignoring ASCII case
 pub text_is-kept_case : (kept text : List ℕ) (value : MediaType) → Reads kept value → kept ≡ value.kept → value.pairs ≡ []
     → TextIs value text ↔ (lowered kept ≡ lowered text)
 text_is-kept_case kept text value reads is none =

@@ -7,7 +7,7 @@ use Rattle.mime.proofs.GrammarLemmas.Begun.{Begun, in_type, grow, walk}
 use Rattle.mime.proofs.GrammarLemmas.Characters.{high_token, IsForeign, IsOpen, grow-foreign}
 use Rattle.mime.proofs.CutLemmas.{Following, following_of, split-size, split-from_dead, split_inv, empty-cut, has_cut, cut_unique, takes_unique}
 use Rattle.mime.proofs.ValueLemmas.KeptText.{kept_is_read}
-use Rattle.mime.proofs.GrammarLemmas.Viability.{walk-from_viable, front-from_walk, quote_fault-from_walk, accepted_is_viable, front_of_viable_is_viable}
+use Rattle.mime.proofs.GrammarLemmas.Viability.{walk-from_viable, prefix-from_walk, quote_fault-from_walk, accepted_is_viable, prefix_of_viable_is_viable}
 use Rattle.std.specs.Prelude.{IsTrue, map, MatchOption}
 use Rattle.std.specs.List.{list_all, AllByRecursion}
 use Rattle.mime.specs.Bytes.{is_token_byte, comma_byte, space_byte}
@@ -32,13 +32,13 @@ record Written (text rest : List ℕ) : Type 0 where
   spelled : text_of_pieces pieces end ≡ text
   last_is : IsAccepted end ⊎ (end ≡ rest)
 
-written : (text : List ℕ) (items : List CutItem) (rest : List ℕ) → Cut text items rest → Written text rest
-written text items rest (whole t v reads) =
+written-cut : (text : List ℕ) (items : List CutItem) (rest : List ℕ) → Cut text items rest → Written text rest
+written-cut text items rest (whole t v reads) =
     record { pieces = []; end = t; cut = last t (accepted_is_viable t (v, reads)); spelled = refl; last_is = inl (v, reads) }
-written text items rest (unfinished t viable is) =
+written-cut text items rest (unfinished t viable is) =
     record { pieces = []; end = t; cut = last t viable; spelled = refl; last_is = inr refl }
-written text items rest (goes_on t p c l first others r split of_piece cut) =
-    let w = written l others r cut in
+written-cut text items rest (goes_on t p c l first others r split of_piece cut) =
+    let w = written-cut l others r cut in
     record {
       pieces = (p, c) ∷ w.pieces;
       end = w.end;
@@ -49,13 +49,13 @@ written text items rest (goes_on t p c l first others r split of_piece cut) =
 
 -- a cut writes its text as pieces
 pub cut_writes_text : CutWritesText
-cut_writes_text text items rest cut = let w = written text items rest cut in (w.pieces, w.end, w.cut, w.spelled, w.last_is)
+cut_writes_text text items rest cut = let w = written-cut text items rest cut in (w.pieces, w.end, w.cut, w.spelled, w.last_is)
 
 -- a text takes one number of steps
 pub one_count : OneCount
 one_count text =
     let has = has_cut text in
-    let w = written text has.items has.rest has.cut in
+    let w = written-cut text has.items has.rest has.cut in
     let takes : TakesSteps text (steps_of w.pieces w.end) = record { pieces = w.pieces; end = w.end; cut = w.cut; counted = refl } in
     (steps_of w.pieces w.end, takes, λ other again. takes_unique text other (steps_of w.pieces w.end) again takes)
 
@@ -65,7 +65,7 @@ one_count text =
 dead-inv : (b : ℕ) (bytes : List ℕ) (rest : Following bytes) (items : List CutItem) (end : List ℕ)
     → grow (in_type []) b ≡ None → Cut (b ∷ bytes) items end → Cut rest.left items end
 dead-inv b bytes rest items end dead cut =
-    let split = split-from_dead [] bytes b (in_type []) rest (front-from_walk [] bytes b (in_type []) refl dead) in
+    let split = split-from_dead [] bytes b (in_type []) rest (prefix-from_walk [] bytes b (in_type []) refl dead) in
     let leaves = split_inv (b ∷ bytes) [] (b ∷ rest.following) rest.left [] items end split (is_empty refl) cut in
     subst (λ i. Cut rest.left i end) (sym leaves.appended) leaves.cut
 
@@ -94,7 +94,7 @@ cut-after_dead : (b : ℕ) (bytes : List ℕ) (items : List CutItem) (end : List
 cut-after_dead b bytes items end dead cut =
     let rest = following_of bytes in
     goes_on (b ∷ bytes) [] (b ∷ rest.following) rest.left [] items end
-    (split-from_dead [] bytes b (in_type []) rest (front-from_walk [] bytes b (in_type []) refl dead)) (is_empty refl)
+    (split-from_dead [] bytes b (in_type []) rest (prefix-from_walk [] bytes b (in_type []) refl dead)) (is_empty refl)
     (cut-after_following bytes rest items end cut)
 
 -- ---- the comma
@@ -119,17 +119,17 @@ comma-split : (text bytes : List ℕ) (rest : Following bytes) → IsViable text
 comma-split text bytes rest viable closed =
     let reached = walk-from_viable text viable in
     split-from_dead text bytes comma_byte reached.0 rest
-    (front-from_walk text bytes comma_byte reached.0 reached.1 (comma-dead text reached.0 reached.1 closed))
+    (prefix-from_walk text bytes comma_byte reached.0 reached.1 (comma-dead text reached.0 reached.1 closed))
 
 -- an accepted text isn't open
 accepted-closed : (text : List ℕ) → IsAccepted text → ¬ (IsUnclosed text)
 accepted-closed text accepted unclosed = completed_is_refused text MissingQuote unclosed accepted
 
--- a front of a viable text is viable
+-- a prefix of a viable text is viable
 take-viable : (text : List ℕ) (k n : ℕ) → k ≤ n → IsViable (take n text) → IsViable (take k text)
 take-viable text k n le viable =
     subst IsViable (take-take k n text le)
-    (front_of_viable_is_viable (take k (take n text)) (drop k (take n text))
+    (prefix_of_viable_is_viable (take k (take n text)) (drop k (take n text))
     (subst IsViable (sym (take-append-drop k (take n text))) viable))
 
 -- more bytes after a split text leave its split as it is
@@ -139,11 +139,11 @@ split-append text p c l more begins split =
     let k = suc (length p) in
     record {
       spelled = ap (λ t. t ++ more) split.spelled ∙ append_assoc p (c ++ l) more ∙ ap (λ t. p ++ t) (append_assoc c l more);
-      front = record {
-        within = omega (arith, split.front.within, length-append text more);
-        viable = subst IsViable (sym (take-append-le (length p) text more split.front.within)) split.front.viable;
+      prefix = record {
+        within = omega (arith, split.prefix.within, length-append text more);
+        viable = subst IsViable (sym (take-append-le (length p) text more split.prefix.within)) split.prefix.viable;
         longest = λ n above within viable.
-            split.front.longest k (omega arith) (omega (arith, size.0, size.1))
+            split.prefix.longest k (omega arith) (omega (arith, size.0, size.1))
             (subst IsViable (take-append-le k text more (omega (arith, size.0, size.1)))
             (take-viable (text ++ more) k n (omega (arith, above)) viable));
       };

@@ -6,11 +6,11 @@ use Rattle.std.specs.Prelude.{IsTrue, ◌&&◌}
 use Rattle.std.specs.List.{list_all}
 use Rattle.mime.specs.Grammar.{SyntaxTree}
 use Rattle.mime.specs.Values.{MediaType, Reads, IsAccepted, IsRefused}
-use Rattle.mime.specs.Refusals.{IsViable, IsFront}
+use Rattle.mime.specs.Refusals.{IsViable, IsLongestPrefix}
 use Rattle.mime.proofs.GrammarLemmas.Begun.{Begun, in_type, walk, tree_of}
 use Rattle.mime.proofs.IgnoringCase.{cons_parts}
 use Rattle.mime.proofs.GrammarLemmas.Readings.{one_reading, refused-from_walk, stopped-from_walk}
-use Rattle.mime.proofs.GrammarLemmas.Viability.{accepted-from_complete, viable-from_walk, front-from_walk, front_unique, accepted_is_viable, empty_is_viable, stop-from_walk}
+use Rattle.mime.proofs.GrammarLemmas.Viability.{accepted-from_complete, viable-from_walk, prefix-from_walk, prefix_unique, accepted_is_viable, empty_is_viable, stop-from_walk}
 use Rattle.mime.specs.Cut.{is_following_byte, BeginsCharacter, IsCharacter, IsSplit, CutItem, good, ItemsOf, is_read, is_refused, is_empty, Cut, whole, unfinished, goes_on, Pieces, last, next, steps_of, TakesSteps}
 
 -- ---- a character
@@ -68,7 +68,7 @@ pub record SameSplit (p c l q d m : List ℕ) : Type 0 where
 
 pub split_unique : (text p c l q d m : List ℕ) → IsSplit text p c l → IsSplit text q d m → SameSplit p c l q d m
 split_unique text p c l q d m one two =
-    let size : length p ≡ length q = front_unique text (length p) (length q) one.front two.front in
+    let size : length p ≡ length q = prefix_unique text (length p) (length q) one.prefix two.prefix in
     let piece : p ≡ q =
     sym (take-append_seam p (c ++ l)) ∙ ap (take (length p)) (sym one.spelled)
     ∙ ap (λ n. take n text) size ∙ ap (take (length q)) two.spelled ∙ take-append_seam q (d ++ m) in
@@ -99,16 +99,16 @@ split-piece text p c l split = ap (take (length p)) split.spelled ∙ take-appen
 pub split-not_viable : (text p c l : List ℕ) → IsSplit text p c l → IsViable text → ⊥
 split-not_viable text p c l split viable =
     let size = split-size text p c l split in
-    split.front.longest (length text) (omega (arith, size.0, size.1)) (omega arith)
+    split.prefix.longest (length text) (omega (arith, size.0, size.1)) (omega arith)
     (subst IsViable (sym (take-length text)) viable)
 
 -- a byte that leads nowhere splits a text
-pub split-from_dead : (front bytes : List ℕ) (b : ℕ) (begun : Begun) (rest : Following bytes)
-    → IsFront (front ++ (b ∷ bytes)) (length front)
-    → IsSplit (front ++ (b ∷ bytes)) front (b ∷ rest.following) rest.left
-split-from_dead front bytes b begun rest is_front = record {
-  spelled = ap (λ t. front ++ (b ∷ t)) rest.spelled;
-  front = is_front;
+pub split-from_dead : (prefix bytes : List ℕ) (b : ℕ) (begun : Begun) (rest : Following bytes)
+    → IsLongestPrefix (prefix ++ (b ∷ bytes)) (length prefix)
+    → IsSplit (prefix ++ (b ∷ bytes)) prefix (b ∷ rest.following) rest.left
+split-from_dead prefix bytes b begun rest is_prefix = record {
+  spelled = ap (λ t. prefix ++ (b ∷ t)) rest.spelled;
+  prefix = is_prefix;
   is_character = (rest.of_class, rest.begins);
 }
 
@@ -140,10 +140,10 @@ viable_or_split text = reached (walk text) refl
     reached None stopped =
         let stop = stop-from_walk (in_type []) text stopped in
         let rest = following_of stop.rest in
-        is_split stop.front (stop.byte ∷ rest.following) rest.left
-        (subst (λ t. IsSplit t stop.front (stop.byte ∷ rest.following) rest.left) (sym stop.spelled)
-        (split-from_dead stop.front stop.rest stop.byte stop.begun rest
-        (front-from_walk stop.front stop.rest stop.byte stop.begun stop.walked stop.dead)))
+        is_split stop.prefix (stop.byte ∷ rest.following) rest.left
+        (subst (λ t. IsSplit t stop.prefix (stop.byte ∷ rest.following) rest.left) (sym stop.spelled)
+        (split-from_dead stop.prefix stop.rest stop.byte stop.begun rest
+        (prefix-from_walk stop.prefix stop.rest stop.byte stop.begun stop.walked stop.dead)))
 
 -- ---- a text has a cut
 

@@ -16,7 +16,7 @@ use Rattle.std.proofs.lemmas.Simd.{length-zip2, get_or-zip2, leading_from_mask_l
 use lib.Count.{count_trailing_zeros}
 use Rattle.mime.specs.Difference.{FirstDifference}
 use Rattle.mime.specs.Blocks.{difference_bit, mask_of, first_position}
-use Rattle.mime.proofs.BlocksLemmas.{position-marked, all_pass}
+use Rattle.mime.proofs.BlocksLemmas.{position-flagged, all_pass}
 
 -- two numbers have no bit together exactly where neither has one
 pub together : (n m : ℕ) (P Q Whole : Type 0) → (n ≡ 0) ↔ P → (m ≡ 0) ↔ Q → (P → Q → Whole) → (Whole → P × Q) → (bit_or n m ≡ 0) ↔ Whole
@@ -47,11 +47,11 @@ of_last W a b from says = (λ w. sym (ending a) ∙ says.0 w ∙ ending b, λ sa
 
 -- texts that are the same up to a position, and from there or before on, are the same
 pub lapped : (a b : List ℕ) (n last : ℕ) → last ≤ n → take n a ≡ take n b → drop last a ≡ drop last b → a ≡ b
-lapped a b n last after front back =
-    let shorter : take last a ≡ take last b = sym (take-take last n a after) ∙ ap (take last) front ∙ take-take last n b after in
+lapped a b n last after prefix back =
+    let shorter : take last a ≡ take last b = sym (take-take last n a after) ∙ ap (take last) prefix ∙ take-take last n b after in
     sym (take-append-drop last a) ∙ ap (λ t. t ++ drop last a) shorter ∙ ap (λ t. take last b ++ t) back ∙ take-append-drop last b
 
--- one more mark
+-- one more flag
 zip2_push : (f : ℕ → ℕ → ℕ) (xs ys : List ℕ) (x y : ℕ) → length xs ≡ length ys
     → zip2 f (xs ++ (x ∷ [])) (ys ++ (y ∷ [])) ≡ zip2 f xs ys ++ (f x y ∷ [])
 zip2_push f [] [] x y long = refl
@@ -59,11 +59,11 @@ zip2_push f [] (b ∷ ys) x y long = absurd (omega (arith, long))
 zip2_push f (a ∷ xs) [] x y long = absurd (omega (arith, long))
 zip2_push f (a ∷ xs) (b ∷ ys) x y long = ap (λ rest. f a b ∷ rest) (zip2_push f xs ys x y (omega (arith, long)))
 
-pub one_more : (f : ℕ → ℕ → ℕ) (a b marks : List ℕ) (n : ℕ) → n < length a → n < length b → n < length marks
-    → take n marks ≡ zip2 f (take n a) (take n b)
-    → take (n + 1) (set marks n (f (get_or a n 0) (get_or b n 0))) ≡ zip2 f (take (n + 1) a) (take (n + 1) b)
-one_more f a b marks n room other_room within so_far =
-    take_more_set marks n (f (get_or a n 0) (get_or b n 0)) within
+pub one_more : (f : ℕ → ℕ → ℕ) (a b flags : List ℕ) (n : ℕ) → n < length a → n < length b → n < length flags
+    → take n flags ≡ zip2 f (take n a) (take n b)
+    → take (n + 1) (set flags n (f (get_or a n 0) (get_or b n 0))) ≡ zip2 f (take (n + 1) a) (take (n + 1) b)
+one_more f a b flags n room other_room within so_far =
+    take_more_set flags n (f (get_or a n 0) (get_or b n 0)) within
     ∙ ap (λ t. t ++ (f (get_or a n 0) (get_or b n 0) ∷ [])) so_far
     ∙ sym (ap (λ t. zip2 f t (take (n + 1) b)) (take_more a n 0 room) ∙ ap (zip2 f _) (take_more b n 0 other_room)
     ∙ zip2_push f (take n a) (take n b) (get_or a n 0) (get_or b n 0)
@@ -75,12 +75,12 @@ same_take-cons x y n xs ys one rest =
     let next : 1 + n ≡ suc n = omega arith in
     ap (λ m. take m (x ∷ xs)) next ∙ cc (one, rest) ∙ ap (λ m. take m (y ∷ ys)) (sym next)
 
--- up to the first mark
-alike_to_mark : (xs ys : List ℕ)
+-- up to the first flag
+equal_to_flag : (xs ys : List ℕ)
     → take (first_position 1 (zip2 difference_bit xs ys)) (lowered xs) ≡ take (first_position 1 (zip2 difference_bit xs ys)) (lowered ys)
-alike_to_mark [] ys = refl
-alike_to_mark (x ∷ xs) [] = refl
-alike_to_mark (x ∷ xs) (y ∷ ys) = go (to_ascii_lowercase x == to_ascii_lowercase y) refl (alike_to_mark xs ys)
+equal_to_flag [] ys = refl
+equal_to_flag (x ∷ xs) [] = refl
+equal_to_flag (x ∷ xs) (y ∷ ys) = go (to_ascii_lowercase x == to_ascii_lowercase y) refl (equal_to_flag xs ys)
   where
     go : (same : Bool) → (to_ascii_lowercase x == to_ascii_lowercase y) ≡ same
         → take (first_position 1 (zip2 difference_bit xs ys)) (lowered xs) ≡ take (first_position 1 (zip2 difference_bit xs ys)) (lowered ys)
@@ -89,53 +89,53 @@ alike_to_mark (x ∷ xs) (y ∷ ys) = go (to_ascii_lowercase x == to_ascii_lower
     go true is rest = same_take-cons _ _ (first_position 1 (zip2 difference_bit xs ys)) (lowered xs) (lowered ys) (eqb-true _ _ is) rest
     go false is rest = refl
 
--- bytes are not marked exactly where they are the same but for case
-pub no_mark_at : (x y found : ℕ) → found ≡ difference_bit x y → (found ≡ 0) ↔ (to_ascii_lowercase x ≡ to_ascii_lowercase y)
-no_mark_at x y found is = (λ none. grind (arith, nat_tests), λ same. is ∙ ap (λ b. cond b 0 1) (eq-eqb _ _ same))
+-- bytes are not flagged exactly where they are the same ignoring ASCII case
+pub no_flag_at : (x y found : ℕ) → found ≡ difference_bit x y → (found ≡ 0) ↔ (to_ascii_lowercase x ≡ to_ascii_lowercase y)
+no_flag_at x y found is = (λ none. grind (arith, nat_tests), λ same. is ∙ ap (λ b. cond b 0 1) (eq-eqb _ _ same))
 
--- at a mark they differ
-differ_at_mark : (x y : ℕ) → difference_bit x y ≡ 1 → to_ascii_lowercase x ≢ to_ascii_lowercase y
-differ_at_mark x y is same = absurd (omega (arith, sym is ∙ ap (λ b. cond b 0 1) (eq-eqb _ _ same)))
+-- at a flag they differ
+differ_at_flag : (x y : ℕ) → difference_bit x y ≡ 1 → to_ascii_lowercase x ≢ to_ascii_lowercase y
+differ_at_flag x y is same = absurd (omega (arith, sym is ∙ ap (λ b. cond b 0 1) (eq-eqb _ _ same)))
 
--- in the first 16 bytes, as the marks show it
-module _ (a b marks : List ℕ) (found : ℕ) (room : 16 ≤ length a) (other_room : 16 ≤ length b)
-    (is : marks ≡ zip2 difference_bit (take 16 a) (take 16 b)) (found_is : found ≡ mask_of 1 (take 16 marks)) where
-  long : length marks ≡ 16
+-- in the first 16 bytes, as the flags show it
+module _ (a b flags : List ℕ) (found : ℕ) (room : 16 ≤ length a) (other_room : 16 ≤ length b)
+    (is : flags ≡ zip2 difference_bit (take 16 a) (take 16 b)) (found_is : found ≡ mask_of 1 (take 16 flags)) where
+  long : length flags ≡ 16
   long =
       ap length is ∙ length-zip2 difference_bit (take 16 a) (take 16 b) (length-take-le 16 a room ∙ sym (length-take-le 16 b other_room))
       ∙ length-take-le 16 a room
 
-  whole : mask_of 1 (take 16 marks) ≡ mask_of 1 marks
-  whole = ap (mask_of 1) (take_all 16 marks (omega (arith, long)))
+  whole : mask_of 1 (take 16 flags) ≡ mask_of 1 flags
+  whole = ap (mask_of 1) (take_all 16 flags (omega (arith, long)))
 
-  alike : (n : ℕ) → n ≤ 16 → n ≡ first_position 1 marks → take n (lowered a) ≡ take n (lowered b)
-  alike n few first =
-      sym (shorter a) ∙ ap (λ m. take m (lowered (take 16 a))) (first ∙ ap (first_position 1) is) ∙ alike_to_mark (take 16 a) (take 16 b)
+  equal_before : (n : ℕ) → n ≤ 16 → n ≡ first_position 1 flags → take n (lowered a) ≡ take n (lowered b)
+  equal_before n few first =
+      sym (shorter a) ∙ ap (λ m. take m (lowered (take 16 a))) (first ∙ ap (first_position 1) is) ∙ equal_to_flag (take 16 a) (take 16 b)
       ∙ ap (λ m. take m (lowered (take 16 b))) (sym (first ∙ ap (first_position 1) is)) ∙ shorter b
     where
       shorter : (t : List ℕ) → take n (lowered (take 16 t)) ≡ take n (lowered t)
       shorter t = ap (take n) (lowered-take 16 t) ∙ take-take n 16 (lowered t) few
 
-  pub no_mark : found ≡ 0 → take 16 (lowered a) ≡ take 16 (lowered b)
-  no_mark none =
-      alike 16 (omega arith)
-      (sym (leading_from_mask_l (λ b. b == 1) marks (sym whole ∙ sym found_is ∙ none) ∙ long))
+  pub no_flag : found ≡ 0 → take 16 (lowered a) ≡ take 16 (lowered b)
+  no_flag none =
+      equal_before 16 (omega arith)
+      (sym (leading_from_mask_l (λ b. b == 1) flags (sym whole ∙ sym found_is ∙ none) ∙ long))
 
-  pub first_mark : 0 < found → FirstDifference a b (count_trailing_zeros 64 found)
-  first_mark some =
-      let at : count_trailing_zeros 64 found ≡ first_position 1 marks =
+  pub first_flag : 0 < found → FirstDifference a b (count_trailing_zeros 64 found)
+  first_flag some =
+      let at : count_trailing_zeros 64 found ≡ first_position 1 flags =
       ap (count_trailing_zeros 64) found_is
-      ∙ sym (position-marked 1 marks 16 (omega (arith, long)) (omega arith) (omega (arith, some, found_is))) in
-      let n = first_position 1 marks in
-      let near : n < length marks =
-      elim (cases_lt n (length marks)) [
+      ∙ sym (position-flagged 1 flags 16 (omega (arith, long)) (omega arith) (omega (arith, some, found_is))) in
+      let n = first_position 1 flags in
+      let near : n < length flags =
+      elim (cases_lt n (length flags)) [
         | inl near ↦ near
         | inr far ↦
-            let all = all_pass (λ b. b == 1) marks (omega (arith, far, prefix_len-le-length (λ b. not (b == 1)) marks)) in
+            let all = all_pass (λ b. b == 1) flags (omega (arith, far, prefix_len-le-length (λ b. not (b == 1)) flags)) in
             absurd (omega (arith, some, found_is, whole, all))
       ] in
-      let stop : get_or marks n 0 ≡ 1 =
-      (let stops = prefix_len_stops (λ b. not (b == 1)) marks 0 near in grind (arith, nat_tests)) in
+      let stop : get_or flags n 0 ≡ 1 =
+      (let stops = prefix_len_stops (λ b. not (b == 1)) flags 0 near in grind (arith, nat_tests)) in
       let differ : difference_bit (get_or a n 0) (get_or b n 0) ≡ 1 =
       cc (
         stop,
@@ -148,16 +148,16 @@ module _ (a b marks : List ℕ) (found : ℕ) (room : 16 ≤ length a) (other_ro
       subst (FirstDifference a b) (sym at) (record {
         within = omega (arith, near, long, room);
         within_other = omega (arith, near, long, other_room);
-        alike = alike n (omega (arith, near, long)) refl;
-        differ = differ_at_mark (get_or a n 0) (get_or b n 0) differ;
+        equal_before = equal_before n (omega (arith, near, long)) refl;
+        differ = differ_at_flag (get_or a n 0) (get_or b n 0) differ;
       })
 
--- after what is alike: more of it, or a difference
+-- after equal bytes: more of them, or a difference
 module _ (a b : List ℕ) (from : ℕ) (before : take from (lowered a) ≡ take from (lowered b)) where
-  pub alike_onward : (n : ℕ) → take n (lowered (take (length a - from) (drop from a)))
+  pub equal_onward : (n : ℕ) → take n (lowered (take (length a - from) (drop from a)))
       ≡ take n (lowered (take (length b - from) (drop from b)))
       → take (from + n) (lowered a) ≡ take (from + n) (lowered b)
-  alike_onward n block =
+  equal_onward n block =
       take-add from n (lowered a) ∙ ap (λ t. t ++ take n (drop from (lowered a))) before
       ∙ ap (λ t. take from (lowered b) ++ t) (ap (take n) (sym (ending a)) ∙ block ∙ ap (take n) (ending b))
       ∙ sym (take-add from n (lowered b))
@@ -170,14 +170,14 @@ module _ (a b : List ℕ) (from : ℕ) (before : take from (lowered a) ≡ take 
   difference_onward n d = record {
     within = omega (arith, d.within, ap length (take_rest a from), length-drop from a);
     within_other = omega (arith, d.within_other, ap length (take_rest b from), length-drop from b);
-    alike = alike_onward n d.alike;
+    equal_before = equal_onward n d.equal_before;
     differ = λ same. d.differ (ap to_ascii_lowercase (at a) ∙ same ∙ ap to_ascii_lowercase (sym (at b)));
   }
     where
       at : (text : List ℕ) → get_or (take (length text - from) (drop from text)) n 0 ≡ get_or text (from + n) 0
       at text = ap (λ t. get_or t n 0) (take_rest text from) ∙ get_or-drop from text n 0
 
--- texts of one length are the same but for case exactly where none is found
+-- texts of one length are the same ignoring ASCII case exactly where none is found
 pub none_found : (a b : List ℕ) (found : Option ℕ) (none : Bool) → is_some found ≡ not none → length a ≡ length b
     → IfSome found (FirstDifference a b) → (found ≡ None → length a ≡ length b → lowered a ≡ lowered b)
     → IsTrue none ↔ (lowered a ≡ lowered b)

@@ -1,4 +1,4 @@
--- Where two texts first differ but for case: what a text tells by its bytes, spaces, tabs and quotes aside.
+-- Where two texts first differ ignoring ASCII case: a text stripped of spaces, tabs and quotes.
 use Rattle.std.proofs.Common.{◌≡◌, ℕ, ◌+◌, ◌<◌, List, [], ◌∷◌, ◌++◌, take, drop, refl, sym, ap, ◌∙◌, subst, arith, length, append-nil, append_assoc}
 use Rattle.std.specs.Prelude.{IsTrue}
 use Rattle.std.specs.Char.{to_ascii_lowercase}
@@ -11,27 +11,27 @@ use Rattle.mime.specs.Bytes.{semicolon_byte, equals_byte, quote_byte}
 use Rattle.mime.specs.Grammar.{Parameter, plain, quoted, Parameters, blank, final, more, Tail, no_list, listed, text_of, text_of_tail, text_of_list, text_of_parameter, is_space, AreSpaces, AreParameters, IsParameter, IsTail}
 use Rattle.mime.specs.Values.{MediaType, Reads, value_of, essence_of, lowered, lowered_parameter, lowered_list, lowered_tail, pair_of, pairs_of_list, pairs_of_tail}
 use Rattle.mime.specs.Comparison.{Same, TextIs}
-use Rattle.mime.specs.Difference.{is_telling, DifferTellingly}
+use Rattle.mime.specs.Difference.{reaches_value, DifferInValue}
 use Rattle.mime.proofs.ValueLemmas.KeptText.{text_of-essence}
 use Rattle.mime.proofs.ValueLemmas.Lowercase.{lowered-append, lowered-lowered, lowered-drop}
 use Rattle.mime.proofs.IgnoringCase.{lowered-lowered_value}
 use Rattle.mime.proofs.CompareLemmas.{essence-lowered}
 
--- what a text tells: its bytes in small letters, without spaces, tabs and quotes
+-- a text stripped: its bytes in lowercase, without spaces, tabs and quotes
 abbrev stripped : List ℕ → List ℕ
-stripped text = filter is_telling (lowered text)
+stripped text = filter reaches_value (lowered text)
 
 told-append : (xs ys : List ℕ) → stripped (xs ++ ys) ≡ stripped xs ++ stripped ys
-told-append xs ys = ap (filter is_telling) (lowered-append xs ys) ∙ filter-append is_telling (lowered xs) (lowered ys)
+told-append xs ys = ap (filter reaches_value) (lowered-append xs ys) ∙ filter-append reaches_value (lowered xs) (lowered ys)
 
 -- spaces tell nothing
 told-spaces : (n : List ℕ) → AreSpaces n → stripped n ≡ []
 told-spaces [] white = refl
 told-spaces (b ∷ n) white =
     let parts = and_parts (is_space b) (list_all is_space n) white in
-    cond-false (is_telling (to_ascii_lowercase b)) _ _ (grind (arith, nat_tests, parts.0)) ∙ told-spaces n parts.1
+    cond-false (reaches_value (to_ascii_lowercase b)) _ _ (grind (arith, nat_tests, parts.0)) ∙ told-spaces n parts.1
 
--- what a value tells: its essence and each pair, a semicolon after each
+-- a value stripped: its essence and each pair, a semicolon after each
 abbrev stripped_pair : List ℕ × List ℕ → List ℕ
 stripped_pair (name, value) = stripped name ++ (equals_byte ∷ stripped value)
 
@@ -43,11 +43,11 @@ abbrev stripped_value : MediaType → List ℕ
 stripped_value value = stripped value.essence ++ (semicolon_byte ∷ stripped_pairs value.pairs)
 
 -- the second list begins with the first
-record Begins (front whole : List ℕ) : Type 0 where
+record Begins (prefix whole : List ℕ) : Type 0 where
   rest : List ℕ
-  is : whole ≡ front ++ rest
+  is : whole ≡ prefix ++ rest
 
--- a parameter tells what its pair does
+-- a parameter is stripped to what its pair is
 told-parameter : (p : Parameter) → IsParameter p → stripped (text_of_parameter p) ≡ stripped_pair (pair_of (lowered_parameter p))
 told-parameter (plain name value) well =
     told-append name (equals_byte ∷ value)
@@ -59,7 +59,7 @@ told-parameter (quoted name content n) well =
     ∙ append-nil (stripped content))
     ∙ rw (lowered-lowered name, lowered-lowered_value name content) refl
 
--- a list tells what its pairs do, but perhaps for the last semicolon
+-- a list is stripped to what its pairs are, except perhaps for the last semicolon
 told-list : (list : Parameters) → AreParameters list
     → Begins (stripped (text_of_list list)) (stripped_pairs (pairs_of_list (lowered_list list)))
 told-list (blank n) white = record { rest = []; is = sym (append-nil (stripped n) ∙ told-spaces n white) }
@@ -81,19 +81,19 @@ told-list (more n p others) (white, well, follow) =
           ∙ append_assoc (stripped_pair (pair_of (lowered_parameter p))) (semicolon_byte ∷ stripped (text_of_list others)) after.rest);
     }
 
--- a tail tells what its pairs do
+-- a tail is stripped to what its pairs are
 told-tail : (tail : Tail) → IsTail tail
     → Begins (stripped (text_of_tail tail)) (semicolon_byte ∷ stripped_pairs (pairs_of_tail (lowered_tail tail)))
 told-tail no_list well = record { rest = semicolon_byte ∷ []; is = refl }
 told-tail (listed list) well = let parts = told-list list well in record { rest = parts.rest; is = ap (λ t. semicolon_byte ∷ t) parts.is }
 
--- a text tells what the value does that it is read as
+-- a text is stripped to what the value is that it is read as
 told-reads : (text : List ℕ) (value : MediaType) → Reads text value → Begins (stripped text) (stripped_value value)
 told-reads text value reads =
     let tree = reads.tree in
     let tail = told-tail tree.tail reads.well_formed.2 in
     let essence : stripped (value_of tree).essence ≡ stripped (essence_of tree) =
-    ap stripped (essence-lowered tree) ∙ ap (filter is_telling) (lowered-lowered (essence_of tree)) in
+    ap stripped (essence-lowered tree) ∙ ap (filter reaches_value) (lowered-lowered (essence_of tree)) in
     subst (λ t. Begins (stripped t) (stripped_value value)) reads.spelled
     (subst (λ (v : MediaType). Begins (stripped (text_of tree)) (stripped_value v)) reads.valued (record {
       rest = tail.rest;
@@ -102,35 +102,35 @@ told-reads text value reads =
           ∙ append_assoc (stripped (essence_of tree)) (stripped (text_of_tail tree.tail)) tail.rest);
     }))
 
--- what a text tells, cut at a byte that tells
-told-at : (text : List ℕ) (n : ℕ) → n < length text → IsTrue (is_telling (slice_index text n))
-    → stripped text ≡ filter is_telling (take n (lowered text)) ++ (to_ascii_lowercase (slice_index text n) ∷ stripped (drop (n + 1) text))
-told-at text n within tells =
+-- a stripped text, cut at a byte that stays
+told-at : (text : List ℕ) (n : ℕ) → n < length text → IsTrue (reaches_value (slice_index text n))
+    → stripped text ≡ filter reaches_value (take n (lowered text)) ++ (to_ascii_lowercase (slice_index text n) ∷ stripped (drop (n + 1) text))
+told-at text n within reaches =
     let b = to_ascii_lowercase (slice_index text n) in
     let rest : drop n (lowered text) ≡ b ∷ lowered (drop (n + 1) text) = sym (lowered-drop n text)
     ∙ ap lowered (drop_more text n 0 within) in
-    ap (filter is_telling) (sym (take-append-drop n (lowered text)) ∙ ap (λ t. take n (lowered text) ++ t) rest)
-    ∙ filter-append is_telling (take n (lowered text)) (b ∷ lowered (drop (n + 1) text))
-    ∙ ap (λ t. filter is_telling (take n (lowered text)) ++ t) (cond-true (is_telling b) _ _ (grind (arith, nat_tests, tells)))
+    ap (filter reaches_value) (sym (take-append-drop n (lowered text)) ∙ ap (λ t. take n (lowered text) ++ t) rest)
+    ∙ filter-append reaches_value (take n (lowered text)) (b ∷ lowered (drop (n + 1) text))
+    ∙ ap (λ t. filter reaches_value (take n (lowered text)) ++ t) (cond-true (reaches_value b) _ _ (grind (arith, nat_tests, reaches)))
 
--- the bytes after the same front
-same_byte : (front : List ℕ) (x y : ℕ) (xs ys rest others : List ℕ) → (front ++ (x ∷ xs)) ++ rest ≡ (front ++ (y ∷ ys)) ++ others → x ≡ y
+-- the bytes after the same prefix
+same_byte : (prefix : List ℕ) (x y : ℕ) (xs ys rest others : List ℕ) → (prefix ++ (x ∷ xs)) ++ rest ≡ (prefix ++ (y ∷ ys)) ++ others → x ≡ y
 same_byte [] x y xs ys rest others is = cc
-same_byte (f ∷ front) x y xs ys rest others is = same_byte front x y xs ys rest others cc
+same_byte (f ∷ prefix) x y xs ys rest others is = same_byte prefix x y xs ys rest others cc
 
--- texts whose first difference tells are read as values that aren't equal
-pub told_apart : (one other : List ℕ) (first second : MediaType) → Reads one first → Reads other second → DifferTellingly one other
+-- texts whose first difference reaches the value are read as values that aren't equal
+pub different_values : (one other : List ℕ) (first second : MediaType) → Reads one first → Reads other second → DifferInValue one other
     → ¬ (Same first second)
-told_apart one other first second reads also d same =
+different_values one other first second reads also d same =
     let begins = told-reads one first reads in
     let other_begins = told-reads other second also in
     let whole : stripped_value first ≡ stripped_value second = cc in
-    d.first.differ (same_byte (filter is_telling (take d.at (lowered one))) _ _ _ _ begins.rest other_begins.rest
-    (sym (ap (λ t. t ++ begins.rest) (told-at one d.at d.first.within d.tells)) ∙ sym begins.is ∙ whole ∙ other_begins.is
-    ∙ ap (λ t. t ++ other_begins.rest) (told-at other d.at d.first.within_other d.also
-    ∙ ap (λ t. filter is_telling t ++ (to_ascii_lowercase (slice_index other d.at) ∷ stripped (drop (d.at + 1) other)))
-    (sym d.first.alike))))
+    d.first.differ (same_byte (filter reaches_value (take d.at (lowered one))) _ _ _ _ begins.rest other_begins.rest
+    (sym (ap (λ t. t ++ begins.rest) (told-at one d.at d.first.within d.reaches)) ∙ sym begins.is ∙ whole ∙ other_begins.is
+    ∙ ap (λ t. t ++ other_begins.rest) (told-at other d.at d.first.within_other d.other_reaches
+    ∙ ap (λ t. filter reaches_value t ++ (to_ascii_lowercase (slice_index other d.at) ∷ stripped (drop (d.at + 1) other)))
+    (sym d.first.equal_before))))
 
--- a text whose first difference from a kept text tells isn't the value
-pub text_is-telling : (kept text : List ℕ) (value : MediaType) → Reads kept value → DifferTellingly kept text → TextIs value text → ⊥
-text_is-telling kept text value reads d is = told_apart kept text value is.read reads is.reads d is.same
+-- a text whose first difference from a kept text reaches the value isn't that value
+pub text_is-different_values : (kept text : List ℕ) (value : MediaType) → Reads kept value → DifferInValue kept text → TextIs value text → ⊥
+text_is-different_values kept text value reads d is = different_values kept text value is.read reads is.reads d is.same

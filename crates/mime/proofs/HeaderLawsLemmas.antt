@@ -24,10 +24,10 @@ use Rattle.mime.proofs.GrammarLemmas.Characters.{IsForeign, IsOpen, grow-foreign
 use Rattle.mime.proofs.ValueLemmas.KeptText.{kept_is_read}
 use Rattle.mime.proofs.GrammarLemmas.Content.{IsContent-taken, takes_all-text, awaits_after-text}
 
--- the bytes after one that follows a front
-drop-after : (front : List ℕ) (b : ℕ) (after : List ℕ) (n : ℕ) → length front ≡ n → drop (n + 1) (front ++ (b ∷ after)) ≡ after
-drop-after front b after n long =
-    sym (drop-drop 1 n (front ++ (b ∷ after))) ∙ ap (drop 1) (drop_at front (b ∷ after) n long)
+-- the bytes after one that follows a prefix
+drop-after : (prefix : List ℕ) (b : ℕ) (after : List ℕ) (n : ℕ) → length prefix ≡ n → drop (n + 1) (prefix ++ (b ∷ after)) ≡ after
+drop-after prefix b after n long =
+    sym (drop-drop 1 n (prefix ++ (b ∷ after))) ∙ ap (drop 1) (drop_at prefix (b ∷ after) n long)
 
 -- the bytes from a position on begin with the byte there
 drop-from : (bytes : List ℕ) (p b : ℕ) → slice_get bytes p ≡ Some b → drop p bytes ≡ b ∷ drop (p + 1) bytes
@@ -53,14 +53,14 @@ after_slash-read text value reads =
 after_slash : (text : List ℕ) (value : MediaType) (plus : Option ℕ) → Reads text value → value.plus ≡ plus
     → drop (value.slash + 1) value.essence
     ≡ slice_range value.essence (value.slash + 1) (unwrap_or plus (length value.essence))
-    ++ suffix_text (option_map (λ place. drop (place + 1) value.essence) plus)
+    ++ suffix_text (option_map (λ position. drop (position + 1) value.essence) plus)
 after_slash text value plus reads is =
     drop_split value.essence (value.slash + 1) _ (subtype_end text value.essence value plus reads refl is).0
     ∙ ap (λ rest. slice_range value.essence (value.slash + 1) (unwrap_or plus (length value.essence)) ++ rest) (from_plus plus is)
   where
     from_plus : (plus : Option ℕ) → value.plus ≡ plus
         → drop (unwrap_or plus (length value.essence)) value.essence
-        ≡ suffix_text (option_map (λ place. drop (place + 1) value.essence) plus)
+        ≡ suffix_text (option_map (λ position. drop (position + 1) value.essence) plus)
     from_plus None is = drop_all (length value.essence) value.essence (omega arith)
     from_plus (Some p) is = drop-from value.essence p plus_byte (plus_in text value.essence value p reads refl is).there
 
@@ -162,13 +162,13 @@ safe_pairs-tail no_list well = tt
 safe_pairs-tail (listed list) well = safe_pairs list well
 
 -- bytes of a class that are two parts
-both_parts : (class : ℕ → Bool) (front back bytes : List ℕ) → bytes ≡ front ++ back → IsTrue (list_all class bytes)
-    → IsTrue (list_all class front) × IsTrue (list_all class back)
-both_parts class front back bytes is all =
-    and_parts (list_all class front) (list_all class back)
-    (sym (list_all-append class front back) ∙ ap (list_all class) (sym is) ∙ all)
+both_parts : (class : ℕ → Bool) (prefix back bytes : List ℕ) → bytes ≡ prefix ++ back → IsTrue (list_all class bytes)
+    → IsTrue (list_all class prefix) × IsTrue (list_all class back)
+both_parts class prefix back bytes is all =
+    and_parts (list_all class prefix) (list_all class back)
+    (sym (list_all-append class prefix back) ∙ ap (list_all class) (sym is) ∙ all)
 
--- the beginning of a token
+-- a prefix of a token
 token-take : (n : ℕ) (bytes : List ℕ) → 0 < n → IsToken bytes → IsToken (take n bytes)
 token-take n [] some token = absurd token
 token-take zero (b ∷ bytes) some token = absurd (omega (arith, some))

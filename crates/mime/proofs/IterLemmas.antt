@@ -11,9 +11,9 @@ use Rattle.mime.specs.BetweenCalls.{IsUnderWay, PassesOn, IsFirstPiece, PassesPi
 use Rattle.mime.specs.declared.iter.Bad.{Bad}
 use Rattle.mime.specs.declared.iter.Bad.TheVariants.{Piece, NoMemory}
 use Rattle.mime.specs.declared.iter.MimeIter.TheInside.{Inside}
-use Rattle.mime.specs.declared.scan.Places.{Places}
+use Rattle.mime.specs.declared.scan.Positions.{Positions}
 use Rattle.mime.proofs.CutLemmas.{empty-cut, takes-viable, has_cut, cut_unique}
-use Rattle.mime.proofs.ValueLemmas.Reading.{accepted-from_places}
+use Rattle.mime.proofs.ValueLemmas.Reading.{accepted-from_positions}
 use Rattle.mime.proofs.GrammarLemmas.Viability.{empty_is_viable}
 use Rattle.std.specs.Iterator.{Drains}
 use Rattle.mime.specs.CutLaws.{items_of_rest, kept_item, AreGiven, none_left, a_value, a_piece, no_memory, RunGivesCut, PrintedListComesBack, CommaContainsOnRuns}
@@ -22,9 +22,9 @@ use Rattle.mime.proofs.Containment.{comma_contains, joined_comes_back}
 -- ---- what is kept
 
 -- out of memory, nothing is left
-under_way-starved : (text left : List ℕ) (starved : Bool) (steps : ℕ) → IsUnderWay text left starved steps
+under_way-out_of_memory : (text left : List ℕ) (out_of_memory : Bool) (steps : ℕ) → IsUnderWay text left out_of_memory steps
     → IsUnderWay text [] true steps
-under_way-starved text left starved steps kept = record {
+under_way-out_of_memory text left out_of_memory steps kept = record {
   few = omega (arith, kept.few);
   exact = λ fed n takes. absurd (true≢false fed);
 }
@@ -32,14 +32,14 @@ under_way-starved text left starved steps kept = record {
 -- pieces without an item were passed since a call began
 pub record IsLooking (old now : Iteration) : Type 0 where
   pub passed : PassesOn old.left now.left
-  pub starved : now.starved ≡ old.starved
+  pub out_of_memory : now.out_of_memory ≡ old.out_of_memory
   pub text : now.text ≡ old.text
   pub still : old.left ≡ [] → now ≡ old
   pub less : length now.left ≤ length old.left
 
 -- a `MimeIter` as contracts see it
 abbrev pub seen : Inside → Iteration
-seen i = record { text = i.text.now; left = i.left.now; starved = i.starved; steps = i.steps }
+seen i = record { text = i.text.now; left = i.left.now; out_of_memory = i.out_of_memory; steps = i.steps }
 
 -- ---- the search
 
@@ -50,7 +50,7 @@ looking-first old = record {
     carries = λ some items rest cut. cut;
     ends = λ end. ([], subst (λ t. Cut t [] []) (sym end) empty-cut);
   };
-  starved = refl;
+  out_of_memory = refl;
   text = refl;
   still = λ ended. refl;
   less = omega arith;
@@ -70,10 +70,10 @@ sound-after_piece now left steps sound passes counted = record {
 }
 
 -- after an empty piece the search goes on
-pub looking-more : (old now : Iteration) (piece left : List ℕ) (places : Option Places) (steps : ℕ) → IsLooking old now × IsSound now
-    → 0 < length now.left → PassesPiece now.left piece places left (steps - now.steps) → now.steps ≤ steps → length piece ≡ 0
+pub looking-more : (old now : Iteration) (piece left : List ℕ) (positions : Option Positions) (steps : ℕ) → IsLooking old now × IsSound now
+    → 0 < length now.left → PassesPiece now.left piece positions left (steps - now.steps) → now.steps ≤ steps → length piece ≡ 0
     → IsLooking old (after_piece now left steps) × IsSound (after_piece now left steps)
-looking-more old now piece left places steps (looking, sound) some passes counted none =
+looking-more old now piece left positions steps (looking, sound) some passes counted none =
     let still_some : now.left ≢ [] = λ e. absurd (omega (arith, ap length e, some)) in
     let onward = passes.empty (nil_from_length piece none) in (
       record {
@@ -81,7 +81,7 @@ looking-more old now piece left places steps (looking, sound) some passes counte
           carries = λ left_some items rest cut. looking.passed.carries still_some items rest (onward.carries left_some items rest cut);
           ends = λ end. let item = onward.ends end in (item.0, looking.passed.carries still_some [] item.0 item.1);
         };
-        starved = looking.starved;
+        out_of_memory = looking.out_of_memory;
         text = looking.text;
         still = λ ended. absurd (still_some (ap (λ (i : Iteration). i.left) (looking.still ended) ∙ ended));
         less = omega (arith, looking.less, passes.less some);
@@ -95,33 +95,33 @@ found-none old now (looking, sound) none =
     let end = nil_from_length now.left none in
     record {
       gives = (looking.passed.ends end, end);
-      starved = looking.starved;
+      out_of_memory = looking.out_of_memory;
       text = looking.text;
       still = λ ended. (refl, looking.still ended);
       sound = sound;
     }
 
 -- the first piece of what is left is the first of the text
-first_piece-carries : (text now piece left : List ℕ) (places : Option Places) → now ≢ [] → PassesOn text now
-    → IsFirstPiece now piece places left → IsFirstPiece text piece places left
+first_piece-carries : (text now piece left : List ℕ) (positions : Option Positions) → now ≢ [] → PassesOn text now
+    → IsFirstPiece now piece positions left → IsFirstPiece text piece positions left
 first_piece-carries text now piece left None some passed first =
     λ items rest cut. passed.carries some _ rest (first items rest cut)
-first_piece-carries text now piece left (Some places) some passed (has, first) =
+first_piece-carries text now piece left (Some positions) some passed (has, first) =
     (has, λ value reads items rest cut. passed.carries some _ rest (first value reads items rest cut))
 
 -- a piece that isn't empty was found
-pub found-some : (old now : Iteration) (piece : Bor (List ℕ)) (left : List ℕ) (places : Option Places) (steps : ℕ)
-    → IsLooking old now × IsSound now → 0 < length now.left → PassesPiece now.left piece.now places left (steps - now.steps)
-    → now.steps ≤ steps → 0 < length piece.now → IsFound old (Some (piece, places)) (after_piece now left steps)
-found-some old now piece left places steps (looking, sound) some passes counted item =
+pub found-some : (old now : Iteration) (piece : Bor (List ℕ)) (left : List ℕ) (positions : Option Positions) (steps : ℕ)
+    → IsLooking old now × IsSound now → 0 < length now.left → PassesPiece now.left piece.now positions left (steps - now.steps)
+    → now.steps ≤ steps → 0 < length piece.now → IsFound old (Some (piece, positions)) (after_piece now left steps)
+found-some old now piece left positions steps (looking, sound) some passes counted item =
     let still_some : now.left ≢ [] = λ e. absurd (omega (arith, ap length e, some)) in
     let is_item : piece.now ≢ [] = λ e. absurd (omega (arith, ap length e, item)) in
     record {
       gives = (
-        first_piece-carries old.left now.left piece.now left places still_some looking.passed (passes.item is_item),
+        first_piece-carries old.left now.left piece.now left positions still_some looking.passed (passes.item is_item),
         omega (arith, looking.less, passes.less some),
       );
-      starved = looking.starved;
+      out_of_memory = looking.out_of_memory;
       text = looking.text;
       still = λ ended. absurd (still_some (ap (λ (i : Iteration). i.left) (looking.still ended) ∙ ended));
       sound = sound-after_piece now left steps sound passes.under_way counted;
@@ -130,7 +130,7 @@ found-some old now piece left places steps (looking, sound) some passes counted 
 -- ---- a whole call
 
 -- at the end of a run the steps are those that the text takes
-sound-exact : (i : Iteration) → IsSound i → i.left ≡ [] → i.starved ≡ false → TakesSteps i.text i.steps
+sound-exact : (i : Iteration) → IsSound i → i.left ≡ [] → i.out_of_memory ≡ false → TakesSteps i.text i.steps
 sound-exact i sound ended fed =
     let none : TakesSteps i.left 0 = subst (λ t. TakesSteps t 0) (sym ended) (takes-viable [] empty_is_viable) in
     subst (TakesSteps i.text) (omega arith) (sound.exact fed 0 none)
@@ -138,7 +138,7 @@ sound-exact i sound ended fed =
 -- a call gives none
 pub next-none : (old new : Iteration) → IsFound old None new → IsNext old None new
 next-none old new found = record {
-  item = (found.gives.0, found.gives.1, found.starved);
+  item = (found.gives.0, found.gives.1, found.out_of_memory);
   text = found.text;
   few = omega (arith, found.sound.few);
   exact = sound-exact new found.sound;
@@ -146,7 +146,7 @@ next-none old new found = record {
 }
 
 -- a call gives what was made of the piece that was found
-next-some : (old now new : Iteration) (piece : Bor (List ℕ) × Option Places) (given : Result OwnedMedia Bad) → IsFound old (Some piece) now
+next-some : (old now new : Iteration) (piece : Bor (List ℕ) × Option Positions) (given : Result OwnedMedia Bad) → IsFound old (Some piece) now
     → IsSound new → new.text ≡ now.text → GivesItem old (Some given) new → IsNext old (Some given) new
 next-some old now new piece given found sound text item = record {
   item = item;
@@ -160,24 +160,24 @@ next-some old now new piece given found sound text item = record {
 pub next-bad : (old new : Iteration) (piece : Bor (List ℕ)) → IsFound old (Some (piece, None)) new
     → IsNext old (Some (Err (Piece piece))) new
 next-bad old new piece found =
-    next-some old new new (piece, None) (Err (Piece piece)) found found.sound refl (found.gives.0, found.starved)
+    next-some old new new (piece, None) (Err (Piece piece)) found found.sound refl (found.gives.0, found.out_of_memory)
 
 -- a call gives a media type
-pub next-good : (old new : Iteration) (piece : Bor (List ℕ)) (places : Places) (mime : OwnedMedia)
-    → IsFound old (Some (piece, Some places)) new → Reads piece.now mime.media
+pub next-good : (old new : Iteration) (piece : Bor (List ℕ)) (positions : Positions) (mime : OwnedMedia)
+    → IsFound old (Some (piece, Some positions)) new → Reads piece.now mime.media
     → (piece.now ≡ codes "*/*" → mime.fixed ≡ true) → IsNext old (Some (Ok mime)) new
-next-good old new piece places mime found reads star =
-    next-some old new new (piece, Some places) (Ok mime) found found.sound refl
-    (piece.now, found.gives.0.1 mime.media reads, star, found.starved)
+next-good old new piece positions mime found reads star =
+    next-some old new new (piece, Some positions) (Ok mime) found found.sound refl
+    (piece.now, found.gives.0.1 mime.media reads, star, found.out_of_memory)
 
 -- a call gives out of memory, which ends the run
-pub next-starved : (old now new : Iteration) (piece : Bor (List ℕ)) (places : Places) → IsFound old (Some (piece, Some places)) now
-    → piece.now ≢ codes "*/*" → new ≡ record now { left = []; starved = true } → IsNext old (Some (Err NoMemory)) new
-next-starved old now new piece places found not_star is =
-    let accepted = accepted-from_places piece.now places found.gives.0.0 in
+pub next-out_of_memory : (old now new : Iteration) (piece : Bor (List ℕ)) (positions : Positions) → IsFound old (Some (piece, Some positions)) now
+    → piece.now ≢ codes "*/*" → new ≡ record now { left = []; out_of_memory = true } → IsNext old (Some (Err NoMemory)) new
+next-out_of_memory old now new piece positions found not_star is =
+    let accepted = accepted-from_positions piece.now positions found.gives.0.0 in
     let others = has_cut now.left in
-    next-some old now new (piece, Some places) (Err NoMemory) found
-    (subst IsSound (sym is) (under_way-starved now.text now.left now.starved now.steps found.sound))
+    next-some old now new (piece, Some positions) (Err NoMemory) found
+    (subst IsSound (sym is) (under_way-out_of_memory now.text now.left now.out_of_memory now.steps found.sound))
     (ap (λ (i : Iteration). i.text) is) (
       record {
         piece = piece.now;
@@ -188,7 +188,7 @@ next-starved old now new piece places found not_star is =
         not_star = not_star;
       },
       ap (λ (i : Iteration). i.left) is,
-      ap (λ (i : Iteration). i.starved) is,
+      ap (λ (i : Iteration). i.out_of_memory) is,
     )
 
 -- the items of a run

@@ -1,4 +1,4 @@
--- Laws on which no code rests: what a caller may conclude of an essence, a kept text, a key, a cut's items and a front.
+-- Laws on which no code rests: what a caller may conclude of an essence, a kept text, a key, a cut's items and a prefix.
 use Rattle.std.proofs.Common.{◌≡◌, ◌≢◌, true, false, ℕ, ◌⊎◌, inl, inr, Bool, List, [], ◌∷◌, ◌++◌, length, take, Option, Some, None, refl, sym, ap, ◌∙◌, subst, append-nil, ⊎_elim, codes}
 use Rattle.std.proofs.lemmas.Bool.{cases_order}
 use Rattle.std.proofs.lemmas.Bool.Decides.{not_from_Decides, Decides-and}
@@ -13,20 +13,20 @@ use Rattle.std.specs.Cmp.{booleans_Decides}
 use Rattle.mime.specs.Grammar.{SyntaxTree, no_list}
 use Rattle.mime.specs.Values.{MediaType, Reads, lowered, lowered_tree, IsAccepted, IsRefused}
 use Rattle.mime.specs.Comparison.{Same, HasNoSemicolon}
-use Rattle.mime.specs.Refusals.{IsViable, IsFront, completion_of, Lacks}
+use Rattle.mime.specs.Refusals.{IsViable, IsLongestPrefix, completion_of, Lacks}
 use Rattle.mime.specs.Items.{Item, IsFirstAccepted}
 use Rattle.mime.specs.Names.{NameIs}
 use Rattle.mime.specs.Cut.{CutItem, ItemsOf, is_read, is_refused, is_empty, whole, unfinished, goes_on}
-use Rattle.mime.specs.Laws.{IsViableInUtf8, IsFrontInUtf8, FrontIsInUtf8, without_parameters, EssenceIsRead, KeptTextIs, IsDecided, OneAnswer, HasAnswer}
+use Rattle.mime.specs.Laws.{IsViableInUtf8, IsLongestPrefixInUtf8, PrefixIsInUtf8, without_parameters, EssenceIsRead, KeptTextIs, IsDecided, OneAnswer, HasAnswer}
 use Rattle.mime.specs.CutLaws.{IsItem, CutHasItems}
 use Rattle.mime.specs.declared.scan.fault.ParseError.{ParseError}
 use Rattle.mime.specs.declared.scan.fault.ParseError.TheVariants.{MissingSlash, MissingSubtype, MissingEqual, MissingValue, MissingQuote, InvalidToken, NoMemory}
-use Rattle.mime.proofs.GrammarLemmas.Characters.{front_ends_between_characters}
+use Rattle.mime.proofs.GrammarLemmas.Characters.{prefix_ends_between_characters}
 use Rattle.mime.proofs.ValueLemmas.Parts.{kept-essence, read-low_essence}
 use Rattle.mime.proofs.CutLemmas.{empty-refused, accepted_or_refused, split-piece}
 use Rattle.mime.proofs.ValueLemmas.KeptText.{value_of_low, value_of-lowering, kept_is_read}
 use Rattle.mime.proofs.ValueLemmas.Lowercase.{lowered_tree-lowered_tree, IsWellFormed-lowered_tree}
-use Rattle.mime.proofs.GrammarLemmas.Faults.{one_completion, one_front}
+use Rattle.mime.proofs.GrammarLemmas.Faults.{one_completion, one_longest_prefix}
 use Rattle.mime.proofs.GrammarLemmas.Readings.{one_reading}
 use Rattle.mime.proofs.CompareLemmas.{text_is-from_lowered}
 use Rattle.mime.proofs.GrammarLemmas.Viability.{empty_is_viable}
@@ -147,11 +147,11 @@ pub cut_has_items : CutHasItems
 cut_has_items text items rest (whole t value reads) = ((reads, tt), empty_is_viable, empty-refused)
 cut_has_items text items rest (unfinished t viable is) = (tt, viable, is)
 cut_has_items text items rest (goes_on t p c l first others r split of_piece cut) =
-    let viable = subst IsViable (split-piece t p c l split) split.front.viable in
+    let viable = subst IsViable (split-piece t p c l split) split.prefix.viable in
     let more = cut_has_items l others r cut in
     (are_items-append first others (are_items-of p first viable of_piece) more.0, more.1, more.2)
 
--- ---- a front in valid UTF-8
+-- ---- a prefix in valid UTF-8
 
 -- what completes a text is ASCII
 completion-utf8 : (fault : ParseError) → MatchOption (completion_of fault) (Unit {0}) IsUtf8
@@ -165,44 +165,44 @@ completion-utf8 (InvalidToken pos byte) = tt
 completion-utf8 NoMemory = tt
 
 -- with it a text of valid UTF-8 stays one
-completed_in_utf8 : (front : List ℕ) (fault : ParseError) → IsUtf8 front → Lacks front fault → IsViableInUtf8 front
-completed_in_utf8 front fault utf8 lacks = by (completion_of fault) (completion-utf8 fault) lacks.0
+completed_in_utf8 : (prefix : List ℕ) (fault : ParseError) → IsUtf8 prefix → Lacks prefix fault → IsViableInUtf8 prefix
+completed_in_utf8 prefix fault utf8 lacks = by (completion_of fault) (completion-utf8 fault) lacks.0
   where
-    by : (o : Option (List ℕ)) → MatchOption o (Unit {0}) IsUtf8 → MatchOption o ⊥ (λ more. IsAccepted (front ++ more))
-        → IsViableInUtf8 front
+    by : (o : Option (List ℕ)) → MatchOption o (Unit {0}) IsUtf8 → MatchOption o ⊥ (λ more. IsAccepted (prefix ++ more))
+        → IsViableInUtf8 prefix
     by None ascii completed = absurd completed
-    by (Some more) ascii completed = (more, IsUtf8-append front more utf8 ascii, completed)
+    by (Some more) ascii completed = (more, IsUtf8-append prefix more utf8 ascii, completed)
 
 -- a viable text of valid UTF-8 is completed to one
-viable-in_utf8 : (front : List ℕ) → IsUtf8 front → IsViable front → IsViableInUtf8 front
-viable-in_utf8 front utf8 viable = by (accepted_or_refused front)
+viable-in_utf8 : (prefix : List ℕ) → IsUtf8 prefix → IsViable prefix → IsViableInUtf8 prefix
+viable-in_utf8 prefix utf8 viable = by (accepted_or_refused prefix)
   where
-    by : IsAccepted front ⊎ IsRefused front → IsViableInUtf8 front
-    by (inl accepted) = ([], subst IsUtf8 (sym (append-nil front)) utf8, subst IsAccepted (sym (append-nil front)) accepted)
-    by (inr is) = let lacks = one_completion front viable is in completed_in_utf8 front lacks.0 utf8 lacks.1
+    by : IsAccepted prefix ⊎ IsRefused prefix → IsViableInUtf8 prefix
+    by (inl accepted) = ([], subst IsUtf8 (sym (append-nil prefix)) utf8, subst IsAccepted (sym (append-nil prefix)) accepted)
+    by (inr is) = let lacks = one_completion prefix viable is in completed_in_utf8 prefix lacks.0 utf8 lacks.1
 
--- the longest viable front is completed to a text of valid UTF-8
-front-in_utf8 : (text : List ℕ) (count : ℕ) → IsUtf8 text → IsFront text count → IsFrontInUtf8 text count
-front-in_utf8 text count utf8 front = record {
-  within = front.within;
+-- the longest viable prefix is completed to a text of valid UTF-8
+prefix-in_utf8 : (text : List ℕ) (count : ℕ) → IsUtf8 text → IsLongestPrefix text count → IsLongestPrefixInUtf8 text count
+prefix-in_utf8 text count utf8 prefix = record {
+  within = prefix.within;
   viable = viable-in_utf8 (take count text)
-      (IsUtf8-take text count utf8 (front_ends_between_characters text count utf8 front)) front.viable;
-  longest = λ n above within viable. front.longest n above within (viable.0, viable.2);
+      (IsUtf8-take text count utf8 (prefix_ends_between_characters text count utf8 prefix)) prefix.viable;
+  longest = λ n above within viable. prefix.longest n above within (viable.0, viable.2);
 }
 
--- a text has one front that is completed to a text of valid UTF-8
-front_in_utf8-unique : (text : List ℕ) (m n : ℕ) → IsFrontInUtf8 text m → IsFrontInUtf8 text n → m ≡ n
-front_in_utf8-unique text m n first second =
+-- a text has one prefix that is completed to a text of valid UTF-8
+prefix_in_utf8-unique : (text : List ℕ) (m n : ℕ) → IsLongestPrefixInUtf8 text m → IsLongestPrefixInUtf8 text n → m ≡ n
+prefix_in_utf8-unique text m n first second =
     ⊎_elim (λ same. same)
     (⊎_elim (λ below. absurd (first.longest n below second.within second.viable))
     (λ above. absurd (second.longest m above first.within first.viable)))
     (cases_order m n)
 
 -- the two fronts are the same
-pub front_is_in_utf8 : FrontIsInUtf8
-front_is_in_utf8 text count utf8 = (
-  front-in_utf8 text count utf8,
+pub prefix_is_in_utf8 : PrefixIsInUtf8
+prefix_is_in_utf8 text count utf8 = (
+  prefix-in_utf8 text count utf8,
   λ other.
-      let one = one_front text in
-      subst (IsFront text) (front_in_utf8-unique text one.0 count (front-in_utf8 text one.0 utf8 one.1) other) one.1,
+      let one = one_longest_prefix text in
+      subst (IsLongestPrefix text) (prefix_in_utf8-unique text one.0 count (prefix-in_utf8 text one.0 utf8 one.1) other) one.1,
 )

@@ -8,18 +8,18 @@ use Rattle.std.specs.Prelude.{IsTrue, IsFalse, ◌&&◌}
 use Rattle.std.specs.List.{list_all}
 use Rattle.std.specs.Str.{IsUtf8, IsCharBoundary}
 use Rattle.mime.specs.Values.{IsAccepted, IsRefused}
-use Rattle.mime.specs.Refusals.{IsViable, IsFront}
+use Rattle.mime.specs.Refusals.{IsViable, IsLongestPrefix}
 use Rattle.mime.specs.Cut.{is_following_byte, BeginsCharacter, IsCharacter, IsSplit, CutItem, good, bad, ItemsOf, is_read, is_refused, is_empty, Cut, whole, unfinished, goes_on, TakesSteps}
 use Rattle.mime.specs.ReaderState.{Remaining}
-use Rattle.mime.specs.Scanning.{HasPlaces, IsStopped, Judges, Scans}
+use Rattle.mime.specs.Scanning.{HasPositions, IsStopped, Judges, Scans}
 use Rattle.mime.specs.BetweenCalls.{IsUnderWay, IsFirstPiece, PassesPiece}
 use Rattle.mime.specs.declared.scan.fault.ParseError.{ParseError}
-use Rattle.mime.specs.declared.scan.Places.{Places}
+use Rattle.mime.specs.declared.scan.Positions.{Positions}
 use Rattle.mime.specs.declared.scan.Verdict.{Verdict}
 use Rattle.mime.specs.declared.scan.Verdict.TheVariants.{Accepted, Unfinished, Stopped}
-use Rattle.mime.proofs.GrammarLemmas.Characters.{front_ends_between_characters}
+use Rattle.mime.proofs.GrammarLemmas.Characters.{prefix_ends_between_characters}
 use Rattle.mime.proofs.CutLemmas.{empty-refused, empty-cut, split-size, cut_unique, takes-split, takes-viable, takes-empty}
-use Rattle.mime.proofs.ValueLemmas.Reading.{accepted-from_places, refused-from_fault}
+use Rattle.mime.proofs.ValueLemmas.Reading.{accepted-from_positions, refused-from_fault}
 use Rattle.mime.proofs.GrammarLemmas.Viability.{accepted_is_viable}
 
 -- ---- the first character of a text
@@ -75,12 +75,12 @@ judged-from_scan old new text from steps verdict scans left begin end =
     subst (λ n. Judges text n verdict) count (subst (λ t. Judges t scans.count verdict) left scans.judged)
 
 -- where it stopped the text may be cut, and isn't at its end
-pub stopped-boundary : (text : List ℕ) (steps at byte : ℕ) (places : Option Places) → IsUtf8 text
-    → Judges text steps (Stopped byte places) → at ≡ steps - 1 → IsCharBoundary text at × (0 < length (drop at text))
-stopped-boundary text steps at byte places utf8 (pos, is, stopped) is_at =
+pub stopped-boundary : (text : List ℕ) (steps at byte : ℕ) (positions : Option Positions) → IsUtf8 text
+    → Judges text steps (Stopped byte positions) → at ≡ steps - 1 → IsCharBoundary text at × (0 < length (drop at text))
+stopped-boundary text steps at byte positions utf8 (pos, is, stopped) is_at =
     let same : pos ≡ at = omega (arith, is, is_at) in
     let within = slice_get_within text pos byte stopped.fault.there in (
-      subst (IsCharBoundary text) same (front_ends_between_characters text pos utf8 stopped.fault.front),
+      subst (IsCharBoundary text) same (prefix_ends_between_characters text pos utf8 stopped.fault.prefix),
       omega (arith, length-drop at text, same, within),
     )
 
@@ -94,10 +94,10 @@ under_way-viable text viable = record {
 }
 
 -- an accepted text is its first piece
-pub passes-whole : (text : List ℕ) (places : Places) (steps : ℕ) → Judges text steps (Accepted places)
-    → PassesPiece text text (Some places) [] steps
-passes-whole text places steps (is, has) =
-    let accepted = accepted-from_places text places has in
+pub passes-whole : (text : List ℕ) (positions : Positions) (steps : ℕ) → Judges text steps (Accepted positions)
+    → PassesPiece text text (Some positions) [] steps
+passes-whole text positions steps (is, has) =
+    let accepted = accepted-from_positions text positions has in
     record {
       empty = λ none. absurd (empty-refused (subst IsAccepted none accepted));
       item = λ some. (
@@ -125,16 +125,16 @@ passes-unfinished text fault steps (is, fault_is, viable) = record {
 }
 
 -- a character that can't follow ends the piece
-passes-split : (text piece character left : List ℕ) (places : Option Places) → IsSplit text piece character left
-    → MatchOption places (IsRefused piece) (λ p. HasPlaces piece p) → PassesPiece text piece places left (length piece + 1)
-passes-split text piece character left places split is =
+passes-split : (text piece character left : List ℕ) (positions : Option Positions) → IsSplit text piece character left
+    → MatchOption positions (IsRefused piece) (λ p. HasPositions piece p) → PassesPiece text piece positions left (length piece + 1)
+passes-split text piece character left positions split is =
     let size = split-size text piece character left split in
     record {
       empty = λ none. record {
         carries = λ some items rest cut. on [] (is_empty none) items rest cut;
         ends = λ end. ([], on [] (is_empty none) [] [] (subst (λ t. Cut t [] []) (sym end) empty-cut));
       };
-      item = first places is;
+      item = first positions is;
       less = λ some. omega (arith, size.0, size.1);
       under_way = record {
         few = omega (arith, size.0, size.1);
@@ -146,28 +146,28 @@ passes-split text piece character left places split is =
         → Cut text (first ++ items) rest
     on first of_piece items rest cut = goes_on text piece character left first items rest split of_piece cut
 
-    first : (places : Option Places) → MatchOption places (IsRefused piece) (λ p. HasPlaces piece p) → piece ≢ []
-        → IsFirstPiece text piece places left
+    first : (positions : Option Positions) → MatchOption positions (IsRefused piece) (λ p. HasPositions piece p) → piece ≢ []
+        → IsFirstPiece text piece positions left
     first None is some = on (bad piece ∷ []) (is_refused is some)
     first (Some p) has some = (has, λ value reads. on (good piece value ∷ []) (is_read value reads))
 
 -- a text is split where the scanner stops
-pub passes-stopped : (text piece rest left : List ℕ) (steps at end byte : ℕ) (places : Option Places)
-    → Judges text steps (Stopped byte places) → at ≡ steps - 1 → piece ≡ take at text → rest ≡ drop at text → left ≡ drop end rest
+pub passes-stopped : (text piece rest left : List ℕ) (steps at end byte : ℕ) (positions : Option Positions)
+    → Judges text steps (Stopped byte positions) → at ≡ steps - 1 → piece ≡ take at text → rest ≡ drop at text → left ≡ drop end rest
     → (1 ≤ length rest → 1 ≤ end) → IsCharBoundary rest end → ((i : ℕ) → 1 ≤ i → i < end → ¬ (IsCharBoundary rest i))
-    → PassesPiece text piece places left steps
-passes-stopped text piece rest left steps at end byte places (pos, is, stopped) is_at is_piece is_rest is_left past border nearest =
+    → PassesPiece text piece positions left steps
+passes-stopped text piece rest left steps at end byte positions (pos, is, stopped) is_at is_piece is_rest is_left past border nearest =
     let same : pos ≡ at = omega (arith, is, is_at) in
-    let before = subst (λ n. IsStopped text n byte places) same stopped in
-    let size : length (take at text) ≡ at = length-take-le at text before.fault.front.within in
+    let before = subst (λ n. IsStopped text n byte positions) same stopped in
+    let size : length (take at text) ≡ at = length-take-le at text before.fault.prefix.within in
     let some : 0 < length rest =
     omega (arith, ap length is_rest, length-drop at text, slice_get_within text at byte before.fault.there) in
     let after = after_character rest end some (past (omega (arith, some))) border nearest in
-    subst (λ p. PassesPiece text p places left steps) (sym is_piece)
-    (subst (PassesPiece text (take at text) places left) (omega (arith, is, same, size))
-    (passes-split text (take at text) after.0 left places
+    subst (λ p. PassesPiece text p positions left steps) (sym is_piece)
+    (subst (PassesPiece text (take at text) positions left) (omega (arith, is, same, size))
+    (passes-split text (take at text) after.0 left positions
     (record {
       spelled = sym (take-append-drop at text) ∙ ap (λ t. take at text ++ t) (sym is_rest ∙ after.1 ∙ ap (λ t. after.0 ++ t) (sym is_left));
-      front = subst (IsFront text) (sym size) before.fault.front;
+      prefix = subst (IsLongestPrefix text) (sym size) before.fault.prefix;
       is_character = subst (IsCharacter after.0) (sym is_left) after.2;
     }) before.before))

@@ -2,15 +2,15 @@
 use Rattle.std.specs.Prelude.{◌≡◌, ◌≢◌, ℕ, ◌+◌, ◌≤◌, ◌<◌, Bool, false, List, [], length, Option, Some, None}
 use Rattle.std.specs.Borrow.{Bor}
 use Rattle.mime.specs.Values.{MediaType, Reads}
-use Rattle.mime.specs.Scanning.{HasPlaces}
+use Rattle.mime.specs.Scanning.{HasPositions}
 use Rattle.mime.specs.Cut.{CutItem, good, bad, Cut, TakesSteps}
 use Rattle.mime.specs.Runs.{Iteration, IsFirstItem, HasNoItem}
-use Rattle.mime.specs.declared.scan.Places.{Places}
+use Rattle.mime.specs.declared.scan.Positions.{Positions}
 
 -- what was read of a text before what is left, and the steps that this took
-pub record IsUnderWay (text left : List ℕ) (starved : Bool) (steps : ℕ) : Type 0 where
+pub record IsUnderWay (text left : List ℕ) (out_of_memory : Bool) (steps : ℕ) : Type 0 where
   pub few : steps + length left ≤ length text
-  pub exact : starved ≡ false → (n : ℕ) → TakesSteps left n → TakesSteps text (steps + n)
+  pub exact : out_of_memory ≡ false → (n : ℕ) → TakesSteps left n → TakesSteps text (steps + n)
 
 -- what an empty piece leaves: the cut of the text, or nothing where that has no item
 pub record PassesOn (text left : List ℕ) : Type 0 where
@@ -18,31 +18,31 @@ pub record PassesOn (text left : List ℕ) : Type 0 where
   pub ends : left ≡ [] → HasNoItem text
 
 -- the text's first item is this piece: a bad one, or what it is read as where its parts have positions
-abbrev pub IsFirstPiece : List ℕ → List ℕ → Option Places → List ℕ → Type 0
+abbrev pub IsFirstPiece : List ℕ → List ℕ → Option Positions → List ℕ → Type 0
 IsFirstPiece text piece None left = IsFirstItem text (bad piece) left
-IsFirstPiece text piece (Some places) left =
-    HasPlaces piece places × ((value : MediaType) → Reads piece value → IsFirstItem text (good piece value) left)
+IsFirstPiece text piece (Some positions) left =
+    HasPositions piece positions × ((value : MediaType) → Reads piece value → IsFirstItem text (good piece value) left)
 
 -- the first piece of a text was passed, with the character after it, and the steps that this took
-pub record PassesPiece (text piece : List ℕ) (places : Option Places) (left : List ℕ) (steps : ℕ) : Type 0 where
+pub record PassesPiece (text piece : List ℕ) (positions : Option Positions) (left : List ℕ) (steps : ℕ) : Type 0 where
   pub empty : piece ≡ [] → PassesOn text left
-  pub item : piece ≢ [] → IsFirstPiece text piece places left
+  pub item : piece ≢ [] → IsFirstPiece text piece positions left
   pub less : 0 < length text → length left < length text
   pub under_way : IsUnderWay text left false steps
 
 -- what every `MimeIter` keeps
 abbrev pub IsSound : Iteration → Type 0
-IsSound i = IsUnderWay i.text i.left i.starved i.steps
+IsSound i = IsUnderWay i.text i.left i.out_of_memory i.steps
 
 -- the piece of the first item, with the positions of its parts if it is accepted, and what is left then
-abbrev pub GivesPiece : List ℕ → Option (Bor (List ℕ) × Option Places) → List ℕ → Type 0
+abbrev pub GivesPiece : List ℕ → Option (Bor (List ℕ) × Option Positions) → List ℕ → Type 0
 GivesPiece text None left = HasNoItem text × (left ≡ [])
-GivesPiece text (Some (piece, places)) left = IsFirstPiece text piece.now places left × (length left < length text)
+GivesPiece text (Some (piece, positions)) left = IsFirstPiece text piece.now positions left × (length left < length text)
 
 -- the first piece that is an item was looked for
-pub record IsFound (old : Iteration) (found : Option (Bor (List ℕ) × Option Places)) (new : Iteration) : Type 0 where
+pub record IsFound (old : Iteration) (found : Option (Bor (List ℕ) × Option Positions)) (new : Iteration) : Type 0 where
   pub gives : GivesPiece old.left found new.left
-  pub starved : new.starved ≡ old.starved
+  pub out_of_memory : new.out_of_memory ≡ old.out_of_memory
   pub text : new.text ≡ old.text
   pub still : old.left ≡ [] → (found ≡ None) × (new ≡ old)
   pub sound : IsSound new

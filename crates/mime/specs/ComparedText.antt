@@ -1,9 +1,9 @@
 -- Private. What a text has that is equal to a value with pairs.
 use Rattle.std.specs.Prelude.{◌≡◌, ℕ, List, [], ◌∷◌, length, take, Some, IsTrue, slice_get}
 use Rattle.mime.specs.Bytes.{semicolon_byte}
-use Rattle.mime.specs.Scanning.{HasPlaces}
+use Rattle.mime.specs.Scanning.{HasPositions}
 use Rattle.mime.specs.Values.{lowered, is_charset}
-use Rattle.mime.specs.declared.scan.Places.{Places}
+use Rattle.mime.specs.declared.scan.Positions.{Positions}
 
 -- a text that goes on with a semicolon after this essence, ignoring ASCII case
 abbrev pub IsListAfter : List ℕ → List ℕ → Type 0
@@ -12,10 +12,10 @@ IsListAfter essence text =
 
 -- an accepted text with its semicolon at this position, and `count` parameters
 pub record IsAcceptedAt (text : List ℕ) (semicolon count : ℕ) : Type 0 where
-  pub places : Places
-  pub has : HasPlaces text places
-  pub at : places.semicolon ≡ Some semicolon
-  pub counted : places.pairs ≡ count
+  pub positions : Positions
+  pub has : HasPositions text positions
+  pub at : positions.semicolon ≡ Some semicolon
+  pub counted : positions.pairs ≡ count
 
 -- the only pair is a charset
 abbrev pub IsLoneCharset : List (List ℕ × List ℕ) → Type 0

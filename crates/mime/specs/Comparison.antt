@@ -3,7 +3,7 @@ use Rattle.std.specs.Prelude.{◌≡◌, ℕ, ◌<◌, ◌⊎◌, List, [], ◌�
 use Rattle.std.specs.List.{list_all}
 use Rattle.std.specs.declared.cmp.Ordering.{Ordering}
 use Rattle.std.specs.Cmp.Lexicographic.{slice_cmp}
-use Rattle.std.specs.Ordering.{nat_cmp, on, then_cmp}
+use Rattle.std.specs.Ordering.{MatchOrdering, nat_cmp, on, then_cmp}
 use Rattle.mime.specs.Bytes.{semicolon_byte}
 use Rattle.mime.specs.Values.{MediaType, Reads}
 
@@ -31,6 +31,10 @@ abbrev pub Before : MediaType → MediaType → Type 0
 Before first second =
     IsTextBefore first.essence second.essence
     ⊎ ((first.essence ≡ second.essence) × IsListBefore IsPairBefore first.pairs second.pairs)
+
+-- an answer says how two values compare: the first comes before, they are equal, or it comes after
+abbrev pub IsOrderOf : MediaType → MediaType → Ordering → Type 0
+IsOrderOf first second answer = MatchOrdering answer (Before first second) (Same first second) (Before second first)
 
 -- the order of pairs as a function: by name, and then by value
 abbrev pub pair_cmp : List ℕ × List ℕ → List ℕ × List ℕ → Ordering

@@ -3,7 +3,7 @@
 use Rattle.std.specs.Prelude.{◌≡◌, ◌≢◌, ℕ, ◌+◌, Bool, ◌&&◌, nat_le, IsTrue, IsFalse, List, [], ◌∷◌, ◌++◌, length}
 use Rattle.std.specs.List.{list_all}
 use Rattle.mime.specs.Values.{MediaType, Reads, IsRefused}
-use Rattle.mime.specs.Refusals.{IsViable, IsFront}
+use Rattle.mime.specs.Refusals.{IsViable, IsLongestPrefix}
 
 -- a byte from 128 to 191: in valid UTF-8 one that begins no character
 abbrev pub is_following_byte : ℕ → Bool
@@ -22,7 +22,7 @@ IsCharacter (b ∷ following) left = IsTrue (list_all is_following_byte followin
 -- the text is its longest viable prefix, the character after it, and what is left
 pub record IsSplit (text piece character left : List ℕ) : Type 0 where
   pub spelled : text ≡ piece ++ (character ++ left)
-  pub front : IsFront text (length piece)
+  pub prefix : IsLongestPrefix text (length piece)
   pub is_character : IsCharacter character left
 
 -- an item: a piece that is read as a value, or a bad piece
@@ -42,7 +42,7 @@ pub data Cut : List ℕ → List CutItem → List ℕ → Type 0 where
   whole : (text : List ℕ) (value : MediaType) → Reads text value → Cut text (good text value ∷ []) []
   -- a viable refused text has no item, and is the rest
   unfinished : (text : List ℕ) → IsViable text → IsRefused text → Cut text [] text
-  -- any other text has the items of its longest viable front, and then those of what is left after the character
+  -- any other text has the items of its longest viable prefix, and then those of what is left after the character
   goes_on : (text piece character left : List ℕ) (first items : List CutItem) (rest : List ℕ)
       → IsSplit text piece character left → ItemsOf piece first → Cut left items rest → Cut text (first ++ items) rest
 

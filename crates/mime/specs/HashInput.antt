@@ -32,7 +32,7 @@ abbrev pub pair_input : List ℕ × List ℕ → fed.HashWrites
 pair_input pair = if nat_lt (pair_count pair) 64 then pair_run pair ∷ [] else pair_parts pair
 
 -- what a value feeds: its pairs, and then its essence as a `str`, so with the byte 255 after it. No name is an essence, which has
--- a slash, so where the pairs end is told by the bytes
+-- a slash, so the bytes say where the pairs end
 abbrev pub media_input : MediaType → fed.HashWrites
 media_input media = flat_map pair_input media.pairs ++ fed.str media.essence
 

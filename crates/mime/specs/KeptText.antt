@@ -4,18 +4,18 @@ use Rattle.std.specs.List.{AllByRecursion, position}
 use Rattle.mime.specs.Grammar.{Tail, no_list, listed, blank, final, more, SyntaxTree, text_of, IsWellFormed}
 use Rattle.mime.specs.Values.{MediaType, lowered, lowered_value, lowered_tree}
 use Rattle.mime.specs.Pairs.{pairs_after, lowered_within}
-use Rattle.mime.specs.Scanning.{places_of}
-use Rattle.mime.specs.declared.scan.Places.{Places}
+use Rattle.mime.specs.Scanning.{positions_of}
+use Rattle.mime.specs.declared.scan.Positions.{Positions}
 use Rattle.std.specs.Option.{option_to_list}
 use Rattle.mime.specs.Bytes.{slash_byte, plus_byte, semicolon_byte}
 
 -- the value that a kept text and the positions of its parts give
-abbrev pub media_of : List ℕ → Places → MediaType
-media_of text places = record {
-  essence = take (unwrap_or places.semicolon (length text)) text;
-  slash = places.slash;
-  plus = places.plus;
-  pairs = pairs_after places.pairs places.semicolon text;
+abbrev pub media_of : List ℕ → Positions → MediaType
+media_of text positions = record {
+  essence = take (unwrap_or positions.semicolon (length text)) text;
+  slash = positions.slash;
+  plus = positions.plus;
+  pairs = pairs_after positions.pairs positions.semicolon text;
   kept = text;
 }
 
@@ -27,23 +27,23 @@ HoldsParameter (listed (final n parameter)) = Unit {0}
 HoldsParameter (listed (more n parameter rest)) = Unit {0}
 
 -- a text as it is kept: that of a well-formed tree which is its own lowering, without an empty list
-pub record IsKept (text : List ℕ) (places : Places) : Type 0 where
+pub record IsKept (text : List ℕ) (positions : Positions) : Type 0 where
   pub tree : SyntaxTree
   pub well_formed : IsWellFormed tree
   pub low : lowered_tree tree ≡ tree
   pub kept : HoldsParameter tree.tail
   pub spelled : text_of tree ≡ text
-  pub placed : places_of tree ≡ places
+  pub same_positions : positions_of tree ≡ positions
 
 -- the positions in the kept text: no semicolon where there is no pair
 abbrev pub kept_semicolon : ℕ → Option ℕ → Option ℕ
 kept_semicolon zero semicolon = None
 kept_semicolon (suc pairs) semicolon = semicolon
 
-abbrev pub kept_places : Places → Places
-kept_places places = record places { semicolon = kept_semicolon places.pairs places.semicolon }
+abbrev pub kept_positions : Positions → Positions
+kept_positions positions = record positions { semicolon = kept_semicolon positions.pairs positions.semicolon }
 
--- a text lowered up to its semicolon, and then pair by pair
+-- a text lowercased up to its semicolon, and then pair by pair
 abbrev pub with_pairs_lowered : ℕ → ℕ → List ℕ → List ℕ
 with_pairs_lowered pairs semicolon text =
     lowered (take (semicolon + 1) text) ++ lowered_within pairs (drop (semicolon + 1) text)
@@ -70,8 +70,8 @@ abbrev first_of : ℕ → List ℕ → Option ℕ
 first_of byte text = position (λ b. b == byte) text
 
 -- the positions of the parts of a text with at most one plus and at most one parameter
-abbrev pub places_in : List ℕ → Places
-places_in text = record {
+abbrev pub positions_in : List ℕ → Positions
+positions_in text = record {
   slash = unwrap_or (first_of slash_byte text) 0;
   plus = first_of plus_byte text;
   semicolon = first_of semicolon_byte text;

@@ -5,8 +5,8 @@ use Rattle.mime.specs.Bytes.{slash_byte, plus_byte}
 use Rattle.mime.specs.Grammar.{SyntaxTree, text_of, IsWellFormed}
 use Rattle.mime.specs.Values.{MediaType, Reads, IsAccepted, IsRefused, lowered, type_of, subtype_of, suffix_of}
 use Rattle.mime.specs.Comparison.{Same, Before, TextIs}
-use Rattle.mime.specs.Difference.{DifferTellingly}
-use Rattle.mime.specs.Refusals.{IsViable, IsFront, Lacks, IsFault}
+use Rattle.mime.specs.Difference.{DifferInValue}
+use Rattle.mime.specs.Refusals.{IsViable, IsLongestPrefix, Lacks, IsFault}
 use Rattle.mime.specs.Items.{Item, IsFirstAccepted}
 use Rattle.mime.specs.declared.scan.fault.ParseError.{ParseError}
 
@@ -26,9 +26,9 @@ AcceptedOrRefused = (text : List ℕ) → IsAccepted text ⊎ IsRefused text
 abbrev pub EmptyIsViable : Type 0
 EmptyIsViable = IsViable []
 
--- Each beginning of a viable text is viable.
-abbrev pub FrontOfViableIsViable : Type 0
-FrontOfViableIsViable = (front more : List ℕ) → IsViable (front ++ more) → IsViable front
+-- Each prefix of a viable text is viable.
+abbrev pub PrefixOfViableIsViable : Type 0
+PrefixOfViableIsViable = (prefix more : List ℕ) → IsViable (prefix ++ more) → IsViable prefix
 
 -- An accepted text is viable.
 abbrev pub AcceptedIsViable : Type 0
@@ -55,39 +55,39 @@ OneFault =
     → (fault : ParseError) × IsFault text fault × ((other : ParseError) → IsFault text other → other ≡ fault)
 
 -- A text has exactly one longest viable prefix.
-abbrev pub OneFront : Type 0
-OneFront = (text : List ℕ) → (count : ℕ) × IsFront text count × ((other : ℕ) → IsFront text other → other ≡ count)
+abbrev pub OneLongestPrefix : Type 0
+OneLongestPrefix = (text : List ℕ) → (count : ℕ) × IsLongestPrefix text count × ((other : ℕ) → IsLongestPrefix text other → other ≡ count)
 
 -- The longest viable prefix of a text of valid UTF-8 ends between characters.
-abbrev pub FrontEndsBetweenCharacters : Type 0
-FrontEndsBetweenCharacters = (text : List ℕ) (count : ℕ) → IsUtf8 text → IsFront text count → IsCharBoundary text count
+abbrev pub PrefixEndsBetweenCharacters : Type 0
+PrefixEndsBetweenCharacters = (text : List ℕ) (count : ℕ) → IsUtf8 text → IsLongestPrefix text count → IsCharBoundary text count
 
 -- some accepted text of valid UTF-8 begins with these bytes
 abbrev pub IsViableInUtf8 : List ℕ → Type 0
-IsViableInUtf8 front = (more : List ℕ) × IsUtf8 (front ++ more) × IsAccepted (front ++ more)
+IsViableInUtf8 prefix = (more : List ℕ) × IsUtf8 (prefix ++ more) × IsAccepted (prefix ++ more)
 
--- the longest beginning of the text with which some accepted text of valid UTF-8 begins has this many bytes
-pub record IsFrontInUtf8 (text : List ℕ) (count : ℕ) : Type 0 where
+-- the longest prefix of the text with which some accepted text of valid UTF-8 begins has this many bytes
+pub record IsLongestPrefixInUtf8 (text : List ℕ) (count : ℕ) : Type 0 where
   pub within : count ≤ length text
   pub viable : IsViableInUtf8 (take count text)
   pub longest : (n : ℕ) → count < n → n ≤ length text → ¬ (IsViableInUtf8 (take n text))
 
 -- In a text of valid UTF-8 the longest viable prefix is the same whether it may be completed by any bytes or only to a text of
 -- valid UTF-8.
-abbrev pub FrontIsInUtf8 : Type 0
-FrontIsInUtf8 = (text : List ℕ) (count : ℕ) → IsUtf8 text → IsFront text count ↔ IsFrontInUtf8 text count
+abbrev pub PrefixIsInUtf8 : Type 0
+PrefixIsInUtf8 = (text : List ℕ) (count : ℕ) → IsUtf8 text → IsLongestPrefix text count ↔ IsLongestPrefixInUtf8 text count
 
 -- the text has no plus at position `from` or later, in bytes from 0
 abbrev pub HasNoPlusFrom : List ℕ → ℕ → Type 0
-HasNoPlusFrom text from = (place : ℕ) → from ≤ place → slice_get text place ≢ Some plus_byte
+HasNoPlusFrom text from = (position : ℕ) → from ≤ position → slice_get text position ≢ Some plus_byte
 
 -- The plus of a value is the last one of its essence after the subtype's first byte, if there is one.
 abbrev pub PlusIsLast : Type 0
 PlusIsLast =
     (text : List ℕ) (value : MediaType) → Reads text value
     → MatchOption value.plus (HasNoPlusFrom value.essence (value.slash + 2))
-    (λ place. (value.slash + 1 < place) × (slice_get value.essence place ≡ Some plus_byte)
-    × HasNoPlusFrom value.essence (place + 1))
+    (λ position. (value.slash + 1 < position) × (slice_get value.essence position ≡ Some plus_byte)
+    × HasNoPlusFrom value.essence (position + 1))
 
 -- The kept text of a value that was read is read as the value.
 abbrev pub KeptIsRead : Type 0
@@ -138,7 +138,7 @@ OneOrder = (first second : MediaType) → OneOf first second
 abbrev pub BeforeIsTransitive : Type 0
 BeforeIsTransitive = (first second third : MediaType) → Before first second → Before second third → Before first third
 
--- A text is equal to a value without parameters exactly where the text, lowered, is the kept text.
+-- A text is equal to a value without parameters exactly where the text, lowercased, is the kept text.
 abbrev pub BareTextIs : Type 0
 BareTextIs =
     (text : List ℕ) (value : MediaType) → Reads text value → value.pairs ≡ []
@@ -163,8 +163,8 @@ abbrev pub HasAnswer : (List ℕ → Bool → Type 0) → Type 0
 HasAnswer Accepts =
     IsDecided Accepts → (items : List Item) → (found : Option (List ℕ × Bool)) × IsFirstAccepted Accepts items found
 
--- Texts whose first difference tells are not read as equal values.
-abbrev pub FirstDifferenceTells : Type 0
-FirstDifferenceTells =
-    (one other : List ℕ) (first second : MediaType) → Reads one first → Reads other second → DifferTellingly one other
+-- Texts whose first difference reaches the value are not read as equal values.
+abbrev pub FirstDifferenceDecides : Type 0
+FirstDifferenceDecides =
+    (one other : List ℕ) (first second : MediaType) → Reads one first → Reads other second → DifferInValue one other
     → ¬ (Same first second)

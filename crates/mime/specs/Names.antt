@@ -2,7 +2,7 @@
 use Rattle.std.specs.Prelude.{◌≡◌, ℕ, Bool, true, false, List, [], ◌∷◌, codes}
 use Rattle.mime.specs.Values.{lowered}
 
--- a name is equal to a text: if it ignores case (`true`), without regard to ASCII case, else byte for byte
+-- a name is equal to a text: ignoring ASCII case if it does so (`true`), else byte for byte
 abbrev pub NameIs : List ℕ → Bool → List ℕ → Type 0
 NameIs name true text = lowered name ≡ lowered text
 NameIs name false text = name ≡ text

@@ -39,12 +39,12 @@ cut_after_equals whole name (b ∷ bytes) =
 abbrev pub leading_spaces : List ℕ → ℕ
 leading_spaces list = prefix_len is_space list
 
-abbrev pub without_gap : List ℕ → List ℕ
-without_gap list = drop (leading_spaces list) list
+abbrev pub without_spaces : List ℕ → List ℕ
+without_spaces list = drop (leading_spaces list) list
 
 unfoldable pub cut_of : List ℕ → PairCut
 cut_of list =
-    let body = without_gap list in
+    let body = without_spaces list in
     cut_after_equals (length list) (before_byte equals_byte body) (after_byte equals_byte body)
 
 -- the first pairs of a list, up to this number
@@ -61,13 +61,13 @@ pairs_after count (Some semicolon) text = pairs_within count (drop (semicolon + 
 abbrev pub pair_seen : Bor (List ℕ) × Bor (List ℕ) → List ℕ × List ℕ
 pair_seen (name, value) = (name.now, value.now)
 
--- the list with all before its first value lowered, and that value too under `charset`
+-- the list with all before its first value lowercased, and that value too under `charset`
 abbrev pub lowered_first : List ℕ → List ℕ
 lowered_first list =
     let cut = cut_of list in
     lowered (take cut.head list) ++ (lowered_value cut.name cut.value ++ drop (cut.head + length cut.value) list)
 
--- the list with this number of its first pairs lowered in this way
+-- the list with this number of its first pairs lowercased in this way
 abbrev pub lowered_within : ℕ → List ℕ → List ℕ
 lowered_within zero list = list
 lowered_within (suc count) list =

@@ -7,10 +7,10 @@ use Rattle.mime.specs.declared.scan.fault.ParseError.TheVariants.{MissingSlash, 
 
 -- a text is viable: some accepted text begins with it
 abbrev pub IsViable : List ℕ → Type 0
-IsViable front = (more : List ℕ) × IsAccepted (front ++ more)
+IsViable prefix = (more : List ℕ) × IsAccepted (prefix ++ more)
 
--- the longest beginning of the text that is viable, its longest viable prefix, has this many bytes
-pub record IsFront (text : List ℕ) (count : ℕ) : Type 0 where
+-- the longest prefix of the text that is viable has this many bytes
+pub record IsLongestPrefix (text : List ℕ) (count : ℕ) : Type 0 where
   pub within : count ≤ length text
   pub viable : IsViable (take count text)
   pub longest : (n : ℕ) → count < n → n ≤ length text → ¬ (IsViable (take n text))
@@ -33,7 +33,7 @@ last_byte_of other = None
 
 -- the last byte of the text is this one
 abbrev pub EndsIn : List ℕ → ℕ → Type 0
-EndsIn text byte = (front : List ℕ) × (text ≡ front ++ (byte ∷ []))
+EndsIn text byte = (prefix : List ℕ) × (text ≡ prefix ++ (byte ∷ []))
 
 -- the text lacks what the fault says: with the fault's completion after it, it is accepted, and it ends in the fault's
 -- byte, if the fault has one. An accepted text lacks nothing
@@ -48,7 +48,7 @@ IsUnclosed text = Lacks text MissingQuote
 
 -- the byte just after the longest viable prefix, at position `pos` in bytes from 0, is at fault: nothing after it helps
 pub record IsDeadAt (text : List ℕ) (pos byte : ℕ) : Type 0 where
-  pub front : IsFront text pos
+  pub prefix : IsLongestPrefix text pos
   pub there : slice_get text pos ≡ Some byte
 
 -- the fault of a refused text; `NoMemory` isn't one

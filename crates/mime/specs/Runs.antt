@@ -9,7 +9,7 @@ use Rattle.mime.specs.declared.iter.Bad.TheVariants.{Piece, NoMemory}
 pub record Iteration : Type 0 where
   pub text : List ℕ
   pub left : List ℕ
-  pub starved : Bool
+  pub out_of_memory : Bool
   pub steps : ℕ
 
 -- it has ended: nothing is left
@@ -35,12 +35,12 @@ HasNoItem text = (rest : List ℕ) × Cut text [] rest
 
 -- what a call gives: none, a media type, which is fixed if its piece is `*/*`, a bad piece, or out of memory
 abbrev pub GivesItem : Iteration → Option (Result OwnedMedia Bad) → Iteration → Type 0
-GivesItem old None new = HasNoItem old.left × HasEnded new × (new.starved ≡ old.starved)
+GivesItem old None new = HasNoItem old.left × HasEnded new × (new.out_of_memory ≡ old.out_of_memory)
 GivesItem old (Some (Ok mime)) new =
     (piece : List ℕ) × IsFirstItem old.left (good piece mime.media) new.left
-    × (piece ≡ codes "*/*" → mime.fixed ≡ true) × (new.starved ≡ old.starved)
-GivesItem old (Some (Err (Piece piece))) new = IsFirstItem old.left (bad piece.now) new.left × (new.starved ≡ old.starved)
-GivesItem old (Some (Err NoMemory)) new = NeedsMemory old.left × HasEnded new × (new.starved ≡ true)
+    × (piece ≡ codes "*/*" → mime.fixed ≡ true) × (new.out_of_memory ≡ old.out_of_memory)
+GivesItem old (Some (Err (Piece piece))) new = IsFirstItem old.left (bad piece.now) new.left × (new.out_of_memory ≡ old.out_of_memory)
+GivesItem old (Some (Err NoMemory)) new = NeedsMemory old.left × HasEnded new × (new.out_of_memory ≡ true)
 
 -- one call of `next` makes the old iterator the new one, and returns the result
 pub record IsNext (old : Iteration) (result : Option (Result OwnedMedia Bad)) (new : Iteration) : Type 0 where
@@ -51,6 +51,6 @@ pub record IsNext (old : Iteration) (result : Option (Result OwnedMedia Bad)) (n
   -- the steps are at most the bytes of the text,
   pub few : new.steps ≤ length new.text
   -- and at the end, unless memory ran out, exactly those that the text takes
-  pub exact : HasEnded new → new.starved ≡ false → TakesSteps new.text new.steps
+  pub exact : HasEnded new → new.out_of_memory ≡ false → TakesSteps new.text new.steps
   -- an iterator that has ended gives none, and stays as it is
   pub stays : HasEnded old → (result ≡ None) × (new ≡ old)

@@ -6,7 +6,7 @@ use Rattle.mime.specs.Bytes.{is_token_byte}
 use Rattle.mime.specs.Grammar.{blank, Tail, no_list, listed, SyntaxTree, text_of, IsToken, IsWellFormed}
 use Rattle.mime.specs.Values.{last_plus, pairs_of_tail, IsRefused}
 use Rattle.mime.specs.Refusals.{IsViable, IsFault}
-use Rattle.mime.specs.declared.scan.Places.{Places}
+use Rattle.mime.specs.declared.scan.Positions.{Positions}
 use Rattle.mime.specs.declared.scan.fault.ParseError.TheVariants.{InvalidToken}
 use Rattle.mime.specs.declared.scan.Verdict.{Verdict}
 use Rattle.mime.specs.declared.scan.Verdict.TheVariants.{Accepted, Unfinished, Stopped}
@@ -34,8 +34,8 @@ abbrev pub semicolon_of : ℕ → Tail → Option ℕ
 semicolon_of at no_list = None
 semicolon_of at (listed parameters) = Some at
 
-abbrev pub places_of : SyntaxTree → Places
-places_of tree = record {
+abbrev pub positions_of : SyntaxTree → Positions
+positions_of tree = record {
   slash = length tree.top;
   plus = last_plus (length tree.top + 2) (drop 1 tree.sub);
   semicolon = semicolon_of (length tree.top + 1 + length tree.sub) tree.tail;
@@ -43,22 +43,22 @@ places_of tree = record {
 }
 
 -- the text is accepted, with its parts at these positions
-pub record HasPlaces (text : List ℕ) (places : Places) : Type 0 where
+pub record HasPositions (text : List ℕ) (positions : Positions) : Type 0 where
   pub tree : SyntaxTree
   pub well_formed : IsWellFormed tree
   pub spelled : text_of tree ≡ text
-  pub placed : places_of tree ≡ places
+  pub same_positions : positions_of tree ≡ positions
 
 -- the text is refused at the byte after its first `pos` bytes, which are themselves as said
-pub record IsStopped (text : List ℕ) (pos byte : ℕ) (places : Option Places) : Type 0 where
+pub record IsStopped (text : List ℕ) (pos byte : ℕ) (positions : Option Positions) : Type 0 where
   pub fault : IsFault text (InvalidToken pos byte)
-  pub before : MatchOption places (IsRefused (take pos text)) (λ p. HasPlaces (take pos text) p)
+  pub before : MatchOption positions (IsRefused (take pos text)) (λ p. HasPositions (take pos text) p)
 
 -- what the scanner finds in a text, after it was given `count` bytes
 abbrev pub Judges : List ℕ → ℕ → Verdict → Type 0
-Judges text count (Accepted places) = (count ≡ length text) × HasPlaces text places
+Judges text count (Accepted positions) = (count ≡ length text) × HasPositions text positions
 Judges text count (Unfinished fault) = (count ≡ length text) × IsFault text fault × IsViable text
-Judges text count (Stopped byte places) = (pos : ℕ) × (count ≡ pos + 1) × IsStopped text pos byte places
+Judges text count (Stopped byte positions) = (pos : ℕ) × (count ≡ pos + 1) × IsStopped text pos byte positions
 
 -- the scanner's answer, with the bytes that it took
 pub record Scans (old new : Remaining) (verdict : Verdict) : Type 0 where
@@ -83,7 +83,7 @@ abbrev pub before_list : List ℕ → List ℕ → SyntaxTree
 before_list top sub = record { top = top; sub = sub; tail = listed (blank []) }
 
 -- the scanner's answer on a parameter list is its answer on each text that the list ends
-abbrev pub ScansList : Places → Remaining → Remaining → Verdict → Type 0
+abbrev pub ScansList : Positions → Remaining → Remaining → Verdict → Type 0
 ScansList head old new verdict =
-    (start : Remaining) (top sub : List ℕ) → IsToken top → IsToken sub → head ≡ places_of (before_list top sub)
+    (start : Remaining) (top sub : List ℕ) → IsToken top → IsToken sub → head ≡ positions_of (before_list top sub)
     → Given start old (text_of (before_list top sub)) None → Scans start new verdict

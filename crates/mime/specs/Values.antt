@@ -13,11 +13,11 @@ lowered text = str_to_ascii_lowercase text
 abbrev pub is_charset : List ℕ → Bool
 is_charset name = bytes_eq (lowered name) (codes "charset")
 
--- a parameter's value, lowered if the parameter's name is `charset`
+-- a parameter's value, lowercased if the parameter's name is `charset`
 abbrev pub lowered_value : List ℕ → List ℕ → List ℕ
 lowered_value name value = if is_charset name then lowered value else value
 
--- a parameter, a list and a tail with each name lowered, and each value that belongs to a `charset`
+-- a parameter, a list and a tail with each name lowercased, and each value that belongs to a `charset`
 abbrev pub lowered_parameter : Parameter → Parameter
 lowered_parameter (plain name value) = plain (lowered name) (lowered_value name value)
 lowered_parameter (quoted name content n) = quoted (lowered name) (lowered_value name content) n
@@ -31,7 +31,7 @@ abbrev pub lowered_tail : Tail → Tail
 lowered_tail no_list = no_list
 lowered_tail (listed parameters) = listed (lowered_list parameters)
 
--- the tree with its type, its subtype, each name and each value of a `charset` lowered
+-- the tree with its type, its subtype, each name and each value of a `charset` lowercased
 abbrev pub lowered_tree : SyntaxTree → SyntaxTree
 lowered_tree tree = record { top = lowered tree.top; sub = lowered tree.sub; tail = lowered_tail tree.tail }
 
@@ -109,9 +109,9 @@ abbrev pub subtype_of : MediaType → List ℕ
 subtype_of value = slice_range value.essence (value.slash + 1) (unwrap_or value.plus (length value.essence))
 
 abbrev pub suffix_of : MediaType → Option (List ℕ)
-suffix_of value = option_map (λ place. drop (place + 1) value.essence) value.plus
+suffix_of value = option_map (λ position. drop (position + 1) value.essence) value.plus
 
--- what a `Mime` holds: a value, and whether it is fixed, so that a clone takes no memory
+-- what a `Mime` holds: a value, and whether it is fixed, so that a clone allocates nothing
 pub record OwnedMedia : Type 0 where
   pub media : MediaType
   pub fixed : Bool

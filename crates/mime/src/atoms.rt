@@ -4,9 +4,9 @@ ghost use Rattle.std.specs.Fmt.{styled_text};
 ghost use Rattle.std.specs.Prelude.{◌≡◌, true, Some};
 ghost use Rattle.mime.specs.Values.{Reads};
 ghost use Rattle.mime.specs.Atoms.{atom_text};
-ghost use Rattle.mime.specs.KeptText.{places_in};
+ghost use Rattle.mime.specs.KeptText.{positions_in};
 
-use crate::scan::Places;
+use crate::scan::Positions;
 use crate::value::Mime;
 use std::fmt;
 
@@ -150,18 +150,18 @@ static TABLE: [Row; 32] = [
 impl Atom {
     /// The constant's text, and where its parts are.
     #[inline]
-    fn constant(self) -> (&'static str, Places)
+    fn constant(self) -> (&'static str, Positions)
         ensures text { result.0.now ≡ atom_text self }
-        ensures places { result.1 ≡ places_in (atom_text self) }
+        ensures positions { result.1 ≡ positions_in (atom_text self) }
     {
         let (text, slash, plus, semicolon) = TABLE[self as usize];
-        let places = Places {
+        let positions = Positions {
             slash,
             plus,
             semicolon,
             pairs: semicolon.is_some() as usize,
         };
-        (text, places)
+        (text, positions)
     }
 
     /// The constant's text: `text/plain` for `TEXT_PLAIN`.
@@ -178,8 +178,8 @@ impl Atom {
         ensures kept { result.media.kept ≡ atom_text self }
         ensures fixed { result.fixed ≡ true }
     {
-        let (text, places) = self.constant();
-        Mime::fixed(text, places)
+        let (text, positions) = self.constant();
+        Mime::fixed(text, positions)
     }
 }
 

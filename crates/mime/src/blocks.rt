@@ -140,7 +140,7 @@ impl<'a> TextEnd<'a> {
         found.trailing_zeros() as usize
     }
 
-    /// Splits at an ASCII byte, and drops it; at the end all of it and an empty rest. With `#[inline]` alone short walks
+    /// Splits at an ASCII byte, and drops it; at the end: all of the text, and an empty rest. With `#[inline]` alone short walks
     /// took up to a tenth more.
     #[inline(always)]
     pub(crate) fn split_around(&self, position: usize) -> (&'a str, TextEnd<'a>)
@@ -156,7 +156,7 @@ impl<'a> TextEnd<'a> {
         }
     }
 
-    /// Splits at the first such ASCII byte, and drops it; where there is none, all of it and an empty rest.
+    /// Splits at the first such ASCII byte, and drops it; without one: all of the text, and an empty rest.
     #[inline(always)]
     pub(crate) fn split_at_first(&self, byte: u8) -> (&'a str, TextEnd<'a>)
         requires ascii { byte < 128 }

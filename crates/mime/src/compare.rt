@@ -1,4 +1,4 @@
-//! A media type against a text, without memory.
+//! A media type against a text, without allocating.
 
 ghost use Rattle.std.specs.Prelude.{◌≡◌, ◌≢◌, ◌↔◌, IsTrue, Some, [], map};
 ghost use Rattle.mime.specs.Comparison.{TextIs};
@@ -6,15 +6,15 @@ ghost use Rattle.mime.specs.KeptText.{AreLowPairs, IsLowPair, lowered_pair};
 ghost use Rattle.mime.specs.ComparedText.{IsListAfter, IsAcceptedAt};
 ghost use Rattle.mime.specs.Values.{Reads, lowered};
 
-use crate::difference::{Seen, look};
+use crate::difference::{Compared, compare_texts};
 use crate::name::eq_ignoring_case;
-use crate::scan::{ByteReader, Places, Verdict, scan};
+use crate::scan::{ByteReader, Positions, Verdict, scan};
 use crate::value::Mime;
 use crate::value::pairs::Pairs;
 
 /// Whether two texts are equal ignoring ASCII case.
 #[inline(always)]
-fn alike(one: &str, other: &str) -> bool
+fn eq_str_ignoring_case(one: &str, other: &str) -> bool
     ensures { IsTrue result ↔ (lowered one.now ≡ lowered other.now) }
 {
     eq_ignoring_case(one.as_bytes(), other.as_bytes())
@@ -39,11 +39,11 @@ fn is_pair(name: &str, value: &str, other: &str, content: &str) -> bool
     requires { IsLowPair (name.now, value.now) }
     ensures { IsTrue result ↔ ((name.now, value.now) ≡ lowered_pair (other.now, content.now)) }
 {
-    if !alike(name, other) {
+    if !eq_str_ignoring_case(name, other) {
         return false;
     }
     if name == "charset" {
-        alike(value, content)
+        eq_str_ignoring_case(value, content)
     } else {
         value == content
     }
@@ -69,10 +69,10 @@ fn are_pairs(kept: Pairs<'_>, pairs: Pairs<'_>) -> bool
 
 /// Whether the semicolon is at this position, and this many parameters follow it.
 #[inline(always)]
-fn is_list_at(places: Places, semicolon: usize, count: usize) -> bool
-    ensures { IsTrue result ↔ ((places.semicolon ≡ Some semicolon) × (places.pairs ≡ count)) }
+fn is_list_at(positions: Positions, semicolon: usize, count: usize) -> bool
+    ensures { IsTrue result ↔ ((positions.semicolon ≡ Some semicolon) × (positions.pairs ≡ count)) }
 {
-    places.semicolon == Some(semicolon) && places.pairs == count
+    positions.semicolon == Some(semicolon) && positions.pairs == count
 }
 
 /// Whether a text is accepted that has its semicolon at this position, and this many parameters.
@@ -82,7 +82,7 @@ fn is_accepted_at(text: &str, semicolon: usize, count: usize) -> bool
 {
     let mut reader = ByteReader::new(text, 0);
     match scan(&mut reader) {
-        Verdict::Accepted(places) => is_list_at(places, semicolon, count),
+        Verdict::Accepted(positions) => is_list_at(positions, semicolon, count),
         _ => false,
     }
 }
@@ -90,10 +90,10 @@ fn is_accepted_at(text: &str, semicolon: usize, count: usize) -> bool
 /// Whether a text is a value with parameters, part by part: it has the essence, and then the parameters. A text that is
 /// the kept one ignoring ASCII case is accepted as that is; another is scanned.
 #[inline(never)]
-fn eq_by_parts(mime: &Mime, s: &str, is_alike: bool) -> bool
+fn eq_by_parts(mime: &Mime, s: &str, is_equal: bool) -> bool
     requires reads { Reads mime.now.media.kept mime.now.media }
     requires some { mime.now.media.pairs ≢ [] }
-    requires alike { IsTrue is_alike → lowered mime.now.media.kept ≡ lowered s.now }
+    requires equal { IsTrue is_equal → lowered mime.now.media.kept ≡ lowered s.now }
     ensures { IsTrue result ↔ TextIs mime.now.media s.now }
 {
     let essence = mime.essence_str();
@@ -104,7 +104,7 @@ fn eq_by_parts(mime: &Mime, s: &str, is_alike: bool) -> bool
     if !are_pairs(mime.pairs(), Pairs::after(s, Some(end), mime.count())) {
         return false;
     }
-    is_alike || is_accepted_at(s, end, mime.count())
+    is_equal || is_accepted_at(s, end, mime.count())
 }
 
 /// Whether a text is a value with parameters that isn't its kept text. The first difference decides most texts; a lone
@@ -114,10 +114,10 @@ fn eq_otherwise(mime: &Mime, s: &str) -> bool
     requires { mime.now.media.pairs ≢ [] }
     ensures { IsTrue result ↔ TextIs mime.now.media s.now }
 {
-    match look(mime.as_str(), s) {
-        Seen::Apart => false,
-        Seen::Alike => mime.pairs().is_lone_charset() || eq_by_parts(mime, s, true),
-        Seen::Open => eq_by_parts(mime, s, false),
+    match compare_texts(mime.as_str(), s) {
+        Compared::Different => false,
+        Compared::Equal => mime.pairs().is_lone_charset() || eq_by_parts(mime, s, true),
+        Compared::Undecided => eq_by_parts(mime, s, false),
     }
 }
 
@@ -133,7 +133,7 @@ pub fn mime_eq_str(mime: &Mime, s: &str) -> bool
 {
     let kept = mime.as_str();
     if mime.count() == 0 {
-        return alike(kept, s);
+        return eq_str_ignoring_case(kept, s);
     }
     kept == s || eq_otherwise(mime, s)
 }

@@ -2,10 +2,10 @@
 
 ghost use Rattle.std.specs.Prelude.{◌≡◌, ◌≤◌, IsTrue, IfSome, None, length, take};
 ghost use Rattle.std.specs.Simd.Lanes.{zip2};
-ghost use Rattle.mime.specs.Difference.{is_telling as tells, FirstDifference, DifferTellingly};
+ghost use Rattle.mime.specs.Difference.{reaches_value as reaches, FirstDifference, DifferInValue};
 ghost use Rattle.mime.specs.Blocks.{difference_bit};
 ghost use Rattle.mime.specs.Values.{lowered};
-ghost use Rattle.mime.specs.declared.difference.Seen.TheVariants.{Alike, Apart};
+ghost use Rattle.mime.specs.declared.difference.Compared.TheVariants.{Equal, Different};
 
 use crate::blocks::{BLOCK, mask};
 use crate::bytes::is_space;
@@ -83,36 +83,36 @@ pub(crate) fn first_difference(a: &[u8], b: &[u8]) -> Option<usize>
 
 /// Whether a difference at this byte means different values: all bytes but space, tab and quote reach the value.
 #[inline(always)]
-fn is_telling(byte: u8) -> bool
-    ensures { result ≡ tells byte }
+fn reaches_value(byte: u8) -> bool
+    ensures { result ≡ reaches byte }
 {
     !(is_space(byte) || byte == b'"')
 }
 
 /// What a comparison of two texts shows.
-pub(crate) enum Seen {
+pub(crate) enum Compared {
     /// They are equal ignoring ASCII case.
-    Alike,
+    Equal,
     /// They are read as different values: their first difference, ignoring ASCII case, reaches the value.
-    Apart,
+    Different,
     /// Undecided: a text is shorter than a block, or they first differ at a space, tab or quote, or one ends first.
-    Open,
+    Undecided,
 }
 
 /// Compares two texts up to their first difference, ignoring ASCII case.
 #[inline(always)]
-pub(crate) fn look(kept: &str, text: &str) -> Seen
-    ensures alike { result ≡ Alike → lowered kept.now ≡ lowered text.now }
-    ensures apart { result ≡ Apart → DifferTellingly kept.now text.now }
+pub(crate) fn compare_texts(kept: &str, text: &str) -> Compared
+    ensures equal { result ≡ Equal → lowered kept.now ≡ lowered text.now }
+    ensures different { result ≡ Different → DifferInValue kept.now text.now }
 {
     let kept = kept.as_bytes();
     let text = text.as_bytes();
     if kept.len() < BLOCK || text.len() < BLOCK {
-        return Seen::Open;
+        return Compared::Undecided;
     }
     match first_difference(kept, text) {
-        Some(at) if is_telling(kept[at]) && is_telling(text[at]) => Seen::Apart,
-        None if kept.len() == text.len() => Seen::Alike,
-        _ => Seen::Open,
+        Some(at) if reaches_value(kept[at]) && reaches_value(text[at]) => Compared::Different,
+        None if kept.len() == text.len() => Compared::Equal,
+        _ => Compared::Undecided,
     }
 }

@@ -6,7 +6,7 @@ ghost use Rattle.std.specs.Iterator.SizeHint.{IsWithinCount};
 ghost use Rattle.mime.specs.Runs.{IsNext};
 ghost use Rattle.mime.specs.BetweenCalls.{PassesPiece, IsFound};
 
-use crate::scan::{ByteReader, Places, Verdict, scan};
+use crate::scan::{ByteReader, Positions, Verdict, scan};
 use crate::value::Mime;
 use std::alloc::{AllocError, Global};
 use std::fmt;
@@ -27,7 +27,7 @@ struct Passed<'a> {
     /// The piece; empty where it isn't yielded.
     piece: &'a str,
     /// The positions of its parts, if it is a media type.
-    places: Option<Places>,
+    positions: Option<Positions>,
     /// What is left of the text.
     left: &'a str,
     /// How many bytes were read so far.
@@ -38,30 +38,30 @@ struct Passed<'a> {
 #[inline(always)]
 fn pass<'a>(text: &'a str, from: u128) -> Passed<'a>
     requires { from + length text.now < 2 ^ 128 }
-    ensures passes { PassesPiece text.now result.piece.now result.places result.left.now (result.steps - from) }
+    ensures passes { PassesPiece text.now result.piece.now result.positions result.left.now (result.steps - from) }
     ensures counted { from ≤ result.steps }
 {
     let mut reader = ByteReader::new(text, from);
     let verdict = scan(&mut reader);
     let steps = reader.count();
     match verdict {
-        Verdict::Accepted(places) => Passed {
+        Verdict::Accepted(positions) => Passed {
             piece: text,
-            places: Some(places),
+            positions: Some(positions),
             left: "",
             steps,
         },
         Verdict::Unfinished(_) => Passed {
             piece: "",
-            places: None,
+            positions: None,
             left: "",
             steps,
         },
-        Verdict::Stopped(_, places) => {
+        Verdict::Stopped(_, positions) => {
             let (piece, rest) = text.split_at(reader.position(from));
             Passed {
                 piece,
-                places,
+                positions,
                 left: &rest[rest.ceil_char_boundary(1)..],
                 steps,
             }
@@ -81,15 +81,15 @@ fn pass<'a>(text: &'a str, from: u128) -> Passed<'a>
 /// A media type allocates once, for its kept text, but an entry `*/*` never does: like the `*/*` that
 /// [`Mime::from_str`] gives it is fixed, so that its clone doesn't allocate either.
 ///
-/// Over `text/html, invalid, a/b; q=1` it gives `text/html`, the bad piece `invalid`, and
-/// `a/b; q=1`. Over `a/b ; q=1` it gives `a/b` and the bad piece `q`, since no space may precede the
-/// semicolon. Over `invalid` alone it gives nothing, since that could still become a media type.
+/// Over `text/html, invalid, a/b; q=1` it yields `text/html`, the bad piece `invalid`, and
+/// `a/b; q=1`. Over `a/b ; q=1` it yields `a/b` and the bad piece `q`, since no space may precede the
+/// semicolon. Over `invalid` alone it yields nothing, since that could still become a media type.
 #[derive(Drop)]
 pub struct MimeIter<'a> {
     alloc: Global,
     text: &'a str,
     left: &'a str,
-    starved: bool,
+    out_of_memory: bool,
     steps: u128,
 }
 
@@ -99,9 +99,9 @@ impl<'a> Model for MimeIter<'a> {
 
     ghost Value = { Iteration };
 
-    ghost view = { λ i. record { text = i.text.now; left = i.left.now; starved = i.starved; steps = i.steps } };
+    ghost view = { λ i. record { text = i.text.now; left = i.left.now; out_of_memory = i.out_of_memory; steps = i.steps } };
 
-    ghost invariant = { λ i. IsUnderWay i.text.now i.left.now i.starved i.steps };
+    ghost invariant = { λ i. IsUnderWay i.text.now i.left.now i.out_of_memory i.steps };
 }
 
 impl<'a> MimeIter<'a> {
@@ -110,14 +110,14 @@ impl<'a> MimeIter<'a> {
     pub fn new(alloc: Global, s: &'a str) -> MimeIter<'a>
         ensures text { result.text ≡ s.now }
         ensures left { result.left ≡ s.now }
-        ensures starved { result.starved ≡ false }
+        ensures out_of_memory { result.out_of_memory ≡ false }
         ensures steps { result.steps ≡ 0 }
     {
         MimeIter {
             alloc,
             text: s,
             left: s,
-            starved: false,
+            out_of_memory: false,
             steps: 0,
         }
     }
@@ -135,7 +135,7 @@ impl<'a> MimeIter<'a> {
     /// Passes pieces up to the first that is an item, and yields it, with the positions of its parts if it is a media
     /// type.
     #[inline(always)]
-    fn next_piece(&mut self) -> Option<(&'a str, Option<Places>)>
+    fn next_piece(&mut self) -> Option<(&'a str, Option<Positions>)>
         ensures { IsFound self.old result self.new }
     {
         while !self.left.is_empty() {
@@ -143,14 +143,14 @@ impl<'a> MimeIter<'a> {
             self.left = passed.left;
             self.steps = passed.steps;
             if !passed.piece.is_empty() {
-                return Some((passed.piece, passed.places));
+                return Some((passed.piece, passed.positions));
             }
         }
         None
     }
 }
 
-/// Makes an iterator that goes on from the same place, with the same count of steps: after the first item of
+/// Makes an iterator that goes on from the same position, with the same count of steps: after the first item of
 /// `a/b, c/d` both give `c/d`. It always succeeds, and doesn't allocate.
 impl<'a> Clone for MimeIter<'a> {
     ghost is_clone = { λ iter copy. copy ≡ iter };
@@ -162,7 +162,7 @@ impl<'a> Clone for MimeIter<'a> {
             alloc: self.alloc,
             text: self.text,
             left: self.left,
-            starved: self.starved,
+            out_of_memory: self.out_of_memory,
             steps: self.steps,
         })
     }
@@ -176,17 +176,17 @@ impl<'a> Iterator for MimeIter<'a> {
     ghost remaining = { λ i. at_most (length i.left) };
 
     fn next(&mut self) -> Option<Result<Mime, Bad<'a>>> {
-        let Some((piece, places)) = self.next_piece() else {
+        let Some((piece, positions)) = self.next_piece() else {
             return None;
         };
-        let Some(places) = places else {
+        let Some(positions) = positions else {
             return Some(Err(Bad::Piece(piece)));
         };
-        match Mime::of_accepted(self.alloc, piece, places) {
+        match Mime::of_accepted(self.alloc, piece, positions) {
             Ok(mime) => Some(Ok(mime)),
             Err(_) => {
                 self.left = "";
-                self.starved = true;
+                self.out_of_memory = true;
                 Some(Err(Bad::NoMemory))
             }
         }

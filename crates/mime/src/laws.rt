@@ -4,14 +4,14 @@
 ghost use Rattle.std.specs.Prelude.{◌≡◌, ◌↔◌, IsTrue, map};
 ghost use Rattle.std.specs.Cmp.Lexicographic.{slice_cmp};
 ghost use Rattle.std.specs.List.{list_all};
-ghost use Rattle.std.specs.Ordering.{MatchOrdering, ordering_then, bool_cmp, nat_cmp};
+ghost use Rattle.std.specs.Ordering.{ordering_then, bool_cmp, nat_cmp};
 ghost use Rattle.mime.specs.Values.{OwnedMedia, lowered};
 ghost use Rattle.mime.specs.Names.{name_table};
 ghost use Rattle.mime.specs.Items.{name_text};
-ghost use Rattle.mime.specs.Laws.{OneTree, OneReading, EmptyIsViable, FrontOfViableIsViable, AcceptedIsViable, OneCompletion, CompletedIsRefused, NoCompletion, OneFault, OneFront, FrontEndsBetweenCharacters, FrontIsInUtf8, PlusIsLast, KeptIsRead, EssenceIsRead, OneOrder, BeforeIsTransitive, BareTextIs, KeptTextIs, OneAnswer, HasAnswer, IsDecided, FirstDifferenceTells, AcceptedOrRefused, EssenceIsParts, SameEssence};
+ghost use Rattle.mime.specs.Laws.{OneTree, OneReading, EmptyIsViable, PrefixOfViableIsViable, AcceptedIsViable, OneCompletion, CompletedIsRefused, NoCompletion, OneFault, OneLongestPrefix, PrefixEndsBetweenCharacters, PrefixIsInUtf8, PlusIsLast, KeptIsRead, EssenceIsRead, OneOrder, BeforeIsTransitive, BareTextIs, KeptTextIs, OneAnswer, HasAnswer, IsDecided, FirstDifferenceDecides, AcceptedOrRefused, EssenceIsParts, SameEssence};
 ghost use Rattle.mime.specs.HeaderLaws.{KeptIsSafe, ParameterIsRead};
-ghost use Rattle.mime.specs.Comparison.{Same, Before};
-ghost use Rattle.mime.specs.HashLaws.{IsPrefixFree};
+ghost use Rattle.mime.specs.Comparison.{Same, IsOrderOf};
+ghost use Rattle.mime.specs.HashLaws.{RespectsEquality, IsPrefixFree};
 ghost use Rattle.mime.specs.CutLaws.{OneCut, CutHasItems, CutWritesText, OneCount, CommaContains, JoinedComesBack, HttpListIsCut, PassesOneCharacter};
 ghost use Rattle.mime.specs.CutLaws.{RunGivesCut, PrintedListComesBack, CommaContainsOnRuns};
 
@@ -45,8 +45,8 @@ pub fn empty_is_viable()
 {}
 
 /// What a viable text begins with is viable: `a/b;p`, since `a/b;p="` is.
-pub fn front_of_viable_is_viable()
-    ensures { FrontOfViableIsViable }
+pub fn prefix_of_viable_is_viable()
+    ensures { PrefixOfViableIsViable }
 {}
 
 /// An accepted text is viable: `a/b`, for one.
@@ -77,19 +77,19 @@ pub fn one_fault()
 {}
 
 /// A text has exactly one longest viable prefix: that of `a/b c` is `a/b`.
-pub fn one_front()
-    ensures { OneFront }
+pub fn one_longest_prefix()
+    ensures { OneLongestPrefix }
 {}
 
 /// The longest viable prefix of a text of valid UTF-8 ends between characters: that of `a/bé` before the `é`.
-pub fn front_ends_between_characters()
-    ensures { FrontEndsBetweenCharacters }
+pub fn prefix_ends_between_characters()
+    ensures { PrefixEndsBetweenCharacters }
 {}
 
 /// In a text of valid UTF-8 the longest viable prefix is the same whether it may be completed by any bytes or only to a
 /// text of valid UTF-8: that of `a/b;p="é` is all of it, since `a/b;p="éx"` is accepted.
-pub fn front_is_in_utf8()
-    ensures { FrontIsInUtf8 }
+pub fn prefix_is_in_utf8()
+    ensures { PrefixIsInUtf8 }
 {}
 
 /// The plus of a value is the last one of its essence after the subtype's first byte, if there is one: that of
@@ -178,12 +178,12 @@ pub fn mime_equality()
 
 /// Two values compare as they come before each other: `a/b` is less than `a/c`.
 pub fn mime_order()
-    ensures { (first second : OwnedMedia) → MatchOrdering (⟦<Mime as Ord>⟧.cmp first second) (Before first.media second.media) (Same first.media second.media) (Before second.media first.media) }
+    ensures { (first second : OwnedMedia) → IsOrderOf first.media second.media (⟦<Mime as Ord>⟧.cmp first second) }
 {}
 
 /// Equal values feed a hasher the same: `a/b; p="x"` and `A/B;P=x`.
-pub fn equal_values_hash_alike()
-    ensures { (first second : OwnedMedia) → Same first.media second.media → ⟦<Mime as Hash>⟧.hash_input first ≡ ⟦<Mime as Hash>⟧.hash_input second }
+pub fn equal_values_feed_the_same()
+    ensures { RespectsEquality ⟦<Mime as Hash>⟧.hash_input }
 {}
 
 /// What values feed a hasher is prefix-free: of two unequal values neither feeds bytes with which the other's begin, so a
@@ -194,8 +194,8 @@ pub fn hash_is_prefix_free()
 
 /// Texts that first differ, ignoring ASCII case, where neither byte is a space, a tab or a quote, are not read as equal values:
 /// `a/b;p=x` and `A/B;P=y`. Where one has a quote, they may be: `a/b;p=x` and `a/b;p="x"`.
-pub fn first_difference_tells()
-    ensures { FirstDifferenceTells }
+pub fn first_difference_decides()
+    ensures { FirstDifferenceDecides }
 {}
 
 /// A text has exactly one cut: that of `a/b, e, c/d` has the items `a/b`, the bad piece `e`, and `c/d`.
@@ -287,7 +287,7 @@ pub fn name_order()
 {}
 
 /// Names of the same text and flag feed a hasher the same: `TEXT` and the type of `Text/Plain`.
-pub fn equal_names_hash_alike()
+pub fn equal_names_feed_the_same()
     ensures { (first second : Name) → first.text.now ≡ second.text.now → first.ignores_case ≡ second.ignores_case
         → ⟦<Name<'static> as Hash>⟧.hash_input first ≡ ⟦<Name<'static> as Hash>⟧.hash_input second }
 {}

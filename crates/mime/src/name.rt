@@ -57,31 +57,31 @@ impl fmt::Debug for Name<'_> {
 /// Whether two byte strings of one length are equal ignoring ASCII case. The loop doesn't end early: over
 /// a known length it is a few vector instructions.
 #[inline(always)]
-fn all_alike(a: &[u8], b: &[u8]) -> bool
+fn eq_byte_by_byte(a: &[u8], b: &[u8]) -> bool
     requires same_length { length a.now ≡ length b.now }
     ensures { IsTrue result ↔ (lowered a.now ≡ lowered b.now) }
 {
-    let mut marks = 0;
+    let mut differs = 0;
     let mut at = 0;
     while at < a.len() {
-        marks |= difference(a[at], b[at]);
+        differs |= difference(a[at], b[at]);
         at += 1;
     }
-    marks == 0
+    differs == 0
 }
 
 /// Whether two byte strings of one length are equal ignoring ASCII case, by
 /// their last and first `block` bytes, which together cover texts of at most twice that length. Names and
 /// texts differ at their ends more often than where they begin.
 #[inline(always)]
-fn ends_alike(a: &[u8], b: &[u8], block: usize) -> bool
+fn eq_at_both_ends(a: &[u8], b: &[u8], block: usize) -> bool
     requires same_length { length a.now ≡ length b.now }
     requires room { block ≤ length a.now }
     requires reach { length a.now ≤ block + block }
     ensures { IsTrue result ↔ (lowered a.now ≡ lowered b.now) }
 {
     let last = a.len() - block;
-    all_alike(&a[last..], &b[last..]) && all_alike(&a[..block], &b[..block])
+    eq_byte_by_byte(&a[last..], &b[last..]) && eq_byte_by_byte(&a[..block], &b[..block])
 }
 
 /// Whether two byte strings are equal ignoring ASCII case.
@@ -96,12 +96,12 @@ pub(crate) fn eq_ignoring_case(a: &[u8], b: &[u8]) -> bool
         return first_difference(a, b).is_none();
     }
     if a.len() >= 8 {
-        return ends_alike(a, b, 8);
+        return eq_at_both_ends(a, b, 8);
     }
     if a.len() >= 4 {
-        return ends_alike(a, b, 4);
+        return eq_at_both_ends(a, b, 4);
     }
-    all_alike(a, b)
+    eq_byte_by_byte(a, b)
 }
 
 /// Whether a name is the text `s`: ignoring ASCII case where the name does, else

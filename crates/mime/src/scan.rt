@@ -15,7 +15,7 @@ pub(crate) use crate::scan::reader::ByteReader;
 
 /// The parts of an accepted text: their positions, in bytes from 0, and the number of its parameters.
 #[derive(Clone, Copy)]
-pub(crate) struct Places {
+pub(crate) struct Positions {
     pub(crate) slash: usize,
     pub(crate) plus: Option<usize>,
     pub(crate) semicolon: Option<usize>,
@@ -26,12 +26,12 @@ pub(crate) struct Places {
 #[derive(Clone, Copy)]
 pub(crate) enum Verdict {
     /// It is accepted.
-    Accepted(Places),
+    Accepted(Positions),
     /// It ends too early.
     Unfinished(ParseError),
     /// This byte, the last one read, fits nowhere. The positions are those of the parts of the text before
     /// it, if that is a media type by itself.
-    Stopped(u8, Option<Places>),
+    Stopped(u8, Option<Positions>),
 }
 
 /// Passes the bytes of a token, and gives the byte that ends it.
@@ -123,17 +123,17 @@ fn subtype(reader: &mut ByteReader<'_>, from: u128) -> (Option<usize>, Option<u8
 
 /// Reads a parameter list, after its semicolon, of a text that has these parts before it.
 #[inline(always)]
-fn parameters(reader: &mut ByteReader<'_>, head: Places) -> Verdict
+fn parameters(reader: &mut ByteReader<'_>, head: Positions) -> Verdict
     requires { head.pairs + length reader.old.left < 2 ^ 64 }
     ensures { ScansList head reader.old reader.new result }
 {
-    let mut places = head;
+    let mut positions = head;
     loop {
         let Some(first) = spaces(reader) else {
-            return Verdict::Accepted(places);
+            return Verdict::Accepted(positions);
         };
         if !is_token(first) {
-            return Verdict::Stopped(first, Some(places));
+            return Verdict::Stopped(first, Some(positions));
         }
         match token(reader) {
             None => return Verdict::Unfinished(ParseError::MissingEqual),
@@ -155,11 +155,11 @@ fn parameters(reader: &mut ByteReader<'_>, head: Places) -> Verdict
         } else {
             return Verdict::Stopped(first, None);
         };
-        places.pairs += 1;
+        positions.pairs += 1;
         match stop {
-            None => return Verdict::Accepted(places),
+            None => return Verdict::Accepted(positions),
             Some(b';') => {}
-            Some(byte) => return Verdict::Stopped(byte, Some(places)),
+            Some(byte) => return Verdict::Stopped(byte, Some(positions)),
         }
     }
 }
@@ -189,17 +189,17 @@ pub(crate) fn scan(reader: &mut ByteReader<'_>) -> Verdict
         return Verdict::Stopped(first, None);
     }
     let (plus, stop) = subtype(reader, from);
-    let mut places = Places {
+    let mut positions = Positions {
         slash,
         plus,
         semicolon: None,
         pairs: 0,
     };
     match stop {
-        None => return Verdict::Accepted(places),
+        None => return Verdict::Accepted(positions),
         Some(b';') => {}
-        Some(byte) => return Verdict::Stopped(byte, Some(places)),
+        Some(byte) => return Verdict::Stopped(byte, Some(positions)),
     }
-    places.semicolon = Some(reader.position(from));
-    parameters(reader, places)
+    positions.semicolon = Some(reader.position(from));
+    parameters(reader, positions)
 }

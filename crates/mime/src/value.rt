@@ -6,7 +6,7 @@ ghost use Rattle.mime.specs.Values.{Reads, IsAccepted, lowered, type_of, subtype
 ghost use Rattle.mime.specs.Refusals.{Explains};
 ghost use Rattle.mime.specs.Items.{items_of, IsLowIf, IsLowItem, IsFirstAccepted};
 ghost use Rattle.mime.specs.Items.{name_seen, name_text};
-ghost use Rattle.mime.specs.Scanning.{HasPlaces};
+ghost use Rattle.mime.specs.Scanning.{HasPositions};
 ghost use Rattle.mime.specs.KeptText.{IsKept, media_of, AreLowPairs};
 ghost use Rattle.mime.specs.StoredText.{bytes_of};
 
@@ -17,7 +17,7 @@ mod params;
 mod traits;
 
 use crate::name::{Name, ParamKey};
-use crate::scan::{ByteReader, FromStrError, ParseError, Places, Verdict, scan};
+use crate::scan::{ByteReader, FromStrError, ParseError, Positions, Verdict, scan};
 use crate::value::kept::keep;
 use crate::value::pairs::Pairs;
 pub use crate::value::params::Params;
@@ -51,7 +51,7 @@ impl Text {
 #[derive(Drop)]
 pub struct Mime {
     text: Text,
-    places: Places,
+    positions: Positions,
 }
 
 impl Model for Mime {
@@ -62,9 +62,9 @@ impl Model for Mime {
     ghost use Rattle.mime.specs.StoredText.{bytes_of, is_fixed};
     ghost use Rattle.mime.specs.KeptText.{media_of, IsKept};
 
-    ghost view = { λ mime. record { media = media_of (bytes_of mime.text) mime.places; fixed = is_fixed mime.text } };
+    ghost view = { λ mime. record { media = media_of (bytes_of mime.text) mime.positions; fixed = is_fixed mime.text } };
 
-    ghost invariant = { λ mime. IsKept (bytes_of mime.text) mime.places };
+    ghost invariant = { λ mime. IsKept (bytes_of mime.text) mime.positions };
 }
 
 impl Mime {
@@ -93,7 +93,7 @@ impl Mime {
     {
         let mut reader = ByteReader::new(s, 0);
         match scan(&mut reader) {
-            Verdict::Accepted(places) => Mime::of_accepted(alloc, s, places),
+            Verdict::Accepted(positions) => Mime::of_accepted(alloc, s, positions),
             Verdict::Unfinished(fault) => Err(FromStrError::new(fault)),
             Verdict::Stopped(byte, _) => {
                 let pos = reader.position(0);
@@ -104,8 +104,12 @@ impl Mime {
 
     /// The media type of an accepted text.
     #[inline(always)]
-    pub(crate) fn of_accepted(alloc: Global, s: &str, places: Places) -> Result<Mime, FromStrError>
-        requires { HasPlaces s.now places }
+    pub(crate) fn of_accepted(
+        alloc: Global,
+        s: &str,
+        positions: Positions,
+    ) -> Result<Mime, FromStrError>
+        requires { HasPositions s.now positions }
         ensures read { IfOk result (λ mime. Reads s.now mime.media) }
         ensures memory { IfErr result (λ error. (error ≡ ParseError.NoMemory) × (s.now ≢ codes "*/*")) }
         ensures star { s.now ≡ codes "*/*" → IfOk result (λ mime. mime.fixed ≡ true) }
@@ -113,13 +117,13 @@ impl Mime {
         if s == "*/*" {
             return Ok(Mime {
                 text: Text::Fixed("*/*"),
-                places,
+                positions,
             });
         }
-        match keep(alloc, s, places) {
-            Ok((text, places)) => Ok(Mime {
+        match keep(alloc, s, positions) {
+            Ok((text, positions)) => Ok(Mime {
                 text: Text::Owned(text),
-                places,
+                positions,
             }),
             Err(_) => Err(FromStrError::new(ParseError::NoMemory)),
         }
@@ -127,15 +131,15 @@ impl Mime {
 
     /// The media type of a static text already in kept form, with the positions of its parts.
     #[inline(always)]
-    pub(crate) fn fixed(text: &'static str, places: Places) -> Mime
-        requires { IsKept text.now places }
-        ensures media { result.media ≡ media_of text.now places }
+    pub(crate) fn fixed(text: &'static str, positions: Positions) -> Mime
+        requires { IsKept text.now positions }
+        ensures media { result.media ≡ media_of text.now positions }
         ensures reads { Reads text.now result.media }
         ensures fixed { result.fixed ≡ true }
     {
         Mime {
             text: Text::Fixed(text),
-            places,
+            positions,
         }
     }
 
@@ -146,7 +150,7 @@ impl Mime {
         ensures low { lowered result.text.now ≡ result.text.now }
     {
         Name {
-            text: &self.text.as_str()[..self.places.slash],
+            text: &self.text.as_str()[..self.positions.slash],
             ignores_case: true,
         }
     }
@@ -159,9 +163,9 @@ impl Mime {
         ensures low { lowered result.text.now ≡ result.text.now }
     {
         let essence = self.essence_str();
-        let end = self.places.plus.unwrap_or(essence.len());
+        let end = self.positions.plus.unwrap_or(essence.len());
         Name {
-            text: &essence[self.places.slash + 1..end],
+            text: &essence[self.positions.slash + 1..end],
             ignores_case: true,
         }
     }
@@ -173,7 +177,7 @@ impl Mime {
         ensures flag { IfSome result (λ name. name.ignores_case ≡ true) }
         ensures low { IfSome result (λ name. lowered name.text.now ≡ name.text.now) }
     {
-        let plus = self.places.plus?;
+        let plus = self.positions.plus?;
         Some(Name {
             text: &self.essence_str()[plus + 1..],
             ignores_case: true,
@@ -186,7 +190,7 @@ impl Mime {
         ensures { result.now ≡ self.now.media.essence }
     {
         let text = self.text.as_str();
-        match self.places.semicolon {
+        match self.positions.semicolon {
             None => text,
             Some(semicolon) => &text[..semicolon],
         }
@@ -218,7 +222,11 @@ impl Mime {
         ensures pairs { result ≡ self.now.media.pairs }
         ensures low { AreLowPairs result }
     {
-        Pairs::after(self.text.as_str(), self.places.semicolon, self.places.pairs)
+        Pairs::after(
+            self.text.as_str(),
+            self.positions.semicolon,
+            self.positions.pairs,
+        )
     }
 
     /// How many parameters there are.
@@ -226,7 +234,7 @@ impl Mime {
     pub(crate) fn count(&self) -> usize
         ensures { result ≡ length self.now.media.pairs }
     {
-        self.places.pairs
+        self.positions.pairs
     }
 
     /// The value of the first parameter whose name the key accepts, or none if it accepts none:

@@ -7,8 +7,8 @@ use Rattle.std.specs.Prelude.{IsTrue}
 use Rattle.mime.specs.Bytes.{is_token_byte, is_quoted_byte}
 use Rattle.mime.specs.Grammar.{quoted, final, listed}
 use Rattle.mime.specs.Values.{MediaType, Reads}
-use Rattle.mime.specs.Difference.{FirstDifference, is_telling, DifferTellingly}
-use Rattle.mime.specs.Comparison.{Same, IsListBefore, IsTextBefore, IsPairBefore, Before, pair_cmp, media_cmp, HasNoSemicolon, TextIs}
+use Rattle.mime.specs.Difference.{FirstDifference, reaches_value, DifferInValue}
+use Rattle.mime.specs.Comparison.{Same, IsListBefore, IsTextBefore, IsPairBefore, Before, IsOrderOf, pair_cmp, media_cmp, HasNoSemicolon, TextIs}
 use Rattle.mime.proofs.GrammarLemmas.Content.{IsContent-taken}
 use Rattle.mime.proofs.GrammarLemmas.Readings.{one_reading}
 use Rattle.mime_facts.proofs.StandardFacts.{media, reads}
@@ -77,10 +77,10 @@ none_before_itself (inr rest) = rest.1
 pairs_before : IsPairBefore (codes "p", codes "y") (codes "q", codes "x") × IsPairBefore (codes "p", codes "x") (codes "p", codes "y")
 pairs_before = (inl (inl (omega arith)), inr (refl, inl (omega arith)))
 
-name_decides : ¬ (IsPairBefore (codes "q", codes "x") (codes "p", codes "y"))
-name_decides (inl (inl less)) = absurd (omega (arith, less))
-name_decides (inl (inr rest)) = rest.1
-name_decides (inr rest) = differ (codes "q") (codes "p") refl rest.0
+lesser_name_first : ¬ (IsPairBefore (codes "q", codes "x") (codes "p", codes "y"))
+lesser_name_first (inl (inl less)) = absurd (omega (arith, less))
+lesser_name_first (inl (inr rest)) = rest.1
+lesser_name_first (inr rest) = differ (codes "q") (codes "p") refl rest.0
 
 -- values are ordered by their essences first, and one without parameters comes first
 values_before : Before plain_y other_value × Before plain_value plain_x × Before plain_x plain_y
@@ -96,6 +96,13 @@ bare_first (inl (inr (a, inl less))) = absurd (omega (arith, less))
 bare_first (inl (inr (a, inr (slash, inl less)))) = absurd (omega (arith, less))
 bare_first (inl (inr (a, inr (slash, inr rest)))) = rest.1
 bare_first (inr rest) = rest.1
+
+-- an answer is the order of two values exactly where it names the one of the three that holds
+orders : IsOrderOf plain_x plain_y Less × IsOrderOf quoted_x plain_x Equal × IsOrderOf plain_y plain_x Greater
+orders = (values_before.2, (refl, refl), values_before.2)
+
+no_orders : ¬ (IsOrderOf plain_x plain_value Less) × ¬ (IsOrderOf plain_x plain_value Equal) × ¬ (IsOrderOf plain_value plain_x Greater)
+no_orders = (bare_first, (λ is. let pairs = is.1 in absurd cc), bare_first)
 
 -- the order as a function says the same
 answers :
@@ -137,9 +144,9 @@ parameter_counts is =
 
 -- ---- where texts first differ
 
--- two texts that differ but for case at position 2
+-- two texts that differ ignoring ASCII case at position 2
 differ_at_end : FirstDifference (codes "a/b") (codes "A/c") 2
-differ_at_end = record { within = omega arith; within_other = omega arith; alike = refl; differ = λ is. absurd (omega (arith, is)) }
+differ_at_end = record { within = omega arith; within_other = omega arith; equal_before = refl; differ = λ is. absurd (omega (arith, is)) }
 
 -- case alone is no difference
 case_is_none : ¬ (FirstDifference (codes "a/b") (codes "A/c") 0)
@@ -150,22 +157,22 @@ end_is_none : ¬ (FirstDifference (codes "a") (codes "ab") 1)
 end_is_none is = absurd (omega (arith, is.within))
 
 later_is_none : ¬ (FirstDifference (codes "ab") (codes "cd") 1)
-later_is_none is = differ (codes "a") (codes "c") refl is.alike
+later_is_none is = differ (codes "a") (codes "c") refl is.equal_before
 
 -- the bytes that tell nothing are a space, a tab and a quote
-telling_bytes : map is_telling (codes "b;= \t\"") ≡ true ∷ true ∷ true ∷ false ∷ false ∷ false ∷ []
-telling_bytes = refl
+reaching_bytes : map reaches_value (codes "b;= \t\"") ≡ true ∷ true ∷ true ∷ false ∷ false ∷ false ∷ []
+reaching_bytes = refl
 
--- a letter against a letter tells, and neither side of a letter against a quote does
-pub letters_tell : DifferTellingly (codes "a/b") (codes "A/c")
-letters_tell = record { at = 2; first = differ_at_end; tells = refl; also = refl }
+-- a letter against a letter reaches the value, and neither side of a letter against a quote does
+pub letters_reach_the_value : DifferInValue (codes "a/b") (codes "A/c")
+letters_reach_the_value = record { at = 2; first = differ_at_end; reaches = refl; other_reaches = refl }
 
-quote_tells_nothing : ¬ (DifferTellingly (codes "\"") (codes "x"))
-quote_tells_nothing is =
+no_quote_reaches_it : ¬ (DifferInValue (codes "\"") (codes "x"))
+no_quote_reaches_it is =
     let at : is.at ≡ 0 = omega (arith, is.first.within) in
-    false≢true (subst (λ n. IsTrue (is_telling (slice_index (codes "\"") n))) at is.tells)
+    false≢true (subst (λ n. IsTrue (reaches_value (slice_index (codes "\"") n))) at is.reaches)
 
-nothing_tells_quote : ¬ (DifferTellingly (codes "x") (codes "\""))
-nothing_tells_quote is =
+no_quote_reaches_it_there : ¬ (DifferInValue (codes "x") (codes "\""))
+no_quote_reaches_it_there is =
     let at : is.at ≡ 0 = omega (arith, is.first.within) in
-    false≢true (subst (λ n. IsTrue (is_telling (slice_index (codes "\"") n))) at is.also)
+    false≢true (subst (λ n. IsTrue (reaches_value (slice_index (codes "\"") n))) at is.other_reaches)

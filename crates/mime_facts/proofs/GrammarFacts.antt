@@ -30,10 +30,10 @@ unfolding is_quoted_byte
 quoted_text_bytes = (refl, refl)
 
 -- the bytes with a role of their own
-marks :
+flags :
     slash_byte ∷ plus_byte ∷ semicolon_byte ∷ equals_byte ∷ quote_byte ∷ backslash_byte ∷ space_byte ∷ tab_byte ∷ comma_byte ∷ []
     ≡ codes "/+;=\"\\ \t,"
-marks = refl
+flags = refl
 
 -- a space and a tab are spaces, a line feed and a letter aren't
 space_bytes : map is_space (codes " \t\nx") ≡ true ∷ true ∷ false ∷ false ∷ []

@@ -1,4 +1,4 @@
--- What values feed a hasher, by computation; texts that a prefix-free input tells from others, and an input that isn't prefix-free.
+-- What values feed a hasher, by computation; texts that a prefix-free input keeps from others, and an input that isn't prefix-free.
 use Rattle.std.proofs.Common.{◌≡◌, ◌≢◌, ℕ, false, List, [], ◌∷◌, ◌++◌, None, refl, sym, ap, ◌∙◌, codes}
 use Rattle.std.proofs.lemmas.Bool.{false≢true}
 use Rattle.std.specs.Char.{encode_utf8}
@@ -8,7 +8,7 @@ use Rattle.mime.specs.Bytes.{is_token_byte}
 use Rattle.mime.specs.Grammar.{no_list}
 use Rattle.mime.specs.Values.{MediaType, OwnedMedia, Reads}
 use Rattle.mime.specs.HashInput.{media_input}
-use Rattle.mime.specs.HashLaws.{IsReadInUtf8, IsPrefixFree}
+use Rattle.mime.specs.HashLaws.{IsReadInUtf8, RespectsEquality, IsPrefixFree}
 use Rattle.mime.proofs.ValueLemmas.Hash.{fed-read}
 use Rattle.mime.proofs.ValueLemmas.KeptText.{kept_is_read}
 use Rattle.mime_facts.proofs.ComparisonFacts.{quoted_x, plain_x, plain_y}
@@ -61,10 +61,19 @@ not_read_in_utf8 = (
   λ is. false≢true (fed-read _ is).pairs.0.1,
 )
 
--- ---- prefix-free inputs
+-- ---- equal values
 
 abbrev owned : MediaType → OwnedMedia
 owned value = record { media = value; fixed = false }
+
+-- equal values have the same essence, but not the same kept text
+respects_equality : RespectsEquality (λ value. value.media.essence ∷ []) × ¬ (RespectsEquality (λ value. value.media.kept ∷ []))
+respects_equality = (
+  (λ first second same. ap (λ essence. essence ∷ []) same.0),
+  λ law. differ (codes "a/b;p=\"x\"") (codes "a/b;p=x") refl (ap concat (law (owned quoted_x) (owned plain_x) (refl, refl))),
+)
+
+-- ---- prefix-free inputs
 
 -- neither of `a/b` and `a/bx` begins the other
 neither_begins : (input : OwnedMedia → HashWrites) → IsPrefixFree input → (more : List ℕ)
@@ -76,5 +85,5 @@ neither_begins input law more = (
 )
 
 -- an essence without an end isn't prefix-free
-essence_alone : ¬ (IsPrefixFree (λ value. value.media.essence ∷ []))
-essence_alone law = (neither_begins (λ value. value.media.essence ∷ []) law (codes "x")).0 refl
+bare_essence : ¬ (IsPrefixFree (λ value. value.media.essence ∷ []))
+bare_essence law = (neither_begins (λ value. value.media.essence ∷ []) law (codes "x")).0 refl

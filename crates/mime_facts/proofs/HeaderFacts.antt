@@ -68,7 +68,7 @@ answer_found Accepts law decided = law decided (exact_item ∷ [])
 
 -- ---- a safe value
 
--- a tab, a space, marks and bytes past ASCII may stand in a header; line ends, other controls and 127 may not
+-- a tab, a space, punctuation and bytes past ASCII may stand in a header; line ends, other controls and 127 may not
 header_bytes :
     AreHeaderBytes (9 ∷ 32 ∷ 34 ∷ 44 ∷ 59 ∷ 92 ∷ 126 ∷ 128 ∷ 255 ∷ [])
     × (list_any is_quoted_byte (0 ∷ 8 ∷ 10 ∷ 13 ∷ 31 ∷ 127 ∷ 256 ∷ []) ≡ false)
@@ -76,9 +76,9 @@ unfolding is_quoted_byte
 header_bytes = (refl, refl)
 
 -- a pair has a token and quoted content
-safe_pairs : IsSafePair (codes "p", []) × ¬ (IsSafePair ([], codes "x")) × ¬ (IsSafePair (codes "p", codes "\""))
+which_pairs_are_safe : IsSafePair (codes "p", []) × ¬ (IsSafePair ([], codes "x")) × ¬ (IsSafePair (codes "p", codes "\""))
 unfolding is_token_byte is_quoted_byte
-safe_pairs = ((refl, IsContent-taken [] refl refl), (λ is. is.0), λ is. false≢true (content-taken _ is.1))
+which_pairs_are_safe = ((refl, IsContent-taken [] refl refl), (λ is. is.0), λ is. false≢true (content-taken _ is.1))
 
 -- a value with a line feed, without a type or a subtype, with a space in its suffix, or with a parameter without a name isn't safe
 unsafe_values :

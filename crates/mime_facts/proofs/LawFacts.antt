@@ -10,9 +10,9 @@ use Rattle.mime.specs.Bytes.{is_token_byte, plus_byte}
 use Rattle.mime.specs.Grammar.{no_list, SyntaxTree, text_of, IsWellFormed}
 use Rattle.mime.specs.Values.{MediaType, OwnedMedia, Reads, IsAccepted, IsRefused}
 use Rattle.mime.specs.Comparison.{Same, Before, TextIs}
-use Rattle.mime.specs.Refusals.{IsViable, IsFront, Lacks, IsFault}
+use Rattle.mime.specs.Refusals.{IsViable, IsLongestPrefix, Lacks, IsFault}
 use Rattle.mime.specs.Items.{IsFirstAccepted}
-use Rattle.mime.specs.Laws.{OneTree, OneReading, EmptyIsViable, FrontOfViableIsViable, AcceptedIsViable, OneCompletion, CompletedIsRefused, NoCompletion, OneFault, OneFront, FrontEndsBetweenCharacters, IsViableInUtf8, IsFrontInUtf8, FrontIsInUtf8, HasNoPlusFrom, PlusIsLast, KeptIsRead, EssenceIsRead, OneOrder, BeforeIsTransitive, BareTextIs, KeptTextIs, IsDecided, OneAnswer, FirstDifferenceTells}
+use Rattle.mime.specs.Laws.{OneTree, OneReading, EmptyIsViable, PrefixOfViableIsViable, AcceptedIsViable, OneCompletion, CompletedIsRefused, NoCompletion, OneFault, OneLongestPrefix, PrefixEndsBetweenCharacters, IsViableInUtf8, IsLongestPrefixInUtf8, PrefixIsInUtf8, HasNoPlusFrom, PlusIsLast, KeptIsRead, EssenceIsRead, OneOrder, BeforeIsTransitive, BareTextIs, KeptTextIs, IsDecided, OneAnswer, FirstDifferenceDecides}
 use Rattle.mime.specs.Cut.{CutItem, good, bad, Cut, Pieces, TakesSteps}
 use Rattle.mime.specs.CutLaws.{OneCut, CutHasItems, text_of_pieces, CutWritesText, OneCount, CommaContains, JoinedComesBack, PassesOneCharacter, AreGiven, RunGivesCut, CommaContainsOnRuns, PrintedListComesBack}
 use Rattle.mime.specs.Runs.{Iteration, IsNext}
@@ -21,7 +21,7 @@ use Rattle.mime.specs.declared.scan.fault.ParseError.{ParseError}
 use Rattle.mime.specs.declared.scan.fault.ParseError.TheVariants.{MissingSlash, MissingSubtype, InvalidToken}
 use Rattle.mime.proofs.ValueLemmas.Hash.{utf8_bytes}
 use Rattle.mime.proofs.ValueLemmas.KeptText.{kept_is_read}
-use Rattle.mime_facts.proofs.ComparisonFacts.{quoted_x, plain_x, plain_y, other_value, reads_quoted, letters_tell}
+use Rattle.mime_facts.proofs.ComparisonFacts.{quoted_x, plain_x, plain_y, other_value, reads_quoted, letters_reach_the_value}
 use Rattle.mime_facts.proofs.CutFacts.{e_is_refused, e_is_viable, list_items, cut_of_list, rest_of_text, split_at_comma, read_value}
 use Rattle.mime_facts.proofs.RefusalFacts.{e_lacks_slash, e_is_closed}
 use Rattle.mime_facts.proofs.StandardFacts.{media, tree_from_parts, plus_twice, lowered_parts, no_subtype, space_in_type}
@@ -38,35 +38,35 @@ value_of_text : OneReading → (value : MediaType) → Reads (codes "A/B") value
 value_of_text law value reads = law (codes "A/B") value plain_value reads reads_capitals
 
 -- the plus is there, after the subtype's first byte, and is the last
-last_plus : PlusIsLast → (3 ≤ 5) × (slice_get (codes "a/b+c+d") 5 ≡ Some plus_byte) × HasNoPlusFrom (codes "a/b+c+d") 6
-last_plus law = law (codes "a/b+c+d") _ plus_twice
+second_plus : PlusIsLast → (3 ≤ 5) × (slice_get (codes "a/b+c+d") 5 ≡ Some plus_byte) × HasNoPlusFrom (codes "a/b+c+d") 6
+second_plus law = law (codes "a/b+c+d") _ plus_twice
 
 -- where a value has no plus, none stands after the subtype's first byte
-no_plus : PlusIsLast → HasNoPlusFrom (codes "a/b") 3
-no_plus law = law (codes "A/B") plain_value reads_capitals
+none_without_plus : PlusIsLast → HasNoPlusFrom (codes "a/b") 3
+none_without_plus law = law (codes "A/B") plain_value reads_capitals
 
 -- a plus before the position doesn't count, and one at it does
 no_plus_after : HasNoPlusFrom (codes "+b") 1
 no_plus_after zero from is = absurd (omega (arith, from))
 no_plus_after (suc zero) from is = absurd (omega (arith, same_Some _ _ is))
-no_plus_after (suc (suc place)) from is = none-some _ is
+no_plus_after (suc (suc position)) from is = none-some _ is
 
 plus_at : ¬ (HasNoPlusFrom (codes "b+") 1)
 plus_at none = none 1 (omega arith) refl
 
-kept_text : KeptIsRead → Reads (codes "a/b") plain_value
-kept_text law = law (codes "A/B") plain_value reads_capitals
+reads_kept_text : KeptIsRead → Reads (codes "a/b") plain_value
+reads_kept_text law = law (codes "A/B") plain_value reads_capitals
 
-essence_alone : EssenceIsRead → Reads (codes "text/plain") (media (codes "text/plain") 4 None [] (codes "text/plain"))
-essence_alone law = law _ _ lowered_parts
+reads_essence : EssenceIsRead → Reads (codes "text/plain") (media (codes "text/plain") 4 None [] (codes "text/plain"))
+reads_essence law = law _ _ lowered_parts
 
 -- ---- viable and refused texts
 
 empty : EmptyIsViable → IsViable []
 empty law = law
 
-front_of_viable : FrontOfViableIsViable → IsViable (codes "a/b;p") → IsViable (codes "a/")
-front_of_viable law viable = law (codes "a/") (codes "b;p") viable
+prefix_of_viable : PrefixOfViableIsViable → IsViable (codes "a/b;p") → IsViable (codes "a/")
+prefix_of_viable law viable = law (codes "a/") (codes "b;p") viable
 
 accepted : AcceptedIsViable → IsViable (codes "A/B")
 accepted law = law (codes "A/B") (plain_value, reads_capitals)
@@ -92,46 +92,46 @@ fault_of_text law refused fault is =
 some_fault : OneFault → IsRefused (codes "a b") → (fault : ParseError) × IsFault (codes "a b") fault
 some_fault law refused = let one = law (codes "a b") refused in (one.0, one.1)
 
-some_front : OneFront → (count : ℕ) × IsFront (codes "a b") count
-some_front law = let one = law (codes "a b") in (one.0, one.1)
+some_prefix : OneLongestPrefix → (count : ℕ) × IsLongestPrefix (codes "a b") count
+some_prefix law = let one = law (codes "a b") in (one.0, one.1)
 
-front_of_text : OneFront → (count : ℕ) → IsFront (codes "a b") count → count ≡ 1
-front_of_text law count is = let one = law (codes "a b") in one.2 count is ∙ sym (one.2 1 space_in_type.front)
+prefix_of_text : OneLongestPrefix → (count : ℕ) → IsLongestPrefix (codes "a b") count → count ≡ 1
+prefix_of_text law count is = let one = law (codes "a b") in one.2 count is ∙ sym (one.2 1 space_in_type.prefix)
 
-border_of_text : FrontEndsBetweenCharacters → IsUtf8 (codes "a b") → IsCharBoundary (codes "a b") 1
-border_of_text law utf8 = law (codes "a b") 1 utf8 space_in_type.front
+border_of_text : PrefixEndsBetweenCharacters → IsUtf8 (codes "a b") → IsCharBoundary (codes "a b") 1
+border_of_text law utf8 = law (codes "a b") 1 utf8 space_in_type.prefix
 
-front_in_utf8 : FrontIsInUtf8 → IsUtf8 (codes "a b") → IsViableInUtf8 (codes "a") × ¬ (IsViableInUtf8 (codes "a b"))
-front_in_utf8 law utf8 = let is = (law (codes "a b") 1 utf8).0 space_in_type.front in (is.viable, is.longest 3 (omega arith) (omega arith))
+prefix_in_utf8 : PrefixIsInUtf8 → IsUtf8 (codes "a b") → IsViableInUtf8 (codes "a") × ¬ (IsViableInUtf8 (codes "a b"))
+prefix_in_utf8 law utf8 = let is = (law (codes "a b") 1 utf8).0 space_in_type.prefix in (is.viable, is.longest 3 (omega arith) (omega arith))
 
 -- what some accepted text of valid UTF-8 begins with, what no accepted text does, and what only accepted texts do that aren't valid UTF-8
 viable_in_utf8 : IsViableInUtf8 (codes "a") × ¬ (IsViableInUtf8 (codes "a b")) × ¬ (IsViableInUtf8 (codes "a/b;p=\"" ++ (255 ∷ [])))
 unfolding encode_utf8
 viable_in_utf8 = (
   (codes "/b", (codes "a/b", (refl, refl)), (plain_value, kept_is_read _ plain_value reads_capitals)),
-  (λ is. space_in_type.front.longest 2 (omega arith) (omega arith) (codes "b" ++ is.0, is.2)),
+  (λ is. space_in_type.prefix.longest 2 (omega arith) (omega arith) (codes "b" ++ is.0, is.2)),
   λ is. false≢true (utf8_bytes _ is.1),
 )
 
 -- the longest of them has one byte of `a b`, no fewer, and no more; and no more than the text has
-fronts_in_utf8 :
-    IsFrontInUtf8 (codes "a b") 1
-    × ¬ (IsFrontInUtf8 (codes "a b") 0)
-    × ¬ (IsFrontInUtf8 (codes "a b") 3)
-    × ¬ (IsFrontInUtf8 (codes "a") 2)
-fronts_in_utf8 = (
+prefixes_in_utf8 :
+    IsLongestPrefixInUtf8 (codes "a b") 1
+    × ¬ (IsLongestPrefixInUtf8 (codes "a b") 0)
+    × ¬ (IsLongestPrefixInUtf8 (codes "a b") 3)
+    × ¬ (IsLongestPrefixInUtf8 (codes "a") 2)
+prefixes_in_utf8 = (
   record {
     within = omega arith;
     viable = viable_in_utf8.0;
-    longest = λ n above within is. space_in_type.front.longest n above within (is.0, is.2);
+    longest = λ n above within is. space_in_type.prefix.longest n above within (is.0, is.2);
   },
   (λ is. is.longest 1 (omega arith) (omega arith) viable_in_utf8.0),
   (λ is. viable_in_utf8.1 is.viable),
   λ is. absurd (omega (arith, is.within)),
 )
 
-front_from_utf8 : FrontIsInUtf8 → IsUtf8 (codes "a b") → IsFront (codes "a b") 1
-front_from_utf8 law utf8 = (law (codes "a b") 1 utf8).1 fronts_in_utf8.0
+prefix_from_utf8 : PrefixIsInUtf8 → IsUtf8 (codes "a b") → IsLongestPrefix (codes "a b") 1
+prefix_from_utf8 law utf8 = (law (codes "a b") 1 utf8).1 prefixes_in_utf8.0
 
 -- ---- comparison
 
@@ -159,9 +159,9 @@ text_of_other : KeptTextIs → TextIs plain_x (codes "a/b;p=\"x\"") × (TextIs p
 text_of_other law =
     ((law _ quoted_x reads_quoted plain_x).1 (refl, refl), λ is. (law _ quoted_x reads_quoted plain_y).0 is)
 
-different_texts : FirstDifferenceTells → (first second : MediaType) → Reads (codes "a/b") first → Reads (codes "A/c") second
+different_texts : FirstDifferenceDecides → (first second : MediaType) → Reads (codes "a/b") first → Reads (codes "A/c") second
     → ¬ (Same first second)
-different_texts law first second reads also = law (codes "a/b") (codes "A/c") first second reads also letters_tell
+different_texts law first second reads also = law (codes "a/b") (codes "A/c") first second reads also letters_reach_the_value
 
 answer_of_key : (Accepts : List ℕ → Bool → Type 0) → OneAnswer Accepts → (first second : Option (List ℕ × Bool))
     → IsFirstAccepted Accepts (exact_item ∷ charset_item ∷ []) first → IsFirstAccepted Accepts (exact_item ∷ charset_item ∷ []) second

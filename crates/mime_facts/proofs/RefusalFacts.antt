@@ -3,14 +3,14 @@ use Rattle.std.proofs.Common.{◌≡◌, ℕ, List, [], ◌∷◌, length, get_o
 use Rattle.std.proofs.Math.Seq.{get_or-append_seam}
 use Rattle.std.proofs.lemmas.Option.{same_Some}
 use Rattle.mime.specs.Bytes.{is_token_byte}
-use Rattle.mime.specs.Refusals.{IsViable, IsFront, completion_of, last_byte_of, EndsIn, Lacks, IsUnclosed, IsDeadAt, IsFault, Explains}
+use Rattle.mime.specs.Refusals.{IsViable, IsLongestPrefix, completion_of, last_byte_of, EndsIn, Lacks, IsUnclosed, IsDeadAt, IsFault, Explains}
 use Rattle.mime.specs.declared.scan.fault.ParseError.{ParseError}
 use Rattle.mime.specs.declared.scan.fault.ParseError.TheVariants.{MissingSlash, MissingSubtype, MissingEqual, MissingValue, MissingQuote, InvalidToken, NoMemory}
 use Rattle.mime.proofs.GrammarLemmas.Faults.{one_fault, completed_is_refused, fault-from_lacks}
 use Rattle.mime.proofs.GrammarLemmas.Readings.{stopped-from_walk, refused-from_walk}
 use Rattle.mime_facts.proofs.StandardFacts.{slash_fault-from_walk, no_slash, no_subtype, no_equals, no_value, no_quote, space_in_type}
 use Rattle.mime_facts.proofs.ValueFacts.{differ, plain_value, reads_capitals}
-use Rattle.mime.proofs.GrammarLemmas.Viability.{accepted_is_viable, not_viable-at_dead, front_unique, viable-from_lacks}
+use Rattle.mime.proofs.GrammarLemmas.Viability.{accepted_is_viable, not_viable-at_dead, prefix_unique, viable-from_lacks}
 
 -- what lacks something is viable, and what has a byte at fault isn't
 viable_texts : IsViable (codes "A/B") × IsViable (codes "a/b;p") × ¬ (IsViable (codes "a b"))
@@ -20,12 +20,12 @@ viable_texts = (
   not_viable-at_dead _ 1 32 space_in_type,
 )
 
--- the longest viable front of `a b` has one byte, and no other number of them
-front_of_type : IsFront (codes "a b") 1 × ¬ (IsFront (codes "a b") 0) × ¬ (IsFront (codes "a b") 2)
-front_of_type = (
-  space_in_type.front,
-  (λ is. is.longest 1 (omega arith) (omega arith) space_in_type.front.viable),
-  λ is. space_in_type.front.longest 2 (omega arith) (omega arith) is.viable,
+-- the longest viable prefix of `a b` has one byte, and no other number of them
+prefix_of_type : IsLongestPrefix (codes "a b") 1 × ¬ (IsLongestPrefix (codes "a b") 0) × ¬ (IsLongestPrefix (codes "a b") 2)
+prefix_of_type = (
+  space_in_type.prefix,
+  (λ is. is.longest 1 (omega arith) (omega arith) space_in_type.prefix.viable),
+  λ is. space_in_type.prefix.longest 2 (omega arith) (omega arith) is.viable,
 )
 
 -- what completes a text, and what it must end in
@@ -47,9 +47,9 @@ ends_in_slash : EndsIn (codes "a/") 47
 ends_in_slash = (codes "a", refl)
 
 ends_in_no_letter : ¬ (EndsIn (codes "a/") 97)
-ends_in_no_letter (front, is) =
-    let size : length front ≡ 1 = omega (arith, ap length is, length-append front (97 ∷ [])) in
-    let at : get_or (codes "a/") (length front) 0 ≡ 97 = ap (λ t. get_or t (length front) 0) is ∙ get_or-append_seam front 97 [] 0 in
+ends_in_no_letter (prefix, is) =
+    let size : length prefix ≡ 1 = omega (arith, ap length is, length-append prefix (97 ∷ [])) in
+    let at : get_or (codes "a/") (length prefix) 0 ≡ 97 = ap (λ t. get_or t (length prefix) 0) is ∙ get_or-append_seam prefix 97 [] 0 in
     absurd (omega (arith, sym (ap (λ n. get_or (codes "a/") n 0) size) ∙ at))
 
 -- a text that lacks something lacks nothing else
@@ -68,13 +68,13 @@ pub e_is_closed : ¬ (IsUnclosed (codes "e"))
 e_is_closed is = absurd (cc (lacks_alone (codes "e") MissingSlash MissingQuote e_lacks_slash is))
 
 -- what lacks a subtype ends in its slash, and what lacks a value ends in its equals sign; an accepted text lacks nothing
-lacking :
+what_is_lacking :
     Lacks (codes "text/") MissingSubtype
     × ¬ (Lacks (codes "text/") MissingValue)
     × ¬ (Lacks (codes "a/b;p=") MissingSubtype)
     × ¬ (Lacks (codes "A/B") MissingSlash)
 unfolding is_token_byte
-lacking = (
+what_is_lacking = (
   no_subtype,
   (λ is. absurd (cc (lacks_alone (codes "text/") MissingSubtype MissingValue no_subtype is))),
   (λ is. absurd (cc (lacks_alone (codes "a/b;p=") MissingValue MissingSubtype no_value is))),
@@ -90,7 +90,7 @@ dead : IsDeadAt (codes "a b") 1 32 × ¬ (IsDeadAt (codes "a b") 1 33) × ¬ (Is
 dead = (
   space_in_type,
   (λ is. absurd (omega (arith, same_Some 32 33 is.there))),
-  λ is. absurd (omega (arith, front_unique _ 2 1 is.front space_in_type.front)),
+  λ is. absurd (omega (arith, prefix_unique _ 2 1 is.prefix space_in_type.prefix)),
 )
 
 -- each refused text has its fault alone, and none of them is `NoMemory`

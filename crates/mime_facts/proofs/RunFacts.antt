@@ -17,14 +17,14 @@ use Rattle.mime_facts.proofs.ValueFacts.{differ, plain_value, reads_capitals}
 
 -- an iterator over a text, at its begin and at its end
 abbrev begun : List ℕ → Iteration
-begun text = record { text = text; left = text; starved = false; steps = 0 }
+begun text = record { text = text; left = text; out_of_memory = false; steps = 0 }
 
 abbrev ended_run : List ℕ → ℕ → Iteration
-ended_run text steps = record { text = text; left = []; starved = false; steps = steps }
+ended_run text steps = record { text = text; left = []; out_of_memory = false; steps = steps }
 
 -- the same, where memory ran out
-abbrev out_of_memory : Iteration → Iteration
-out_of_memory i = record i { starved = true }
+abbrev memory_ran_out : Iteration → Iteration
+memory_ran_out i = record i { out_of_memory = true }
 
 -- `*/*`, read
 abbrev star_value : MediaType
@@ -87,25 +87,25 @@ star_is_fixed old new at end mime (piece, first, star, same) =
     star (star_piece _ _ _ _ (subst (λ t. Cut t (good piece mime.media ∷ []) []) at cut))
 
 -- that memory ran out is said where it did
-no_memory_starves : ¬ (GivesItem (begun (codes "A/B")) (Some (Err NoMemory)) (ended_run (codes "A/B") 3))
-no_memory_starves given = true≢false (sym given.2)
+no_memory_is_told : ¬ (GivesItem (begun (codes "A/B")) (Some (Err NoMemory)) (ended_run (codes "A/B") 3))
+no_memory_is_told given = true≢false (sym given.2)
 
 -- and nowhere else: not where none is given, nor with a media type or a bad piece
-none_keeps_memory : ¬ (GivesItem (begun (codes "e")) None (out_of_memory (ended_run (codes "e") 1)))
+none_keeps_memory : ¬ (GivesItem (begun (codes "e")) None (memory_ran_out (ended_run (codes "e") 1)))
 none_keeps_memory given = true≢false given.2
 
-value_keeps_memory : (mime : OwnedMedia) → ¬ (GivesItem (begun (codes "A/B")) (Some (Ok mime)) (out_of_memory (ended_run (codes "A/B") 3)))
+value_keeps_memory : (mime : OwnedMedia) → ¬ (GivesItem (begun (codes "A/B")) (Some (Ok mime)) (memory_ran_out (ended_run (codes "A/B") 3)))
 value_keeps_memory mime (piece, first, star, same) = true≢false same
 
 piece_keeps_memory : (piece : Bor (List ℕ))
-    → ¬ (GivesItem (begun (codes "e,A/B")) (Some (Err (Piece piece))) (out_of_memory (begun (codes "A/B"))))
+    → ¬ (GivesItem (begun (codes "e,A/B")) (Some (Err (Piece piece))) (memory_ran_out (begun (codes "A/B"))))
 piece_keeps_memory piece given = true≢false given.1
 
 -- where none is given, or memory ran out, nothing is left
 none_ends : ¬ (GivesItem (begun (codes "e")) None (begun (codes "e")))
 none_ends given = differ (codes "e") [] refl given.1
 
-no_memory_ends : ¬ (GivesItem (begun (codes "A/B")) (Some (Err NoMemory)) (out_of_memory (begun (codes "A/B"))))
+no_memory_ends : ¬ (GivesItem (begun (codes "A/B")) (Some (Err NoMemory)) (memory_ran_out (begun (codes "A/B"))))
 no_memory_ends given = differ (codes "A/B") [] refl given.1
 
 -- none is given only where there is no item
@@ -123,7 +123,7 @@ ends_at_rest = record {
 }
 
 -- no more steps than bytes, even where memory ran out
-steps_are_few : ¬ (IsNext (record (begun (codes "a/")) { starved = true }) None (record (ended_run (codes "a/") 3) { starved = true }))
+steps_are_few : ¬ (IsNext (record (begun (codes "a/")) { out_of_memory = true }) None (record (ended_run (codes "a/") 3) { out_of_memory = true }))
 steps_are_few next = absurd (omega (arith, next.few))
 
 -- at the end the steps are those that the text takes

@@ -3,13 +3,13 @@ use Rattle.std.proofs.Common.{◌≡◌, ℕ, List, [], ◌∷◌, ◌++◌, Opt
 use Rattle.mime.specs.Bytes.{is_token_byte, is_quoted_byte}
 use Rattle.mime.specs.Grammar.{no_byte, plain, quoted, blank, final, more, Tail, no_list, listed, SyntaxTree, text_of, IsWellFormed}
 use Rattle.mime.specs.Values.{MediaType, value_of, Reads}
-use Rattle.mime.specs.Difference.{DifferTellingly}
+use Rattle.mime.specs.Difference.{DifferInValue}
 use Rattle.mime.specs.Refusals.{IsFault}
 use Rattle.mime.specs.declared.atoms.Atom.TheVariants.{TEXT_JAVASCRIPT}
 use Rattle.mime.specs.declared.atoms.TheConstants.{TEXT_JAVSCRIPT}
 use Rattle.mime.specs.declared.scan.fault.ParseError.TheVariants.{MissingSlash, MissingSubtype, MissingEqual, MissingValue, MissingQuote, InvalidToken}
 use Rattle.mime.proofs.GrammarLemmas.Begun.{Closed, in_type, in_subtype, in_list, in_name, in_value, list_at, walk}
-use Rattle.mime.proofs.FirstDifference.{told_apart}
+use Rattle.mime.proofs.FirstDifference.{different_values}
 use Rattle.mime.proofs.GrammarLemmas.Content.{IsContent-taken}
 use Rattle.mime.proofs.GrammarLemmas.Viability.{lacks-from_walk, quote_fault-from_walk, dead-from_walk}
 
@@ -43,7 +43,7 @@ plus_last : Reads (codes "a/b+") (media (codes "a/b+") 1 (Some 3) [] (codes "a/b
 unfolding is_token_byte
 plus_last = reads (codes "a") (codes "b+") no_list (refl, refl, tt)
 
--- type, subtype, names and a charset are lowered, other values are kept
+-- type, subtype, names and a charset are lowercased, other values are kept
 pub lowered_parts : Reads (codes "TEXT/PLAIN; CHARSET=UTF-8; FOO=BAR")
     (media (codes "text/plain") 4 None ((codes "charset", codes "utf-8") ∷ (codes "foo", codes "BAR") ∷ [])
     (codes "text/plain; charset=utf-8; foo=BAR"))
@@ -78,7 +78,7 @@ paired_quote =
     reads (codes "a") (codes "b") (listed (final [] (quoted (codes "p") (codes "\\\"x") [])))
     (refl, refl, (refl, (refl, IsContent-taken (codes "\\\"x") refl refl, refl)))
 
--- a charset is lowered after a backslash too
+-- a charset is lowercased after a backslash too
 paired_capital : Reads (codes "a/b;charset=\"\\U\"")
     (media (codes "a/b") 1 None ((codes "charset", codes "\\u") ∷ []) (codes "a/b;charset=\"\\u\""))
 unfolding is_token_byte is_quoted_byte
@@ -251,19 +251,19 @@ line_end_after_semicolon = dead-from_walk (codes "text/plain;") (10 ∷ codes "c
 -- ---- first differences
 
 -- neither byte is a space, a tab or a quote
-first_difference_tells : DifferTellingly (codes "a/b;p=x") (codes "A/B;P=y")
-first_difference_tells = record {
+first_difference_decides : DifferInValue (codes "a/b;p=x") (codes "A/B;P=y")
+first_difference_decides = record {
   at = 6;
-  first = record { within = lit< tt; within_other = lit< tt; alike = refl; differ = λ same. omega (arith, same) };
-  tells = refl;
-  also = refl;
+  first = record { within = lit< tt; within_other = lit< tt; equal_before = refl; differ = λ same. omega (arith, same) };
+  reaches = refl;
+  other_reaches = refl;
 }
 
--- a quote tells nothing: the values are equal
-quoted_value_not_told_apart : ¬ (DifferTellingly (codes "a/b;p=x") (codes "a/b;p=\"x\""))
+-- a quote doesn't reach the value: the values are equal
+quoted_value_not_different_values : ¬ (DifferInValue (codes "a/b;p=x") (codes "a/b;p=\"x\""))
 unfolding is_token_byte is_quoted_byte
-quoted_value_not_told_apart = λ d.
-    told_apart _ _ _ _
+quoted_value_not_different_values = λ d.
+    different_values _ _ _ _
     (reads (codes "a") (codes "b") (listed (final [] (plain (codes "p") (codes "x")))) (refl, refl, (refl, (refl, refl))))
     (reads (codes "a") (codes "b") (listed (final [] (quoted (codes "p") (codes "x") [])))
     (refl, refl, (refl, (refl, IsContent-taken (codes "x") refl refl, refl)))) d (refl, refl)

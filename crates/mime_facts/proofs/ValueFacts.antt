@@ -19,17 +19,17 @@ use Rattle.mime.specs.declared.scan.fault.ParseError.TheVariants.{MissingSlash, 
 use Rattle.mime.proofs.GrammarLemmas.Readings.{one_reading, stopped-from_walk}
 use Rattle.mime_facts.proofs.StandardFacts.{media, tree_from_parts, reads}
 
--- texts that a test tells apart differ
+-- texts on which a test answers otherwise differ
 pub differ : (first second : List ℕ) → bytes_eq first second ≡ false → first ≢ second
 differ first second is same = true≢false (sym ((bytes_eq-Decides first second).1 same) ∙ is)
 
 -- ---- lowering
 
--- capitals alone are lowered, of ASCII alone
-lowered_bytes : lowered (64 ∷ 65 ∷ 90 ∷ 91 ∷ 97 ∷ 195 ∷ 137 ∷ []) ≡ 64 ∷ 97 ∷ 122 ∷ 91 ∷ 97 ∷ 195 ∷ 137 ∷ []
-lowered_bytes = refl
+-- capitals alone are lowercased, of ASCII alone
+capitals_lowered : lowered (64 ∷ 65 ∷ 90 ∷ 91 ∷ 97 ∷ 195 ∷ 137 ∷ []) ≡ 64 ∷ 97 ∷ 122 ∷ 91 ∷ 97 ∷ 195 ∷ 137 ∷ []
+capitals_lowered = refl
 
--- `charset` in any case is the name whose value is lowered
+-- `charset` in any case is the name whose value is lowercased
 charsets :
     (is_charset (codes "CharSet") ≡ true)
     × (is_charset (codes "charsets") ≡ false)
@@ -37,8 +37,8 @@ charsets :
     × (lowered_value (codes "boundary") (codes "UTF") ≡ codes "UTF")
 charsets = (refl, refl, refl, refl)
 
--- of a parameter, a list and a tail the names are lowered, and the value of a `charset`; spaces and other values stay
-lowered_parts :
+-- of a parameter, a list and a tail the names are lowercased, and the value of a `charset`; spaces and other values stay
+names_lowered :
     (lowered_parameter (plain (codes "P") (codes "X")) ≡ plain (codes "p") (codes "X"))
     × (lowered_parameter (quoted (codes "Charset") (codes "\\X") (codes " ")) ≡ quoted (codes "charset") (codes "\\x") (codes " "))
     × (lowered_list (blank (codes " ")) ≡ blank (codes " "))
@@ -46,14 +46,14 @@ lowered_parts :
     × (lowered_list (more [] (plain (codes "P") (codes "X")) (blank [])) ≡ more [] (plain (codes "p") (codes "X")) (blank []))
     × (lowered_tail no_list ≡ no_list)
     × (lowered_tail (listed (final [] (plain (codes "P") []))) ≡ listed (final [] (plain (codes "p") [])))
-lowered_parts = (refl, refl, refl, refl, refl, refl, refl)
+names_lowered = (refl, refl, refl, refl, refl, refl, refl)
 
 -- a tree with a list of parameters
 abbrev capitals : SyntaxTree
 capitals = tree_from_parts (codes "A") (codes "B+C")
     (listed (more (codes " ") (plain (codes "P") (codes "X")) (final [] (quoted (codes "Charset") (codes "\\X") (codes " ")))))
 
--- the lowering of `A/B+C` keeps the value under `P`, and all spaces
+-- the lowercased form of `A/B+C` keeps the value under `P`, and all spaces
 lowered_capitals :
     lowered_tree capitals
     ≡ tree_from_parts (codes "a") (codes "b+c")
@@ -88,7 +88,7 @@ last_pluses = (refl, refl)
 abbrev pub plain_value : MediaType
 plain_value = media (codes "a/b") 1 None [] (codes "a/b")
 
--- a text in capitals is read as a value in small letters
+-- a text in capitals is read as a value in lowercase
 pub reads_capitals : Reads (codes "A/B") plain_value
 unfolding is_token_byte
 reads_capitals = reads (codes "A") (codes "B") no_list (refl, refl, tt)

@@ -9,9 +9,9 @@ use Rattle.mime_lines.specs.Report.{lines_of}
 use Rattle.std.proofs.lemmas.Grind.{common_steps}
 
 -- a first line with one more byte in front of it
-front-shift : (n b : ℕ) (xs : List ℕ)
+prefix-shift : (n b : ℕ) (xs : List ℕ)
     → (b ∷ take n xs) ∷ lines_of (drop (n + 1) xs) ≡ take (1 + n) (b ∷ xs) ∷ lines_of (drop (1 + n + 1) (b ∷ xs))
-front-shift n b xs =
+prefix-shift n b xs =
     let s : 1 + n ≡ suc n = omega arith in
     let t : 1 + n + 1 ≡ suc (n + 1) = omega arith in
     let p : take (1 + n) (b ∷ xs) ≡ b ∷ take n xs = ap (λ k. take k (b ∷ xs)) s in
@@ -19,13 +19,13 @@ front-shift n b xs =
     cc
 
 -- the first line of a byte and of bytes whose first line is known
-front-lines : (is_end : Bool) (n b : ℕ) (bytes : List ℕ)
+prefix-lines : (is_end : Bool) (n b : ℕ) (bytes : List ℕ)
     → (0 < length bytes → lines_of bytes ≡ take n bytes ∷ lines_of (drop (n + 1) bytes)) → (length bytes ≡ 0 → n ≡ 0)
     → cond is_end ([] ∷ lines_of bytes) (onto_first b (lines_of bytes))
     ≡ take (cond (not is_end) (1 + n) 0) (b ∷ bytes) ∷ lines_of (drop (cond (not is_end) (1 + n) 0 + 1) (b ∷ bytes))
-front-lines true n b bytes cut none = refl
-front-lines false n b [] cut none = rw (none refl) refl
-front-lines false n b (c ∷ bytes) cut none = ap (onto_first b) (cut (omega arith)) ∙ front-shift n b (c ∷ bytes)
+prefix-lines true n b bytes cut none = refl
+prefix-lines false n b [] cut none = rw (none refl) refl
+prefix-lines false n b (c ∷ bytes) cut none = ap (onto_first b) (cut (omega arith)) ∙ prefix-shift n b (c ∷ bytes)
 
 -- the first line, and the lines after its end
 pub lines_of-first : (bytes : List ℕ) → 0 < length bytes
@@ -33,7 +33,7 @@ pub lines_of-first : (bytes : List ℕ) → 0 < length bytes
     ≡ take (position_or_len (λ b. nat_eq b 10) bytes) bytes ∷ lines_of (drop (position_or_len (λ b. nat_eq b 10) bytes + 1) bytes)
 lines_of-first [] h = absurd (omega arith)
 lines_of-first (b ∷ bytes) h =
-    front-lines (nat_eq b 10) (position_or_len (λ b. nat_eq b 10) bytes) b bytes (lines_of-first bytes)
+    prefix-lines (nat_eq b 10) (position_or_len (λ b. nat_eq b 10) bytes) b bytes (lines_of-first bytes)
     (λ e. omega (arith, prefix_len-le-length (λ b. not (nat_eq b 10)) bytes))
 
 -- a line that ends before the end of the bytes ends with byte 10
@@ -42,10 +42,10 @@ pub line_end-found : (bytes : List ℕ) (end : ℕ) → end ≡ position_or_len 
 line_end-found bytes end is within = slice_get-first_position 10 bytes end is within
 
 -- the first line, and the lines after its end, where these are known
-pub lines_of-cut : (bytes front rest : List ℕ) (end : ℕ) → 0 < length bytes → end ≡ position_or_len (λ b. nat_eq b 10) bytes
-    → front ≡ take end bytes → rest ≡ drop (end + 1) bytes → lines_of bytes ≡ front ∷ lines_of rest
-lines_of-cut bytes front rest end some is front_is rest_is =
-    lines_of-first bytes some ∙ ap (λ n. take n bytes ∷ lines_of (drop (n + 1) bytes)) (sym is) ∙ cc (front_is, rest_is)
+pub lines_of-cut : (bytes prefix rest : List ℕ) (end : ℕ) → 0 < length bytes → end ≡ position_or_len (λ b. nat_eq b 10) bytes
+    → prefix ≡ take end bytes → rest ≡ drop (end + 1) bytes → lines_of bytes ≡ prefix ∷ lines_of rest
+lines_of-cut bytes prefix rest end some is prefix_is rest_is =
+    lines_of-first bytes some ∙ ap (λ n. take n bytes ∷ lines_of (drop (n + 1) bytes)) (sym is) ∙ cc (prefix_is, rest_is)
 
 -- bytes in which no line ends are one line
 pub lines_of-last : (bytes : List ℕ) (end : ℕ) → 0 < length bytes → end ≡ position_or_len (λ b. nat_eq b 10) bytes → length bytes ≤ end
@@ -54,8 +54,8 @@ lines_of-last bytes end some is past =
     lines_of-cut bytes bytes [] end some is (sym (take_all end bytes past)) (sym (drop_all (end + 1) bytes (omega arith)))
 
 -- the bytes after a position that may be the end
-pub drop-after : (n : ℕ) (xs : List ℕ) → drop (n + 1) xs ≡ take (length xs - min (n + 1) (length xs)) (drop (min (n + 1) (length xs)) xs)
-drop-after n xs = grind (arith, common_steps)
+pub drop-beyond : (n : ℕ) (xs : List ℕ) → drop (n + 1) xs ≡ take (length xs - min (n + 1) (length xs)) (drop (min (n + 1) (length xs)) xs)
+drop-beyond n xs = grind (arith, common_steps)
 
 -- a byte and bytes that were passed are passed
 one_more_passed : (is_end any : Bool) (n l m : ℕ) → (is_end || any) ≡ false → (any ≡ false → n ≡ l + m)
@@ -73,10 +73,10 @@ passed_all p (x ∷ xs) ys none =
 pub passed_onward : (p : ℕ → Bool) (xs : List ℕ) (n k j : ℕ) → j ≡ k → n + k ≤ length xs → list_any p (take j (drop n xs)) ≡ false
     → n + position_or_len p (drop n xs) ≡ position_or_len p xs → (n + k) + position_or_len p (drop (n + k) xs) ≡ position_or_len p xs
 passed_onward p xs n k j size within none at =
-    let front = take j (drop n xs) in
+    let prefix = take j (drop n xs) in
     let room : j ≤ length (drop n xs) = omega (arith, length-drop n xs) in
-    let cut : position_or_len p (drop n xs) ≡ position_or_len p (front ++ drop j (drop n xs)) =
+    let cut : position_or_len p (drop n xs) ≡ position_or_len p (prefix ++ drop j (drop n xs)) =
     ap (position_or_len p) (sym (take-append-drop j (drop n xs))) in
     let rest : position_or_len p (drop j (drop n xs)) ≡ position_or_len p (drop (n + k) xs) =
     ap (position_or_len p) (drop-drop j n xs ∙ ap (λ i. drop (n + i) xs) size) in
-    omega (arith, at, cut, passed_all p front (drop j (drop n xs)) none, length-take-le j (drop n xs) room, rest)
+    omega (arith, at, cut, passed_all p prefix (drop j (drop n xs)) none, length-take-le j (drop n xs) room, rest)

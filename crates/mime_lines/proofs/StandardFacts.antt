@@ -70,7 +70,7 @@ rows_of_items = refl
 list_names_a_mode : mode_named (codes "list") ≡ Some Mode.List
 list_names_a_mode = refl
 
--- a mode is named in small letters alone
+-- a mode is named in lowercase alone
 capitals_name_no_mode : mode_named (codes "LIST") ≡ None
 capitals_name_no_mode = refl
 
@@ -90,10 +90,10 @@ rows_left_out = (refl, refl)
 -- ---- reports
 
 -- the value of `a/b`
-abbrev plain_value : MediaType
-plain_value = record { essence = codes "a/b"; slash = 1; plus = None; pairs = []; kept = codes "a/b" }
+abbrev value_of_text : MediaType
+value_of_text = record { essence = codes "a/b"; slash = 1; plus = None; pairs = []; kept = codes "a/b" }
 
-reads_text : Reads (codes "a/b") plain_value
+reads_text : Reads (codes "a/b") value_of_text
 unfolding is_token_byte
 reads_text = record {
   tree = record { top = codes "a"; sub = codes "b"; tail = no_list };
@@ -105,18 +105,18 @@ reads_text = record {
 -- the report on one line, by its parts
 report_of_line : IsReportOf Mode.Parts (codes "a/b\n") (codes "ok a/b\ntype a\nsubtype b\n")
 unfolding encode
-report_of_line = line_more (is_text (codes "a/b", (refl, refl)) (read plain_value reads_text)) no_more
+report_of_line = line_more (is_text (codes "a/b", (refl, refl)) (read value_of_text reads_text)) no_more
 
 -- bytes that are no text are reported as such, and a text isn't
 report_of_bytes : (mode : Mode) → ¬ (IsUtf8 (255 ∷ [])) → ReportsLine mode (255 ∷ []) (codes "not text\n")
 report_of_bytes mode not_utf8 = not_text not_utf8
 
 -- a text with a fault is refused
-refused-from_fault : CompletedIsRefused → AcceptedIsViable → (text : List ℕ) (fault : ParseError) → IsFault text fault → IsRefused text
-refused-from_fault completed viable text (InvalidToken pos byte) dead = λ accepted.
-    dead.front.longest (length text) (slice_get_within text pos byte dead.there) (omega arith)
+refused_by_laws : CompletedIsRefused → AcceptedIsViable → (text : List ℕ) (fault : ParseError) → IsFault text fault → IsRefused text
+refused_by_laws completed viable text (InvalidToken pos byte) dead = λ accepted.
+    dead.prefix.longest (length text) (slice_get_within text pos byte dead.there) (omega arith)
     (subst IsViable (sym (take-length text)) (viable text accepted))
-refused-from_fault completed viable text fault lacks = completed text fault lacks
+refused_by_laws completed viable text fault lacks = completed text fault lacks
 
 -- the report on a text is one
 one_report : OneReading → OneFault → CompletedIsRefused → AcceptedIsViable → OneCut → (mode : Mode) (text first second : List ℕ)
@@ -124,11 +124,11 @@ one_report : OneReading → OneFault → CompletedIsRefused → AcceptedIsViable
 one_report reading one completed viable cut mode text first second (read value reads) (read other again) =
     ap value_rows (reading text value other reads again)
 one_report reading one completed viable cut mode text first second (read value reads) (refused fault is) =
-    absurd (refused-from_fault completed viable text fault is (value, reads))
+    absurd (refused_by_laws completed viable text fault is (value, reads))
 one_report reading one completed viable cut mode text first second (refused fault is) (read value reads) =
-    absurd (refused-from_fault completed viable text fault is (value, reads))
+    absurd (refused_by_laws completed viable text fault is (value, reads))
 one_report reading one completed viable cut mode text first second (refused fault is) (refused other also) =
-    let only = one text (refused-from_fault completed viable text fault is) in
+    let only = one text (refused_by_laws completed viable text fault is) in
     ap (λ it. row (codes "bad ") (error_text it)) (only.2 fault is ∙ sym (only.2 other also))
 one_report reading one completed viable cut mode text first second (listed items rest is) (listed others left also) =
     let only = cut text in ap item_rows ((only.3 items rest is).0 ∙ sym (only.3 others left also).0)

@@ -15,15 +15,15 @@ pub struct Failed;
 pub trait Source {
     /// The bytes that are left to read; none where the source doesn't say.
     ghost left: { Self → Option (List ℕ) };
-    /// The mark "has failed".
+    /// The flag "has failed".
     ghost has_failed: { Self → Bool };
 
-    /// Puts bytes at the front of a buffer, and gives their number: 3 for a buffer of 8 bytes means
+    /// Puts bytes at the start of a buffer, and gives their number: 3 for a buffer of 8 bytes means
     /// that its first 3 are new. 0 for a buffer that isn't empty is the end.
     fn read(&mut self, buf: &mut [u8]) -> Result<usize, Failed>
         ensures bound { ReadsAtMost result buf.new }
         ensures bytes { ReadConsumes (left self.old) (left self.new) result buf.new }
-        // A failure sets the mark, and nothing else changes it.
+        // A failure sets the flag, and nothing else changes it.
         ensures failed { OnErr result (has_failed self.new ≡ true) }
         ensures unfailed { OnOk result (has_failed self.new ≡ has_failed self.old) };
 }
@@ -32,7 +32,7 @@ pub trait Source {
 pub trait Sink {
     /// The bytes that it holds; none where the sink doesn't say.
     ghost held: { Self → Option (List ℕ) };
-    /// The mark "has failed".
+    /// The flag "has failed".
     ghost has_failed: { Self → Bool };
     /// All that was written is passed on; true where the sink doesn't say.
     ghost IsPassedOn: { Self → Type 0 } = { λ _. ⊤ };
@@ -40,7 +40,7 @@ pub trait Sink {
     /// Writes all of the bytes. After a failure it isn't known how many were written.
     fn write_all(&mut self, bytes: &[u8]) -> Result<(), Failed>
         ensures bytes { OnOk result (Appends (held self.old) (held self.new) bytes.now) }
-        // A failure sets the mark, and nothing else changes it.
+        // A failure sets the flag, and nothing else changes it.
         ensures failed { OnErr result (has_failed self.new ≡ true) }
         ensures unfailed { OnOk result (has_failed self.new ≡ has_failed self.old) };
 
@@ -49,7 +49,7 @@ pub trait Sink {
         ensures bytes { Keeps (held self.old) (held self.new) }
         // Nothing else says that all is passed on.
         ensures passed_on { OnOk result (IsPassedOn self.new) }
-        // A failure sets the mark, and nothing else changes it.
+        // A failure sets the flag, and nothing else changes it.
         ensures failed { OnErr result (has_failed self.new ≡ true) }
         ensures unfailed { OnOk result (has_failed self.new ≡ has_failed self.old) };
 }
@@ -65,8 +65,8 @@ pub struct Device<T> {
 }
 
 impl<T> Device<T> {
-    /// The answer of an inner call. Its failure sets the mark.
-    fn marked<V>(&mut self, answer: io::Result<V>) -> Result<V, Failed>
+    /// The answer of an inner call. Its failure sets the flag.
+    fn flagged<V>(&mut self, answer: io::Result<V>) -> Result<V, Failed>
         ensures inner { self.new.inner ≡ self.old.inner }
         ensures answer { MatchResult answer (λ value. result ≡ Ok value) (λ _. IsErr result) }
         ensures failed { OnErr answer (self.new.failed ≡ true) }
@@ -89,7 +89,7 @@ impl<T: Read> Source for Device<T> {
 
     fn read(&mut self, buf: &mut [u8]) -> Result<usize, Failed> {
         let answer = self.inner.read(buf);
-        self.marked(answer)
+        self.flagged(answer)
     }
 }
 
@@ -100,11 +100,11 @@ impl<T: Write> Sink for Device<T> {
 
     fn write_all(&mut self, bytes: &[u8]) -> Result<(), Failed> {
         let answer = self.inner.write_all(bytes);
-        self.marked(answer)
+        self.flagged(answer)
     }
 
     fn flush(&mut self) -> Result<(), Failed> {
         let answer = self.inner.flush();
-        self.marked(answer)
+        self.flagged(answer)
     }
 }

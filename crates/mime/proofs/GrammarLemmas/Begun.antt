@@ -27,11 +27,11 @@ Closed = List (List ℕ × Parameter)
 -- a begun parameter list: its closed parameters and the state after them
 pub record BegunList : Type 0 where
   pub closed : Closed
-  pub place : ListState
+  pub position : ListState
 
 -- the begun list just after the subtype's semicolon
 abbrev pub begun_list : BegunList
-begun_list = record { closed = []; place = in_spaces [] }
+begun_list = record { closed = []; position = in_spaces [] }
 
 -- a begun tree: the text ends in its type, in its subtype, or in the list after them
 pub data Begun : Type 0 where
@@ -41,11 +41,11 @@ pub data Begun : Type 0 where
 
 -- the begun list of closed parameters and a state
 abbrev pub list_at : Closed → ListState → BegunList
-list_at closed place = record { closed = closed; place = place }
+list_at closed position = record { closed = closed; position = position }
 
 -- a list goes on in this state
 abbrev pub at_state : Closed → ListState → Option BegunList
-at_state closed place = Some (list_at closed place)
+at_state closed position = Some (list_at closed position)
 
 -- a semicolon closes a parameter, which spaces precede
 abbrev pub close : Closed → List ℕ → Parameter → Option BegunList
@@ -74,7 +74,7 @@ grow_state closed (after_quotes n name content m) b =
 
 -- a begun list after one more byte, or none
 abbrev pub grow_list : BegunList → ℕ → Option BegunList
-grow_list list b = grow_state list.closed list.place b
+grow_list list b = grow_state list.closed list.position b
 
 -- a begun tree after one more byte, or none
 abbrev pub grow : Begun → ℕ → Option Begun
@@ -121,7 +121,7 @@ list_at_end (after_quotes n name content m) = Some (final n (quoted name content
 
 -- the parameter list that ends as a begun list, if it may end there
 abbrev pub ended_list : BegunList → Option Parameters
-ended_list list = option_map (with_closed list.closed) (list_at_end list.place)
+ended_list list = option_map (with_closed list.closed) (list_at_end list.position)
 
 -- the syntax tree of a text that ends in a begun tree, if it may end there
 abbrev pub tree_of : Begun → Option SyntaxTree
@@ -134,13 +134,13 @@ tree_of (in_list top sub list) = option_map (λ rest. record { top = top; sub = 
 abbrev pub lacking_list : ListState → ParseError
 lacking_list (in_name n name) = MissingEqual
 lacking_list (in_value n name value) = MissingValue
-lacking_list place = MissingQuote
+lacking_list position = MissingQuote
 
 -- what is missing from a text that ends too early, in a begun tree
 abbrev pub lacking : Begun → ParseError
 lacking (in_type top) = MissingSlash
 lacking (in_subtype top sub) = MissingSubtype
-lacking (in_list top sub list) = lacking_list list.place
+lacking (in_list top sub list) = lacking_list list.position
 
 -- ---- by any step
 
@@ -165,15 +165,15 @@ walk_by-append_some step state next xs ys e =
     walk_by-append step state xs ys ∙ ap (option_and_then (λ s. walk_by step s ys)) e
 
 -- a state that each byte of a class lengthens takes a run of the class
-walk_by-run : {S : Type 0} (step : S → ℕ → Option S) (class : ℕ → Bool) (place : List ℕ → S)
-    → ((taken : List ℕ) (b : ℕ) → IsTrue (class b) → step (place taken) b ≡ Some (place (taken ++ (b ∷ []))))
-    → (taken run : List ℕ) → IsTrue (list_all class run) → walk_by step (place taken) run ≡ Some (place (taken ++ run))
-walk_by-run step class place takes taken [] all = ap (λ t. Some (place t)) (sym (append-nil taken))
-walk_by-run step class place takes taken (b ∷ run) all =
+walk_by-run : {S : Type 0} (step : S → ℕ → Option S) (class : ℕ → Bool) (position : List ℕ → S)
+    → ((taken : List ℕ) (b : ℕ) → IsTrue (class b) → step (position taken) b ≡ Some (position (taken ++ (b ∷ []))))
+    → (taken run : List ℕ) → IsTrue (list_all class run) → walk_by step (position taken) run ≡ Some (position (taken ++ run))
+walk_by-run step class position takes taken [] all = ap (λ t. Some (position t)) (sym (append-nil taken))
+walk_by-run step class position takes taken (b ∷ run) all =
     let parts = and_parts (class b) (list_all class run) all in
-    walk_by-step step (place taken) (place (taken ++ (b ∷ []))) b run (takes taken b parts.0)
-    ∙ walk_by-run step class place takes (taken ++ (b ∷ [])) run parts.1
-    ∙ ap (λ t. Some (place t)) (append_assoc taken (b ∷ []) run)
+    walk_by-step step (position taken) (position (taken ++ (b ∷ []))) b run (takes taken b parts.0)
+    ∙ walk_by-run step class position takes (taken ++ (b ∷ [])) run parts.1
+    ∙ ap (λ t. Some (position t)) (append_assoc taken (b ∷ []) run)
 
 -- ---- from a begun tree
 

@@ -13,8 +13,8 @@ use Rattle.std.proofs.lemmas.Option.{none-some, same_Some, option_and_then_some,
 use Rattle.std.proofs.lemmas.Str.{IsCharBoundary-start, IsCharBoundary-end, IsCharBoundary-after_ascii, IsUtf8-take, IsUtf8-drop, IsCharBoundary-past_char, length-encode, len_utf8_bounds}
 use Rattle.std.specs.Str.{IsUtf8, IsCharBoundary, encode_utf8_all}
 use Rattle.mime.proofs.GrammarLemmas.Content.{takes-high}
-use Rattle.mime.specs.Laws.{FrontEndsBetweenCharacters}
-use Rattle.mime.proofs.GrammarLemmas.Viability.{whole_front-from_walk, front_unique, stop-from_walk, dead-from_stop}
+use Rattle.mime.specs.Laws.{PrefixEndsBetweenCharacters}
+use Rattle.mime.proofs.GrammarLemmas.Viability.{whole_prefix-from_walk, prefix_unique, stop-from_walk, dead-from_stop}
 use Rattle.std.proofs.Math.Seq.{take-append_seam, drop-append_seam, get_or-append_seam}
 use Rattle.std.proofs.lemmas.List.Folds.{list_all_at}
 use Rattle.std.specs.List.{list_all}
@@ -23,7 +23,7 @@ use Rattle.mime.specs.Cut.{is_following_byte, IsCharacter}
 use Rattle.mime.specs.CutLaws.{PassesOneCharacter}
 use lib.Utf8.{scalars, scalar}
 
--- a foreign byte: no token byte, no space and no mark
+-- a foreign byte: no token byte, no space and no flag
 pub record IsForeign (b : ℕ) : Type 0 where
   pub token : IsFalse (is_token_byte b)
   pub space : IsFalse (is_space b)
@@ -55,9 +55,9 @@ neither P first second x y fails fails_too =
     subst (λ o. MatchOption o (Unit {0}) P) (sym (cond-false first x _ fails ∙ cond-false second y None fails_too)) tt
 
 -- from a state of a list a foreign byte leads nowhere, or from open quotes into open quotes
-grow_state-foreign : (top sub : List ℕ) (closed : Closed) (place : ListState) (b : ℕ) → IsForeign b
-    → MatchOption (grow_state closed place b) (Unit {0})
-    (λ next. IsOpen (in_list top sub (list_at closed place)) × IsOpen (in_list top sub next))
+grow_state-foreign : (top sub : List ℕ) (closed : Closed) (position : ListState) (b : ℕ) → IsForeign b
+    → MatchOption (grow_state closed position b) (Unit {0})
+    (λ next. IsOpen (in_list top sub (list_at closed position)) × IsOpen (in_list top sub next))
 grow_state-foreign top sub closed (in_spaces n) b foreign = neither _ _ _ _ _ foreign.space foreign.token
 grow_state-foreign top sub closed (in_name n name) b foreign = neither _ _ _ _ _ foreign.token foreign.equals
 grow_state-foreign top sub closed (in_value n name []) b foreign = neither _ _ _ _ _ foreign.token foreign.quote
@@ -81,7 +81,7 @@ grow-foreign (in_list top sub list) b foreign =
     elim (grow_list list b)
     as (λ o. MatchOption o (Unit {0}) (λ next. IsOpen (in_list top sub list) × IsOpen (in_list top sub next))
     → MatchOption (option_map (in_list top sub) o) (Unit {0}) (λ next. IsOpen (in_list top sub list) × IsOpen next))
-    [ None ↦ λ opens. opens | Some next ↦ λ opens. opens ] (grow_state-foreign top sub list.closed list.place b foreign)
+    [ None ↦ λ opens. opens | Some next ↦ λ opens. opens ] (grow_state-foreign top sub list.closed list.position b foreign)
 
 -- ---- a byte past ASCII is foreign to the grammar
 
@@ -90,7 +90,7 @@ pub high_token : (b : ℕ) → 128 ≤ b → IsFalse (is_token_byte b)
 unfolding is_token_byte
 high_token b high = grind (arith, nat_tests)
 
--- a byte past ASCII is no token byte, no space and no mark
+-- a byte past ASCII is no token byte, no space and no flag
 foreign-from_high : (b : ℕ) → 128 ≤ b → IsForeign b
 foreign-from_high b high = record {
   token = high_token b high;
@@ -112,7 +112,7 @@ high-untaken begun b quotes dead high =
     untaken true other x y dead = absurd (none-some _ (sym dead))
     untaken false other x y dead = refl
 
--- ---- the front
+-- ---- the prefix
 
 -- a byte of a text, by what is left from its position on
 byte_at : (text : List ℕ) (at b : ℕ) (rest : List ℕ) → drop at text ≡ b ∷ rest
@@ -156,20 +156,20 @@ border-before_dead text at (c ∷ bytes) rest b start begun utf8 left walked dea
     (border-before_dead text (at + 1) bytes rest b next begun utf8 (byte_at text at c (bytes ++ (b ∷ rest)) left).2 goes dead
     (border-after text at c (bytes ++ (b ∷ rest)) start next utf8 left grown)))
 
--- the longest viable front ends between characters
-pub front_ends_between_characters : FrontEndsBetweenCharacters
-front_ends_between_characters text count utf8 front = reached (walk text) refl
+-- the longest viable prefix ends between characters
+pub prefix_ends_between_characters : PrefixEndsBetweenCharacters
+prefix_ends_between_characters text count utf8 prefix = reached (walk text) refl
   where
     reached : (o : Option Begun) → walk text ≡ o → IsCharBoundary text count
     reached (Some begun) walked =
         subst (IsCharBoundary text)
-        (front_unique text (length text) count (whole_front-from_walk text begun walked) front) (IsCharBoundary-end text)
+        (prefix_unique text (length text) count (whole_prefix-from_walk text begun walked) prefix) (IsCharBoundary-end text)
     reached None stopped =
         let stop = stop-from_walk (in_type []) text stopped in
-        let same = front_unique text (length stop.front) count (dead-from_stop text stop).front front in
-        let sum : 0 + length stop.front ≡ count = omega (arith, same) in
+        let same = prefix_unique text (length stop.prefix) count (dead-from_stop text stop).prefix prefix in
+        let sum : 0 + length stop.prefix ≡ count = omega (arith, same) in
         subst (IsCharBoundary text) sum
-        (border-before_dead text 0 stop.front stop.rest stop.byte (in_type []) stop.begun utf8 stop.spelled stop.walked stop.dead
+        (border-before_dead text 0 stop.prefix stop.rest stop.byte (in_type []) stop.begun utf8 stop.spelled stop.walked stop.dead
         (inl (IsCharBoundary-start text utf8)))
 
 -- a byte past ASCII that isn't from 128 to 191 is 192 or above
@@ -228,7 +228,7 @@ single (b ∷ f) l one utf8 = by_chars utf8.0 utf8.1.0 utf8.1.1
 -- what is passed in valid UTF-8 is one character
 pub passes_one_character : PassesOneCharacter
 passes_one_character text p c l utf8 split =
-    let border = front_ends_between_characters text (length p) utf8 split.front in
+    let border = prefix_ends_between_characters text (length p) utf8 split.prefix in
     let piece : IsUtf8 p =
     subst IsUtf8 (ap (take (length p)) split.spelled ∙ take-append_seam p (c ++ l)) (IsUtf8-take text (length p) utf8 border) in
     let others : IsUtf8 (c ++ l) =

@@ -29,13 +29,13 @@ unfolding is_quoted_byte
 takes-high true b not_taken high = grind (arith, nat_tests)
 takes-high false b not_taken high = grind (arith, nat_tests)
 
--- a value takes a byte exactly if it takes its small letter
+-- a value takes a byte exactly if it takes its lowercase letter
 takes-of_lowercase : (awaiting : Bool) (b : ℕ) → takes awaiting (to_ascii_lowercase b) ≡ takes awaiting b
 unfolding is_quoted_byte
 takes-of_lowercase true b = grind (arith, nat_tests)
 takes-of_lowercase false b = grind (arith, nat_tests)
 
--- after a byte of a value another is awaited exactly if one is after its small letter
+-- after a byte of a value another is awaited exactly if one is after its lowercase letter
 awaits_next-lowercase : (awaiting : Bool) (b : ℕ) → awaits_next awaiting (to_ascii_lowercase b) ≡ awaits_next awaiting b
 awaits_next-lowercase true b = refl
 awaits_next-lowercase false b = grind (arith, nat_tests)
@@ -199,11 +199,11 @@ awaits_after-lowered awaiting (b ∷ bytes) =
     ap (λ (a : Bool). awaits_after a (lowered bytes)) (awaits_next-lowercase awaiting b)
     ∙ awaits_after-lowered (awaits_next awaiting b) bytes
 
--- a byte continues open content as its small letter continues the lowered content
+-- a byte continues open content as its lowercase letter continues the lowercased content
 pub continues-lowered : (content : List ℕ) (b : ℕ) → continues (lowered content) (to_ascii_lowercase b) ≡ continues content b
 continues-lowered content b = rw (awaits_after-lowered awaits_first content) (takes-of_lowercase (awaits_after awaits_first content) b)
 
--- lowered content is content
+-- lowercased content is content
 pub IsContent-lowered : (content : List ℕ) → IsContent content → IsContent (lowered content)
 IsContent-lowered content is =
     IsContent-taken (lowered content) (takes_all-lowered awaits_first content ∙ content-taken content is)

@@ -13,14 +13,14 @@ use Rattle.mime.specs.Quoted.{awaits_first, takes_all, awaits_after}
 use Rattle.mime.proofs.GrammarLemmas.Content.{takes_all-letter, takes_all-letter_slash_letter, takes_all-equals_letter}
 use Rattle.mime.specs.Grammar.{SyntaxTree}
 use Rattle.mime.specs.Values.{IsRefused}
-use Rattle.mime.specs.Refusals.{IsFront, EndsIn, Lacks, IsDeadAt, IsFault}
+use Rattle.mime.specs.Refusals.{IsLongestPrefix, EndsIn, Lacks, IsDeadAt, IsFault}
 use Rattle.mime.proofs.GrammarLemmas.Begun.{Closed, Begun, in_type, in_subtype, in_list, ListState, in_name, in_value, in_quotes, list_at, walk, tree_of, lacking}
-use Rattle.mime.specs.Laws.{OneCompletion, CompletedIsRefused, OneFault, OneFront}
+use Rattle.mime.specs.Laws.{OneCompletion, CompletedIsRefused, OneFault, OneLongestPrefix}
 use Rattle.mime.specs.declared.scan.fault.ParseError.{ParseError}
 use Rattle.mime.specs.declared.scan.fault.ParseError.TheVariants.{MissingSlash, MissingSubtype, MissingEqual, MissingValue, MissingQuote, InvalidToken}
 use Rattle.mime.proofs.GrammarLemmas.Spelling.{before_equals, begun-from_walk, spelled-from_walk, text-in_subtype, text-in_value}
 use Rattle.mime.proofs.GrammarLemmas.Readings.{walk-accepted}
-use Rattle.mime.proofs.GrammarLemmas.Viability.{accepted-from_complete, completes, completes-from_accepted, walk_from-open, lacks-from_walk, viable-from_lacks, walk-from_viable, not_viable-at_dead, whole_front-from_walk, front_unique, stop-from_walk, dead-from_stop}
+use Rattle.mime.proofs.GrammarLemmas.Viability.{accepted-from_complete, completes, completes-from_accepted, walk_from-open, lacks-from_walk, viable-from_lacks, walk-from_viable, not_viable-at_dead, whole_prefix-from_walk, prefix_unique, stop-from_walk, dead-from_stop}
 
 -- ---- a begun tree lacks one thing only
 
@@ -59,15 +59,15 @@ own-by_fault text begun walked slash subtype equal value quote other lacks = abs
 -- a text that ends in bytes of a class ends in no byte outside it
 ends_not : {X : Type 0} (class : ℕ → Bool) (text before run : List ℕ) (b : ℕ) → before ++ run ≡ text → 0 < length run
     → IsTrue (list_all class run) → IsFalse (class b) → EndsIn text b → X
-ends_not class text before run b spelled some all outside (front, ends) =
-    let whole : length before + length run ≡ length front + 1 =
-    sym (length-append before run) ∙ ap length (spelled ∙ ends) ∙ length-append front (b ∷ []) in
-    let within : length before ≤ length front = omega (arith, whole, some) in
-    let last : run ≡ drop (length before) front ++ (b ∷ []) =
+ends_not class text before run b spelled some all outside (prefix, ends) =
+    let whole : length before + length run ≡ length prefix + 1 =
+    sym (length-append before run) ∙ ap length (spelled ∙ ends) ∙ length-append prefix (b ∷ []) in
+    let within : length before ≤ length prefix = omega (arith, whole, some) in
+    let last : run ≡ drop (length before) prefix ++ (b ∷ []) =
     sym (drop-append_seam before run) ∙ ap (drop (length before)) (spelled ∙ ends)
-    ∙ drop-append-le (length before) front (b ∷ []) within in
-    let parts = and_parts (list_all class (drop (length before) front)) (list_all class (b ∷ []))
-    (sym (list_all-append class (drop (length before) front) (b ∷ [])) ∙ sym (ap (list_all class) last) ∙ all) in
+    ∙ drop-append-le (length before) prefix (b ∷ []) within in
+    let parts = and_parts (list_all class (drop (length before) prefix)) (list_all class (b ∷ []))
+    (sym (list_all-append class (drop (length before) prefix) (b ∷ [])) ∙ sym (ap (list_all class) last) ∙ all) in
     never (sym outside ∙ (and_parts (class b) _ parts.1).0)
 
 -- bytes that an open quoted value takes complete nothing
@@ -94,10 +94,10 @@ lacks_own text (in_subtype top (s ∷ sub)) walked =
     in_token b =
         ends_not is_token_byte text (top ++ (slash_byte ∷ [])) (s ∷ sub) b
         (text-in_subtype top (s ∷ sub) ∙ spelled-from_walk text _ walked) (omega arith) (begun-from_walk text _ walked).1
-lacks_own text (in_list top sub list) walked = at list.place list.closed walked
+lacks_own text (in_list top sub list) walked = at list.position list.closed walked
   where
-    at : (place : ListState) (closed : Closed) → walk text ≡ Some (in_list top sub (list_at closed place))
-        → (fault : ParseError) → Lacks text fault → IsOwn (in_list top sub (list_at closed place)) fault
+    at : (position : ListState) (closed : Closed) → walk text ≡ Some (in_list top sub (list_at closed position))
+        → (fault : ParseError) → Lacks text fault → IsOwn (in_list top sub (list_at closed position)) fault
     at (in_name n name) closed walked = own-by_fault text _ walked never nor (λ passes. (refl, refl)) nor never
     at (in_value n name []) closed walked =
         own-by_fault text _ walked never
@@ -112,7 +112,7 @@ lacks_own text (in_list top sub list) walked = at list.place list.closed walked
         in_token b =
             ends_not is_token_byte text (before_equals top sub closed n name ++ (equals_byte ∷ [])) (v ∷ value) b
             (text-in_value top sub closed n name (v ∷ value) ∙ spelled-from_walk text _ walked) (omega arith)
-            (begun-from_walk text _ walked).list.place.2
+            (begun-from_walk text _ walked).list.position.2
     at (in_quotes n name content) closed walked =
         own-by_fault text _ walked
         (completes_not (codes "x/x") (takes_all-letter_slash_letter awaited))
@@ -167,9 +167,9 @@ fault-from_lacks text other lacks = lacks
 dead_unique : (text : List ℕ) (pos at byte there : ℕ) → IsDeadAt text pos byte → IsDeadAt text at there
     → InvalidToken pos byte ≡ InvalidToken at there
 dead_unique text pos at byte there first second =
-    let places : pos ≡ at = front_unique text pos at first.front second.front in
-    let bytes : byte ≡ there = same_Some byte there (sym first.there ∙ ap (slice_get text) places ∙ second.there) in
-    ap (λ p. InvalidToken p byte) places ∙ ap (λ x. InvalidToken at x) bytes
+    let positions : pos ≡ at = prefix_unique text pos at first.prefix second.prefix in
+    let bytes : byte ≡ there = same_Some byte there (sym first.there ∙ ap (slice_get text) positions ∙ second.there) in
+    ap (λ p. InvalidToken p byte) positions ∙ ap (λ x. InvalidToken at x) bytes
 
 -- two faults of a text are the same
 fault_unique : (text : List ℕ) (first second : ParseError) → IsFault text first → IsFault text second → first ≡ second
@@ -191,16 +191,16 @@ one_fault text refused =
         (lacking begun, fault-from_lacks text (lacking begun) (lacks-from_refused text begun walked refused))
     reached None stopped =
         let stop = stop-from_walk (in_type []) text stopped in
-        (InvalidToken (length stop.front) stop.byte, dead-from_stop text stop)
+        (InvalidToken (length stop.prefix) stop.byte, dead-from_stop text stop)
 
--- a text has exactly one longest viable front
-pub one_front : OneFront
-one_front text =
+-- a text has exactly one longest viable prefix
+pub one_longest_prefix : OneLongestPrefix
+one_longest_prefix text =
     let found = reached (walk text) refl in
-    (found.0, found.1, λ other is. front_unique text other found.0 is found.1)
+    (found.0, found.1, λ other is. prefix_unique text other found.0 is found.1)
   where
-    reached : (o : Option Begun) → walk text ≡ o → (count : ℕ) × IsFront text count
-    reached (Some begun) walked = (length text, whole_front-from_walk text begun walked)
+    reached : (o : Option Begun) → walk text ≡ o → (count : ℕ) × IsLongestPrefix text count
+    reached (Some begun) walked = (length text, whole_prefix-from_walk text begun walked)
     reached None stopped =
         let stop = stop-from_walk (in_type []) text stopped in
-        (length stop.front, (dead-from_stop text stop).front)
+        (length stop.prefix, (dead-from_stop text stop).prefix)

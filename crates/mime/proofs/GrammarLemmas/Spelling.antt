@@ -29,7 +29,7 @@ text_of_state (after_quotes n name content m) = n ++ text_of_parameter (quoted n
 
 -- the text after the subtype's semicolon
 abbrev text_of_begun_list : BegunList → List ℕ
-text_of_begun_list list = text_of_closed list.closed ++ text_of_state list.place
+text_of_begun_list list = text_of_closed list.closed ++ text_of_state list.position
 
 -- the text that led to a begun tree
 abbrev pub text_of_begun : Begun → List ℕ
@@ -53,7 +53,7 @@ IsState (after_quotes n name content m) = AreSpaces n × IsToken name × IsConte
 -- a begun list that is well formed so far
 pub record IsBegunList (list : BegunList) : Type 0 where
   pub closed : AreClosed list.closed
-  pub place : IsState list.place
+  pub position : IsState list.position
 
 -- a type, a subtype and a begun list that are well formed so far
 pub record IsBegunTail (t s : List ℕ) (begun : BegunList) : Type 0 where
@@ -86,15 +86,15 @@ cons-append b xs ys = refl
 -- to group joined lists anew
 ruleset regroup = (append_assoc, append-nil, cons-append)
 
--- a byte of a class leads on one way, a mark another
-pub by_class : {X : Type 0} (P : ℕ → X → Type 0) (class : ℕ → Bool) (mark b : ℕ) (x y : X)
-    → (IsTrue (class b) → P b x) → (IsFalse (class mark) → P mark y)
-    → MatchOption (if class b then Some x else (if b == mark then Some y else None)) (Unit {0}) (P b)
-by_class P class mark b x y passes marked =
+-- a byte of a class leads on one way, a delimiter another
+pub by_class : {X : Type 0} (P : ℕ → X → Type 0) (class : ℕ → Bool) (flag b : ℕ) (x y : X)
+    → (IsTrue (class b) → P b x) → (IsFalse (class flag) → P flag y)
+    → MatchOption (if class b then Some x else (if b == flag then Some y else None)) (Unit {0}) (P b)
+by_class P class flag b x y passes flagged =
     cond_both (class b) _ _ (λ o. MatchOption o (Unit {0}) (P b)) passes
-    (λ fails. cond_both (b == mark) _ _ (λ o. MatchOption o (Unit {0}) (P b))
-    (λ same. let is = eqb-true b mark same in
-    subst (λ c. P c y) (sym is) (marked (subst (λ c. IsFalse (class c)) is fails)))
+    (λ fails. cond_both (b == flag) _ _ (λ o. MatchOption o (Unit {0}) (P b))
+    (λ same. let is = eqb-true b flag same in
+    subst (λ c. P c y) (sym is) (flagged (subst (λ c. IsFalse (class c)) is fails)))
     (λ other. tt))
 
 -- what one more byte makes of a begun list
@@ -102,38 +102,38 @@ abbrev Lengthens : List ℕ → ℕ → BegunList → Type 0
 Lengthens text b next = IsBegunList next × (text_of_begun_list next ≡ text ++ (b ∷ []))
 
 -- a begun list of well-formed parts
-placed : {closed : Closed} {place : ListState} → AreClosed closed → IsState place → IsBegunList (list_at closed place)
-placed before here = record { closed = before; place = here }
+same_positions : {closed : Closed} {position : ListState} → AreClosed closed → IsState position → IsBegunList (list_at closed position)
+same_positions before here = record { closed = before; position = here }
 
 -- each byte that may come at a state lengthens the text by itself
-grow_state-lengthens : (closed : Closed) (place : ListState) (b : ℕ) → AreClosed closed → IsState place
-    → MatchOption (grow_state closed place b) (Unit {0}) (Lengthens (text_of_closed closed ++ text_of_state place) b)
+grow_state-lengthens : (closed : Closed) (position : ListState) (b : ℕ) → AreClosed closed → IsState position
+    → MatchOption (grow_state closed position b) (Unit {0}) (Lengthens (text_of_closed closed ++ text_of_state position) b)
 grow_state-lengthens closed (in_spaces n) b before here =
     cond_both (is_space b) _ _ (λ o. MatchOption o (Unit {0}) (Lengthens (text_of_closed closed ++ n) b))
-    (λ passes. (placed before (list_all-push is_space n b here passes), simp regroup))
+    (λ passes. (same_positions before (list_all-push is_space n b here passes), simp regroup))
     (λ fails. cond_both (is_token_byte b) _ _ (λ o. MatchOption o (Unit {0}) (Lengthens (text_of_closed closed ++ n) b))
-    (λ passes. (placed before (here, and_from (is_token_byte b) true passes refl), simp regroup))
+    (λ passes. (same_positions before (here, and_from (is_token_byte b) true passes refl), simp regroup))
     (λ fails. tt))
 grow_state-lengthens closed (in_name n name) b before here =
     by_class (Lengthens _) is_token_byte equals_byte b _ _
-    (λ passes. (placed before (here.0, IsToken-push name b here.1 passes), simp regroup))
-    (λ fails. (placed before (here.0, here.1, refl), simp regroup))
+    (λ passes. (same_positions before (here.0, IsToken-push name b here.1 passes), simp regroup))
+    (λ fails. (same_positions before (here.0, here.1, refl), simp regroup))
 grow_state-lengthens closed (in_value n name []) b before here =
     by_class (Lengthens _) is_token_byte quote_byte b _ _
-    (λ passes. (placed before (here.0, here.1, and_from (is_token_byte b) true passes refl), simp regroup))
-    (λ fails. (placed before (here.0, here.1, refl), simp regroup))
+    (λ passes. (same_positions before (here.0, here.1, and_from (is_token_byte b) true passes refl), simp regroup))
+    (λ fails. (same_positions before (here.0, here.1, refl), simp regroup))
 grow_state-lengthens closed (in_value n name (v ∷ value)) b before here =
     by_class (Lengthens _) is_token_byte semicolon_byte b _ _
-    (λ passes. (placed before (here.0, here.1, list_all-push is_token_byte (v ∷ value) b here.2 passes), simp regroup))
-    (λ fails. (placed (here.0, (here.1, here.2), before) refl, simp regroup))
+    (λ passes. (same_positions before (here.0, here.1, list_all-push is_token_byte (v ∷ value) b here.2 passes), simp regroup))
+    (λ fails. (same_positions (here.0, (here.1, here.2), before) refl, simp regroup))
 grow_state-lengthens closed (in_quotes n name content) b before here =
     by_class (Lengthens _) (continues content) quote_byte b _ _
-    (λ passes. (placed before (here.0, here.1, IsOpenContent-push content b here.2 passes), simp regroup))
-    (λ fails. (placed before (here.0, here.1, IsContent-closed content quote_byte here.2 fails refl, refl), simp regroup))
+    (λ passes. (same_positions before (here.0, here.1, IsOpenContent-push content b here.2 passes), simp regroup))
+    (λ fails. (same_positions before (here.0, here.1, IsContent-closed content quote_byte here.2 fails refl, refl), simp regroup))
 grow_state-lengthens closed (after_quotes n name content m) b before here =
     by_class (Lengthens _) is_space semicolon_byte b _ _
-    (λ passes. (placed before (here.0, here.1, here.2, list_all-push is_space m b here.3 passes), simp regroup))
-    (λ fails. (placed (here.0, (here.1, here.2, here.3), before) refl, simp regroup))
+    (λ passes. (same_positions before (here.0, here.1, here.2, list_all-push is_space m b here.3 passes), simp regroup))
+    (λ fails. (same_positions (here.0, (here.1, here.2, here.3), before) refl, simp regroup))
 
 -- what one more byte makes of a begun tree
 abbrev Grows : List ℕ → ℕ → Begun → Type 0
@@ -153,7 +153,7 @@ grow-lengthens (in_subtype top []) b here =
 grow-lengthens (in_subtype top (s ∷ sub)) b here =
     by_class (Grows _) is_token_byte semicolon_byte b _ _
     (λ passes. ((here.0, list_all-push is_token_byte (s ∷ sub) b here.1 passes), simp regroup))
-    (λ fails. (record { top = here.0; sub = here.1; list = placed tt refl }, simp regroup))
+    (λ fails. (record { top = here.0; sub = here.1; list = same_positions tt refl }, simp regroup))
 grow-lengthens (in_list top sub list) b here =
     elim (grow_list list b) as (λ o. MatchOption o (Unit {0}) (Lengthens (text_of_begun_list list) b)
     → MatchOption (option_map (in_list top sub) o) (Unit {0}) (Grows (text_of_begun (in_list top sub list)) b)) [
@@ -162,7 +162,7 @@ grow-lengthens (in_list top sub list) b here =
         record { top = here.top; sub = here.sub; list = longer.0 },
         ap (λ t. top ++ (slash_byte ∷ (sub ++ (semicolon_byte ∷ t)))) longer.1 ∙ simp regroup,
       )
-    ] (grow_state-lengthens list.closed list.place b here.list.closed here.list.place)
+    ] (grow_state-lengthens list.closed list.position b here.list.closed here.list.position)
 
 -- a walk spells the bytes that it passed
 pub walk_from-lengthens : (begun : Begun) (bytes : List ℕ) (last : Begun) → IsBegun begun
@@ -213,8 +213,8 @@ AreParameters-with_closed (item ∷ closed) rest before here =
     AreParameters-with_closed closed (more item.0 item.1 rest) before.2 (before.0, before.1, here)
 
 -- a list that ends in a state spells that state's text
-list_at_end-spelled : (place : ListState) → IsState place
-    → MatchOption (list_at_end place) (Unit {0}) (λ rest. AreParameters rest × (text_of_list rest ≡ text_of_state place))
+list_at_end-spelled : (position : ListState) → IsState position
+    → MatchOption (list_at_end position) (Unit {0}) (λ rest. AreParameters rest × (text_of_list rest ≡ text_of_state position))
 list_at_end-spelled (in_spaces n) fine = (fine, refl)
 list_at_end-spelled (in_name n name) fine = tt
 list_at_end-spelled (in_value n name []) fine = tt
@@ -230,8 +230,8 @@ tree_of-spelled (in_subtype top []) here = tt
 tree_of-spelled (in_subtype top (s ∷ sub)) here =
     ((here.0, here.1, tt), ap (λ t. top ++ (slash_byte ∷ t)) (append-nil (s ∷ sub)))
 tree_of-spelled (in_list top sub list) here =
-    elim (list_at_end list.place) as (λ o.
-    MatchOption o (Unit {0}) (λ rest. AreParameters rest × (text_of_list rest ≡ text_of_state list.place))
+    elim (list_at_end list.position) as (λ o.
+    MatchOption o (Unit {0}) (λ rest. AreParameters rest × (text_of_list rest ≡ text_of_state list.position))
     → MatchOption (option_map (λ rest. record { top = top; sub = sub; tail = listed rest }) (option_map (with_closed list.closed) o))
     (Unit {0}) (λ tree. IsWellFormed tree × (text_of tree ≡ text_of_begun (in_list top sub list)))) [
       | None ↦ λ ends. tt
@@ -240,4 +240,4 @@ tree_of-spelled (in_list top sub list) here =
         ap (λ t. top ++ (slash_byte ∷ (sub ++ (semicolon_byte ∷ t))))
             (text_of_list-with_closed list.closed rest ∙ ap (λ t. text_of_closed list.closed ++ t) ends.1),
       )
-    ] (list_at_end-spelled list.place here.list.place)
+    ] (list_at_end-spelled list.position here.list.position)

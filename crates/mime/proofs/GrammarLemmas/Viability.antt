@@ -8,16 +8,16 @@ use Rattle.std.specs.Option.{option_and_then, option_map}
 use Rattle.mime.specs.Bytes.{is_token_byte, quote_byte}
 use Rattle.mime.specs.Grammar.{SyntaxTree}
 use Rattle.mime.specs.Values.{value_of, IsAccepted, IsRefused}
-use Rattle.mime.specs.Refusals.{IsViable, IsFront, completion_of, Lacks, IsDeadAt, IsFault}
+use Rattle.mime.specs.Refusals.{IsViable, IsLongestPrefix, completion_of, Lacks, IsDeadAt, IsFault}
 use Rattle.mime.proofs.GrammarLemmas.Begun.{Closed, Begun, in_type, in_subtype, in_list, ListState, in_name, in_value, in_quotes, list_at, grow, walk, walk_from, tree_of, lacking, lacking_list, walk_from-step, walk_by-append, walk_from-append_some, walk_from-in_list, walk_list-open}
-use Rattle.mime.specs.Laws.{EmptyIsViable, FrontOfViableIsViable, AcceptedIsViable}
+use Rattle.mime.specs.Laws.{EmptyIsViable, PrefixOfViableIsViable, AcceptedIsViable}
 use Rattle.mime.specs.declared.scan.fault.ParseError.{ParseError}
 use Rattle.mime.specs.declared.scan.fault.ParseError.TheVariants.{MissingQuote, InvalidToken}
 use Rattle.mime.specs.Quoted.{awaits_first, takes_all, awaits_after, continues}
 use Rattle.mime.proofs.GrammarLemmas.Content.{takes_all-letter, closed-letter}
 use Rattle.mime.proofs.GrammarLemmas.Spelling.{before_equals, spelled-from_walk, text-in_value}
 use Rattle.mime.proofs.GrammarLemmas.Readings.{accepted-from_walk, walk-accepted, stopped-from_walk}
-use Rattle.mime.proofs.BytesLemmas.{slice_get-front}
+use Rattle.mime.proofs.BytesLemmas.{slice_get-prefix}
 
 -- ---- what may still become a media type
 
@@ -86,10 +86,10 @@ lacks-from_walk text (in_subtype top []) walked unfinished = (
   (top, sym (spelled-from_walk text (in_subtype top []) walked)),
 )
 lacks-from_walk text (in_subtype top (s ∷ sub)) walked unfinished = absurd (none-some _ (sym unfinished))
-lacks-from_walk text (in_list top sub list) walked unfinished = at list.place list.closed walked unfinished
+lacks-from_walk text (in_list top sub list) walked unfinished = at list.position list.closed walked unfinished
   where
-    at : (place : ListState) (closed : Closed) → walk text ≡ Some (in_list top sub (list_at closed place))
-        → tree_of (in_list top sub (list_at closed place)) ≡ None → Lacks text (lacking_list place)
+    at : (position : ListState) (closed : Closed) → walk text ≡ Some (in_list top sub (list_at closed position))
+        → tree_of (in_list top sub (list_at closed position)) ≡ None → Lacks text (lacking_list position)
     at (in_name n name) closed walked unfinished =
         (accepted-from_completes text (codes "=x") (in_list top sub (list_at closed (in_name n name))) walked refl, tt)
     at (in_value n name []) closed walked unfinished = (
@@ -143,45 +143,45 @@ walk-from_viable text viable = reached (walk text) refl
 pub empty_is_viable : EmptyIsViable
 empty_is_viable = viable-from_walk [] (in_type []) refl
 
--- each beginning of a viable text is viable
-pub front_of_viable_is_viable : FrontOfViableIsViable
-front_of_viable_is_viable front more viable =
-    (more ++ viable.0, subst IsAccepted (append_assoc front more viable.0) viable.1)
+-- each prefix of a viable text is viable
+pub prefix_of_viable_is_viable : PrefixOfViableIsViable
+prefix_of_viable_is_viable prefix more viable =
+    (more ++ viable.0, subst IsAccepted (append_assoc prefix more viable.0) viable.1)
 
--- ---- the front
+-- ---- the prefix
 
--- the whole text is its front if it can be walked
-pub whole_front-from_walk : (text : List ℕ) (begun : Begun) → walk text ≡ Some begun → IsFront text (length text)
-whole_front-from_walk text begun walked = record {
+-- the whole text is its prefix if it can be walked
+pub whole_prefix-from_walk : (text : List ℕ) (begun : Begun) → walk text ≡ Some begun → IsLongestPrefix text (length text)
+whole_prefix-from_walk text begun walked = record {
   within = omega arith;
   viable = subst IsViable (sym (take-length text)) (viable-from_walk text begun walked);
   longest = λ n above within viable. absurd (omega arith);
 }
 
 -- after a byte that leads nowhere no walk goes on
-walk-dead : (front rest : List ℕ) (b : ℕ) (begun : Begun) → walk front ≡ Some begun → grow begun b ≡ None
-    → walk (front ++ (b ∷ rest)) ≡ None
-walk-dead front rest b begun walked dead =
-    walk_from-append_some (in_type []) begun front (b ∷ rest) walked ∙ ap (option_and_then (λ next. walk_from next rest)) dead
+walk-dead : (prefix rest : List ℕ) (b : ℕ) (begun : Begun) → walk prefix ≡ Some begun → grow begun b ≡ None
+    → walk (prefix ++ (b ∷ rest)) ≡ None
+walk-dead prefix rest b begun walked dead =
+    walk_from-append_some (in_type []) begun prefix (b ∷ rest) walked ∙ ap (option_and_then (λ next. walk_from next rest)) dead
 
--- the front ends before the first byte that leads nowhere
-pub front-from_walk : (front rest : List ℕ) (b : ℕ) (begun : Begun) → walk front ≡ Some begun → grow begun b ≡ None
-    → IsFront (front ++ (b ∷ rest)) (length front)
-front-from_walk front rest b begun walked dead = record {
-  within = omega (arith, length-append front (b ∷ rest));
-  viable = subst IsViable (sym (take-append_seam front (b ∷ rest))) (viable-from_walk front begun walked);
+-- the prefix ends before the first byte that leads nowhere
+pub prefix-from_walk : (prefix rest : List ℕ) (b : ℕ) (begun : Begun) → walk prefix ≡ Some begun → grow begun b ≡ None
+    → IsLongestPrefix (prefix ++ (b ∷ rest)) (length prefix)
+prefix-from_walk prefix rest b begun walked dead = record {
+  within = omega (arith, length-append prefix (b ∷ rest));
+  viable = subst IsViable (sym (take-append_seam prefix (b ∷ rest))) (viable-from_walk prefix begun walked);
   longest = λ n above within viable.
-      let more : n ≡ length front + suc (n - suc (length front)) = omega arith in
-      let text : take n (front ++ (b ∷ rest)) ≡ front ++ (b ∷ take (n - suc (length front)) rest) =
-      ap (λ k. take k (front ++ (b ∷ rest))) more
-      ∙ take-append-add front (b ∷ rest) (suc (n - suc (length front))) in
-      not_viable-from_walk (front ++ (b ∷ take (n - suc (length front)) rest))
-      (walk-dead front (take (n - suc (length front)) rest) b begun walked dead) (subst IsViable text viable);
+      let more : n ≡ length prefix + suc (n - suc (length prefix)) = omega arith in
+      let text : take n (prefix ++ (b ∷ rest)) ≡ prefix ++ (b ∷ take (n - suc (length prefix)) rest) =
+      ap (λ k. take k (prefix ++ (b ∷ rest))) more
+      ∙ take-append-add prefix (b ∷ rest) (suc (n - suc (length prefix))) in
+      not_viable-from_walk (prefix ++ (b ∷ take (n - suc (length prefix)) rest))
+      (walk-dead prefix (take (n - suc (length prefix)) rest) b begun walked dead) (subst IsViable text viable);
 }
 
--- a text has at most one front
-pub front_unique : (text : List ℕ) (m n : ℕ) → IsFront text m → IsFront text n → m ≡ n
-front_unique text m n first second =
+-- a text has at most one prefix
+pub prefix_unique : (text : List ℕ) (m n : ℕ) → IsLongestPrefix text m → IsLongestPrefix text n → m ≡ n
+prefix_unique text m n first second =
     ⊎_elim (λ same. same)
     (⊎_elim (λ below. absurd (first.longest n below second.within second.viable))
     (λ above. absurd (second.longest m above first.within first.viable)))
@@ -195,17 +195,17 @@ pub quote_fault-from_walk : (text top sub : List ℕ) (closed : Closed) (n name 
 quote_fault-from_walk text top sub closed n name content walked = lacks-from_walk text _ walked refl
 
 -- the fault of a text that goes on with a byte that leads nowhere
-pub dead-from_walk : (front rest : List ℕ) (b : ℕ) (begun : Begun) → walk front ≡ Some begun → grow begun b ≡ None
-    → IsFault (front ++ (b ∷ rest)) (InvalidToken (length front) b)
-dead-from_walk front rest b begun walked dead = record {
-  front = front-from_walk front rest b begun walked dead;
-  there = slice_get-front front b rest (length front) refl;
+pub dead-from_walk : (prefix rest : List ℕ) (b : ℕ) (begun : Begun) → walk prefix ≡ Some begun → grow begun b ≡ None
+    → IsFault (prefix ++ (b ∷ rest)) (InvalidToken (length prefix) b)
+dead-from_walk prefix rest b begun walked dead = record {
+  prefix = prefix-from_walk prefix rest b begun walked dead;
+  there = slice_get-prefix prefix b rest (length prefix) refl;
 }
 
 -- a text with a byte at fault isn't viable
 pub not_viable-at_dead : (text : List ℕ) (pos byte : ℕ) → IsDeadAt text pos byte → ¬ (IsViable text)
 not_viable-at_dead text pos byte dead viable =
-    dead.front.longest (length text) (slice_get_within text pos byte dead.there) (omega arith)
+    dead.prefix.longest (length text) (slice_get_within text pos byte dead.there) (omega arith)
     (subst IsViable (sym (take-length text)) viable)
 
 -- a text with a byte at fault is refused
@@ -214,12 +214,12 @@ refused-at_dead text pos byte dead accepted = not_viable-at_dead text pos byte d
 
 -- where a walk stops
 pub record Stop (start : Begun) (text : List ℕ) : Type 0 where
-  pub front : List ℕ
+  pub prefix : List ℕ
   pub byte : ℕ
   pub rest : List ℕ
   pub begun : Begun
-  pub spelled : text ≡ front ++ (byte ∷ rest)
-  pub walked : walk_from start front ≡ Some begun
+  pub spelled : text ≡ prefix ++ (byte ∷ rest)
+  pub walked : walk_from start prefix ≡ Some begun
   pub dead : grow begun byte ≡ None
 
 -- a text that can't be walked has a first byte that leads nowhere
@@ -228,22 +228,22 @@ stop-from_walk start [] stopped = absurd (none-some start (sym stopped))
 stop-from_walk start (b ∷ bytes) stopped =
     (elim (grow start b) as (λ o. grow start b ≡ o → option_and_then (λ next. walk_from next bytes) o ≡ None → Stop start (b ∷ bytes)) [
       | None ↦ λ dead stops.
-          record { front = []; byte = b; rest = bytes; begun = start; spelled = refl; walked = refl; dead = dead }
+          record { prefix = []; byte = b; rest = bytes; begun = start; spelled = refl; walked = refl; dead = dead }
       | Some next ↦ λ grown stops.
           let stop = stop-from_walk next bytes stops in
           record {
-            front = b ∷ stop.front;
+            prefix = b ∷ stop.prefix;
             byte = stop.byte;
             rest = stop.rest;
             begun = stop.begun;
             spelled = ap (λ t. b ∷ t) stop.spelled;
-            walked = walk_from-step start next b stop.front grown ∙ stop.walked;
+            walked = walk_from-step start next b stop.prefix grown ∙ stop.walked;
             dead = stop.dead;
           }
     ]) refl stopped
 
 -- the byte where a walk stops is at fault
-pub dead-from_stop : (text : List ℕ) (stop : Stop (in_type []) text) → IsDeadAt text (length stop.front) stop.byte
+pub dead-from_stop : (text : List ℕ) (stop : Stop (in_type []) text) → IsDeadAt text (length stop.prefix) stop.byte
 dead-from_stop text stop =
-    subst (λ t. IsDeadAt t (length stop.front) stop.byte) (sym stop.spelled)
-    (dead-from_walk stop.front stop.rest stop.byte stop.begun stop.walked stop.dead)
+    subst (λ t. IsDeadAt t (length stop.prefix) stop.byte) (sym stop.spelled)
+    (dead-from_walk stop.prefix stop.rest stop.byte stop.begun stop.walked stop.dead)

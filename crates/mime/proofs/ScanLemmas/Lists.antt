@@ -6,13 +6,13 @@ use Rattle.std.proofs.lemmas.Bool.{cond-true, cond-false}
 use Rattle.mime.specs.Bytes.{is_token_byte, equals_byte, quote_byte, semicolon_byte}
 use Rattle.mime.specs.Values.{last_plus}
 use Rattle.mime.specs.ReaderState.{Remaining}
-use Rattle.mime.specs.declared.scan.Places.{Places}
+use Rattle.mime.specs.declared.scan.Positions.{Positions}
 use Rattle.mime.specs.declared.scan.Verdict.{Verdict}
-use Rattle.mime.specs.Scanning.{Given, GivesFirst, Passes, places_of, before_list, ScansList, Scans, PassesContent}
+use Rattle.mime.specs.Scanning.{Given, GivesFirst, Passes, positions_of, before_list, ScansList, Scans, PassesContent}
 use Rattle.mime.proofs.GrammarLemmas.Begun.{in_type, in_subtype, in_list, begun_list, walk-type, walk_from-subtype, ListState, in_spaces, in_name, in_value, in_quotes, after_quotes, BegunList, grow_state, close, walk_list-spaces, walk_list-name, walk_list-value, walk_list-open, walk_list-after_quotes}
 use Rattle.mime.proofs.ScanLemmas.Passing.{given_then, given_whole, given_sum}
 use Rattle.mime.proofs.GrammarLemmas.Spelling.{walk_from-lengthens}
-use Rattle.mime.proofs.ScanLemmas.Verdicts.{Reaches, reaches_run, reaches_byte, places_of_list, ListReaches, list_run, list_byte}
+use Rattle.mime.proofs.ScanLemmas.Verdicts.{Reaches, reaches_run, reaches_byte, positions_of_list, ListReaches, list_run, list_byte}
 use Rattle.mime.specs.Grammar.{is_space, Parameter, plain, quoted}
 use Rattle.mime.specs.Quoted.{continues}
 use Rattle.mime.proofs.BytesLemmas.{quote_is_no_token, semicolon_is_no_token}
@@ -47,45 +47,45 @@ pub record Subtyped (top : List ℕ) (b : ℕ) (plus : Option ℕ) (old now : Re
   pub counted : now.count ≡ old.count + (length top + 2 + length others + length (option_to_list stop))
 
 -- the positions of a text that ends in its subtype
-abbrev essence_places : ℕ → Option ℕ → Places
-essence_places slash plus = record { slash = slash; plus = plus; semicolon = None; pairs = 0 }
+abbrev essence_positions : ℕ → Option ℕ → Positions
+essence_positions slash plus = record { slash = slash; plus = plus; semicolon = None; pairs = 0 }
 
 -- the positions of a text that ends in its subtype are those of its parts
 pub essence_is : (slash : ℕ) (plus : Option ℕ) (top others : List ℕ) → slash ≡ length top → plus ≡ last_plus (length top + 2) others
-    → essence_places slash plus ≡ essence_places (length top) (last_plus (length top + 2) others)
+    → essence_positions slash plus ≡ essence_positions (length top) (last_plus (length top + 2) others)
 essence_is slash plus top others e f = rw (e, f)
 
 -- the answer on the list is the answer on the text
-pub scans_list : {old mid new : Remaining} {top sub : List ℕ} {head : Places} {verdict : Verdict}
-    → Reaches (in_type []) old mid None (in_list top sub begun_list) → head ≡ places_of (before_list top sub)
+pub scans_list : {old mid new : Remaining} {top sub : List ℕ} {head : Positions} {verdict : Verdict}
+    → Reaches (in_type []) old mid None (in_list top sub begun_list) → head ≡ positions_of (before_list top sub)
     → ScansList head mid new verdict → Scans old new verdict
 scans_list {old} {mid} {top = top} {sub = sub} r e scans =
     let found = walk_from-lengthens (in_type []) r.run (in_list top sub begun_list) refl r.walked in
     scans old top sub found.0.top found.0.sub e (subst (λ run. Given old mid run None) (sym found.1) r.given)
 
 -- the loop before a parameter: some are closed, and each took a byte of those that were left
-pub record Turn (head places : Places) (old now : Remaining) : Type 0 where
+pub record Turn (head positions : Positions) (old now : Remaining) : Type 0 where
   pub closed : List (List ℕ × Parameter)
-  pub walked : ListReaches old now None (record { closed = closed; place = in_spaces [] })
-  pub placed : places ≡ record head { pairs = head.pairs + (length closed + 0) }
+  pub walked : ListReaches old now None (record { closed = closed; position = in_spaces [] })
+  pub same_positions : positions ≡ record head { pairs = head.pairs + (length closed + 0) }
   pub room : length closed + length now.left ≤ length old.left
 
 -- one parameter more is counted
-pub one_pair_more : (head places : Places) (n : ℕ) → places ≡ record head { pairs = head.pairs + (n + 0) }
-    → record places { pairs = places.pairs + 1 } ≡ record head { pairs = head.pairs + (n + 1) }
-one_pair_more head places n e = rw e (ap (λ (count : ℕ). record head { pairs = count }) (omega arith))
+pub one_pair_more : (head positions : Positions) (n : ℕ) → positions ≡ record head { pairs = head.pairs + (n + 0) }
+    → record positions { pairs = positions.pairs + 1 } ≡ record head { pairs = head.pairs + (n + 1) }
+one_pair_more head positions n e = rw e (ap (λ (count : ℕ). record head { pairs = count }) (omega arith))
 
 -- the spaces before a parameter were walked
-pub spaces_walked : {head places : Places} {old mid new : Remaining} {stop : Option ℕ}
-    → (t : Turn head places old mid) → (p : Passes is_space mid new stop)
-    → ListReaches old new stop (record { closed = t.closed; place = in_spaces p.run })
+pub spaces_walked : {head positions : Positions} {old mid new : Remaining} {stop : Option ℕ}
+    → (t : Turn head positions old mid) → (p : Passes is_space mid new stop)
+    → ListReaches old new stop (record { closed = t.closed; position = in_spaces p.run })
 spaces_walked t p = list_run t.walked p.given (walk_list-spaces t.closed [] p.run p.of_class)
 
 -- a parameter's name was walked
-pub name_walked : {head places : Places} {old mid from new : Remaining} {b : ℕ} {stop : Option ℕ}
-    → (t : Turn head places old mid) → (p : Passes is_space mid from (Some b)) → is_token_byte b ≡ true
+pub name_walked : {head positions : Positions} {old mid from new : Remaining} {b : ℕ} {stop : Option ℕ}
+    → (t : Turn head positions old mid) → (p : Passes is_space mid from (Some b)) → is_token_byte b ≡ true
     → (q : Passes is_token_byte from new stop)
-    → ListReaches old new stop (record { closed = t.closed; place = in_name p.run (b ∷ q.run) })
+    → ListReaches old new stop (record { closed = t.closed; position = in_name p.run (b ∷ q.run) })
 name_walked {b = b} t p f q =
     list_run
     (list_byte (spaces_walked t p) (cond-false (is_space b) _ _ p.stopped ∙ cond-true (is_token_byte b) _ _ f))
@@ -93,14 +93,14 @@ name_walked {b = b} t p f q =
 
 -- a parameter's equals sign was walked
 pub equals_walked : {closed : List (List ℕ × Parameter)} {spaces name : List ℕ} {old now : Remaining} {b : ℕ}
-    → ListReaches old now (Some b) (record { closed = closed; place = in_name spaces name }) → IsFalse (is_token_byte b) → b ≡ equals_byte
-    → ListReaches old now None (record { closed = closed; place = in_value spaces name [] })
+    → ListReaches old now (Some b) (record { closed = closed; position = in_name spaces name }) → IsFalse (is_token_byte b) → b ≡ equals_byte
+    → ListReaches old now None (record { closed = closed; position = in_value spaces name [] })
 equals_walked {b = b} r f e = list_byte r (cond-false (is_token_byte b) _ _ f ∙ cond-true _ _ _ (eq-eqb b equals_byte e))
 
 -- a parameter's quoted content was walked
 pub quotes_walked : {closed : List (List ℕ × Parameter)} {spaces name : List ℕ} {old mid from new : Remaining} {b : ℕ} {stop : Option ℕ}
-    → ListReaches old mid None (record { closed = closed; place = in_value spaces name [] }) → GivesFirst mid from (Some b) → b ≡ quote_byte
-    → (q : PassesContent from new stop) → ListReaches old new stop (record { closed = closed; place = in_quotes spaces name q.run })
+    → ListReaches old mid None (record { closed = closed; position = in_value spaces name [] }) → GivesFirst mid from (Some b) → b ≡ quote_byte
+    → (q : PassesContent from new stop) → ListReaches old new stop (record { closed = closed; position = in_quotes spaces name q.run })
 quotes_walked {closed} {spaces} {name} {b = b} r g e q =
     list_run
     (list_byte (list_run r g.0 refl)
@@ -110,12 +110,12 @@ quotes_walked {closed} {spaces} {name} {b = b} r g e q =
 -- after the value of a parameter: the text may end here, or a semicolon close it
 pub record Valued (closed : List (List ℕ × Parameter)) (spaces : List ℕ) (old mid now : Remaining) (stop : Option ℕ) : Type 0 where
   pub parameter : Parameter
-  pub place : ListState
-  pub walked : ListReaches old now stop (record { closed = closed; place = place })
-  pub counted : (head : Places) → places_of_list head (record { closed = closed; place = place })
+  pub position : ListState
+  pub walked : ListReaches old now stop (record { closed = closed; position = position })
+  pub counted : (head : Positions) → positions_of_list head (record { closed = closed; position = position })
       ≡ Some (record head { pairs = head.pairs + (length closed + 1) })
-  pub closing : grow_state closed place semicolon_byte ≡ close closed spaces parameter
-  pub stopped : MatchOption stop (now.left ≡ []) (λ b. b ≢ semicolon_byte → grow_state closed place b ≡ None)
+  pub closing : grow_state closed position semicolon_byte ≡ close closed spaces parameter
+  pub stopped : MatchOption stop (now.left ≡ []) (λ b. b ≢ semicolon_byte → grow_state closed position b ≡ None)
   pub less : length now.left ≤ length mid.left
 
 -- a byte outside a class that goes on, and no semicolon, leads nowhere
@@ -128,11 +128,11 @@ only_semicolon class left (Some b) go closed s = λ ne. cond-false (class b) _ _
 
 -- a plain value was walked
 pub valued_token : {closed : List (List ℕ × Parameter)} {spaces name : List ℕ} {old mid from new : Remaining} {b : ℕ} {stop : Option ℕ}
-    → ListReaches old mid None (record { closed = closed; place = in_value spaces name [] }) → GivesFirst mid from (Some b)
+    → ListReaches old mid None (record { closed = closed; position = in_value spaces name [] }) → GivesFirst mid from (Some b)
     → is_token_byte b ≡ true → Passes is_token_byte from new stop → Valued closed spaces old mid new stop
 valued_token {closed} {spaces} {name} {new = new} {b = b} {stop = stop} r g f q = record {
   parameter = plain name (b ∷ q.run);
-  place = in_value spaces name (b ∷ q.run);
+  position = in_value spaces name (b ∷ q.run);
   walked =
       list_run (list_byte (list_run r g.0 refl) (cond-true (is_token_byte b) _ _ f)) q.given
       (walk_list-value closed spaces name b [] q.run q.of_class);
@@ -145,11 +145,11 @@ valued_token {closed} {spaces} {name} {new = new} {b = b} {stop = stop} r g f q 
 -- a quoted value and the spaces after it were walked
 pub valued_quotes : {closed : List (List ℕ × Parameter)} {spaces name : List ℕ} {old mid from to new : Remaining} {b c : ℕ}
     {stop : Option ℕ}
-    → ListReaches old mid None (record { closed = closed; place = in_value spaces name [] }) → GivesFirst mid from (Some b)
+    → ListReaches old mid None (record { closed = closed; position = in_value spaces name [] }) → GivesFirst mid from (Some b)
     → b ≡ quote_byte → PassesContent from to (Some c) → c ≡ quote_byte → Passes is_space to new stop → Valued closed spaces old mid new stop
 valued_quotes {closed} {spaces} {name} {new = new} {c = c} {stop = stop} r g e q h p = record {
   parameter = quoted name q.run p.run;
-  place = after_quotes spaces name q.run p.run;
+  position = after_quotes spaces name q.run p.run;
   walked =
       list_run
       (list_byte (quotes_walked r g e q) (cond-false (continues q.run c) _ _ q.stopped ∙ cond-true _ _ _ (eq-eqb c quote_byte h)))

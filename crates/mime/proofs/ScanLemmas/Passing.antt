@@ -145,10 +145,10 @@ content_text {new = new} stop p passes other = record {
     ends (Some b) stopped other = ap (λ (a : Bool). takes a b) closes ∙ not_taken b stopped other
 
 -- a plus at the end is the last one
-pub last_plus-plus : (at : ℕ) (xs : List ℕ) (b place : ℕ) → b ≡ plus_byte → at + length xs ≡ place
-    → last_plus at (xs ++ b ∷ []) ≡ Some place
-last_plus-plus at [] b place p e = rw p (ap Some (omega arith))
-last_plus-plus at (x ∷ xs) b place p e = rw (last_plus-plus (at + 1) xs b place p (omega arith))
+pub last_plus-plus : (at : ℕ) (xs : List ℕ) (b position : ℕ) → b ≡ plus_byte → at + length xs ≡ position
+    → last_plus at (xs ++ b ∷ []) ≡ Some position
+last_plus-plus at [] b position p e = rw p (ap Some (omega arith))
+last_plus-plus at (x ∷ xs) b position p e = rw (last_plus-plus (at + 1) xs b position p (omega arith))
 
 -- another byte at the end keeps the last plus
 pub last_plus-other : (at : ℕ) (xs : List ℕ) (b : ℕ) → eqb b plus_byte ≡ false → last_plus at (xs ++ b ∷ []) ≡ last_plus at xs
@@ -197,11 +197,11 @@ passing_plus {old} {mid} {new} {stop} p passes test = record {
 }
 
 -- the plus is the last one
-pub last_plus-stop : (at : ℕ) (xs ys : List ℕ) (place : ℕ) → at + (length xs + length ys) ≡ place
-    → last_plus at (xs ++ (ys ++ (plus_byte ∷ []))) ≡ Some place
-last_plus-stop at xs ys place is =
+pub last_plus-stop : (at : ℕ) (xs ys : List ℕ) (position : ℕ) → at + (length xs + length ys) ≡ position
+    → last_plus at (xs ++ (ys ++ (plus_byte ∷ []))) ≡ Some position
+last_plus-stop at xs ys position is =
     ap (last_plus at) (sym (append_assoc xs ys (plus_byte ∷ [])))
-    ∙ last_plus-plus at (xs ++ ys) plus_byte place refl (omega (arith, is, length-append xs ys))
+    ∙ last_plus-plus at (xs ++ ys) plus_byte position refl (omega (arith, is, length-append xs ys))
 
 -- token bytes were given so far, and then others up to the end, or to a byte that is no plus
 pub subtype_at : {old mid new : Remaining} (stop plus : Option ℕ) (at : ℕ) → (p : Passing is_token_byte old mid) → last_plus at p.run ≡ plus

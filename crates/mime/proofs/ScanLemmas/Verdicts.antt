@@ -6,8 +6,8 @@ use Rattle.mime.specs.Grammar.{Parameter, Parameters, more, listed, SyntaxTree, 
 use Rattle.mime.specs.Values.{pairs_of_list, IsRefused}
 use Rattle.mime.specs.Refusals.{IsFault}
 use Rattle.mime.specs.ReaderState.{Remaining}
-use Rattle.mime.specs.Scanning.{Given, places_of, HasPlaces, Judges, before_list, ScansList, Scans}
-use Rattle.mime.specs.declared.scan.Places.{Places}
+use Rattle.mime.specs.Scanning.{Given, positions_of, HasPositions, Judges, before_list, ScansList, Scans}
+use Rattle.mime.specs.declared.scan.Positions.{Positions}
 use Rattle.mime.specs.declared.scan.fault.ParseError.{ParseError}
 use Rattle.mime.specs.declared.scan.Verdict.{Verdict}
 use Rattle.mime.specs.declared.scan.Verdict.TheVariants.{Accepted, Unfinished, Stopped}
@@ -61,46 +61,46 @@ list_byte r e = λ top sub. reaches_byte (r top sub) (ap (option_map (in_list to
 -- ---- a text that ends at a begun tree
 
 -- the verdict at a byte that can't follow, or at the end
-abbrev verdict_at : Option ℕ → Option Places → ParseError → Verdict
+abbrev verdict_at : Option ℕ → Option Positions → ParseError → Verdict
 verdict_at None None fault = Unfinished fault
-verdict_at None (Some places) fault = Accepted places
-verdict_at (Some b) places fault = Stopped b places
+verdict_at None (Some positions) fault = Accepted positions
+verdict_at (Some b) positions fault = Stopped b positions
 
 -- what is lacking is the fault of a text that ends where no text may end
 lacking-fault : (text : List ℕ) (begun : Begun) → walk text ≡ Some begun → tree_of begun ≡ None → IsFault text (lacking begun)
 lacking-fault text begun w e = fault-from_lacks text (lacking begun) (lacks-from_walk text begun w e)
 
 -- a text that is walked to a complete tree has that tree's positions
-has_places : (text : List ℕ) (begun : Begun) (tree : SyntaxTree) → walk text ≡ Some begun → tree_of begun ≡ Some tree
-    → HasPlaces text (places_of tree)
-has_places text begun tree w e =
+has_positions : (text : List ℕ) (begun : Begun) (tree : SyntaxTree) → walk text ≡ Some begun → tree_of begun ≡ Some tree
+    → HasPositions text (positions_of tree)
+has_positions text begun tree w e =
     let found = accepted-from_walk text begun tree w e in
-    record { tree = tree; well_formed = found.0; spelled = found.1; placed = refl }
+    record { tree = tree; well_formed = found.0; spelled = found.1; same_positions = refl }
 
 -- a text that is walked is judged by the tree that it makes, if any
 judged : (text : List ℕ) (begun : Begun) (tree : Option SyntaxTree) → walk text ≡ Some begun → tree_of begun ≡ tree
-    → Judges text (length text) (verdict_at None (option_map places_of tree) (lacking begun))
+    → Judges text (length text) (verdict_at None (option_map positions_of tree) (lacking begun))
 judged text begun None w e = (refl, lacking-fault text begun w e, viable-from_walk text begun w)
-judged text begun (Some tree) w e = (refl, has_places text begun tree w e)
+judged text begun (Some tree) w e = (refl, has_positions text begun tree w e)
 
 -- the text before a byte that leads nowhere is judged by the tree that it makes, if any
 judged_before : (text : List ℕ) (begun : Begun) (tree : Option SyntaxTree) → walk text ≡ Some begun → tree_of begun ≡ tree
-    → MatchOption (option_map places_of tree) (IsRefused text) (λ places. HasPlaces text places)
+    → MatchOption (option_map positions_of tree) (IsRefused text) (λ positions. HasPositions text positions)
 judged_before text begun None w e = refused-from_walk text begun w e
-judged_before text begun (Some tree) w e = has_places text begun tree w e
+judged_before text begun (Some tree) w e = has_positions text begun tree w e
 
 -- the scanner's answer where it stops, at the end or at a byte that leads nowhere
-pub scans_at : {old now : Remaining} {stop : Option ℕ} {begun : Begun} (places : Option Places) → Reaches (in_type []) old now stop begun
-    → MatchOption stop (now.left ≡ []) (λ b. grow begun b ≡ None) → places ≡ option_map places_of (tree_of begun)
-    → Scans old now (verdict_at stop places (lacking begun))
-scans_at {stop = None} {begun = begun} places r end e =
+pub scans_at : {old now : Remaining} {stop : Option ℕ} {begun : Begun} (positions : Option Positions) → Reaches (in_type []) old now stop begun
+    → MatchOption stop (now.left ≡ []) (λ b. grow begun b ≡ None) → positions ≡ option_map positions_of (tree_of begun)
+    → Scans old now (verdict_at stop positions (lacking begun))
+scans_at {stop = None} {begun = begun} positions r end e =
     rw e (record {
       count = length r.run;
       counted = omega (arith, r.given.counted);
-      judged = subst (λ text. Judges text (length r.run) (verdict_at None (option_map places_of (tree_of begun)) (lacking begun)))
+      judged = subst (λ text. Judges text (length r.run) (verdict_at None (option_map positions_of (tree_of begun)) (lacking begun)))
           (sym (r.given.bytes ∙ ap (λ rest. r.run ++ rest) end ∙ append-nil r.run)) (judged r.run begun (tree_of begun) r.walked refl);
     })
-scans_at {now = now} {stop = Some b} {begun = begun} places r dead e =
+scans_at {now = now} {stop = Some b} {begun = begun} positions r dead e =
     rw e (record {
       count = length r.run + 1;
       counted = r.given.counted;
@@ -124,24 +124,24 @@ length-with_closed [] rest = omega arith
 length-with_closed ((n, parameter) ∷ closed) rest = length-with_closed closed (more n parameter rest) ∙ omega arith
 
 -- the positions of a text that ends in a list, if it may end there, with those before the list
-abbrev pub places_of_list : Places → BegunList → Option Places
-places_of_list head list =
+abbrev pub positions_of_list : Positions → BegunList → Option Positions
+positions_of_list head list =
     option_map (λ rest. record head { pairs = head.pairs + (length list.closed + length (pairs_of_list rest)) })
-    (list_at_end list.place)
+    (list_at_end list.position)
 
 -- the positions of a text that ends in a list are those of its tree
-places_of_list-tree : (top sub : List ℕ) (list : BegunList)
-    → places_of_list (places_of (before_list top sub)) list ≡ option_map places_of (tree_of (in_list top sub list))
-places_of_list-tree top sub list = at_end (list_at_end list.place)
+positions_of_list-tree : (top sub : List ℕ) (list : BegunList)
+    → positions_of_list (positions_of (before_list top sub)) list ≡ option_map positions_of (tree_of (in_list top sub list))
+positions_of_list-tree top sub list = at_end (list_at_end list.position)
   where
     at_end : (end : Option Parameters)
         → option_map
-        (λ rest. record (places_of (before_list top sub)) { pairs = 0 + (length list.closed + length (pairs_of_list rest)) }) end
-        ≡ option_map places_of
+        (λ rest. record (positions_of (before_list top sub)) { pairs = 0 + (length list.closed + length (pairs_of_list rest)) }) end
+        ≡ option_map positions_of
         (option_map (λ rest. record { top = top; sub = sub; tail = listed rest }) (option_map (with_closed list.closed) end))
     at_end None = refl
     at_end (Some rest) =
-        ap (λ n. Some (record (places_of (before_list top sub)) { pairs = n })) (omega (arith, length-with_closed list.closed rest))
+        ap (λ n. Some (record (positions_of (before_list top sub)) { pairs = n })) (omega (arith, length-with_closed list.closed rest))
 
 -- a byte that leads nowhere in a list leads nowhere
 stopped_in_list : (top sub left : List ℕ) (list : BegunList) (stop : Option ℕ)
@@ -151,14 +151,14 @@ stopped_in_list top sub left list None end = end
 stopped_in_list top sub left list (Some b) dead = ap (option_map (in_list top sub)) dead
 
 -- the scanner's answer on a list where it stops
-pub list_scans_at : {head : Places} {old new : Remaining} {stop : Option ℕ} {list : BegunList} (places : Option Places)
+pub list_scans_at : {head : Positions} {old new : Remaining} {stop : Option ℕ} {list : BegunList} (positions : Option Positions)
     → ListReaches old new stop list → MatchOption stop (new.left ≡ []) (λ b. grow_list list b ≡ None)
-    → places ≡ places_of_list head list → ScansList head old new (verdict_at stop places (lacking_list list.place))
-list_scans_at {new = new} {stop = stop} {list = list} places r stopped e = λ start top sub top_token sub_token head_is given.
+    → positions ≡ positions_of_list head list → ScansList head old new (verdict_at stop positions (lacking_list list.position))
+list_scans_at {new = new} {stop = stop} {list = list} positions r stopped e = λ start top sub top_token sub_token head_is given.
     let before : Reaches (in_type []) start _ None (in_list top sub begun_list) = record {
       run = text_of (before_list top sub);
       given = given;
       walked = walk-head top sub [] top_token sub_token;
     } in
-    scans_at places (reaches_run before (r top sub).given (r top sub).walked) (stopped_in_list top sub new.left list stop stopped)
-    (e ∙ ap (λ h. places_of_list h list) head_is ∙ places_of_list-tree top sub list)
+    scans_at positions (reaches_run before (r top sub).given (r top sub).walked) (stopped_in_list top sub new.left list stop stopped)
+    (e ∙ ap (λ h. positions_of_list h list) head_is ∙ positions_of_list-tree top sub list)

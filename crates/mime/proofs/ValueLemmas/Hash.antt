@@ -32,12 +32,12 @@ put-text free at count held text is =
     (sym (append_assoc held text (replicate (free - count) 0)))
 
 -- the byte 255 after what the buffer holds
-put-mark : (free left at : ℕ) (held : List ℕ) → length held ≡ at → free ≡ suc left
+put-flag : (free left at : ℕ) (held : List ℕ) → length held ≡ at → free ≡ suc left
     → set (held ++ replicate free 0) at 255 ≡ held ++ 255 ∷ [] ++ replicate left 0
-put-mark free left at held is room =
+put-flag free left at held is room =
     rw room (set_at held 0 (replicate left 0) 255 at is ∙ sym (append_assoc held (255 ∷ []) (replicate left 0)))
 
--- the front of the buffer
+-- the start of the buffer
 take-held : (free kept count : ℕ) (held : List ℕ) → count ≡ length held + kept → kept ≤ free
     → take count (held ++ replicate free 0) ≡ held ++ replicate kept 0
 take-held free kept count held is within =
@@ -52,18 +52,18 @@ pub joined_pair : (name value one other : List ℕ) → one ≡ name → other �
     (length name + 1 + length value) 255)
     ≡ pair_run (name, value)
 joined_pair name value one other first second short =
-    let marked : length (name ++ 255 ∷ []) ≡ length name + 1 = length-append name (255 ∷ []) in
+    let flagged : length (name ++ 255 ∷ []) ≡ length name + 1 = length-append name (255 ∷ []) in
     let filled : length (name ++ 255 ∷ [] ++ value) ≡ length name + 1 + length value = length-append (name ++ 255 ∷ []) value
-    ∙ ap (λ n. n + length value) marked in
+    ∙ ap (λ n. n + length value) flagged in
     let closed : length (name ++ 255 ∷ [] ++ value ++ 255 ∷ []) ≡ length name + 1 + length value + 1 =
     length-append (name ++ 255 ∷ [] ++ value) (255 ∷ []) ∙ ap (λ n. n + 1) filled in
     rw (
       first,
       second,
       drop-replicate {X = ℕ} (length name) 64 0,
-      put-mark (64 - length name) (63 - length name) (length name) name refl (omega (arith, short)),
-      put-text (63 - length name) (length name + 1) (length name + 1 + length value - (length name + 1)) (name ++ 255 ∷ []) value marked,
-      put-mark (63 - length name - (length name + 1 + length value - (length name + 1))) (63 - (length name + 1 + length value))
+      put-flag (64 - length name) (63 - length name) (length name) name refl (omega (arith, short)),
+      put-text (63 - length name) (length name + 1) (length name + 1 + length value - (length name + 1)) (name ++ 255 ∷ []) value flagged,
+      put-flag (63 - length name - (length name + 1 + length value - (length name + 1))) (63 - (length name + 1 + length value))
           (length name + 1 + length value) (name ++ 255 ∷ [] ++ value) filled (omega (arith, short)),
       take-held (63 - (length name + 1 + length value)) (7 - (length name + 1 + length value) % 8)
           (length name + 1 + length value + 8 - (length name + 1 + length value) % 8) (name ++ 255 ∷ [] ++ value ++ 255 ∷ [])
@@ -78,12 +78,12 @@ abbrev AreTextBytes : List ℕ → Type 0
 AreTextBytes bytes = list_all (is_other 255) bytes ≡ true
 
 -- the parts of bytes none of which is 255
-text_parts : (front back : List ℕ) → AreTextBytes (front ++ back) → AreTextBytes front × AreTextBytes back
-text_parts front back all =
-    and_parts (list_all (is_other 255) front) (list_all (is_other 255) back) (sym (list_all-append (is_other 255) front back) ∙ all)
+text_parts : (prefix back : List ℕ) → AreTextBytes (prefix ++ back) → AreTextBytes prefix × AreTextBytes back
+text_parts prefix back all =
+    and_parts (list_all (is_other 255) prefix) (list_all (is_other 255) back) (sym (list_all-append (is_other 255) prefix back) ∙ all)
 
-text_join : (front back : List ℕ) → AreTextBytes front → AreTextBytes back → AreTextBytes (front ++ back)
-text_join front back first second = list_all-append (is_other 255) front back ∙ and_from _ _ first second
+text_join : (prefix back : List ℕ) → AreTextBytes prefix → AreTextBytes back → AreTextBytes (prefix ++ back)
+text_join prefix back first second = list_all-append (is_other 255) prefix back ∙ and_from _ _ first second
 
 -- a test of numbers, either way
 by_test : (P : List ℕ → Type 0) (m n : ℕ) (one other : List ℕ) → (m < n → P one) → P other → P (cond (ltb m n) one other)
@@ -123,16 +123,16 @@ lowered_bytes text all =
     ∙ list_all-wider (is_other 255) (λ b. is_other 255 (to_ascii_lowercase b)) (λ b other. grind (arith, nat_tests)) text all
 
 -- two runs up to the first byte 255 are the same, and so is what follows
-first_mark : (xs ys m n : List ℕ) → AreTextBytes xs → AreTextBytes ys → xs ++ (255 ∷ m) ≡ ys ++ (255 ∷ n) → (xs ≡ ys) × (m ≡ n)
-first_mark [] [] m n one other same = (refl, cc)
-first_mark [] (y ∷ ys) m n one other same =
+first_flag : (xs ys m n : List ℕ) → AreTextBytes xs → AreTextBytes ys → xs ++ (255 ∷ m) ≡ ys ++ (255 ∷ n) → (xs ≡ ys) × (m ≡ n)
+first_flag [] [] m n one other same = (refl, cc)
+first_flag [] (y ∷ ys) m n one other same =
     let first : 255 ≡ y = cc in
     absurd (grind (arith, nat_tests, first, (and_parts (is_other 255 y) (list_all (is_other 255) ys) other).0))
-first_mark (x ∷ xs) [] m n one other same =
+first_flag (x ∷ xs) [] m n one other same =
     let first : 255 ≡ x = cc in
     absurd (grind (arith, nat_tests, first, (and_parts (is_other 255 x) (list_all (is_other 255) xs) one).0))
-first_mark (x ∷ xs) (y ∷ ys) m n one other same =
-    let rest = first_mark xs ys m n (and_parts (is_other 255 x) (list_all (is_other 255) xs) one).1
+first_flag (x ∷ xs) (y ∷ ys) m n one other same =
+    let rest = first_flag xs ys m n (and_parts (is_other 255 x) (list_all (is_other 255) xs) one).1
     (and_parts (is_other 255 y) (list_all (is_other 255) ys) other).1 (cc) in
     let runs : xs ≡ ys = rest.0 in
     (cc, rest.1)
@@ -169,10 +169,10 @@ fed_tail no_list well all = tt
 fed_tail (listed list) well all = fed_list list well all
 
 -- a text with a slash is no token
-slash_is_no_token : (front back : List ℕ) → ¬ (AreTokenBytes (front ++ (slash_byte ∷ back)))
+slash_is_no_token : (prefix back : List ℕ) → ¬ (AreTokenBytes (prefix ++ (slash_byte ∷ back)))
 unfolding is_token_byte
-slash_is_no_token front back all =
-    let parts = and_parts (list_all is_token_byte front) _ (sym (list_all-append is_token_byte front (slash_byte ∷ back)) ∙ all) in
+slash_is_no_token prefix back all =
+    let parts = and_parts (list_all is_token_byte prefix) _ (sym (list_all-append is_token_byte prefix (slash_byte ∷ back)) ∙ all) in
     absurd cc
 
 -- what is known of a value that was read
@@ -231,23 +231,23 @@ more_runs : (pair : List ℕ × List ℕ) (pairs : List (List ℕ × List ℕ)) 
     ≡ pair.0 ++ (255 ∷ (pair.1 ++ (255 ∷ (replicate (7 - pair_count pair % 8) 0 ++ (flat_map pair_run pairs ++ after)))))
 more_runs pair pairs after = ap (λ xs. xs ++ after) (flat_map-cons pair_run pair pairs) ∙ simp append_assoc
 
--- pairs and essences whose bytes begin alike are the same
+-- pairs and essences whose bytes begin with the same are the same
 pairs_same : (xs ys : List (List ℕ × List ℕ)) (one other m n : List ℕ) → AllByRecursion IsFedPair xs → AllByRecursion IsFedPair ys
     → AreTextBytes one → AreTextBytes other → ¬ (AreTokenBytes one) → ¬ (AreTokenBytes other)
     → flat_map pair_run xs ++ (one ++ (255 ∷ m)) ≡ flat_map pair_run ys ++ (other ++ (255 ∷ n))
     → (one ≡ other) × (xs ≡ ys)
 unfolding is_token_byte
-pairs_same [] [] one other m n first second text also slash slashed same = ((first_mark one other m n text also same).0, refl)
+pairs_same [] [] one other m n first second text also slash slashed same = ((first_flag one other m n text also same).0, refl)
 pairs_same [] (y ∷ ys) one other m n first second text also slash slashed same =
-    let cut = first_mark one y.0 m _ text (are_other-token 255 refl y.0 second.0.0) (same ∙ more_runs y ys _) in
+    let cut = first_flag one y.0 m _ text (are_other-token 255 refl y.0 second.0.0) (same ∙ more_runs y ys _) in
     absurd (slash (subst AreTokenBytes (sym cut.0) second.0.0))
 pairs_same (x ∷ xs) [] one other m n first second text also slash slashed same =
-    let cut = first_mark x.0 other _ n (are_other-token 255 refl x.0 first.0.0) also (sym (more_runs x xs _) ∙ same) in
+    let cut = first_flag x.0 other _ n (are_other-token 255 refl x.0 first.0.0) also (sym (more_runs x xs _) ∙ same) in
     absurd (slashed (subst AreTokenBytes cut.0 first.0.0))
 pairs_same (x ∷ xs) (y ∷ ys) one other m n first second text also slash slashed same =
-    let named = first_mark x.0 y.0 _ _ (are_other-token 255 refl x.0 first.0.0) (are_other-token 255 refl y.0 second.0.0)
+    let named = first_flag x.0 y.0 _ _ (are_other-token 255 refl x.0 first.0.0) (are_other-token 255 refl y.0 second.0.0)
     (sym (more_runs x xs _) ∙ same ∙ more_runs y ys _) in
-    let valued = first_mark x.1 y.1 _ _ first.0.1 second.0.1 named.1 in
+    let valued = first_flag x.1 y.1 _ _ first.0.1 second.0.1 named.1 in
     let pair : x ≡ y = λ i. (named.0 i, valued.0 i) in
     let rest = pairs_same xs ys one other m n first.1 second.1 text also slash slashed
     (zeros (7 - pair_count x % 8) (7 - pair_count y % 8) _ _ (ap (λ p. 7 - pair_count p % 8) pair) valued.1) in

@@ -6,12 +6,12 @@ use Rattle.mime.specs.Bytes.{slash_byte, semicolon_byte}
 use Rattle.mime.specs.Grammar.{Parameters, blank, final, more, Tail, no_list, listed, SyntaxTree, text_of, text_of_tail, text_of_list, IsToken, AreParameters, IsTail, IsWellFormed}
 use Rattle.mime.specs.Values.{MediaType, Reads, value_of, essence_of, kept_text, lowered, lowered_tree, last_plus, pairs_of_list, pairs_of_tail}
 use Rattle.mime.specs.Pairs.{pairs_within, lowered_within}
-use Rattle.mime.specs.Scanning.{HasPlaces, places_of, semicolon_of, before_list}
-use Rattle.mime.specs.KeptText.{media_of, HoldsParameter, IsKept, with_pairs_lowered, kept_text_of, kept_places}
-use Rattle.mime.specs.declared.scan.Places.{Places}
-use Rattle.mime.proofs.BytesLemmas.{slice_get-front}
-use Rattle.mime.proofs.ValueLemmas.Lowercase.{length-lowered, lowered-append, lowered_tree-lowered_tree, IsWellFormed-lowered_tree, places_of-lowered_tree}
-use Rattle.mime.proofs.ValueLemmas.Utf8.{IsLoweredInPart, small, in_parts}
+use Rattle.mime.specs.Scanning.{HasPositions, positions_of, semicolon_of, before_list}
+use Rattle.mime.specs.KeptText.{media_of, HoldsParameter, IsKept, with_pairs_lowered, kept_text_of, kept_positions}
+use Rattle.mime.specs.declared.scan.Positions.{Positions}
+use Rattle.mime.proofs.BytesLemmas.{slice_get-prefix}
+use Rattle.mime.proofs.ValueLemmas.Lowercase.{length-lowered, lowered-append, lowered_tree-lowered_tree, IsWellFormed-lowered_tree, positions_of-lowered_tree}
+use Rattle.mime.proofs.ValueLemmas.Utf8.{IsLoweredInPart, lowercase, in_parts}
 use Rattle.mime.proofs.ValueLemmas.Pairs.{lowered_within-in_part}
 use Rattle.mime.proofs.ValueLemmas.ListText.{pairs_within-text_of_list, lowered_within-text_of_list}
 
@@ -53,7 +53,7 @@ pub drop-to_semicolon : (top sub after : List ℕ)
     → drop (length top + 1 + length sub + 1) (top ++ (slash_byte ∷ (sub ++ (semicolon_byte ∷ after)))) ≡ after
 drop-to_semicolon top sub after = ap (drop _) (semicolon_split top sub after) ∙ drop_at _ after _ (length-before_list top sub)
 
--- the value of a tree that is its own lowering
+-- the value of a tree that is its own lowercased form
 abbrev pub value_of_low : SyntaxTree → MediaType
 value_of_low low = record {
   essence = essence_of low;
@@ -68,13 +68,13 @@ pub value_of-lowering : (tree : SyntaxTree) → value_of tree ≡ value_of_low (
 value_of-lowering tree = rw (length-lowered tree.top)
 
 -- a text is kept, with the value of a tree
-pub record Keeps (tree : SyntaxTree) (text : List ℕ) (places : Places) : Type 0 where
-  pub is_kept : IsKept text places
+pub record Keeps (tree : SyntaxTree) (text : List ℕ) (positions : Positions) : Type 0 where
+  pub is_kept : IsKept text positions
   pub valued : value_of tree ≡ value_of is_kept.tree
 
 -- a tree is kept as another that has its value: the tree itself, or the one that its essence spells
 keeps_as : (tree kept : SyntaxTree) (text : List ℕ) → IsWellFormed kept → HoldsParameter (lowered_tree kept).tail
-    → text_of (lowered_tree kept) ≡ text → value_of tree ≡ value_of kept → Keeps tree text (places_of kept)
+    → text_of (lowered_tree kept) ≡ text → value_of tree ≡ value_of kept → Keeps tree text (positions_of kept)
 keeps_as tree kept text well holds spelled valued = record {
   is_kept = record {
     tree = lowered_tree kept;
@@ -82,12 +82,12 @@ keeps_as tree kept text well holds spelled valued = record {
     low = lowered_tree-lowered_tree kept;
     kept = holds;
     spelled = spelled;
-    placed = places_of-lowered_tree kept;
+    same_positions = positions_of-lowered_tree kept;
   };
   valued = valued ∙ value_of-lowering kept ∙ sym (value_of-lowering (lowered_tree kept) ∙ ap value_of_low (lowered_tree-lowered_tree kept));
 }
 
--- the lowered text of a tree with a list: lowered up to the semicolon, and then pair by pair
+-- the lowercased text of a tree with a list: lowercased up to the semicolon, and then pair by pair
 whole_text : (top sub : List ℕ) (list : Parameters) → AreParameters list
     → text_of (lowered_tree (tree_with top sub (listed list)))
     ≡ lowered (take (length top + 1 + length sub + 1) (text_of (tree_with top sub (listed list))))
@@ -101,7 +101,7 @@ whole_text top sub list well =
       lowered-append sub (semicolon_byte ∷ []),
     ) (simp append_assoc)
 
--- the lowered text of a tree without a list: the essence lowered
+-- the lowercased text of a tree without a list: the essence lowercased
 essence_text : (top sub text : List ℕ) → text ≡ top ++ (slash_byte ∷ sub)
     → text_of (lowered_tree (tree_with top sub no_list)) ≡ lowered text
 essence_text top sub text is = rw (is, lowered-append top (slash_byte ∷ sub), append-nil (lowered sub)) refl
@@ -110,7 +110,7 @@ essence_text top sub text is = rw (is, lowered-append top (slash_byte ∷ sub), 
 keeps_parts : (top sub : List ℕ) (tail : Tail) → IsToken top → IsToken sub → IsTail tail
     → Keeps (tree_with top sub tail)
     (kept_text_of (length (pairs_of_tail tail)) (semicolon_of (length top + 1 + length sub) tail) (text_of (tree_with top sub tail)))
-    (kept_places (places_of (tree_with top sub tail)))
+    (kept_positions (positions_of (tree_with top sub tail)))
 keeps_parts top sub no_list top_well sub_well well =
     keeps_as _ (tree_with top sub no_list) _ (top_well, sub_well, tt) tt
     (essence_text top sub _ (ap (λ x. top ++ (slash_byte ∷ x)) (append-nil sub))) refl
@@ -124,13 +124,13 @@ keeps_parts top sub (listed (more n p rest)) top_well sub_well well =
 
 -- the same, by the positions that the tree gives
 pub keeps-tree : (tree : SyntaxTree) → IsWellFormed tree
-    → Keeps tree (kept_text_of (places_of tree).pairs (places_of tree).semicolon (text_of tree)) (kept_places (places_of tree))
+    → Keeps tree (kept_text_of (positions_of tree).pairs (positions_of tree).semicolon (text_of tree)) (kept_positions (positions_of tree))
 keeps-tree tree well = keeps_parts tree.top tree.sub tree.tail well.0 well.1 well.2
 
 -- the value of a tree with a parameter, cut out of its text
 media_whole : (top sub : List ℕ) (list : Parameters) → AreParameters list
     → let tree = tree_with top sub (listed list) in kept_text (pairs_of_list list) tree ≡ text_of tree
-    → value_of_low tree ≡ media_of (text_of tree) (places_of tree)
+    → value_of_low tree ≡ media_of (text_of tree) (positions_of tree)
 media_whole top sub list well kept =
     let tree : SyntaxTree = tree_with top sub (listed list) in
     let essence = take-essence tree in
@@ -140,7 +140,7 @@ media_whole top sub list well kept =
 
 -- the value of a kept tree is what its text and its positions give
 media_parts : (top sub : List ℕ) (tail : Tail) → IsTail tail → HoldsParameter tail
-    → value_of_low (tree_with top sub tail) ≡ media_of (text_of (tree_with top sub tail)) (places_of (tree_with top sub tail))
+    → value_of_low (tree_with top sub tail) ≡ media_of (text_of (tree_with top sub tail)) (positions_of (tree_with top sub tail))
 media_parts top sub no_list well holds =
     rw (append-nil sub, take_all (length (top ++ (slash_byte ∷ sub))) (top ++ (slash_byte ∷ sub)) (omega arith))
 media_parts top sub (listed (blank n)) well holds = absurd holds
@@ -148,50 +148,50 @@ media_parts top sub (listed (final n p)) well holds = media_whole top sub (final
 media_parts top sub (listed (more n p rest)) well holds = media_whole top sub (more n p rest) well refl
 
 -- the value of a kept text's tree is what its positions give
-media_of-kept : (text : List ℕ) (places : Places) (is_kept : IsKept text places) → value_of is_kept.tree ≡ media_of text places
-media_of-kept text places is_kept =
+media_of-kept : (text : List ℕ) (positions : Positions) (is_kept : IsKept text positions) → value_of is_kept.tree ≡ media_of text positions
+media_of-kept text positions is_kept =
     value_of-lowering is_kept.tree ∙ ap value_of_low is_kept.low
     ∙ media_parts is_kept.tree.top is_kept.tree.sub is_kept.tree.tail is_kept.well_formed.2 is_kept.kept
-    ∙ cc (is_kept.spelled, is_kept.placed)
+    ∙ cc (is_kept.spelled, is_kept.same_positions)
 
 -- a kept text reads as the value that it gives
-pub reads-from_kept : (text : List ℕ) (places : Places) → IsKept text places → Reads text (media_of text places)
-reads-from_kept text places is_kept = record {
+pub reads-from_kept : (text : List ℕ) (positions : Positions) → IsKept text positions → Reads text (media_of text positions)
+reads-from_kept text positions is_kept = record {
   tree = is_kept.tree;
   well_formed = is_kept.well_formed;
   spelled = is_kept.spelled;
-  valued = media_of-kept text places is_kept;
+  valued = media_of-kept text positions is_kept;
 }
 
 -- a text that keeps a tree gives the tree's value
-kept_media : (tree : SyntaxTree) (text : List ℕ) (places : Places) → Keeps tree text places → value_of tree ≡ media_of text places
-kept_media tree text places keeps = keeps.valued ∙ media_of-kept text places keeps.is_kept
+kept_media : (tree : SyntaxTree) (text : List ℕ) (positions : Positions) → Keeps tree text positions → value_of tree ≡ media_of text positions
+kept_media tree text positions keeps = keeps.valued ∙ media_of-kept text positions keeps.is_kept
 
 -- what holds of the text and the positions of a tree holds of an accepted text
-at_tree : (P : List ℕ → Places → Type 0) (text : List ℕ) (places : Places) (has : HasPlaces text places)
-    → P (text_of has.tree) (places_of has.tree) → P text places
-at_tree P text places has here = subst (λ x. P x places) has.spelled (subst (P (text_of has.tree)) has.placed here)
+at_tree : (P : List ℕ → Positions → Type 0) (text : List ℕ) (positions : Positions) (has : HasPositions text positions)
+    → P (text_of has.tree) (positions_of has.tree) → P text positions
+at_tree P text positions has here = subst (λ x. P x positions) has.spelled (subst (P (text_of has.tree)) has.same_positions here)
 
 -- an accepted text keeps its tree
-keeps-accepted : (text : List ℕ) (places : Places) (has : HasPlaces text places)
-    → Keeps has.tree (kept_text_of places.pairs places.semicolon text) (kept_places places)
-keeps-accepted text places has =
-    at_tree (λ t p. Keeps has.tree (kept_text_of p.pairs p.semicolon t) (kept_places p)) text places has
+keeps-accepted : (text : List ℕ) (positions : Positions) (has : HasPositions text positions)
+    → Keeps has.tree (kept_text_of positions.pairs positions.semicolon text) (kept_positions positions)
+keeps-accepted text positions has =
+    at_tree (λ t p. Keeps has.tree (kept_text_of p.pairs p.semicolon t) (kept_positions p)) text positions has
     (keeps-tree has.tree has.well_formed)
 
 -- the kept text of an accepted text is kept
-pub kept-from_places : (text : List ℕ) (places : Places) → HasPlaces text places
-    → IsKept (kept_text_of places.pairs places.semicolon text) (kept_places places)
-kept-from_places text places has = (keeps-accepted text places has).is_kept
+pub kept-from_positions : (text : List ℕ) (positions : Positions) → HasPositions text positions
+    → IsKept (kept_text_of positions.pairs positions.semicolon text) (kept_positions positions)
+kept-from_positions text positions has = (keeps-accepted text positions has).is_kept
 
 -- an accepted text reads as the value that its kept text gives
-pub kept_reads : (text : List ℕ) (places : Places) → HasPlaces text places
-    → Reads text (media_of (kept_text_of places.pairs places.semicolon text) (kept_places places))
-kept_reads text places has = record {
+pub kept_reads : (text : List ℕ) (positions : Positions) → HasPositions text positions
+    → Reads text (media_of (kept_text_of positions.pairs positions.semicolon text) (kept_positions positions))
+kept_reads text positions has = record {
   tree = has.tree;
   well_formed = has.well_formed;
   spelled = has.spelled;
-  valued = kept_media has.tree _ _ (keeps-accepted text places has);
+  valued = kept_media has.tree _ _ (keeps-accepted text positions has);
 }
 
 -- the kept text of a value that was read reads as the value
@@ -207,21 +207,21 @@ semicolon-there : (top sub : List ℕ) (tail : Tail) (s : ℕ) → semicolon_of 
 semicolon-there top sub no_list s is = absurd cc
 semicolon-there top sub (listed list) s is =
     let tree : SyntaxTree = tree_with top sub (listed list) in
-    let place : length top + 1 + length sub ≡ s = cc in
+    let position : length top + 1 + length sub ≡ s = cc in
     ap (λ t. slice_get t s) (text_of-essence tree)
-    ∙ slice_get-front (essence_of tree) semicolon_byte (text_of_list list) s (omega (arith, place, length-essence_of tree))
+    ∙ slice_get-prefix (essence_of tree) semicolon_byte (text_of_list list) s (omega (arith, position, length-essence_of tree))
 
 -- an accepted text has a semicolon where its positions say so
-pub slice_get-semicolon : (text : List ℕ) (places : Places) (s : ℕ) → HasPlaces text places → places.semicolon ≡ Some s
+pub slice_get-semicolon : (text : List ℕ) (positions : Positions) (s : ℕ) → HasPositions text positions → positions.semicolon ≡ Some s
     → slice_get text s ≡ Some semicolon_byte
-slice_get-semicolon text places s has is =
-    at_tree (λ t q. q.semicolon ≡ Some s → slice_get t s ≡ Some semicolon_byte) text places has
+slice_get-semicolon text positions s has is =
+    at_tree (λ t q. q.semicolon ≡ Some s → slice_get t s ≡ Some semicolon_byte) text positions has
     (semicolon-there has.tree.top has.tree.sub has.tree.tail s) is
 
--- the kept text of a text with a pair is that text with some parts lowered
+-- the kept text of a text with a pair is that text with some parts lowercased
 pub kept-in_part : (count s : ℕ) (text : List ℕ)
     → IsLoweredInPart text (with_pairs_lowered count s text)
 kept-in_part count s text =
     subst (λ t. IsLoweredInPart t (with_pairs_lowered count s text))
     (take-append-drop (s + 1) text)
-    (in_parts _ _ _ _ (small (take (s + 1) text)) (lowered_within-in_part count (drop (s + 1) text)))
+    (in_parts _ _ _ _ (lowercase (take (s + 1) text)) (lowered_within-in_part count (drop (s + 1) text)))

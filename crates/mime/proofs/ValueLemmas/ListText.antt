@@ -1,4 +1,4 @@
--- The pairs cut from the text of a well-formed parameter list are its pairs, and lowering them lowers the list.
+-- The pairs cut from the text of a well-formed parameter list are its pairs, and lowercasing them lowercases the list.
 use Rattle.std.proofs.Common.{◌≡◌, ℕ, suc, ◌+◌, ◌-◌, Bool, true, false, List, [], ◌∷◌, ◌++◌, length, drop, refl, sym, ap, ◌∙◌, subst, arith, append-nil, append_assoc, length-append, take, slice_range, length-drop}
 use Rattle.std.specs.Prelude.{◌==◌}
 use Rattle.std.specs.List.{list_all, prefix_len}
@@ -11,7 +11,7 @@ use Rattle.mime.specs.Grammar.{Parameter, plain, quoted, Parameters, blank, fina
 use Rattle.mime.specs.Values.{lowered, lowered_value, lowered_parameter, lowered_list, pair_of, pairs_of_list, is_charset}
 use Rattle.mime.specs.Quoted.{content_len, content_of, after_content}
 use Rattle.mime.specs.Blocks.{before_byte, after_byte}
-use Rattle.mime.specs.Pairs.{PairCut, cut_after_equals, leading_spaces, without_gap, cut_of, pairs_within, lowered_within, lowered_first}
+use Rattle.mime.specs.Pairs.{PairCut, cut_after_equals, leading_spaces, without_spaces, cut_of, pairs_within, lowered_within, lowered_first}
 use Rattle.mime.proofs.ValueLemmas.Pairs.{content_len-content, lowered_within-first, LiesIn, cut_of-lies, first_lowered, lowered_first-joined}
 use Rattle.mime.proofs.BytesLemmas.{semicolon_is_no_token, equals_is_no_token, quote_is_no_token, token_byte-not, token_byte-not_space, is_other, are_other-token, are_other-spaces, AreTokenBytes-from_token}
 use Rattle.mime.proofs.ValueLemmas.Lowercase.{lowered-append, length-lowered}
@@ -20,7 +20,7 @@ use borrow.Rule.Slice.PartMut.{put_mid}
 -- what may follow a run: nothing, or the byte and the rest
 data IsFollow (byte : ℕ) : List ℕ → List ℕ → Type 0 where
   nothing : IsFollow byte [] []
-  marked : (rest : List ℕ) → IsFollow byte (byte ∷ rest) rest
+  flagged : (rest : List ℕ) → IsFollow byte (byte ∷ rest) rest
 
 -- a run of a class ends at the first byte outside it
 run_to : (class : ℕ → Bool) (run : List ℕ) (b : ℕ) (after : List ℕ) → list_all class run ≡ true → class b ≡ false
@@ -33,7 +33,7 @@ run_to class (x ∷ run) b after all out =
 -- the search for a byte passes a run without it, up to the byte or to the end
 position_to : (byte : ℕ) (run follow rest : List ℕ) → list_all (is_other byte) run ≡ true → IsFollow byte follow rest
     → prefix_len (is_other byte) (run ++ follow) ≡ length run
-position_to byte run follow rest all (marked _) = run_to (is_other byte) run byte rest all (grind (arith, nat_tests))
+position_to byte run follow rest all (flagged _) = run_to (is_other byte) run byte rest all (grind (arith, nat_tests))
 position_to byte [] follow rest all nothing = refl
 position_to byte (x ∷ run) follow rest all nothing =
     let parts = and_parts (is_other byte x) (list_all (is_other byte) run) all in
@@ -51,7 +51,7 @@ drop_past byte run follow rest n follows long =
   where
     past : (follow rest : List ℕ) → IsFollow byte follow rest → drop 1 follow ≡ rest
     past follow rest nothing = refl
-    past follow rest (marked _) = refl
+    past follow rest (flagged _) = refl
 
 -- the text after it
 after_to : (byte : ℕ) (run follow rest : List ℕ) → list_all (is_other byte) run ≡ true → IsFollow byte follow rest
@@ -64,7 +64,7 @@ cut_value-plain : (whole : ℕ) (name value follow rest : List ℕ) → AreToken
     → cut_after_equals whole name (value ++ follow)
     ≡ record { name = name; head = whole - length (value ++ follow); value = value; rest = rest }
 cut_value-plain whole name [] follow rest all nothing = ap (λ n. record { name = name; head = n; value = []; rest = [] }) (omega arith)
-cut_value-plain whole name [] follow rest all (marked _) = refl
+cut_value-plain whole name [] follow rest all (flagged _) = refl
 cut_value-plain whole name (v ∷ value) follow rest all follows =
     let first = and_parts (is_token_byte v) (list_all is_token_byte value) all in
     let others = are_other-token semicolon_byte semicolon_is_no_token (v ∷ value) all in
@@ -77,18 +77,18 @@ cut_value-quoted : (whole : ℕ) (name content n follow rest : List ℕ) → IsC
     ≡ record { name = name; head = whole - length (content ++ (quote_byte ∷ (n ++ follow))); value = content; rest = rest }
 cut_value-quoted whole name content n follow rest is white follows =
     let bytes : List ℕ = content ++ (quote_byte ∷ (n ++ follow)) in
-    let place = content_len-content content (n ++ follow) is in
-    let value : content_of bytes ≡ content = take_at content (quote_byte ∷ (n ++ follow)) (content_len bytes) (sym place) in
-    let after_quote : after_content bytes ≡ n ++ follow = drop_past quote_byte content _ _ (content_len bytes) (marked _) (sym place) in
+    let position = content_len-content content (n ++ follow) is in
+    let value : content_of bytes ≡ content = take_at content (quote_byte ∷ (n ++ follow)) (content_len bytes) (sym position) in
+    let after_quote : after_content bytes ≡ n ++ follow = drop_past quote_byte content _ _ (content_len bytes) (flagged _) (sym position) in
     let after : after_byte semicolon_byte (after_content bytes) ≡ rest =
     ap (after_byte semicolon_byte) after_quote
     ∙ after_to semicolon_byte n follow rest (are_other-spaces semicolon_byte refl n white) follows in
     cc
 
 -- the spaces before a name are cut off
-without_gap-token : (n name after : List ℕ) → AreSpaces n → IsToken name → without_gap (n ++ (name ++ after)) ≡ name ++ after
-without_gap-token n [] after white is = absurd is
-without_gap-token n (b ∷ name) after white is =
+without_spaces-token : (n name after : List ℕ) → AreSpaces n → IsToken name → without_spaces (n ++ (name ++ after)) ≡ name ++ after
+without_spaces-token n [] after white is = absurd is
+without_spaces-token n (b ∷ name) after white is =
     let first = and_parts (is_token_byte b) (list_all is_token_byte name) is in
     drop_at n (b ∷ name ++ after) (leading_spaces (n ++ (b ∷ name ++ after)))
     (sym (run_to is_space n b (name ++ after) white (token_byte-not_space b first.0)))
@@ -100,9 +100,9 @@ unfolding cut_of
 cut_of-named n name after white is =
     let others = are_other-token equals_byte equals_is_no_token name (AreTokenBytes-from_token name is) in
     rw (
-      without_gap-token n name (equals_byte ∷ after) white is,
-      before_to equals_byte name (equals_byte ∷ after) after others (marked after),
-      after_to equals_byte name (equals_byte ∷ after) after others (marked after),
+      without_spaces-token n name (equals_byte ∷ after) white is,
+      before_to equals_byte name (equals_byte ∷ after) after others (flagged after),
+      after_to equals_byte name (equals_byte ∷ after) after others (flagged after),
     )
 
 -- the text before the value of a parameter
@@ -157,7 +157,7 @@ pairs_within-text_of_list (final n p) (white, well) =
     ∙ ap (λ (cut : PairCut). (cut.name, cut.value) ∷ []) (cut_of-parameter n p [] [] white well nothing)
 pairs_within-text_of_list (more n p rest) (white, well, others) =
     ap (λ (cut : PairCut). (cut.name, cut.value) ∷ pairs_within (length (pairs_of_list rest)) cut.rest)
-    (cut_of-parameter n p _ (text_of_list rest) white well (marked _))
+    (cut_of-parameter n p _ (text_of_list rest) white well (flagged _))
     ∙ ap (λ pairs. pair_of p ∷ pairs) (pairs_within-text_of_list rest others)
 
 -- spaces are their own lowering
@@ -168,14 +168,14 @@ lowered-spaces (b ∷ bytes) white =
     let same : to_ascii_lowercase b ≡ b = grind (arith, nat_tests, parts.0) in
     cc (same, lowered-spaces bytes parts.1)
 
--- a parameter in its parts, lowered
+-- a parameter in its parts, lowercased
 lowered_parameter-parts : (p : Parameter) (after : List ℕ)
     → lowered (head_of p) ++ (lowered_value (pair_of p).0 (pair_of p).1 ++ (end_of p ++ after))
     ≡ text_of_parameter (lowered_parameter p) ++ after
 lowered_parameter-parts (plain name value) after = rw (lowered-append name (equals_byte ∷ [])) (simp append_assoc)
 lowered_parameter-parts (quoted name content n) after = rw (lowered-append name (equals_byte ∷ quote_byte ∷ [])) (simp append_assoc)
 
--- a list lowered pair by pair: its first parameter, and then the rest
+-- a list lowercased pair by pair: its first parameter, and then the rest
 lowered_within-parameter : (count : ℕ) (n : List ℕ) (p : Parameter) (between rest : List ℕ) → AreSpaces n → IsParameter p
     → IsFollow semicolon_byte (between ++ rest) rest
     → lowered_within (suc count) (n ++ (text_of_parameter p ++ (between ++ rest)))
@@ -186,7 +186,7 @@ lowered_within-parameter count n p between rest white well follows =
     let parts : list ≡ (n ++ head_of p) ++ ((pair_of p).1 ++ ((end_of p ++ between) ++ rest)) =
     ap (λ x. n ++ x) (text_of_parameter-parts p (between ++ rest)) ∙ simp append_assoc in
     lowered_within-first count list (record {
-      front = n ++ head_of p;
+      prefix = n ++ head_of p;
       middle = end_of p ++ between;
       parts = subst (λ (c : PairCut). list ≡ (n ++ head_of p) ++ (c.value ++ ((end_of p ++ between) ++ c.rest))) (sym cut) parts;
       head = ap (λ (c : PairCut). c.head) cut;
@@ -196,7 +196,7 @@ lowered_within-parameter count n p between rest white well follows =
     ∙ rw (lowered-append n (head_of p), lowered-spaces n white) (simp append_assoc)
     ∙ ap (λ x. n ++ x) (lowered_parameter-parts p (between ++ lowered_within count rest))
 
--- the text of a parameter list, lowered pair by pair, is the text of the lowered list
+-- the text of a parameter list, lowercased pair by pair, is the text of the lowercased list
 pub lowered_within-text_of_list : (list : Parameters) → AreParameters list
     → lowered_within (length (pairs_of_list list)) (text_of_list list) ≡ text_of_list (lowered_list list)
 lowered_within-text_of_list (blank n) well = refl
@@ -205,31 +205,31 @@ lowered_within-text_of_list (final n p) (white, well) =
     ∙ lowered_within-parameter 0 n p [] [] white well nothing
     ∙ ap (λ x. n ++ x) (append-nil (text_of_parameter (lowered_parameter p)))
 lowered_within-text_of_list (more n p rest) (white, well, others) =
-    lowered_within-parameter _ n p (semicolon_byte ∷ []) (text_of_list rest) white well (marked _)
+    lowered_within-parameter _ n p (semicolon_byte ∷ []) (text_of_list rest) white well (flagged _)
     ∙ ap (λ x. n ++ (text_of_parameter (lowered_parameter p) ++ (semicolon_byte ∷ x))) (lowered_within-text_of_list rest others)
 
--- the bytes with those between two positions lowered
+-- the bytes with those between two positions lowercased
 abbrev lowered_range : ℕ → ℕ → List ℕ → List ℕ
 lowered_range from to bytes = take from bytes ++ (lowered (slice_range bytes from to) ++ drop to bytes)
 
--- only the bytes between the positions are lowered
-lowered_range-middle : (from to : ℕ) (bytes front middle back : List ℕ) → bytes ≡ front ++ (middle ++ back)
-    → length front ≡ from → from + length middle ≡ to → lowered_range from to bytes ≡ front ++ (lowered middle ++ back)
-lowered_range-middle from to bytes front middle back e at end =
-    let rest : drop from bytes ≡ middle ++ back = ap (drop from) e ∙ drop_at front (middle ++ back) from at in
-    let before : take from bytes ≡ front = ap (take from) e ∙ take_at front (middle ++ back) from at in
+-- only the bytes between the positions are lowercased
+lowered_range-middle : (from to : ℕ) (bytes prefix middle back : List ℕ) → bytes ≡ prefix ++ (middle ++ back)
+    → length prefix ≡ from → from + length middle ≡ to → lowered_range from to bytes ≡ prefix ++ (lowered middle ++ back)
+lowered_range-middle from to bytes prefix middle back e at end =
+    let rest : drop from bytes ≡ middle ++ back = ap (drop from) e ∙ drop_at prefix (middle ++ back) from at in
+    let before : take from bytes ≡ prefix = ap (take from) e ∙ take_at prefix (middle ++ back) from at in
     let inner : slice_range bytes from to ≡ middle = ap (take (to - from)) rest ∙ take_at middle back (to - from) (omega arith) in
     let after : drop to bytes ≡ back =
-    ap (drop to) (e ∙ sym (append_assoc front middle back))
-    ∙ drop_at (front ++ middle) back to (omega (arith, length-append front middle)) in
+    ap (drop to) (e ∙ sym (append_assoc prefix middle back))
+    ∙ drop_at (prefix ++ middle) back to (omega (arith, length-append prefix middle)) in
     cc
 
--- the head of a list lowered, and the rest as it is
+-- the head of a list lowercased, and the rest as it is
 lowered_range-head : (list : List ℕ) (lies : LiesIn list (cut_of list))
-    → lowered_range 0 (cut_of list).head list ≡ lowered lies.front ++ ((cut_of list).value ++ (lies.middle ++ (cut_of list).rest))
-lowered_range-head list lies = lowered_range-middle 0 _ list [] lies.front _ lies.parts refl (omega (arith, lies.head))
+    → lowered_range 0 (cut_of list).head list ≡ lowered lies.prefix ++ ((cut_of list).value ++ (lies.middle ++ (cut_of list).rest))
+lowered_range-head list lies = lowered_range-middle 0 _ list [] lies.prefix _ lies.parts refl (omega (arith, lies.head))
 
--- under another name than `charset` the head alone is lowered
+-- under another name than `charset` the head alone is lowercased
 pub lowered_first-plain : (list : List ℕ) → is_charset (cut_of list).name ≡ false
     → lowered_range 0 (cut_of list).head list ≡ lowered_first list
 lowered_first-plain list other =
@@ -237,18 +237,18 @@ lowered_first-plain list other =
     let as_is : lowered_value (cut_of list).name (cut_of list).value ≡ (cut_of list).value = rw other refl in
     lowered_range-head list lies ∙ sym (lowered_first-joined list lies ∙ rw as_is (simp append_assoc))
 
--- under `charset` the value is lowered too
+-- under `charset` the value is lowercased too
 pub lowered_first-charset : (list : List ℕ) → is_charset (cut_of list).name ≡ true
     → lowered_range (cut_of list).head ((cut_of list).head + length (cut_of list).value) (lowered_range 0 (cut_of list).head list)
     ≡ lowered_first list
 lowered_first-charset list charset =
     let lies = cut_of-lies list in
-    let small : lowered_value (cut_of list).name (cut_of list).value ≡ lowered (cut_of list).value = rw charset refl in
-    lowered_range-middle _ _ _ (lowered lies.front) _ (lies.middle ++ (cut_of list).rest) (lowered_range-head list lies)
-    (length-lowered lies.front ∙ sym lies.head) refl
-    ∙ sym (lowered_first-joined list lies ∙ rw small (simp append_assoc))
+    let lowercase : lowered_value (cut_of list).name (cut_of list).value ≡ lowered (cut_of list).value = rw charset refl in
+    lowered_range-middle _ _ _ (lowered lies.prefix) _ (lies.middle ++ (cut_of list).rest) (lowered_range-head list lies)
+    (length-lowered lies.prefix ∙ sym lies.head) refl
+    ∙ sym (lowered_first-joined list lies ∙ rw lowercase (simp append_assoc))
 
--- the bytes are those that are done and the list that is left; with `count` pairs of the list lowered they are the whole
+-- the bytes are those that are done and the list that is left; with `count` pairs of the list lowercased they are the whole
 pub record IsLoweredTo (bytes left : List ℕ) (count : ℕ) (whole : List ℕ) : Type 0 where
   pub done : List ℕ
   pub parts : bytes ≡ done ++ left
@@ -259,7 +259,7 @@ pub lowered_to-none : (bytes list : List ℕ) (left count : ℕ) → bytes ≡ l
     → IsLoweredTo bytes list left (lowered_within count list)
 lowered_to-none bytes list left count same counts = record { done = []; parts = same; comes = ap (λ n. lowered_within n list) counts }
 
--- the next pair is lowered, in the bytes of the list that is left
+-- the next pair is lowercased, in the bytes of the list that is left
 pub lowered_to-more : (bytes left part rest : List ℕ) (count next : ℕ) (whole : List ℕ) → IsLoweredTo bytes left count whole
     → count ≡ suc next → part ≡ lowered_first left → rest ≡ (cut_of left).rest
     → let at = length bytes - length left in IsLoweredTo (put_mid at (length bytes - at) bytes part) rest next whole
@@ -267,13 +267,13 @@ lowered_to-more bytes left part rest count next whole so_far counts lowers rests
     let at = length bytes - length left in
     let lies = cut_of-lies left in
     let size : length so_far.done ≡ at = omega (arith, ap length so_far.parts, length-append so_far.done left) in
-    let front : take at bytes ≡ so_far.done = ap (take at) so_far.parts ∙ take_at so_far.done left at size in
+    let prefix : take at bytes ≡ so_far.done = ap (take at) so_far.parts ∙ take_at so_far.done left at size in
     let back : drop (length bytes - at) (drop at bytes) ≡ [] =
     drop_all (length bytes - at) (drop at bytes) (omega (arith, length-drop at bytes)) in
     let written : part ≡ first_lowered left lies ++ rest = lowers ∙ lowered_first-joined left lies ∙ rw rests refl in
     record {
       done = so_far.done ++ first_lowered left lies;
-      parts = rw (front, back, written) (simp (append_assoc, append-nil));
+      parts = rw (prefix, back, written) (simp (append_assoc, append-nil));
       comes =
           append_assoc so_far.done (first_lowered left lies) (lowered_within next rest)
           ∙ ap (λ x. so_far.done ++ x) (rw rests (sym (lowered_within-first next left lies)) ∙ ap (λ n. lowered_within n left) (sym counts))

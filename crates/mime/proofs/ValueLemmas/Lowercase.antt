@@ -10,7 +10,7 @@ use Rattle.std.proofs.lemmas.Str.Ascii.{lowercase-lowercase}
 use Rattle.mime.specs.Bytes.{is_token_byte}
 use Rattle.mime.specs.Grammar.{Parameter, plain, quoted, Parameters, blank, final, more, Tail, no_list, listed, SyntaxTree, AreTokenBytes, IsToken, IsContent, IsParameter, AreParameters, IsTail, IsWellFormed}
 use Rattle.mime.specs.Values.{lowered, is_charset, lowered_value, lowered_parameter, lowered_list, lowered_tail, lowered_tree, last_plus, pairs_of_list, pairs_of_tail}
-use Rattle.mime.specs.Scanning.{places_of, semicolon_of}
+use Rattle.mime.specs.Scanning.{positions_of, semicolon_of}
 use Rattle.mime.specs.KeptText.{IsLowPair}
 use Rattle.mime.proofs.GrammarLemmas.Content.{IsContent-lowered}
 use Rattle.mime.proofs.BytesLemmas.{list_all-wider}
@@ -20,66 +20,66 @@ pub lowered-lowered : (text : List ℕ) → lowered (lowered text) ≡ lowered t
 lowered-lowered [] = refl
 lowered-lowered (b ∷ text) = cc (lowercase-lowercase b, lowered-lowered text)
 
--- a lowered text keeps its length
+-- a lowercased text keeps its length
 pub length-lowered : (text : List ℕ) → length (lowered text) ≡ length text
 length-lowered text = length-map text to_ascii_lowercase
 
--- a text is lowered part by part
-pub lowered-append : (front back : List ℕ) → lowered (front ++ back) ≡ lowered front ++ lowered back
-lowered-append front back = map-append to_ascii_lowercase front back
+-- a text is lowercased part by part
+pub lowered-append : (prefix back : List ℕ) → lowered (prefix ++ back) ≡ lowered prefix ++ lowered back
+lowered-append prefix back = map-append to_ascii_lowercase prefix back
 
--- the text before a position is lowered alone
+-- the text before a position is lowercased alone
 pub lowered-take : (n : ℕ) (text : List ℕ) → lowered (take n text) ≡ take n (lowered text)
 lowered-take n text = sym (take-map to_ascii_lowercase n text)
 
--- the text after a position is lowered alone
+-- the text after a position is lowercased alone
 pub lowered-drop : (n : ℕ) (text : List ℕ) → lowered (drop n text) ≡ drop n (lowered text)
 lowered-drop n text = sym (drop-map to_ascii_lowercase n text)
 
--- a lowered token byte is a token byte
+-- a lowercased token byte is a token byte
 is_token_byte-lowercase : (b : ℕ) → is_token_byte b ≡ true → is_token_byte (to_ascii_lowercase b) ≡ true
 unfolding is_token_byte
 is_token_byte-lowercase b member = grind (arith, nat_tests)
 
--- lowered token bytes are token bytes
+-- lowercased token bytes are token bytes
 pub AreTokenBytes-lowered : (bytes : List ℕ) → AreTokenBytes bytes → AreTokenBytes (lowered bytes)
 AreTokenBytes-lowered bytes all =
     list_all-map is_token_byte to_ascii_lowercase bytes
     ∙ list_all-wider is_token_byte (λ b. is_token_byte (to_ascii_lowercase b)) is_token_byte-lowercase bytes all
 
--- a lowered token is a token
+-- a lowercased token is a token
 pub IsToken-lowered : (bytes : List ℕ) → IsToken bytes → IsToken (lowered bytes)
 IsToken-lowered [] token = token
 IsToken-lowered (b ∷ bytes) token = AreTokenBytes-lowered (b ∷ bytes) token
 
 -- what holds of a value and of its lowering holds of it under any parameter's name
 pub lowered_value-either : (P : List ℕ → Type 0) (name value : List ℕ) → P value → P (lowered value) → P (lowered_value name value)
-lowered_value-either P name value same small =
-    elim (is_charset name) as (λ b. P (cond b (lowered value) value)) [ true ↦ small | false ↦ same ]
+lowered_value-either P name value same lowercase =
+    elim (is_charset name) as (λ b. P (cond b (lowered value) value)) [ true ↦ lowercase | false ↦ same ]
 
--- a lowered parameter is well formed
+-- a lowercased parameter is well formed
 IsParameter-lowered : (p : Parameter) → IsParameter p → IsParameter (lowered_parameter p)
 IsParameter-lowered (plain name value) (named, token) =
     (IsToken-lowered name named, lowered_value-either IsToken name value token (IsToken-lowered value token))
 IsParameter-lowered (quoted name content n) (named, is, white) =
     (IsToken-lowered name named, lowered_value-either IsContent name content is (IsContent-lowered content is), white)
 
--- a lowered parameter list is well formed
+-- a lowercased parameter list is well formed
 AreParameters-lowered : (list : Parameters) → AreParameters list → AreParameters (lowered_list list)
 AreParameters-lowered (blank n) white = white
 AreParameters-lowered (final n p) (white, well) = (white, IsParameter-lowered p well)
 AreParameters-lowered (more n p rest) (white, well, others) = (white, IsParameter-lowered p well, AreParameters-lowered rest others)
 
--- what follows a lowered subtype is well formed
+-- what follows a lowercased subtype is well formed
 IsTail-lowered : (tail : Tail) → IsTail tail → IsTail (lowered_tail tail)
 IsTail-lowered no_list well = tt
 IsTail-lowered (listed list) well = AreParameters-lowered list well
 
--- a lowered tree is well formed
+-- a lowercased tree is well formed
 pub IsWellFormed-lowered_tree : (tree : SyntaxTree) → IsWellFormed tree → IsWellFormed (lowered_tree tree)
 IsWellFormed-lowered_tree tree well = (IsToken-lowered tree.top well.0, IsToken-lowered tree.sub well.1, IsTail-lowered tree.tail well.2)
 
--- a kept value is its own lowering
+-- a kept value is its own lowercased form
 pub lowered_value-lowered : (name value : List ℕ) → lowered_value (lowered name) (lowered_value name value) ≡ lowered_value name value
 lowered_value-lowered name value =
     rw (lowered-lowered name)
@@ -87,7 +87,7 @@ lowered_value-lowered name value =
     (λ b. cond b (lowered (cond b (lowered value) value)) (cond b (lowered value) value) ≡ cond b (lowered value) value)
     [ true ↦ lowered-lowered value | false ↦ refl ])
 
--- the parts of a pair that is its own lowering
+-- the parts of a pair that is its own lowercased form
 pub low_pair-parts : (name value : List ℕ) → IsLowPair (name, value)
     → (lowered name ≡ name) × (IsTrue (is_charset name) → lowered value ≡ value)
 low_pair-parts name value low = (
@@ -95,23 +95,23 @@ low_pair-parts name value low = (
   λ charset. sym (cond-true (is_charset name) (lowered value) value charset) ∙ ap (λ pair. pair.1) low,
 )
 
--- a lowered parameter is its own lowering
+-- a lowercased parameter is its own lowercased form
 lowered_parameter-lowered : (p : Parameter) → lowered_parameter (lowered_parameter p) ≡ lowered_parameter p
 lowered_parameter-lowered (plain name value) = cc (lowered-lowered name, lowered_value-lowered name value)
 lowered_parameter-lowered (quoted name content n) = cc (lowered-lowered name, lowered_value-lowered name content)
 
--- a lowered parameter list is its own lowering
+-- a lowercased parameter list is its own lowercased form
 lowered_list-lowered : (list : Parameters) → lowered_list (lowered_list list) ≡ lowered_list list
 lowered_list-lowered (blank n) = refl
 lowered_list-lowered (final n p) = ap (final n) (lowered_parameter-lowered p)
 lowered_list-lowered (more n p rest) = cc (lowered_parameter-lowered p, lowered_list-lowered rest)
 
--- what follows a lowered subtype is its own lowering
+-- what follows a lowercased subtype is its own lowercased form
 lowered_tail-lowered : (tail : Tail) → lowered_tail (lowered_tail tail) ≡ lowered_tail tail
 lowered_tail-lowered no_list = refl
 lowered_tail-lowered (listed list) = ap listed (lowered_list-lowered list)
 
--- a lowered tree is its own lowering
+-- a lowercased tree is its own lowercased form
 pub lowered_tree-lowered_tree : (tree : SyntaxTree) → lowered_tree (lowered_tree tree) ≡ lowered_tree tree
 lowered_tree-lowered_tree tree = cc (lowered-lowered tree.top, lowered-lowered tree.sub, lowered_tail-lowered tree.tail)
 
@@ -122,13 +122,13 @@ last_plus-lowered at (b ∷ bytes) =
     let plus : (to_ascii_lowercase b == 43) ≡ (b == 43) = grind (arith, nat_tests) in
     rw (plus, last_plus-lowered (at + 1) bytes)
 
--- a lowered list has as many pairs
+-- a lowercased list has as many pairs
 pub length-pairs_lowered : (list : Parameters) → length (pairs_of_list (lowered_list list)) ≡ length (pairs_of_list list)
 length-pairs_lowered (blank n) = refl
 length-pairs_lowered (final n p) = refl
 length-pairs_lowered (more n p rest) = omega (arith, length-pairs_lowered rest)
 
--- what follows a lowered subtype has as many pairs
+-- what follows a lowercased subtype has as many pairs
 length-tail_lowered : (tail : Tail) → length (pairs_of_tail (lowered_tail tail)) ≡ length (pairs_of_tail tail)
 length-tail_lowered no_list = refl
 length-tail_lowered (listed list) = length-pairs_lowered list
@@ -139,8 +139,8 @@ semicolon_of-lowered at no_list = refl
 semicolon_of-lowered at (listed list) = refl
 
 -- lowering moves no part
-pub places_of-lowered_tree : (tree : SyntaxTree) → places_of (lowered_tree tree) ≡ places_of tree
-places_of-lowered_tree tree =
+pub positions_of-lowered_tree : (tree : SyntaxTree) → positions_of (lowered_tree tree) ≡ positions_of tree
+positions_of-lowered_tree tree =
     let at = length tree.top + 1 + length tree.sub in
     let plus = last_plus-lowered (length tree.top + 2) (drop 1 tree.sub) in
     rw (length-lowered tree.top, length-lowered tree.sub, ← lowered-drop 1 tree.sub)

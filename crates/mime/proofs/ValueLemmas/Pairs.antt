@@ -10,9 +10,9 @@ use Rattle.mime.specs.Blocks.{first_position, before_byte, after_byte}
 use Rattle.mime.specs.Quoted.{awaits_first, awaits_next, takes, takes_all, awaits_after, len_from, content_len, after_content}
 use Rattle.mime.proofs.GrammarLemmas.Content.{taken-closes_not, content-taken, content-awaits}
 use Rattle.mime.specs.Values.{lowered, lowered_value}
-use Rattle.mime.specs.Pairs.{PairCut, cut_after_equals, leading_spaces, without_gap, cut_of, lowered_first, lowered_within}
+use Rattle.mime.specs.Pairs.{PairCut, cut_after_equals, leading_spaces, without_spaces, cut_of, lowered_first, lowered_within}
 use Rattle.mime.proofs.ValueLemmas.Lowercase.{lowered_value-either}
-use Rattle.mime.proofs.ValueLemmas.Utf8.{IsLoweredInPart, same, small, in_parts, length-in_part}
+use Rattle.mime.proofs.ValueLemmas.Utf8.{IsLoweredInPart, same, lowercase, in_parts, length-in_part}
 
 -- ---- the length of content
 
@@ -51,35 +51,35 @@ get_or-content_len text n e within = rw e (quote_at_len awaits_first text (omega
 -- ---- the search for the end of content, position by position
 
 -- what a position leaves to search for the end of quoted content
-len_from-at : (text : List ℕ) (place : ℕ) → place < length text
-    → len_from false (drop place text)
-    ≡ cond (get_or text place 0 == quote_byte) 0 (suc (len_from (get_or text place 0 == backslash_byte) (drop (place + 1) text)))
-len_from-at text place within = ap (len_from false) (drop_more text place 0 within)
+len_from-at : (text : List ℕ) (position : ℕ) → position < length text
+    → len_from false (drop position text)
+    ≡ cond (get_or text position 0 == quote_byte) 0 (suc (len_from (get_or text position 0 == backslash_byte) (drop (position + 1) text)))
+len_from-at text position within = ap (len_from false) (drop_more text position 0 within)
 
 -- in that search a byte that is no quote and no backslash is passed alone
-pub search_past : (text : List ℕ) (place whole : ℕ) → place + len_from false (drop place text) ≡ whole → place < length text
-    → get_or text place 0 ≢ quote_byte → get_or text place 0 ≢ backslash_byte
-    → place + 1 + len_from false (drop (place + 1) text) ≡ whole
-search_past text place whole e within no_quote no_backslash =
-    let at = len_from-at text place within in
-    omega (arith, e, rw (ne_eqb (get_or text place 0) quote_byte no_quote, ne_eqb (get_or text place 0) backslash_byte no_backslash) at at)
+pub search_past : (text : List ℕ) (position whole : ℕ) → position + len_from false (drop position text) ≡ whole → position < length text
+    → get_or text position 0 ≢ quote_byte → get_or text position 0 ≢ backslash_byte
+    → position + 1 + len_from false (drop (position + 1) text) ≡ whole
+search_past text position whole e within no_quote no_backslash =
+    let at = len_from-at text position within in
+    omega (arith, e, rw (ne_eqb (get_or text position 0) quote_byte no_quote, ne_eqb (get_or text position 0) backslash_byte no_backslash) at at)
 
 -- in that search a backslash at the end is passed alone
-pub search_past_last : (text : List ℕ) (place whole : ℕ) → place + len_from false (drop place text) ≡ whole → place < length text
-    → get_or text place 0 ≡ backslash_byte → length text ≤ place + 1
-    → place + 1 + len_from false (drop (place + 1) text) ≡ whole
-search_past_last text place whole e within backslash last =
-    let at = rw backslash at (len_from-at text place within) in
-    let after = drop_all (place + 1) text last in
+pub search_past_last : (text : List ℕ) (position whole : ℕ) → position + len_from false (drop position text) ≡ whole → position < length text
+    → get_or text position 0 ≡ backslash_byte → length text ≤ position + 1
+    → position + 1 + len_from false (drop (position + 1) text) ≡ whole
+search_past_last text position whole e within backslash last =
+    let at = rw backslash at (len_from-at text position within) in
+    let after = drop_all (position + 1) text last in
     omega (arith, e, rw after at at, ap (len_from false) after)
 
 -- in that search a backslash is passed with the byte that it pairs
-pub search_past_pair : (text : List ℕ) (place whole : ℕ) → place + len_from false (drop place text) ≡ whole → place + 1 < length text
-    → get_or text place 0 ≡ backslash_byte
-    → place + 1 + 1 + len_from false (drop (place + 1 + 1) text) ≡ whole
-search_past_pair text place whole e within backslash =
-    let at = rw backslash at (len_from-at text place (omega arith)) in
-    omega (arith, e, at, ap (len_from true) (drop_more text (place + 1) 0 within))
+pub search_past_pair : (text : List ℕ) (position whole : ℕ) → position + len_from false (drop position text) ≡ whole → position + 1 < length text
+    → get_or text position 0 ≡ backslash_byte
+    → position + 1 + 1 + len_from false (drop (position + 1 + 1) text) ≡ whole
+search_past_pair text position whole e within backslash =
+    let at = rw backslash at (len_from-at text position (omega arith)) in
+    omega (arith, e, at, ap (len_from true) (drop_more text (position + 1) 0 within))
 
 -- ---- the first quote
 
@@ -126,30 +126,30 @@ IsEnd-trans end middle list first second = (second.0 + first.0, first.1 ∙ ap (
 
 -- where the parts of a cut lie in a list
 pub record LiesIn (list : List ℕ) (cut : PairCut) : Type 0 where
-  pub front : List ℕ
+  pub prefix : List ℕ
   pub middle : List ℕ
-  pub parts : list ≡ front ++ (cut.value ++ (middle ++ cut.rest))
-  pub head : cut.head ≡ length front
+  pub parts : list ≡ prefix ++ (cut.value ++ (middle ++ cut.rest))
+  pub head : cut.head ≡ length prefix
 
 -- a value that begins an end of the list lies in the list
 lies_from_end : (list bytes name rest : List ℕ) (k : ℕ) → IsEnd bytes list → IsEnd rest (drop k bytes)
     → LiesIn list (record { name = name; head = length list - length bytes; value = take k bytes; rest = rest })
 lies_from_end list bytes name rest k end after =
-    let front = take end.0 list in
+    let prefix = take end.0 list in
     let middle = take after.0 (drop k bytes) in
-    let whole : list ≡ front ++ bytes = sym (ap (λ x. front ++ x) end.1 ∙ take-append-drop end.0 list) in
+    let whole : list ≡ prefix ++ bytes = sym (ap (λ x. prefix ++ x) end.1 ∙ take-append-drop end.0 list) in
     record {
-      front = front;
+      prefix = prefix;
       middle = middle;
       parts =
-          whole ∙ ap (λ x. front ++ x) (sym (take-append-drop k bytes)
+          whole ∙ ap (λ x. prefix ++ x) (sym (take-append-drop k bytes)
           ∙ ap (λ x. take k bytes ++ x) (sym (ap (λ x. middle ++ x) after.1 ∙ take-append-drop after.0 (drop k bytes))));
-      head = omega (arith, ap length whole, length-append front bytes);
+      head = omega (arith, ap length whole, length-append prefix bytes);
     }
 
 -- the cut after the equals sign lies in the list
 cut_value-lies : (list name bytes : List ℕ) → IsEnd bytes list → LiesIn list (cut_after_equals (length list) name bytes)
-cut_value-lies list name [] end = record { front = list; middle = []; parts = sym (append-nil list); head = refl }
+cut_value-lies list name [] end = record { prefix = list; middle = []; parts = sym (append-nil list); head = refl }
 cut_value-lies list name (b ∷ bytes) end =
     cond_both (b == quote_byte) _ _ (LiesIn list)
     (λ _. lies_from_end list bytes name _ (content_len bytes)
@@ -161,49 +161,49 @@ cut_value-lies list name (b ∷ bytes) end =
 pub cut_of-lies : (list : List ℕ) → LiesIn list (cut_of list)
 unfolding cut_of
 cut_of-lies list =
-    let body = without_gap list in
+    let body = without_spaces list in
     cut_value-lies list (before_byte equals_byte body) (after_byte equals_byte body)
     (IsEnd-trans _ body list (_, refl) (leading_spaces list, refl))
 
--- the first value and the rest lie apart within the list
+-- the first value and the rest don't overlap within the list
 pub cut_of-within : (list : List ℕ) → (cut_of list).head + length (cut_of list).value + length (cut_of list).rest ≤ length list
 cut_of-within list =
     let cut = cut_of list in
     let lies = cut_of-lies list in
-    let size : length list ≡ length lies.front + (length cut.value + (length lies.middle + length cut.rest)) =
+    let size : length list ≡ length lies.prefix + (length cut.value + (length lies.middle + length cut.rest)) =
     ap length lies.parts ∙ simp length-append in
     omega (arith, size, lies.head)
 
--- all before the rest, and the same with the first pair lowered
+-- all before the rest, and the same with the first pair lowercased
 abbrev before_rest : (list : List ℕ) → LiesIn list (cut_of list) → List ℕ
-before_rest list lies = lies.front ++ ((cut_of list).value ++ lies.middle)
+before_rest list lies = lies.prefix ++ ((cut_of list).value ++ lies.middle)
 
 abbrev pub first_lowered : (list : List ℕ) → LiesIn list (cut_of list) → List ℕ
-first_lowered list lies = lowered lies.front ++ (lowered_value (cut_of list).name (cut_of list).value ++ lies.middle)
+first_lowered list lies = lowered lies.prefix ++ (lowered_value (cut_of list).name (cut_of list).value ++ lies.middle)
 
 -- the list is that and the rest
 before_rest-joined : (list : List ℕ) (lies : LiesIn list (cut_of list)) → before_rest list lies ++ (cut_of list).rest ≡ list
 before_rest-joined list lies = sym (lies.parts ∙ simp append_assoc)
 
--- a list with its first pair lowered is that pair lowered, and the rest
+-- a list with its first pair lowercased is that pair lowercased, and the rest
 pub lowered_first-joined : (list : List ℕ) (lies : LiesIn list (cut_of list))
     → lowered_first list ≡ first_lowered list lies ++ (cut_of list).rest
 lowered_first-joined list lies =
     let cut = cut_of list in
-    let front : take cut.head list ≡ lies.front =
-    rw (lies.head) (ap (take (length lies.front)) lies.parts ∙ take_at lies.front _ (length lies.front) refl) in
+    let prefix : take cut.head list ≡ lies.prefix =
+    rw (lies.head) (ap (take (length lies.prefix)) lies.parts ∙ take_at lies.prefix _ (length lies.prefix) refl) in
     let back : drop (cut.head + length cut.value) list ≡ lies.middle ++ cut.rest =
-    ap (drop (cut.head + length cut.value)) (lies.parts ∙ sym (append_assoc lies.front cut.value (lies.middle ++ cut.rest)))
-    ∙ drop_at (lies.front ++ cut.value) _ _ (omega (arith, lies.head, length-append lies.front cut.value)) in
-    rw (front, back) (simp append_assoc)
+    ap (drop (cut.head + length cut.value)) (lies.parts ∙ sym (append_assoc lies.prefix cut.value (lies.middle ++ cut.rest)))
+    ∙ drop_at (lies.prefix ++ cut.value) _ _ (omega (arith, lies.head, length-append lies.prefix cut.value)) in
+    rw (prefix, back) (simp append_assoc)
 
 -- only capitals are made small
 first_lowered-in_part : (list : List ℕ) (lies : LiesIn list (cut_of list))
     → IsLoweredInPart (before_rest list lies) (first_lowered list lies)
 first_lowered-in_part list lies =
     let cut = cut_of list in
-    in_parts _ _ _ _ (small lies.front)
-    (in_parts _ _ _ _ (lowered_value-either (IsLoweredInPart cut.value) cut.name cut.value (same cut.value) (small cut.value))
+    in_parts _ _ _ _ (lowercase lies.prefix)
+    (in_parts _ _ _ _ (lowered_value-either (IsLoweredInPart cut.value) cut.name cut.value (same cut.value) (lowercase cut.value))
     (same lies.middle))
 
 -- lowering the first pair keeps the position of the rest
@@ -217,7 +217,7 @@ length-first_lowered list lies =
       length-append (before_rest list lies) (cut_of list).rest,
     )
 
--- the list with its first pairs lowered: the first, and then the others
+-- the list with its first pairs lowercased: the first, and then the others
 pub lowered_within-first : (count : ℕ) (list : List ℕ) (lies : LiesIn list (cut_of list))
     → lowered_within (suc count) list ≡ first_lowered list lies ++ lowered_within count (cut_of list).rest
 lowered_within-first count list lies =
@@ -226,7 +226,7 @@ lowered_within-first count list lies =
     (ap (take (length list - length rest)) (lowered_first-joined list lies)
     ∙ take_at (first_lowered list lies) rest (length list - length rest) (omega (arith, length-first_lowered list lies)))
 
--- the pairs of any list, lowered, are the list with some parts lowered
+-- the pairs of any list, lowercased, are the list with some parts lowercased
 pub lowered_within-in_part : (count : ℕ) (list : List ℕ) → IsLoweredInPart list (lowered_within count list)
 lowered_within-in_part zero list = same list
 lowered_within-in_part (suc count) list =

@@ -7,7 +7,7 @@ use Rattle.std.proofs.lemmas.Option.{same_Some, none-some, slice_get_within, Mat
 use Rattle.mime.specs.Bytes.{slash_byte, plus_byte}
 use Rattle.mime.specs.Values.{lowered, last_plus, MediaType, Reads, lowered_parameter, lowered_list, lowered_tail, pair_of, pairs_of_list, pairs_of_tail, lowered_tree, kept_text, essence_of}
 use Rattle.mime.specs.Laws.{HasNoPlusFrom, PlusIsLast}
-use Rattle.mime.proofs.BytesLemmas.{slice_get-after, slice_get-front, boundary_before, boundary_after}
+use Rattle.mime.proofs.BytesLemmas.{slice_get-after, slice_get-prefix, boundary_before, boundary_after}
 use Rattle.mime.proofs.ValueLemmas.Lowercase.{length-lowered, lowered-lowered, lowered-append, lowered-take, lowered-drop, lowered_value-lowered, low_pair-parts}
 use Rattle.std.specs.List.{AllByRecursion}
 use Rattle.std.specs.Str.{IsCharBoundary, bytes_eq}
@@ -18,20 +18,20 @@ use Rattle.mime.specs.Items.{items_of, IsLowItem}
 use Rattle.mime.specs.KeptText.{IsLowPair, AreLowPairs, media_of, IsKept}
 use Rattle.mime.specs.Comparison.{Same}
 use Rattle.mime.specs.Scanning.{semicolon_of}
-use Rattle.mime.specs.declared.scan.Places.{Places}
+use Rattle.mime.specs.declared.scan.Positions.{Positions}
 use Rattle.mime.proofs.GrammarLemmas.Readings.{one_reading}
 
 -- the last plus of a text from a position on, if there is one
 abbrev IsLastPlus : List ℕ → ℕ → ℕ → Option ℕ → Type 0
 IsLastPlus text below from found =
     MatchOption found (HasNoPlusFrom text from)
-    (λ place. (below < place) × (slice_get text place ≡ Some plus_byte) × HasNoPlusFrom text (place + 1))
+    (λ position. (below < position) × (slice_get text position ≡ Some plus_byte) × HasNoPlusFrom text (position + 1))
 
 -- the computed position is the last, and there is none only if no plus is there
 last_plus-is_last : (text : List ℕ) (below from : ℕ) (bytes : List ℕ) → below < from
     → ((i : ℕ) → slice_get text (from + i) ≡ slice_get bytes i) → IsLastPlus text below from (last_plus from bytes)
 last_plus-is_last text below from [] above view =
-    λ place after there. none-some plus_byte (sym (view (place - from)) ∙ ap (slice_get text) (omega (arith, after)) ∙ there)
+    λ position after there. none-some plus_byte (sym (view (position - from)) ∙ ap (slice_get text) (omega (arith, after)) ∙ there)
 last_plus-is_last text below from (b ∷ bytes) above view =
     with_rest (last_plus (from + 1) bytes)
     (last_plus-is_last text below (from + 1) bytes (omega (arith, above)) (λ i. ap (slice_get text) (omega arith) ∙ view (suc i)))
@@ -41,14 +41,14 @@ last_plus-is_last text below from (b ∷ bytes) above view =
 
     with_rest : (rest : Option ℕ) → IsLastPlus text below (from + 1) rest
         → IsLastPlus text below from (option_or rest (if b == plus_byte then Some from else None))
-    with_rest (Some place) found = found
+    with_rest (Some position) found = found
     with_rest None none =
         cond_both (b == plus_byte) (Some from) None (IsLastPlus text below from)
         (λ passes. (above, here ∙ ap Some (eqb-true b plus_byte passes), none))
-        (λ fails place after there. ⊎_elim
+        (λ fails position after there. ⊎_elim
         (λ at. eqb-false b plus_byte fails (same_Some b plus_byte (sym here ∙ ap (slice_get text) (omega (arith, at, after)) ∙ there)))
-        (λ beyond. none place beyond there)
-        (cases_lt place (from + 1)))
+        (λ beyond. none position beyond there)
+        (cases_lt position (from + 1)))
 
 -- a byte after the first of a list
 slice_get-drop : (bytes : List ℕ) (i : ℕ) → slice_get bytes (suc i) ≡ slice_get (drop 1 bytes) i
@@ -72,7 +72,7 @@ plus_is_last text value reads =
 pub slash_in : (text essence : List ℕ) (value : MediaType) → Reads text value → essence ≡ value.essence
     → slice_get essence value.slash ≡ Some slash_byte
 slash_in text essence value reads is =
-    let there = slice_get-front (lowered reads.tree.top) slash_byte (lowered reads.tree.sub) _ (sym (length-lowered reads.tree.top)) in
+    let there = slice_get-prefix (lowered reads.tree.top) slash_byte (lowered reads.tree.sub) _ (sym (length-lowered reads.tree.top)) in
     rw is (subst (λ (v : MediaType). slice_get v.essence v.slash ≡ Some slash_byte) reads.valued there)
 
 -- the subtype begins after it, at a character
@@ -108,9 +108,9 @@ suffix_start text essence value plus reads is utf8 found =
     let at = plus_in text essence value plus reads is found in
     (slice_get_within essence plus plus_byte at.there, boundary_after essence plus plus_byte utf8 at.there (lit< tt))
 
--- ---- what is in small letters
+-- ---- what is in lowercase
 
--- the text before a position in a text of small letters
+-- the text before a position in a text of lowercase letters
 pub low_take : (n : ℕ) (text : List ℕ) → lowered text ≡ text → lowered (take n text) ≡ take n text
 low_take n text low = lowered-take n text ∙ ap (take n) low
 
@@ -126,18 +126,18 @@ read-low_essence text value reads =
     subst (λ (v : MediaType). lowered v.essence ≡ v.essence) reads.valued
     (lowered-append top (slash_byte ∷ sub) ∙ rw (lowered-lowered reads.tree.top, lowered-lowered reads.tree.sub) refl)
 
--- the pair of a lowered parameter is low
+-- the pair of a lowercased parameter is low
 low_pair : (p : Parameter) → IsLowPair (pair_of (lowered_parameter p))
 low_pair (plain name value) = cc (lowered-lowered name, lowered_value-lowered name value)
 low_pair (quoted name content n) = cc (lowered-lowered name, lowered_value-lowered name content)
 
--- the pairs of a lowered list are low
+-- the pairs of a lowercased list are low
 low_pairs : (list : Parameters) → AreLowPairs (pairs_of_list (lowered_list list))
 low_pairs (blank n) = tt
 low_pairs (final n p) = (low_pair p, tt)
 low_pairs (more n p rest) = (low_pair p, low_pairs rest)
 
--- the pairs of a lowered tail are low
+-- the pairs of a lowercased tail are low
 low_pairs-tail : (tail : Tail) → AreLowPairs (pairs_of_tail (lowered_tail tail))
 low_pairs-tail no_list = tt
 low_pairs-tail (listed list) = low_pairs list
@@ -148,7 +148,7 @@ read-low_pairs text value reads = subst (λ (v : MediaType). AreLowPairs v.pairs
 
 -- ---- the items of pairs
 
--- the items of low pairs are in small letters where their flags are set
+-- the items of low pairs are in lowercase where their flags are set
 pub items_of-low : (pairs : List (List ℕ × List ℕ)) → AreLowPairs pairs → AllByRecursion IsLowItem (items_of pairs)
 items_of-low [] low = tt
 items_of-low ((name, value) ∷ pairs) (low, others) =
@@ -161,21 +161,21 @@ length-pairs_within zero list = refl
 length-pairs_within (suc count) list = ap suc (length-pairs_within count (cut_of list).rest)
 
 -- without a semicolon there is no pair
-kept-none : (text : List ℕ) (places : Places) → IsKept text places → places.semicolon ≡ None → places.pairs ≡ 0
-kept-none text places is_kept none =
-    ap (λ p. p.pairs) (sym is_kept.placed) ∙ go is_kept.tree.tail _ (ap (λ p. p.semicolon) is_kept.placed ∙ none)
+kept-none : (text : List ℕ) (positions : Positions) → IsKept text positions → positions.semicolon ≡ None → positions.pairs ≡ 0
+kept-none text positions is_kept none =
+    ap (λ p. p.pairs) (sym is_kept.same_positions) ∙ go is_kept.tree.tail _ (ap (λ p. p.semicolon) is_kept.same_positions ∙ none)
   where
     go : (tail : Tail) (at : ℕ) → semicolon_of at tail ≡ None → length (pairs_of_tail tail) ≡ 0
     go no_list at is = refl
     go (listed list) at is = absurd cc
 
 -- the count is that of the pairs
-pub kept-count : (text : List ℕ) (places : Places) → IsKept text places → places.pairs ≡ length (media_of text places).pairs
-kept-count text places is_kept = go places.semicolon refl
+pub kept-count : (text : List ℕ) (positions : Positions) → IsKept text positions → positions.pairs ≡ length (media_of text positions).pairs
+kept-count text positions is_kept = go positions.semicolon refl
   where
-    go : (semicolon : Option ℕ) → places.semicolon ≡ semicolon → places.pairs ≡ length (pairs_after places.pairs semicolon text)
-    go None is = kept-none text places is_kept is
-    go (Some semicolon) is = sym (length-pairs_within places.pairs (drop (semicolon + 1) text))
+    go : (semicolon : Option ℕ) → positions.semicolon ≡ semicolon → positions.pairs ≡ length (pairs_after positions.pairs semicolon text)
+    go None is = kept-none text positions is_kept is
+    go (Some semicolon) is = sym (length-pairs_within positions.pairs (drop (semicolon + 1) text))
 
 -- values that were read from one text are equal
 pub same_from_text : (text other : List ℕ) (x y : MediaType) → Reads text x → Reads other y → text ≡ other → Same x y

@@ -5,11 +5,11 @@ use Rattle.mime.specs.Bytes.{is_token_byte, space_byte}
 use Rattle.mime.specs.Grammar.{SyntaxTree, no_list, IsWellFormed, plain, final, Tail, listed, text_of, IsToken, IsTail}
 use Rattle.mime.specs.Values.{value_of, IsAccepted, IsRefused, lowered_tree}
 use Rattle.mime.specs.Refusals.{IsFault, Explains}
-use Rattle.mime.specs.Scanning.{HasPlaces, places_of}
-use Rattle.mime.specs.KeptText.{IsKept, HoldsParameter, places_in}
+use Rattle.mime.specs.Scanning.{HasPositions, positions_of}
+use Rattle.mime.specs.KeptText.{IsKept, HoldsParameter, positions_in}
 use Rattle.mime.specs.declared.scan.fault.ParseError.{ParseError}
 use Rattle.mime.specs.declared.scan.fault.ParseError.TheVariants.{InvalidToken, NoMemory}
-use Rattle.mime.specs.declared.scan.Places.{Places}
+use Rattle.mime.specs.declared.scan.Positions.{Positions}
 use Rattle.mime.proofs.GrammarLemmas.Readings.{one_tree}
 use Rattle.mime.proofs.GrammarLemmas.Viability.{refused-at_dead}
 use Rattle.mime.proofs.GrammarLemmas.Faults.{completed_is_refused}
@@ -18,8 +18,8 @@ use Rattle.mime.specs.declared.atoms.Atom.{Atom}
 use Rattle.mime.specs.declared.atoms.Atom.TheVariants.{STAR_STAR}
 
 -- a text with positions of its parts is accepted
-pub accepted-from_places : (text : List ℕ) (places : Places) → HasPlaces text places → IsAccepted text
-accepted-from_places text places has =
+pub accepted-from_positions : (text : List ℕ) (positions : Positions) → HasPositions text positions → IsAccepted text
+accepted-from_positions text positions has =
     (value_of has.tree, record { tree = has.tree; well_formed = has.well_formed; spelled = has.spelled; valued = refl })
 
 -- running out of memory is explained where the text is accepted
@@ -43,14 +43,14 @@ unfolding is_token_byte
 star_tree-IsWellFormed = (refl, refl, tt)
 
 -- `*/*` is kept as it is
-pub star-IsKept : (places : Places) → HasPlaces (42 ∷ 47 ∷ 42 ∷ []) places → IsKept (42 ∷ 47 ∷ 42 ∷ []) places
-star-IsKept places has = record {
+pub star-IsKept : (positions : Positions) → HasPositions (42 ∷ 47 ∷ 42 ∷ []) positions → IsKept (42 ∷ 47 ∷ 42 ∷ []) positions
+star-IsKept positions has = record {
   tree = star_tree;
   well_formed = star_tree-IsWellFormed;
   low = refl;
   kept = tt;
   spelled = refl;
-  placed = ap places_of (one_tree star_tree has.tree star_tree-IsWellFormed has.well_formed (sym has.spelled)) ∙ has.placed;
+  same_positions = ap positions_of (one_tree star_tree has.tree star_tree-IsWellFormed has.well_formed (sym has.spelled)) ∙ has.same_positions;
 }
 
 -- `*/*` is accepted
@@ -82,25 +82,25 @@ holds_parameter (Some semicolon) = tt
 -- the tree of a constant's text
 abbrev tree_in : List ℕ → SyntaxTree
 tree_in text = record {
-  top = take (places_in text).slash text;
-  sub = drop ((places_in text).slash + 1) (take (unwrap_or (places_in text).semicolon (length text)) text);
-  tail = tail_at (places_in text).semicolon;
+  top = take (positions_in text).slash text;
+  sub = drop ((positions_in text).slash + 1) (take (unwrap_or (positions_in text).semicolon (length text)) text);
+  tail = tail_at (positions_in text).semicolon;
 }
 
--- a text is kept if it is that of the tree in it, which is well formed and its own lowering
+-- a text is kept if it is that of the tree in it, which is well formed and its own lowercased form
 kept_by : (text : List ℕ) → IsToken (tree_in text).top → IsToken (tree_in text).sub → lowered_tree (tree_in text) ≡ tree_in text
-    → text_of (tree_in text) ≡ text → places_of (tree_in text) ≡ places_in text → IsKept text (places_in text)
-kept_by text top sub low spelled placed = record {
+    → text_of (tree_in text) ≡ text → positions_of (tree_in text) ≡ positions_in text → IsKept text (positions_in text)
+kept_by text top sub low spelled same_positions = record {
   tree = tree_in text;
-  well_formed = (top, sub, is_tail (places_in text).semicolon);
+  well_formed = (top, sub, is_tail (positions_in text).semicolon);
   low = low;
-  kept = holds_parameter (places_in text).semicolon;
+  kept = holds_parameter (positions_in text).semicolon;
   spelled = spelled;
-  placed = placed;
+  same_positions = same_positions;
 }
 
 -- each constant's text is kept: the second line is one case for each constant but the first
-pub kept_atom : (atom : Atom) → IsKept (atom_text atom) (places_in (atom_text atom))
+pub kept_atom : (atom : Atom) → IsKept (atom_text atom) (positions_in (atom_text atom))
 unfolding is_token_byte
 kept_atom STAR_STAR = kept_by (atom_text STAR_STAR) refl refl refl refl refl
 kept_atom atom = kept_by (atom_text atom) refl refl refl refl refl

@@ -1,4 +1,4 @@
--- A text of which parts are lowered: what holds of it, and that it keeps UTF-8.
+-- A text of which parts are lowercased: what holds of it, and that it keeps UTF-8.
 use Rattle.std.proofs.Common.{◌≡◌, ℕ, suc, ◌<◌, ◌≤◌, true, List, [], ◌∷◌, ◌++◌, length, take, drop, get_or, refl, sym, ap, ◌∙◌, subst, arith, append-nil, ⊎_elim}
 use Rattle.std.specs.Prelude.{IsUtf8}
 use Rattle.std.specs.Char.{to_ascii_lowercase}
@@ -11,51 +11,51 @@ use Rattle.mime.specs.Values.{lowered}
 use Rattle.mime.proofs.ValueLemmas.Lowercase.{lowered-lowered, length-lowered, lowered-append, lowered-take, lowered-drop}
 use lib.Utf8.{scalars, scalar, encodes, encode}
 
--- the second text is the first with some of its parts lowered
+-- the second text is the first with some of its parts lowercased
 pub data IsLoweredInPart : List ℕ → List ℕ → Type 0 where
   same : (text : List ℕ) → IsLoweredInPart text text
-  small : (text : List ℕ) → IsLoweredInPart text (lowered text)
-  in_parts : (front back low_front low_back : List ℕ) → IsLoweredInPart front low_front → IsLoweredInPart back low_back
-      → IsLoweredInPart (front ++ back) (low_front ++ low_back)
+  lowercase : (text : List ℕ) → IsLoweredInPart text (lowered text)
+  in_parts : (prefix back low_prefix low_back : List ℕ) → IsLoweredInPart prefix low_prefix → IsLoweredInPart back low_back
+      → IsLoweredInPart (prefix ++ back) (low_prefix ++ low_back)
 
--- a text lowered in part has the same lowering
+-- a text lowercased in part has the same lowercased form
 lowered-in_part : (text partly : List ℕ) → IsLoweredInPart text partly → lowered partly ≡ lowered text
 lowered-in_part text partly (same _) = refl
-lowered-in_part text partly (small _) = lowered-lowered text
-lowered-in_part text partly (in_parts front back low_front low_back first second) =
-    lowered-append low_front low_back
-    ∙ rw (lowered-in_part front low_front first, lowered-in_part back low_back second) (sym (lowered-append front back))
+lowered-in_part text partly (lowercase _) = lowered-lowered text
+lowered-in_part text partly (in_parts prefix back low_prefix low_back first second) =
+    lowered-append low_prefix low_back
+    ∙ rw (lowered-in_part prefix low_prefix first, lowered-in_part back low_back second) (sym (lowered-append prefix back))
 
--- a text lowered in part has the same length
+-- a text lowercased in part has the same length
 pub length-in_part : (text partly : List ℕ) → IsLoweredInPart text partly → length partly ≡ length text
 length-in_part text partly lowers =
     sym (length-lowered partly) ∙ ap length (lowered-in_part text partly lowers) ∙ length-lowered text
 
 -- the parts of a text without capitals have none
-low_parts : (front back : List ℕ) → lowered (front ++ back) ≡ front ++ back → (lowered front ≡ front) × (lowered back ≡ back)
+low_parts : (prefix back : List ℕ) → lowered (prefix ++ back) ≡ prefix ++ back → (lowered prefix ≡ prefix) × (lowered back ≡ back)
 low_parts [] back low = (refl, low)
-low_parts (b ∷ front) back low = let parts = low_parts front back (cc) in let first : lowered front ≡ front = parts.0 in (cc, parts.1)
+low_parts (b ∷ prefix) back low = let parts = low_parts prefix back (cc) in let first : lowered prefix ≡ prefix = parts.0 in (cc, parts.1)
 
--- a text without capitals stays as it is, lowered in part
+-- a text without capitals stays as it is, lowercased in part
 pub low-in_part : (text partly : List ℕ) → IsLoweredInPart text partly → lowered text ≡ text → partly ≡ text
 low-in_part text partly (same _) low = refl
-low-in_part text partly (small _) low = low
-low-in_part text partly (in_parts front back low_front low_back first second) low =
-    let parts = low_parts front back low in
-    rw (low-in_part front low_front first parts.0, low-in_part back low_back second parts.1) refl
+low-in_part text partly (lowercase _) low = low
+low-in_part text partly (in_parts prefix back low_prefix low_back first second) low =
+    let parts = low_parts prefix back low in
+    rw (low-in_part prefix low_prefix first parts.0, low-in_part back low_back second parts.1) refl
 
--- the lowerings of a front and of what follows it, taken from the lowering of the whole
-lowered-parts : (front back partly : List ℕ) → lowered partly ≡ lowered (front ++ back)
-    → (lowered (take (length front) partly) ≡ lowered front) × (lowered (drop (length front) partly) ≡ lowered back)
-lowered-parts front back partly is =
-    let n = length front in
-    let whole = is ∙ lowered-append front back in
-    let size = length-lowered front in (
-      lowered-take n partly ∙ ap (take n) whole ∙ take_at (lowered front) (lowered back) n size,
-      lowered-drop n partly ∙ ap (drop n) whole ∙ drop_at (lowered front) (lowered back) n size,
+-- the lowercased forms of a prefix and of what follows it, taken from the lowercased form of the whole
+lowered-parts : (prefix back partly : List ℕ) → lowered partly ≡ lowered (prefix ++ back)
+    → (lowered (take (length prefix) partly) ≡ lowered prefix) × (lowered (drop (length prefix) partly) ≡ lowered back)
+lowered-parts prefix back partly is =
+    let n = length prefix in
+    let whole = is ∙ lowered-append prefix back in
+    let size = length-lowered prefix in (
+      lowered-take n partly ∙ ap (take n) whole ∙ take_at (lowered prefix) (lowered back) n size,
+      lowered-drop n partly ∙ ap (drop n) whole ∙ drop_at (lowered prefix) (lowered back) n size,
     )
 
--- a text with the lowering of bytes past ASCII is these bytes
+-- a text with the lowercased form of bytes past ASCII is these bytes
 high_stays : (text partly : List ℕ) → lowered partly ≡ lowered text → ((k : ℕ) → k < length text → 128 ≤ get_or text k 0) → partly ≡ text
 high_stays [] [] is high = refl
 high_stays [] (c ∷ partly) is high = absurd cc
@@ -67,7 +67,7 @@ high_stays (b ∷ text) (c ∷ partly) is high =
     let rest : partly ≡ text = high_stays text partly (cc) (λ k l. high (suc k) (omega arith)) in
     cc
 
--- a text with the lowering of an ASCII character is in UTF-8
+-- a text with the lowercased form of an ASCII character is in UTF-8
 of_ascii : (c : ℕ) (partly : List ℕ) → c < 128 → lowered partly ≡ lowered (c ∷ []) → IsUtf8 partly
 of_ascii c [] ascii is = absurd cc
 of_ascii c (b ∷ []) ascii is =
@@ -75,7 +75,7 @@ of_ascii c (b ∷ []) ascii is =
     IsUtf8-from_ascii (b ∷ []) (IsAscii-cons b [] (grind (arith, nat_tests)) IsAscii-nil)
 of_ascii c (b ∷ d ∷ partly) ascii is = absurd cc
 
--- a text with the lowering of a character is valid UTF-8
+-- a text with the lowercased form of a character is valid UTF-8
 of_character : (c : ℕ) (partly : List ℕ) → scalar c ≡ true → lowered partly ≡ lowered (encode c) → IsUtf8 partly
 of_character c partly is low = ⊎_elim
     (λ ascii. of_ascii c partly ascii (low ∙ ap lowered (encode_ascii c ascii)))
@@ -88,7 +88,7 @@ of_character c partly is low = ⊎_elim
         (λ enough. enough)
         (cases_lt (get_or (encode c) k 0) 128)
 
--- a text with the lowering of characters is valid UTF-8
+-- a text with the lowercased form of characters is valid UTF-8
 of_characters : (characters partly : List ℕ) → scalars characters ≡ true → lowered partly ≡ lowered (encodes characters) → IsUtf8 partly
 of_characters [] [] are is = IsUtf8-nil
 of_characters [] (b ∷ partly) are is = absurd cc
@@ -100,7 +100,7 @@ of_characters (c ∷ characters) partly are is =
     (IsUtf8-append (take n partly) (drop n partly)
     (of_character c (take n partly) parts.0 cut.0) (of_characters characters (drop n partly) parts.1 cut.1))
 
--- a text in UTF-8, lowered in part, is in UTF-8
+-- a text in UTF-8, lowercased in part, is in UTF-8
 pub IsUtf8-in_part : (text partly : List ℕ) → IsLoweredInPart text partly → IsUtf8 text → IsUtf8 partly
 IsUtf8-in_part text partly lowers utf8 =
     of_characters utf8.0 partly utf8.1.0 (lowered-in_part text partly lowers ∙ ap lowered (sym utf8.1.1))

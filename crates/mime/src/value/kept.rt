@@ -1,15 +1,15 @@
-//! The kept text of an accepted text, by one request for memory.
+//! The kept text of an accepted text, in one allocation.
 
 ghost use Rattle.std.specs.Prelude.{◌≡◌, ◌+◌, ◌++◌, ◌≤◌, ◌↔◌, IsFalse, IfOk, take, drop, length, slice_get, slice_range, string_bytes};
 ghost use Rattle.mime.specs.Bytes.{semicolon_byte};
 ghost use Rattle.mime.specs.Values.{lowered, is_charset};
 ghost use Rattle.mime.specs.Pairs.{cut_of, lowered_first, lowered_within};
-ghost use Rattle.mime.specs.Scanning.{HasPlaces};
-ghost use Rattle.mime.specs.KeptText.{with_pairs_lowered, kept_places, kept_text_of};
+ghost use Rattle.mime.specs.Scanning.{HasPositions};
+ghost use Rattle.mime.specs.KeptText.{with_pairs_lowered, kept_positions, kept_text_of};
 
 use crate::blocks::TextEnd;
 use crate::name::eq_ignoring_case;
-use crate::scan::Places;
+use crate::scan::Positions;
 use crate::value::pairs::cut;
 use std::alloc::{AllocError, Global};
 
@@ -34,7 +34,7 @@ fn names_charset(name: &str) -> bool
     eq_ignoring_case(name.as_bytes(), b"charset")
 }
 
-/// Makes the capitals small between two positions.
+/// Lowercases the bytes between two positions.
 #[inline]
 fn lower_range(bytes: &mut [u8], from: usize, to: usize)
     requires order { from ≤ to }
@@ -44,7 +44,7 @@ fn lower_range(bytes: &mut [u8], from: usize, to: usize)
     bytes[from..to].make_ascii_lowercase();
 }
 
-/// Lowers the first pair of a list, whose bytes these are, and gives the list after it.
+/// Lowercases the first pair of a list with these bytes, and returns the list after it.
 #[inline]
 fn lower_first<'a>(bytes: &mut [u8], list: &TextEnd<'a>) -> TextEnd<'a>
     requires { bytes.old ≡ list.now }
@@ -59,7 +59,7 @@ fn lower_first<'a>(bytes: &mut [u8], list: &TextEnd<'a>) -> TextEnd<'a>
     pair.rest
 }
 
-/// Lowers the first `count` pairs of a list, whose bytes these are.
+/// Lowercases the first `count` pairs of a list with these bytes.
 #[inline]
 fn lower_pairs(bytes: &mut [u8], list: TextEnd<'_>, count: usize)
     requires { bytes.old ≡ list }
@@ -72,7 +72,7 @@ fn lower_pairs(bytes: &mut [u8], list: TextEnd<'_>, count: usize)
     }
 }
 
-/// Lowers a text with pairs, whose bytes these are: all up to its semicolon, and then its pairs.
+/// Lowercases a text with pairs and these bytes: all up to its semicolon, and then its pairs.
 #[inline]
 fn lower_text(bytes: &mut [u8], text: &str, semicolon: usize, pairs: usize)
     requires same { bytes.old ≡ text.now }
@@ -84,7 +84,7 @@ fn lower_text(bytes: &mut [u8], text: &str, semicolon: usize, pairs: usize)
     lower_pairs(&mut bytes[list..], TextEnd::of(text, list), pairs);
 }
 
-/// A text with pairs as it is kept: only what ignores case is lowered.
+/// A text with pairs as it is kept: only what ignores case is lowercased.
 #[inline(always)]
 fn keep_pairs(
     alloc: Global,
@@ -109,22 +109,25 @@ fn keep_pairs(
 pub(crate) fn keep(
     alloc: Global,
     text: &str,
-    places: Places,
-) -> Result<(String, Places), AllocError>
-    requires { HasPlaces text.now places }
-    ensures text { IfOk result (λ kept. string_bytes kept.0 ≡ kept_text_of places.pairs places.semicolon text.now) }
-    ensures places { IfOk result (λ kept. kept.1 ≡ kept_places places) }
+    positions: Positions,
+) -> Result<(String, Positions), AllocError>
+    requires { HasPositions text.now positions }
+    ensures text { IfOk result (λ kept. string_bytes kept.0 ≡ kept_text_of positions.pairs positions.semicolon text.now) }
+    ensures positions { IfOk result (λ kept. kept.1 ≡ kept_positions positions) }
 {
-    let Some(semicolon) = places.semicolon else {
-        return Ok((text.to_ascii_lowercase(alloc)?, places));
+    let Some(semicolon) = positions.semicolon else {
+        return Ok((text.to_ascii_lowercase(alloc)?, positions));
     };
-    if places.pairs != 0 {
-        return Ok((keep_pairs(alloc, text, semicolon, places.pairs)?, places));
+    if positions.pairs != 0 {
+        return Ok((
+            keep_pairs(alloc, text, semicolon, positions.pairs)?,
+            positions,
+        ));
     }
     let essence = text[..semicolon].to_ascii_lowercase(alloc)?;
-    let bare = Places {
+    let bare = Positions {
         semicolon: None,
-        ..places
+        ..positions
     };
     Ok((essence, bare))
 }

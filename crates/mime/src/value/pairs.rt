@@ -5,7 +5,7 @@ ghost use Rattle.std.specs.Iterator.SizeHint.{IsWithinCount};
 ghost use Rattle.std.specs.Prelude.{◌≡◌, ◌≤◌, IsTrue, length, slice_get, IfSome, Some};
 ghost use Rattle.std.specs.Str.{IsCharBoundary};
 ghost use Rattle.mime.specs.Blocks.{after_byte, first_position};
-ghost use Rattle.mime.specs.Pairs.{cut_of, leading_spaces, cut_after_equals, pairs_after, pair_seen};
+ghost use Rattle.mime.specs.Pairs.{cut_of, leading_spaces as spaces, cut_after_equals, pairs_after, pair_seen};
 ghost use Rattle.mime.specs.Bytes.{quote_byte, semicolon_byte};
 ghost use Rattle.mime.specs.ComparedText.{IsLoneCharset};
 ghost use Rattle.mime.specs.Quoted.{content_len as len_of};
@@ -51,8 +51,8 @@ fn content_len(text: &[u8], quote: usize) -> usize
 
 /// How many spaces and tabs begin the list.
 #[inline(always)]
-pub(crate) fn gap_of(list: &str) -> usize
-    ensures gap { result ≡ leading_spaces list.now }
+pub(crate) fn leading_spaces(list: &str) -> usize
+    ensures count { result ≡ spaces list.now }
     ensures border { IsCharBoundary list.now result }
 {
     let bytes = list.as_bytes();
@@ -60,15 +60,15 @@ pub(crate) fn gap_of(list: &str) -> usize
         // Most lists begin with one space.
         return 1;
     }
-    let mut gap = 0;
-    while gap < bytes.len() {
+    let mut count = 0;
+    while count < bytes.len() {
         // One comparison decides most bytes.
-        if bytes[gap] > b' ' || !is_space(bytes[gap]) {
-            return gap;
+        if bytes[count] > b' ' || !is_space(bytes[count]) {
+            return count;
         }
-        gap += 1;
+        count += 1;
     }
-    gap
+    count
 }
 
 /// The text after the first semicolon, or nothing. Most texts begin with it, or are empty.
@@ -127,7 +127,7 @@ pub(crate) fn cut<'a>(list: &TextEnd<'a>) -> Pair<'a>
     ensures rest { result.rest ≡ (cut_of list.now).rest }
 {
     let text = list.text();
-    let (name, rest) = list.after(gap_of(text)).split_at_first(b'=');
+    let (name, rest) = list.after(leading_spaces(text)).split_at_first(b'=');
     cut_value(text.len(), name, &rest)
 }
 

@@ -3,8 +3,8 @@
 ghost use Rattle.std.specs.Prelude.{◌≡◌, ◌↔◌, IsTrue, Some, true, refl};
 ghost use Rattle.std.specs.Cmp.{partial_equiv_from_equiv, partial_order_from_total, on_equiv, on_total, eq_by_cmp_equiv};
 ghost use Rattle.std.specs.Fmt.{debug_str, styled_text};
-ghost use Rattle.std.specs.Ordering.{MatchOrdering, eq_by_cmp, on, as_partial_cmp};
-ghost use Rattle.mime.specs.Comparison.{Same, Before, media_cmp};
+ghost use Rattle.std.specs.Ordering.{eq_by_cmp, on, as_partial_cmp};
+ghost use Rattle.mime.specs.Comparison.{Same, IsOrderOf, media_cmp};
 ghost use Rattle.mime.specs.HashInput.{media_input};
 ghost use Rattle.mime.specs.HashInput.{media_cmp_total, same_from_cmp, media_input-same};
 
@@ -92,7 +92,7 @@ impl Ord for Mime {
     #[inline]
     fn cmp(&self, other: &Mime) -> Ordering
         ensures computed { result ≡ media_cmp self.now.media other.now.media }
-        ensures told { MatchOrdering result (Before self.now.media other.now.media) (Same self.now.media other.now.media) (Before other.now.media self.now.media) }
+        ensures told { IsOrderOf self.now.media other.now.media result }
     {
         // Equal texts are equal values.
         if self.as_str() == other.as_str() {
@@ -130,7 +130,7 @@ impl Clone for Mime {
         };
         Ok(Mime {
             text,
-            places: self.places,
+            positions: self.positions,
         })
     }
 }

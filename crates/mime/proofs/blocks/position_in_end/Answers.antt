@@ -1,4 +1,4 @@
--- The marks of the whole's last bytes, without those before the text, show the position.
+-- The bit mask of the whole's last bytes, without the bits before the text, shows the position.
 use Rattle.mime.proofs.BlocksLemmas.{position-end_none, position-end_some}
 use Rattle.mime.proofs.blocks.position_in_end.Goals as goal
 

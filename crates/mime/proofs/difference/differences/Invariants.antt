@@ -1,4 +1,4 @@
--- The marks so far are those of the bytes so far.
+-- The flags so far are those of the bytes so far.
 use Rattle.std.proofs.Common.{◌-◌, ◌≡◌, ◌≤◌, take, length}
 use Rattle.std.specs.Simd.Lanes.{zip2}
 use Rattle.mime.specs.Blocks.{difference_bit}

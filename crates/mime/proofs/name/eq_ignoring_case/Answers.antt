@@ -1,4 +1,4 @@
--- Texts are alike exactly where no first difference is found.
+-- Texts are equal ignoring ASCII case exactly where no first difference is found.
 use Rattle.mime.proofs.DifferenceLemmas.{none_found}
 use Rattle.mime.proofs.name.eq_ignoring_case.Goals as goal
 

@@ -13,13 +13,13 @@ use Rattle.mime.proofs.scan.parameters.Goals as goal
 pub returns-in_default : goal.returns-in_default
 returns-in_default c =
     list_scans_at (Some _) (spaces_walked c.loop-first.invariant c.in_default.ensures) c.in_default.ensures.stopped
-    (ap Some c.loop-first.invariant.placed)
+    (ap Some c.loop-first.invariant.same_positions)
 
 pub returns-then-not-is_token : goal.returns-then-not-is_token
 returns-then-not-is_token c =
     list_scans_at (Some _) (spaces_walked c.loop-first.invariant c.in-Some.ensures)
     (cond-false _ _ _ c.in-Some.ensures.stopped ∙ cond-false _ _ _ (sym c.is_token.ensures ∙ c.if-not-is_token.true))
-    (ap Some c.loop-first.invariant.placed)
+    (ap Some c.loop-first.invariant.same_positions)
 
 pub returns-in-None : goal.returns-in-None
 returns-in-None c =
@@ -36,7 +36,7 @@ returns-in-Some-token c =
 -- a parameter's name and its equals sign
 named : (c : In-Some-eq61) → ListReaches c.args.reader.now c.token.new.reader None (record {
   closed = c.loop-first.invariant.closed;
-  place = in_value c.in-Some.ensures.run (c.in-Some.first ∷ c.in-Some-eq61.ensures.run) [];
+  position = in_value c.in-Some.ensures.run (c.in-Some.first ∷ c.in-Some-eq61.ensures.run) [];
 })
 named c =
     equals_walked
@@ -68,7 +68,7 @@ returns-else-is_token c =
 
 -- a parameter's value
 valued : {closed : List (List ℕ × Parameter)} {spaces name : List ℕ} (c : Joined-first-eq34)
-    → ListReaches c.args.reader.now c.token.new.reader None (record { closed = closed; place = in_value spaces name [] })
+    → ListReaches c.args.reader.now c.token.new.reader None (record { closed = closed; position = in_value spaces name [] })
     → Valued closed spaces c.args.reader.now c.token.new.reader c.if-first-eq34.reader c.if-first-eq34.stop
 valued c name =
     elim c.if-first-eq34.branch [
@@ -86,14 +86,14 @@ pub returns-in-None-stop : goal.returns-in-None-stop
 returns-in-None-stop c =
     let here = goal.at.returns-in-None-stop c in
     let v = rw c.in-None-stop.is at (valued here.Joined-first-eq34 (named here.In-Some-eq61)) in
-    list_scans_at (Some _) v.walked v.stopped (ap Some (one_pair_more _ _ _ c.loop-first.invariant.placed) ∙ sym (v.counted c.args.head))
+    list_scans_at (Some _) v.walked v.stopped (ap Some (one_pair_more _ _ _ c.loop-first.invariant.same_positions) ∙ sym (v.counted c.args.head))
 
 pub returns-in-Some-stop : goal.returns-in-Some-stop
 returns-in-Some-stop c =
     let here = goal.at.returns-in-Some-stop c in
     let v = rw c.in-Some-stop.is at (valued here.Joined-first-eq34 (named here.In-Some-eq61)) in
     list_scans_at (Some _) v.walked (v.stopped (rw c.in-Some-stop.is at c.in-Some-stop.byte-test.1))
-    (ap Some (one_pair_more _ _ _ c.loop-first.invariant.placed) ∙ sym (v.counted c.args.head))
+    (ap Some (one_pair_more _ _ _ c.loop-first.invariant.same_positions) ∙ sym (v.counted c.args.head))
 
 pub loop-first-preserved : goal.loop-first-preserved
 loop-first-preserved c =
@@ -102,7 +102,7 @@ loop-first-preserved c =
     record {
       closed = (c.in-Some.ensures.run, v.parameter) ∷ c.loop-first.invariant.closed;
       walked = list_byte v.walked (rw (rw c.in-Some-eq59.field-0-is at c.in-Some-eq59.field-0-test) v.closing);
-      placed = one_pair_more _ _ _ c.loop-first.invariant.placed ∙ ap (λ n. record c.args.head { pairs = n }) (omega arith);
+      same_positions = one_pair_more _ _ _ c.loop-first.invariant.same_positions ∙ ap (λ n. record c.args.head { pairs = n }) (omega arith);
       room = omega (arith, v.less, given_less c.in-Some.ensures.given, given_less c.in-Some-eq61.ensures.given);
     }
 

@@ -3,8 +3,8 @@ use Rattle.std.proofs.Common.{◌≡◌, ℕ, sym, ap, refl, ◌∙◌, ◌+◌,
 use Rattle.std.proofs.lemmas.Bool.{cond-true, cond-false}
 use Rattle.mime.specs.Bytes.{slash_byte, semicolon_byte}
 use Rattle.mime.specs.Values.{last_plus}
-use Rattle.mime.specs.declared.scan.Places.{Places}
-use Rattle.mime.specs.Scanning.{places_of, before_list}
+use Rattle.mime.specs.declared.scan.Positions.{Positions}
+use Rattle.mime.specs.Scanning.{positions_of, before_list}
 use Rattle.mime.proofs.GrammarLemmas.Begun.{in_type, in_subtype}
 use Rattle.mime.proofs.ScanLemmas.Passing.{given_sum}
 use Rattle.mime.proofs.ScanLemmas.Verdicts.{Reaches, reaches_run, reaches_byte, scans_at}
@@ -126,8 +126,8 @@ returns c =
     scans_list
     (reaches_byte s.walked
     (cond-false _ _ _ s.stopped ∙ cond-true _ _ _ (eq-eqb _ semicolon_byte (rw c.in-Some-eq59.field-0-is at c.in-Some-eq59.field-0-test))))
-    (ap (λ (places : Places). record places { semicolon = Some c.position.result })
+    (ap (λ (positions : Positions). record positions { semicolon = Some c.position.result })
     (essence_is _ _ (c.in-Some.first ∷ c.in-Some-eq47.ensures.run) s.others (slash_is here.After-position-slash) s.plussed)
-    ∙ ap (λ (at : ℕ). record (places_of (before_list (c.in-Some.first ∷ c.in-Some-eq47.ensures.run) sub)) { semicolon = Some at })
+    ∙ ap (λ (at : ℕ). record (positions_of (before_list (c.in-Some.first ∷ c.in-Some-eq47.ensures.run) sub)) { semicolon = Some at })
     (omega (arith, s.counted, c.position.ensures, c.count-from.ensures.count)))
     c.parameters.ensures

@@ -18,17 +18,17 @@ loop-plus-init c = record {
 pub loop-plus-preserved : goal.loop-plus-preserved
 loop-plus-preserved c =
     let so_far = c.loop-plus.invariant in
-    let place = c.position-plus.result in
+    let position = c.position-plus.result in
     let test : option_eq eqb c.loop-plus.stop (Some plus_byte) ≡ true = sym c.eq.ensures ∙ c.loop-plus-test.true in
     let size = ap (λ s. length (option_to_list s)) (stopped_by plus_byte c.loop-plus.stop test) in
-    let at : c.args.reader.now.count - c.args.from + (length so_far.passing.run + length so_far.passes.run) ≡ place =
+    let at : c.args.reader.now.count - c.args.from + (length so_far.passing.run + length so_far.passes.run) ≡ position =
     omega (arith, size, so_far.passing.given.counted, so_far.passes.given.counted, c.position-plus.ensures, c.requires.begun) in
     record {
       mid = c.loop-plus.reader;
       passing = passing_plus so_far.passing so_far.passes test;
       plus =
-          last_plus-stop _ so_far.passing.run so_far.passes.run place at
-          ∙ sym (cond-false (place == 0) None (Some place) (ne_eqb place 0 (λ zero. omega (arith, at, zero, c.requires.begun))));
+          last_plus-stop _ so_far.passing.run so_far.passes.run position at
+          ∙ sym (cond-false (position == 0) None (Some position) (ne_eqb position 0 (λ zero. omega (arith, at, zero, c.requires.begun))));
       passes = c.token_to_plus-stop-in-loop-plus.ensures;
     }
 

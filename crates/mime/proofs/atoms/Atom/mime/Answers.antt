@@ -3,4 +3,4 @@ use Rattle.mime.proofs.ValueLemmas.Reading.{kept_atom}
 use Rattle.mime.proofs.atoms.Atom.mime.Goals as goal
 
 pub fixed-requires : goal.fixed-requires
-fixed-requires c = rw (c.constant.ensures.text, c.constant.ensures.places) (kept_atom c.args.self)
+fixed-requires c = rw (c.constant.ensures.text, c.constant.ensures.positions) (kept_atom c.args.self)

@@ -1,22 +1,22 @@
 -- The piece that was found is the item, as it is read.
 use Rattle.std.proofs.Common.{[], true, ap, rules}
 use Rattle.mime.specs.Runs.{Iteration}
-use Rattle.mime.proofs.IterLemmas.{next-none, next-bad, next-good, next-starved}
+use Rattle.mime.proofs.IterLemmas.{next-none, next-bad, next-good, next-out_of_memory}
 use Rattle.mime.proofs.iter.MimeIterIterator.next.Goals as goal
 
 pub returns-in_default-clause-steps : goal.returns-in_default-clause-steps
 returns-in_default-clause-steps c = next-none _ _ c.in_default.ensures
 
-pub returns-in_default-places-clause-steps : goal.returns-in_default-places-clause-steps
-returns-in_default-places-clause-steps c = next-bad _ _ _ (rw c.in_default-places.is at c.in-Some.ensures)
+pub returns-in_default-positions-clause-steps : goal.returns-in_default-positions-clause-steps
+returns-in_default-positions-clause-steps c = next-bad _ _ _ (rw c.in_default-positions.is at c.in-Some.ensures)
 
 pub returns-in-Ok-clause-steps : goal.returns-in-Ok-clause-steps
-returns-in-Ok-clause-steps c = next-good _ _ _ _ _ (rw c.in-Some-places.is at c.in-Some.ensures) c.in-Ok.ensures.read (search rules)
+returns-in-Ok-clause-steps c = next-good _ _ _ _ _ (rw c.in-Some-positions.is at c.in-Some.ensures) c.in-Ok.ensures.read (search rules)
 
 pub returns-in-Err-clause-steps : goal.returns-in-Err-clause-steps
 returns-in-Err-clause-steps c =
-    next-starved _ _ _ _ _ (rw c.in-Some-places.is at c.in-Some.ensures) c.in-Err.ensures.memory.1
-    (ap (λ (i : Iteration). record { text = i.text; left = []; starved = true; steps = i.steps }) c.self.view_is)
+    next-out_of_memory _ _ _ _ _ (rw c.in-Some-positions.is at c.in-Some.ensures) c.in-Err.ensures.memory.1
+    (ap (λ (i : Iteration). record { text = i.text; left = []; out_of_memory = true; steps = i.steps }) c.self.view_is)
 
 pub invariant_of-self : goal.invariant_of-self
 invariant_of-self c = search rules

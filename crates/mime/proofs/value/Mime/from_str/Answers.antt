@@ -1,13 +1,13 @@
 -- The scanner's verdict is what the call answers.
 use Rattle.std.proofs.Common.{◌≡◌, arith, rules}
-use Rattle.mime.proofs.ValueLemmas.Reading.{accepted-from_places, Explains-from_fault, Explains-no_memory, refused-from_fault, star-accepted}
+use Rattle.mime.proofs.ValueLemmas.Reading.{accepted-from_positions, Explains-from_fault, Explains-no_memory, refused-from_fault, star-accepted}
 use Rattle.mime.proofs.GrammarLemmas.Viability.{refused-at_dead}
 use Rattle.mime.proofs.value.Mime.from_str.Goals as goal
 
 pub returns-in-Accepted-clause-explained : goal.returns-in-Accepted-clause-explained
 returns-in-Accepted-clause-explained c =
     let has = rw c.new-reader.ensures.left at c.in-Accepted.ensures.judged.1 in
-    Explains-no_memory _ _ (accepted-from_places _ _ has) c.of_accepted.ensures.memory
+    Explains-no_memory _ _ (accepted-from_positions _ _ has) c.of_accepted.ensures.memory
 
 pub returns-in-Unfinished-clause-accepted : goal.returns-in-Unfinished-clause-accepted
 returns-in-Unfinished-clause-accepted c = λ accepted.

@@ -1,4 +1,4 @@
--- What is left to look up decides the whole, and is in small letters where case is ignored.
+-- What is left to look up decides the whole, and is in lowercase where case is ignored.
 use Rattle.std.proofs.Common.{ℕ, List, Bool, Option}
 use Rattle.std.specs.List.{AllByRecursion}
 use Rattle.mime.specs.Items.{items_of, IsLowItem, IsFirstAccepted}

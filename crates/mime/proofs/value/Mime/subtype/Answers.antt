@@ -1,4 +1,4 @@
--- The subtype lies between characters of the essence, and is in small letters.
+-- The subtype lies between characters of the essence, and is in lowercase.
 use Rattle.std.proofs.Common.{refl, ap, sym, ◌∙◌}
 use Rattle.mime.proofs.ValueLemmas.KeptText.{reads-from_kept}
 use Rattle.mime.proofs.ValueLemmas.Parts.{subtype_start, subtype_end, read-low_essence, low_take, low_drop}

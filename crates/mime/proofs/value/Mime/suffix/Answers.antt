@@ -1,4 +1,4 @@
--- The suffix begins at a character of the essence, and is in small letters.
+-- The suffix begins at a character of the essence, and is in lowercase.
 use Rattle.std.proofs.Common.{ap, sym, ◌∙◌, arith}
 use Rattle.mime.proofs.ValueLemmas.KeptText.{reads-from_kept}
 use Rattle.mime.proofs.ValueLemmas.Parts.{suffix_start, read-low_essence, low_drop}

@@ -1,4 +1,4 @@
--- The first pair lies within its list: before its value all is lowered, then perhaps the value.
+-- The first pair lies within its list: before its value all is lowercased, then perhaps the value.
 use Rattle.std.proofs.Common.{length, ap, sym, ◌∙◌, arith}
 use Rattle.mime.specs.Values.{is_charset}
 use Rattle.mime.proofs.ValueLemmas.Pairs.{cut_of-within}

@@ -1,4 +1,4 @@
--- Each turn lowers the first pair of what is left.
+-- Each turn lowercases the first pair of what is left.
 use Rattle.std.proofs.Common.{◌-◌, length, ap, arith, length-append}
 use Rattle.mime.proofs.ValueLemmas.ListText.{lowered_to-none, lowered_to-more, lowered_to-all}
 use Rattle.mime.proofs.value.kept.lower_pairs.Goals as goal

@@ -1,4 +1,4 @@
--- The pairs so far are lowered, and the remaining list follows them.
+-- The pairs so far are lowercased, and the remaining list follows them.
 use Rattle.std.proofs.Common.{◌-◌}
 use Rattle.mime.specs.Pairs.{lowered_within}
 use Rattle.mime.proofs.ValueLemmas.ListText.{IsLoweredTo}

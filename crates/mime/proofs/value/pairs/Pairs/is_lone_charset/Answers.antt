@@ -10,6 +10,6 @@ use Rattle.mime.proofs.value.pairs.Pairs.is_lone_charset.Goals as goal
 pub returns-then-self-eq1 : goal.returns-then-self-eq1
 returns-then-self-eq1 c = λ is.
     let list = c.self.inside.list in
-    let front : take 9 list ≡ codes " charset=" = ap (take 9) (sym (c.as_bytes.ensures.value ∙ c.text.ensures))
+    let prefix : take 9 list ≡ codes " charset=" = ap (take 9) (sym (c.as_bytes.ensures.value ∙ c.text.ensures))
     ∙ sym (same_text _ _ (sym is ∙ c.starts_with.ensures.value)) in
-    subst IsLoneCharset (ap (λ n. pairs_within n list) (sym c.if-self-eq1.true) ∙ c.self.view_is) (lone_charset list front)
+    subst IsLoneCharset (ap (λ n. pairs_within n list) (sym c.if-self-eq1.true) ∙ c.self.view_is) (lone_charset list prefix)

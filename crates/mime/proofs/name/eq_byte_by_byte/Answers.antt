@@ -1,10 +1,10 @@
--- One more pair of bytes: they are lowered alike, or one is marked from there on.
+-- One more pair of bytes: they are equal ignoring ASCII case, or a difference stays noted from there on.
 use Rattle.std.proofs.Common.{◌≡◌, ◌+◌, [], ◌∷◌, ◌++◌, get_or, take, sym, ◌∙◌, arith}
 use Rattle.std.specs.Char.{to_ascii_lowercase}
 use Rattle.std.proofs.lemmas.List.{map_more, same_from_push}
 use Rattle.mime.specs.Values.{lowered}
-use Rattle.mime.proofs.DifferenceLemmas.{together, no_mark_at}
-use Rattle.mime.proofs.name.all_alike.Goals as goal
+use Rattle.mime.proofs.DifferenceLemmas.{together, no_flag_at}
+use Rattle.mime.proofs.name.eq_byte_by_byte.Goals as goal
 
 pub loop-at-preserved : goal.loop-at-preserved
 loop-at-preserved c =
@@ -18,8 +18,8 @@ loop-at-preserved c =
     record {
       within = omega (arith, c.loop-at-test.true);
       so_far =
-          together c.loop-at.marks c.difference-marks.result _ (x ≡ y) _ c.loop-at.invariant.so_far
-          (no_mark_at (get_or a n 0) (get_or b n 0) _ c.difference-marks.ensures)
-          (λ front last. let same : lowered (take n a) ++ (x ∷ []) ≡ lowered (take n b) ++ (y ∷ []) = cc in more_a ∙ same ∙ sym more_b)
+          together c.loop-at.differs c.difference-differs.result _ (x ≡ y) _ c.loop-at.invariant.so_far
+          (no_flag_at (get_or a n 0) (get_or b n 0) _ c.difference-differs.ensures)
+          (λ prefix last. let same : lowered (take n a) ++ (x ∷ []) ≡ lowered (take n b) ++ (y ∷ []) = cc in more_a ∙ same ∙ sym more_b)
           (λ whole. same_from_push (lowered (take n a)) (lowered (take n b)) x y (sym more_a ∙ whole ∙ more_b));
     }

@@ -4,20 +4,20 @@ use Rattle.std.proofs.lemmas.Bool.Decides.{nat_tests}
 use Rattle.std.proofs.lemmas.List.Sums.{prefix_len-drop_yes}
 use Rattle.std.proofs.lemmas.Str.{IsCharBoundary-start, IsCharBoundary-after_ascii}
 use Rattle.mime.specs.Grammar.{is_space}
-use Rattle.mime.proofs.value.pairs.gap_of.Goals as goal
+use Rattle.mime.proofs.value.pairs.leading_spaces.Goals as goal
 
-pub loop-gap-init : goal.loop-gap-init
-loop-gap-init c = record { passed = omega arith; border = IsCharBoundary-start c.args.list.now c.utf8.list }
+pub loop-count-init : goal.loop-count-init
+loop-count-init c = record { passed = omega arith; border = IsCharBoundary-start c.args.list.now c.utf8.list }
 
-pub loop-gap-preserved : goal.loop-gap-preserved
-loop-gap-preserved c =
+pub loop-count-preserved : goal.loop-count-preserved
+loop-count-preserved c =
     let list = c.args.list.now in
-    let gap = c.loop-gap.gap in
-    let within : gap < length list = omega arith in
-    let space : is_space (get_or list gap 0) ≡ true = cc in
+    let count = c.loop-count.count in
+    let within : count < length list = omega arith in
+    let space : is_space (get_or list count 0) ≡ true = cc in
     record {
-      passed = omega (arith, prefix_len-drop_yes is_space list gap 0 within space);
-      border = IsCharBoundary-after_ascii list gap c.utf8.list within (grind (arith, nat_tests, space));
+      passed = omega (arith, prefix_len-drop_yes is_space list count 0 within space);
+      border = IsCharBoundary-after_ascii list count c.utf8.list within (grind (arith, nat_tests, space));
     }
 
 pub returns-then-bytes-gt32-clause-border : goal.returns-then-bytes-gt32-clause-border
