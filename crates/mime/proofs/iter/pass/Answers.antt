@@ -25,4 +25,4 @@ returns-in-Stopped-clause-passes c =
     passes-stopped _ _ _ _ _ _ _ _ _
     (judged-from_scan _ _ _ _ _ _ c.in-Stopped.ensures c.new-reader.ensures.left c.new-reader.ensures.count c.count-steps.ensures.count)
     (omega (arith, c.position.ensures, c.count-steps.ensures.count))
-    c.split_at.ensures.prefix c.split_at.ensures.back c.range_from.ensures.value next.bound next.boundary next.nearest
+    c.split_at.ensures.front c.split_at.ensures.back c.range_from.ensures.value next.bound next.boundary next.nearest
