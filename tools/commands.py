@@ -1,6 +1,7 @@
 """What the tools share: commands with time limits, none of which outlives its tool; copies of crates; programs; and what counts."""
 
 import contextlib
+import functools
 import os
 import re
 import shlex
@@ -8,6 +9,7 @@ import shutil
 import signal
 import subprocess
 import tempfile
+import time
 from subprocess import PIPE, STDOUT
 
 TOP = os.path.dirname(os.path.dirname(os.path.realpath(__file__)))
@@ -52,6 +54,20 @@ def done(*words, folder=TOP, given=None):
     if status:
         raise OSError(f"{' '.join(words[:6])} ended with status {status}:\n{text[-3000:]}")
     return text
+
+
+def is_right(tool, command, is_wanted, folder=TOP, **how):
+    """Whether a command of the shell succeeds and says what is wanted."""
+    began = time.monotonic()
+    try:
+        text, status = said(["bash", "-euo", "pipefail", "-c", command], folder, **how)
+    except TimeoutError as error:
+        text, status = str(error), 1
+    well = not status and bool(is_wanted(text))
+    print(f"{tool}: {command.splitlines()[-1][:60]}: {time.monotonic() - began:.0f} s", flush=True)
+    if not well:
+        print(f"{tool}: not as it is wanted: {command}\n{text[-3000:]}", flush=True)
+    return well
 
 
 def ended(tool, tries, least=1):
@@ -121,6 +137,7 @@ def refuse(library, words, given, number, **how):
         return it, [(int(line.split()[0]), int(line.split()[1]), b"refused" in line) for line in counts.read().splitlines()]
 
 
+@functools.cache
 def text_of(path):
     """The text of a file of the repository."""
     with open(f"{TOP}/{path}", encoding="utf-8", newline="") as file:
