@@ -1,6 +1,7 @@
 -- How many bytes the strings are.
 use Rattle.std.proofs.Common.{◌≡◌, ℕ, zero, suc, ◌+◌, ◌*◌, ◌<◌, ◌≤◌, List, [], ◌∷◌, ◌++◌, length, take, Option, Some, None, sym, ap, ◌∙◌, subst, arith, length-append, length-take}
 use Rattle.std.proofs.lemmas.List.{map-append}
+use Rattle.std.proofs.lemmas.List.Concat.{flat_map-append}
 use Rattle.mime.specs.Bytes.{semicolon_byte, equals_byte, quote_byte}
 use Rattle.mime.specs.Grammar.{Parameter, plain, quoted, Parameters, blank, final, more, Tail, no_list, listed, SyntaxTree, text_of, text_of_parameter, text_of_list, text_of_tail, IsToken}
 use Rattle.mime.specs.Values.{MediaType, Reads, pair_of, pairs_of_list, pairs_of_tail, essence_of, kept_text}
@@ -11,9 +12,9 @@ use Rattle.mime.proofs.ValueLemmas.Lowercase.{length-lowered}
 use Rattle.mime.proofs.ValueLemmas.Utf8.{length-in_part}
 use Rattle.mime.proofs.ValueLemmas.KeptText.{text_of-essence, length-essence_of, value_of_low, value_of-lowering, keeps-tree, kept-in_part}
 use Rattle.mime.proofs.CutLemmas.{split-size}
-use Rattle.mime_c.specs.Strings.{strings, pair_texts, texts_of, item_text, item_texts}
+use Rattle.mime_c.specs.Strings.{string_of, strings, pair_texts, texts_of, item_text, item_texts}
 use Rattle.mime_c.specs.declared.TheConstants.{MIME_GOOD, MIME_BAD}
-use Rattle.mime_c.proofs.Writing.{strings-append, length-strings}
+use Rattle.mime_c.proofs.Writing.{length-strings}
 
 -- ---- the strings of a tree that is its own lowering
 
@@ -78,7 +79,7 @@ lengths-low text tree size some =
       kept = omega (arith, room-kept tree pairs, size);
       strings = omega (
         arith,
-        ap length (strings-append parts (kept ∷ [])),
+        ap length (flat_map-append string_of parts (kept ∷ [])),
         length-append (strings parts) (strings (kept ∷ [])),
         length-strings (essence_of tree) (pair_texts pairs),
         length-strings kept [],
@@ -131,6 +132,10 @@ room-items piece items (is_read media reads) =
 room-items piece items (is_refused refused some) = omega (arith, length-strings (MIME_BAD ∷ piece) [])
 room-items piece items (is_empty none) = omega arith
 
+pub strings_of_items : (items others : List CutItem)
+    → strings (item_texts (items ++ others)) ≡ strings (item_texts items) ++ strings (item_texts others)
+strings_of_items items others = ap strings (map-append item_text items others) ∙ flat_map-append string_of (item_texts items) (item_texts others)
+
 -- the strings of a text's items are at most twice as many bytes as the text
 pub items_fit : (text : List ℕ) (items : List CutItem) (rest : List ℕ) → Cut text items rest → length (strings (item_texts items)) ≤ 2 * length text
 items_fit text items rest (whole t media reads) =
@@ -145,7 +150,6 @@ items_fit text items rest (goes_on t piece character left first others end split
       size.1,
       room-items piece first of_piece,
       items_fit left others end cut,
-      ap (λ it. length (strings it)) (map-append item_text first others),
-      ap length (strings-append (item_texts first) (item_texts others)),
+      ap length (strings_of_items first others),
       length-append (strings (item_texts first)) (strings (item_texts others)),
     )

@@ -6,10 +6,10 @@
 
 ghost use Rattle.std.specs.Prelude.{◌≡◌, ◌+◌, ◌<◌, ◌≤◌, ◌∷◌, length, IfOk, IfErr};
 ghost use Rattle.std.specs.Str.{IsUtf8};
-ghost use Rattle.std.proofs.Math.Seq.{paste};
 ghost use Rattle.mime.specs.Values.{Reads};
 ghost use Rattle.mime.specs.CutLaws.{IsRead};
 ghost use Rattle.mime_c.specs.Strings.{string_of, strings, texts_of, written};
+ghost use Rattle.mime_c.specs.Writing.{Writes};
 ghost use Rattle.mime_c.specs.Answers.{number_of, found_of_fault, found_of, Fails, ReadsTo, ListsTo, Compares};
 
 pub mod laws;
@@ -133,16 +133,24 @@ fn read(alloc: Global, text: &[u8]) -> Result<Mime, Failure>
     }
 }
 
+/// Copies bytes to a position, and gives the position after them.
+fn copy(out: &mut [u8], at: usize, bytes: &[u8]) -> usize
+    requires { at + length bytes.now ≤ length out.old }
+    ensures end { result ≡ at + length bytes.now }
+    ensures writes { Writes out.old at bytes.now out.new result }
+{
+    let end = at + bytes.len();
+    out[at..end].copy_from_slice(bytes);
+    end
+}
+
 /// Writes a text and a 0 at a position, and gives the position after them.
 fn put(out: &mut [u8], at: usize, text: &str) -> usize
     requires { at + length text.now < length out.old }
-    ensures end { result ≡ at + (length text.now + 1) }
-    ensures bytes { out.new ≡ paste out.old at (string_of text.now) (length text.now + 1) }
+    ensures { Writes out.old at (string_of text.now) out.new result }
 {
-    let end = at + text.len();
-    out[at..end].copy_from_slice(text.as_bytes());
-    out[end] = 0;
-    end + 1
+    let end = copy(out, at, text.as_bytes());
+    copy(out, end, b"\0")
 }
 
 /// Writes the strings of a media type, and says what is found.
@@ -200,11 +208,10 @@ pub extern "C" fn mime_read(
 /// Writes an item of a list at a position, and gives the position after it.
 fn put_item(out: &mut [u8], at: usize, mark: u8, text: &str) -> usize
     requires { at + length (mark ∷ text.now) < length out.old }
-    ensures end { result ≡ at + (length (mark ∷ text.now) + 1) }
-    ensures bytes { out.new ≡ paste out.old at (string_of (mark ∷ text.now)) (length (mark ∷ text.now) + 1) }
+    ensures { Writes out.old at (string_of (mark ∷ text.now)) out.new result }
 {
-    out[at] = mark;
-    put(out, at + 1, text)
+    let next = copy(out, at, &[mark]);
+    put(out, next, text)
 }
 
 /// Takes the media types one by one out of `text`, and writes a string for each, and for each bad piece, to `out`, whose

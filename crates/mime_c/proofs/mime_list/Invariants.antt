@@ -1,4 +1,4 @@
--- The items of what is left are left to write.
+-- Of the items of the text those are written that aren't items of what is left.
 use Rattle.mime_c.proofs.Listing.{Lists}
 use Rattle.mime_c.proofs.mime_list.Given as goal
 
