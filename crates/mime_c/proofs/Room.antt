@@ -21,34 +21,14 @@ use Rattle.mime_c.proofs.Writing.{length-strings}
 -- those of a parameter are at most one byte more than its text,
 room-parameter : (parameter : Parameter) (pairs : List (List ℕ × List ℕ))
     → length (strings (pair_texts (pair_of parameter ∷ pairs))) ≤ length (text_of_parameter parameter) + 1 + length (strings (pair_texts pairs))
-room-parameter (plain name value) pairs =
-    omega (
-      arith,
-      length-strings name (value ∷ pair_texts pairs),
-      length-strings value (pair_texts pairs),
-      length-append name (equals_byte ∷ value),
-    )
-room-parameter (quoted name content n) pairs =
-    omega (
-      arith,
-      length-strings name (content ∷ pair_texts pairs),
-      length-strings content (pair_texts pairs),
-      length-append name (equals_byte ∷ quote_byte ∷ (content ++ (quote_byte ∷ n))),
-      length-append content (quote_byte ∷ n),
-    )
+room-parameter (plain name value) pairs = omega (arith, length-strings, length-append {A = ℕ})
+room-parameter (quoted name content n) pairs = omega (arith, length-strings, length-append {A = ℕ})
 
 -- those of a list too,
 room-list : (list : Parameters) → length (strings (pair_texts (pairs_of_list list))) ≤ length (text_of_list list) + 1
 room-list (blank n) = omega arith
-room-list (final n parameter) = omega (arith, room-parameter parameter [], length-append n (text_of_parameter parameter))
-room-list (more n parameter rest) =
-    omega (
-      arith,
-      room-parameter parameter (pairs_of_list rest),
-      room-list rest,
-      length-append n (text_of_parameter parameter ++ (semicolon_byte ∷ text_of_list rest)),
-      length-append (text_of_parameter parameter) (semicolon_byte ∷ text_of_list rest),
-    )
+room-list (final n parameter) = omega (arith, room-parameter parameter [], length-append {A = ℕ})
+room-list (more n parameter rest) = omega (arith, room-parameter parameter (pairs_of_list rest), room-list rest, length-append {A = ℕ})
 
 room-tail : (tail : Tail) → length (strings (pair_texts (pairs_of_tail tail))) ≤ length (text_of_tail tail)
 room-tail no_list = omega arith
@@ -74,20 +54,11 @@ lengths-low : (text : List ℕ) (tree : SyntaxTree) → length (text_of tree) �
 lengths-low text tree size some =
     let pairs = pairs_of_tail tree.tail in
     let parts = essence_of tree ∷ pair_texts pairs in
-    let kept = kept_text pairs tree in
+    let kept = room-kept tree pairs in
+    let all = ap length (flat_map-append string_of parts (kept_text pairs tree ∷ [])) in
     record {
-      kept = omega (arith, room-kept tree pairs, size);
-      strings = omega (
-        arith,
-        ap length (flat_map-append string_of parts (kept ∷ [])),
-        length-append (strings parts) (strings (kept ∷ [])),
-        length-strings (essence_of tree) (pair_texts pairs),
-        length-strings kept [],
-        room-kept tree pairs,
-        room-tail tree.tail,
-        length-tree tree,
-        size,
-      );
+      kept = omega arith;
+      strings = omega (arith, length-append {A = ℕ}, length-strings, room-tail tree.tail, length-tree tree);
       some = some;
     }
 
@@ -105,20 +76,13 @@ some-token (b ∷ token) is = omega arith
 lengths_of : (text : List ℕ) (media : MediaType) → Reads text media → Lengths text media
 lengths_of text media reads =
     let tree = reads.tree in
-    let kept = (keeps-tree tree reads.well_formed).is_kept in
+    let keeps = keeps-tree tree reads.well_formed in
     let spelled = ap length reads.spelled in
     let some : 2 < length text =
-    omega (
-      arith,
-      spelled,
-      length-tree tree,
-      length-essence_of tree,
-      some-token tree.top reads.well_formed.0,
-      some-token tree.sub reads.well_formed.1,
-    ) in
-    subst (Lengths text)
-    (sym (sym reads.valued ∙ (keeps-tree tree reads.well_formed).valued ∙ value_of-lowering kept.tree ∙ ap value_of_low kept.low))
-    (lengths-low text kept.tree (omega (arith, ap length kept.spelled, length-kept (places_of tree).pairs (places_of tree).semicolon (text_of tree), spelled)) some)
+    omega (arith, length-tree tree, length-essence_of tree, some-token tree.top reads.well_formed.0, some-token tree.sub reads.well_formed.1) in
+    let size = ap length keeps.is_kept.spelled in
+    subst (Lengths text) (sym (sym reads.valued ∙ keeps.valued ∙ value_of-lowering keeps.is_kept.tree ∙ ap value_of_low keeps.is_kept.low))
+    (lengths-low text keeps.is_kept.tree (omega (arith, length-kept (places_of tree).pairs (places_of tree).semicolon (text_of tree))) some)
 
 -- the strings of a media type are at most twice as many bytes as the text that is read as it, and two
 pub texts_fit : (text : List ℕ) (media : MediaType) → Reads text media → length (strings (texts_of media)) ≤ 2 * length text + 2
@@ -127,8 +91,7 @@ texts_fit text media reads = (lengths_of text media reads).strings
 -- ---- the items of a list
 
 room-items : (piece : List ℕ) (items : List CutItem) → ItemsOf piece items → length (strings (item_texts items)) ≤ length piece + 2
-room-items piece items (is_read media reads) =
-    omega (arith, length-strings (MIME_GOOD ∷ media.kept) [], (lengths_of piece media reads).kept)
+room-items piece items (is_read media reads) = omega (arith, length-strings (MIME_GOOD ∷ media.kept) [], (lengths_of piece media reads).kept)
 room-items piece items (is_refused refused some) = omega (arith, length-strings (MIME_BAD ∷ piece) [])
 room-items piece items (is_empty none) = omega arith
 
@@ -140,16 +103,9 @@ strings_of_items items others = ap strings (map-append item_text items others) �
 pub items_fit : (text : List ℕ) (items : List CutItem) (rest : List ℕ) → Cut text items rest → length (strings (item_texts items)) ≤ 2 * length text
 items_fit text items rest (whole t media reads) =
     let lengths = lengths_of t media reads in
-    omega (arith, length-strings (MIME_GOOD ∷ media.kept) [], lengths.kept, lengths.some)
+    omega (arith, length-strings (MIME_GOOD ∷ media.kept) [])
 items_fit text items rest (unfinished t viable refused) = omega arith
 items_fit text items rest (goes_on t piece character left first others end split of_piece cut) =
     let size = split-size t piece character left split in
-    omega (
-      arith,
-      size.0,
-      size.1,
-      room-items piece first of_piece,
-      items_fit left others end cut,
-      ap length (strings_of_items first others),
-      length-append (strings (item_texts first)) (strings (item_texts others)),
-    )
+    let all = ap length (strings_of_items first others) in
+    omega (arith, room-items piece first of_piece, items_fit left others end cut, length-append {A = ℕ})

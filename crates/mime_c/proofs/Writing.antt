@@ -5,23 +5,12 @@ use Rattle.mime_c.specs.Writing.{HasWritten, Writes}
 
 -- a string has one byte more than its text
 pub length-strings : (text : List ℕ) (texts : List (List ℕ)) → length (strings (text ∷ texts)) ≡ length text + 1 + length (strings texts)
-length-strings text texts = omega (arith, length-append (string_of text) (strings texts), length-append text (0 ∷ []))
+length-strings text texts = omega (arith, length-append {A = ℕ})
 
--- what is written is there,
-module _ {old now front : List ℕ} {at : ℕ} (wrote : HasWritten old now at front) where
-  -- and a text that there is room for behind it fits
-  pub fits : (text more : List ℕ) → length (front ++ (string_of text ++ more)) ≤ length old → at + length text < length now
-  fits text more room =
-      omega (
-        arith,
-        wrote.end,
-        ap length wrote.there,
-        length-append front (drop (length front) old),
-        length-drop (length front) old,
-        length-append front (string_of text ++ more),
-        length-append (string_of text) more,
-        length-append text (0 ∷ []),
-      )
+-- a text that there is room for behind what is written fits
+pub fits : {old now front : List ℕ} {at : ℕ} → HasWritten old now at front → (text more : List ℕ)
+    → length (front ++ (string_of text ++ more)) ≤ length old → at + length text < length now
+fits {old} {now} {front} wrote text more room = omega (arith, wrote.end, ap length wrote.there, length-append {A = ℕ}, length-drop {A = ℕ})
 
 -- of all bytes that are to be written some are there, and the others are left
 pub record Leaves (old now : List ℕ) (at : ℕ) (left all : List ℕ) : Type 0 where

@@ -1,5 +1,5 @@
 -- String after string is written, and what is found is in the essence.
-use Rattle.std.proofs.Common.{◌≡◌, ◌∷◌, [], length, refl, ap, ◌∙◌, arith, length-append}
+use Rattle.std.proofs.Common.{◌≡◌, ℕ, ◌∷◌, [], length, refl, ap, ◌∙◌, arith, length-append}
 use Rattle.std.proofs.lemmas.List.{length-map}
 use Rattle.std.proofs.lemmas.List.Concat.{flat_map-append}
 use Rattle.mime.specs.Items.{item_of}
@@ -47,8 +47,8 @@ returns c =
       leaves-size c.loop-name.invariant,
       ap length left,
       ap length (flat_map-append string_of (parts_of media) (media.kept ∷ [])),
-      length-append (strings (parts_of media)) (strings (media.kept ∷ [])),
-      ap (λ text. length (strings (text ∷ []))) c.as_str-2.ensures.text,
+      ap length c.as_str-2.ensures.text,
+      length-append {A = ℕ},
     ) in
     let slash = ap length c.as_str-slash.ensures ∙ ap length c.type_.ensures.text in
     let sub = ap length c.as_str-3.ensures ∙ ap length c.subtype.ensures.text in
