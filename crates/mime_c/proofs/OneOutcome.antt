@@ -108,8 +108,8 @@ module _ {text old : List ℕ} where
   one_listing h k (has_no_memory some room utf8 needs) lists = absurd (h refl)
   one_listing h k lists (has_no_memory some room utf8 needs) = absurd (k refl)
   one_listing h k (is_listed items rest r u cut b) (is_listed others end q v too c) =
-      let written_of = λ (it : List CutItem). (written (strings (item_texts it)) old, length (strings (item_texts it))) in
-      (refl, ap written_of (cut_unique text items rest cut others end too).0)
+      let same = (cut_unique text items rest cut others end too).0 in
+      (refl, ap (λ (it : List CutItem). (written (strings (item_texts it)) old, length (strings (item_texts it)))) same)
   one_listing h k (is_listed items rest r utf8 cut b) (answers.ListsTo.is_not_text q isnt) = absurd (isnt utf8)
   one_listing h k (answers.ListsTo.is_not_text r isnt) (is_listed items rest q utf8 cut b) = absurd (isnt utf8)
   one_listing h k (answers.ListsTo.is_not_text r isnt) (answers.ListsTo.is_not_text q too) = (refl, refl)

@@ -181,6 +181,7 @@ fn put_parts(out: &mut [u8], mime: &Mime) -> MimeFound
 /// Reads a media type from the whole of `text`, and writes its parts and the text that it is printed as to `out`, whose
 /// first `2 * text.len() + 2` bytes are enough.
 #[unsafe(no_mangle)]
+#[tactic(auto, using(crate::specs::Answers::has_no_room, crate::specs::Answers::fails))]
 pub extern "C" fn mime_read(
     alloc: Global,
     text: &[u8],
@@ -217,6 +218,7 @@ fn put_item(out: &mut [u8], at: usize, mark: u8, text: &str) -> usize
 /// Takes the media types one by one out of `text`, and writes a string for each, and for each bad piece, to `out`, whose
 /// first `2 * text.len()` bytes are enough.
 #[unsafe(no_mangle)]
+#[tactic(auto, using(crate::specs::Answers::has_no_room, crate::specs::Answers::is_not_text))]
 pub extern "C" fn mime_list(alloc: Global, text: &[u8], out: &mut [u8], length: &mut usize) -> u32
     ensures { ListsTo text.now out.old result out.new length.new }
 {
@@ -241,6 +243,7 @@ pub extern "C" fn mime_list(alloc: Global, text: &[u8], out: &mut [u8], length: 
 
 /// Sets `equal` to 1 if two texts are read as equal media types, else to 0.
 #[unsafe(no_mangle)]
+#[tactic(auto, using(crate::specs::Answers::first_fails, crate::specs::Answers::second_fails))]
 pub extern "C" fn mime_is(alloc: Global, one: &[u8], other: &[u8], equal: &mut u8) -> u32
     ensures { Compares one.now other.now result equal.new }
 {

@@ -6,14 +6,6 @@ use Rattle.mime_c.specs.declared.TheConstants.{MIME_OK}
 use Rattle.mime_c.specs.Answers.{Compares, are_read, first_fails, second_fails}
 use Rattle.mime_c.proofs.mime_is.Goals as goal
 
-pub returns-in-Err : goal.returns-in-Err
-returns-in-Err c = first_fails c.in-Err.failure.answer c.in-Err.failure.found c.in-Err.ensures.fails
-
-pub returns-in-Err-read : goal.returns-in-Err-read
-returns-in-Err-read c =
-    let one = c.in-Ok.ensures.read in
-    second_fails c.in-Ok.mime.media c.in-Err-read.failure.answer c.in-Err-read.failure.found one.0 one.1 c.in-Err-read.ensures.fails
-
 byte_of : (equal : Bool) → (if equal then 1 else 0) ≡ bool_byte equal
 byte_of true = refl
 byte_of false = refl

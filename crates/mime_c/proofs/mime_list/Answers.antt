@@ -13,12 +13,6 @@ use Rattle.mime_c.proofs.mime_list.Goals as goal
 gives : {old new : Iteration} {item seen : Result OwnedMedia Bad} → item ≡ seen → IsNext old (Some item) new → GivesItem old (Some seen) new
 gives {old} {new} is next = subst (λ item. GivesItem old (Some item) new) is next.item
 
-pub returns-then-out-text : goal.returns-then-out-text
-returns-then-out-text c = has_no_room (omega (arith, c.if-out-text.true))
-
-pub returns-in_default : goal.returns-in_default
-returns-in_default c = is_not_text (omega (arith, c.if-out-text.false)) c.in_default.ensures.cases.0
-
 pub loop-item-init : goal.loop-item-init
 loop-item-init c =
     let left = ap (λ i. i.left) c.into_iter-item-iterator.ensures.into_iter_gives ∙ c.new-item-items.ensures.left ∙ c.in-Ok.ensures.cases.0 in

@@ -5,9 +5,6 @@ use Rattle.mime_c.proofs.NoZero.{texts_come_back}
 use Rattle.mime_c.proofs.Room.{texts_fit}
 use Rattle.mime_c.proofs.mime_read.Goals as goal
 
-pub returns-then-out-text : goal.returns-then-out-text
-returns-then-out-text c = has_no_room (omega (arith, c.if-out-text.true))
-
 pub put_parts-requires-clause-room : goal.put_parts-requires-clause-room
 put_parts-requires-clause-room c = omega (arith, texts_fit _ _ c.in-Ok.ensures.read.1, c.if-out-text.false)
 
@@ -16,6 +13,3 @@ returns-in-Ok c =
     let read = c.in-Ok.ensures.read in
     rw (c.put_parts.ensures.bytes, c.put_parts.ensures.found)
     (is_read c.in-Ok.mime.media (omega (arith, c.if-out-text.false)) read.0 read.1 (texts_come_back _ _ read.1))
-
-pub returns-in-Err : goal.returns-in-Err
-returns-in-Err c = fails c.in-Err.failure.answer c.in-Err.failure.found (omega (arith, c.if-out-text.false)) c.in-Err.ensures.fails
