@@ -1,5 +1,5 @@
 -- Each call has one outcome, unless memory runs out.
-use Rattle.std.proofs.Common.{◌≡◌, ◌≢◌, ℕ, ◌+◌, ◌*◌, ◌<◌, ◌≤◌, ◌⊎◌, inl, inr, List, length, refl, sym, ap, ◌∙◌, subst, arith, ⊎_elim}
+use Rattle.std.proofs.Common.{◌≡◌, ◌≢◌, ℕ, ◌+◌, ◌*◌, ◌⊎◌, inl, inr, List, length, refl, sym, ap, ◌∙◌, subst, arith, ⊎_elim}
 use Rattle.std.specs.Prelude.{IsTrue, ◌↔◌, if◌then◌else◌}
 use Rattle.std.specs.Str.{IsUtf8, is_utf8}
 use Rattle.std.specs.Ordering.{eq_by_cmp}
@@ -21,7 +21,7 @@ use Rattle.mime_c.specs.Answers.{number_of, nothing, found_of, found_of_fault, F
 use Rattle.mime_c.specs.Answers as answers
 use Rattle.mime_c.specs.Laws.{HasOne, ReadsToOne, ListsToOne, ComparesAsOne}
 use Rattle.mime_c.specs.declared.MimeFound.{MimeFound}
-use Rattle.mime_c.specs.declared.TheConstants.{MIME_OK, MIME_NO_MEMORY, MIME_NOT_UTF8, MIME_NO_ROOM}
+use Rattle.mime_c.specs.declared.TheConstants.{MIME_NO_MEMORY}
 use Rattle.mime_c.proofs.NoZero.{texts_come_back, items_come_back}
 
 -- ---- one text

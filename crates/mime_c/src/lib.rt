@@ -111,6 +111,7 @@ fn found_of_fault(fault: &ParseError) -> MimeFound
 }
 
 /// The media type that a text is read as.
+#[tactic(auto, using(crate::specs::Answers::is_not_text))]
 fn read(alloc: Global, text: &[u8]) -> Result<Mime, Failure>
     ensures read { IfOk result (λ mime. IsUtf8 text.now × Reads text.now mime.media) }
     ensures fails { IfErr result (λ failure. Fails text.now failure.answer failure.found) }
@@ -181,7 +182,7 @@ fn put_parts(out: &mut [u8], mime: &Mime) -> MimeFound
 /// Reads a media type from the whole of `text`, and writes its parts and the text that it is printed as to `out`, whose
 /// first `2 * text.len() + 2` bytes are enough.
 #[unsafe(no_mangle)]
-#[tactic(auto, using(crate::specs::Answers::has_no_room, crate::specs::Answers::fails))]
+#[tactic(auto, using(crate::specs::Answers::has_no_room, crate::specs::Answers::fails, crate::specs::Answers::is_read, crate::proofs::NoZero::texts_come_back, crate::proofs::Room::texts_fit))]
 pub extern "C" fn mime_read(
     alloc: Global,
     text: &[u8],

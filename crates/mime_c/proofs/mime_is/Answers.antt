@@ -3,7 +3,7 @@ use Rattle.std.proofs.Common.{◌≡◌, Bool, true, false, refl, sym, ◌∙◌
 use Rattle.std.specs.Prelude.{if◌then◌else◌}
 use mir.Val.{bool_byte}
 use Rattle.mime_c.specs.declared.TheConstants.{MIME_OK}
-use Rattle.mime_c.specs.Answers.{Compares, are_read, first_fails, second_fails}
+use Rattle.mime_c.specs.Answers.{Compares, are_read}
 use Rattle.mime_c.proofs.mime_is.Goals as goal
 
 byte_of : (equal : Bool) → (if equal then 1 else 0) ≡ bool_byte equal

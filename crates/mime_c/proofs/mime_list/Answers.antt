@@ -1,22 +1,16 @@
 -- Each item is written after those before it, and each answer is what it says.
-use Rattle.std.proofs.Common.{◌≡◌, ◌∷◌, ℕ, List, refl, ap, sym, ◌∙◌, subst, rules, arith, Result, Option, Some, Ok, Err}
+use Rattle.std.proofs.Common.{◌≡◌, ◌∷◌, refl, ap, sym, ◌∙◌, subst, rules, arith, Result, Some, Err}
 use Rattle.mime.specs.Values.{OwnedMedia}
 use Rattle.mime.specs.Runs.{Iteration, IsNext, GivesItem}
 use Rattle.mime.specs.declared.iter.Bad.{Bad}
 use Rattle.mime.specs.declared.iter.Bad.TheVariants.{Piece, NoMemory}
-use Rattle.mime_c.specs.Answers.{is_not_text, has_no_room}
 use Rattle.mime_c.specs.declared.TheConstants.{MIME_GOOD, MIME_BAD}
-use Rattle.mime_c.proofs.Listing.{Lists, lists-first, lists-fits, lists-next, lists-last, lists-no_memory}
+use Rattle.mime_c.proofs.Listing.{lists-fits, lists-next, lists-last, lists-no_memory}
 use Rattle.mime_c.proofs.mime_list.Goals as goal
 
 -- what is given, as it is matched
 gives : {old new : Iteration} {item seen : Result OwnedMedia Bad} → item ≡ seen → IsNext old (Some item) new → GivesItem old (Some seen) new
 gives {old} {new} is next = subst (λ item. GivesItem old (Some item) new) is next.item
-
-pub loop-item-init : goal.loop-item-init
-loop-item-init c =
-    let left = ap (λ i. i.left) c.into_iter-item-iterator.ensures.into_iter_gives ∙ c.new-item-items.ensures.left ∙ c.in-Ok.ensures.cases.0 in
-    subst (Lists c.args.text.now c.args.out.now c.args.out.now 0) (sym left) (lists-first c.args.text.now c.args.out.now)
 
 pub put_item-at-requires : goal.put_item-at-requires
 put_item-at-requires c =

@@ -3,9 +3,8 @@ use Rattle.std.proofs.Common.{◌≡◌, ℕ, ◌∷◌, [], length, refl, ap, �
 use Rattle.std.proofs.lemmas.List.{length-map}
 use Rattle.std.proofs.lemmas.List.Concat.{flat_map-append}
 use Rattle.mime.specs.Items.{item_of}
-use Rattle.mime_c.specs.Strings.{string_of, strings, parts_of, texts_of}
-use Rattle.mime_c.proofs.Writing.{leaves-first, leaves-fits, leaves-next, leaves-size, leaves-last}
-use Rattle.mime_c.proofs.Parts.{given-first, given-next, given-last}
+use Rattle.mime_c.specs.Strings.{string_of, strings, parts_of}
+use Rattle.mime_c.proofs.Writing.{leaves-first, leaves-fits, leaves-next, leaves-size, leaves-last, given-first, given-next, given-last}
 use Rattle.mime_c.proofs.put_parts.Goals as goal
 
 pub loop-name-init : goal.loop-name-init

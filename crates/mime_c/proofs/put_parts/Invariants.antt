@@ -1,7 +1,6 @@
 -- The names and values that are left are left to write, and the kept text after them.
 use Rattle.mime_c.specs.Strings.{strings, texts_of}
-use Rattle.mime_c.proofs.Writing.{Leaves}
-use Rattle.mime_c.proofs.Parts.{given_texts}
+use Rattle.mime_c.proofs.Writing.{Leaves, given_texts}
 use Rattle.mime_c.proofs.put_parts.Given as goal
 
 abbrev pub invariant-loop-name : goal.invariant-loop-name
