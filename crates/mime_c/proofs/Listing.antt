@@ -19,10 +19,6 @@ pub record Lists (text old now : List ℕ) (at : ℕ) (left : List ℕ) : Type 0
   pub cuts : (items : List CutItem) (rest : List ℕ) → Cut left items rest → Cut text (before ++ items) rest
   pub wrote : HasWritten old now at (strings (item_texts before))
 
--- none is written,
-pub lists-first : (text old : List ℕ) → Lists text old old 0 text
-lists-first text old = record { before = []; cuts = λ items rest cut. cut; wrote = record { there = refl; end = refl } }
-
 module _ {text old now left next : List ℕ} {at : ℕ} {item : CutItem} (lists : Lists text old now at left) (is_first : IsFirstItem left item next) where
   -- the text of the next item fits,
   pub lists-fits : (body : List ℕ) → item_text item ≡ body → 2 * length text ≤ length old → at + length body < length now
@@ -42,7 +38,7 @@ module _ {text old now left next : List ℕ} {at : ℕ} {item : CutItem} (lists 
         before = lists.before ++ here;
         cuts = λ items rest cut. subst (λ all. Cut text all rest) (sym (append_assoc lists.before here items))
             (lists.cuts (item ∷ items) rest (is_first items rest cut));
-        wrote = subst (HasWritten old new end) (sym (strings_of_items lists.before here ∙ there)) (writes old _ lists.wrote);
+        wrote = subst (HasWritten old new end) (sym (strings_of_items lists.before here ∙ there)) (writes.adds old _ lists.wrote);
       }
 
 module _ {text old now left : List ℕ} {at : ℕ} (lists : Lists text old now at left) (room : 2 * length text ≤ length old) (utf8 : IsUtf8 text) where

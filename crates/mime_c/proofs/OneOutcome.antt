@@ -58,14 +58,9 @@ module _ {text : List ℕ} where
   one_failure h k (is_not_text isnt) (is_refused one utf8 why) = absurd (isnt utf8)
   one_failure h k (is_not_text isnt) (is_not_text too) = (refl, refl)
 
--- a media type that a text is read as, or how it fails
-abbrev Given : List ℕ → Type 0
-Given text = (media : MediaType) × IsUtf8 text × Reads text media
-
-abbrev Failed : List ℕ → Type 0
-Failed text = (answer : ℕ) × (found : MimeFound) × (answer ≢ MIME_NO_MEMORY) × Fails text answer found
-
-given_or_failed : (text : List ℕ) → Given text ⊎ Failed text
+-- a text is read as a media type, or fails
+given_or_failed : (text : List ℕ) → ((media : MediaType) × IsUtf8 text × Reads text media)
+    ⊎ ((answer : ℕ) × (found : MimeFound) × (answer ≢ MIME_NO_MEMORY) × Fails text answer found)
 given_or_failed text = ⊎_elim
     (λ utf8. ⊎_elim (λ accepted. inl (accepted.0, utf8, accepted.1))
     (λ refused. let only = one_fault text refused in

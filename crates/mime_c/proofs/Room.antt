@@ -44,10 +44,8 @@ room-kept tree (pair ∷ pairs) = omega arith
 -- ---- the strings of a media type
 
 -- how long a kept text, the strings of a media type and the text that is read as it are
-record Lengths (text : List ℕ) (media : MediaType) : Type 0 where
-  kept : length media.kept ≤ length text
-  strings : length (strings (texts_of media)) ≤ 2 * length text + 2
-  some : 2 < length text
+abbrev Lengths : List ℕ → MediaType → Type 0
+Lengths text media = (length media.kept ≤ length text) × (length (strings (texts_of media)) ≤ 2 * length text + 2) × (2 < length text)
 
 lengths-low : (text : List ℕ) (tree : SyntaxTree) → length (text_of tree) ≤ length text → 2 < length text → Lengths text (value_of_low tree)
 lengths-low text tree size some =
@@ -55,11 +53,7 @@ lengths-low text tree size some =
     let parts = essence_of tree ∷ pair_texts pairs in
     let kept = room-kept tree pairs in
     let all = ap length (flat_map-append string_of parts (kept_text pairs tree ∷ [])) in
-    record {
-      kept = omega arith;
-      strings = omega (arith, length-append {A = ℕ}, length-strings, room-tail tree.tail, length-tree tree);
-      some = some;
-    }
+    (omega arith, omega (arith, length-append {A = ℕ}, length-strings, room-tail tree.tail, length-tree tree), some)
 
 -- a kept text is no longer than the text that it is of,
 length-kept : (pairs : ℕ) (semicolon : Option ℕ) (text : List ℕ) → length (kept_text_of pairs semicolon text) ≤ length text
@@ -85,12 +79,12 @@ lengths_of text media reads =
 
 -- the strings of a media type are at most twice as many bytes as the text that is read as it, and two
 pub texts_fit : (text : List ℕ) (media : MediaType) → Reads text media → length (strings (texts_of media)) ≤ 2 * length text + 2
-texts_fit text media reads = (lengths_of text media reads).strings
+texts_fit text media reads = (lengths_of text media reads).1
 
 -- ---- the items of a list
 
 room-items : (piece : List ℕ) (items : List CutItem) → ItemsOf piece items → length (strings (item_texts items)) ≤ length piece + 2
-room-items piece items (is_read media reads) = omega (arith, length-strings (MIME_GOOD ∷ media.kept) [], (lengths_of piece media reads).kept)
+room-items piece items (is_read media reads) = omega (arith, length-strings (MIME_GOOD ∷ media.kept) [], (lengths_of piece media reads).0)
 room-items piece items (is_refused refused some) = omega (arith, length-strings (MIME_BAD ∷ piece) [])
 room-items piece items (is_empty none) = omega arith
 
@@ -102,7 +96,7 @@ strings_of_items items others = ap strings (map-append item_text items others) �
 pub items_fit : (text : List ℕ) (items : List CutItem) (rest : List ℕ) → Cut text items rest → length (strings (item_texts items)) ≤ 2 * length text
 items_fit text items rest (whole t media reads) =
     let lengths = lengths_of t media reads in
-    omega (arith, length-strings (MIME_GOOD ∷ media.kept) [])
+    omega (arith, length-strings (MIME_GOOD ∷ media.kept) [], lengths.0, lengths.2)
 items_fit text items rest (unfinished t viable refused) = omega arith
 items_fit text items rest (goes_on t piece character left first others end split of_piece cut) =
     let size = split-size t piece character left split in

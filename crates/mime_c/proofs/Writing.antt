@@ -9,6 +9,13 @@ use Rattle.mime_c.specs.Writing.{HasWritten, Writes}
 pub length-strings : (text : List ℕ) (texts : List (List ℕ)) → length (strings (text ∷ texts)) ≡ length text + 1 + length (strings texts)
 length-strings text texts = omega (arith, length-append {A = ℕ})
 
+-- bytes and then others are written
+pub both_written : (now mid new one other : List ℕ) (at next end : ℕ) → Writes now at one mid next → Writes mid next other new end
+    → Writes now at (one ++ other) new end
+both_written now mid new one other at next end first second = record {
+  adds = λ old front wrote. subst (HasWritten old new end) (append_assoc front one other) (second.adds old _ (first.adds old front wrote));
+}
+
 -- a text that there is room for behind what is written fits
 pub fits : {old now front : List ℕ} {at : ℕ} → HasWritten old now at front → (text more : List ℕ)
     → length (front ++ (string_of text ++ more)) ≤ length old → at + length text < length now
@@ -33,7 +40,7 @@ module _ {old now left all : List ℕ} {at : ℕ} (leaves : Leaves old now at le
   pub leaves-next : (bytes more new : List ℕ) (end : ℕ) → left ≡ bytes ++ more → Writes now at bytes new end → Leaves old new end more all
   leaves-next bytes more new end is writes = record {
     front = leaves.front ++ bytes;
-    wrote = writes old leaves.front leaves.wrote;
+    wrote = writes.adds old leaves.front leaves.wrote;
     onward = append_assoc leaves.front bytes more ∙ ap (λ it. leaves.front ++ it) (sym is) ∙ leaves.onward;
   }
 

@@ -7,6 +7,6 @@ pub record HasWritten (old now : List ℕ) (at : ℕ) (bytes : List ℕ) : Type 
   pub there : now ≡ written bytes old
   pub end : at ≡ length bytes
 
--- from then on it holds these bytes too, after what it held
-abbrev pub Writes : List ℕ → ℕ → List ℕ → List ℕ → ℕ → Type 0
-Writes now at bytes new end = (old front : List ℕ) → HasWritten old now at front → HasWritten old new end (front ++ bytes)
+-- after what was written before, these bytes are written too
+pub record Writes (now : List ℕ) (at : ℕ) (bytes new : List ℕ) (end : ℕ) : Type 0 where
+  pub adds : (old front : List ℕ) → HasWritten old now at front → HasWritten old new end (front ++ bytes)

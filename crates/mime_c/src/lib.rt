@@ -146,6 +146,7 @@ fn copy(out: &mut [u8], at: usize, bytes: &[u8]) -> usize
 }
 
 /// Writes a text and a 0 at a position, and gives the position after them.
+#[tactic(auto, using(crate::proofs::Writing::both_written))]
 fn put(out: &mut [u8], at: usize, text: &str) -> usize
     requires { at + length text.now < length out.old }
     ensures { Writes out.old at (string_of text.now) out.new result }
@@ -208,6 +209,7 @@ pub extern "C" fn mime_read(
 }
 
 /// Writes an item of a list at a position, and gives the position after it.
+#[tactic(auto, using(crate::proofs::Writing::both_written))]
 fn put_item(out: &mut [u8], at: usize, mark: u8, text: &str) -> usize
     requires { at + length (mark ∷ text.now) < length out.old }
     ensures { Writes out.old at (string_of (mark ∷ text.now)) out.new result }

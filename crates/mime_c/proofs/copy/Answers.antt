@@ -4,7 +4,7 @@ use Rattle.std.proofs.lemmas.List.{take_at, drop_at, drop-drop}
 use Rattle.mime_c.proofs.copy.Goals as goal
 
 pub returns-clause-writes : goal.returns-clause-writes
-returns-clause-writes c = λ old front wrote.
+returns-clause-writes c = record { adds = λ old front wrote.
     let at = c.args.at in
     let now = c.args.out.now in
     let bytes = c.args.bytes.now in
@@ -17,4 +17,4 @@ returns-clause-writes c = λ old front wrote.
     record {
       there = cc (before, behind, c.copy_from_slice.ensures.after, append_assoc front bytes (drop (length (front ++ bytes)) old));
       end = omega (arith, wrote.end, size);
-    }
+    } }
