@@ -4,7 +4,7 @@ use Rattle.std.specs.Str.{IsUtf8}
 use Rattle.mime.specs.Bytes.{is_token_byte}
 use Rattle.mime.specs.Grammar.{no_list}
 use Rattle.mime.specs.Values.{MediaType, Reads}
-use Rattle.mime.specs.Cut.{good, bad, whole}
+use Rattle.mime.specs.Cut.{good, bad, Cut, whole}
 use Rattle.mime.specs.declared.scan.fault.ParseError.TheVariants.{MissingSlash, MissingSubtype, MissingEqual, MissingValue, MissingQuote, InvalidToken, NoMemory}
 use Rattle.mime.proofs.CutLemmas.{empty-cut, cut_unique}
 use Rattle.mime_c.specs.Strings.{strings, ComeBack, texts_of, item_texts, written}
@@ -59,6 +59,9 @@ reads_ab : Reads (codes "A/B") ab
 unfolding ab is_token_byte
 reads_ab = record { tree = record { top = codes "A"; sub = codes "B"; tail = no_list }; well_formed = (refl, refl, tt); spelled = refl; valued = refl }
 
+whole_ab : Cut (codes "A/B") (good (codes "A/B") ab ∷ []) []
+whole_ab = whole (codes "A/B") ab reads_ab
+
 -- seven bytes aren't enough for a text of three, whatever it is
 ab_no_room : ReadsTo (codes "A/B") (codes "-------") MIME_NO_ROOM (codes "-------") nothing
 ab_no_room = has_no_room (omega arith)
@@ -78,7 +81,7 @@ module _ (utf8 : IsUtf8 (codes "A/B")) where
   -- a list of one item, and nothing else is answered
   ab_listed : ListsTo (codes "A/B") (codes "------") MIME_OK (codes "+a/b" ++ 0 ∷ codes "-") 5
   unfolding ab
-  ab_listed = is_listed (good (codes "A/B") ab ∷ []) [] (omega arith) utf8 (whole (codes "A/B") ab reads_ab) refl
+  ab_listed = is_listed (good (codes "A/B") ab ∷ []) [] (omega arith) utf8 whole_ab refl
 
   ab_not_listed_else : (answer : ℕ) (new : List ℕ) (size : ℕ) → answer ≢ MIME_NO_MEMORY → size ≢ 5
       → ¬ (ListsTo (codes "A/B") (codes "------") answer new size)
@@ -92,21 +95,12 @@ module _ (utf8 : IsUtf8 (codes "A/B")) where
 
   not_different : ¬ (Compares (codes "A/B") (codes "A/B") MIME_OK 0)
   not_different different =
-      let only = (compares_as_one (codes "A/B") (codes "A/B")).4 in
-      let some : MIME_OK ≢ MIME_NO_MEMORY = λ is. omega (arith, is) in
-      absurd (omega (arith, (only MIME_OK 0 some different).1, (only MIME_OK 1 some same_ab).1))
+      let only = (compares_as_one (codes "A/B") (codes "A/B")).4 MIME_OK in
+      absurd (omega (arith, (only 0 (λ is. omega (arith, is)) different).1, (only 1 (λ is. omega (arith, is)) same_ab).1))
 
 -- it needs memory, and the empty text needs none
 ab_needs : NeedsMemory (codes "A/B")
-ab_needs = record {
-  before = [];
-  piece = codes "A/B";
-  media = ab;
-  after = [];
-  rest = [];
-  cut = whole (codes "A/B") ab reads_ab;
-  not_star = λ is. omega (arith, ap (λ text. get_or text 0 0) is);
-}
+ab_needs = record { before = []; piece = codes "A/B"; media = ab; after = []; rest = []; cut = whole_ab; not_star = λ is. omega (arith, ap (λ text. get_or text 0 0) is) }
 
 empty_needs_none : ¬ (NeedsMemory [])
 empty_needs_none needs =

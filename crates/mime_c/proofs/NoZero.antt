@@ -2,7 +2,7 @@
 use Rattle.std.proofs.Common.{◌≡◌, ℕ, true, false, List, [], ◌∷◌, ◌++◌, refl, ap, ◌∙◌, arith}
 use Rattle.std.specs.Prelude.{◌==◌}
 use Rattle.std.specs.List.{list_all, onto_first, AllByRecursion}
-use Rattle.std.proofs.lemmas.Bool.{and_parts, and_from, cond-false}
+use Rattle.std.proofs.lemmas.Bool.{and_parts, and_from}
 use Rattle.std.proofs.lemmas.Bool.Decides.{nat_tests}
 use Rattle.mime.specs.Bytes.{is_token_byte, is_quoted_byte}
 use Rattle.mime.specs.Grammar.{IsContent, no_byte, text_byte, quoted_pair}
@@ -29,8 +29,7 @@ texts_in-string [] bytes none = refl
 texts_in-string (b ∷ text) bytes none =
     let parts = and_parts (is_other 0 b) (list_all (is_other 0) text) none in
     let other : (b == 0) ≡ false = grind (arith, nat_tests, parts.0) in
-    cond-false (b == 0) ([] ∷ texts_in (string_of text ++ bytes)) (onto_first b (texts_in (string_of text ++ bytes))) other
-    ∙ ap (onto_first b) (texts_in-string text bytes parts.1)
+    rw other (ap (onto_first b) (texts_in-string text bytes parts.1))
 
 come_back : (texts : List (List ℕ)) → AllByRecursion HasNoZero texts → ComeBack texts
 come_back [] none = refl

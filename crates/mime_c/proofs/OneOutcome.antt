@@ -1,5 +1,6 @@
 -- Each call has one outcome, unless memory runs out.
-use Rattle.std.proofs.Common.{◌≡◌, ◌≢◌, ℕ, ◌+◌, ◌*◌, ◌⊎◌, inl, inr, List, length, refl, sym, ap, ◌∙◌, subst, arith, ⊎_elim}
+use Rattle.std.proofs.Common.{◌≡◌, ◌≢◌, ℕ, ◌+◌, ◌*◌, ◌⊎◌, inl, inr, Bool, true, false, List, length, refl, sym, ap, ◌∙◌, subst, arith, ⊎_elim}
+use mir.Val.{bool_byte}
 use Rattle.std.specs.Prelude.{IsTrue, ◌↔◌, if◌then◌else◌}
 use Rattle.std.specs.Str.{IsUtf8, is_utf8}
 use Rattle.std.specs.Ordering.{eq_by_cmp}
@@ -21,7 +22,7 @@ use Rattle.mime_c.specs.Answers.{number_of, nothing, found_of, found_of_fault, F
 use Rattle.mime_c.specs.Answers as answers
 use Rattle.mime_c.specs.Laws.{HasOne, ReadsToOne, ListsToOne, ComparesAsOne}
 use Rattle.mime_c.specs.declared.MimeFound.{MimeFound}
-use Rattle.mime_c.specs.declared.TheConstants.{MIME_NO_MEMORY}
+use Rattle.mime_c.specs.declared.TheConstants.{MIME_OK, MIME_NO_MEMORY}
 use Rattle.mime_c.proofs.NoZero.{texts_come_back, items_come_back}
 
 -- ---- one text
@@ -88,16 +89,6 @@ module _ {text old : List ℕ} where
   one_reading_of h k (is_read media room u r b) (has_no_room short) = absurd (omega (arith, short, room))
   one_reading_of h k (fails p found room why) (has_no_room short) = absurd (omega (arith, short, room))
 
-pub reads_to_one : ReadsToOne
-reads_to_one text old =
-    let one = is_one (λ n (held : List ℕ × MimeFound). ReadsTo text old n held.0 held.1) in
-    ⊎_elim (λ short. one _ _ (λ same. omega (arith, same)) (has_no_room short) (λ m y. one_reading_of))
-    (λ room. ⊎_elim
-    (λ it. one _ _ (λ same. omega (arith, same)) (is_read it.0 room it.1 it.2 (texts_come_back text it.0 it.2)) (λ m y. one_reading_of))
-    (λ it. one it.0 (old, it.1) it.2 (fails it.0 it.1 room it.3) (λ m y. one_reading_of)) (given_or_failed text))
-    (cases_lt (length old) (2 * length text + 2))
-
-module _ {text old : List ℕ} where
   one_listing : {n m : ℕ} {new bytes : List ℕ} {size other : ℕ} → n ≢ MIME_NO_MEMORY → m ≢ MIME_NO_MEMORY
       → ListsTo text old n new size → ListsTo text old m bytes other → (m ≡ n) × ◌≡◌ {A = List ℕ × ℕ} (bytes, other) (new, size)
   one_listing h k (has_no_memory some room utf8 needs) lists = absurd (h refl)
@@ -114,6 +105,15 @@ module _ {text old : List ℕ} where
   one_listing h k (is_listed items rest room u c b) (answers.ListsTo.has_no_room short) = absurd (omega (arith, short, room))
   one_listing h k (answers.ListsTo.is_not_text room isnt) (answers.ListsTo.has_no_room short) = absurd (omega (arith, short, room))
 
+pub reads_to_one : ReadsToOne
+reads_to_one text old =
+    let one = is_one (λ n (held : List ℕ × MimeFound). ReadsTo text old n held.0 held.1) in
+    ⊎_elim (λ short. one _ _ (λ same. omega (arith, same)) (has_no_room short) (λ m y. one_reading_of))
+    (λ room. ⊎_elim
+    (λ it. one _ _ (λ same. omega (arith, same)) (is_read it.0 room it.1 it.2 (texts_come_back text it.0 it.2)) (λ m y. one_reading_of))
+    (λ it. one it.0 (old, it.1) it.2 (fails it.0 it.1 room it.3) (λ m y. one_reading_of)) (given_or_failed text))
+    (cases_lt (length old) (2 * length text + 2))
+
 pub lists_to_one : ListsToOne
 lists_to_one text old =
     let one = is_one (λ n (held : List ℕ × ℕ). ListsTo text old n held.0 held.1) in
@@ -124,6 +124,12 @@ lists_to_one text old =
     (is_listed has.items has.rest room utf8 has.cut (items_come_back text has.items has.rest has.cut)) (λ m y. one_listing))
     (λ isnt. one _ _ (λ same. omega (arith, same)) (answers.ListsTo.is_not_text room isnt) (λ m y. one_listing)) (utf8_or_not text))
     (cases_lt (length old) (2 * length text))
+
+-- the byte that is written says whether two texts are read as equal
+pub compared : (one other : List ℕ) (first second : MediaType) (equal : Bool) (byte : ℕ) → IsUtf8 one → IsUtf8 other → Reads one first
+    → Reads other second → IsTrue equal ↔ Same first second → byte ≡ bool_byte equal → Compares one other MIME_OK byte
+compared one other first second true byte u v reads again tells is = rw is (are_read first second true u v reads again tells)
+compared one other first second false byte u v reads again tells is = rw is (are_read first second false u v reads again tells)
 
 module _ {one other : List ℕ} where
   one_comparison : {n m equal yes : ℕ} → n ≢ MIME_NO_MEMORY → m ≢ MIME_NO_MEMORY → Compares one other n equal → Compares one other m yes

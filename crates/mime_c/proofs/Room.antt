@@ -13,7 +13,10 @@ use Rattle.mime.proofs.ValueLemmas.KeptText.{text_of-essence, length-essence_of,
 use Rattle.mime.proofs.CutLemmas.{split-size}
 use Rattle.mime_c.specs.Strings.{string_of, strings, pair_texts, texts_of, item_text, item_texts}
 use Rattle.mime_c.specs.declared.TheConstants.{MIME_GOOD, MIME_BAD}
-use Rattle.mime_c.proofs.Writing.{length-strings}
+
+-- a string has one byte more than its text
+length-strings : (text : List ℕ) (texts : List (List ℕ)) → length (strings (text ∷ texts)) ≡ length text + 1 + length (strings texts)
+length-strings text texts = omega (arith, length-append {A = ℕ})
 
 -- ---- the strings of a tree that is its own lowering
 
@@ -34,11 +37,8 @@ room-tail no_list = omega arith
 room-tail (listed list) = omega (arith, room-list list)
 
 -- and the kept text is no longer than the text
-length-tree : (tree : SyntaxTree) → length (text_of tree) ≡ length (essence_of tree) + length (text_of_tail tree.tail)
-length-tree tree = ap length (text_of-essence tree) ∙ length-append (essence_of tree) (text_of_tail tree.tail)
-
 room-kept : (tree : SyntaxTree) (pairs : List (List ℕ × List ℕ)) → length (kept_text pairs tree) ≤ length (text_of tree)
-room-kept tree [] = omega (arith, length-tree tree)
+room-kept tree [] = omega (arith, ap length (text_of-essence tree), length-append {A = ℕ})
 room-kept tree (pair ∷ pairs) = omega arith
 
 -- ---- the strings of a media type
@@ -53,7 +53,7 @@ lengths-low text tree size some =
     let parts = essence_of tree ∷ pair_texts pairs in
     let kept = room-kept tree pairs in
     let all = ap length (flat_map-append string_of parts (kept_text pairs tree ∷ [])) in
-    (omega arith, omega (arith, length-append {A = ℕ}, length-strings, room-tail tree.tail, length-tree tree), some)
+    (omega arith, omega (arith, length-append {A = ℕ}, length-strings, room-tail tree.tail, ap length (text_of-essence tree)), some)
 
 -- a kept text is no longer than the text that it is of,
 length-kept : (pairs : ℕ) (semicolon : Option ℕ) (text : List ℕ) → length (kept_text_of pairs semicolon text) ≤ length text
@@ -71,8 +71,9 @@ lengths_of text media reads =
     let tree = reads.tree in
     let keeps = keeps-tree tree reads.well_formed in
     let spelled = ap length reads.spelled in
-    let some : 2 < length text =
-    omega (arith, length-tree tree, length-essence_of tree, some-token tree.top reads.well_formed.0, some-token tree.sub reads.well_formed.1) in
+    let all = ap length (text_of-essence tree) in
+    let top = some-token tree.top reads.well_formed.0 in
+    let some : 2 < length text = omega (arith, length-essence_of tree, some-token tree.sub reads.well_formed.1, length-append {A = ℕ}) in
     let size = ap length keeps.is_kept.spelled in
     subst (Lengths text) (sym (sym reads.valued ∙ keeps.valued ∙ value_of-lowering keeps.is_kept.tree ∙ ap value_of_low keeps.is_kept.low))
     (lengths-low text keeps.is_kept.tree (omega (arith, length-kept (places_of tree).pairs (places_of tree).semicolon (text_of tree))) some)

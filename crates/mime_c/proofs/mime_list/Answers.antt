@@ -1,11 +1,11 @@
 -- Each item is written after those before it, and each answer is what it says.
-use Rattle.std.proofs.Common.{◌≡◌, ◌∷◌, refl, ap, sym, ◌∙◌, subst, rules, arith, Result, Some, Err}
+use Rattle.std.proofs.Common.{◌≡◌, ◌∷◌, refl, ap, ◌∙◌, subst, rules, arith, Result, Some, Err}
 use Rattle.mime.specs.Values.{OwnedMedia}
 use Rattle.mime.specs.Runs.{Iteration, IsNext, GivesItem}
 use Rattle.mime.specs.declared.iter.Bad.{Bad}
 use Rattle.mime.specs.declared.iter.Bad.TheVariants.{Piece, NoMemory}
 use Rattle.mime_c.specs.declared.TheConstants.{MIME_GOOD, MIME_BAD}
-use Rattle.mime_c.proofs.Listing.{lists-fits, lists-next, lists-last, lists-no_memory}
+use Rattle.mime_c.proofs.Writing.{lists-fits, lists-next, lists-last, lists-no_memory}
 use Rattle.mime_c.proofs.mime_list.Goals as goal
 
 -- what is given, as it is matched
@@ -14,18 +14,16 @@ gives {old} {new} is next = subst (λ item. GivesItem old (Some item) new) is ne
 
 pub put_item-at-requires : goal.put_item-at-requires
 put_item-at-requires c =
-    lists-fits c.loop-item.invariant (gives c.in-Ok-item.is c.in-Some.ensures.steps).1 (MIME_GOOD ∷ c.as_str.result.now)
-    (ap (λ kept. MIME_GOOD ∷ kept) (sym c.as_str.ensures.text)) (omega (arith, c.if-out-text.false))
+    lists-fits c.loop-item.invariant (gives c.in-Ok-item.is c.in-Some.ensures.steps).1 (MIME_GOOD ∷ c.as_str.result.now) (cc)
+    (omega (arith, c.if-out-text.false))
 
 pub loop-item-preserved-in-Ok-item : goal.loop-item-preserved-in-Ok-item
 loop-item-preserved-in-Ok-item c =
-    lists-next c.loop-item.invariant (gives c.in-Ok-item.is c.in-Some.ensures.steps).1 (MIME_GOOD ∷ c.as_str.result.now) _ _
-    (ap (λ kept. MIME_GOOD ∷ kept) (sym c.as_str.ensures.text)) c.put_item-at.ensures
+    lists-next c.loop-item.invariant (gives c.in-Ok-item.is c.in-Some.ensures.steps).1 (MIME_GOOD ∷ c.as_str.result.now) _ _ (cc) c.put_item-at.ensures
 
 pub loop-item-preserved-in-Ok-item-2 : goal.loop-item-preserved-in-Ok-item-2
 loop-item-preserved-in-Ok-item-2 c =
-    lists-next c.loop-item.invariant (gives c.in-Ok-item.is c.in-Some.ensures.steps).1 (MIME_GOOD ∷ c.as_str.result.now) _ _
-    (ap (λ kept. MIME_GOOD ∷ kept) (sym c.as_str.ensures.text)) c.put_item-at.ensures
+    lists-next c.loop-item.invariant (gives c.in-Ok-item.is c.in-Some.ensures.steps).1 (MIME_GOOD ∷ c.as_str.result.now) _ _ (cc) c.put_item-at.ensures
 
 pub put_item-at-requires-in-Err-Piece : goal.put_item-at-requires-in-Err-Piece
 put_item-at-requires-in-Err-Piece c =

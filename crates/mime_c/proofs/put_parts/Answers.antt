@@ -49,6 +49,4 @@ returns c =
       ap length c.as_str-2.ensures.text,
       length-append {A = ℕ},
     ) in
-    let slash = ap length c.as_str-slash.ensures ∙ ap length c.type_.ensures.text in
-    let sub = ap length c.as_str-3.ensures ∙ ap length c.subtype.ensures.text in
-    record { bytes = last.there; found = cc (last.end, params, printed, slash, sub) }
+    record { bytes = last.there; found = cc (last.end, params, printed) }
