@@ -25,8 +25,6 @@ use Rattle.mime_c.specs.declared.MimeFound.{MimeFound}
 use Rattle.mime_c.specs.declared.TheConstants.{MIME_OK, MIME_NO_MEMORY}
 use Rattle.mime_c.proofs.NoZero.{texts_come_back, items_come_back}
 
--- ---- one text
-
 utf8_or_not : (text : List ℕ) → IsUtf8 text ⊎ ¬ (IsUtf8 text)
 utf8_or_not text =
     ⊎_elim (λ is. inl (IsUtf8-from_is_utf8 text is)) (λ isnt. inr (λ utf8. true≢false (sym (is_utf8-from_IsUtf8 text utf8) ∙ isnt)))
@@ -67,8 +65,6 @@ given_or_failed text = ⊎_elim
     (λ refused. let only = one_fault text refused in
     inr (_, _, some_fault text only.0 only.1, is_refused only.0 utf8 (Explains-from_fault text only.0 only.1))) (accepted_or_refused text))
     (λ isnt. inr (_, _, (λ same. omega (arith, same)), is_not_text isnt)) (utf8_or_not text)
-
--- ---- the calls
 
 -- an outcome is the one, if any two are the same
 is_one : {Held : Type 0} (IsOutcome : ℕ → Held → Type 0) (n : ℕ) (x : Held) → n ≢ MIME_NO_MEMORY → IsOutcome n x

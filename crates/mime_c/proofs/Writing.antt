@@ -49,10 +49,6 @@ module _ {old now left all : List ℕ} {at : ℕ} (leaves : Leaves old now at le
     onward = append_assoc leaves.front bytes more ∙ ap (λ it. leaves.front ++ it) (sym is) ∙ leaves.onward;
   }
 
-  -- what is there and what is left are all,
-  pub leaves-size : at + length left ≡ length all
-  leaves-size = omega (arith, leaves.wrote.end, ap length leaves.onward, length-append leaves.front left)
-
 -- and at the end none is left
 pub leaves-last : {old now all : List ℕ} {at : ℕ} → Leaves old now at [] all → HasWritten old now at all
 leaves-last {old} {now} {all} {at} leaves = subst (HasWritten old now at) (sym (append-nil leaves.front) ∙ leaves.onward) leaves.wrote

@@ -4,7 +4,7 @@ use Rattle.std.proofs.lemmas.List.{length-map}
 use Rattle.std.proofs.lemmas.List.Concat.{flat_map-append}
 use Rattle.mime.specs.Items.{item_of}
 use Rattle.mime_c.specs.Strings.{string_of, strings, parts_of}
-use Rattle.mime_c.proofs.Writing.{leaves-first, leaves-fits, leaves-next, leaves-size, leaves-last, given-first, given-next, given-last}
+use Rattle.mime_c.proofs.Writing.{leaves-first, leaves-fits, leaves-next, leaves-last, given-first, given-next, given-last}
 use Rattle.mime_c.proofs.put_parts.Goals as goal
 
 pub loop-name-init : goal.loop-name-init
@@ -43,7 +43,8 @@ returns c =
     let printed : c.loop-name.at ≡ length (strings (parts_of media)) =
     omega (
       arith,
-      leaves-size c.loop-name.invariant,
+      c.loop-name.invariant.wrote.end,
+      ap length c.loop-name.invariant.onward,
       ap length left,
       ap length (flat_map-append string_of (parts_of media) (media.kept ∷ [])),
       ap length c.as_str-2.ensures.text,
