@@ -39,8 +39,8 @@ items_written : strings (item_texts (good (codes "A/b") (record svg { kept = cod
 items_written = refl
 
 -- texts come back, an empty one too, but not one with a 0
-come_back : ComeBack (codes "a/b" ∷ [] ∷ [])
-come_back = refl
+which_come_back : ComeBack (codes "a/b" ∷ [] ∷ [])
+which_come_back = refl
 
 not_with_zero : ¬ (ComeBack ((1 ∷ 0 ∷ 2 ∷ []) ∷ []))
 not_with_zero back = absurd (omega (arith, ap length back))

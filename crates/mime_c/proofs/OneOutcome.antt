@@ -35,9 +35,9 @@ is_fault : (text : List ℕ) (fault : ParseError) → Explains text fault → nu
 is_fault text NoMemory why some = absurd (some refl)
 is_fault text fault why some = why
 
-some_fault : (text : List ℕ) (fault : ParseError) → IsFault text fault → number_of fault ≢ MIME_NO_MEMORY
-some_fault text NoMemory is = absurd is.0
-some_fault text fault is = λ same. omega (arith, same)
+its_fault : (text : List ℕ) (fault : ParseError) → IsFault text fault → number_of fault ≢ MIME_NO_MEMORY
+its_fault text NoMemory is = absurd is.0
+its_fault text fault is = λ same. omega (arith, same)
 
 module _ {text : List ℕ} where
   -- a text that is read doesn't fail,
@@ -63,7 +63,7 @@ given_or_failed : (text : List ℕ) → ((media : MediaType) × IsUtf8 text × R
 given_or_failed text = ⊎_elim
     (λ utf8. ⊎_elim (λ accepted. inl (accepted.0, utf8, accepted.1))
     (λ refused. let only = one_fault text refused in
-    inr (_, _, some_fault text only.0 only.1, is_refused only.0 utf8 (Explains-from_fault text only.0 only.1))) (accepted_or_refused text))
+    inr (_, _, its_fault text only.0 only.1, is_refused only.0 utf8 (Explains-from_fault text only.0 only.1))) (accepted_or_refused text))
     (λ isnt. inr (_, _, (λ same. omega (arith, same)), is_not_text isnt)) (utf8_or_not text)
 
 -- an outcome is the one, if any two are the same

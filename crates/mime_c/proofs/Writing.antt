@@ -18,23 +18,23 @@ use Rattle.mime_c.proofs.Room.{items_fit, strings_of_items}
 pub both_written : (now mid new one other : List ℕ) (at next end : ℕ) → Writes now at one mid next → Writes mid next other new end
     → Writes now at (one ++ other) new end
 both_written now mid new one other at next end first second = record {
-  adds = λ old front wrote. subst (HasWritten old new end) (append_assoc front one other) (second.adds old _ (first.adds old front wrote));
+  adds = λ old prefix wrote. subst (HasWritten old new end) (append_assoc prefix one other) (second.adds old _ (first.adds old prefix wrote));
 }
 
 -- a text that there is room for behind what is written fits
-pub fits : {old now front : List ℕ} {at : ℕ} → HasWritten old now at front → (text more : List ℕ)
-    → length (front ++ (string_of text ++ more)) ≤ length old → at + length text < length now
-fits {old} {now} {front} wrote text more room = omega (arith, wrote.end, ap length wrote.there, length-append {A = ℕ}, length-drop {A = ℕ})
+pub fits : {old now prefix : List ℕ} {at : ℕ} → HasWritten old now at prefix → (text more : List ℕ)
+    → length (prefix ++ (string_of text ++ more)) ≤ length old → at + length text < length now
+fits {old} {now} {prefix} wrote text more room = omega (arith, wrote.end, ap length wrote.there, length-append {A = ℕ}, length-drop {A = ℕ})
 
 -- of all bytes that are to be written some are there, and the others are left
 pub record Leaves (old now : List ℕ) (at : ℕ) (left all : List ℕ) : Type 0 where
-  pub front : List ℕ
-  pub wrote : HasWritten old now at front
-  pub onward : front ++ left ≡ all
+  pub prefix : List ℕ
+  pub wrote : HasWritten old now at prefix
+  pub onward : prefix ++ left ≡ all
 
 -- at first all are left,
 pub leaves-first : (old all : List ℕ) → Leaves old old 0 all all
-leaves-first old all = record { front = []; wrote = record { there = refl; end = refl }; onward = refl }
+leaves-first old all = record { prefix = []; wrote = record { there = refl; end = refl }; onward = refl }
 
 module _ {old now left all : List ℕ} {at : ℕ} (leaves : Leaves old now at left all) where
   -- the next string fits,
@@ -44,14 +44,14 @@ module _ {old now left all : List ℕ} {at : ℕ} (leaves : Leaves old now at le
   -- it is written,
   pub leaves-next : (bytes more new : List ℕ) (end : ℕ) → left ≡ bytes ++ more → Writes now at bytes new end → Leaves old new end more all
   leaves-next bytes more new end is writes = record {
-    front = leaves.front ++ bytes;
-    wrote = writes.adds old leaves.front leaves.wrote;
-    onward = append_assoc leaves.front bytes more ∙ ap (λ it. leaves.front ++ it) (sym is) ∙ leaves.onward;
+    prefix = leaves.prefix ++ bytes;
+    wrote = writes.adds old leaves.prefix leaves.wrote;
+    onward = append_assoc leaves.prefix bytes more ∙ ap (λ it. leaves.prefix ++ it) (sym is) ∙ leaves.onward;
   }
 
 -- and at the end none is left
 pub leaves-last : {old now all : List ℕ} {at : ℕ} → Leaves old now at [] all → HasWritten old now at all
-leaves-last {old} {now} {all} {at} leaves = subst (HasWritten old now at) (sym (append-nil leaves.front) ∙ leaves.onward) leaves.wrote
+leaves-last {old} {now} {all} {at} leaves = subst (HasWritten old now at) (sym (append-nil leaves.prefix) ∙ leaves.onward) leaves.wrote
 
 -- ---- the texts of a media type
 

@@ -9,4 +9,4 @@ pub record HasWritten (old now : List ℕ) (at : ℕ) (bytes : List ℕ) : Type 
 
 -- after what was written before, these bytes are written too
 pub record Writes (now : List ℕ) (at : ℕ) (bytes new : List ℕ) (end : ℕ) : Type 0 where
-  pub adds : (old front : List ℕ) → HasWritten old now at front → HasWritten old new end (front ++ bytes)
+  pub adds : (old prefix : List ℕ) → HasWritten old now at prefix → HasWritten old new end (prefix ++ bytes)

@@ -85,5 +85,5 @@ neither_begins input law more = (
 )
 
 -- an essence without an end isn't prefix-free
-bare_essence : ¬ (IsPrefixFree (λ value. value.media.essence ∷ []))
-bare_essence law = (neither_begins (λ value. value.media.essence ∷ []) law (codes "x")).0 refl
+essence_without_end : ¬ (IsPrefixFree (λ value. value.media.essence ∷ []))
+essence_without_end law = (neither_begins (λ value. value.media.essence ∷ []) law (codes "x")).0 refl

@@ -90,10 +90,10 @@ rows_left_out = (refl, refl)
 -- ---- reports
 
 -- the value of `a/b`
-abbrev value_of_text : MediaType
-value_of_text = record { essence = codes "a/b"; slash = 1; plus = None; pairs = []; kept = codes "a/b" }
+abbrev text_value : MediaType
+text_value = record { essence = codes "a/b"; slash = 1; plus = None; pairs = []; kept = codes "a/b" }
 
-reads_text : Reads (codes "a/b") value_of_text
+reads_text : Reads (codes "a/b") text_value
 unfolding is_token_byte
 reads_text = record {
   tree = record { top = codes "a"; sub = codes "b"; tail = no_list };
@@ -105,7 +105,7 @@ reads_text = record {
 -- the report on one line, by its parts
 report_of_line : IsReportOf Mode.Parts (codes "a/b\n") (codes "ok a/b\ntype a\nsubtype b\n")
 unfolding encode
-report_of_line = line_more (is_text (codes "a/b", (refl, refl)) (read value_of_text reads_text)) no_more
+report_of_line = line_more (is_text (codes "a/b", (refl, refl)) (read text_value reads_text)) no_more
 
 -- bytes that are no text are reported as such, and a text isn't
 report_of_bytes : (mode : Mode) → ¬ (IsUtf8 (255 ∷ [])) → ReportsLine mode (255 ∷ []) (codes "not text\n")
