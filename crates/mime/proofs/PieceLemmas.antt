@@ -17,7 +17,7 @@ use Rattle.mime.specs.declared.scan.fault.ParseError.{ParseError}
 use Rattle.mime.specs.declared.scan.Positions.{Positions}
 use Rattle.mime.specs.declared.scan.Verdict.{Verdict}
 use Rattle.mime.specs.declared.scan.Verdict.TheVariants.{Accepted, Unfinished, Stopped}
-use Rattle.mime.proofs.GrammarLemmas.Characters.{prefix_ends_between_characters}
+use Rattle.mime.proofs.GrammarLemmas.Characters.{following-low, prefix_ends_between_characters}
 use Rattle.mime.proofs.CutLemmas.{empty-refused, empty-cut, split-size, cut_unique, takes-split, takes-viable, takes-empty}
 use Rattle.mime.proofs.ValueLemmas.Reading.{accepted-from_positions, refused-from_fault}
 use Rattle.mime.proofs.GrammarLemmas.Viability.{accepted_is_viable}
@@ -31,11 +31,8 @@ IsAfterCharacter text left = (character : List ℕ) × (text ≡ character ++ le
 -- a byte that follows is none before which a text may be cut
 not_following : (b : ℕ) (bytes : List ℕ) → IsCharBoundary (b ∷ bytes) 0 → IsFalse (is_following_byte b)
 not_following b bytes border =
-    ⊎_elim (λ follows. absurd (omega (arith, border.1 (omega arith) (grind (arith, nat_tests, follows)), high b follows))) (λ is. is)
+    ⊎_elim (λ follows. let low = following-low b follows in absurd (omega (arith, border.1 (omega arith) low.0, low.1))) (λ is. is)
     (cases_Bool (is_following_byte b))
-  where
-    high : (b : ℕ) → IsTrue (is_following_byte b) → b < 192
-    high b follows = grind (arith, nat_tests, follows)
 
 -- up to the first position where a text may be cut all bytes follow
 follow_to : (bytes : List ℕ) (n : ℕ) → IsCharBoundary bytes n → ((j : ℕ) → j < n → ¬ (IsCharBoundary bytes j))

@@ -56,13 +56,9 @@ awaits_next-text : (b : ℕ) → IsTrue (is_quoted_text_byte b) → awaits_next 
 awaits_next-text b text = grind (arith, nat_tests)
 
 -- a backslash is taken
-takes-backslash : IsTrue (takes false backslash_byte)
+pub takes-backslash : IsTrue (takes false backslash_byte)
 unfolding is_quoted_byte
 takes-backslash = refl
-
-pub takes_all-backslash : IsTrue (takes_all false (backslash_byte ∷ []))
-unfolding is_quoted_byte
-takes_all-backslash = refl
 
 -- what is taken and is no backslash is quoted text
 text-taken : (b : ℕ) → IsTrue (takes false b) → IsFalse (b == backslash_byte) → IsTrue (is_quoted_text_byte b)
@@ -161,21 +157,13 @@ IsContent-closed content b all stopped same =
 pub content-closed : (content : List ℕ) → IsContent content → IsFalse (continues content quote_byte)
 content-closed content is = takes-quote (awaits_after awaits_first content) ∙ content-awaits content is
 
--- an open quoted value takes the bytes of each completion, and a letter before a quote
-pub takes_all-equals_letter : (awaiting : Bool) → IsTrue (takes_all awaiting (61 ∷ 120 ∷ []))
-unfolding is_quoted_byte
-takes_all-equals_letter true = refl
-takes_all-equals_letter false = refl
-
-pub takes_all-letter : (awaiting : Bool) → IsTrue (takes_all awaiting (120 ∷ []))
-unfolding is_quoted_byte
-takes_all-letter true = refl
-takes_all-letter false = refl
-
-pub takes_all-letter_slash_letter : (awaiting : Bool) → IsTrue (takes_all awaiting (120 ∷ 47 ∷ 120 ∷ []))
-unfolding is_quoted_byte
-takes_all-letter_slash_letter true = refl
-takes_all-letter_slash_letter false = refl
+-- quoted text is taken where a byte is awaited too
+pub takes_all-any : (awaiting : Bool) (run : List ℕ) → IsTrue (list_all is_quoted_text_byte run) → IsTrue (takes_all awaiting run)
+takes_all-any awaiting [] all = refl
+takes_all-any false run all = takes_all-text run all
+takes_all-any true (b ∷ run) all =
+    let parts = and_parts (is_quoted_text_byte b) (list_all is_quoted_text_byte run) all in
+    and_from (is_quoted_byte b) _ (and_parts (is_quoted_byte b) _ parts.0).0 (takes_all-text run parts.1)
 
 -- a quote after a letter closes the value
 pub closed-letter : (content : List ℕ) → IsFalse (continues (content ++ 120 ∷ []) quote_byte)

@@ -8,9 +8,9 @@ use Rattle.std.proofs.lemmas.Option.{same_Some, none-some}
 use Rattle.std.specs.Prelude.{IsTrue, IsFalse, is_some, slice_get, ◌==◌}
 use Rattle.std.specs.List.{list_all}
 use Rattle.std.specs.Option.{option_and_then}
-use Rattle.mime.specs.Bytes.{is_token_byte, slash_byte, equals_byte}
+use Rattle.mime.specs.Bytes.{is_token_byte, is_quoted_byte, slash_byte, equals_byte}
 use Rattle.mime.specs.Quoted.{awaits_first, takes_all, awaits_after}
-use Rattle.mime.proofs.GrammarLemmas.Content.{takes_all-letter, takes_all-letter_slash_letter, takes_all-equals_letter}
+use Rattle.mime.proofs.GrammarLemmas.Content.{takes_all-any}
 use Rattle.mime.specs.Grammar.{SyntaxTree}
 use Rattle.mime.specs.Values.{IsRefused}
 use Rattle.mime.specs.Refusals.{IsLongestPrefix, EndsIn, Lacks, IsDeadAt, IsFault}
@@ -20,7 +20,7 @@ use Rattle.mime.specs.declared.scan.fault.ParseError.{ParseError}
 use Rattle.mime.specs.declared.scan.fault.ParseError.TheVariants.{MissingSlash, MissingSubtype, MissingEqual, MissingValue, MissingQuote, InvalidToken}
 use Rattle.mime.proofs.GrammarLemmas.Spelling.{before_equals, begun-from_walk, spelled-from_walk, text-in_subtype, text-in_value}
 use Rattle.mime.proofs.GrammarLemmas.Readings.{walk-accepted}
-use Rattle.mime.proofs.GrammarLemmas.Viability.{accepted-from_complete, completes, completes-from_accepted, walk_from-open, lacks-from_walk, viable-from_lacks, walk-from_viable, not_viable-at_dead, whole_prefix-from_walk, prefix_unique, stop-from_walk, dead-from_stop}
+use Rattle.mime.proofs.GrammarLemmas.Viability.{by_option, accepted-from_complete, completes, completes-from_accepted, walk_from-open, lacks-from_walk, viable-from_lacks, walk-from_viable, not_viable-at_dead, whole_prefix-from_walk, prefix_unique, stop-from_walk, dead-from_stop}
 
 -- ---- a begun tree lacks one thing only
 
@@ -79,7 +79,7 @@ not_completes-open top sub closed n name content more all passes =
 
 -- a text lacks only what the state at its end says
 lacks_own : (text : List ℕ) (begun : Begun) → walk text ≡ Some begun → (fault : ParseError) → Lacks text fault → IsOwn begun fault
-unfolding is_token_byte
+unfolding is_token_byte is_quoted_byte
 lacks_own text (in_type []) walked = own-by_fault text _ walked (λ passes. (refl, refl)) nor never nor never
 lacks_own text (in_type (t ∷ top)) walked = own-by_fault text _ walked (λ passes. (refl, refl)) nor never nor never
 lacks_own text (in_subtype top []) walked =
@@ -115,10 +115,10 @@ lacks_own text (in_list top sub list) walked = at list.position list.closed walk
             (begun-from_walk text _ walked).list.position.2
     at (in_quotes n name content) closed walked =
         own-by_fault text _ walked
-        (completes_not (codes "x/x") (takes_all-letter_slash_letter awaited))
-        (λ passes ends. completes_not (codes "x") (takes_all-letter awaited) passes)
-        (completes_not (codes "=x") (takes_all-equals_letter awaited))
-        (λ passes ends. completes_not (codes "x") (takes_all-letter awaited) passes)
+        (completes_not (codes "x/x") (takes_all-any awaited (codes "x/x") refl))
+        (λ passes ends. completes_not (codes "x") (takes_all-any awaited (codes "x") refl) passes)
+        (completes_not (codes "=x") (takes_all-any awaited (codes "=x") refl))
+        (λ passes ends. completes_not (codes "x") (takes_all-any awaited (codes "x") refl) passes)
         (λ passes. (refl, refl))
       where
         awaited : Bool
@@ -143,11 +143,9 @@ lacks_unique text first second one two =
 
 -- a refused text that can be walked lacks what the state at its end says
 lacks-from_refused : (text : List ℕ) (begun : Begun) → walk text ≡ Some begun → IsRefused text → Lacks text (lacking begun)
-lacks-from_refused text begun walked refused = reached (tree_of begun) refl
-  where
-    reached : (o : Option SyntaxTree) → tree_of begun ≡ o → Lacks text (lacking begun)
-    reached None unfinished = lacks-from_walk text begun walked unfinished
-    reached (Some tree) complete = absurd (refused (accepted-from_complete text begun tree walked complete))
+lacks-from_refused text begun walked refused =
+    by_option (tree_of begun) (lacks-from_walk text begun walked)
+    (λ tree complete. absurd (refused (accepted-from_complete text begun tree walked complete)))
 
 -- exactly one completion makes a viable refused text an accepted one
 pub one_completion : OneCompletion
@@ -183,24 +181,18 @@ fault_unique text first second one two = lacks_unique text first second one two
 -- a refused text has exactly one fault
 pub one_fault : OneFault
 one_fault text refused =
-    let found = reached (walk text) refl in
+    let found : (fault : ParseError) × IsFault text fault =
+    by_option (walk text)
+    (λ stopped.
+    let stop = stop-from_walk (in_type []) text stopped in (InvalidToken (length stop.prefix) stop.byte, dead-from_stop text stop))
+    (λ begun walked. (lacking begun, fault-from_lacks text (lacking begun) (lacks-from_refused text begun walked refused))) in
     (found.0, found.1, λ other is. fault_unique text other found.0 is found.1)
-  where
-    reached : (o : Option Begun) → walk text ≡ o → (fault : ParseError) × IsFault text fault
-    reached (Some begun) walked =
-        (lacking begun, fault-from_lacks text (lacking begun) (lacks-from_refused text begun walked refused))
-    reached None stopped =
-        let stop = stop-from_walk (in_type []) text stopped in
-        (InvalidToken (length stop.prefix) stop.byte, dead-from_stop text stop)
 
 -- a text has exactly one longest viable prefix
 pub one_longest_prefix : OneLongestPrefix
 one_longest_prefix text =
-    let found = reached (walk text) refl in
+    let found : (count : ℕ) × IsLongestPrefix text count =
+    by_option (walk text)
+    (λ stopped. let stop = stop-from_walk (in_type []) text stopped in (length stop.prefix, (dead-from_stop text stop).prefix))
+    (λ begun walked. (length text, whole_prefix-from_walk text begun walked)) in
     (found.0, found.1, λ other is. prefix_unique text other found.0 is found.1)
-  where
-    reached : (o : Option Begun) → walk text ≡ o → (count : ℕ) × IsLongestPrefix text count
-    reached (Some begun) walked = (length text, whole_prefix-from_walk text begun walked)
-    reached None stopped =
-        let stop = stop-from_walk (in_type []) text stopped in
-        (length stop.prefix, (dead-from_stop text stop).prefix)

@@ -10,7 +10,7 @@ use Rattle.mime.specs.Quoted.{awaits_first, awaits_next, takes, takes_all, await
 use Rattle.mime.specs.Values.{last_plus}
 use Rattle.mime.specs.ReaderState.{Remaining, is_token_except_plus}
 use Rattle.mime.specs.Scanning.{Given, GivesFirst, Passes, PassesContent, PassesSubtype}
-use Rattle.mime.proofs.GrammarLemmas.Content.{takes_all-backslash, takes_all-text, awaits_after-text, awaits_after-append, takes_all-append, not_taken}
+use Rattle.mime.proofs.GrammarLemmas.Content.{takes-backslash, takes_all-text, awaits_after-text, awaits_after-append, takes_all-append, not_taken}
 
 -- a run, and what was given from where it ended
 pub given_then : {old mid new : Remaining} {xs ys : List ℕ} {stop : Option ℕ}
@@ -107,7 +107,7 @@ taking_backslash {old} {mid} {new} {stop} p passes test =
     (awaits_after-append false passes.run (backslash_byte ∷ []) ∙ ap (λ (a : Bool). awaits_next a backslash_byte) text)
     (taking_run p given
     (takes_all-append false passes.run (backslash_byte ∷ []) (takes_all-text passes.run passes.of_class)
-    (subst (λ awaiting. IsTrue (takes_all awaiting (backslash_byte ∷ []))) (sym text) takes_all-backslash)))
+    (subst (λ awaiting. IsTrue (takes_all awaiting (backslash_byte ∷ []))) (sym text) (and_from (takes false backslash_byte) true takes-backslash refl))))
 
 -- a backslash was given, and the byte that it pairs
 pub taking_paired : {old mid new : Remaining} {b : ℕ} → Taking true old mid → GivesFirst mid new (Some b)

@@ -11,7 +11,7 @@ use Rattle.mime.specs.declared.scan.Positions.{Positions}
 use Rattle.mime.specs.declared.scan.fault.ParseError.{ParseError}
 use Rattle.mime.specs.declared.scan.Verdict.{Verdict}
 use Rattle.mime.specs.declared.scan.Verdict.TheVariants.{Accepted, Unfinished, Stopped}
-use Rattle.mime.proofs.GrammarLemmas.Begun.{Begun, in_type, in_list, BegunList, begun_list, grow, grow_list, walk, walk_from, walk_list, with_closed, list_at_end, tree_of, lacking, lacking_list, walk_from-append_some, walk_from-in_list}
+use Rattle.mime.proofs.GrammarLemmas.Begun.{Begun, in_type, in_list, BegunList, begun_list, grow, grow_list, walk, walk_from, walk_list, with_closed, list_at_end, tree_of, lacking, lacking_list, walk_by-append_some, walk_from-in_list}
 use Rattle.mime.proofs.ScanLemmas.Passing.{given_then, given_whole}
 use Rattle.mime.proofs.GrammarLemmas.Readings.{accepted-from_walk, refused-from_walk, walk-head}
 use Rattle.mime.proofs.GrammarLemmas.Viability.{lacks-from_walk, viable-from_walk, dead-from_walk}
@@ -31,7 +31,7 @@ pub reaches_run : {start begun next : Begun} {old mid new : Remaining} {stop : O
 reaches_run {start} {begun} {run = run} r g e = record {
   run = r.run ++ run;
   given = given_then r.given g;
-  walked = walk_from-append_some start begun r.run run r.walked ∙ e;
+  walked = walk_by-append_some grow start begun r.run run r.walked ∙ e;
 }
 
 -- the byte after a run was given
@@ -40,7 +40,7 @@ pub reaches_byte : {start begun next : Begun} {old now : Remaining} {b : ℕ}
 reaches_byte {start} {begun} {b = b} r e = record {
   run = r.run ++ b ∷ [];
   given = given_whole r.given;
-  walked = walk_from-append_some start begun r.run (b ∷ []) r.walked ∙ rw e;
+  walked = walk_by-append_some grow start begun r.run (b ∷ []) r.walked ∙ rw e;
 }
 
 -- the bytes given lead from the start of a list to a begun list, after any type and subtype
