@@ -7,7 +7,7 @@ use Rattle.std.proofs.lemmas.Option.{none-some}
 use Rattle.mime.specs.Values.{OwnedMedia, Reads}
 use Rattle.mime.specs.Cut.{TakesSteps, Cut, CutItem, good, bad}
 use Rattle.mime.specs.Runs.{Iteration, GivesItem, IsNext}
-use Rattle.mime.specs.BetweenCalls.{IsUnderWay, PassesOn, IsFirstPiece, PassesPiece, IsSound, IsFound}
+use Rattle.mime.specs.BetweenCalls.{IsUnderWay, PassesOn, IsFirstPiece, PassesPiece, IsFound}
 use Rattle.mime.specs.declared.iter.Bad.{Bad}
 use Rattle.mime.specs.declared.iter.Bad.TheVariants.{Piece, NoMemory}
 use Rattle.mime.specs.declared.iter.MimeIter.TheInside.{Inside}
@@ -20,6 +20,10 @@ use Rattle.mime.specs.CutLaws.{items_of_rest, kept_item, AreGiven, none_left, a_
 use Rattle.mime.proofs.Containment.{comma_contains, joined_comes_back}
 
 -- ---- what is kept
+
+-- what every `MimeIter` keeps
+abbrev pub IsSound : Iteration → Type 0
+IsSound i = IsUnderWay i.text i.left i.out_of_memory i.steps
 
 -- out of memory, nothing is left
 under_way-out_of_memory : (text left : List ℕ) (out_of_memory : Bool) (steps : ℕ) → IsUnderWay text left out_of_memory steps

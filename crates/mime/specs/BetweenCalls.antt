@@ -30,10 +30,6 @@ pub record PassesPiece (text piece : List ℕ) (positions : Option Positions) (l
   pub less : 0 < length text → length left < length text
   pub under_way : IsUnderWay text left false steps
 
--- what every `MimeIter` keeps
-abbrev pub IsSound : Iteration → Type 0
-IsSound i = IsUnderWay i.text i.left i.out_of_memory i.steps
-
 -- the piece of the first item, with the positions of its parts if it is accepted, and what is left then
 abbrev pub GivesPiece : List ℕ → Option (Bor (List ℕ) × Option Positions) → List ℕ → Type 0
 GivesPiece text None left = HasNoItem text × (left ≡ [])
@@ -45,4 +41,4 @@ pub record IsFound (old : Iteration) (found : Option (Bor (List ℕ) × Option P
   pub out_of_memory : new.out_of_memory ≡ old.out_of_memory
   pub text : new.text ≡ old.text
   pub still : old.left ≡ [] → (found ≡ None) × (new ≡ old)
-  pub sound : IsSound new
+  pub sound : IsUnderWay new.text new.left new.out_of_memory new.steps

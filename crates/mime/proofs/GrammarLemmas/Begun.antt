@@ -4,10 +4,10 @@ use Rattle.std.specs.Prelude.{ℕ, List, [], ◌∷◌, ◌++◌, Option, Some, 
 use Rattle.std.specs.Option.{option_and_then, option_map}
 use Rattle.mime.specs.Bytes.{is_token_byte, slash_byte, semicolon_byte, equals_byte, quote_byte}
 use Rattle.mime.specs.Grammar.{Parameter, plain, quoted, Parameters, blank, final, more, no_list, listed, SyntaxTree, is_space, IsToken}
-use Rattle.mime.specs.Quoted.{continues, awaits_first, awaits_next, takes_all, awaits_after}
+use Rattle.mime.specs.Quoted.{continues, awaits_next, takes_all, awaits_after}
 use Rattle.mime.specs.declared.scan.fault.ParseError.{ParseError}
 use Rattle.mime.specs.declared.scan.fault.ParseError.TheVariants.{MissingSlash, MissingSubtype, MissingEqual, MissingValue, MissingQuote}
-use Rattle.std.proofs.Common.{◌≡◌, ℕ, Bool, List, [], ◌∷◌, ◌++◌, Option, Some, None, refl, sym, ap, ◌∙◌, subst, append_assoc, append-nil}
+use Rattle.std.proofs.Common.{◌≡◌, ℕ, false, Bool, List, [], ◌∷◌, ◌++◌, Option, Some, None, refl, sym, ap, ◌∙◌, subst, append_assoc, append-nil}
 use Rattle.std.proofs.lemmas.Bool.{and_parts, cond-false, cond-true}
 use Rattle.std.specs.List.{list_all}
 use Rattle.mime.proofs.GrammarLemmas.Content.{awaits_after-append}
@@ -230,15 +230,15 @@ walk_list-value closed n name =
     (λ b yes. cond-true _ _ _ yes) (λ b taken c yes. cond-true _ _ _ yes)
 
 -- bytes that a quoted value takes go on in it
-pub walk_list-open : (closed : Closed) (n name taken run : List ℕ) → IsTrue (takes_all (awaits_after awaits_first taken) run)
+pub walk_list-open : (closed : Closed) (n name taken run : List ℕ) → IsTrue (takes_all (awaits_after false taken) run)
     → walk_list (list_at closed (in_quotes n name taken)) run ≡ at_state closed (in_quotes n name (taken ++ run))
 walk_list-open closed n name taken [] all = ap (λ t. at_state closed (in_quotes n name t)) (sym (append-nil taken))
 walk_list-open closed n name taken (b ∷ run) all =
-    let parts = and_parts (continues taken b) (takes_all (awaits_next (awaits_after awaits_first taken) b) run) all in
+    let parts = and_parts (continues taken b) (takes_all (awaits_next (awaits_after false taken) b) run) all in
     walk_by-step grow_list (list_at closed (in_quotes n name taken)) (list_at closed (in_quotes n name (taken ++ (b ∷ [])))) b run
     (cond-true (continues taken b) _ _ parts.0)
     ∙ walk_list-open closed n name (taken ++ (b ∷ [])) run
-    (subst (λ a. IsTrue (takes_all a run)) (sym (awaits_after-append awaits_first taken (b ∷ []))) parts.1)
+    (subst (λ a. IsTrue (takes_all a run)) (sym (awaits_after-append false taken (b ∷ []))) parts.1)
     ∙ ap (λ t. at_state closed (in_quotes n name t)) (append_assoc taken (b ∷ []) run)
 
 -- spaces go on after a quoted value

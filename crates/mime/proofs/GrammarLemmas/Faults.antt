@@ -9,7 +9,7 @@ use Rattle.std.specs.Prelude.{IsTrue, IsFalse, is_some, slice_get, ◌==◌}
 use Rattle.std.specs.List.{list_all}
 use Rattle.std.specs.Option.{option_and_then}
 use Rattle.mime.specs.Bytes.{is_token_byte, is_quoted_byte, slash_byte, equals_byte}
-use Rattle.mime.specs.Quoted.{awaits_first, takes_all, awaits_after}
+use Rattle.mime.specs.Quoted.{takes_all, awaits_after}
 use Rattle.mime.proofs.GrammarLemmas.Content.{takes_all-any}
 use Rattle.mime.specs.Grammar.{SyntaxTree}
 use Rattle.mime.specs.Values.{IsRefused}
@@ -72,7 +72,7 @@ ends_not class text before run b spelled some all outside (prefix, ends) =
 
 -- bytes that an open quoted value takes complete nothing
 not_completes-open : {X : Type 0} (top sub : List ℕ) (closed : Closed) (n name content more : List ℕ)
-    → IsTrue (takes_all (awaits_after awaits_first content) more)
+    → IsTrue (takes_all (awaits_after false content) more)
     → IsTrue (completes (in_list top sub (list_at closed (in_quotes n name content))) more) → X
 not_completes-open top sub closed n name content more all passes =
     never (sym (ap (λ o. is_some (option_and_then tree_of o)) (walk_from-open top sub closed n name content more all)) ∙ passes)
@@ -122,7 +122,7 @@ lacks_own text (in_list top sub list) walked = at list.position list.closed walk
         (λ passes. (refl, refl))
       where
         awaited : Bool
-        awaited = awaits_after awaits_first content
+        awaited = awaits_after false content
 
         completes_not : {X : Type 0} (more : List ℕ) → IsTrue (takes_all awaited more)
             → IsTrue (completes (in_list top sub (list_at closed (in_quotes n name content))) more) → X

@@ -1,5 +1,5 @@
 -- Which texts may still become a media type, and what such a text lacks, read off the begun tree that it is walked to.
-use Rattle.std.proofs.Common.{◌≡◌, ℕ, Bool, suc, ◌+◌, ◌-◌, List, [], ◌∷◌, ◌++◌, length, take, Option, Some, None, refl, sym, ap, ◌∙◌, subst, arith, append_assoc, append-nil, length-append, ⊎_elim, codes}
+use Rattle.std.proofs.Common.{◌≡◌, ℕ, false, Bool, suc, ◌+◌, ◌-◌, List, [], ◌∷◌, ◌++◌, length, take, Option, Some, None, refl, sym, ap, ◌∙◌, subst, arith, append_assoc, append-nil, length-append, ⊎_elim, codes}
 use Rattle.std.proofs.Math.Seq.{take-append_seam, take-append-add, take-length}
 use Rattle.std.proofs.lemmas.Bool.{cases_order, cond-false, false≢true}
 use Rattle.std.proofs.lemmas.Option.{none-some, option_and_then_some, slice_get_within}
@@ -13,7 +13,7 @@ use Rattle.mime.proofs.GrammarLemmas.Begun.{Closed, Begun, in_type, in_subtype, 
 use Rattle.mime.specs.Laws.{EmptyIsViable, PrefixOfViableIsViable, AcceptedIsViable}
 use Rattle.mime.specs.declared.scan.fault.ParseError.{ParseError}
 use Rattle.mime.specs.declared.scan.fault.ParseError.TheVariants.{InvalidToken}
-use Rattle.mime.specs.Quoted.{awaits_first, takes_all, awaits_after, continues}
+use Rattle.mime.specs.Quoted.{takes_all, awaits_after, continues}
 use Rattle.mime.proofs.GrammarLemmas.Content.{takes_all-any, closed-letter}
 use Rattle.mime.proofs.GrammarLemmas.Spelling.{before_equals, spelled-from_walk, text-in_value}
 use Rattle.mime.proofs.GrammarLemmas.Readings.{accepted-from_walk, walk-accepted, stopped-from_walk}
@@ -58,7 +58,7 @@ completes-from_accepted text more begun walked accepted =
 
 -- what an open quoted value takes leaves it open
 pub walk_from-open : (top sub : List ℕ) (closed : Closed) (n name content more : List ℕ)
-    → IsTrue (takes_all (awaits_after awaits_first content) more)
+    → IsTrue (takes_all (awaits_after false content) more)
     → walk_from (in_list top sub (list_at closed (in_quotes n name content))) more
     ≡ Some (in_list top sub (list_at closed (in_quotes n name (content ++ more))))
 walk_from-open top sub closed n name content more all =
@@ -73,7 +73,7 @@ completes-open_quotes top sub closed n name content =
     ap (λ o. is_some (option_and_then tree_of o))
     (walk_by-append_some grow (in_list top sub (list_at closed (in_quotes n name content)))
     (in_list top sub (list_at closed (in_quotes n name (content ++ (120 ∷ []))))) (120 ∷ []) (quote_byte ∷ [])
-    (walk_from-open top sub closed n name content (120 ∷ []) (takes_all-any (awaits_after awaits_first content) (120 ∷ []) refl)))
+    (walk_from-open top sub closed n name content (120 ∷ []) (takes_all-any (awaits_after false content) (120 ∷ []) refl)))
     ∙ ap (λ o. is_some (option_and_then tree_of (option_and_then (λ next. walk_from next []) (option_map (in_list top sub) o))))
     (cond-false (continues (content ++ (120 ∷ [])) quote_byte) _ _ (closed-letter content))
 

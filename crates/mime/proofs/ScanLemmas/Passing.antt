@@ -6,7 +6,7 @@ use Rattle.std.specs.Option.{option_eq, option_to_list}
 use Rattle.std.proofs.lemmas.Bool.{and_from, and_parts, eqb-true, true≢false}
 use Rattle.std.proofs.lemmas.List.Folds.{list_all-append}
 use Rattle.mime.specs.Bytes.{is_token_byte, is_quoted_byte, is_quoted_text_byte, plus_byte, backslash_byte}
-use Rattle.mime.specs.Quoted.{awaits_first, awaits_next, takes, takes_all, awaits_after, IsOpenContent, continues}
+use Rattle.mime.specs.Quoted.{awaits_next, takes, takes_all, awaits_after, IsOpenContent, continues}
 use Rattle.mime.specs.Values.{last_plus}
 use Rattle.mime.specs.ReaderState.{Remaining, is_token_except_plus}
 use Rattle.mime.specs.Scanning.{Given, GivesFirst, Passes, PassesContent, PassesSubtype}
@@ -80,7 +80,7 @@ passes_at p g stopped = record {
 pub record Taking (awaiting : Bool) (old now : Remaining) : Type 0 where
   pub run : List ℕ
   pub of_class : IsOpenContent run
-  pub awaits : awaits_after awaits_first run ≡ awaiting
+  pub awaits : awaits_after false run ≡ awaiting
   pub given : Given old now run None
 
 -- no content was given yet
@@ -92,8 +92,8 @@ taking_run : {awaiting : Bool} {old mid new : Remaining} {run : List ℕ} → Ta
     → IsTrue (takes_all awaiting run) → Taking (awaits_after awaiting run) old new
 taking_run {run} p g taken = record {
   run = p.run ++ run;
-  of_class = takes_all-append awaits_first p.run run p.of_class (rw p.awaits taken);
-  awaits = awaits_after-append awaits_first p.run run ∙ ap (λ (a : Bool). awaits_after a run) p.awaits;
+  of_class = takes_all-append false p.run run p.of_class (rw p.awaits taken);
+  awaits = awaits_after-append false p.run run ∙ ap (λ (a : Bool). awaits_after a run) p.awaits;
   given = given_then p.given g;
 }
 
@@ -129,13 +129,13 @@ pub content_text : {old mid new : Remaining} (stop : Option ℕ) → Taking fals
     → option_eq eqb stop (Some backslash_byte) ≡ false → PassesContent old new stop
 content_text {new = new} stop p passes other = record {
   run = p.run ++ passes.run;
-  of_class = takes_all-append awaits_first p.run passes.run p.of_class (rw p.awaits (takes_all-text passes.run passes.of_class));
+  of_class = takes_all-append false p.run passes.run p.of_class (rw p.awaits (takes_all-text passes.run passes.of_class));
   given = given_then p.given passes.given;
   stopped = ends stop passes.stopped other;
 }
   where
-    closes : awaits_after awaits_first (p.run ++ passes.run) ≡ false
-    closes = awaits_after-append awaits_first p.run passes.run
+    closes : awaits_after false (p.run ++ passes.run) ≡ false
+    closes = awaits_after-append false p.run passes.run
         ∙ ap (λ (a : Bool). awaits_after a passes.run) p.awaits ∙ awaits_after-text passes.run passes.of_class
 
     ends : (stop : Option ℕ) → MatchOption stop (new.left ≡ []) (λ b. IsFalse (is_quoted_text_byte b))

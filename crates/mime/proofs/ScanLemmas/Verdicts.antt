@@ -1,5 +1,5 @@
 -- The scanner's verdict where it stops: what was walked up to there, and what a text is that ends there.
-use Rattle.std.proofs.Common.{◌≡◌, ℕ, ◌+◌, List, [], ◌∷◌, ◌++◌, length, Option, Some, None, MatchOption, refl, sym, ap, ◌∙◌, subst, arith, append-nil}
+use Rattle.std.proofs.Common.{◌≡◌, ℕ, ◌+◌, ◌-◌, List, [], ◌∷◌, ◌++◌, length, Option, Some, None, MatchOption, refl, sym, ap, ◌∙◌, subst, arith, append-nil}
 use Rattle.std.specs.Option.{option_map}
 use Rattle.std.proofs.lemmas.List.{take_at}
 use Rattle.mime.specs.Grammar.{Parameter, Parameters, more, listed, SyntaxTree, text_of}
@@ -93,27 +93,24 @@ judged_before text begun (Some tree) w e = has_positions text begun tree w e
 pub scans_at : {old now : Remaining} {stop : Option ℕ} {begun : Begun} (positions : Option Positions) → Reaches (in_type []) old now stop begun
     → MatchOption stop (now.left ≡ []) (λ b. grow begun b ≡ None) → positions ≡ option_map positions_of (tree_of begun)
     → Scans old now (verdict_at stop positions (lacking begun))
-scans_at {stop = None} {begun = begun} positions r end e =
-    rw e (record {
-      count = length r.run;
+scans_at {old} {now} {stop = None} {begun} positions r end e =
+    let bytes : old.left ≡ r.run = r.given.bytes ∙ ap (λ rest. r.run ++ rest) end ∙ append-nil r.run in
+    let size : now.count - old.count ≡ length r.run = omega (arith, r.given.counted) in
+    record {
       counted = omega (arith, r.given.counted);
-      judged = subst (λ text. Judges text (length r.run) (verdict_at None (option_map positions_of (tree_of begun)) (lacking begun)))
-          (sym (r.given.bytes ∙ ap (λ rest. r.run ++ rest) end ∙ append-nil r.run)) (judged r.run begun (tree_of begun) r.walked refl);
-    })
-scans_at {now = now} {stop = Some b} {begun = begun} positions r dead e =
-    rw e (record {
-      count = length r.run + 1;
-      counted = r.given.counted;
+      judged = rw (e, size, bytes) (judged r.run begun (tree_of begun) r.walked refl);
+    }
+scans_at {old} {now} {stop = Some b} {begun} positions r dead e =
+    let size : now.count - old.count - 1 ≡ length r.run = omega (arith, r.given.counted) in
+    record {
+      counted = omega (arith, r.given.counted);
       judged = (
-        length r.run,
-        refl,
-        record {
-          fault = rw r.given.bytes (dead-from_walk r.run now.left b begun r.walked dead);
-          before = rw (r.given.bytes, take_at r.run (b ∷ now.left) (length r.run) refl)
-              (judged_before r.run begun (tree_of begun) r.walked refl);
-        },
+        omega (arith, r.given.counted),
+        rw (size, r.given.bytes) (dead-from_walk r.run now.left b begun r.walked dead),
+        rw (e, size, r.given.bytes, take_at r.run (b ∷ now.left) (length r.run) refl)
+            (judged_before r.run begun (tree_of begun) r.walked refl),
       );
-    })
+    }
 
 -- ---- a text that ends at a begun list
 
