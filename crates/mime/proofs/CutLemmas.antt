@@ -73,17 +73,12 @@ split_unique text p c l q d m one two =
     ∙ character_len d m two.is_character) in
     record { piece = parts.0; character = same.0; left = same.1 }
 
--- a character has a byte
-character-size : (c l : List ℕ) → IsCharacter c l → 0 < length c
-character-size [] l one = absurd one
-character-size (b ∷ f) l one = omega arith
-
 -- piece, character and what is left make up the text
 pub split-size : (text p c l : List ℕ) → IsSplit text p c l
     → (length text ≡ length p + (length c + length l)) × (0 < length c)
 split-size text p c l split = (
   ap length split.spelled ∙ length-append p (c ++ l) ∙ ap (λ n. length p + n) (length-append c l),
-  character-size c l split.is_character,
+  omega (arith, character_len c l split.is_character),
 )
 
 -- a split text begins with its piece

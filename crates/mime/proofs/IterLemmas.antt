@@ -25,14 +25,6 @@ use Rattle.mime.proofs.Containment.{comma_contains, joined_comes_back}
 abbrev pub IsSound : Iteration → Type 0
 IsSound i = IsUnderWay i.text i.left i.out_of_memory i.steps
 
--- out of memory, nothing is left
-under_way-out_of_memory : (text left : List ℕ) (out_of_memory : Bool) (steps : ℕ) → IsUnderWay text left out_of_memory steps
-    → IsUnderWay text [] true steps
-under_way-out_of_memory text left out_of_memory steps kept = record {
-  few = omega (arith, kept.few);
-  exact = λ fed n takes. absurd (true≢false fed);
-}
-
 -- pieces without an item were passed since a call began
 pub record IsLooking (old now : Iteration) : Type 0 where
   pub passed : PassesOn old.left now.left
@@ -181,7 +173,7 @@ next-out_of_memory old now new piece positions found not_star is =
     let accepted = accepted-from_positions piece.now positions found.gives.0.0 in
     let others = has_cut now.left in
     next-some old now new (piece, Some positions) (Err NoMemory) found
-    (subst IsSound (sym is) (under_way-out_of_memory now.text now.left now.out_of_memory now.steps found.sound))
+    (subst IsSound (sym is) (record { few = omega (arith, found.sound.few); exact = λ fed n takes. absurd (true≢false fed) }))
     (ap (λ (i : Iteration). i.text) is) (
       record {
         piece = piece.now;

@@ -34,14 +34,10 @@ use lib.Utf8.{encode}
 
 -- ---- an essence
 
--- a tree without its list
-abbrev without_list : SyntaxTree → SyntaxTree
-without_list tree = record { top = tree.top; sub = tree.sub; tail = no_list }
-
 -- the essence of a value that was read is read as the value without its parameters
 pub essence_is_read : EssenceIsRead
 essence_is_read text value reads =
-    let bare = without_list reads.tree in
+    let bare : SyntaxTree = record { top = reads.tree.top; sub = reads.tree.sub; tail = no_list } in
     record {
       tree = lowered_tree bare;
       well_formed = IsWellFormed-lowered_tree bare (reads.well_formed.0, reads.well_formed.1, tt);

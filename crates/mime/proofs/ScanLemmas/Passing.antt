@@ -27,11 +27,6 @@ given_whole {new} {xs} {b} g = record {
   counted = omega (arith, g.counted, length-append xs (b ∷ []));
 }
 
--- a run, and one byte more
-pub given_more : {old mid new : Remaining} {xs : List ℕ} {b : ℕ} → Given old mid xs None → GivesFirst mid new (Some b)
-    → Given old new (xs ++ b ∷ []) None
-given_more g first = given_then g (given_whole first.0)
-
 -- a run, and the byte that ended it, or the end of the text
 pub given_stop : {old mid new : Remaining} {xs : List ℕ} {stop : Option ℕ} → Given old mid xs None → GivesFirst mid new stop
     → Given old new xs stop
@@ -63,7 +58,7 @@ abbrev pub passing_more : {class : ℕ → Bool} {old mid new : Remaining} {b : 
 passing_more {class} {b = b} p g fits = record {
   run = p.run ++ b ∷ [];
   of_class = list_all-append class p.run (b ∷ []) ∙ and_from _ _ p.of_class (and_from (class b) true fits refl);
-  given = given_more p.given g;
+  given = given_then p.given (given_whole g.0);
 }
 
 -- the text ended the run, or a byte outside the class did
@@ -149,11 +144,6 @@ pub last_plus-plus : (at : ℕ) (xs : List ℕ) (b position : ℕ) → b ≡ plu
     → last_plus at (xs ++ b ∷ []) ≡ Some position
 last_plus-plus at [] b position p e = rw p (ap Some (omega arith))
 last_plus-plus at (x ∷ xs) b position p e = rw (last_plus-plus (at + 1) xs b position p (omega arith))
-
--- another byte at the end keeps the last plus
-pub last_plus-other : (at : ℕ) (xs : List ℕ) (b : ℕ) → eqb b plus_byte ≡ false → last_plus at (xs ++ b ∷ []) ≡ last_plus at xs
-last_plus-other at [] b f = rw f
-last_plus-other at (x ∷ xs) b f = rw (last_plus-other (at + 1) xs b f)
 
 -- ---- a subtype, plus by plus
 

@@ -66,10 +66,6 @@ verdict_at None None fault = Unfinished fault
 verdict_at None (Some positions) fault = Accepted positions
 verdict_at (Some b) positions fault = Stopped b positions
 
--- what is lacking is the fault of a text that ends where no text may end
-lacking-fault : (text : List ℕ) (begun : Begun) → walk text ≡ Some begun → tree_of begun ≡ None → IsFault text (lacking begun)
-lacking-fault text begun w e = fault-from_lacks text (lacking begun) (lacks-from_walk text begun w e)
-
 -- a text that is walked to a complete tree has that tree's positions
 has_positions : (text : List ℕ) (begun : Begun) (tree : SyntaxTree) → walk text ≡ Some begun → tree_of begun ≡ Some tree
     → HasPositions text (positions_of tree)
@@ -80,7 +76,7 @@ has_positions text begun tree w e =
 -- a text that is walked is judged by the tree that it makes, if any
 judged : (text : List ℕ) (begun : Begun) (tree : Option SyntaxTree) → walk text ≡ Some begun → tree_of begun ≡ tree
     → Judges text (length text) (verdict_at None (option_map positions_of tree) (lacking begun))
-judged text begun None w e = (refl, lacking-fault text begun w e, viable-from_walk text begun w)
+judged text begun None w e = (refl, fault-from_lacks text _ (lacks-from_walk text begun w e), viable-from_walk text begun w)
 judged text begun (Some tree) w e = (refl, has_positions text begun tree w e)
 
 -- the text before a byte that leads nowhere is judged by the tree that it makes, if any

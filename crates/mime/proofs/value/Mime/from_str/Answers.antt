@@ -1,5 +1,5 @@
 -- The scanner's verdict is what the call answers.
-use Rattle.std.proofs.Common.{◌≡◌, arith, rules}
+use Rattle.std.proofs.Common.{sym, rules}
 use Rattle.mime.proofs.ValueLemmas.Reading.{accepted-from_positions, Explains-from_fault, Explains-no_memory, refused-from_fault, star-accepted}
 use Rattle.mime.proofs.GrammarLemmas.Viability.{refused-at_dead}
 use Rattle.mime.proofs.value.Mime.from_str.Goals as goal
