@@ -1,5 +1,5 @@
 -- A comma ends whatever precedes it, and leaves what comes after it as it is.
-use Rattle.std.proofs.Common.{◌≡◌, ℕ, suc, ◌≤◌, List, [], ◌∷◌, ◌++◌, length, take, drop, Some, None, refl, sym, ap, ◌∙◌, subst, arith, ◌⊎◌, inl, inr, append_assoc, length-append}
+use Rattle.std.proofs.Common.{◌≡◌, ℕ, suc, ◌≤◌, List, [], ◌∷◌, ◌++◌, length, take, drop, Some, None, refl, sym, ap, ◌∙◌, subst, arith, inl, inr, append_assoc, length-append}
 use Rattle.std.proofs.lemmas.List.{take-append-le, take-append-drop, take-take}
 use Rattle.std.proofs.lemmas.Bool.{and_parts, cond-false}
 use Rattle.std.proofs.lemmas.Bool.Decides.{nat_tests}
@@ -11,12 +11,12 @@ use Rattle.mime.proofs.GrammarLemmas.Viability.{walk-from_viable, lacks-from_wal
 use Rattle.std.specs.Prelude.{IsTrue, map, MatchOption}
 use Rattle.std.specs.List.{list_all, AllByRecursion}
 use Rattle.mime.specs.Bytes.{is_token_byte, comma_byte, space_byte}
-use Rattle.mime.specs.Values.{MediaType, IsAccepted, IsRefused}
+use Rattle.mime.specs.Values.{MediaType, IsAccepted}
 use Rattle.mime.specs.Refusals.{IsViable, IsUnclosed}
 use Rattle.mime.specs.declared.scan.fault.ParseError.TheVariants.{MissingQuote}
 use Rattle.mime.proofs.GrammarLemmas.Faults.{completed_is_refused}
-use Rattle.mime.specs.Cut.{is_following_byte, BeginsCharacter, IsCharacter, IsSplit, CutItem, good, ItemsOf, is_read, is_refused, is_empty, Cut, whole, unfinished, goes_on, Pieces, last, next, steps_of, TakesSteps}
-use Rattle.mime.specs.CutLaws.{OneCut, text_of_pieces, CutWritesText, OneCount, items_of_rest, CommaContains, joined, IsRead, kept_item, JoinedComesBack, is_separator, IsHttpList, no_element, separated, one_element, more_elements, HttpListIsCut}
+use Rattle.mime.specs.Cut.{is_following_byte, BeginsCharacter, IsCharacter, IsSplit, CutItem, good, ItemsOf, is_read, is_empty, Cut, whole, unfinished, goes_on, last, next, steps_of, TakesSteps}
+use Rattle.mime.specs.CutLaws.{OneCut, CutWritesText, OneCount, items_of_rest, CommaContains, joined, IsRead, kept_item, JoinedComesBack, is_separator, IsHttpList, no_element, separated, one_element, more_elements, HttpListIsCut}
 
 -- a text has exactly one cut
 pub one_cut : OneCut

@@ -1,12 +1,11 @@
 -- A text has one cut, and what a cut makes of its text.
-use Rattle.std.proofs.Common.{◌≡◌, ℕ, zero, suc, ◌+◌, ◌<◌, Bool, true, false, List, [], ◌∷◌, ◌++◌, length, take, drop, Option, Some, None, refl, sym, ap, ◌∙◌, subst, arith, ◌⊎◌, inl, inr, ⊎_elim, length-append}
+use Rattle.std.proofs.Common.{◌≡◌, ℕ, zero, suc, ◌+◌, ◌<◌, Bool, true, false, List, [], ◌∷◌, ◌++◌, length, take, drop, Some, None, refl, sym, ap, ◌∙◌, subst, arith, ◌⊎◌, inl, inr, ⊎_elim, length-append}
 use Rattle.std.proofs.Math.Seq.{take-append_seam, drop-append_seam, take-length}
 use Rattle.std.proofs.lemmas.Bool.{and_parts}
 use Rattle.std.specs.Prelude.{IsTrue, ◌&&◌}
 use Rattle.std.specs.List.{list_all, prefix_len}
-use Rattle.mime.specs.Grammar.{SyntaxTree}
-use Rattle.mime.specs.Values.{MediaType, Reads, IsAccepted, IsRefused}
-use Rattle.mime.specs.Refusals.{IsViable, IsLongestPrefix}
+use Rattle.mime.specs.Values.{IsAccepted, IsRefused}
+use Rattle.mime.specs.Refusals.{IsViable}
 use Rattle.mime.proofs.GrammarLemmas.Begun.{Begun, in_type, grow, walk, tree_of}
 use Rattle.mime.proofs.GrammarLemmas.Readings.{one_reading, refused-from_walk, stopped-from_walk}
 use Rattle.mime.proofs.GrammarLemmas.Viability.{by_option, accepted-from_complete, viable-from_walk, prefix-from_walk, prefix_unique, accepted_is_viable, empty_is_viable, stop-from_walk}

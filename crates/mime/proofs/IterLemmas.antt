@@ -1,11 +1,11 @@
 -- One call of a `MimeIter`: pieces are passed up to the first that is an item, and that is given.
-use Rattle.std.proofs.Common.{◌≡◌, ◌≢◌, ℕ, ◌+◌, ◌-◌, ◌<◌, ◌≤◌, Bool, true, false, List, [], length, Option, Some, None, Result, Ok, Err, refl, sym, ap, ◌∙◌, subst, arith, Bor, ◌∷◌, ◌++◌, map}
+use Rattle.std.proofs.Common.{◌≡◌, ◌≢◌, ℕ, ◌+◌, ◌-◌, ◌<◌, ◌≤◌, true, false, List, [], length, Option, Some, None, Result, Ok, Err, refl, sym, ap, ◌∙◌, subst, arith, Bor, ◌∷◌, ◌++◌, map}
 use Rattle.std.specs.Prelude.{codes}
 use Rattle.std.proofs.lemmas.Bool.{true≢false}
 use Rattle.std.proofs.lemmas.List.{nil_from_length}
 use Rattle.std.proofs.lemmas.Option.{none-some}
 use Rattle.mime.specs.Values.{OwnedMedia, Reads}
-use Rattle.mime.specs.Cut.{TakesSteps, Cut, CutItem, good, bad}
+use Rattle.mime.specs.Cut.{TakesSteps, Cut, CutItem, good}
 use Rattle.mime.specs.Runs.{Iteration, GivesItem, IsNext}
 use Rattle.mime.specs.BetweenCalls.{IsUnderWay, PassesOn, IsFirstPiece, PassesPiece, IsFound}
 use Rattle.mime.specs.declared.iter.Bad.{Bad}

@@ -11,7 +11,7 @@ use Rattle.std.specs.Str.{IsUtf8, bytes_eq}
 use Rattle.std.specs.Bool.{Decides, beq}
 use Rattle.std.specs.Cmp.{booleans_Decides}
 use Rattle.mime.specs.Grammar.{SyntaxTree, no_list}
-use Rattle.mime.specs.Values.{MediaType, Reads, lowered, lowered_tree, IsAccepted, IsRefused}
+use Rattle.mime.specs.Values.{MediaType, Reads, lowered, lowered_tree, IsAccepted}
 use Rattle.mime.specs.Comparison.{Same, HasNoSemicolon}
 use Rattle.mime.specs.Refusals.{IsViable, IsLongestPrefix, completion_of, Lacks}
 use Rattle.mime.specs.Items.{Item, IsFirstAccepted}

@@ -1,5 +1,5 @@
 -- Each refused text has one fault, and a viable one has one completion.
-use Rattle.std.proofs.Common.{◌≡◌, ℕ, ◌+◌, ◌<◌, ◌≤◌, Bool, false, List, [], ◌∷◌, ◌++◌, length, drop, Option, Some, None, refl, sym, ap, ◌∙◌, arith, append-nil, length-append, codes}
+use Rattle.std.proofs.Common.{◌≡◌, ℕ, ◌+◌, ◌<◌, ◌≤◌, Bool, false, List, [], ◌∷◌, ◌++◌, length, drop, Some, None, refl, sym, ap, ◌∙◌, arith, append-nil, length-append, codes}
 use Rattle.std.proofs.Math.Seq.{drop-append_seam}
 use Rattle.std.proofs.lemmas.Bool.{false≢true, and_parts}
 use Rattle.std.proofs.lemmas.List.{drop-append-le}
@@ -11,7 +11,6 @@ use Rattle.std.specs.Option.{option_and_then}
 use Rattle.mime.specs.Bytes.{is_token_byte, is_quoted_byte, slash_byte, equals_byte}
 use Rattle.mime.specs.Quoted.{takes_all, awaits_after}
 use Rattle.mime.proofs.GrammarLemmas.Content.{takes_all-any}
-use Rattle.mime.specs.Grammar.{SyntaxTree}
 use Rattle.mime.specs.Values.{IsRefused}
 use Rattle.mime.specs.Refusals.{IsLongestPrefix, EndsIn, Lacks, IsDeadAt, IsFault}
 use Rattle.mime.proofs.GrammarLemmas.Begun.{Closed, Begun, in_type, in_subtype, in_list, ListState, in_name, in_value, in_quotes, list_at, walk, tree_of, lacking}

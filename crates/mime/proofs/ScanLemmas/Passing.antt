@@ -61,16 +61,6 @@ passing_more {class} {b = b} p g fits = record {
   given = given_then p.given (given_whole g.0);
 }
 
--- the text ended the run, or a byte outside the class did
-abbrev passes_at : {class : ℕ → Bool} {old mid new : Remaining} {stop : Option ℕ} → Passing class old mid → GivesFirst mid new stop
-    → MatchOption stop (new.left ≡ []) (λ b. IsFalse (class b)) → Passes class old new stop
-passes_at p g stopped = record {
-  run = p.run;
-  of_class = p.of_class;
-  given = given_stop p.given g;
-  stopped = stopped;
-}
-
 -- open content was given so far, which awaits a byte or not
 pub record Taking (awaiting : Bool) (old now : Remaining) : Type 0 where
   pub run : List ℕ

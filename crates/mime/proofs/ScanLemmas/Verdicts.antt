@@ -1,10 +1,9 @@
 -- The scanner's verdict where it stops: what was walked up to there, and what a text is that ends there.
-use Rattle.std.proofs.Common.{◌≡◌, ℕ, ◌+◌, ◌-◌, List, [], ◌∷◌, ◌++◌, length, Option, Some, None, MatchOption, refl, sym, ap, ◌∙◌, subst, arith, append-nil}
+use Rattle.std.proofs.Common.{◌≡◌, ℕ, ◌+◌, ◌-◌, List, [], ◌∷◌, ◌++◌, length, Option, Some, None, MatchOption, refl, ap, ◌∙◌, arith, append-nil}
 use Rattle.std.specs.Option.{option_map}
 use Rattle.std.proofs.lemmas.List.{take_at}
 use Rattle.mime.specs.Grammar.{Parameter, Parameters, more, listed, SyntaxTree, text_of}
 use Rattle.mime.specs.Values.{pairs_of_list, IsRefused}
-use Rattle.mime.specs.Refusals.{IsFault}
 use Rattle.mime.specs.ReaderState.{Remaining}
 use Rattle.mime.specs.Scanning.{Given, positions_of, HasPositions, Judges, before_list, ScansList, Scans}
 use Rattle.mime.specs.declared.scan.Positions.{Positions}
