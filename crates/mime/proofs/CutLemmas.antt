@@ -37,11 +37,13 @@ following_of (b ∷ bytes) = onward (is_following_byte b) refl (following_of byt
     onward false other rest = record { following = []; left = b ∷ bytes; spelled = refl; of_class = refl; begins = other }
 
 -- how many bytes follow a character's first
-following_len : (f l : List ℕ) → IsTrue (list_all is_following_byte f) → BeginsCharacter l → prefix_len is_following_byte (f ++ l) ≡ length f
+following_len : (f l : List ℕ) → IsTrue (list_all is_following_byte f) → BeginsCharacter l
+    → prefix_len is_following_byte (f ++ l) ≡ length f
 following_len [] [] all begins = refl
 following_len [] (b ∷ l) all begins = rw begins
 following_len (b ∷ f) l all begins =
-    let parts = and_parts (is_following_byte b) (list_all is_following_byte f) all in rw (parts.0, following_len f l parts.1 begins) (omega arith)
+    let parts = and_parts (is_following_byte b) (list_all is_following_byte f) all in
+    rw (parts.0, following_len f l parts.1 begins) (omega arith)
 
 -- so how long a character is, is read off the text
 character_len : (c l : List ℕ) → IsCharacter c l → suc (prefix_len is_following_byte (drop 1 (c ++ l))) ≡ length c

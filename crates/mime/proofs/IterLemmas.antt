@@ -212,7 +212,8 @@ run_items first (Err NoMemory ∷ given) (end, (last, (next, step, others), none
 -- a whole run gives the items of the cut
 pub run_gives_cut : RunGivesCut
 run_gives_cut first given drains items rest cut =
-    let (own, end, found, are) = run_items first given drains in subst (AreGiven given) (cut_unique first.left items rest cut own end found).0 are
+    let (own, end, found, are) = run_items first given drains in
+    subst (AreGiven given) (cut_unique first.left items rest cut own end found).0 are
 
 -- a run over a text with a comma gives the items before it, the rest, and the items after it
 pub comma_contains_on_runs : CommaContainsOnRuns

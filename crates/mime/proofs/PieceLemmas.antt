@@ -149,14 +149,14 @@ pub passes-stopped : (text piece rest left : List ℕ) (steps at end byte : ℕ)
     → Judges text steps (Stopped byte positions) → at ≡ steps - 1 → piece ≡ take at text → rest ≡ drop at text → left ≡ drop end rest
     → (1 ≤ length rest → 1 ≤ end) → IsCharBoundary rest end → ((i : ℕ) → 1 ≤ i → i < end → ¬ (IsCharBoundary rest i))
     → PassesPiece text piece positions left steps
-passes-stopped text piece rest left steps at end byte positions (some_steps, dead_at, refused) is_at is_piece is_rest is_left past border nearest =
+passes-stopped text piece rest left steps at end byte positions (given, dead_at, refused) is_at is_piece is_rest is_left past border near =
     let dead = subst (λ n. IsDeadAt text n byte) (sym is_at) dead_at in
     let size : length (take at text) ≡ at = length-take-le at text dead.prefix.within in
     let some : 0 < length rest =
     omega (arith, ap length is_rest, length-drop at text, slice_get_within text at byte dead.there) in
-    let after = after_character rest end some (past (omega (arith, some))) border nearest in
+    let after = after_character rest end some (past (omega (arith, some))) border near in
     subst (λ p. PassesPiece text p positions left steps) (sym is_piece)
-    (subst (PassesPiece text (take at text) positions left) (omega (arith, some_steps, is_at, size))
+    (subst (PassesPiece text (take at text) positions left) (omega (arith, given, is_at, size))
     (passes-split text (take at text) after.0 left positions
     (record {
       spelled = sym (take-append-drop at text) ∙ ap (λ t. take at text ++ t) (sym is_rest ∙ after.1 ∙ ap (λ t. after.0 ++ t) (sym is_left));

@@ -179,7 +179,8 @@ walk_by-run step class position takes taken (b ∷ run) all =
 -- a token is walked, first its first byte and then the others
 walk_by-token : {S : Type 0} (step : S → ℕ → Option S) (start : S) (position : List ℕ → S)
     → ((b : ℕ) → IsTrue (is_token_byte b) → step start b ≡ Some (position (b ∷ [])))
-    → ((b : ℕ) (taken : List ℕ) (c : ℕ) → IsTrue (is_token_byte c) → step (position (b ∷ taken)) c ≡ Some (position (b ∷ taken ++ (c ∷ []))))
+    → ((b : ℕ) (taken : List ℕ) (c : ℕ) → IsTrue (is_token_byte c)
+    → step (position (b ∷ taken)) c ≡ Some (position (b ∷ taken ++ (c ∷ []))))
     → (token : List ℕ) → IsToken token → walk_by step start token ≡ Some (position token)
 walk_by-token step start position first others [] token = absurd token
 walk_by-token step start position first others (b ∷ run) token =

@@ -62,7 +62,8 @@ walk_list-quoted : (closed : Closed) (n name content m : List ℕ) → IsContent
     ≡ at_state closed (after_quotes n name content m)
 unfolding is_token_byte
 walk_list-quoted closed n name content m fine white =
-    walk_by-append_some grow_list (list_at closed (in_quotes n name [])) (list_at closed (in_quotes n name content)) content (quote_byte ∷ m)
+    walk_by-append_some grow_list (list_at closed (in_quotes n name [])) (list_at closed (in_quotes n name content))
+    content (quote_byte ∷ m)
     (walk_list-open closed n name [] content (content-taken content fine))
     ∙ walk_by-step grow_list (list_at closed (in_quotes n name content)) (list_at closed (after_quotes n name content [])) quote_byte m
     (cond-false (continues content quote_byte) _ _ (content-closed content fine))

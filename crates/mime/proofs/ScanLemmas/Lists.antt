@@ -88,7 +88,8 @@ pub name_walked : {head positions : Positions} {old mid from new : Remaining} {b
 name_walked {b = b} t p f q =
     let first = cond-false (is_space b) _ _ p.stopped ∙ cond-true (is_token_byte b) _ _ f in
     list_run (list_byte (spaces_walked t p) first) q.given
-    (sym (walk_by-step grow_list (record { closed = t.closed; position = in_spaces p.run }) _ b q.run first) ∙ walk_list-name t.closed p.run (b ∷ q.run) (and_from _ _ f q.of_class))
+    (sym (walk_by-step grow_list (record { closed = t.closed; position = in_spaces p.run }) _ b q.run first)
+    ∙ walk_list-name t.closed p.run (b ∷ q.run) (and_from _ _ f q.of_class))
 
 -- a parameter's equals sign was walked
 pub equals_walked : {closed : List (List ℕ × Parameter)} {spaces name : List ℕ} {old now : Remaining} {b : ℕ}

@@ -92,7 +92,8 @@ taking_backslash {old} {mid} {new} {stop} p passes test =
     (awaits_after-append false passes.run (backslash_byte ∷ []) ∙ ap (λ (a : Bool). awaits_next a backslash_byte) text)
     (taking_run p given
     (takes_all-append false passes.run (backslash_byte ∷ []) (takes_all-text passes.run passes.of_class)
-    (subst (λ awaiting. IsTrue (takes_all awaiting (backslash_byte ∷ []))) (sym text) (and_from (takes false backslash_byte) true takes-backslash refl))))
+    (subst (λ awaiting. IsTrue (takes_all awaiting (backslash_byte ∷ []))) (sym text)
+    (and_from (takes false backslash_byte) true takes-backslash refl))))
 
 -- a backslash was given, and the byte that it pairs
 pub taking_paired : {old mid new : Remaining} {b : ℕ} → Taking true old mid → GivesFirst mid new (Some b)
