@@ -51,8 +51,8 @@ character_len [] l one = absurd one
 character_len (b ∷ f) l one = ap suc (following_len f l one.0 one.1)
 
 -- a text is cut in one way into parts of given lengths
-same_parts : (xs ys us vs : List ℕ) → xs ++ ys ≡ us ++ vs → length xs ≡ length us → (xs ≡ us) × (ys ≡ vs)
-same_parts xs ys us vs e size = (
+parts_unique : (xs ys us vs : List ℕ) → xs ++ ys ≡ us ++ vs → length xs ≡ length us → (xs ≡ us) × (ys ≡ vs)
+parts_unique xs ys us vs e size = (
   sym (take-append_seam xs ys) ∙ ap (λ n. take n (xs ++ ys)) size ∙ ap (take (length us)) e ∙ take-append_seam us vs,
   sym (drop-append_seam xs ys) ∙ ap (λ n. drop n (xs ++ ys)) size ∙ ap (drop (length us)) e ∙ drop-append_seam us vs,
 )
@@ -68,8 +68,8 @@ pub record SameSplit (p c l q d m : List ℕ) : Type 0 where
 pub split_unique : (text p c l q d m : List ℕ) → IsSplit text p c l → IsSplit text q d m → SameSplit p c l q d m
 split_unique text p c l q d m one two =
     let size : length p ≡ length q = prefix_unique text (length p) (length q) one.prefix two.prefix in
-    let parts = same_parts p (c ++ l) q (d ++ m) (sym one.spelled ∙ two.spelled) size in
-    let same = same_parts c l d m parts.1
+    let parts = parts_unique p (c ++ l) q (d ++ m) (sym one.spelled ∙ two.spelled) size in
+    let same = parts_unique c l d m parts.1
     (sym (character_len c l one.is_character) ∙ ap (λ t. suc (prefix_len is_following_byte (drop 1 t))) parts.1
     ∙ character_len d m two.is_character) in
     record { piece = parts.0; character = same.0; left = same.1 }
