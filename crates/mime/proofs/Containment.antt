@@ -1,22 +1,22 @@
 -- A comma ends whatever precedes it, and leaves what comes after it as it is.
-use Rattle.std.proofs.Common.{◌≡◌, ℕ, suc, ◌≤◌, List, [], ◌∷◌, ◌++◌, length, take, drop, Some, None, refl, sym, ap, ◌∙◌, subst, arith, ◌⊎◌, inl, inr, append_assoc, length-append}
+use Rattle.std.proofs.Common.{◌≡◌, ℕ, suc, ◌≤◌, List, [], ◌∷◌, ◌++◌, length, take, drop, Some, None, refl, sym, ap, ◌∙◌, subst, arith, inl, inr, append_assoc, length-append}
 use Rattle.std.proofs.lemmas.List.{take-append-le, take-append-drop, take-take}
 use Rattle.std.proofs.lemmas.Bool.{and_parts, cond-false}
 use Rattle.std.proofs.lemmas.Bool.Decides.{nat_tests}
 use Rattle.mime.proofs.GrammarLemmas.Begun.{Begun, in_type, grow, walk}
-use Rattle.mime.proofs.GrammarLemmas.Characters.{high_token, IsForeign, IsOpen, grow-foreign}
-use Rattle.mime.proofs.CutLemmas.{Following, following_of, split-size, split-from_dead, split_inv, empty-cut, has_cut, cut_unique, takes_unique}
+use Rattle.mime.proofs.GrammarLemmas.Characters.{following-low, high_token, IsForeign, IsOpen, grow-foreign}
+use Rattle.mime.proofs.CutLemmas.{Following, following_of, split-size, split-from_dead, items-from_refused, split_inv, empty-cut, has_cut, cut_unique, takes_unique}
 use Rattle.mime.proofs.ValueLemmas.KeptText.{kept_is_read}
-use Rattle.mime.proofs.GrammarLemmas.Viability.{walk-from_viable, prefix-from_walk, quote_fault-from_walk, accepted_is_viable, prefix_of_viable_is_viable}
+use Rattle.mime.proofs.GrammarLemmas.Viability.{walk-from_viable, lacks-from_walk, accepted_is_viable, prefix_of_viable_is_viable}
 use Rattle.std.specs.Prelude.{IsTrue, map, MatchOption}
 use Rattle.std.specs.List.{list_all, AllByRecursion}
 use Rattle.mime.specs.Bytes.{is_token_byte, comma_byte, space_byte}
-use Rattle.mime.specs.Values.{MediaType, IsAccepted, IsRefused}
+use Rattle.mime.specs.Values.{MediaType, IsAccepted}
 use Rattle.mime.specs.Refusals.{IsViable, IsUnclosed}
 use Rattle.mime.specs.declared.scan.fault.ParseError.TheVariants.{MissingQuote}
 use Rattle.mime.proofs.GrammarLemmas.Faults.{completed_is_refused}
-use Rattle.mime.specs.Cut.{is_following_byte, BeginsCharacter, IsCharacter, IsSplit, CutItem, good, ItemsOf, is_read, is_refused, is_empty, Cut, whole, unfinished, goes_on, Pieces, last, next, steps_of, TakesSteps}
-use Rattle.mime.specs.CutLaws.{OneCut, text_of_pieces, CutWritesText, OneCount, items_of_rest, CommaContains, joined, IsRead, kept_item, JoinedComesBack, is_separator, IsHttpList, no_element, separated, one_element, more_elements, HttpListIsCut}
+use Rattle.mime.specs.Cut.{is_following_byte, BeginsCharacter, IsCharacter, IsSplit, CutItem, good, ItemsOf, is_read, is_empty, Cut, whole, unfinished, goes_on, last, next, steps_of, TakesSteps}
+use Rattle.mime.specs.CutLaws.{OneCut, CutWritesText, OneCount, items_of_rest, CommaContains, joined, IsRead, kept_item, JoinedComesBack, is_separator, IsHttpList, no_element, separated, one_element, more_elements, HttpListIsCut}
 
 -- a text has exactly one cut
 pub one_cut : OneCut
@@ -24,40 +24,21 @@ one_cut text = let found = has_cut text in (found.items, found.rest, found.cut, 
 
 -- ---- pieces
 
--- a text as its pieces
-record Written (text rest : List ℕ) : Type 0 where
-  pieces : List (List ℕ × List ℕ)
-  end : List ℕ
-  cut : Pieces text pieces end
-  spelled : text_of_pieces pieces end ≡ text
-  last_is : IsAccepted end ⊎ (end ≡ rest)
-
-written-cut : (text : List ℕ) (items : List CutItem) (rest : List ℕ) → Cut text items rest → Written text rest
-written-cut text items rest (whole t v reads) =
-    record { pieces = []; end = t; cut = last t (accepted_is_viable t (v, reads)); spelled = refl; last_is = inl (v, reads) }
-written-cut text items rest (unfinished t viable is) =
-    record { pieces = []; end = t; cut = last t viable; spelled = refl; last_is = inr refl }
-written-cut text items rest (goes_on t p c l first others r split of_piece cut) =
-    let w = written-cut l others r cut in
-    record {
-      pieces = (p, c) ∷ w.pieces;
-      end = w.end;
-      cut = next t p c l w.pieces w.end split w.cut;
-      spelled = ap (λ t. p ++ (c ++ t)) w.spelled ∙ sym split.spelled;
-      last_is = w.last_is;
-    }
-
 -- a cut writes its text as pieces
 pub cut_writes_text : CutWritesText
-cut_writes_text text items rest cut = let w = written-cut text items rest cut in (w.pieces, w.end, w.cut, w.spelled, w.last_is)
+cut_writes_text text items rest (whole t v reads) = ([], t, last t (accepted_is_viable t (v, reads)), refl, inl (v, reads))
+cut_writes_text text items rest (unfinished t viable is) = ([], t, last t viable, refl, inr refl)
+cut_writes_text text items rest (goes_on t p c l first others r split of_piece cut) =
+    let (pieces, end, found, spelled, last_is) = cut_writes_text l others r cut in
+    ((p, c) ∷ pieces, end, next t p c l pieces end split found, ap (λ t. p ++ (c ++ t)) spelled ∙ sym split.spelled, last_is)
 
 -- a text takes one number of steps
 pub one_count : OneCount
 one_count text =
     let has = has_cut text in
-    let w = written-cut text has.items has.rest has.cut in
-    let takes : TakesSteps text (steps_of w.pieces w.end) = record { pieces = w.pieces; end = w.end; cut = w.cut; counted = refl } in
-    (steps_of w.pieces w.end, takes, λ other again. takes_unique text other (steps_of w.pieces w.end) again takes)
+    let (pieces, end, found, _, _) = cut_writes_text text has.items has.rest has.cut in
+    let takes : TakesSteps text (steps_of pieces end) = record { pieces = pieces; end = end; cut = found; counted = refl } in
+    (steps_of pieces end, takes, λ other again. takes_unique text other (steps_of pieces end) again takes)
 
 -- ---- what may come before a piece
 
@@ -65,13 +46,9 @@ one_count text =
 dead-inv : (b : ℕ) (bytes : List ℕ) (rest : Following bytes) (items : List CutItem) (end : List ℕ)
     → grow (in_type []) b ≡ None → Cut (b ∷ bytes) items end → Cut rest.left items end
 dead-inv b bytes rest items end dead cut =
-    let split = split-from_dead [] bytes b (in_type []) rest (prefix-from_walk [] bytes b (in_type []) refl dead) in
+    let split = split-from_dead [] bytes b (in_type []) rest refl dead in
     let leaves = split_inv (b ∷ bytes) [] (b ∷ rest.following) rest.left [] items end split (is_empty refl) cut in
     subst (λ i. Cut rest.left i end) (sym leaves.appended) leaves.cut
-
--- a byte that only follows begins no type
-following-high : (b : ℕ) → IsTrue (is_following_byte b) → 128 ≤ b
-following-high b follows = grind (arith, nat_tests, follows)
 
 -- bytes that only follow, passed with the character before them, leave a cut as it is
 cut-after_following : (bytes : List ℕ) (rest : Following bytes) (items : List CutItem) (end : List ℕ)
@@ -86,7 +63,7 @@ cut-after_following bytes rest items end cut =
         let parts = and_parts (is_following_byte b) (list_all is_following_byte following) of_class in
         dead-inv b (following ++ left)
         (record { following = following; left = left; spelled = refl; of_class = parts.1; begins = begins }) items end
-        (cond-false (is_token_byte b) _ _ (high_token b (following-high b parts.0))) cut
+        (cond-false (is_token_byte b) _ _ (high_token b (following-low b parts.0).0)) cut
 
 -- a byte that begins no type, passed with what follows it, leaves a cut as it is
 cut-after_dead : (b : ℕ) (bytes : List ℕ) (items : List CutItem) (end : List ℕ) → grow (in_type []) b ≡ None
@@ -94,8 +71,7 @@ cut-after_dead : (b : ℕ) (bytes : List ℕ) (items : List CutItem) (end : List
 cut-after_dead b bytes items end dead cut =
     let rest = following_of bytes in
     goes_on (b ∷ bytes) [] (b ∷ rest.following) rest.left [] items end
-    (split-from_dead [] bytes b (in_type []) rest (prefix-from_walk [] bytes b (in_type []) refl dead)) (is_empty refl)
-    (cut-after_following bytes rest items end cut)
+    (split-from_dead [] bytes b (in_type []) rest refl dead) (is_empty refl) (cut-after_following bytes rest items end cut)
 
 -- ---- the comma
 
@@ -109,7 +85,7 @@ comma-dead : (text : List ℕ) (begun : Begun) → walk text ≡ Some begun → 
 comma-dead text begun walked closed =
     elim (grow begun comma_byte) as (λ o. MatchOption o (Unit {0}) (λ after. IsOpen begun × IsOpen after) → o ≡ None) [
       | None ↦ λ leads. refl
-      | Some after ↦ λ leads. absurd (closed (quote_fault-from_walk text _ _ _ _ _ _ (walked ∙ ap (λ s. Some s) leads.0.is)))
+      | Some after ↦ λ leads. absurd (closed (lacks-from_walk text _ (walked ∙ ap (λ s. Some s) leads.0.is) refl))
     ]
     (grow-foreign begun comma_byte comma-foreign)
 
@@ -118,8 +94,7 @@ comma-split : (text bytes : List ℕ) (rest : Following bytes) → IsViable text
     → IsSplit (text ++ (comma_byte ∷ bytes)) text (comma_byte ∷ rest.following) rest.left
 comma-split text bytes rest viable closed =
     let reached = walk-from_viable text viable in
-    split-from_dead text bytes comma_byte reached.0 rest
-    (prefix-from_walk text bytes comma_byte reached.0 reached.1 (comma-dead text reached.0 reached.1 closed))
+    split-from_dead text bytes comma_byte reached.0 rest reached.1 (comma-dead text reached.0 reached.1 closed)
 
 -- an accepted text isn't open
 accepted-closed : (text : List ℕ) → IsAccepted text → ¬ (IsUnclosed text)
@@ -166,17 +141,12 @@ comma-cut text after first others end viable closed of_text cut =
     goes_on (text ++ (comma_byte ∷ after)) text (comma_byte ∷ spared.following) spared.left first others end
     (comma-split text after spared viable closed) of_text (cut-after_following after spared others end cut)
 
--- a rest is a bad piece, or empty
-items-from_rest : (rest : List ℕ) → IsRefused rest → ItemsOf rest (items_of_rest rest)
-items-from_rest [] is = is_empty refl
-items-from_rest (b ∷ rest) is = is_refused is (λ e. absurd (omega (arith, ap length e)))
-
 -- a comma ends whatever precedes it
 pub comma_contains : CommaContains
 comma_contains before after items others rest end (whole t v reads) closed cut =
     comma-cut t after (good t v ∷ []) others end (accepted_is_viable t (v, reads)) (accepted-closed t (v, reads)) (is_read v reads) cut
 comma_contains before after items others rest end (unfinished t viable is) closed cut =
-    comma-cut t after (items_of_rest t) others end viable closed (items-from_rest t is) cut
+    comma-cut t after (items_of_rest t) others end viable closed (items-from_refused t is) cut
 comma_contains before after items others rest end (goes_on t p c l first own r split of_piece inner) closed cut =
     subst (λ i. Cut (t ++ (comma_byte ∷ after)) i end) (sym (append_assoc first own (items_of_rest r ++ others)))
     (goes_on (t ++ (comma_byte ∷ after)) p c (l ++ (comma_byte ∷ after)) first (own ++ (items_of_rest r ++ others)) end

@@ -1,16 +1,15 @@
 -- A text has one cut, and what a cut makes of its text.
-use Rattle.std.proofs.Common.{◌≡◌, ℕ, zero, suc, ◌+◌, ◌<◌, Bool, true, false, List, [], ◌∷◌, ◌++◌, length, take, drop, Option, Some, None, refl, sym, ap, ◌∙◌, subst, arith, ◌⊎◌, inl, inr, length-append}
+use Rattle.std.proofs.Common.{◌≡◌, ℕ, zero, suc, ◌+◌, ◌<◌, Bool, true, false, List, [], ◌∷◌, ◌++◌, length, take, drop, Some, None, refl, sym, ap, ◌∙◌, subst, arith, ◌⊎◌, inl, inr, ⊎_elim, length-append}
 use Rattle.std.proofs.Math.Seq.{take-append_seam, drop-append_seam, take-length}
-use Rattle.std.proofs.lemmas.Bool.{and_parts, both_ways}
+use Rattle.std.proofs.lemmas.Bool.{and_parts}
 use Rattle.std.specs.Prelude.{IsTrue, ◌&&◌}
-use Rattle.std.specs.List.{list_all}
-use Rattle.mime.specs.Grammar.{SyntaxTree}
-use Rattle.mime.specs.Values.{MediaType, Reads, IsAccepted, IsRefused}
-use Rattle.mime.specs.Refusals.{IsViable, IsLongestPrefix}
-use Rattle.mime.proofs.GrammarLemmas.Begun.{Begun, in_type, walk, tree_of}
-use Rattle.mime.proofs.IgnoringCase.{cons_parts}
+use Rattle.std.specs.List.{list_all, prefix_len}
+use Rattle.mime.specs.Values.{IsAccepted, IsRefused}
+use Rattle.mime.specs.Refusals.{IsViable}
+use Rattle.mime.proofs.GrammarLemmas.Begun.{Begun, in_type, grow, walk, tree_of}
 use Rattle.mime.proofs.GrammarLemmas.Readings.{one_reading, refused-from_walk, stopped-from_walk}
-use Rattle.mime.proofs.GrammarLemmas.Viability.{accepted-from_complete, viable-from_walk, prefix-from_walk, prefix_unique, accepted_is_viable, empty_is_viable, stop-from_walk}
+use Rattle.mime.proofs.GrammarLemmas.Viability.{by_option, accepted-from_complete, viable-from_walk, prefix-from_walk, prefix_unique, accepted_is_viable, empty_is_viable, stop-from_walk}
+use Rattle.mime.specs.CutLaws.{items_of_rest}
 use Rattle.mime.specs.Cut.{is_following_byte, BeginsCharacter, IsCharacter, IsSplit, CutItem, good, ItemsOf, is_read, is_refused, is_empty, Cut, whole, unfinished, goes_on, Pieces, last, next, steps_of, TakesSteps}
 
 -- ---- a character
@@ -37,26 +36,26 @@ following_of (b ∷ bytes) = onward (is_following_byte b) refl (following_of byt
     }
     onward false other rest = record { following = []; left = b ∷ bytes; spelled = refl; of_class = refl; begins = other }
 
--- the bytes that follow a character's first are the same however they are found
-following_unique : (f l g m : List ℕ) → IsTrue (list_all is_following_byte f) → BeginsCharacter l
-    → IsTrue (list_all is_following_byte g) → BeginsCharacter m → f ++ l ≡ g ++ m → (f ≡ g) × (l ≡ m)
-following_unique [] l [] m fs bl gs bm e = (refl, e)
-following_unique [] l (b ∷ g) m fs bl gs bm e =
-    absurd (both_ways (is_following_byte b) (subst BeginsCharacter e bl) (and_parts _ _ gs).0)
-following_unique (a ∷ f) l [] m fs bl gs bm e =
-    absurd (both_ways (is_following_byte a) (subst BeginsCharacter (sym e) bm) (and_parts _ _ fs).0)
-following_unique (a ∷ f) l (b ∷ g) m fs bl gs bm e =
-    let parts = cons_parts e in
-    let rest = following_unique f l g m (and_parts _ _ fs).1 bl (and_parts _ _ gs).1 bm parts.1 in
-    (ap (λ x. x ∷ f) parts.0 ∙ ap (λ t. b ∷ t) rest.0, rest.1)
+-- how many bytes follow a character's first
+following_len : (f l : List ℕ) → IsTrue (list_all is_following_byte f) → BeginsCharacter l
+    → prefix_len is_following_byte (f ++ l) ≡ length f
+following_len [] [] all begins = refl
+following_len [] (b ∷ l) all begins = rw begins
+following_len (b ∷ f) l all begins =
+    let parts = and_parts (is_following_byte b) (list_all is_following_byte f) all in
+    rw (parts.0, following_len f l parts.1 begins) (omega arith)
 
-character_unique : (c l d m : List ℕ) → IsCharacter c l → IsCharacter d m → c ++ l ≡ d ++ m → (c ≡ d) × (l ≡ m)
-character_unique [] l d m one two e = absurd one
-character_unique (a ∷ f) l [] m one two e = absurd two
-character_unique (a ∷ f) l (b ∷ g) m one two e =
-    let parts = cons_parts e in
-    let rest = following_unique f l g m one.0 one.1 two.0 two.1 parts.1 in
-    (ap (λ x. x ∷ f) parts.0 ∙ ap (λ t. b ∷ t) rest.0, rest.1)
+-- so how long a character is, is read off the text
+character_len : (c l : List ℕ) → IsCharacter c l → suc (prefix_len is_following_byte (drop 1 (c ++ l))) ≡ length c
+character_len [] l one = absurd one
+character_len (b ∷ f) l one = ap suc (following_len f l one.0 one.1)
+
+-- a text is cut in one way into parts of given lengths
+parts_unique : (xs ys us vs : List ℕ) → xs ++ ys ≡ us ++ vs → length xs ≡ length us → (xs ≡ us) × (ys ≡ vs)
+parts_unique xs ys us vs e size = (
+  sym (take-append_seam xs ys) ∙ ap (λ n. take n (xs ++ ys)) size ∙ ap (take (length us)) e ∙ take-append_seam us vs,
+  sym (drop-append_seam xs ys) ∙ ap (λ n. drop n (xs ++ ys)) size ∙ ap (drop (length us)) e ∙ drop-append_seam us vs,
+)
 
 -- ---- a split
 
@@ -69,26 +68,18 @@ pub record SameSplit (p c l q d m : List ℕ) : Type 0 where
 pub split_unique : (text p c l q d m : List ℕ) → IsSplit text p c l → IsSplit text q d m → SameSplit p c l q d m
 split_unique text p c l q d m one two =
     let size : length p ≡ length q = prefix_unique text (length p) (length q) one.prefix two.prefix in
-    let piece : p ≡ q =
-    sym (take-append_seam p (c ++ l)) ∙ ap (take (length p)) (sym one.spelled)
-    ∙ ap (λ n. take n text) size ∙ ap (take (length q)) two.spelled ∙ take-append_seam q (d ++ m) in
-    let others : c ++ l ≡ d ++ m =
-    sym (drop-append_seam p (c ++ l)) ∙ ap (drop (length p)) (sym one.spelled)
-    ∙ ap (λ n. drop n text) size ∙ ap (drop (length q)) two.spelled ∙ drop-append_seam q (d ++ m) in
-    let same = character_unique c l d m one.is_character two.is_character others in
-    record { piece = piece; character = same.0; left = same.1 }
-
--- a character has a byte
-character-size : (c l : List ℕ) → IsCharacter c l → 0 < length c
-character-size [] l one = absurd one
-character-size (b ∷ f) l one = omega arith
+    let parts = parts_unique p (c ++ l) q (d ++ m) (sym one.spelled ∙ two.spelled) size in
+    let same = parts_unique c l d m parts.1
+    (sym (character_len c l one.is_character) ∙ ap (λ t. suc (prefix_len is_following_byte (drop 1 t))) parts.1
+    ∙ character_len d m two.is_character) in
+    record { piece = parts.0; character = same.0; left = same.1 }
 
 -- piece, character and what is left make up the text
 pub split-size : (text p c l : List ℕ) → IsSplit text p c l
     → (length text ≡ length p + (length c + length l)) × (0 < length c)
 split-size text p c l split = (
   ap length split.spelled ∙ length-append p (c ++ l) ∙ ap (λ n. length p + n) (length-append c l),
-  character-size c l split.is_character,
+  omega (arith, character_len c l split.is_character),
 )
 
 -- a split text begins with its piece
@@ -103,12 +94,11 @@ split-not_viable text p c l split viable =
     (subst IsViable (sym (take-length text)) viable)
 
 -- a byte that leads nowhere splits a text
-pub split-from_dead : (prefix bytes : List ℕ) (b : ℕ) (begun : Begun) (rest : Following bytes)
-    → IsLongestPrefix (prefix ++ (b ∷ bytes)) (length prefix)
-    → IsSplit (prefix ++ (b ∷ bytes)) prefix (b ∷ rest.following) rest.left
-split-from_dead prefix bytes b begun rest is_prefix = record {
+pub split-from_dead : (prefix bytes : List ℕ) (b : ℕ) (begun : Begun) (rest : Following bytes) → walk prefix ≡ Some begun
+    → grow begun b ≡ None → IsSplit (prefix ++ (b ∷ bytes)) prefix (b ∷ rest.following) rest.left
+split-from_dead prefix bytes b begun rest walked dead = record {
   spelled = ap (λ t. prefix ++ (b ∷ t)) rest.spelled;
-  prefix = is_prefix;
+  prefix = prefix-from_walk prefix bytes b begun walked dead;
   is_character = (rest.of_class, rest.begins);
 }
 
@@ -116,34 +106,23 @@ split-from_dead prefix bytes b begun rest is_prefix = record {
 
 -- a text is accepted or refused
 pub accepted_or_refused : (text : List ℕ) → IsAccepted text ⊎ IsRefused text
-accepted_or_refused text = reached (walk text) refl
-  where
-    complete : (begun : Begun) → walk text ≡ Some begun → (o : Option SyntaxTree) → tree_of begun ≡ o
-        → IsAccepted text ⊎ IsRefused text
-    complete begun walked None is = inr (refused-from_walk text begun walked is)
-    complete begun walked (Some tree) is = inl (accepted-from_complete text begun tree walked is)
+accepted_or_refused text =
+    by_option (walk text) (λ stopped. inr (stopped-from_walk text stopped))
+    (λ begun walked.
+    by_option (tree_of begun) (λ is. inr (refused-from_walk text begun walked is))
+    (λ tree is. inl (accepted-from_complete text begun tree walked is)))
 
-    reached : (o : Option Begun) → walk text ≡ o → IsAccepted text ⊎ IsRefused text
-    reached None stopped = inr (stopped-from_walk text stopped)
-    reached (Some begun) walked = complete begun walked (tree_of begun) refl
-
--- a text is viable or split
-data ViableOrSplit (text : List ℕ) : Type 0 where
-  is_viable : IsViable text → ViableOrSplit text
-  is_split : (piece character left : List ℕ) → IsSplit text piece character left → ViableOrSplit text
-
-viable_or_split : (text : List ℕ) → ViableOrSplit text
-viable_or_split text = reached (walk text) refl
-  where
-    reached : (o : Option Begun) → walk text ≡ o → ViableOrSplit text
-    reached (Some begun) walked = is_viable (viable-from_walk text begun walked)
-    reached None stopped =
-        let stop = stop-from_walk (in_type []) text stopped in
-        let rest = following_of stop.rest in
-        is_split stop.prefix (stop.byte ∷ rest.following) rest.left
-        (subst (λ t. IsSplit t stop.prefix (stop.byte ∷ rest.following) rest.left) (sym stop.spelled)
-        (split-from_dead stop.prefix stop.rest stop.byte stop.begun rest
-        (prefix-from_walk stop.prefix stop.rest stop.byte stop.begun stop.walked stop.dead)))
+-- a text that can't be walked is split
+split-from_walk : (text : List ℕ) → walk text ≡ None → (p : List ℕ) × (c : List ℕ) × (l : List ℕ) × IsSplit text p c l
+split-from_walk text stopped =
+    let stop = stop-from_walk (in_type []) text stopped in
+    let rest = following_of stop.rest in (
+      stop.prefix,
+      stop.byte ∷ rest.following,
+      rest.left,
+      subst (λ t. IsSplit t stop.prefix (stop.byte ∷ rest.following) rest.left) (sym stop.spelled)
+          (split-from_dead stop.prefix stop.rest stop.byte stop.begun rest stop.walked stop.dead),
+    )
 
 -- ---- a text has a cut
 
@@ -161,50 +140,34 @@ pub record HasCut (text : List ℕ) : Type 0 where
   pub rest : List ℕ
   pub cut : Cut text items rest
 
+-- a refused piece is a bad piece, or empty
+pub items-from_refused : (piece : List ℕ) → IsRefused piece → ItemsOf piece (items_of_rest piece)
+items-from_refused [] is = is_empty refl
+items-from_refused (b ∷ piece) is = is_refused is (λ e. absurd (omega (arith, ap length e)))
+
 -- the items of a piece, whichever they are
-has_items : (piece : List ℕ) → IsAccepted piece ⊎ IsRefused piece → (first : List CutItem) × ItemsOf piece first
-has_items piece (inl accepted) = (_, is_read accepted.0 accepted.1)
-has_items [] (inr is) = (_, is_empty refl)
-has_items (b ∷ piece) (inr is) = (_, is_refused is (λ e. absurd (omega (arith, ap length e))))
+has_items : (piece : List ℕ) → (first : List CutItem) × ItemsOf piece first
+has_items piece =
+    ⊎_elim (λ accepted. (_, is_read accepted.0 accepted.1)) (λ is. (_, items-from_refused piece is)) (accepted_or_refused piece)
 
 cut_within : (n : ℕ) (text : List ℕ) → length text < n → HasCut text
 cut_within zero text below = absurd (omega arith)
-cut_within (suc n) text below = onward (viable_or_split text) (cut_within n)
-  where
-    ended : IsViable text → IsAccepted text ⊎ IsRefused text → HasCut text
-    ended viable (inl accepted) = record { items = _; rest = _; cut = whole text accepted.0 accepted.1 }
-    ended viable (inr is) = record { items = _; rest = _; cut = unfinished text viable is }
-
-    onward : ViableOrSplit text → ((t : List ℕ) → length t < n → HasCut t) → HasCut text
-    onward (is_viable viable) cuts = ended viable (accepted_or_refused text)
-    onward (is_split p c l split) cuts =
-        let size = split-size text p c l split in
-        let first = has_items p (accepted_or_refused p) in
-        let others = cuts l (omega (arith, size.0, size.1)) in
-        record { items = _; rest = _; cut = goes_on text p c l first.0 others.items others.rest split first.1 others.cut }
+cut_within (suc n) text below =
+    by_option (walk text)
+    (λ stopped.
+    let (p, c, l, split) = split-from_walk text stopped in
+    let size = split-size text p c l split in
+    let first = has_items p in
+    let others = cut_within n l (omega (arith, size.0, size.1, below)) in
+    record { items = _; rest = _; cut = goes_on text p c l first.0 others.items others.rest split first.1 others.cut })
+    (λ begun walked.
+    ⊎_elim (λ accepted. record { items = _; rest = _; cut = whole text accepted.0 accepted.1 })
+    (λ is. record { items = _; rest = _; cut = unfinished text (viable-from_walk text begun walked) is }) (accepted_or_refused text))
 
 pub has_cut : (text : List ℕ) → HasCut text
 has_cut text = cut_within (suc (length text)) text (omega arith)
 
 -- ---- and only one
-
--- the cut of a viable text
-data ViableCut (text : List ℕ) : List CutItem → List ℕ → Type 0 where
-  of_accepted : (value : MediaType) → Reads text value → ViableCut text (good text value ∷ []) []
-  of_refused : IsRefused text → ViableCut text [] text
-
-viable_inv : (text : List ℕ) (items : List CutItem) (rest : List ℕ) → IsViable text → Cut text items rest → ViableCut text items rest
-viable_inv text items rest viable (whole t v reads) = of_accepted v reads
-viable_inv text items rest viable (unfinished t too is) = of_refused is
-viable_inv text items rest viable (goes_on t p c l first others r split of_piece cut) = absurd (split-not_viable t p c l split viable)
-
-viable_unique : (text : List ℕ) (items others : List CutItem) (rest left : List ℕ) → ViableCut text items rest
-    → ViableCut text others left → (others ≡ items) × (left ≡ rest)
-viable_unique text items others rest left (of_accepted v reads) (of_accepted w again) =
-    (ap (λ x. good text x ∷ []) (one_reading text w v again reads), refl)
-viable_unique text items others rest left (of_accepted v reads) (of_refused is) = absurd (is (v, reads))
-viable_unique text items others rest left (of_refused is) (of_accepted v reads) = absurd (is (v, reads))
-viable_unique text items others rest left (of_refused is) (of_refused too) = (refl, refl)
 
 -- a piece has one list of items
 pub items_of_unique : (piece : List ℕ) (one two : List CutItem) → ItemsOf piece one → ItemsOf piece two → one ≡ two
@@ -240,10 +203,15 @@ split_inv text p c l first items rest split has (goes_on t q d m own others r ag
 -- a text has one cut
 pub cut_unique : (text : List ℕ) (items : List CutItem) (rest : List ℕ) → Cut text items rest
     → (others : List CutItem) (left : List ℕ) → Cut text others left → (others ≡ items) × (left ≡ rest)
-cut_unique text items rest (whole t v reads) others left second =
-    viable_unique t _ others _ left (of_accepted v reads) (viable_inv t others left (accepted_is_viable t (v, reads)) second)
-cut_unique text items rest (unfinished t viable is) others left second =
-    viable_unique t _ others _ left (of_refused is) (viable_inv t others left viable second)
+cut_unique text items rest (whole t v reads) others left (whole u w again) =
+    (ap (λ x. good u x ∷ []) (one_reading u w v again reads), refl)
+cut_unique text items rest (whole t v reads) others left (unfinished u viable is) = absurd (is (v, reads))
+cut_unique text items rest (whole t v reads) others left (goes_on u p c l first own r split of_piece cut) =
+    absurd (split-not_viable u p c l split (accepted_is_viable u (v, reads)))
+cut_unique text items rest (unfinished t viable is) others left (whole u w again) = absurd (is (w, again))
+cut_unique text items rest (unfinished t viable is) others left (unfinished u too also) = (refl, refl)
+cut_unique text items rest (unfinished t viable is) others left (goes_on u p c l first own r split of_piece cut) =
+    absurd (split-not_viable u p c l split viable)
 cut_unique text items rest (goes_on t p c l first own r split of_piece cut) others left second =
     let leaves = split_inv t p c l first others left split of_piece second in
     let same = cut_unique l own r cut leaves.others left leaves.cut in

@@ -17,7 +17,7 @@ use Rattle.std.proofs.lemmas.Bool.{and_parts, and_from, cond-false}
 use Rattle.std.proofs.lemmas.Bool.Decides.{nat_tests}
 use Rattle.mime.specs.Grammar.{Parameter, plain, quoted, Parameters, blank, final, more, Tail, no_list, listed, SyntaxTree, AreTokenBytes, IsToken, IsContent, IsParameter, AreParameters, IsTail}
 use Rattle.mime.specs.HeaderLaws.{AreHeaderBytes, IsSafePair, KeptIsSafe, text_with_parameter, with_parameter, ParameterIsRead}
-use Rattle.mime.specs.Quoted.{awaits_first, takes, awaits_after, continues}
+use Rattle.mime.specs.Quoted.{takes, awaits_after, continues}
 use Rattle.mime.proofs.GrammarLemmas.Begun.{Begun, in_type, in_list, in_quotes, list_at, grow, walk_from}
 use Rattle.mime.proofs.BytesLemmas.{list_all-wider, AreTokenBytes-from_token}
 use Rattle.mime.proofs.GrammarLemmas.Characters.{IsForeign, IsOpen, grow-foreign}
@@ -120,7 +120,7 @@ unsafe-dead begun b unsafe =
     closed : (at : IsOpen begun) → grow (in_list at.top at.sub (list_at at.closed (in_quotes at.spaces at.name at.content))) b ≡ None
     closed at =
         ap (option_map (in_list at.top at.sub))
-        (cond-false (continues at.content b) _ _ (unsafe-untaken (awaits_after awaits_first at.content) b unsafe)
+        (cond-false (continues at.content b) _ _ (unsafe-untaken (awaits_after false at.content) b unsafe)
         ∙ cond-false (b == quote_byte) _ None foreign.quote)
 
 -- a text that is walked has no such byte

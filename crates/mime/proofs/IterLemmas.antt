@@ -1,13 +1,13 @@
 -- One call of a `MimeIter`: pieces are passed up to the first that is an item, and that is given.
-use Rattle.std.proofs.Common.{◌≡◌, ◌≢◌, ℕ, ◌+◌, ◌-◌, ◌<◌, ◌≤◌, Bool, true, false, List, [], length, Option, Some, None, Result, Ok, Err, refl, sym, ap, ◌∙◌, subst, arith, Bor, ◌∷◌, ◌++◌, map}
+use Rattle.std.proofs.Common.{◌≡◌, ◌≢◌, ℕ, ◌+◌, ◌-◌, ◌<◌, ◌≤◌, true, false, List, [], length, Option, Some, None, Result, Ok, Err, refl, sym, ap, ◌∙◌, subst, arith, Bor, ◌∷◌, ◌++◌, map}
 use Rattle.std.specs.Prelude.{codes}
 use Rattle.std.proofs.lemmas.Bool.{true≢false}
 use Rattle.std.proofs.lemmas.List.{nil_from_length}
 use Rattle.std.proofs.lemmas.Option.{none-some}
 use Rattle.mime.specs.Values.{OwnedMedia, Reads}
-use Rattle.mime.specs.Cut.{TakesSteps, Cut, CutItem, good, bad}
+use Rattle.mime.specs.Cut.{TakesSteps, Cut, CutItem, good}
 use Rattle.mime.specs.Runs.{Iteration, GivesItem, IsNext}
-use Rattle.mime.specs.BetweenCalls.{IsUnderWay, PassesOn, IsFirstPiece, PassesPiece, IsSound, IsFound}
+use Rattle.mime.specs.BetweenCalls.{IsUnderWay, PassesOn, IsFirstPiece, PassesPiece, IsFound}
 use Rattle.mime.specs.declared.iter.Bad.{Bad}
 use Rattle.mime.specs.declared.iter.Bad.TheVariants.{Piece, NoMemory}
 use Rattle.mime.specs.declared.iter.MimeIter.TheInside.{Inside}
@@ -21,13 +21,9 @@ use Rattle.mime.proofs.Containment.{comma_contains, joined_comes_back}
 
 -- ---- what is kept
 
--- out of memory, nothing is left
-under_way-out_of_memory : (text left : List ℕ) (out_of_memory : Bool) (steps : ℕ) → IsUnderWay text left out_of_memory steps
-    → IsUnderWay text [] true steps
-under_way-out_of_memory text left out_of_memory steps kept = record {
-  few = omega (arith, kept.few);
-  exact = λ fed n takes. absurd (true≢false fed);
-}
+-- what every `MimeIter` keeps
+abbrev pub IsSound : Iteration → Type 0
+IsSound i = IsUnderWay i.text i.left i.out_of_memory i.steps
 
 -- pieces without an item were passed since a call began
 pub record IsLooking (old now : Iteration) : Type 0 where
@@ -177,7 +173,7 @@ next-out_of_memory old now new piece positions found not_star is =
     let accepted = accepted-from_positions piece.now positions found.gives.0.0 in
     let others = has_cut now.left in
     next-some old now new (piece, Some positions) (Err NoMemory) found
-    (subst IsSound (sym is) (under_way-out_of_memory now.text now.left now.out_of_memory now.steps found.sound))
+    (subst IsSound (sym is) (record { few = omega (arith, found.sound.few); exact = λ fed n takes. absurd (true≢false fed) }))
     (ap (λ (i : Iteration). i.text) is) (
       record {
         piece = piece.now;
@@ -191,54 +187,33 @@ next-out_of_memory old now new piece positions found not_star is =
       ap (λ (i : Iteration). i.out_of_memory) is,
     )
 
--- the items of a run
-record RunItems (text : List ℕ) (given : List (Result OwnedMedia Bad)) : Type 0 where
-  items : List CutItem
-  rest : List ℕ
-  cut : Cut text items rest
-  are : AreGiven given items
-
 -- nothing is given after an end
 given_ended : (first : Iteration) (given : List (Result OwnedMedia Bad)) → first.left ≡ [] → Drains IsNext first given → given ≡ []
 given_ended first [] ended drains = refl
 given_ended first (item ∷ given) ended (end, (last, (next, step, others), none)) = absurd (none-some item (sym (step.stays ended).0))
 
-run_items : (first : Iteration) (given : List (Result OwnedMedia Bad)) → Drains IsNext first given → RunItems first.left given
+-- the cut that a run gives
+run_items : (first : Iteration) (given : List (Result OwnedMedia Bad)) → Drains IsNext first given
+    → (items : List CutItem) × (rest : List ℕ) × Cut first.left items rest × AreGiven given items
 run_items first [] (end, (last, same, none)) =
-    let has = none.item.0 in
-    record { items = []; rest = has.0; cut = subst (λ (i : Iteration). Cut i.left [] has.0) (sym same) has.1; are = none_left }
+    let has = none.item.0 in ([], has.0, subst (λ (i : Iteration). Cut i.left [] has.0) (sym same) has.1, none_left)
 run_items first (Ok mime ∷ given) (end, (last, (next, step, others), none)) =
-    let after = run_items next given (end, (last, others, none)) in
-    record {
-      items = good step.item.0 mime.media ∷ after.items;
-      rest = after.rest;
-      cut = step.item.1 after.items after.rest after.cut;
-      are = a_value mime step.item.0 given after.items after.are;
-    }
+    let (items, rest, cut, are) = run_items next given (end, (last, others, none)) in
+    (_, rest, step.item.1 items rest cut, a_value mime step.item.0 given items are)
 run_items first (Err (Piece p) ∷ given) (end, (last, (next, step, others), none)) =
-    let after = run_items next given (end, (last, others, none)) in
-    record {
-      items = bad p.now ∷ after.items;
-      rest = after.rest;
-      cut = step.item.0 after.items after.rest after.cut;
-      are = a_piece p given after.items after.are;
-    }
+    let (items, rest, cut, are) = run_items next given (end, (last, others, none)) in
+    (_, rest, step.item.0 items rest cut, a_piece p given items are)
 run_items first (Err NoMemory ∷ given) (end, (last, (next, step, others), none)) =
     let needs = step.item.0 in
-    record {
-      items = good needs.piece needs.value ∷ needs.items;
-      rest = needs.rest;
-      cut = needs.cut;
-      are = subst (λ g. AreGiven (Err NoMemory ∷ g) (good needs.piece needs.value ∷ needs.items))
-          (sym (given_ended next given step.item.1 (end, (last, others, none))))
-          (no_memory needs.piece needs.value needs.items needs.not_star);
-    }
+    let are = no_memory needs.piece needs.value needs.items needs.not_star in
+    let ended = given_ended next given step.item.1 (end, (last, others, none)) in
+    (_, needs.rest, needs.cut, subst (λ g. AreGiven (Err NoMemory ∷ g) (good needs.piece needs.value ∷ needs.items)) (sym ended) are)
 
 -- a whole run gives the items of the cut
 pub run_gives_cut : RunGivesCut
 run_gives_cut first given drains items rest cut =
-    let run = run_items first given drains in
-    subst (AreGiven given) (cut_unique first.left items rest cut run.items run.rest run.cut).0 run.are
+    let (own, end, found, are) = run_items first given drains in
+    subst (AreGiven given) (cut_unique first.left items rest cut own end found).0 are
 
 -- a run over a text with a comma gives the items before it, the rest, and the items after it
 pub comma_contains_on_runs : CommaContainsOnRuns

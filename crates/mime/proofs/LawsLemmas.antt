@@ -11,7 +11,7 @@ use Rattle.std.specs.Str.{IsUtf8, bytes_eq}
 use Rattle.std.specs.Bool.{Decides, beq}
 use Rattle.std.specs.Cmp.{booleans_Decides}
 use Rattle.mime.specs.Grammar.{SyntaxTree, no_list}
-use Rattle.mime.specs.Values.{MediaType, Reads, lowered, lowered_tree, IsAccepted, IsRefused}
+use Rattle.mime.specs.Values.{MediaType, Reads, lowered, lowered_tree, IsAccepted}
 use Rattle.mime.specs.Comparison.{Same, HasNoSemicolon}
 use Rattle.mime.specs.Refusals.{IsViable, IsLongestPrefix, completion_of, Lacks}
 use Rattle.mime.specs.Items.{Item, IsFirstAccepted}
@@ -34,14 +34,10 @@ use lib.Utf8.{encode}
 
 -- ---- an essence
 
--- a tree without its list
-abbrev without_list : SyntaxTree → SyntaxTree
-without_list tree = record { top = tree.top; sub = tree.sub; tail = no_list }
-
 -- the essence of a value that was read is read as the value without its parameters
 pub essence_is_read : EssenceIsRead
 essence_is_read text value reads =
-    let bare = without_list reads.tree in
+    let bare : SyntaxTree = record { top = reads.tree.top; sub = reads.tree.sub; tail = no_list } in
     record {
       tree = lowered_tree bare;
       well_formed = IsWellFormed-lowered_tree bare (reads.well_formed.0, reads.well_formed.1, tt);
@@ -109,13 +105,10 @@ one_answer Accepts items found other is also = same_answer other found (never it
 -- a key that decides of each name finds an answer
 pub has_answer : (Accepts : List ℕ → Bool → Type 0) → HasAnswer Accepts
 has_answer Accepts decided [] = (None, refl)
-has_answer Accepts decided (item ∷ items) = by (decided item.name item.name_ignores_case) (has_answer Accepts decided items)
-  where
-    by : Accepts item.name item.name_ignores_case ⊎ ¬ (Accepts item.name item.name_ignores_case)
-        → (found : Option (List ℕ × Bool)) × IsFirstAccepted Accepts items found
-        → (found : Option (List ℕ × Bool)) × IsFirstAccepted Accepts (item ∷ items) found
-    by (inl accepts) rest = (Some (item.value, item.value_ignores_case), (λ is. refl, λ isnt. absurd (isnt accepts)))
-    by (inr refuses) rest = (rest.0, (λ is. absurd (refuses is), λ isnt. rest.1))
+has_answer Accepts decided (item ∷ items) =
+    ⊎_elim (λ accepts. (Some (item.value, item.value_ignores_case), (λ is. refl, λ isnt. absurd (isnt accepts))))
+    (λ refuses. let rest = has_answer Accepts decided items in (rest.0, (λ is. absurd (refuses is), λ isnt. rest.1)))
+    (decided item.name item.name_ignores_case)
 
 -- that a name is a text is decided
 pub text_decides : (text : List ℕ) → IsDecided (λ name ignores_case. NameIs name ignores_case text)
@@ -166,20 +159,20 @@ completion-utf8 NoMemory = tt
 
 -- with it a text of valid UTF-8 stays one
 completed_in_utf8 : (prefix : List ℕ) (fault : ParseError) → IsUtf8 prefix → Lacks prefix fault → IsViableInUtf8 prefix
-completed_in_utf8 prefix fault utf8 lacks = by (completion_of fault) (completion-utf8 fault) lacks.0
-  where
-    by : (o : Option (List ℕ)) → MatchOption o (Unit {0}) IsUtf8 → MatchOption o ⊥ (λ more. IsAccepted (prefix ++ more))
-        → IsViableInUtf8 prefix
-    by None ascii completed = absurd completed
-    by (Some more) ascii completed = (more, IsUtf8-append prefix more utf8 ascii, completed)
+completed_in_utf8 prefix fault utf8 lacks =
+    (elim (completion_of fault) as (λ o. MatchOption o (Unit {0}) IsUtf8 → MatchOption o ⊥ (λ more. IsAccepted (prefix ++ more))
+    → IsViableInUtf8 prefix) [
+      | None ↦ λ ascii completed. absurd completed
+      | Some more ↦ λ ascii completed. (more, IsUtf8-append prefix more utf8 ascii, completed)
+    ]) (completion-utf8 fault) lacks.0
 
 -- a viable text of valid UTF-8 is completed to one
 viable-in_utf8 : (prefix : List ℕ) → IsUtf8 prefix → IsViable prefix → IsViableInUtf8 prefix
-viable-in_utf8 prefix utf8 viable = by (accepted_or_refused prefix)
-  where
-    by : IsAccepted prefix ⊎ IsRefused prefix → IsViableInUtf8 prefix
-    by (inl accepted) = ([], subst IsUtf8 (sym (append-nil prefix)) utf8, subst IsAccepted (sym (append-nil prefix)) accepted)
-    by (inr is) = let lacks = one_completion prefix viable is in completed_in_utf8 prefix lacks.0 utf8 lacks.1
+viable-in_utf8 prefix utf8 viable =
+    ⊎_elim
+    (λ accepted. ([], subst IsUtf8 (sym (append-nil prefix)) utf8, subst IsAccepted (sym (append-nil prefix)) accepted))
+    (λ is. let lacks = one_completion prefix viable is in completed_in_utf8 prefix lacks.0 utf8 lacks.1)
+    (accepted_or_refused prefix)
 
 -- the longest viable prefix is completed to a text of valid UTF-8
 prefix-in_utf8 : (text : List ℕ) (count : ℕ) → IsUtf8 text → IsLongestPrefix text count → IsLongestPrefixInUtf8 text count

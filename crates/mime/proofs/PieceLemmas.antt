@@ -8,16 +8,16 @@ use Rattle.std.specs.Prelude.{IsTrue, IsFalse, ◌&&◌}
 use Rattle.std.specs.List.{list_all}
 use Rattle.std.specs.Str.{IsUtf8, IsCharBoundary}
 use Rattle.mime.specs.Values.{IsAccepted, IsRefused}
-use Rattle.mime.specs.Refusals.{IsViable, IsLongestPrefix}
+use Rattle.mime.specs.Refusals.{IsViable, IsLongestPrefix, IsDeadAt}
 use Rattle.mime.specs.Cut.{is_following_byte, BeginsCharacter, IsCharacter, IsSplit, CutItem, good, bad, ItemsOf, is_read, is_refused, is_empty, Cut, whole, unfinished, goes_on, TakesSteps}
 use Rattle.mime.specs.ReaderState.{Remaining}
-use Rattle.mime.specs.Scanning.{HasPositions, IsStopped, Judges, Scans}
+use Rattle.mime.specs.Scanning.{HasPositions, Judges, Scans}
 use Rattle.mime.specs.BetweenCalls.{IsUnderWay, IsFirstPiece, PassesPiece}
 use Rattle.mime.specs.declared.scan.fault.ParseError.{ParseError}
 use Rattle.mime.specs.declared.scan.Positions.{Positions}
 use Rattle.mime.specs.declared.scan.Verdict.{Verdict}
 use Rattle.mime.specs.declared.scan.Verdict.TheVariants.{Accepted, Unfinished, Stopped}
-use Rattle.mime.proofs.GrammarLemmas.Characters.{prefix_ends_between_characters}
+use Rattle.mime.proofs.GrammarLemmas.Characters.{following-low, prefix_ends_between_characters}
 use Rattle.mime.proofs.CutLemmas.{empty-refused, empty-cut, split-size, cut_unique, takes-split, takes-viable, takes-empty}
 use Rattle.mime.proofs.ValueLemmas.Reading.{accepted-from_positions, refused-from_fault}
 use Rattle.mime.proofs.GrammarLemmas.Viability.{accepted_is_viable}
@@ -31,11 +31,8 @@ IsAfterCharacter text left = (character : List ℕ) × (text ≡ character ++ le
 -- a byte that follows is none before which a text may be cut
 not_following : (b : ℕ) (bytes : List ℕ) → IsCharBoundary (b ∷ bytes) 0 → IsFalse (is_following_byte b)
 not_following b bytes border =
-    ⊎_elim (λ follows. absurd (omega (arith, border.1 (omega arith) (grind (arith, nat_tests, follows)), high b follows))) (λ is. is)
+    ⊎_elim (λ follows. let low = following-low b follows in absurd (omega (arith, border.1 (omega arith) low.0, low.1))) (λ is. is)
     (cases_Bool (is_following_byte b))
-  where
-    high : (b : ℕ) → IsTrue (is_following_byte b) → b < 192
-    high b follows = grind (arith, nat_tests, follows)
 
 -- up to the first position where a text may be cut all bytes follow
 follow_to : (bytes : List ℕ) (n : ℕ) → IsCharBoundary bytes n → ((j : ℕ) → j < n → ¬ (IsCharBoundary bytes j))
@@ -70,19 +67,15 @@ after_character (b ∷ bytes) (suc n) some past border none = (
 -- what the scanner found in a text that a reader counted on from somewhere
 pub judged-from_scan : (old new : Remaining) (text : List ℕ) (from steps : ℕ) (verdict : Verdict) → Scans old new verdict
     → old.left ≡ text → old.count ≡ from → steps ≡ new.count → Judges text (steps - from) verdict
-judged-from_scan old new text from steps verdict scans left begin end =
-    let count : scans.count ≡ steps - from = omega (arith, scans.counted, begin, end) in
-    subst (λ n. Judges text n verdict) count (subst (λ t. Judges t scans.count verdict) left scans.judged)
+judged-from_scan old new text from steps verdict scans left begin end = rw (left, begin, sym end) at scans.judged
 
 -- where it stopped the text may be cut, and isn't at its end
 pub stopped-boundary : (text : List ℕ) (steps at byte : ℕ) (positions : Option Positions) → IsUtf8 text
     → Judges text steps (Stopped byte positions) → at ≡ steps - 1 → IsCharBoundary text at × (0 < length (drop at text))
-stopped-boundary text steps at byte positions utf8 (pos, is, stopped) is_at =
-    let same : pos ≡ at = omega (arith, is, is_at) in
-    let within = slice_get_within text pos byte stopped.fault.there in (
-      subst (IsCharBoundary text) same (prefix_ends_between_characters text pos utf8 stopped.fault.prefix),
-      omega (arith, length-drop at text, same, within),
-    )
+stopped-boundary text steps at byte positions utf8 (some, dead, before) is_at = (
+  rw is_at (prefix_ends_between_characters text (steps - 1) utf8 dead.prefix),
+  omega (arith, length-drop at text, is_at, slice_get_within text (steps - 1) byte dead.there),
+)
 
 -- a text that was read to its end
 under_way-viable : (text : List ℕ) → IsViable text → IsUnderWay text [] false (length text)
@@ -156,18 +149,17 @@ pub passes-stopped : (text piece rest left : List ℕ) (steps at end byte : ℕ)
     → Judges text steps (Stopped byte positions) → at ≡ steps - 1 → piece ≡ take at text → rest ≡ drop at text → left ≡ drop end rest
     → (1 ≤ length rest → 1 ≤ end) → IsCharBoundary rest end → ((i : ℕ) → 1 ≤ i → i < end → ¬ (IsCharBoundary rest i))
     → PassesPiece text piece positions left steps
-passes-stopped text piece rest left steps at end byte positions (pos, is, stopped) is_at is_piece is_rest is_left past border nearest =
-    let same : pos ≡ at = omega (arith, is, is_at) in
-    let before = subst (λ n. IsStopped text n byte positions) same stopped in
-    let size : length (take at text) ≡ at = length-take-le at text before.fault.prefix.within in
+passes-stopped text piece rest left steps at end byte positions (given, dead_at, refused) is_at is_piece is_rest is_left past border near =
+    let dead = subst (λ n. IsDeadAt text n byte) (sym is_at) dead_at in
+    let size : length (take at text) ≡ at = length-take-le at text dead.prefix.within in
     let some : 0 < length rest =
-    omega (arith, ap length is_rest, length-drop at text, slice_get_within text at byte before.fault.there) in
-    let after = after_character rest end some (past (omega (arith, some))) border nearest in
+    omega (arith, ap length is_rest, length-drop at text, slice_get_within text at byte dead.there) in
+    let after = after_character rest end some (past (omega (arith, some))) border near in
     subst (λ p. PassesPiece text p positions left steps) (sym is_piece)
-    (subst (PassesPiece text (take at text) positions left) (omega (arith, is, same, size))
+    (subst (PassesPiece text (take at text) positions left) (omega (arith, given, is_at, size))
     (passes-split text (take at text) after.0 left positions
     (record {
       spelled = sym (take-append-drop at text) ∙ ap (λ t. take at text ++ t) (sym is_rest ∙ after.1 ∙ ap (λ t. after.0 ++ t) (sym is_left));
-      prefix = subst (IsLongestPrefix text) (sym size) before.fault.prefix;
+      prefix = subst (IsLongestPrefix text) (sym size) dead.prefix;
       is_character = subst (IsCharacter after.0) (sym is_left) after.2;
-    }) before.before))
+    }) (rw is_at refused)))

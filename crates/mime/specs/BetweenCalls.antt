@@ -1,5 +1,5 @@
 -- Private. How a text is passed piece by piece, and what a `MimeIter` keeps.
-use Rattle.std.specs.Prelude.{◌≡◌, ◌≢◌, ℕ, ◌+◌, ◌≤◌, ◌<◌, Bool, false, List, [], length, Option, Some, None}
+use Rattle.std.specs.Prelude.{◌≡◌, ◌≢◌, ℕ, ◌+◌, ◌≤◌, ◌<◌, Bool, false, List, [], length, Option, Some, None, MatchOption}
 use Rattle.std.specs.Borrow.{Bor}
 use Rattle.mime.specs.Values.{MediaType, Reads}
 use Rattle.mime.specs.Scanning.{HasPositions}
@@ -30,19 +30,11 @@ pub record PassesPiece (text piece : List ℕ) (positions : Option Positions) (l
   pub less : 0 < length text → length left < length text
   pub under_way : IsUnderWay text left false steps
 
--- what every `MimeIter` keeps
-abbrev pub IsSound : Iteration → Type 0
-IsSound i = IsUnderWay i.text i.left i.out_of_memory i.steps
-
--- the piece of the first item, with the positions of its parts if it is accepted, and what is left then
-abbrev pub GivesPiece : List ℕ → Option (Bor (List ℕ) × Option Positions) → List ℕ → Type 0
-GivesPiece text None left = HasNoItem text × (left ≡ [])
-GivesPiece text (Some (piece, positions)) left = IsFirstPiece text piece.now positions left × (length left < length text)
-
--- the first piece that is an item was looked for
+-- the first piece that is an item was looked for: what is found is that piece, with the positions of its parts if it is accepted
 pub record IsFound (old : Iteration) (found : Option (Bor (List ℕ) × Option Positions)) (new : Iteration) : Type 0 where
-  pub gives : GivesPiece old.left found new.left
+  pub gives : MatchOption found (HasNoItem old.left × (new.left ≡ []))
+      (λ item. IsFirstPiece old.left item.0.now item.1 new.left × (length new.left < length old.left))
   pub out_of_memory : new.out_of_memory ≡ old.out_of_memory
   pub text : new.text ≡ old.text
   pub still : old.left ≡ [] → (found ≡ None) × (new ≡ old)
-  pub sound : IsSound new
+  pub sound : IsUnderWay new.text new.left new.out_of_memory new.steps

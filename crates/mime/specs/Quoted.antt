@@ -2,11 +2,8 @@
 use Rattle.std.specs.Prelude.{ℕ, zero, suc, ◌+◌, Bool, true, false, IsTrue, List, [], ◌∷◌, take, drop, if◌then◌else◌, ◌==◌, ◌&&◌, not}
 use Rattle.mime.specs.Bytes.{is_quoted_byte, quote_byte, backslash_byte}
 
--- whether a byte is awaited, one that can't close the value: at its start none is
-abbrev pub awaits_first : Bool
-awaits_first = false
-
--- and after one more byte: one is after a backslash that doesn't end a pair
+-- whether a byte is awaited, one that can't close the value, after one more byte: one is after a backslash that doesn't end a
+-- pair, and none is at the value's start (`false`)
 abbrev pub awaits_next : Bool → ℕ → Bool
 awaits_next awaiting b = not awaiting && b == backslash_byte
 
@@ -27,11 +24,11 @@ awaits_after awaiting (b ∷ bytes) = awaits_after (awaits_next awaiting b) byte
 
 -- what may follow an opening quote
 abbrev pub IsOpenContent : List ℕ → Type 0
-IsOpenContent content = IsTrue (takes_all awaits_first content)
+IsOpenContent content = IsTrue (takes_all false content)
 
 -- whether such content takes one more byte; a quote that it doesn't take closes it
 abbrev pub continues : List ℕ → ℕ → Bool
-continues content b = takes (awaits_after awaits_first content) b
+continues content b = takes (awaits_after false content) b
 
 -- the number of bytes before the closing quote, or of all bytes if there is none
 abbrev pub len_from : Bool → List ℕ → ℕ
@@ -40,7 +37,7 @@ len_from awaiting (b ∷ bytes) =
     if not awaiting && b == quote_byte then zero else suc (len_from (awaits_next awaiting b) bytes)
 
 abbrev pub content_len : List ℕ → ℕ
-content_len text = len_from awaits_first text
+content_len text = len_from false text
 
 -- the content that a text begins with, and the text after its closing quote
 abbrev pub content_of : List ℕ → List ℕ

@@ -1,13 +1,12 @@
 -- Private. What the reader has left, what a pass over it leaves, and what the scanner finds.
-use Rattle.std.specs.Prelude.{◌≡◌, ℕ, ◌+◌, Bool, IsTrue, IsFalse, List, [], ◌++◌, length, take, drop, Option, Some, None, MatchOption}
+use Rattle.std.specs.Prelude.{◌≡◌, ℕ, ◌+◌, ◌-◌, ◌<◌, ◌≤◌, Bool, IsTrue, IsFalse, List, [], ◌++◌, length, take, drop, Option, Some, None, MatchOption}
 use Rattle.std.specs.Option.{option_to_list}
 use Rattle.std.specs.List.{list_all}
 use Rattle.mime.specs.Bytes.{is_token_byte}
 use Rattle.mime.specs.Grammar.{blank, Tail, no_list, listed, SyntaxTree, text_of, IsToken, IsWellFormed}
 use Rattle.mime.specs.Values.{last_plus, pairs_of_tail, IsRefused}
-use Rattle.mime.specs.Refusals.{IsViable, IsFault}
+use Rattle.mime.specs.Refusals.{IsViable, IsDeadAt, IsFault}
 use Rattle.mime.specs.declared.scan.Positions.{Positions}
-use Rattle.mime.specs.declared.scan.fault.ParseError.TheVariants.{InvalidToken}
 use Rattle.mime.specs.declared.scan.Verdict.{Verdict}
 use Rattle.mime.specs.declared.scan.Verdict.TheVariants.{Accepted, Unfinished, Stopped}
 use Rattle.mime.specs.ReaderState.{Remaining}
@@ -49,22 +48,17 @@ pub record HasPositions (text : List ℕ) (positions : Positions) : Type 0 where
   pub spelled : text_of tree ≡ text
   pub same_positions : positions_of tree ≡ positions
 
--- the text is refused at the byte after its first `pos` bytes, which are themselves as said
-pub record IsStopped (text : List ℕ) (pos byte : ℕ) (positions : Option Positions) : Type 0 where
-  pub fault : IsFault text (InvalidToken pos byte)
-  pub before : MatchOption positions (IsRefused (take pos text)) (λ p. HasPositions (take pos text) p)
-
--- what the scanner finds in a text, after it was given `count` bytes
+-- what the scanner finds in a text, after it was given `count` bytes; where it stops, the last of them is at fault
 abbrev pub Judges : List ℕ → ℕ → Verdict → Type 0
 Judges text count (Accepted positions) = (count ≡ length text) × HasPositions text positions
 Judges text count (Unfinished fault) = (count ≡ length text) × IsFault text fault × IsViable text
-Judges text count (Stopped byte positions) = (pos : ℕ) × (count ≡ pos + 1) × IsStopped text pos byte positions
+Judges text count (Stopped byte positions) = (0 < count) × IsDeadAt text (count - 1) byte
+    × MatchOption positions (IsRefused (take (count - 1) text)) (λ p. HasPositions (take (count - 1) text) p)
 
 -- the scanner's answer, with the bytes that it took
 pub record Scans (old new : Remaining) (verdict : Verdict) : Type 0 where
-  pub count : ℕ
-  pub counted : new.count ≡ old.count + count
-  pub judged : Judges old.left count verdict
+  pub counted : old.count ≤ new.count
+  pub judged : Judges old.left (new.count - old.count) verdict
 
 -- quoted content was passed, and the byte that ends it
 pub record PassesContent (old new : Remaining) (stop : Option ℕ) : Type 0 where

@@ -11,7 +11,7 @@ use Rattle.mime.proofs.CutLemmas.{empty-refused, split-not_viable, split-from_de
 use Rattle.mime.proofs.ValueLemmas.KeptText.{kept_is_read}
 use Rattle.mime.proofs.GrammarLemmas.Readings.{refused-from_walk}
 use Rattle.mime_facts.proofs.ValueFacts.{differ, plain_value, reads_capitals, keeps_no_capitals}
-use Rattle.mime.proofs.GrammarLemmas.Viability.{prefix-from_walk, viable-from_walk, accepted_is_viable}
+use Rattle.mime.proofs.GrammarLemmas.Viability.{viable-from_walk, accepted_is_viable}
 
 -- ---- characters
 
@@ -38,8 +38,7 @@ pub split_at_comma : IsSplit (codes "e,A/B") (codes "e") (codes ",") (codes "A/B
 unfolding is_token_byte
 split_at_comma =
     split-from_dead (codes "e") (codes "A/B") 44 (in_type (codes "e"))
-    (record { following = []; left = codes "A/B"; spelled = refl; of_class = refl; begins = refl })
-    (prefix-from_walk (codes "e") (codes "A/B") 44 (in_type (codes "e")) refl refl)
+    (record { following = []; left = codes "A/B"; spelled = refl; of_class = refl; begins = refl }) refl refl
 
 -- `e,A/B` is split nowhere else
 split_nowhere_else : ¬ (IsSplit (codes "e,A/B") [] (codes "e") (codes ",A/B"))

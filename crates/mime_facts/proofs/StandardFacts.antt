@@ -11,7 +11,7 @@ use Rattle.mime.specs.declared.scan.fault.ParseError.TheVariants.{MissingSlash, 
 use Rattle.mime.proofs.GrammarLemmas.Begun.{Closed, in_type, in_subtype, in_list, in_name, in_value, list_at, walk}
 use Rattle.mime.proofs.FirstDifference.{different_values}
 use Rattle.mime.proofs.GrammarLemmas.Content.{IsContent-taken}
-use Rattle.mime.proofs.GrammarLemmas.Viability.{lacks-from_walk, quote_fault-from_walk, dead-from_walk}
+use Rattle.mime.proofs.GrammarLemmas.Viability.{lacks-from_walk, dead-from_walk}
 
 -- ---- accepted texts
 
@@ -172,21 +172,21 @@ no_value = value_fault-from_walk (codes "a/b;p=") (codes "a") (codes "b") [] [] 
 -- in an open quoted value a slash and an equals sign are content
 slash_in_quotes : IsFault (codes "a/b;p=\"x/") MissingQuote
 unfolding is_token_byte is_quoted_byte
-slash_in_quotes = quote_fault-from_walk (codes "a/b;p=\"x/") (codes "a") (codes "b") [] [] (codes "p") (codes "x/") refl
+slash_in_quotes = lacks-from_walk (codes "a/b;p=\"x/") _ refl refl
 
 equals_in_quotes : IsFault (codes "a/b;p=\"=") MissingQuote
 unfolding is_token_byte is_quoted_byte
-equals_in_quotes = quote_fault-from_walk (codes "a/b;p=\"=") (codes "a") (codes "b") [] [] (codes "p") (codes "=") refl
+equals_in_quotes = lacks-from_walk (codes "a/b;p=\"=") _ refl refl
 
 -- a paired quote closes nothing
 pub no_quote : IsFault (codes "a/b;p=\"\\\"") MissingQuote
 unfolding is_token_byte is_quoted_byte
-no_quote = quote_fault-from_walk (codes "a/b;p=\"\\\"") (codes "a") (codes "b") [] [] (codes "p") (codes "\\\"") refl
+no_quote = lacks-from_walk (codes "a/b;p=\"\\\"") _ refl refl
 
 -- what ends in a lone backslash lacks the quote too
 lone_backslash : IsFault (codes "a/b;p=\"\\") MissingQuote
 unfolding is_token_byte is_quoted_byte
-lone_backslash = quote_fault-from_walk (codes "a/b;p=\"\\") (codes "a") (codes "b") [] [] (codes "p") (codes "\\") refl
+lone_backslash = lacks-from_walk (codes "a/b;p=\"\\") _ refl refl
 
 -- a type has no space
 pub space_in_type : IsFault (codes "a b") (InvalidToken 1 32)

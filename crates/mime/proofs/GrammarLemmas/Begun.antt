@@ -3,14 +3,15 @@
 use Rattle.std.specs.Prelude.{ℕ, List, [], ◌∷◌, ◌++◌, Option, Some, None, if◌then◌else◌, ◌==◌, IsTrue}
 use Rattle.std.specs.Option.{option_and_then, option_map}
 use Rattle.mime.specs.Bytes.{is_token_byte, slash_byte, semicolon_byte, equals_byte, quote_byte}
-use Rattle.mime.specs.Grammar.{Parameter, plain, quoted, Parameters, blank, final, more, no_list, listed, SyntaxTree, is_space}
-use Rattle.mime.specs.Quoted.{continues, awaits_first, awaits_next, takes_all, awaits_after}
+use Rattle.mime.specs.Grammar.{Parameter, plain, quoted, Parameters, blank, final, more, no_list, listed, SyntaxTree, is_space, IsToken}
+use Rattle.mime.specs.Quoted.{continues, awaits_next, takes_all, awaits_after}
 use Rattle.mime.specs.declared.scan.fault.ParseError.{ParseError}
 use Rattle.mime.specs.declared.scan.fault.ParseError.TheVariants.{MissingSlash, MissingSubtype, MissingEqual, MissingValue, MissingQuote}
-use Rattle.std.proofs.Common.{◌≡◌, ℕ, Bool, List, [], ◌∷◌, ◌++◌, Option, Some, None, refl, sym, ap, ◌∙◌, subst, append_assoc, append-nil}
-use Rattle.std.proofs.lemmas.Bool.{and_parts, cond-true}
+use Rattle.std.proofs.Common.{◌≡◌, ℕ, false, Bool, List, [], ◌∷◌, ◌++◌, Option, Some, None, refl, sym, ap, ◌∙◌, subst, append_assoc, append-nil}
+use Rattle.std.proofs.lemmas.Bool.{and_parts, cond-false, cond-true}
 use Rattle.std.specs.List.{list_all}
 use Rattle.mime.proofs.GrammarLemmas.Content.{awaits_after-append}
+use Rattle.mime.proofs.BytesLemmas.{token_byte-not_space}
 
 -- the state of a parameter list after its last semicolon
 pub data ListState : Type 0 where
@@ -159,7 +160,7 @@ walk_by-append step state (b ∷ xs) ys =
     [ None ↦ refl | Some next ↦ walk_by-append step next xs ys ]
 
 -- the walk goes on from where the first part led
-walk_by-append_some : {S : Type 0} (step : S → ℕ → Option S) (state next : S) (xs ys : List ℕ)
+pub walk_by-append_some : {S : Type 0} (step : S → ℕ → Option S) (state next : S) (xs ys : List ℕ)
     → walk_by step state xs ≡ Some next → walk_by step state (xs ++ ys) ≡ walk_by step next ys
 walk_by-append_some step state next xs ys e =
     walk_by-append step state xs ys ∙ ap (option_and_then (λ s. walk_by step s ys)) e
@@ -175,17 +176,19 @@ walk_by-run step class position takes taken (b ∷ run) all =
     ∙ walk_by-run step class position takes (taken ++ (b ∷ [])) run parts.1
     ∙ ap (λ t. Some (position t)) (append_assoc taken (b ∷ []) run)
 
+-- a token is walked, first its first byte and then the others
+walk_by-token : {S : Type 0} (step : S → ℕ → Option S) (start : S) (position : List ℕ → S)
+    → ((b : ℕ) → IsTrue (is_token_byte b) → step start b ≡ Some (position (b ∷ [])))
+    → ((b : ℕ) (taken : List ℕ) (c : ℕ) → IsTrue (is_token_byte c)
+    → step (position (b ∷ taken)) c ≡ Some (position (b ∷ taken ++ (c ∷ []))))
+    → (token : List ℕ) → IsToken token → walk_by step start token ≡ Some (position token)
+walk_by-token step start position first others [] token = absurd token
+walk_by-token step start position first others (b ∷ run) token =
+    let parts = and_parts (is_token_byte b) (list_all is_token_byte run) token in
+    walk_by-step step start (position (b ∷ [])) b run (first b parts.0)
+    ∙ walk_by-run step is_token_byte (λ taken. position (b ∷ taken)) (others b) [] run parts.1
+
 -- ---- from a begun tree
-
--- a walk takes a step and goes on
-pub walk_from-step : (begun next : Begun) (b : ℕ) (bytes : List ℕ) → grow begun b ≡ Some next
-    → walk_from begun (b ∷ bytes) ≡ walk_from next bytes
-walk_from-step = walk_by-step grow
-
--- a walk goes on from where the first part led
-pub walk_from-append_some : (begun next : Begun) (xs ys : List ℕ) → walk_from begun xs ≡ Some next
-    → walk_from begun (xs ++ ys) ≡ walk_from next ys
-walk_from-append_some = walk_by-append_some grow
 
 -- after the subtype's semicolon the list alone is walked
 pub walk_from-in_list : (top sub : List ℕ) (list : BegunList) (xs : List ℕ)
@@ -196,25 +199,16 @@ walk_from-in_list top sub list (b ∷ xs) =
     ≡ option_map (in_list top sub) (option_and_then (λ next. walk_list next xs) o))
     [ None ↦ refl | Some next ↦ walk_from-in_list top sub next xs ]
 
--- token bytes are walked to a type
-pub walk-type : (t : ℕ) (run : List ℕ) → IsTrue (is_token_byte t) → IsTrue (list_all is_token_byte run)
-    → walk (t ∷ run) ≡ Some (in_type (t ∷ run))
-walk-type t run first all =
-    walk_from-step (in_type []) (in_type (t ∷ [])) t run (cond-true _ _ _ first)
-    ∙ walk_by-run grow is_token_byte (λ taken. in_type (t ∷ taken)) (λ taken b yes. cond-true _ _ _ yes) [] run all
+-- a token is walked to a type
+pub walk-type : (top : List ℕ) → IsToken top → walk top ≡ Some (in_type top)
+walk-type = walk_by-token grow (in_type []) in_type (λ b yes. cond-true _ _ _ yes) (λ b taken c yes. cond-true _ _ _ yes)
 
--- token bytes go on in the subtype
-pub walk_from-subtype : (top : List ℕ) (s : ℕ) (sub run : List ℕ) → IsTrue (list_all is_token_byte run)
-    → walk_from (in_subtype top (s ∷ sub)) run ≡ Some (in_subtype top (s ∷ sub ++ run))
-walk_from-subtype top s =
-    walk_by-run grow is_token_byte (λ taken. in_subtype top (s ∷ taken)) (λ taken b yes. cond-true _ _ _ yes)
+-- and after the slash to a subtype
+pub walk_from-subtype : (top sub : List ℕ) → IsToken sub → walk_from (in_subtype top []) sub ≡ Some (in_subtype top sub)
+walk_from-subtype top =
+    walk_by-token grow (in_subtype top []) (in_subtype top) (λ b yes. cond-true _ _ _ yes) (λ b taken c yes. cond-true _ _ _ yes)
 
 -- ---- within a list
-
--- a walk goes on from where the first part led
-pub walk_list-append_some : (list next : BegunList) (xs ys : List ℕ) → walk_list list xs ≡ Some next
-    → walk_list list (xs ++ ys) ≡ walk_list next ys
-walk_list-append_some = walk_by-append_some grow_list
 
 -- spaces go on after a semicolon
 pub walk_list-spaces : (closed : Closed) (n run : List ℕ) → IsTrue (list_all is_space run)
@@ -222,28 +216,30 @@ pub walk_list-spaces : (closed : Closed) (n run : List ℕ) → IsTrue (list_all
 walk_list-spaces closed =
     walk_by-run grow_list is_space (λ n. list_at closed (in_spaces n)) (λ n b yes. cond-true _ _ _ yes)
 
--- token bytes go on in a parameter's name
-pub walk_list-name : (closed : Closed) (n : List ℕ) (b : ℕ) (name run : List ℕ) → IsTrue (list_all is_token_byte run)
-    → walk_list (list_at closed (in_name n (b ∷ name))) run ≡ at_state closed (in_name n (b ∷ name ++ run))
-walk_list-name closed n b =
-    walk_by-run grow_list is_token_byte (λ taken. list_at closed (in_name n (b ∷ taken))) (λ taken c yes. cond-true _ _ _ yes)
+-- a token is walked to a parameter's name
+pub walk_list-name : (closed : Closed) (n name : List ℕ) → IsToken name
+    → walk_list (list_at closed (in_spaces n)) name ≡ at_state closed (in_name n name)
+walk_list-name closed n =
+    walk_by-token grow_list (list_at closed (in_spaces n)) (λ name. list_at closed (in_name n name))
+    (λ b yes. cond-false _ _ _ (token_byte-not_space b yes) ∙ cond-true _ _ _ yes) (λ b taken c yes. cond-true _ _ _ yes)
 
--- token bytes go on in a plain value
-pub walk_list-value : (closed : Closed) (n name : List ℕ) (v : ℕ) (value run : List ℕ) → IsTrue (list_all is_token_byte run)
-    → walk_list (list_at closed (in_value n name (v ∷ value))) run ≡ at_state closed (in_value n name (v ∷ value ++ run))
-walk_list-value closed n name v =
-    walk_by-run grow_list is_token_byte (λ taken. list_at closed (in_value n name (v ∷ taken))) (λ taken b yes. cond-true _ _ _ yes)
+-- and after the equals sign to a plain value
+pub walk_list-value : (closed : Closed) (n name value : List ℕ) → IsToken value
+    → walk_list (list_at closed (in_value n name [])) value ≡ at_state closed (in_value n name value)
+walk_list-value closed n name =
+    walk_by-token grow_list (list_at closed (in_value n name [])) (λ value. list_at closed (in_value n name value))
+    (λ b yes. cond-true _ _ _ yes) (λ b taken c yes. cond-true _ _ _ yes)
 
 -- bytes that a quoted value takes go on in it
-pub walk_list-open : (closed : Closed) (n name taken run : List ℕ) → IsTrue (takes_all (awaits_after awaits_first taken) run)
+pub walk_list-open : (closed : Closed) (n name taken run : List ℕ) → IsTrue (takes_all (awaits_after false taken) run)
     → walk_list (list_at closed (in_quotes n name taken)) run ≡ at_state closed (in_quotes n name (taken ++ run))
 walk_list-open closed n name taken [] all = ap (λ t. at_state closed (in_quotes n name t)) (sym (append-nil taken))
 walk_list-open closed n name taken (b ∷ run) all =
-    let parts = and_parts (continues taken b) (takes_all (awaits_next (awaits_after awaits_first taken) b) run) all in
+    let parts = and_parts (continues taken b) (takes_all (awaits_next (awaits_after false taken) b) run) all in
     walk_by-step grow_list (list_at closed (in_quotes n name taken)) (list_at closed (in_quotes n name (taken ++ (b ∷ [])))) b run
     (cond-true (continues taken b) _ _ parts.0)
     ∙ walk_list-open closed n name (taken ++ (b ∷ [])) run
-    (subst (λ a. IsTrue (takes_all a run)) (sym (awaits_after-append awaits_first taken (b ∷ []))) parts.1)
+    (subst (λ a. IsTrue (takes_all a run)) (sym (awaits_after-append false taken (b ∷ []))) parts.1)
     ∙ ap (λ t. at_state closed (in_quotes n name t)) (append_assoc taken (b ∷ []) run)
 
 -- spaces go on after a quoted value

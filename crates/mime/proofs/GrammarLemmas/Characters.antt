@@ -5,7 +5,7 @@ use Rattle.std.specs.Prelude.{IsFalse, MatchOption, if◌then◌else◌, ◌==�
 use Rattle.std.specs.Option.{option_map}
 use Rattle.mime.specs.Bytes.{is_token_byte, slash_byte, semicolon_byte, equals_byte, quote_byte}
 use Rattle.mime.specs.Grammar.{is_space}
-use Rattle.mime.specs.Quoted.{continues, awaits_first, awaits_after}
+use Rattle.mime.specs.Quoted.{continues, awaits_after}
 use Rattle.mime.proofs.GrammarLemmas.Begun.{Closed, Begun, in_type, in_subtype, in_list, ListState, in_spaces, in_name, in_value, in_quotes, after_quotes, list_at, grow, grow_state, grow_list, BegunList, walk, walk_from}
 use Rattle.std.proofs.lemmas.Bool.Decides.{nat_tests}
 use Rattle.std.proofs.lemmas.List.{drop_more}
@@ -14,7 +14,7 @@ use Rattle.std.proofs.lemmas.Str.{IsCharBoundary-start, IsCharBoundary-end, IsCh
 use Rattle.std.specs.Str.{IsUtf8, IsCharBoundary, encode_utf8_all}
 use Rattle.mime.proofs.GrammarLemmas.Content.{takes-high}
 use Rattle.mime.specs.Laws.{PrefixEndsBetweenCharacters}
-use Rattle.mime.proofs.GrammarLemmas.Viability.{whole_prefix-from_walk, prefix_unique, stop-from_walk, dead-from_stop}
+use Rattle.mime.proofs.GrammarLemmas.Viability.{by_option, whole_prefix-from_walk, prefix_unique, stop-from_walk, dead-from_stop}
 use Rattle.std.proofs.Math.Seq.{take-append_seam, drop-append_seam, get_or-append_seam}
 use Rattle.std.proofs.lemmas.List.Folds.{list_all_at}
 use Rattle.std.specs.List.{list_all}
@@ -104,7 +104,7 @@ foreign-from_high b high = record {
 -- a byte past ASCII that an open quoted value doesn't take begins a character
 high-untaken : (begun : Begun) (b : ℕ) → IsOpen begun → grow begun b ≡ None → 128 ≤ b → 192 ≤ b
 high-untaken begun b quotes dead high =
-    takes-high (awaits_after awaits_first quotes.content) b
+    takes-high (awaits_after false quotes.content) b
     (untaken (continues quotes.content b) (b == quote_byte) _ _ (sym (ap (λ t. grow t b) quotes.is) ∙ dead)) high
   where
     untaken : (test other : Bool) (x y : BegunList)
@@ -158,26 +158,25 @@ border-before_dead text at (c ∷ bytes) rest b start begun utf8 left walked dea
 
 -- the longest viable prefix ends between characters
 pub prefix_ends_between_characters : PrefixEndsBetweenCharacters
-prefix_ends_between_characters text count utf8 prefix = reached (walk text) refl
-  where
-    reached : (o : Option Begun) → walk text ≡ o → IsCharBoundary text count
-    reached (Some begun) walked =
-        subst (IsCharBoundary text)
-        (prefix_unique text (length text) count (whole_prefix-from_walk text begun walked) prefix) (IsCharBoundary-end text)
-    reached None stopped =
-        let stop = stop-from_walk (in_type []) text stopped in
-        let same = prefix_unique text (length stop.prefix) count (dead-from_stop text stop).prefix prefix in
-        let sum : 0 + length stop.prefix ≡ count = omega (arith, same) in
-        subst (IsCharBoundary text) sum
-        (border-before_dead text 0 stop.prefix stop.rest stop.byte (in_type []) stop.begun utf8 stop.spelled stop.walked stop.dead
-        (inl (IsCharBoundary-start text utf8)))
+prefix_ends_between_characters text count utf8 prefix =
+    by_option (walk text)
+    (λ stopped.
+    let stop = stop-from_walk (in_type []) text stopped in
+    let same = prefix_unique text (length stop.prefix) count (dead-from_stop text stop).prefix prefix in
+    let sum : 0 + length stop.prefix ≡ count = omega (arith, same) in
+    subst (IsCharBoundary text) sum
+    (border-before_dead text 0 stop.prefix stop.rest stop.byte (in_type []) stop.begun utf8 stop.spelled stop.walked stop.dead
+    (inl (IsCharBoundary-start text utf8))))
+    (λ begun walked.
+    subst (IsCharBoundary text) (prefix_unique text (length text) count (whole_prefix-from_walk text begun walked) prefix)
+    (IsCharBoundary-end text))
 
 -- a byte past ASCII that isn't from 128 to 191 is 192 or above
 begins-high : (b : ℕ) → IsFalse (is_following_byte b) → 128 ≤ b → 192 ≤ b
 begins-high b begins high = grind (arith, nat_tests, begins, high)
 
 -- a byte that only follows is from 128 to 191
-following-low : (b : ℕ) → IsTrue (is_following_byte b) → (128 ≤ b) × (b < 192)
+pub following-low : (b : ℕ) → IsTrue (is_following_byte b) → (128 ≤ b) × (b < 192)
 following-low b follows = (grind (arith, nat_tests, follows), grind (arith, nat_tests, follows))
 
 -- a text may be cut after a character

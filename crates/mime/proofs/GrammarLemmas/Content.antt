@@ -8,7 +8,7 @@ use Rattle.std.proofs.lemmas.Bool.Decides.{nat_tests}
 use Rattle.mime.specs.Bytes.{is_quoted_byte, is_quoted_text_byte, quote_byte, backslash_byte}
 use Rattle.mime.specs.Grammar.{IsContent, no_byte, text_byte, quoted_pair}
 use Rattle.mime.specs.Values.{lowered}
-use Rattle.mime.specs.Quoted.{awaits_first, awaits_next, takes, takes_all, awaits_after, IsOpenContent, continues}
+use Rattle.mime.specs.Quoted.{awaits_next, takes, takes_all, awaits_after, IsOpenContent, continues}
 
 -- ---- one byte
 
@@ -56,13 +56,9 @@ awaits_next-text : (b : ℕ) → IsTrue (is_quoted_text_byte b) → awaits_next 
 awaits_next-text b text = grind (arith, nat_tests)
 
 -- a backslash is taken
-takes-backslash : IsTrue (takes false backslash_byte)
+pub takes-backslash : IsTrue (takes false backslash_byte)
 unfolding is_quoted_byte
 takes-backslash = refl
-
-pub takes_all-backslash : IsTrue (takes_all false (backslash_byte ∷ []))
-unfolding is_quoted_byte
-takes_all-backslash = refl
 
 -- what is taken and is no backslash is quoted text
 text-taken : (b : ℕ) → IsTrue (takes false b) → IsFalse (b == backslash_byte) → IsTrue (is_quoted_text_byte b)
@@ -85,7 +81,7 @@ content-taken bytes (quoted_pair b content fits more) =
     (and_from (takes true b) (takes_all false content) fits (content-taken content more))
 
 -- after content no byte is awaited
-pub content-awaits : (content : List ℕ) → IsContent content → awaits_after awaits_first content ≡ false
+pub content-awaits : (content : List ℕ) → IsContent content → awaits_after false content ≡ false
 content-awaits bytes no_byte = refl
 content-awaits bytes (text_byte b content text more) =
     ap (λ (awaiting : Bool). awaits_after awaiting content) (awaits_next-text b text) ∙ content-awaits content more
@@ -112,7 +108,7 @@ content_from false (b ∷ bytes) all done =
     go true same taken more = subst (λ first. IsContent (first ∷ bytes)) (sym (eqb-true b backslash_byte same)) more
     go false other taken more = text_byte b bytes (text-taken b taken other) more
 
-pub IsContent-taken : (content : List ℕ) → IsOpenContent content → awaits_after awaits_first content ≡ false → IsContent content
+pub IsContent-taken : (content : List ℕ) → IsOpenContent content → awaits_after false content ≡ false → IsContent content
 IsContent-taken content all done = content_from false content all done
 
 -- ---- byte after byte
@@ -134,7 +130,7 @@ takes_all-append awaiting (b ∷ run) more all taken =
 pub IsOpenContent-push : (content : List ℕ) (b : ℕ) → IsOpenContent content → IsTrue (continues content b)
     → IsOpenContent (content ++ b ∷ [])
 IsOpenContent-push content b all taken =
-    takes_all-append awaits_first content (b ∷ []) all (and_from (continues content b) true taken refl)
+    takes_all-append false content (b ∷ []) all (and_from (continues content b) true taken refl)
 
 -- quoted text is taken, and awaits nothing
 pub takes_all-text : (run : List ℕ) → IsTrue (list_all is_quoted_text_byte run) → IsTrue (takes_all false run)
@@ -155,33 +151,25 @@ pub IsContent-closed : (content : List ℕ) (b : ℕ) → IsOpenContent content 
     → IsContent content
 IsContent-closed content b all stopped same =
     IsContent-taken content all
-    (sym (takes-quote (awaits_after awaits_first content)) ∙ ap (continues content) (sym (eqb-true b quote_byte same)) ∙ stopped)
+    (sym (takes-quote (awaits_after false content)) ∙ ap (continues content) (sym (eqb-true b quote_byte same)) ∙ stopped)
 
 -- a quote doesn't continue content
 pub content-closed : (content : List ℕ) → IsContent content → IsFalse (continues content quote_byte)
-content-closed content is = takes-quote (awaits_after awaits_first content) ∙ content-awaits content is
+content-closed content is = takes-quote (awaits_after false content) ∙ content-awaits content is
 
--- an open quoted value takes the bytes of each completion, and a letter before a quote
-pub takes_all-equals_letter : (awaiting : Bool) → IsTrue (takes_all awaiting (61 ∷ 120 ∷ []))
-unfolding is_quoted_byte
-takes_all-equals_letter true = refl
-takes_all-equals_letter false = refl
-
-pub takes_all-letter : (awaiting : Bool) → IsTrue (takes_all awaiting (120 ∷ []))
-unfolding is_quoted_byte
-takes_all-letter true = refl
-takes_all-letter false = refl
-
-pub takes_all-letter_slash_letter : (awaiting : Bool) → IsTrue (takes_all awaiting (120 ∷ 47 ∷ 120 ∷ []))
-unfolding is_quoted_byte
-takes_all-letter_slash_letter true = refl
-takes_all-letter_slash_letter false = refl
+-- quoted text is taken where a byte is awaited too
+pub takes_all-any : (awaiting : Bool) (run : List ℕ) → IsTrue (list_all is_quoted_text_byte run) → IsTrue (takes_all awaiting run)
+takes_all-any awaiting [] all = refl
+takes_all-any false run all = takes_all-text run all
+takes_all-any true (b ∷ run) all =
+    let parts = and_parts (is_quoted_text_byte b) (list_all is_quoted_text_byte run) all in
+    and_from (is_quoted_byte b) _ (and_parts (is_quoted_byte b) _ parts.0).0 (takes_all-text run parts.1)
 
 -- a quote after a letter closes the value
 pub closed-letter : (content : List ℕ) → IsFalse (continues (content ++ 120 ∷ []) quote_byte)
 closed-letter content =
-    takes-quote (awaits_after awaits_first (content ++ 120 ∷ []))
-    ∙ awaits_after-append awaits_first content (120 ∷ []) ∙ awaits_next-letter (awaits_after awaits_first content)
+    takes-quote (awaits_after false (content ++ 120 ∷ []))
+    ∙ awaits_after-append false content (120 ∷ []) ∙ awaits_next-letter (awaits_after false content)
 
 -- ---- lowering
 
@@ -201,10 +189,10 @@ awaits_after-lowered awaiting (b ∷ bytes) =
 
 -- a byte continues open content as its lowercase letter continues the lowercased content
 pub continues-lowered : (content : List ℕ) (b : ℕ) → continues (lowered content) (to_ascii_lowercase b) ≡ continues content b
-continues-lowered content b = rw (awaits_after-lowered awaits_first content) (takes-of_lowercase (awaits_after awaits_first content) b)
+continues-lowered content b = rw (awaits_after-lowered false content) (takes-of_lowercase (awaits_after false content) b)
 
 -- lowercased content is content
 pub IsContent-lowered : (content : List ℕ) → IsContent content → IsContent (lowered content)
 IsContent-lowered content is =
-    IsContent-taken (lowered content) (takes_all-lowered awaits_first content ∙ content-taken content is)
-    (awaits_after-lowered awaits_first content ∙ content-awaits content is)
+    IsContent-taken (lowered content) (takes_all-lowered false content ∙ content-taken content is)
+    (awaits_after-lowered false content ∙ content-awaits content is)

@@ -1,5 +1,5 @@
 -- Each refused text has one fault, and a viable one has one completion.
-use Rattle.std.proofs.Common.{◌≡◌, ℕ, ◌+◌, ◌<◌, ◌≤◌, Bool, false, List, [], ◌∷◌, ◌++◌, length, drop, Option, Some, None, refl, sym, ap, ◌∙◌, arith, append-nil, length-append, codes}
+use Rattle.std.proofs.Common.{◌≡◌, ℕ, ◌+◌, ◌<◌, ◌≤◌, Bool, false, List, [], ◌∷◌, ◌++◌, length, drop, Some, None, refl, sym, ap, ◌∙◌, arith, append-nil, length-append, codes}
 use Rattle.std.proofs.Math.Seq.{drop-append_seam}
 use Rattle.std.proofs.lemmas.Bool.{false≢true, and_parts}
 use Rattle.std.proofs.lemmas.List.{drop-append-le}
@@ -8,10 +8,9 @@ use Rattle.std.proofs.lemmas.Option.{same_Some, none-some}
 use Rattle.std.specs.Prelude.{IsTrue, IsFalse, is_some, slice_get, ◌==◌}
 use Rattle.std.specs.List.{list_all}
 use Rattle.std.specs.Option.{option_and_then}
-use Rattle.mime.specs.Bytes.{is_token_byte, slash_byte, equals_byte}
-use Rattle.mime.specs.Quoted.{awaits_first, takes_all, awaits_after}
-use Rattle.mime.proofs.GrammarLemmas.Content.{takes_all-letter, takes_all-letter_slash_letter, takes_all-equals_letter}
-use Rattle.mime.specs.Grammar.{SyntaxTree}
+use Rattle.mime.specs.Bytes.{is_token_byte, is_quoted_byte, slash_byte, equals_byte}
+use Rattle.mime.specs.Quoted.{takes_all, awaits_after}
+use Rattle.mime.proofs.GrammarLemmas.Content.{takes_all-any}
 use Rattle.mime.specs.Values.{IsRefused}
 use Rattle.mime.specs.Refusals.{IsLongestPrefix, EndsIn, Lacks, IsDeadAt, IsFault}
 use Rattle.mime.proofs.GrammarLemmas.Begun.{Closed, Begun, in_type, in_subtype, in_list, ListState, in_name, in_value, in_quotes, list_at, walk, tree_of, lacking}
@@ -20,7 +19,7 @@ use Rattle.mime.specs.declared.scan.fault.ParseError.{ParseError}
 use Rattle.mime.specs.declared.scan.fault.ParseError.TheVariants.{MissingSlash, MissingSubtype, MissingEqual, MissingValue, MissingQuote, InvalidToken}
 use Rattle.mime.proofs.GrammarLemmas.Spelling.{before_equals, begun-from_walk, spelled-from_walk, text-in_subtype, text-in_value}
 use Rattle.mime.proofs.GrammarLemmas.Readings.{walk-accepted}
-use Rattle.mime.proofs.GrammarLemmas.Viability.{accepted-from_complete, completes, completes-from_accepted, walk_from-open, lacks-from_walk, viable-from_lacks, walk-from_viable, not_viable-at_dead, whole_prefix-from_walk, prefix_unique, stop-from_walk, dead-from_stop}
+use Rattle.mime.proofs.GrammarLemmas.Viability.{by_option, accepted-from_complete, completes, completes-from_accepted, walk_from-open, lacks-from_walk, viable-from_lacks, walk-from_viable, not_viable-at_dead, whole_prefix-from_walk, prefix_unique, stop-from_walk, dead-from_stop}
 
 -- ---- a begun tree lacks one thing only
 
@@ -72,14 +71,14 @@ ends_not class text before run b spelled some all outside (prefix, ends) =
 
 -- bytes that an open quoted value takes complete nothing
 not_completes-open : {X : Type 0} (top sub : List ℕ) (closed : Closed) (n name content more : List ℕ)
-    → IsTrue (takes_all (awaits_after awaits_first content) more)
+    → IsTrue (takes_all (awaits_after false content) more)
     → IsTrue (completes (in_list top sub (list_at closed (in_quotes n name content))) more) → X
 not_completes-open top sub closed n name content more all passes =
     never (sym (ap (λ o. is_some (option_and_then tree_of o)) (walk_from-open top sub closed n name content more all)) ∙ passes)
 
 -- a text lacks only what the state at its end says
 lacks_own : (text : List ℕ) (begun : Begun) → walk text ≡ Some begun → (fault : ParseError) → Lacks text fault → IsOwn begun fault
-unfolding is_token_byte
+unfolding is_token_byte is_quoted_byte
 lacks_own text (in_type []) walked = own-by_fault text _ walked (λ passes. (refl, refl)) nor never nor never
 lacks_own text (in_type (t ∷ top)) walked = own-by_fault text _ walked (λ passes. (refl, refl)) nor never nor never
 lacks_own text (in_subtype top []) walked =
@@ -115,14 +114,14 @@ lacks_own text (in_list top sub list) walked = at list.position list.closed walk
             (begun-from_walk text _ walked).list.position.2
     at (in_quotes n name content) closed walked =
         own-by_fault text _ walked
-        (completes_not (codes "x/x") (takes_all-letter_slash_letter awaited))
-        (λ passes ends. completes_not (codes "x") (takes_all-letter awaited) passes)
-        (completes_not (codes "=x") (takes_all-equals_letter awaited))
-        (λ passes ends. completes_not (codes "x") (takes_all-letter awaited) passes)
+        (completes_not (codes "x/x") (takes_all-any awaited (codes "x/x") refl))
+        (λ passes ends. completes_not (codes "x") (takes_all-any awaited (codes "x") refl) passes)
+        (completes_not (codes "=x") (takes_all-any awaited (codes "=x") refl))
+        (λ passes ends. completes_not (codes "x") (takes_all-any awaited (codes "x") refl) passes)
         (λ passes. (refl, refl))
       where
         awaited : Bool
-        awaited = awaits_after awaits_first content
+        awaited = awaits_after false content
 
         completes_not : {X : Type 0} (more : List ℕ) → IsTrue (takes_all awaited more)
             → IsTrue (completes (in_list top sub (list_at closed (in_quotes n name content))) more) → X
@@ -143,11 +142,9 @@ lacks_unique text first second one two =
 
 -- a refused text that can be walked lacks what the state at its end says
 lacks-from_refused : (text : List ℕ) (begun : Begun) → walk text ≡ Some begun → IsRefused text → Lacks text (lacking begun)
-lacks-from_refused text begun walked refused = reached (tree_of begun) refl
-  where
-    reached : (o : Option SyntaxTree) → tree_of begun ≡ o → Lacks text (lacking begun)
-    reached None unfinished = lacks-from_walk text begun walked unfinished
-    reached (Some tree) complete = absurd (refused (accepted-from_complete text begun tree walked complete))
+lacks-from_refused text begun walked refused =
+    by_option (tree_of begun) (lacks-from_walk text begun walked)
+    (λ tree complete. absurd (refused (accepted-from_complete text begun tree walked complete)))
 
 -- exactly one completion makes a viable refused text an accepted one
 pub one_completion : OneCompletion
@@ -183,24 +180,18 @@ fault_unique text first second one two = lacks_unique text first second one two
 -- a refused text has exactly one fault
 pub one_fault : OneFault
 one_fault text refused =
-    let found = reached (walk text) refl in
+    let found : (fault : ParseError) × IsFault text fault =
+    by_option (walk text)
+    (λ stopped.
+    let stop = stop-from_walk (in_type []) text stopped in (InvalidToken (length stop.prefix) stop.byte, dead-from_stop text stop))
+    (λ begun walked. (lacking begun, fault-from_lacks text (lacking begun) (lacks-from_refused text begun walked refused))) in
     (found.0, found.1, λ other is. fault_unique text other found.0 is found.1)
-  where
-    reached : (o : Option Begun) → walk text ≡ o → (fault : ParseError) × IsFault text fault
-    reached (Some begun) walked =
-        (lacking begun, fault-from_lacks text (lacking begun) (lacks-from_refused text begun walked refused))
-    reached None stopped =
-        let stop = stop-from_walk (in_type []) text stopped in
-        (InvalidToken (length stop.prefix) stop.byte, dead-from_stop text stop)
 
 -- a text has exactly one longest viable prefix
 pub one_longest_prefix : OneLongestPrefix
 one_longest_prefix text =
-    let found = reached (walk text) refl in
+    let found : (count : ℕ) × IsLongestPrefix text count =
+    by_option (walk text)
+    (λ stopped. let stop = stop-from_walk (in_type []) text stopped in (length stop.prefix, (dead-from_stop text stop).prefix))
+    (λ begun walked. (length text, whole_prefix-from_walk text begun walked)) in
     (found.0, found.1, λ other is. prefix_unique text other found.0 is found.1)
-  where
-    reached : (o : Option Begun) → walk text ≡ o → (count : ℕ) × IsLongestPrefix text count
-    reached (Some begun) walked = (length text, whole_prefix-from_walk text begun walked)
-    reached None stopped =
-        let stop = stop-from_walk (in_type []) text stopped in
-        (length stop.prefix, (dead-from_stop text stop).prefix)

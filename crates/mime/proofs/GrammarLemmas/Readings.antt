@@ -1,17 +1,15 @@
 -- What a walk says of its text: which tree spells it, and that no other does.
 use Rattle.std.proofs.Common.{◌≡◌, ℕ, List, [], ◌∷◌, ◌++◌, Some, None, refl, sym, ap, ◌∙◌, append-nil}
-use Rattle.std.proofs.lemmas.Bool.{and_parts, cond-true, cond-false}
+use Rattle.std.proofs.lemmas.Bool.{cond-false}
 use Rattle.std.proofs.lemmas.Option.{same_Some, none-some, MatchOption-at_some}
-use Rattle.std.specs.List.{list_all}
 use Rattle.std.specs.Option.{option_and_then, option_map}
 use Rattle.mime.specs.Bytes.{is_token_byte, slash_byte, semicolon_byte, equals_byte, quote_byte}
-use Rattle.mime.specs.Grammar.{Parameter, plain, quoted, Parameters, blank, final, more, Tail, no_list, listed, SyntaxTree, is_space, AreSpaces, text_of_parameter, text_of_list, text_of, IsToken, IsContent, IsParameter, AreParameters, IsTail, IsWellFormed}
+use Rattle.mime.specs.Grammar.{Parameter, plain, quoted, Parameters, blank, final, more, Tail, no_list, listed, SyntaxTree, AreSpaces, text_of_parameter, text_of_list, text_of, IsToken, IsContent, IsParameter, AreParameters, IsTail, IsWellFormed}
 use Rattle.mime.specs.Values.{MediaType, value_of, Reads, IsAccepted, IsRefused}
 use Rattle.mime.specs.Quoted.{continues}
 use Rattle.mime.proofs.GrammarLemmas.Content.{content-taken, content-closed}
-use Rattle.mime.proofs.GrammarLemmas.Begun.{Closed, Begun, in_type, in_subtype, in_list, BegunList, ListState, in_spaces, in_name, in_value, in_quotes, after_quotes, begun_list, list_at, at_state, close, grow, grow_list, grow_state, walk, walk_from, walk_list, with_closed, ended_list, tree_of, walk_by-step, walk_from-step, walk_from-append_some, walk_from-in_list, walk-type, walk_from-subtype, walk_list-append_some, walk_list-spaces, walk_list-name, walk_list-value, walk_list-open, walk_list-after_quotes}
+use Rattle.mime.proofs.GrammarLemmas.Begun.{Closed, Begun, in_type, in_subtype, in_list, BegunList, ListState, in_spaces, in_name, in_value, in_quotes, after_quotes, begun_list, list_at, at_state, close, grow, grow_list, grow_state, walk, walk_from, walk_list, with_closed, ended_list, tree_of, walk_by-step, walk_by-append_some, walk_from-in_list, walk-type, walk_from-subtype, walk_list-spaces, walk_list-name, walk_list-value, walk_list-open, walk_list-after_quotes}
 use Rattle.mime.proofs.GrammarLemmas.Spelling.{text_of_begun, walk_from-lengthens, tree_of-spelled}
-use Rattle.mime.proofs.BytesLemmas.{token_byte-not_space}
 
 -- a text that is walked to a complete tree is spelled by it
 pub accepted-from_walk : (text : List ℕ) (begun : Begun) (tree : SyntaxTree)
@@ -54,23 +52,9 @@ grow-semicolon top (s ∷ sub) token = refl
 walk_list-named : (closed : Closed) (n name rest : List ℕ) → IsToken name
     → walk_list (list_at closed (in_spaces n)) (name ++ (equals_byte ∷ rest)) ≡ walk_list (list_at closed (in_value n name [])) rest
 unfolding is_token_byte
-walk_list-named closed n [] rest token = absurd token
-walk_list-named closed n (b ∷ name) rest token =
-    let parts = and_parts (is_token_byte b) (list_all is_token_byte name) token in
-    walk_by-step grow_list (list_at closed (in_spaces n)) (list_at closed (in_name n (b ∷ []))) b (name ++ (equals_byte ∷ rest))
-    (cond-false (is_space b) _ _ (token_byte-not_space b parts.0) ∙ cond-true (is_token_byte b) _ _ parts.0)
-    ∙ walk_list-append_some (list_at closed (in_name n (b ∷ []))) (list_at closed (in_name n (b ∷ name))) name (equals_byte ∷ rest)
-    (walk_list-name closed n b [] name parts.1)
-
--- the walk over a plain value
-walk_list-plain : (closed : Closed) (n name value : List ℕ) → IsToken value
-    → walk_list (list_at closed (in_value n name [])) value ≡ at_state closed (in_value n name value)
-walk_list-plain closed n name [] token = absurd token
-walk_list-plain closed n name (v ∷ value) token =
-    let parts = and_parts (is_token_byte v) (list_all is_token_byte value) token in
-    walk_by-step grow_list (list_at closed (in_value n name [])) (list_at closed (in_value n name (v ∷ []))) v value
-    (cond-true (is_token_byte v) _ _ parts.0)
-    ∙ walk_list-value closed n name v [] value parts.1
+walk_list-named closed n name rest token =
+    walk_by-append_some grow_list (list_at closed (in_spaces n)) (list_at closed (in_name n name)) name (equals_byte ∷ rest)
+    (walk_list-name closed n name token)
 
 -- the walk over a quoted value with the spaces after it
 walk_list-quoted : (closed : Closed) (n name content m : List ℕ) → IsContent content → AreSpaces m
@@ -78,7 +62,8 @@ walk_list-quoted : (closed : Closed) (n name content m : List ℕ) → IsContent
     ≡ at_state closed (after_quotes n name content m)
 unfolding is_token_byte
 walk_list-quoted closed n name content m fine white =
-    walk_list-append_some (list_at closed (in_quotes n name [])) (list_at closed (in_quotes n name content)) content (quote_byte ∷ m)
+    walk_by-append_some grow_list (list_at closed (in_quotes n name [])) (list_at closed (in_quotes n name content))
+    content (quote_byte ∷ m)
     (walk_list-open closed n name [] content (content-taken content fine))
     ∙ walk_by-step grow_list (list_at closed (in_quotes n name content)) (list_at closed (after_quotes n name content [])) quote_byte m
     (cond-false (continues content quote_byte) _ _ (content-closed content fine))
@@ -88,7 +73,7 @@ walk_list-quoted closed n name content m fine white =
 walk_list-parameter : (closed : Closed) (n : List ℕ) (parameter : Parameter) → IsParameter parameter
     → walk_list (list_at closed (in_spaces n)) (text_of_parameter parameter) ≡ at_state closed (state_of n parameter)
 walk_list-parameter closed n (plain name value) fine =
-    walk_list-named closed n name value fine.0 ∙ walk_list-plain closed n name value fine.1
+    walk_list-named closed n name value fine.0 ∙ walk_list-value closed n name value fine.1
 walk_list-parameter closed n (quoted name content m) fine =
     walk_list-named closed n name (quote_byte ∷ (content ++ (quote_byte ∷ m))) fine.0
     ∙ walk_list-quoted closed n name content m fine.1 fine.2
@@ -106,13 +91,13 @@ walk_list-text : (closed : Closed) (list : Parameters) → AreParameters list
     → walk_list (list_at closed (in_spaces [])) (text_of_list list) ≡ Some (begun_of closed list)
 walk_list-text closed (blank n) fine = walk_list-spaces closed [] n fine
 walk_list-text closed (final n parameter) fine =
-    walk_list-append_some (list_at closed (in_spaces [])) (list_at closed (in_spaces n)) n (text_of_parameter parameter)
+    walk_by-append_some grow_list (list_at closed (in_spaces [])) (list_at closed (in_spaces n)) n (text_of_parameter parameter)
     (walk_list-spaces closed [] n fine.0)
     ∙ walk_list-parameter closed n parameter fine.1
 walk_list-text closed (more n parameter rest) fine =
-    walk_list-append_some (list_at closed (in_spaces [])) (list_at closed (in_spaces n))
+    walk_by-append_some grow_list (list_at closed (in_spaces [])) (list_at closed (in_spaces n))
     n (text_of_parameter parameter ++ (semicolon_byte ∷ text_of_list rest)) (walk_list-spaces closed [] n fine.0)
-    ∙ walk_list-append_some (list_at closed (in_spaces n)) (list_at closed (state_of n parameter))
+    ∙ walk_by-append_some grow_list (list_at closed (in_spaces n)) (list_at closed (state_of n parameter))
     (text_of_parameter parameter) (semicolon_byte ∷ text_of_list rest) (walk_list-parameter closed n parameter fine.1)
     ∙ ap (option_and_then (λ next. walk_list next (text_of_list rest))) (grow_state-closed closed n parameter fine.1)
     ∙ walk_list-text ((n, parameter) ∷ closed) rest fine.2
@@ -122,25 +107,16 @@ walk-slash : (top rest : List ℕ) → IsToken top → walk (top ++ (slash_byte 
 unfolding is_token_byte
 walk-slash [] rest token = absurd token
 walk-slash (t ∷ top) rest token =
-    let parts = and_parts (is_token_byte t) (list_all is_token_byte top) token in
-    walk_from-append_some (in_type []) (in_type (t ∷ top)) (t ∷ top) (slash_byte ∷ rest) (walk-type t top parts.0 parts.1)
-
--- the walk over a subtype
-walk_from-sub : (top sub : List ℕ) → IsToken sub → walk_from (in_subtype top []) sub ≡ Some (in_subtype top sub)
-walk_from-sub top [] token = absurd token
-walk_from-sub top (s ∷ sub) token =
-    let parts = and_parts (is_token_byte s) (list_all is_token_byte sub) token in
-    walk_from-step (in_subtype top []) (in_subtype top (s ∷ [])) s sub (cond-true (is_token_byte s) _ _ parts.0)
-    ∙ walk_from-subtype top s [] sub parts.1
+    walk_by-append_some grow (in_type []) (in_type (t ∷ top)) (t ∷ top) (slash_byte ∷ rest) (walk-type (t ∷ top) token)
 
 -- the walk over a type, a subtype and the semicolon
 pub walk-head : (top sub rest : List ℕ) → IsToken top → IsToken sub
     → walk (top ++ (slash_byte ∷ (sub ++ (semicolon_byte ∷ rest)))) ≡ walk_from (in_list top sub begun_list) rest
 walk-head top sub rest top_token sub_token =
     walk-slash top (sub ++ (semicolon_byte ∷ rest)) top_token
-    ∙ walk_from-append_some (in_subtype top []) (in_subtype top sub) sub (semicolon_byte ∷ rest)
-    (walk_from-sub top sub sub_token)
-    ∙ walk_from-step (in_subtype top sub) (in_list top sub begun_list) semicolon_byte rest (grow-semicolon top sub sub_token)
+    ∙ walk_by-append_some grow (in_subtype top []) (in_subtype top sub) sub (semicolon_byte ∷ rest)
+    (walk_from-subtype top sub sub_token)
+    ∙ walk_by-step grow (in_subtype top sub) (in_list top sub begun_list) semicolon_byte rest (grow-semicolon top sub sub_token)
 
 -- a text may end in its subtype
 tree_of-subtype : (top sub : List ℕ) → IsToken sub
@@ -160,7 +136,7 @@ walk-text_of tree well_formed = with_tail tree.tail well_formed.2
       in_subtype tree.top tree.sub,
       (
         ap (λ sub. walk (tree.top ++ (slash_byte ∷ sub))) (append-nil tree.sub)
-            ∙ walk-slash tree.top tree.sub well_formed.0 ∙ walk_from-sub tree.top tree.sub well_formed.1,
+            ∙ walk-slash tree.top tree.sub well_formed.0 ∙ walk_from-subtype tree.top tree.sub well_formed.1,
         tree_of-subtype tree.top tree.sub well_formed.1,
       ),
     )

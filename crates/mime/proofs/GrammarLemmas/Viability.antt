@@ -1,23 +1,28 @@
 -- Which texts may still become a media type, and what such a text lacks, read off the begun tree that it is walked to.
-use Rattle.std.proofs.Common.{◌≡◌, ℕ, Bool, suc, ◌+◌, ◌-◌, List, [], ◌∷◌, ◌++◌, length, take, Option, Some, None, refl, sym, ap, ◌∙◌, subst, arith, append_assoc, append-nil, length-append, ⊎_elim, codes}
+use Rattle.std.proofs.Common.{◌≡◌, ℕ, false, Bool, suc, ◌+◌, ◌-◌, List, [], ◌∷◌, ◌++◌, length, take, Option, Some, None, refl, sym, ap, ◌∙◌, subst, arith, append_assoc, append-nil, length-append, ⊎_elim, codes}
 use Rattle.std.proofs.Math.Seq.{take-append_seam, take-append-add, take-length}
 use Rattle.std.proofs.lemmas.Bool.{cases_order, cond-false, false≢true}
 use Rattle.std.proofs.lemmas.Option.{none-some, option_and_then_some, slice_get_within}
 use Rattle.std.specs.Prelude.{IsTrue, MatchOption, is_some}
 use Rattle.std.specs.Option.{option_and_then, option_map}
-use Rattle.mime.specs.Bytes.{is_token_byte, quote_byte}
+use Rattle.mime.specs.Bytes.{is_token_byte, is_quoted_byte, quote_byte}
 use Rattle.mime.specs.Grammar.{SyntaxTree}
 use Rattle.mime.specs.Values.{value_of, IsAccepted, IsRefused}
 use Rattle.mime.specs.Refusals.{IsViable, IsLongestPrefix, completion_of, Lacks, IsDeadAt, IsFault}
-use Rattle.mime.proofs.GrammarLemmas.Begun.{Closed, Begun, in_type, in_subtype, in_list, ListState, in_name, in_value, in_quotes, list_at, grow, walk, walk_from, tree_of, lacking, lacking_list, walk_from-step, walk_by-append, walk_from-append_some, walk_from-in_list, walk_list-open}
+use Rattle.mime.proofs.GrammarLemmas.Begun.{Closed, Begun, in_type, in_subtype, in_list, ListState, in_name, in_value, in_quotes, list_at, grow, walk, walk_from, tree_of, lacking, lacking_list, walk_by-step, walk_by-append, walk_by-append_some, walk_from-in_list, walk_list-open}
 use Rattle.mime.specs.Laws.{EmptyIsViable, PrefixOfViableIsViable, AcceptedIsViable}
 use Rattle.mime.specs.declared.scan.fault.ParseError.{ParseError}
-use Rattle.mime.specs.declared.scan.fault.ParseError.TheVariants.{MissingQuote, InvalidToken}
-use Rattle.mime.specs.Quoted.{awaits_first, takes_all, awaits_after, continues}
-use Rattle.mime.proofs.GrammarLemmas.Content.{takes_all-letter, closed-letter}
+use Rattle.mime.specs.declared.scan.fault.ParseError.TheVariants.{InvalidToken}
+use Rattle.mime.specs.Quoted.{takes_all, awaits_after, continues}
+use Rattle.mime.proofs.GrammarLemmas.Content.{takes_all-any, closed-letter}
 use Rattle.mime.proofs.GrammarLemmas.Spelling.{before_equals, spelled-from_walk, text-in_value}
 use Rattle.mime.proofs.GrammarLemmas.Readings.{accepted-from_walk, walk-accepted, stopped-from_walk}
 use Rattle.mime.proofs.BytesLemmas.{slice_get-prefix}
+
+-- an option is none or some
+pub by_option : {X P : Type 0} (o : Option X) → (o ≡ None → P) → ((x : X) → o ≡ Some x → P) → P
+by_option None none some = none refl
+by_option (Some x) none some = some x refl
 
 -- ---- what may still become a media type
 
@@ -36,27 +41,24 @@ completes begun more = is_some (option_and_then tree_of (walk_from begun more))
 accepted-from_completes : (text more : List ℕ) (begun : Begun) → walk text ≡ Some begun → IsTrue (completes begun more)
     → IsAccepted (text ++ more)
 accepted-from_completes text more begun walked passes =
-    reached (option_and_then tree_of (walk_from begun more)) refl passes
-  where
-    reached : (o : Option SyntaxTree) → option_and_then tree_of (walk_from begun more) ≡ o → IsTrue (is_some o)
-        → IsAccepted (text ++ more)
-    reached None same passes = absurd (false≢true passes)
-    reached (Some tree) same passes =
-        option_and_then_some tree_of (walk_from begun more) tree same
-        (λ last goes complete.
-        accepted-from_complete (text ++ more) last tree (walk_from-append_some (in_type []) begun text more walked ∙ goes) complete)
+    by_option (option_and_then tree_of (walk_from begun more))
+    (λ none. absurd (false≢true (sym (ap (λ o. is_some o) none) ∙ passes)))
+    (λ tree same.
+    option_and_then_some tree_of (walk_from begun more) tree same
+    (λ last goes complete.
+    accepted-from_complete (text ++ more) last tree (walk_by-append_some grow (in_type []) begun text more walked ∙ goes) complete))
 
 -- what makes a walked text an accepted one completes its begun tree
 pub completes-from_accepted : (text more : List ℕ) (begun : Begun) → walk text ≡ Some begun → IsAccepted (text ++ more)
     → IsTrue (completes begun more)
 completes-from_accepted text more begun walked accepted =
     let found = walk-accepted (text ++ more) accepted in
-    ap (λ o. is_some (option_and_then tree_of o)) (sym (walk_from-append_some (in_type []) begun text more walked) ∙ found.2.0)
+    ap (λ o. is_some (option_and_then tree_of o)) (sym (walk_by-append_some grow (in_type []) begun text more walked) ∙ found.2.0)
     ∙ ap (λ o. is_some o) found.2.1
 
 -- what an open quoted value takes leaves it open
 pub walk_from-open : (top sub : List ℕ) (closed : Closed) (n name content more : List ℕ)
-    → IsTrue (takes_all (awaits_after awaits_first content) more)
+    → IsTrue (takes_all (awaits_after false content) more)
     → walk_from (in_list top sub (list_at closed (in_quotes n name content))) more
     ≡ Some (in_list top sub (list_at closed (in_quotes n name (content ++ more))))
 walk_from-open top sub closed n name content more all =
@@ -66,11 +68,12 @@ walk_from-open top sub closed n name content more all =
 -- a letter and a quote complete an open quoted value
 completes-open_quotes : (top sub : List ℕ) (closed : Closed) (n name content : List ℕ)
     → IsTrue (completes (in_list top sub (list_at closed (in_quotes n name content))) (codes "x\""))
+unfolding is_quoted_byte
 completes-open_quotes top sub closed n name content =
     ap (λ o. is_some (option_and_then tree_of o))
-    (walk_from-append_some (in_list top sub (list_at closed (in_quotes n name content)))
+    (walk_by-append_some grow (in_list top sub (list_at closed (in_quotes n name content)))
     (in_list top sub (list_at closed (in_quotes n name (content ++ (120 ∷ []))))) (120 ∷ []) (quote_byte ∷ [])
-    (walk_from-open top sub closed n name content (120 ∷ []) (takes_all-letter (awaits_after awaits_first content))))
+    (walk_from-open top sub closed n name content (120 ∷ []) (takes_all-any (awaits_after false content) (120 ∷ []) refl)))
     ∙ ap (λ o. is_some (option_and_then tree_of (option_and_then (λ next. walk_from next []) (option_map (in_list top sub) o))))
     (cond-false (continues (content ++ (120 ∷ [])) quote_byte) _ _ (closed-letter content))
 
@@ -118,11 +121,10 @@ accepted_is_viable text accepted = ([], subst IsAccepted (sym (append-nil text))
 
 -- a text that can be walked is viable
 pub viable-from_walk : (text : List ℕ) (begun : Begun) → walk text ≡ Some begun → IsViable text
-viable-from_walk text begun walked = reached (tree_of begun) refl
-  where
-    reached : (o : Option SyntaxTree) → tree_of begun ≡ o → IsViable text
-    reached None unfinished = viable-from_lacks text (lacking begun) (lacks-from_walk text begun walked unfinished)
-    reached (Some tree) complete = accepted_is_viable text (accepted-from_complete text begun tree walked complete)
+viable-from_walk text begun walked =
+    by_option (tree_of begun)
+    (λ unfinished. viable-from_lacks text (lacking begun) (lacks-from_walk text begun walked unfinished))
+    (λ tree complete. accepted_is_viable text (accepted-from_complete text begun tree walked complete))
 
 -- a text that can't be walked isn't viable
 not_viable-from_walk : (text : List ℕ) → walk text ≡ None → IsViable text → ⊥
@@ -133,11 +135,8 @@ not_viable-from_walk text stopped viable =
 
 -- a viable text can be walked
 pub walk-from_viable : (text : List ℕ) → IsViable text → (begun : Begun) × (walk text ≡ Some begun)
-walk-from_viable text viable = reached (walk text) refl
-  where
-    reached : (o : Option Begun) → walk text ≡ o → (begun : Begun) × (walk text ≡ Some begun)
-    reached None stopped = absurd (not_viable-from_walk text stopped viable)
-    reached (Some begun) walked = (begun, walked)
+walk-from_viable text viable =
+    by_option (walk text) (λ stopped. absurd (not_viable-from_walk text stopped viable)) (λ begun walked. (begun, walked))
 
 -- the empty text is viable
 pub empty_is_viable : EmptyIsViable
@@ -158,12 +157,6 @@ whole_prefix-from_walk text begun walked = record {
   longest = λ n above within viable. absurd (omega arith);
 }
 
--- after a byte that leads nowhere no walk goes on
-walk-dead : (prefix rest : List ℕ) (b : ℕ) (begun : Begun) → walk prefix ≡ Some begun → grow begun b ≡ None
-    → walk (prefix ++ (b ∷ rest)) ≡ None
-walk-dead prefix rest b begun walked dead =
-    walk_from-append_some (in_type []) begun prefix (b ∷ rest) walked ∙ ap (option_and_then (λ next. walk_from next rest)) dead
-
 -- the prefix ends before the first byte that leads nowhere
 pub prefix-from_walk : (prefix rest : List ℕ) (b : ℕ) (begun : Begun) → walk prefix ≡ Some begun → grow begun b ≡ None
     → IsLongestPrefix (prefix ++ (b ∷ rest)) (length prefix)
@@ -171,12 +164,14 @@ prefix-from_walk prefix rest b begun walked dead = record {
   within = omega (arith, length-append prefix (b ∷ rest));
   viable = subst IsViable (sym (take-append_seam prefix (b ∷ rest))) (viable-from_walk prefix begun walked);
   longest = λ n above within viable.
-      let more : n ≡ length prefix + suc (n - suc (length prefix)) = omega arith in
-      let text : take n (prefix ++ (b ∷ rest)) ≡ prefix ++ (b ∷ take (n - suc (length prefix)) rest) =
-      ap (λ k. take k (prefix ++ (b ∷ rest))) more
-      ∙ take-append-add prefix (b ∷ rest) (suc (n - suc (length prefix))) in
-      not_viable-from_walk (prefix ++ (b ∷ take (n - suc (length prefix)) rest))
-      (walk-dead prefix (take (n - suc (length prefix)) rest) b begun walked dead) (subst IsViable text viable);
+      let k = n - suc (length prefix) in
+      let more : n ≡ length prefix + suc k = omega arith in
+      let text : take n (prefix ++ (b ∷ rest)) ≡ prefix ++ (b ∷ take k rest) =
+      ap (λ i. take i (prefix ++ (b ∷ rest))) more ∙ take-append-add prefix (b ∷ rest) (suc k) in
+      not_viable-from_walk (prefix ++ (b ∷ take k rest))
+      (walk_by-append_some grow (in_type []) begun prefix (b ∷ take k rest) walked
+      ∙ ap (option_and_then (λ next. walk_from next (take k rest))) dead)
+      (subst IsViable text viable);
 }
 
 -- a text has at most one prefix
@@ -188,11 +183,6 @@ prefix_unique text m n first second =
     (cases_order m n)
 
 -- ---- the fault
-
--- the fault of a text that ends in an open quoted value
-pub quote_fault-from_walk : (text top sub : List ℕ) (closed : Closed) (n name content : List ℕ)
-    → walk text ≡ Some (in_list top sub (list_at closed (in_quotes n name content))) → IsFault text MissingQuote
-quote_fault-from_walk text top sub closed n name content walked = lacks-from_walk text _ walked refl
 
 -- the fault of a text that goes on with a byte that leads nowhere
 pub dead-from_walk : (prefix rest : List ℕ) (b : ℕ) (begun : Begun) → walk prefix ≡ Some begun → grow begun b ≡ None
@@ -237,7 +227,7 @@ stop-from_walk start (b ∷ bytes) stopped =
             rest = stop.rest;
             begun = stop.begun;
             spelled = ap (λ t. b ∷ t) stop.spelled;
-            walked = walk_from-step start next b stop.prefix grown ∙ stop.walked;
+            walked = walk_by-step grow start next b stop.prefix grown ∙ stop.walked;
             dead = stop.dead;
           }
     ]) refl stopped

@@ -2,17 +2,17 @@
 use Rattle.std.proofs.Common.{◌≡◌, ℕ, ◌+◌, true, List, [], ◌∷◌, length, Option, Some, None, MatchOption, refl, sym, subst, ◌≢◌, ◌≤◌, ap, ◌∙◌, arith, ne_eqb, eq-eqb}
 use Rattle.std.specs.Prelude.{IsFalse, Bool, if◌then◌else◌, ◌==◌}
 use Rattle.std.specs.Option.{option_to_list}
-use Rattle.std.proofs.lemmas.Bool.{cond-true, cond-false}
+use Rattle.std.proofs.lemmas.Bool.{and_from, cond-true, cond-false}
 use Rattle.mime.specs.Bytes.{is_token_byte, equals_byte, quote_byte, semicolon_byte}
 use Rattle.mime.specs.Values.{last_plus}
 use Rattle.mime.specs.ReaderState.{Remaining}
 use Rattle.mime.specs.declared.scan.Positions.{Positions}
 use Rattle.mime.specs.declared.scan.Verdict.{Verdict}
 use Rattle.mime.specs.Scanning.{Given, GivesFirst, Passes, positions_of, before_list, ScansList, Scans, PassesContent}
-use Rattle.mime.proofs.GrammarLemmas.Begun.{in_type, in_subtype, in_list, begun_list, walk-type, walk_from-subtype, ListState, in_spaces, in_name, in_value, in_quotes, after_quotes, BegunList, grow_state, close, walk_list-spaces, walk_list-name, walk_list-value, walk_list-open, walk_list-after_quotes}
+use Rattle.mime.proofs.GrammarLemmas.Begun.{in_type, in_subtype, in_list, begun_list, walk-type, walk_from-subtype, ListState, in_spaces, in_name, in_value, in_quotes, after_quotes, BegunList, grow_state, grow_list, close, walk_by-step, walk_list-spaces, walk_list-name, walk_list-value, walk_list-open, walk_list-after_quotes}
 use Rattle.mime.proofs.ScanLemmas.Passing.{given_then, given_whole, given_sum}
 use Rattle.mime.proofs.GrammarLemmas.Spelling.{walk_from-lengthens}
-use Rattle.mime.proofs.ScanLemmas.Verdicts.{Reaches, reaches_run, reaches_byte, positions_of_list, ListReaches, list_run, list_byte}
+use Rattle.mime.proofs.ScanLemmas.Verdicts.{Reaches, reaches_run, positions_of_list, ListReaches, list_run, list_byte}
 use Rattle.mime.specs.Grammar.{is_space, Parameter, plain, quoted}
 use Rattle.mime.specs.Quoted.{continues}
 use Rattle.mime.proofs.BytesLemmas.{quote_is_no_token, semicolon_is_no_token}
@@ -27,7 +27,7 @@ pub type_walked : {old mid new : Remaining} {b : ℕ} {stop : Option ℕ} → Gi
 type_walked {b = b} g f q = record {
   run = b ∷ q.run;
   given = given_then (given_whole g.0) q.given;
-  walked = walk-type b q.run f q.of_class;
+  walked = walk-type (b ∷ q.run) (and_from _ _ f q.of_class);
 }
 
 -- a subtype was walked after the slash
@@ -35,8 +35,7 @@ pub subtype_walked : {old mid from new : Remaining} {top : List ℕ} {b : ℕ} {
     → Reaches (in_type []) old mid None (in_subtype top []) → GivesFirst mid from (Some b) → is_token_byte b ≡ true
     → (q : Passes is_token_byte from new stop) → Reaches (in_type []) old new stop (in_subtype top (b ∷ q.run))
 subtype_walked {top = top} {b = b} r g f q =
-    reaches_run (reaches_byte (reaches_run r g.0 refl) (cond-true (is_token_byte b) _ _ f)) q.given
-    (walk_from-subtype top b [] q.run q.of_class)
+    reaches_run r (given_then (given_whole g.0) q.given) (walk_from-subtype top (b ∷ q.run) (and_from _ _ f q.of_class))
 
 -- the subtype was passed, with the byte after it, if any
 pub record Subtyped (top : List ℕ) (b : ℕ) (plus : Option ℕ) (old now : Remaining) (stop : Option ℕ) : Type 0 where
@@ -87,9 +86,10 @@ pub name_walked : {head positions : Positions} {old mid from new : Remaining} {b
     → (q : Passes is_token_byte from new stop)
     → ListReaches old new stop (record { closed = t.closed; position = in_name p.run (b ∷ q.run) })
 name_walked {b = b} t p f q =
-    list_run
-    (list_byte (spaces_walked t p) (cond-false (is_space b) _ _ p.stopped ∙ cond-true (is_token_byte b) _ _ f))
-    q.given (walk_list-name t.closed p.run b [] q.run q.of_class)
+    let first = cond-false (is_space b) _ _ p.stopped ∙ cond-true (is_token_byte b) _ _ f in
+    list_run (list_byte (spaces_walked t p) first) q.given
+    (sym (walk_by-step grow_list (record { closed = t.closed; position = in_spaces p.run }) _ b q.run first)
+    ∙ walk_list-name t.closed p.run (b ∷ q.run) (and_from _ _ f q.of_class))
 
 -- a parameter's equals sign was walked
 pub equals_walked : {closed : List (List ℕ × Parameter)} {spaces name : List ℕ} {old now : Remaining} {b : ℕ}
@@ -133,9 +133,7 @@ pub valued_token : {closed : List (List ℕ × Parameter)} {spaces name : List �
 valued_token {closed} {spaces} {name} {new = new} {b = b} {stop = stop} r g f q = record {
   parameter = plain name (b ∷ q.run);
   position = in_value spaces name (b ∷ q.run);
-  walked =
-      list_run (list_byte (list_run r g.0 refl) (cond-true (is_token_byte b) _ _ f)) q.given
-      (walk_list-value closed spaces name b [] q.run q.of_class);
+  walked = list_run r (given_then (given_whole g.0) q.given) (walk_list-value closed spaces name (b ∷ q.run) (and_from _ _ f q.of_class));
   counted = λ head. refl;
   closing = rw semicolon_is_no_token;
   stopped = only_semicolon is_token_byte new.left stop _ _ q.stopped;

@@ -6,11 +6,11 @@ use Rattle.std.specs.Option.{option_eq, option_to_list}
 use Rattle.std.proofs.lemmas.Bool.{and_from, and_parts, eqb-true, true≢false}
 use Rattle.std.proofs.lemmas.List.Folds.{list_all-append}
 use Rattle.mime.specs.Bytes.{is_token_byte, is_quoted_byte, is_quoted_text_byte, plus_byte, backslash_byte}
-use Rattle.mime.specs.Quoted.{awaits_first, awaits_next, takes, takes_all, awaits_after, IsOpenContent, continues}
+use Rattle.mime.specs.Quoted.{awaits_next, takes, takes_all, awaits_after, IsOpenContent, continues}
 use Rattle.mime.specs.Values.{last_plus}
 use Rattle.mime.specs.ReaderState.{Remaining, is_token_except_plus}
 use Rattle.mime.specs.Scanning.{Given, GivesFirst, Passes, PassesContent, PassesSubtype}
-use Rattle.mime.proofs.GrammarLemmas.Content.{takes_all-backslash, takes_all-text, awaits_after-text, awaits_after-append, takes_all-append, not_taken}
+use Rattle.mime.proofs.GrammarLemmas.Content.{takes-backslash, takes_all-text, awaits_after-text, awaits_after-append, takes_all-append, not_taken}
 
 -- a run, and what was given from where it ended
 pub given_then : {old mid new : Remaining} {xs ys : List ℕ} {stop : Option ℕ}
@@ -26,11 +26,6 @@ given_whole {new} {xs} {b} g = record {
   bytes = g.bytes ∙ sym (append_assoc xs (b ∷ []) new.left);
   counted = omega (arith, g.counted, length-append xs (b ∷ []));
 }
-
--- a run, and one byte more
-pub given_more : {old mid new : Remaining} {xs : List ℕ} {b : ℕ} → Given old mid xs None → GivesFirst mid new (Some b)
-    → Given old new (xs ++ b ∷ []) None
-given_more g first = given_then g (given_whole first.0)
 
 -- a run, and the byte that ended it, or the end of the text
 pub given_stop : {old mid new : Remaining} {xs : List ℕ} {stop : Option ℕ} → Given old mid xs None → GivesFirst mid new stop
@@ -63,24 +58,14 @@ abbrev pub passing_more : {class : ℕ → Bool} {old mid new : Remaining} {b : 
 passing_more {class} {b = b} p g fits = record {
   run = p.run ++ b ∷ [];
   of_class = list_all-append class p.run (b ∷ []) ∙ and_from _ _ p.of_class (and_from (class b) true fits refl);
-  given = given_more p.given g;
-}
-
--- the text ended the run, or a byte outside the class did
-abbrev passes_at : {class : ℕ → Bool} {old mid new : Remaining} {stop : Option ℕ} → Passing class old mid → GivesFirst mid new stop
-    → MatchOption stop (new.left ≡ []) (λ b. IsFalse (class b)) → Passes class old new stop
-passes_at p g stopped = record {
-  run = p.run;
-  of_class = p.of_class;
-  given = given_stop p.given g;
-  stopped = stopped;
+  given = given_then p.given (given_whole g.0);
 }
 
 -- open content was given so far, which awaits a byte or not
 pub record Taking (awaiting : Bool) (old now : Remaining) : Type 0 where
   pub run : List ℕ
   pub of_class : IsOpenContent run
-  pub awaits : awaits_after awaits_first run ≡ awaiting
+  pub awaits : awaits_after false run ≡ awaiting
   pub given : Given old now run None
 
 -- no content was given yet
@@ -92,8 +77,8 @@ taking_run : {awaiting : Bool} {old mid new : Remaining} {run : List ℕ} → Ta
     → IsTrue (takes_all awaiting run) → Taking (awaits_after awaiting run) old new
 taking_run {run} p g taken = record {
   run = p.run ++ run;
-  of_class = takes_all-append awaits_first p.run run p.of_class (rw p.awaits taken);
-  awaits = awaits_after-append awaits_first p.run run ∙ ap (λ (a : Bool). awaits_after a run) p.awaits;
+  of_class = takes_all-append false p.run run p.of_class (rw p.awaits taken);
+  awaits = awaits_after-append false p.run run ∙ ap (λ (a : Bool). awaits_after a run) p.awaits;
   given = given_then p.given g;
 }
 
@@ -107,7 +92,8 @@ taking_backslash {old} {mid} {new} {stop} p passes test =
     (awaits_after-append false passes.run (backslash_byte ∷ []) ∙ ap (λ (a : Bool). awaits_next a backslash_byte) text)
     (taking_run p given
     (takes_all-append false passes.run (backslash_byte ∷ []) (takes_all-text passes.run passes.of_class)
-    (subst (λ awaiting. IsTrue (takes_all awaiting (backslash_byte ∷ []))) (sym text) takes_all-backslash)))
+    (subst (λ awaiting. IsTrue (takes_all awaiting (backslash_byte ∷ []))) (sym text)
+    (and_from (takes false backslash_byte) true takes-backslash refl))))
 
 -- a backslash was given, and the byte that it pairs
 pub taking_paired : {old mid new : Remaining} {b : ℕ} → Taking true old mid → GivesFirst mid new (Some b)
@@ -129,13 +115,13 @@ pub content_text : {old mid new : Remaining} (stop : Option ℕ) → Taking fals
     → option_eq eqb stop (Some backslash_byte) ≡ false → PassesContent old new stop
 content_text {new = new} stop p passes other = record {
   run = p.run ++ passes.run;
-  of_class = takes_all-append awaits_first p.run passes.run p.of_class (rw p.awaits (takes_all-text passes.run passes.of_class));
+  of_class = takes_all-append false p.run passes.run p.of_class (rw p.awaits (takes_all-text passes.run passes.of_class));
   given = given_then p.given passes.given;
   stopped = ends stop passes.stopped other;
 }
   where
-    closes : awaits_after awaits_first (p.run ++ passes.run) ≡ false
-    closes = awaits_after-append awaits_first p.run passes.run
+    closes : awaits_after false (p.run ++ passes.run) ≡ false
+    closes = awaits_after-append false p.run passes.run
         ∙ ap (λ (a : Bool). awaits_after a passes.run) p.awaits ∙ awaits_after-text passes.run passes.of_class
 
     ends : (stop : Option ℕ) → MatchOption stop (new.left ≡ []) (λ b. IsFalse (is_quoted_text_byte b))
@@ -149,11 +135,6 @@ pub last_plus-plus : (at : ℕ) (xs : List ℕ) (b position : ℕ) → b ≡ plu
     → last_plus at (xs ++ b ∷ []) ≡ Some position
 last_plus-plus at [] b position p e = rw p (ap Some (omega arith))
 last_plus-plus at (x ∷ xs) b position p e = rw (last_plus-plus (at + 1) xs b position p (omega arith))
-
--- another byte at the end keeps the last plus
-pub last_plus-other : (at : ℕ) (xs : List ℕ) (b : ℕ) → eqb b plus_byte ≡ false → last_plus at (xs ++ b ∷ []) ≡ last_plus at xs
-last_plus-other at [] b f = rw f
-last_plus-other at (x ∷ xs) b f = rw (last_plus-other (at + 1) xs b f)
 
 -- ---- a subtype, plus by plus
 

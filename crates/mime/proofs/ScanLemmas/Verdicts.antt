@@ -1,17 +1,16 @@
 -- The scanner's verdict where it stops: what was walked up to there, and what a text is that ends there.
-use Rattle.std.proofs.Common.{◌≡◌, ℕ, ◌+◌, List, [], ◌∷◌, ◌++◌, length, Option, Some, None, MatchOption, refl, sym, ap, ◌∙◌, subst, arith, append-nil}
+use Rattle.std.proofs.Common.{◌≡◌, ℕ, ◌+◌, ◌-◌, List, [], ◌∷◌, ◌++◌, length, Option, Some, None, MatchOption, refl, ap, ◌∙◌, arith, append-nil}
 use Rattle.std.specs.Option.{option_map}
 use Rattle.std.proofs.lemmas.List.{take_at}
 use Rattle.mime.specs.Grammar.{Parameter, Parameters, more, listed, SyntaxTree, text_of}
 use Rattle.mime.specs.Values.{pairs_of_list, IsRefused}
-use Rattle.mime.specs.Refusals.{IsFault}
 use Rattle.mime.specs.ReaderState.{Remaining}
 use Rattle.mime.specs.Scanning.{Given, positions_of, HasPositions, Judges, before_list, ScansList, Scans}
 use Rattle.mime.specs.declared.scan.Positions.{Positions}
 use Rattle.mime.specs.declared.scan.fault.ParseError.{ParseError}
 use Rattle.mime.specs.declared.scan.Verdict.{Verdict}
 use Rattle.mime.specs.declared.scan.Verdict.TheVariants.{Accepted, Unfinished, Stopped}
-use Rattle.mime.proofs.GrammarLemmas.Begun.{Begun, in_type, in_list, BegunList, begun_list, grow, grow_list, walk, walk_from, walk_list, with_closed, list_at_end, tree_of, lacking, lacking_list, walk_from-append_some, walk_from-in_list}
+use Rattle.mime.proofs.GrammarLemmas.Begun.{Begun, in_type, in_list, BegunList, begun_list, grow, grow_list, walk, walk_from, walk_list, with_closed, list_at_end, tree_of, lacking, lacking_list, walk_by-append_some, walk_from-in_list}
 use Rattle.mime.proofs.ScanLemmas.Passing.{given_then, given_whole}
 use Rattle.mime.proofs.GrammarLemmas.Readings.{accepted-from_walk, refused-from_walk, walk-head}
 use Rattle.mime.proofs.GrammarLemmas.Viability.{lacks-from_walk, viable-from_walk, dead-from_walk}
@@ -31,7 +30,7 @@ pub reaches_run : {start begun next : Begun} {old mid new : Remaining} {stop : O
 reaches_run {start} {begun} {run = run} r g e = record {
   run = r.run ++ run;
   given = given_then r.given g;
-  walked = walk_from-append_some start begun r.run run r.walked ∙ e;
+  walked = walk_by-append_some grow start begun r.run run r.walked ∙ e;
 }
 
 -- the byte after a run was given
@@ -40,7 +39,7 @@ pub reaches_byte : {start begun next : Begun} {old now : Remaining} {b : ℕ}
 reaches_byte {start} {begun} {b = b} r e = record {
   run = r.run ++ b ∷ [];
   given = given_whole r.given;
-  walked = walk_from-append_some start begun r.run (b ∷ []) r.walked ∙ rw e;
+  walked = walk_by-append_some grow start begun r.run (b ∷ []) r.walked ∙ rw e;
 }
 
 -- the bytes given lead from the start of a list to a begun list, after any type and subtype
@@ -66,10 +65,6 @@ verdict_at None None fault = Unfinished fault
 verdict_at None (Some positions) fault = Accepted positions
 verdict_at (Some b) positions fault = Stopped b positions
 
--- what is lacking is the fault of a text that ends where no text may end
-lacking-fault : (text : List ℕ) (begun : Begun) → walk text ≡ Some begun → tree_of begun ≡ None → IsFault text (lacking begun)
-lacking-fault text begun w e = fault-from_lacks text (lacking begun) (lacks-from_walk text begun w e)
-
 -- a text that is walked to a complete tree has that tree's positions
 has_positions : (text : List ℕ) (begun : Begun) (tree : SyntaxTree) → walk text ≡ Some begun → tree_of begun ≡ Some tree
     → HasPositions text (positions_of tree)
@@ -80,7 +75,7 @@ has_positions text begun tree w e =
 -- a text that is walked is judged by the tree that it makes, if any
 judged : (text : List ℕ) (begun : Begun) (tree : Option SyntaxTree) → walk text ≡ Some begun → tree_of begun ≡ tree
     → Judges text (length text) (verdict_at None (option_map positions_of tree) (lacking begun))
-judged text begun None w e = (refl, lacking-fault text begun w e, viable-from_walk text begun w)
+judged text begun None w e = (refl, fault-from_lacks text _ (lacks-from_walk text begun w e), viable-from_walk text begun w)
 judged text begun (Some tree) w e = (refl, has_positions text begun tree w e)
 
 -- the text before a byte that leads nowhere is judged by the tree that it makes, if any
@@ -93,27 +88,24 @@ judged_before text begun (Some tree) w e = has_positions text begun tree w e
 pub scans_at : {old now : Remaining} {stop : Option ℕ} {begun : Begun} (positions : Option Positions) → Reaches (in_type []) old now stop begun
     → MatchOption stop (now.left ≡ []) (λ b. grow begun b ≡ None) → positions ≡ option_map positions_of (tree_of begun)
     → Scans old now (verdict_at stop positions (lacking begun))
-scans_at {stop = None} {begun = begun} positions r end e =
-    rw e (record {
-      count = length r.run;
+scans_at {old} {now} {stop = None} {begun} positions r end e =
+    let bytes : old.left ≡ r.run = r.given.bytes ∙ ap (λ rest. r.run ++ rest) end ∙ append-nil r.run in
+    let size : now.count - old.count ≡ length r.run = omega (arith, r.given.counted) in
+    record {
       counted = omega (arith, r.given.counted);
-      judged = subst (λ text. Judges text (length r.run) (verdict_at None (option_map positions_of (tree_of begun)) (lacking begun)))
-          (sym (r.given.bytes ∙ ap (λ rest. r.run ++ rest) end ∙ append-nil r.run)) (judged r.run begun (tree_of begun) r.walked refl);
-    })
-scans_at {now = now} {stop = Some b} {begun = begun} positions r dead e =
-    rw e (record {
-      count = length r.run + 1;
-      counted = r.given.counted;
+      judged = rw (e, size, bytes) (judged r.run begun (tree_of begun) r.walked refl);
+    }
+scans_at {old} {now} {stop = Some b} {begun} positions r dead e =
+    let size : now.count - old.count - 1 ≡ length r.run = omega (arith, r.given.counted) in
+    record {
+      counted = omega (arith, r.given.counted);
       judged = (
-        length r.run,
-        refl,
-        record {
-          fault = rw r.given.bytes (dead-from_walk r.run now.left b begun r.walked dead);
-          before = rw (r.given.bytes, take_at r.run (b ∷ now.left) (length r.run) refl)
-              (judged_before r.run begun (tree_of begun) r.walked refl);
-        },
+        omega (arith, r.given.counted),
+        rw (size, r.given.bytes) (dead-from_walk r.run now.left b begun r.walked dead),
+        rw (e, size, r.given.bytes, take_at r.run (b ∷ now.left) (length r.run) refl)
+            (judged_before r.run begun (tree_of begun) r.walked refl),
       );
-    })
+    }
 
 -- ---- a text that ends at a begun list
 

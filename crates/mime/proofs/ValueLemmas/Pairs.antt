@@ -7,7 +7,7 @@ use Rattle.std.proofs.lemmas.Bool.{and_parts, cond-false, eqb-true, true≢false
 use Rattle.mime.specs.Bytes.{quote_byte, backslash_byte, semicolon_byte, equals_byte}
 use Rattle.mime.specs.Grammar.{IsContent}
 use Rattle.mime.specs.Blocks.{first_position, before_byte, after_byte}
-use Rattle.mime.specs.Quoted.{awaits_first, awaits_next, takes, takes_all, awaits_after, len_from, content_len, after_content}
+use Rattle.mime.specs.Quoted.{awaits_next, takes, takes_all, awaits_after, len_from, content_len, after_content}
 use Rattle.mime.proofs.GrammarLemmas.Content.{taken-closes_not, content-taken, content-awaits}
 use Rattle.mime.specs.Values.{lowered, lowered_value}
 use Rattle.mime.specs.Pairs.{PairCut, cut_after_equals, leading_spaces, without_spaces, cut_of, lowered_first, lowered_within}
@@ -29,7 +29,7 @@ len_from-run awaiting (b ∷ run) after all done =
 -- content that a quote follows ends at that quote
 pub content_len-content : (content after : List ℕ) → IsContent content
     → content_len (content ++ quote_byte ∷ after) ≡ length content
-content_len-content content after is = len_from-run awaits_first content after (content-taken content is) (content-awaits content is)
+content_len-content content after is = len_from-run false content after (content-taken content is) (content-awaits content is)
 
 -- at the length of the content that a text begins with there is a quote, or the text ends
 quote_at_len : (awaiting : Bool) (text : List ℕ) → len_from awaiting text < length text
@@ -46,7 +46,7 @@ quote_at_len awaiting (b ∷ text) within =
 
 -- at the content's end there is a quote
 pub get_or-content_len : (text : List ℕ) (n : ℕ) → n ≡ content_len text → n < length text → get_or text n 0 ≡ quote_byte
-get_or-content_len text n e within = rw e (quote_at_len awaits_first text (omega (arith, e, within)))
+get_or-content_len text n e within = rw e (quote_at_len false text (omega (arith, e, within)))
 
 -- ---- the search for the end of content, position by position
 
@@ -114,7 +114,7 @@ first_quote awaiting (b ∷ text) n e free before = go (first_quote (awaits_next
 -- content ends at the first quote, if no backslash precedes it
 pub content_len-first_quote : (text : List ℕ) (n : ℕ) → n ≡ first_position quote_byte text
     → ((m : ℕ) → suc m ≡ n → get_or text m 0 ≢ backslash_byte) → n ≡ content_len text
-content_len-first_quote text n e before = sym (first_quote awaits_first text n e (λ _. refl) before)
+content_len-first_quote text n e before = sym (first_quote false text n e (λ _. refl) before)
 
 -- the first list is the second without some of its first bytes
 abbrev IsEnd : List ℕ → List ℕ → Type 0

@@ -15,7 +15,7 @@ refused-not_accepted : (text : List ℕ) (count : ℕ) (verdict : Verdict) → J
     → ((positions : Positions) → verdict ≢ Accepted positions) → IsRefused text
 refused-not_accepted text count (Accepted positions) judged other = absurd (other positions refl)
 refused-not_accepted text count (Unfinished fault) judged other = refused-from_fault _ _ judged.1
-refused-not_accepted text count (Stopped byte positions) judged other = refused-at_dead _ _ _ judged.2.fault
+refused-not_accepted text count (Stopped byte positions) judged other = refused-at_dead _ _ _ judged.1
 
 pub returns-in-Accepted : goal.returns-in-Accepted
 returns-in-Accepted c =
@@ -28,5 +28,5 @@ returns-in-Accepted c =
 
 pub returns-in_default : goal.returns-in_default
 returns-in_default c =
-    let judged = subst (λ text. Judges text c.scan.ensures.count c.scan.result) c.new-reader.ensures.left c.scan.ensures.judged in
+    let judged = rw c.new-reader.ensures.left at c.scan.ensures.judged in
     (λ bad. absurd cc, λ is. absurd (refused-not_accepted _ _ _ judged c.in_default.not-Accepted (IsAccepted-at _ _ _ is)))

@@ -1,7 +1,6 @@
 -- Pieces without an item were passed.
 use Rattle.std.proofs.Common.{length}
-use Rattle.mime.specs.BetweenCalls.{IsSound}
-use Rattle.mime.proofs.IterLemmas.{IsLooking, seen}
+use Rattle.mime.proofs.IterLemmas.{IsSound, IsLooking, seen}
 use Rattle.mime.proofs.iter.MimeIter.next_piece.Given as goal
 
 abbrev pub invariant-loop-self : goal.invariant-loop-self

@@ -1,5 +1,5 @@
 -- The scanner's verdict is what the call answers.
-use Rattle.std.proofs.Common.{◌≡◌, arith, rules}
+use Rattle.std.proofs.Common.{sym, rules}
 use Rattle.mime.proofs.ValueLemmas.Reading.{accepted-from_positions, Explains-from_fault, Explains-no_memory, refused-from_fault, star-accepted}
 use Rattle.mime.proofs.GrammarLemmas.Viability.{refused-at_dead}
 use Rattle.mime.proofs.value.Mime.from_str.Goals as goal
@@ -19,11 +19,11 @@ returns-in-Unfinished-clause-star c = λ star.
 
 pub returns-in-Stopped-clause-accepted : goal.returns-in-Stopped-clause-accepted
 returns-in-Stopped-clause-accepted c = λ accepted.
-    absurd (refused-at_dead _ _ _ (rw c.new-reader.ensures.left at c.in-Stopped.ensures.judged.2.fault) accepted)
+    absurd (refused-at_dead _ _ _ (rw c.new-reader.ensures.left at c.in-Stopped.ensures.judged.1) accepted)
 
 pub returns-in-Stopped-clause-star : goal.returns-in-Stopped-clause-star
 returns-in-Stopped-clause-star c = λ star.
-    absurd (refused-at_dead _ _ _ (rw c.new-reader.ensures.left at c.in-Stopped.ensures.judged.2.fault) (star-accepted _ star))
+    absurd (refused-at_dead _ _ _ (rw c.new-reader.ensures.left at c.in-Stopped.ensures.judged.1) (star-accepted _ star))
 
 pub returns-in-Unfinished-clause-explained : goal.returns-in-Unfinished-clause-explained
 returns-in-Unfinished-clause-explained c =
@@ -31,10 +31,8 @@ returns-in-Unfinished-clause-explained c =
 
 pub returns-in-Stopped-clause-explained : goal.returns-in-Stopped-clause-explained
 returns-in-Stopped-clause-explained c =
-    let judged = c.in-Stopped.ensures.judged in
-    let counts = c.in-Stopped.ensures.counted in
-    let at : c.position-pos.result ≡ judged.0 = omega (arith, c.position-pos.ensures, judged.1, counts, c.new-reader.ensures.count) in
-    rw (c.new-in-Stopped.ensures, at) (rw c.new-reader.ensures.left at judged.2.fault)
+    rw (c.new-in-Stopped.ensures, c.position-pos.ensures, sym c.new-reader.ensures.count)
+    (rw c.new-reader.ensures.left at c.in-Stopped.ensures.judged.1)
 
 pub returns-in-Accepted-clause-read : goal.returns-in-Accepted-clause-read
 returns-in-Accepted-clause-read c = c.of_accepted.ensures.read
