@@ -1,13 +1,14 @@
 -- A text against a value: what a text has that is equal to the value, and what suffices.
-use Rattle.std.proofs.Common.{◌≡◌, ℕ, ◌+◌, true, false, List, [], ◌∷◌, ◌++◌, length, take, drop, Some, map, refl, sym, ap, ◌∙◌, subst, ◌↔◌, append-nil}
+use Rattle.std.proofs.Common.{◌≡◌, ℕ, ◌+◌, true, false, arith, List, [], ◌∷◌, ◌++◌, length, take, drop, Some, map, refl, sym, ap, ◌∙◌, subst, ◌↔◌, append-nil}
 use Rattle.std.specs.Prelude.{◌≢◌, ◌==◌, not, codes}
 use Rattle.std.proofs.lemmas.Bool.{and_parts, cond_both}
+use Rattle.std.proofs.lemmas.Bool.Decides.{nat_tests}
 use Rattle.std.proofs.lemmas.List.{nil_from_length, take-append-drop}
 use Rattle.std.specs.List.{list_all}
 use Rattle.std.proofs.lemmas.List.Folds.{list_all-append}
 use Rattle.mime.specs.Bytes.{slash_byte, semicolon_byte, quote_byte}
 use Rattle.mime.specs.Grammar.{plain, quoted, Parameters, blank, final, more, Tail, no_list, listed, SyntaxTree, text_of, text_of_tail, text_of_list, IsToken, IsWellFormed}
-use Rattle.mime.specs.Values.{MediaType, Reads, IsAccepted, value_of, essence_of, lowered, lowered_list, pairs_of_list, pairs_of_tail, is_charset}
+use Rattle.mime.specs.Values.{MediaType, Reads, IsAccepted, value_of, essence_of, lowered, lowered_list, lowered_tail, pairs_of_list, pairs_of_tail, is_charset}
 use Rattle.mime.specs.Comparison.{TextIs, HasNoSemicolon}
 use Rattle.mime.specs.Pairs.{PairCut, cut_after_equals, cut_of, pairs_within}
 use Rattle.mime.specs.Scanning.{HasPositions, positions_of, semicolon_of}
@@ -16,26 +17,16 @@ use Rattle.mime.specs.ComparedText.{IsListAfter, IsAcceptedAt, IsLoneCharset}
 use Rattle.mime.specs.declared.scan.Positions.{Positions}
 use Rattle.mime.proofs.BytesLemmas.{AreTokenBytes-from_token, are_other-token, semicolon_is_no_token}
 use Rattle.mime.proofs.ValueLemmas.Parts.{kept-essence, read-low_essence}
-use Rattle.mime.proofs.ValueLemmas.KeptText.{text_of-essence, take-essence, drop-to_semicolon, length-essence_of, slice_get-semicolon, kept_is_read}
-use Rattle.mime.proofs.ValueLemmas.ListText.{pairs_within-text_of_list}
-use Rattle.mime.proofs.ValueLemmas.Lowercase.{lowered-append, length-lowered, length-pairs_lowered}
-use Rattle.mime.proofs.GrammarLemmas.Readings.{one_tree, one_reading}
-use Rattle.mime.proofs.IgnoringCase.{semicolon-lower, case_read, case_read-count, case_read-lone_charset}
+use Rattle.mime.proofs.ValueLemmas.KeptText.{text_of-essence, take-essence, length-essence_of, slice_get-semicolon, kept_is_read, pairs_within-text_of}
+use Rattle.mime.proofs.ValueLemmas.Lowercase.{lowered-append, length-lowered, length-tail_lowered, pairs_of_tail-lowered, list_all-lowered}
+use Rattle.mime.proofs.GrammarLemmas.Readings.{one_reading}
+use Rattle.mime.proofs.IgnoringCase.{case_read, case_read-count, case_read-lone_charset}
 
 -- ---- what an accepted text with parameters is read as
 
 -- a value's essence is its tree's, lowercased
 pub essence-lowered : (tree : SyntaxTree) → (value_of tree).essence ≡ lowered (essence_of tree)
 essence-lowered tree = sym (lowered-append tree.top (slash_byte ∷ tree.sub))
-
--- the pairs of a lowercased list are those of the list, each lowercased
-pairs_of_list-lowered : (list : Parameters) → pairs_of_list (lowered_list list) ≡ map lowered_pair (pairs_of_list list)
-pairs_of_list-lowered (blank n) = refl
-pairs_of_list-lowered (final n (plain name value)) = refl
-pairs_of_list-lowered (final n (quoted name content m)) = refl
-pairs_of_list-lowered (more n (plain name value) rest) = ap (λ pairs. lowered_pair (name, value) ∷ pairs) (pairs_of_list-lowered rest)
-pairs_of_list-lowered (more n (quoted name content m) rest) = ap (λ pairs. lowered_pair (name, content) ∷ pairs)
-    (pairs_of_list-lowered rest)
 
 -- a value's essence is as long as its tree's
 length-value_essence : (tree : SyntaxTree) → length (value_of tree).essence ≡ length tree.top + 1 + length tree.sub
@@ -57,9 +48,7 @@ read_at-tree top sub list well =
       value = value_of tree;
       reads = record { tree = tree; well_formed = well; spelled = refl; valued = refl };
       essence = essence-lowered tree ∙ ap lowered (sym (take-essence tree));
-      pairs = pairs_of_list-lowered list
-          ∙ ap (map lowered_pair) (sym (ap (pairs_within (length (pairs_of_list list))) (drop-to_semicolon top sub (text_of_list list))
-          ∙ pairs_within-text_of_list list well.2));
+      pairs = pairs_of_tail-lowered (listed list) ∙ ap (map lowered_pair) (sym (pairs_within-text_of top sub list well.2));
     }
 
 -- of every such text
@@ -83,37 +72,24 @@ read_at text end count is =
 accepted_at : (text : List ℕ) (value : MediaType) → Reads text value → value.pairs ≢ []
     → IsAcceptedAt text (length value.essence) (length value.pairs)
 accepted_at text value reads some =
-    go reads.tree.top reads.tree.sub reads.tree.tail reads.well_formed reads.spelled reads.valued
+    let tree = reads.tree in
+    record {
+      positions = positions_of tree;
+      has = record { tree = tree; well_formed = reads.well_formed; spelled = reads.spelled; same_positions = refl };
+      at = listed_at _ tree.tail (ap (λ (v : MediaType). v.pairs) reads.valued)
+          ∙ ap Some (sym (length-value_essence tree) ∙ ap (λ (v : MediaType). length v.essence) reads.valued);
+      counted = sym (length-tail_lowered tree.tail) ∙ ap (λ (v : MediaType). length v.pairs) reads.valued;
+    }
   where
-    go : (top sub : List ℕ) (tail : Tail) → IsWellFormed (record { top = top; sub = sub; tail = tail })
-        → text_of (record { top = top; sub = sub; tail = tail }) ≡ text → value_of (record { top = top; sub = sub; tail = tail }) ≡ value
-        → IsAcceptedAt text (length value.essence) (length value.pairs)
-    go top sub no_list well spelled valued = absurd (some (ap (λ (v : MediaType). v.pairs) (sym valued)))
-    go top sub (listed list) well spelled valued =
-        let tree : SyntaxTree = record { top = top; sub = sub; tail = listed list } in
-        record {
-          positions = positions_of tree;
-          has = record { tree = tree; well_formed = well; spelled = spelled; same_positions = refl };
-          at = ap Some (sym (length-value_essence tree) ∙ ap (λ (v : MediaType). length v.essence) valued);
-          counted = sym (length-pairs_lowered list) ∙ ap (λ (v : MediaType). length v.pairs) valued;
-        }
+    listed_at : (n : ℕ) (tail : Tail) → pairs_of_tail (lowered_tail tail) ≡ value.pairs → semicolon_of n tail ≡ Some n
+    listed_at n no_list is = absurd (some (sym is))
+    listed_at n (listed list) is = refl
 
 -- the same position and the same number, written in another way
 IsAcceptedAt-same : (text : List ℕ) {end also count number : ℕ} → end ≡ also → count ≡ number → IsAcceptedAt text end count
     → IsAcceptedAt text also number
 IsAcceptedAt-same text {end} {also} {count} {number} ends counts is =
     subst (λ n. IsAcceptedAt text n number) ends (subst (IsAcceptedAt text end) counts is)
-
--- each part of an accepted text has one position
-pub one_positions : (text : List ℕ) (first second : Positions) → HasPositions text first → HasPositions text second → first ≡ second
-one_positions text first second has also =
-    sym has.same_positions ∙ ap positions_of (one_tree has.tree also.tree has.well_formed also.well_formed (has.spelled ∙ sym also.spelled))
-    ∙ also.same_positions
-
--- a text that is accepted with these positions is accepted
-pub IsAccepted-at : (text : List ℕ) (end count : ℕ) → IsAcceptedAt text end count → IsAccepted text
-IsAccepted-at text end count is =
-    (value_of is.has.tree, record { tree = is.has.tree; well_formed = is.has.well_formed; spelled = is.has.spelled; valued = refl })
 
 -- ---- a text against a value with pairs
 
@@ -207,8 +183,7 @@ bare_essence top sub token sub_token =
 -- lowering keeps semicolons
 HasNoSemicolon-lowered : (text : List ℕ)
     → list_all (λ b. not (b == semicolon_byte)) (lowered text) ≡ list_all (λ b. not (b == semicolon_byte)) text
-HasNoSemicolon-lowered [] = refl
-HasNoSemicolon-lowered (b ∷ text) = rw (semicolon-lower b, HasNoSemicolon-lowered text) refl
+HasNoSemicolon-lowered = list_all-lowered (λ b. not (b == semicolon_byte)) (λ b. grind (arith, nat_tests))
 
 -- an accepted text without a semicolon is an essence
 text_of-bare : (tree : SyntaxTree) → HasNoSemicolon (text_of tree) → text_of tree ≡ essence_of tree

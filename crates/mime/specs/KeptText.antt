@@ -1,10 +1,10 @@
 -- Private. The kept text of a value, with the positions of its parts.
 use Rattle.std.specs.Prelude.{◌≡◌, ℕ, zero, suc, ◌+◌, List, ◌++◌, length, take, drop, Option, Some, None, unwrap_or, ◌==◌}
 use Rattle.std.specs.List.{AllByRecursion, position}
-use Rattle.mime.specs.Grammar.{Tail, no_list, listed, blank, final, more, SyntaxTree, text_of, IsWellFormed}
+use Rattle.mime.specs.Grammar.{Tail, no_list, listed, blank, final, more}
 use Rattle.mime.specs.Values.{MediaType, lowered, lowered_value, lowered_tree}
 use Rattle.mime.specs.Pairs.{pairs_after, lowered_within}
-use Rattle.mime.specs.Scanning.{positions_of}
+use Rattle.mime.specs.Scanning.{HasPositions}
 use Rattle.mime.specs.declared.scan.Positions.{Positions}
 use Rattle.std.specs.Option.{option_to_list}
 use Rattle.mime.specs.Bytes.{slash_byte, plus_byte, semicolon_byte}
@@ -26,14 +26,11 @@ HoldsParameter (listed (blank n)) = ⊥
 HoldsParameter (listed (final n parameter)) = Unit {0}
 HoldsParameter (listed (more n parameter rest)) = Unit {0}
 
--- a text as it is kept: that of a well-formed tree which is its own lowering, without an empty list
+-- a text as it is kept, with the positions of its parts: its tree is its own lowering, without an empty list
 pub record IsKept (text : List ℕ) (positions : Positions) : Type 0 where
-  pub tree : SyntaxTree
-  pub well_formed : IsWellFormed tree
-  pub low : lowered_tree tree ≡ tree
-  pub kept : HoldsParameter tree.tail
-  pub spelled : text_of tree ≡ text
-  pub same_positions : positions_of tree ≡ positions
+  pub has : HasPositions text positions
+  pub low : lowered_tree has.tree ≡ has.tree
+  pub kept : HoldsParameter has.tree.tail
 
 -- the positions in the kept text: no semicolon where there is no pair
 abbrev pub kept_semicolon : ℕ → Option ℕ → Option ℕ

@@ -199,12 +199,11 @@ awaits_after-lowered awaiting (b ∷ bytes) =
     ap (λ (a : Bool). awaits_after a (lowered bytes)) (awaits_next-lowercase awaiting b)
     ∙ awaits_after-lowered (awaits_next awaiting b) bytes
 
--- a byte continues open content as its lowercase letter continues the lowercased content
-pub continues-lowered : (content : List ℕ) (b : ℕ) → continues (lowered content) (to_ascii_lowercase b) ≡ continues content b
-continues-lowered content b = rw (awaits_after-lowered awaits_first content) (takes-of_lowercase (awaits_after awaits_first content) b)
-
--- lowercased content is content
-pub IsContent-lowered : (content : List ℕ) → IsContent content → IsContent (lowered content)
-IsContent-lowered content is =
-    IsContent-taken (lowered content) (takes_all-lowered awaits_first content ∙ content-taken content is)
-    (awaits_after-lowered awaits_first content ∙ content-awaits content is)
+-- content in another case is content
+pub IsContent-case : (content other : List ℕ) → lowered other ≡ lowered content → IsContent content → IsContent other
+IsContent-case content other same is =
+    IsContent-taken other
+    (sym (takes_all-lowered awaits_first other) ∙ ap (takes_all awaits_first) same
+    ∙ takes_all-lowered awaits_first content ∙ content-taken content is)
+    (sym (awaits_after-lowered awaits_first other) ∙ ap (awaits_after awaits_first) same
+    ∙ awaits_after-lowered awaits_first content ∙ content-awaits content is)

@@ -19,7 +19,7 @@ use Rattle.mime.specs.Values.{MediaType, Reads, lowered, lowered_parameter, lowe
 use Rattle.mime.specs.Comparison.{Same}
 use Rattle.mime.specs.HashLaws.{IsReadInUtf8, IsPrefixFree}
 use Rattle.mime.proofs.BytesLemmas.{list_all-wider, is_other, AreTokenBytes-from_token, are_other-token}
-use Rattle.mime.proofs.ValueLemmas.Lowercase.{AreTokenBytes-lowered, lowered_value-either}
+use Rattle.mime.proofs.ValueLemmas.Lowercase.{IsToken-lowered, lowered_value-either}
 use lib.Dec.{T, ltb, ltb→lt}
 use lib.Utf8.{scalars, scalar, encodes, encode, scalar_cases}
 
@@ -147,12 +147,12 @@ IsFedPair (name, value) = AreTokenBytes name × AreTextBytes value
 fed_pair : (p : Parameter) → IsParameter p → AreTextBytes (text_of_parameter p) → IsFedPair (pair_of (lowered_parameter p))
 fed_pair (plain name value) well all =
     let bytes = and_parts (is_other 255 61) (list_all (is_other 255) value) (text_parts name (61 ∷ value) all).1 in (
-      AreTokenBytes-lowered name (AreTokenBytes-from_token name well.0),
+      AreTokenBytes-from_token (lowered name) (IsToken-lowered name well.0),
       lowered_value-either AreTextBytes name value bytes.1 (lowered_bytes value bytes.1),
     )
 fed_pair (quoted name content n) well all =
     let bytes = text_parts content (34 ∷ n) (text_parts name (61 ∷ 34 ∷ (content ++ (34 ∷ n))) all).1 in (
-      AreTokenBytes-lowered name (AreTokenBytes-from_token name well.0),
+      AreTokenBytes-from_token (lowered name) (IsToken-lowered name well.0),
       lowered_value-either AreTextBytes name content bytes.0 (lowered_bytes content bytes.0),
     )
 

@@ -45,7 +45,7 @@ low-in_part text partly (in_parts prefix back low_prefix low_back first second) 
     rw (low-in_part prefix low_prefix first parts.0, low-in_part back low_back second parts.1) refl
 
 -- the lowercased forms of a prefix and of what follows it, taken from the lowercased form of the whole
-lowered-parts : (prefix back partly : List ℕ) → lowered partly ≡ lowered (prefix ++ back)
+pub lowered-parts : (prefix back partly : List ℕ) → lowered partly ≡ lowered (prefix ++ back)
     → (lowered (take (length prefix) partly) ≡ lowered prefix) × (lowered (drop (length prefix) partly) ≡ lowered back)
 lowered-parts prefix back partly is =
     let n = length prefix in
