@@ -16,12 +16,16 @@ use Rattle.mime.specs.Blocks.{mask_of, IsEndOf, first_position}
 end_nothing : (whole : List ℕ) → IsEndOf [] whole
 end_nothing whole = sym (drop_all (length whole - 0) whole (omega arith))
 
+-- all of a list is an end of it
+pub end_all : (whole : List ℕ) → IsEndOf whole whole
+end_all whole = let none : 0 ≡ length whole - length whole = omega arith in ap (λ n. drop n whole) none
+
 -- the length of an end
 pub end-le : (text whole : List ℕ) → IsEndOf text whole → length text ≤ length whole
 end-le text whole is = omega (arith, ap length is, length-drop (length whole - length text) whole)
 
 -- an end of an end
-end_drop : (n : ℕ) (text whole : List ℕ) → IsEndOf text whole → IsEndOf (drop n text) whole
+pub end_drop : (n : ℕ) (text whole : List ℕ) → IsEndOf text whole → IsEndOf (drop n text) whole
 end_drop n text whole is =
     elim (cases_lt (length text) n) [
       | inl past ↦ subst (λ end. IsEndOf end whole) (sym (drop_all n text (omega (arith, past)))) (end_nothing whole)

@@ -15,7 +15,7 @@ use Rattle.mime.specs.Scanning.{HasPositions, positions_of, semicolon_of}
 use Rattle.mime.specs.KeptText.{lowered_pair}
 use Rattle.mime.specs.ComparedText.{IsListAfter, IsAcceptedAt, IsLoneCharset}
 use Rattle.mime.specs.declared.scan.Positions.{Positions}
-use Rattle.mime.proofs.BytesLemmas.{AreTokenBytes-from_token, are_other-token, semicolon_is_no_token}
+use Rattle.mime.proofs.BytesLemmas.{list_all-parts, AreTokenBytes-from_token, are_other-token, semicolon_is_no_token}
 use Rattle.mime.proofs.ValueLemmas.Parts.{kept-essence, read-low_essence}
 use Rattle.mime.proofs.ValueLemmas.KeptText.{text_of-essence, take-essence, length-essence_of, slice_get-semicolon, kept_is_read, pairs_within-text_of}
 use Rattle.mime.proofs.ValueLemmas.Lowercase.{lowered-append, length-lowered, length-tail_lowered, pairs_of_tail-lowered, list_all-lowered}
@@ -193,8 +193,7 @@ text_of-bare tree bare = go tree.tail (subst HasNoSemicolon (text_of-essence tre
         → tree.top ++ (slash_byte ∷ (tree.sub ++ text_of_tail tail)) ≡ essence_of tree
     go no_list none = ap (λ x. tree.top ++ (slash_byte ∷ x)) (append-nil tree.sub)
     go (listed list) none =
-        let parts = list_all-append (λ b. not (b == semicolon_byte)) (essence_of tree) (semicolon_byte ∷ text_of_list list) in
-        absurd (let last = (and_parts _ false (sym parts ∙ none)).1 in cc)
+        absurd (let parts = list_all-parts (λ b. not (b == semicolon_byte)) (essence_of tree) (semicolon_byte ∷ text_of_list list) none in cc)
 
 -- a text that, lowercased, is the essence of a value without pairs is equal to the value
 pub text_is-from_lowered : (text kept : List ℕ) (value : MediaType) → Reads kept value → value.pairs ≡ [] → lowered text ≡ value.essence
