@@ -4,6 +4,7 @@ use Rattle.std.specs.Prelude.{◌≢◌, ◌==◌, not, codes}
 use Rattle.std.proofs.lemmas.Bool.{and_parts, cond_both}
 use Rattle.std.proofs.lemmas.Bool.Decides.{nat_tests}
 use Rattle.std.proofs.lemmas.List.{nil_from_length, take-append-drop}
+use Rattle.std.proofs.lemmas.Option.{same_Some}
 use Rattle.std.specs.List.{list_all}
 use Rattle.std.proofs.lemmas.List.Folds.{list_all-append}
 use Rattle.mime.specs.Bytes.{slash_byte, semicolon_byte, quote_byte}
@@ -40,33 +41,25 @@ record ReadAt (text : List ℕ) (end count : ℕ) : Type 0 where
   pairs : value.pairs ≡ map lowered_pair (pairs_within count (drop (end + 1) text))
 
 -- of the text of a tree
-read_at-tree : (top sub : List ℕ) (list : Parameters) → IsWellFormed (record { top = top; sub = sub; tail = listed list })
-    → ReadAt (text_of (record { top = top; sub = sub; tail = listed list })) (length top + 1 + length sub) (length (pairs_of_list list))
-read_at-tree top sub list well =
+read_at-tree : (top sub : List ℕ) (tail : Tail) → let tree : SyntaxTree = record { top = top; sub = sub; tail = tail } in IsWellFormed tree
+    → (end : ℕ) → semicolon_of (length top + 1 + length sub) tail ≡ Some end → ReadAt (text_of tree) end (length (pairs_of_tail tail))
+read_at-tree top sub no_list well end at = absurd cc
+read_at-tree top sub (listed list) well end at =
     let tree : SyntaxTree = record { top = top; sub = sub; tail = listed list } in
-    record {
+    subst (λ n. ReadAt (text_of tree) n (length (pairs_of_list list))) (same_Some (length top + 1 + length sub) end at) (record {
       value = value_of tree;
       reads = record { tree = tree; well_formed = well; spelled = refl; valued = refl };
       essence = essence-lowered tree ∙ ap lowered (sym (take-essence tree));
       pairs = pairs_of_tail-lowered (listed list) ∙ ap (map lowered_pair) (sym (pairs_within-text_of top sub list well.2));
-    }
+    })
 
 -- of every such text
 read_at : (text : List ℕ) (end count : ℕ) → IsAcceptedAt text end count → ReadAt text end count
 read_at text end count is =
-    subst (λ t. ReadAt t end count) is.has.spelled
-    (go is.has.tree.top is.has.tree.sub is.has.tree.tail is.has.well_formed
-    (ap (λ (p : Positions). p.semicolon) is.has.same_positions ∙ is.at) (ap (λ (p : Positions). p.pairs) is.has.same_positions ∙ is.counted))
-  where
-    go : (top sub : List ℕ) (tail : Tail) → IsWellFormed (record { top = top; sub = sub; tail = tail })
-        → semicolon_of (length top + 1 + length sub) tail ≡ Some end → length (pairs_of_tail tail) ≡ count
-        → ReadAt (text_of (record { top = top; sub = sub; tail = tail })) end count
-    go top sub no_list well at counted = absurd cc
-    go top sub (listed list) well at counted =
-        let same : length top + 1 + length sub ≡ end = cc in
-        subst (λ n. ReadAt (text_of (record { top = top; sub = sub; tail = listed list })) n count) same
-        (subst (ReadAt (text_of (record { top = top; sub = sub; tail = listed list })) (length top + 1 + length sub)) counted
-        (read_at-tree top sub list well))
+    let tree = is.has.tree in
+    let counted = ap (λ (p : Positions). p.pairs) is.has.same_positions ∙ is.counted in
+    subst (λ t. ReadAt t end count) is.has.spelled (subst (ReadAt (text_of tree) end) counted
+    (read_at-tree tree.top tree.sub tree.tail is.has.well_formed end (ap (λ (p : Positions). p.semicolon) is.has.same_positions ∙ is.at)))
 
 -- a text that is read as a value with pairs is accepted so
 accepted_at : (text : List ℕ) (value : MediaType) → Reads text value → value.pairs ≢ []

@@ -71,11 +71,11 @@ stripped-list (more n p others) (white, well, follow) =
     record {
       rest = after.rest;
       is = rw (
-          stripped-append n (text_of_parameter p ++ tail),
-          stripped-spaces n white,
-          stripped-append (text_of_parameter p) tail,
-          stripped-parameter p well,
-          after.is,
+        stripped-append n (text_of_parameter p ++ tail),
+        stripped-spaces n white,
+        stripped-append (text_of_parameter p) tail,
+        stripped-parameter p well,
+        after.is,
       ) (sym (append_assoc (stripped_pair (pair_of (lowered_parameter p))) (stripped tail) after.rest));
     }
 

@@ -21,19 +21,10 @@ pub record PairCut : Type 0 where
 abbrev pub cut_after_equals : ℕ → List ℕ → List ℕ → PairCut
 cut_after_equals whole name [] = record { name = name; head = whole; value = []; rest = [] }
 cut_after_equals whole name (b ∷ bytes) =
+    let text = b ∷ bytes in
     if b == quote_byte
-    then record {
-      name = name;
-      head = whole - length bytes;
-      value = content_of bytes;
-      rest = after_byte semicolon_byte (after_content bytes);
-    }
-    else record {
-      name = name;
-      head = whole - length (b ∷ bytes);
-      value = before_byte semicolon_byte (b ∷ bytes);
-      rest = after_byte semicolon_byte (b ∷ bytes);
-    }
+    then record { name = name; head = whole - length bytes; value = content_of bytes; rest = after_byte semicolon_byte (after_content bytes) }
+    else record { name = name; head = whole - length text; value = before_byte semicolon_byte text; rest = after_byte semicolon_byte text }
 
 -- the spaces before the first name, and the list without them
 abbrev pub leading_spaces : List ℕ → ℕ

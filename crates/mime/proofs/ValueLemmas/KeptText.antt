@@ -7,7 +7,7 @@ use Rattle.mime.specs.Grammar.{Parameters, blank, final, more, Tail, no_list, li
 use Rattle.mime.specs.Values.{MediaType, Reads, value_of, essence_of, kept_text, lowered, lowered_tree, last_plus, pairs_of_list, pairs_of_tail}
 use Rattle.mime.specs.Pairs.{pairs_within, lowered_within}
 use Rattle.mime.specs.Scanning.{HasPositions, positions_of, semicolon_of, before_list}
-use Rattle.mime.specs.KeptText.{media_of, HoldsParameter, IsKept, with_pairs_lowered, kept_text_of, kept_positions}
+use Rattle.mime.specs.KeptText.{media_of, IsKept, with_pairs_lowered, kept_text_of, kept_positions}
 use Rattle.mime.specs.declared.scan.Positions.{Positions}
 use Rattle.mime.proofs.BytesLemmas.{slice_get-prefix}
 use Rattle.mime.proofs.ValueLemmas.Lowercase.{length-lowered, lowered-append, lowered_tree-lowered_tree, IsWellFormed-lowered_tree, positions_of-lowered_tree}
@@ -73,7 +73,7 @@ pub record Keeps (tree : SyntaxTree) (text : List ℕ) (positions : Positions) :
   pub valued : value_of tree ≡ value_of is_kept.has.tree
 
 -- a tree is kept as another that has its value: the tree itself, or the one that its essence spells
-keeps_as : (tree kept : SyntaxTree) (text : List ℕ) → IsWellFormed kept → HoldsParameter (lowered_tree kept).tail
+keeps_as : (tree kept : SyntaxTree) (text : List ℕ) → IsWellFormed kept → kept_positions (positions_of kept) ≡ positions_of kept
     → text_of (lowered_tree kept) ≡ text → value_of tree ≡ value_of kept → Keeps tree text (positions_of kept)
 keeps_as tree kept text well holds spelled valued = record {
   is_kept = record {
@@ -114,15 +114,15 @@ keeps_parts : (top sub : List ℕ) (tail : Tail) → IsWellFormed (tree_with top
     (kept_text_of (length (pairs_of_tail tail)) (semicolon_of (length top + 1 + length sub) tail) (text_of (tree_with top sub tail)))
     (kept_positions (positions_of (tree_with top sub tail)))
 keeps_parts top sub no_list well =
-    keeps_as _ (tree_with top sub no_list) _ well tt
+    keeps_as _ (tree_with top sub no_list) _ well refl
     (essence_text top sub _ (ap (λ x. top ++ (slash_byte ∷ x)) (append-nil sub))) refl
 keeps_parts top sub (listed (blank n)) well =
-    keeps_as _ (tree_with top sub no_list) _ (well.0, well.1, tt) tt
+    keeps_as _ (tree_with top sub no_list) _ (well.0, well.1, tt) refl
     (essence_text top sub _ (take-essence (tree_with top sub (listed (blank n))))) refl
 keeps_parts top sub (listed (final n p)) well =
-    keeps_as _ (tree_with top sub (listed (final n p))) _ well tt (whole_text top sub (final n p) well.2) refl
+    keeps_as _ (tree_with top sub (listed (final n p))) _ well refl (whole_text top sub (final n p) well.2) refl
 keeps_parts top sub (listed (more n p rest)) well =
-    keeps_as _ (tree_with top sub (listed (more n p rest))) _ well tt (whole_text top sub (more n p rest) well.2) refl
+    keeps_as _ (tree_with top sub (listed (more n p rest))) _ well refl (whole_text top sub (more n p rest) well.2) refl
 
 -- the same, by the positions that the tree gives
 pub keeps-tree : (tree : SyntaxTree) → IsWellFormed tree
@@ -143,11 +143,12 @@ media_whole top sub list well kept =
     cc (kept, take-essence (tree_with top sub (listed list)), pairs_within-text_of top sub list well)
 
 -- the value of a kept tree is what its text and its positions give
-media_parts : (top sub : List ℕ) (tail : Tail) → IsTail tail → HoldsParameter tail
+media_parts : (top sub : List ℕ) (tail : Tail) → IsTail tail
+    → let positions = positions_of (tree_with top sub tail) in kept_positions positions ≡ positions
     → value_of_low (tree_with top sub tail) ≡ media_of (text_of (tree_with top sub tail)) (positions_of (tree_with top sub tail))
 media_parts top sub no_list well holds =
     rw (append-nil sub, take_all (length (top ++ (slash_byte ∷ sub))) (top ++ (slash_byte ∷ sub)) (omega arith))
-media_parts top sub (listed (blank n)) well holds = absurd holds
+media_parts top sub (listed (blank n)) well holds = absurd (let none = ap (λ (p : Positions). p.semicolon) holds in cc)
 media_parts top sub (listed (final n p)) well holds = media_whole top sub (final n p) well refl
 media_parts top sub (listed (more n p rest)) well holds = media_whole top sub (more n p rest) well refl
 
@@ -156,7 +157,8 @@ pub media_of-kept : (text : List ℕ) (positions : Positions) (is_kept : IsKept 
     → value_of is_kept.has.tree ≡ media_of text positions
 media_of-kept text positions is_kept =
     let tree = is_kept.has.tree in
-    value_of-lowering tree ∙ ap value_of_low is_kept.low ∙ media_parts tree.top tree.sub tree.tail is_kept.has.well_formed.2 is_kept.kept
+    let kept = subst (λ p. kept_positions p ≡ p) (sym is_kept.has.same_positions) is_kept.kept in
+    value_of-lowering tree ∙ ap value_of_low is_kept.low ∙ media_parts tree.top tree.sub tree.tail is_kept.has.well_formed.2 kept
     ∙ cc (is_kept.has.spelled, is_kept.has.same_positions)
 
 -- an accepted text reads as its tree's value

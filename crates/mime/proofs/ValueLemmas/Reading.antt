@@ -6,7 +6,7 @@ use Rattle.mime.specs.Grammar.{SyntaxTree, no_list, IsWellFormed, plain, final, 
 use Rattle.mime.specs.Values.{value_of, IsAccepted, IsRefused, lowered_tree}
 use Rattle.mime.specs.Refusals.{IsFault, Explains}
 use Rattle.mime.specs.Scanning.{HasPositions, positions_of}
-use Rattle.mime.specs.KeptText.{IsKept, HoldsParameter, positions_in}
+use Rattle.mime.specs.KeptText.{IsKept, kept_positions, positions_in}
 use Rattle.mime.specs.declared.scan.fault.ParseError.{ParseError}
 use Rattle.mime.specs.declared.scan.fault.ParseError.TheVariants.{InvalidToken, NoMemory}
 use Rattle.mime.specs.declared.scan.Positions.{Positions}
@@ -49,11 +49,6 @@ unfolding is_token_byte
 is_tail None = tt
 is_tail (Some semicolon) = (refl, (refl, refl))
 
--- the tail of a constant's text holds a parameter if it is a list
-holds_parameter : (semicolon : Option ℕ) → HoldsParameter (tail_at semicolon)
-holds_parameter None = tt
-holds_parameter (Some semicolon) = tt
-
 -- the tree of a constant's text
 abbrev tree_in : List ℕ → SyntaxTree
 tree_in text = record {
@@ -64,8 +59,9 @@ tree_in text = record {
 
 -- a text is kept if it is that of the tree in it, which is well formed and its own lowercased form
 kept_by : (text : List ℕ) → IsToken (tree_in text).top → IsToken (tree_in text).sub → lowered_tree (tree_in text) ≡ tree_in text
-    → text_of (tree_in text) ≡ text → positions_of (tree_in text) ≡ positions_in text → IsKept text (positions_in text)
-kept_by text top sub low spelled same_positions = record {
+    → text_of (tree_in text) ≡ text → positions_of (tree_in text) ≡ positions_in text → kept_positions (positions_in text) ≡ positions_in text
+    → IsKept text (positions_in text)
+kept_by text top sub low spelled same_positions kept = record {
   has = record {
     tree = tree_in text;
     well_formed = (top, sub, is_tail (positions_in text).semicolon);
@@ -73,14 +69,14 @@ kept_by text top sub low spelled same_positions = record {
     same_positions = same_positions;
   };
   low = low;
-  kept = holds_parameter (positions_in text).semicolon;
+  kept = kept;
 }
 
 -- each constant's text is kept: the second line is one case for each constant but the first
 pub kept_atom : (atom : Atom) → IsKept (atom_text atom) (positions_in (atom_text atom))
 unfolding is_token_byte
-kept_atom STAR_STAR = kept_by (atom_text STAR_STAR) refl refl refl refl refl
-kept_atom atom = kept_by (atom_text atom) refl refl refl refl refl
+kept_atom STAR_STAR = kept_by (atom_text STAR_STAR) refl refl refl refl refl refl
+kept_atom atom = kept_by (atom_text atom) refl refl refl refl refl refl
 
 -- each part of an accepted text has one position
 pub one_positions : (text : List ℕ) (first second : Positions) → HasPositions text first → HasPositions text second → first ≡ second
