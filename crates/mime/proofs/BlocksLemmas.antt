@@ -55,9 +55,7 @@ split byte text n =
 position-unflagged : (byte : ℕ) (text : List ℕ) (n : ℕ) → n ≤ length text → mask_of byte (take n text) ≡ 0
     → first_position byte text ≡ n + first_position byte (drop n text)
 position-unflagged byte text n room none =
-    split byte text n
-    ∙ ap (λ b. cond b (length (take n text) + first_position byte (drop n text)) (first_position byte (take n text)))
-    (eq-eqb _ _ (leading_from_mask_l (λ b. b == byte) (take n text) none))
+    split byte text n ∙ cond-true _ _ _ (eq-eqb _ _ (leading_from_mask_l (λ b. b == byte) (take n text) none))
     ∙ ap (λ k. k + first_position byte (drop n text)) (length-take-le n text room)
 
 -- else the lowest flag is the first position
@@ -66,8 +64,7 @@ pub position-flagged : (byte : ℕ) (text : List ℕ) (n : ℕ) → n ≤ length
 position-flagged byte text n room few some =
     let prefix = take n text in
     split byte text n
-    ∙ ap (λ b. cond b (length prefix + first_position byte (drop n text)) (first_position byte prefix))
-    (ne_eqb _ _ (λ (e : first_position byte prefix ≡ length prefix). omega (arith, some, all_pass (λ b. b == byte) prefix e)))
+    ∙ cond-false _ _ _ (ne_eqb _ _ (λ (e : first_position byte prefix ≡ length prefix). omega (arith, some, all_pass (λ b. b == byte) prefix e)))
     ∙ sym (trailing_mask_l (λ b. b == byte) 64 prefix (omega (arith, few, length-take-le n text room)) some)
 
 -- a bit mask without its lowest bit, and without more of them

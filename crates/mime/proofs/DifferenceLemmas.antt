@@ -22,10 +22,7 @@ use Rattle.mime.proofs.BlocksLemmas.{position-flagged, all_pass}
 pub together : (n m : ℕ) (P Q Whole : Type 0) → (n ≡ 0) ↔ P → (m ≡ 0) ↔ Q → (P → Q → Whole) → (Whole → P × Q) → (bit_or n m ≡ 0) ↔ Whole
 together n m P Q Whole first second whole parts = (
   λ none. whole (first.0 (omega (arith, le_or_l n m))) (second.0 (omega (arith, le_or_r n m))),
-  λ all. let both = parts all in
-      let one = first.1 both.0 in
-      let other = second.1 both.1 in
-      cc (one, other),
+  λ all. let both = parts all in cc (first.1 both.0, second.1 both.1),
 )
 
 -- the lowercased form of a text's last bytes

@@ -1,9 +1,7 @@
 -- Texts that are equal ignoring ASCII case are read as trees that are equal ignoring it: one is cut where the other is.
 use Rattle.std.proofs.Common.{◌≡◌, ℕ, Bool, true, List, [], ◌∷◌, ◌++◌, length, take, drop, map, refl, sym, ap, ◌∙◌, subst, arith}
-use Rattle.std.specs.Prelude.{nat_lt}
 use Rattle.std.specs.Char.{to_ascii_lowercase}
 use Rattle.std.specs.List.{list_all}
-use Rattle.std.proofs.lemmas.Bool.{and_parts}
 use Rattle.std.proofs.lemmas.Bool.Decides.{nat_tests}
 use Rattle.std.proofs.lemmas.List.{length-map, take-append-drop}
 use Rattle.mime.specs.Bytes.{slash_byte, semicolon_byte, equals_byte, quote_byte}
@@ -14,25 +12,14 @@ use Rattle.mime.specs.KeptText.{AreLowPairs, lowered_pair}
 use Rattle.mime.specs.ComparedText.{IsLoneCharset}
 use Rattle.mime.proofs.GrammarLemmas.Content.{IsContent-case}
 use Rattle.mime.proofs.ValueLemmas.Lowercase.{lowered-lowered, lowered_value-either, low_pair-parts, list_all-case, IsToken-case, pairs_of_tail-lowered}
-use Rattle.mime.proofs.ValueLemmas.Utf8.{lowered-parts}
+use Rattle.mime.proofs.ValueLemmas.Utf8.{lowered-parts, is_no_letter, stays}
 use Rattle.mime.proofs.ValueLemmas.Parts.{read-low_pairs}
 
 -- spaces in another case are spaces
 AreSpaces-case : (bytes other : List ℕ) → lowered other ≡ lowered bytes → AreSpaces bytes → AreSpaces other
 AreSpaces-case = list_all-case is_space (λ b. grind (arith, nat_tests))
 
--- bytes below the letters are themselves in any case
-stays : (bytes other : List ℕ) → list_all (λ b. nat_lt b 65) bytes ≡ true → lowered other ≡ lowered bytes → other ≡ bytes
-stays [] [] below is = refl
-stays [] (c ∷ other) below is = absurd cc
-stays (b ∷ bytes) [] below is = absurd cc
-stays (b ∷ bytes) (c ∷ other) below is =
-    let parts = and_parts (nat_lt b 65) (list_all (λ x. nat_lt x 65) bytes) below in
-    let lowers : to_ascii_lowercase c ≡ to_ascii_lowercase b = cc in
-    let byte : c ≡ b = grind (arith, nat_tests, parts.0) in
-    cc (byte, stays bytes other parts.1 cc)
-
--- a text that is another ignoring ASCII case is cut where the other is, around bytes below the letters
+-- a text that is another ignoring ASCII case is cut where the other is, around bytes that are no letters
 record CaseCut (text prefix middle back : List ℕ) : Type 0 where
   first : List ℕ
   second : List ℕ
@@ -40,16 +27,16 @@ record CaseCut (text prefix middle back : List ℕ) : Type 0 where
   same_first : lowered first ≡ lowered prefix
   same_second : lowered second ≡ lowered back
 
-case_cut : (text prefix middle back : List ℕ) → list_all (λ b. nat_lt b 65) middle ≡ true → lowered text ≡ lowered (prefix ++ (middle ++ back))
+case_cut : (text prefix middle back : List ℕ) → list_all is_no_letter middle ≡ true → lowered text ≡ lowered (prefix ++ (middle ++ back))
     → CaseCut text prefix middle back
-case_cut text prefix middle back below is =
+case_cut text prefix middle back none is =
     let rest = drop (length prefix) text in
     let parts = lowered-parts prefix (middle ++ back) text is in
     let after = lowered-parts middle back rest parts.1 in
     record {
       first = take (length prefix) text;
       second = drop (length middle) rest;
-      whole = ap (λ m. take (length prefix) text ++ (m ++ drop (length middle) rest)) (sym (stays middle (take (length middle) rest) below after.0))
+      whole = ap (λ m. take (length prefix) text ++ (m ++ drop (length middle) rest)) (sym (stays middle (take (length middle) rest) none after.0))
           ∙ ap (λ r. take (length prefix) text ++ r) (take-append-drop (length middle) rest) ∙ take-append-drop (length prefix) text;
       same_first = parts.0;
       same_second = after.1;
@@ -77,16 +64,12 @@ case_parameter text (plain name value) (named, token) is =
       spelled = cut.whole;
       same = λ i. (cut.same_first i, cut.same_second i);
     }
-case_parameter text (quoted name content n) (named, is_content, white) is =
-    let cut = case_cut text name (equals_byte ∷ quote_byte ∷ []) (content ++ (quote_byte ∷ n)) refl is in
+case_parameter text (quoted name content n) (named, is, white) same =
+    let cut = case_cut text name (equals_byte ∷ quote_byte ∷ []) (content ++ (quote_byte ∷ n)) refl same in
     let inner = case_cut cut.second content (quote_byte ∷ []) n refl cut.same_second in
     record {
       other = quoted cut.first inner.first inner.second;
-      well_formed = (
-        IsToken-case name cut.first cut.same_first named,
-        IsContent-case content inner.first inner.same_first is_content,
-        AreSpaces-case n inner.second inner.same_second white,
-      );
+      well_formed = (IsToken-case _ _ cut.same_first named, IsContent-case _ _ inner.same_first is, AreSpaces-case _ _ inner.same_second white);
       spelled = ap (λ t. cut.first ++ (equals_byte ∷ quote_byte ∷ t)) inner.whole ∙ cut.whole;
       same = λ i. (cut.same_first i, inner.same_first i);
     }
@@ -140,11 +123,7 @@ case_tree text tree well is =
     let found = case_tail inner.second tree.tail well.2 inner.same_second in
     record {
       other = record { top = cut.first; sub = inner.first; tail = found.other };
-      well_formed = (
-        IsToken-case tree.top cut.first cut.same_first well.0,
-        IsToken-case tree.sub inner.first inner.same_first well.1,
-        found.well_formed,
-      );
+      well_formed = (IsToken-case _ _ cut.same_first well.0, IsToken-case _ _ inner.same_first well.1, found.well_formed);
       spelled = rw (found.spelled, inner.whole) cut.whole;
       same = λ i. (cut.same_first i, inner.same_first i, found.same i);
     }

@@ -17,12 +17,14 @@ use Rattle.mime.specs.Grammar.{Parameter, plain, quoted, Parameters, blank, fina
 use Rattle.mime.specs.Values.{MediaType, Reads, lowered, lowered_parameter, lowered_list, lowered_tail, pair_of, pairs_of_list, pairs_of_tail}
 use Rattle.mime.specs.Comparison.{Same}
 use Rattle.mime.specs.HashLaws.{IsReadInUtf8, IsPrefixFree}
-use Rattle.mime.proofs.BytesLemmas.{list_all-parts, is_other, AreTokenBytes-from_token, are_other-token}
+use Rattle.mime.proofs.BytesLemmas.{list_all-parts, list_all-wider, is_other, AreTokenBytes-from_token, are_other-token}
 use Rattle.mime.proofs.ValueLemmas.Lowercase.{IsToken-lowered, list_all-lowered, lowered_value-either}
 use Rattle.mime.specs.Blocks.{before_byte, after_byte}
 use Rattle.mime.proofs.ValueLemmas.ListText.{flagged, before_to, after_to}
-use lib.Dec.{T, ltb, ltb→lt}
-use lib.Utf8.{scalars, scalar, encodes, encode, scalar_cases}
+use Rattle.std.proofs.lemmas.Bool.{cases_lt}
+use Rattle.std.proofs.lemmas.Str.{encode_ascii}
+use Rattle.mime.proofs.ValueLemmas.Utf8.{high_bytes}
+use lib.Utf8.{scalars, scalar, encodes, encode}
 
 -- a text copied in after what the buffer holds
 put-text : (free at count : ℕ) (held text : List ℕ) → length held ≡ at
@@ -87,13 +89,10 @@ text_join prefix back first second = list_all-append (is_other 255) prefix back 
 
 -- no character has the byte 255
 character_bytes : (c : ℕ) → scalar c ≡ true → AreTextBytes (encode c)
-unfolding encode
-character_bytes c is =
-    let below : c < 1114112 = ⊎_elim (λ under. omega (arith, under)) (λ over. over.1) (scalar_cases c is) in
-    cond_both (ltb c 128) _ _ AreTextBytes (λ under. grind (arith, nat_tests, ltb→lt c 128 (subst T (sym under) tt)))
-    (λ _. cond_both (ltb c 2048) _ _ AreTextBytes (λ under. grind (arith, nat_tests, ltb→lt c 2048 (subst T (sym under) tt)))
-    (λ _. cond_both (ltb c 65536) _ _ AreTextBytes (λ under. grind (arith, nat_tests, ltb→lt c 65536 (subst T (sym under) tt)))
-    (λ _. grind (arith, nat_tests))))
+character_bytes c is = ⊎_elim
+    (λ ascii. subst AreTextBytes (sym (encode_ascii c ascii)) (grind (arith, nat_tests)))
+    (λ above. list_all-wider _ (is_other 255) (λ b high. grind (arith, nat_tests)) (encode c) (high_bytes c is above))
+    (cases_lt c 128)
 
 -- no valid UTF-8 has it
 characters_bytes : (characters : List ℕ) → scalars characters ≡ true → AreTextBytes (encodes characters)
@@ -125,15 +124,11 @@ IsFedPair (name, value) = AreTokenBytes name × AreTextBytes value
 -- those of a text without the byte 255 are such pairs
 fed_pair : (p : Parameter) → IsParameter p → AreTextBytes (text_of_parameter p) → IsFedPair (pair_of (lowered_parameter p))
 fed_pair (plain name value) well all =
-    let bytes = and_parts (is_other 255 61) (list_all (is_other 255) value) (text_parts name (61 ∷ value) all).1 in (
-      AreTokenBytes-from_token (lowered name) (IsToken-lowered name well.0),
-      lowered_value-either AreTextBytes name value bytes.1 (lowered_bytes value bytes.1),
-    )
-fed_pair (quoted name content n) well all =
-    let bytes = text_parts content (34 ∷ n) (text_parts name (61 ∷ 34 ∷ (content ++ (34 ∷ n))) all).1 in (
-      AreTokenBytes-from_token (lowered name) (IsToken-lowered name well.0),
-      lowered_value-either AreTextBytes name content bytes.0 (lowered_bytes content bytes.0),
-    )
+    let bytes = (text_parts (61 ∷ []) value (text_parts name (61 ∷ value) all).1).1 in
+    (AreTokenBytes-from_token _ (IsToken-lowered name well.0), lowered_value-either AreTextBytes name value bytes (lowered_bytes value bytes))
+fed_pair (quoted name value n) well all =
+    let bytes = (text_parts value (34 ∷ n) (text_parts name (61 ∷ 34 ∷ (value ++ (34 ∷ n))) all).1).0 in
+    (AreTokenBytes-from_token _ (IsToken-lowered name well.0), lowered_value-either AreTextBytes name value bytes (lowered_bytes value bytes))
 
 fed_list : (list : Parameters) → AreParameters list → AreTextBytes (text_of_list list)
     → AllByRecursion IsFedPair (pairs_of_list (lowered_list list))

@@ -140,18 +140,10 @@ module _ {A B : Type 0} (seen : A → B) (eq : A → A → Bool) (agrees : (x y 
 
   at_last : (o p : Option A) (s t u w : List B) → Steps s o u → Steps t p w → Last o p → IsTrue r ↔ (s ≡ t)
   at_last None None s t u w one other last = (λ _. one.0 ∙ sym other.0, λ _. last)
-  at_last None (Some y) s t u w one other last = (
-    λ yes. absurd (true≢false (sym yes ∙ last)),
-    λ same. absurd (let e = sym one.0 ∙ same ∙ other in cc),
-  )
-  at_last (Some x) None s t u w one other last = (
-    λ yes. absurd (true≢false (sym yes ∙ last.0)),
-    λ same. absurd (let e = sym one ∙ same ∙ other.0 in cc),
-  )
-  at_last (Some x) (Some y) s t u w one other last = (
-    λ yes. absurd (true≢false (sym yes ∙ last.0)),
-    λ same. absurd (true≢false (sym ((agrees x y).1 (cons_parts (sym one ∙ same ∙ other)).0) ∙ last.1)),
-  )
+  at_last None (Some y) s t u w one other last = (λ yes. absurd cc, λ same. absurd (let e = sym one.0 ∙ same ∙ other in cc))
+  at_last (Some x) None s t u w one other (unequal, _) = (λ yes. absurd cc, λ same. absurd (let e = sym one ∙ same ∙ other.0 in cc))
+  at_last (Some x) (Some y) s t u w one other (unequal, differ) =
+      (λ yes. absurd cc, λ same. absurd (true≢false (sym ((agrees x y).1 (cons_parts (sym one ∙ same ∙ other)).0) ∙ differ)))
 
   along : (xs ys : List A) (o p : Option A) (s t u w : List B) → YieldsThen Steps s xs o u → YieldsThen Steps t ys p w
       → AllZip (λ x y. eq x y ≡ true) xs ys → Last o p → IsTrue r ↔ (s ≡ t)
