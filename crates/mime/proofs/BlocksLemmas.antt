@@ -63,8 +63,8 @@ pub position-flagged : (byte : ℕ) (text : List ℕ) (n : ℕ) → n ≤ length
     → first_position byte text ≡ count_trailing_zeros 64 (mask_of byte (take n text))
 position-flagged byte text n room few some =
     let prefix = take n text in
-    split byte text n
-    ∙ cond-false _ _ _ (ne_eqb _ _ (λ (e : first_position byte prefix ≡ length prefix). omega (arith, some, all_pass (λ b. b == byte) prefix e)))
+    let stops : first_position byte prefix ≢ length prefix = λ e. omega (arith, some, all_pass (λ b. b == byte) prefix e) in
+    split byte text n ∙ cond-false _ _ _ (ne_eqb _ _ stops)
     ∙ sym (trailing_mask_l (λ b. b == byte) 64 prefix (omega (arith, few, length-take-le n text room)) some)
 
 -- a bit mask without its lowest bit, and without more of them

@@ -186,7 +186,7 @@ text_of-bare tree bare = go tree.tail (subst HasNoSemicolon (text_of-essence tre
         → tree.top ++ (slash_byte ∷ (tree.sub ++ text_of_tail tail)) ≡ essence_of tree
     go no_list none = ap (λ x. tree.top ++ (slash_byte ∷ x)) (append-nil tree.sub)
     go (listed list) none =
-        absurd (let parts = list_all-parts (λ b. not (b == semicolon_byte)) (essence_of tree) (semicolon_byte ∷ text_of_list list) none in cc)
+        absurd (let parts = list_all-parts _ (essence_of tree) (semicolon_byte ∷ text_of_list list) none in cc)
 
 -- a text that, lowercased, is the essence of a value without pairs is equal to the value
 pub text_is-from_lowered : (text kept : List ℕ) (value : MediaType) → Reads kept value → value.pairs ≡ [] → lowered text ≡ value.essence

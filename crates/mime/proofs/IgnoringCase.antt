@@ -24,22 +24,23 @@ record CaseCut (text prefix middle back : List ℕ) : Type 0 where
   first : List ℕ
   second : List ℕ
   whole : first ++ (middle ++ second) ≡ text
-  same_first : lowered first ≡ lowered prefix
-  same_second : lowered second ≡ lowered back
+  first_is : lowered first ≡ lowered prefix
+  second_is : lowered second ≡ lowered back
 
-case_cut : (text prefix middle back : List ℕ) → list_all is_no_letter middle ≡ true → lowered text ≡ lowered (prefix ++ (middle ++ back))
-    → CaseCut text prefix middle back
+case_cut : (text prefix middle back : List ℕ) → list_all is_no_letter middle ≡ true
+    → lowered text ≡ lowered (prefix ++ (middle ++ back)) → CaseCut text prefix middle back
 case_cut text prefix middle back none is =
     let rest = drop (length prefix) text in
+    let first = take (length prefix) text in
     let parts = lowered-parts prefix (middle ++ back) text is in
     let after = lowered-parts middle back rest parts.1 in
     record {
-      first = take (length prefix) text;
+      first = first;
       second = drop (length middle) rest;
-      whole = ap (λ m. take (length prefix) text ++ (m ++ drop (length middle) rest)) (sym (stays middle (take (length middle) rest) none after.0))
-          ∙ ap (λ r. take (length prefix) text ++ r) (take-append-drop (length middle) rest) ∙ take-append-drop (length prefix) text;
-      same_first = parts.0;
-      same_second = after.1;
+      whole = ap (λ m. first ++ (m ++ drop (length middle) rest)) (sym (stays middle (take (length middle) rest) none after.0))
+          ∙ ap (λ r. first ++ r) (take-append-drop (length middle) rest) ∙ take-append-drop (length prefix) text;
+      first_is = parts.0;
+      second_is = after.1;
     }
 
 -- a pair in lowercase
@@ -60,18 +61,18 @@ case_parameter text (plain name value) (named, token) is =
     let cut = case_cut text name (equals_byte ∷ []) value refl is in
     record {
       other = plain cut.first cut.second;
-      well_formed = (IsToken-case name cut.first cut.same_first named, IsToken-case value cut.second cut.same_second token);
+      well_formed = (IsToken-case name cut.first cut.first_is named, IsToken-case value cut.second cut.second_is token);
       spelled = cut.whole;
-      same = λ i. (cut.same_first i, cut.same_second i);
+      same = λ i. (cut.first_is i, cut.second_is i);
     }
 case_parameter text (quoted name content n) (named, is, white) same =
     let cut = case_cut text name (equals_byte ∷ quote_byte ∷ []) (content ++ (quote_byte ∷ n)) refl same in
-    let inner = case_cut cut.second content (quote_byte ∷ []) n refl cut.same_second in
+    let inner = case_cut cut.second content (quote_byte ∷ []) n refl cut.second_is in
     record {
       other = quoted cut.first inner.first inner.second;
-      well_formed = (IsToken-case _ _ cut.same_first named, IsContent-case _ _ inner.same_first is, AreSpaces-case _ _ inner.same_second white);
+      well_formed = (IsToken-case _ _ cut.first_is named, IsContent-case _ _ inner.first_is is, AreSpaces-case _ _ inner.second_is white);
       spelled = ap (λ t. cut.first ++ (equals_byte ∷ quote_byte ∷ t)) inner.whole ∙ cut.whole;
-      same = λ i. (cut.same_first i, inner.same_first i);
+      same = λ i. (cut.first_is i, inner.first_is i);
     }
 
 -- a list
@@ -80,21 +81,21 @@ case_list : (text : List ℕ) (list : Parameters) → AreParameters list → low
 case_list text (blank n) white is = record { other = blank text; well_formed = AreSpaces-case n text is white; spelled = refl; same = refl }
 case_list text (final n p) (white, well) is =
     let cut = case_cut text n [] (text_of_parameter p) refl is in
-    let found = case_parameter cut.second p well cut.same_second in
+    let found = case_parameter cut.second p well cut.second_is in
     record {
       other = final cut.first found.other;
-      well_formed = (AreSpaces-case n cut.first cut.same_first white, found.well_formed);
+      well_formed = (AreSpaces-case _ _ cut.first_is white, found.well_formed);
       spelled = rw found.spelled cut.whole;
       same = ap (λ pair. pair ∷ []) found.same;
     }
 case_list text (more n p rest) (white, well, others) is =
     let cut = case_cut text n [] (text_of_parameter p ++ (semicolon_byte ∷ text_of_list rest)) refl is in
-    let inner = case_cut cut.second (text_of_parameter p) (semicolon_byte ∷ []) (text_of_list rest) refl cut.same_second in
-    let found = case_parameter inner.first p well inner.same_first in
-    let follow = case_list inner.second rest others inner.same_second in
+    let inner = case_cut cut.second (text_of_parameter p) (semicolon_byte ∷ []) (text_of_list rest) refl cut.second_is in
+    let found = case_parameter inner.first p well inner.first_is in
+    let follow = case_list inner.second rest others inner.second_is in
     record {
       other = more cut.first found.other follow.other;
-      well_formed = (AreSpaces-case n cut.first cut.same_first white, found.well_formed, follow.well_formed);
+      well_formed = (AreSpaces-case _ _ cut.first_is white, found.well_formed, follow.well_formed);
       spelled = rw (found.spelled, follow.spelled, inner.whole) cut.whole;
       same = λ i. found.same i ∷ follow.same i;
     }
@@ -119,13 +120,13 @@ case_tree : (text : List ℕ) (tree : SyntaxTree) → IsWellFormed tree → lowe
     → Case IsWellFormed text_of lowercase_parts text tree
 case_tree text tree well is =
     let cut = case_cut text tree.top (slash_byte ∷ []) (tree.sub ++ text_of_tail tree.tail) refl is in
-    let inner = case_cut cut.second tree.sub [] (text_of_tail tree.tail) refl cut.same_second in
-    let found = case_tail inner.second tree.tail well.2 inner.same_second in
+    let inner = case_cut cut.second tree.sub [] (text_of_tail tree.tail) refl cut.second_is in
+    let found = case_tail inner.second tree.tail well.2 inner.second_is in
     record {
       other = record { top = cut.first; sub = inner.first; tail = found.other };
-      well_formed = (IsToken-case _ _ cut.same_first well.0, IsToken-case _ _ inner.same_first well.1, found.well_formed);
+      well_formed = (IsToken-case _ _ cut.first_is well.0, IsToken-case _ _ inner.first_is well.1, found.well_formed);
       spelled = rw (found.spelled, inner.whole) cut.whole;
-      same = λ i. (cut.same_first i, inner.same_first i, found.same i);
+      same = λ i. (cut.first_is i, inner.first_is i, found.same i);
     }
 
 -- ---- values

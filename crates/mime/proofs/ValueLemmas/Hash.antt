@@ -125,10 +125,10 @@ IsFedPair (name, value) = AreTokenBytes name × AreTextBytes value
 fed_pair : (p : Parameter) → IsParameter p → AreTextBytes (text_of_parameter p) → IsFedPair (pair_of (lowered_parameter p))
 fed_pair (plain name value) well all =
     let bytes = (text_parts (61 ∷ []) value (text_parts name (61 ∷ value) all).1).1 in
-    (AreTokenBytes-from_token _ (IsToken-lowered name well.0), lowered_value-either AreTextBytes name value bytes (lowered_bytes value bytes))
+    (AreTokenBytes-from_token _ (IsToken-lowered _ well.0), lowered_value-either AreTextBytes name value bytes (lowered_bytes value bytes))
 fed_pair (quoted name value n) well all =
     let bytes = (text_parts value (34 ∷ n) (text_parts name (61 ∷ 34 ∷ (value ++ (34 ∷ n))) all).1).0 in
-    (AreTokenBytes-from_token _ (IsToken-lowered name well.0), lowered_value-either AreTextBytes name value bytes (lowered_bytes value bytes))
+    (AreTokenBytes-from_token _ (IsToken-lowered _ well.0), lowered_value-either AreTextBytes name value bytes (lowered_bytes value bytes))
 
 fed_list : (list : Parameters) → AreParameters list → AreTextBytes (text_of_list list)
     → AllByRecursion IsFedPair (pairs_of_list (lowered_list list))

@@ -68,7 +68,8 @@ IsParameter-lowered : (p : Parameter) → IsParameter p → IsParameter (lowered
 IsParameter-lowered (plain name value) (named, token) =
     (IsToken-lowered name named, lowered_value-either IsToken name value token (IsToken-lowered value token))
 IsParameter-lowered (quoted name content n) (named, is, white) =
-    (IsToken-lowered name named, lowered_value-either IsContent name content is (IsContent-case content (lowered content) (lowered-lowered content) is), white)
+    let low = IsContent-case content (lowered content) (lowered-lowered content) is in
+    (IsToken-lowered name named, lowered_value-either IsContent name content is low, white)
 
 -- a lowercased parameter list is well formed
 AreParameters-lowered : (list : Parameters) → AreParameters list → AreParameters (lowered_list list)

@@ -59,8 +59,8 @@ tree_in text = record {
 
 -- a text is kept if it is that of the tree in it, which is well formed and its own lowercased form
 kept_by : (text : List ℕ) → IsToken (tree_in text).top → IsToken (tree_in text).sub → lowered_tree (tree_in text) ≡ tree_in text
-    → text_of (tree_in text) ≡ text → positions_of (tree_in text) ≡ positions_in text → kept_positions (positions_in text) ≡ positions_in text
-    → IsKept text (positions_in text)
+    → text_of (tree_in text) ≡ text → positions_of (tree_in text) ≡ positions_in text
+    → kept_positions (positions_in text) ≡ positions_in text → IsKept text (positions_in text)
 kept_by text top sub low spelled same_positions kept = record {
   has = record {
     tree = tree_in text;
