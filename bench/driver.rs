@@ -2,8 +2,9 @@
 //!
 //! `driver OPERATION here TIMES` and `driver OPERATION there TIMES` make an operation so many times, and print its answer: the
 //! difference of two runs is what the operation costs. Standard input has the text, and after a line feed the text or name that an
-//! operation on two takes. An operation `call_NAME` is here the call from C, and there the twin of that name. Without words it is the program `mime_lines` over the Rust crate, written the same way: labels and texts are
-//! pushed, and a fault is written by its `Display`.
+//! operation on two takes. An operation `call_NAME` is here the call from C, and there the twin of that name. Without words it is
+//! the program `mime_lines` over the Rust crate, written the same way: labels and texts are pushed, and a fault is written by its
+//! `Display`.
 
 extern crate mime;
 
@@ -20,6 +21,9 @@ use std::io::{self, Read, Write as _};
 #[repr(C)]
 pub struct Slice(*const u8, usize);
 
+/// A `struct mime_found` of include/mime.h: first the length, and third where the printed text begins.
+type Found = [usize; 7];
+
 extern "C" {
     fn mime_bench(operation: Slice, text: Slice, other: Slice, times: usize) -> usize;
 
@@ -29,22 +33,12 @@ extern "C" {
     fn mime_is(one: Slice, other: Slice, equal: *mut u8) -> u32;
 }
 
-/// What `mime_read` finds beside the strings.
-#[repr(C)]
-#[derive(Default)]
-struct Found {
-    length: usize,
-    params: usize,
-    printed: usize,
-    slash: usize,
-    subtype_end: usize,
-    pos: usize,
-    byte: u8,
+fn slice(text: &str) -> Slice {
+    Slice(text.as_ptr(), text.len())
 }
 
 /// Makes a call from C so many times, and answers as its twin does.
 fn called(call: &str, text: &str, other: &str, times: usize) -> usize {
-    let slice = |text: &str| Slice(text.as_ptr(), text.len());
     let mut out = vec![0u8; 2 * text.len() + 2];
     let mut answer = 0;
     for _ in 0..times {
@@ -52,7 +46,7 @@ fn called(call: &str, text: &str, other: &str, times: usize) -> usize {
         let (mut found, mut length, mut equal) = (Found::default(), 0, 0);
         answer = match call {
             "read" => match unsafe { mime_read(text, room, &mut found) } {
-                0 => found.length - found.printed - 1,
+                0 => found[0] - found[2] - 1,
                 _ => 0,
             },
             "items" => {
@@ -69,17 +63,19 @@ fn called(call: &str, text: &str, other: &str, times: usize) -> usize {
     answer
 }
 
-/// For each operation the twin of what `mime_bench` does, over the Rust crate and written the same way: what is made before, and a
-/// turn. What LLVM makes of it turns on what is compiled with it, and on the order: after a change of this file look at the counts of
-/// the Rust crate, too.
+/// For each operation the twin of what `mime_bench` does, over the Rust crate: after a comma what is made before, and then what each
+/// turn answers, or adds to the answer. What LLVM makes of it turns on what is compiled with it, and on the order: after a change of
+/// this file look at the counts of the Rust crate, too.
 macro_rules! operations {
-    ($($name:ident($text:ident, $other:ident) { $(let $kept:pat = $value:expr;)* repeat $answer:ident $turn:block })*) => {
+    ($($name:ident($text:ident, $other:ident) $(, $kept:pat = $value:expr)* => $answer:ident $sets:tt $turn:expr;)*) => {
         $(
             #[inline(never)]
             fn $name($text: &str, $other: &str, times: usize) -> usize {
                 $(let $kept = $value;)*
                 let mut $answer = 0;
-                for _ in 0..times $turn
+                for _ in 0..times {
+                    $answer $sets $turn;
+                }
                 $answer
             }
         )*
@@ -92,104 +88,53 @@ macro_rules! operations {
 }
 
 operations! {
-    read(text, _other) {
-        repeat length {
-            length = match hidden(text).parse::<Mime>() {
-                Ok(mime) => mime.as_ref().len(),
-                Err(_) => 0,
-            };
+    read(text, _other) => length = match hidden(text).parse::<Mime>() {
+        Ok(mime) => mime.as_ref().len(),
+        Err(_) => 0,
+    };
+    look_up(text, other), mime = value_of(text) => length = match hidden(&mime).get_param(other) {
+        Some(value) => value.as_str().len(),
+        None => length,
+    };
+    walk(text, _other), mime = value_of(text) => length = {
+        let mut length = 0;
+        for (name, value) in hidden(&mime).params() {
+            length += name.as_str().len() + value.as_str().len();
         }
-    }
-    look_up(text, other) {
-        let mime = value_of(text);
-        repeat length {
-            if let Some(value) = hidden(&mime).get_param(other) {
-                length = value.as_str().len();
-            }
-        }
-    }
-    walk(text, _other) {
-        let mime = value_of(text);
-        repeat length {
-            length = 0;
-            for (name, value) in hidden(&mime).params() {
-                length += name.as_str().len() + value.as_str().len();
-            }
-        }
-    }
-    name_eq(text, other) {
-        repeat same {
-            same += hidden(text).eq_ignore_ascii_case(other) as usize;
-        }
-    }
+        length
+    };
+    name_eq(text, other) => same += hidden(text).eq_ignore_ascii_case(other) as usize;
     // The release has no iterator, so this is what its user writes.
-    items(text, _other) {
-        repeat length {
-            length = 0;
-            for entry in hidden(text).split(',') {
-                if let Ok(mime) = entry.trim().parse::<Mime>() {
-                    length += mime.as_ref().len();
-                }
+    items(text, _other) => length = {
+        let mut length = 0;
+        for entry in hidden(text).split(',') {
+            if let Ok(mime) = entry.trim().parse::<Mime>() {
+                length += mime.as_ref().len();
             }
         }
-    }
-    eq(text, other) {
-        let (one, other) = (value_of(text), value_of(other));
-        repeat same {
-            same += (*hidden(&one) == *hidden(&other)) as usize;
-        }
-    }
+        length
+    };
+    eq(text, other), one = value_of(text), other = value_of(other) => same += (*hidden(&one) == *hidden(&other)) as usize;
     // Two texts that are read each time.
-    is(text, other) {
-        repeat same {
-            same += (hidden(text).parse::<Mime>().unwrap() == other.parse::<Mime>().unwrap()) as usize;
-        }
-    }
-    cmp(text, other) {
-        let (one, other) = (value_of(text), value_of(other));
-        repeat less {
-            less += hidden(&one).cmp(hidden(&other)).is_lt() as usize;
-        }
-    }
-    eq_str(text, other) {
-        let one = value_of(text);
-        repeat same {
-            same += (*hidden(&one) == hidden(other)) as usize;
-        }
-    }
+    is(text, other) => same += (value_of(hidden(text)) == value_of(other)) as usize;
+    cmp(text, other), one = value_of(text), other = value_of(other) => less += hidden(&one).cmp(hidden(&other)).is_lt() as usize;
+    eq_str(text, other), one = value_of(text) => same += (*hidden(&one) == hidden(other)) as usize;
     // Which bytes are fed is open, so the hashes of the two sides differ, and the answer is 1.
-    hash(text, _other) {
-        let mime = value_of(text);
-        let mut even = 0;
-        repeat answer {
-            let mut hasher = DefaultHasher::new();
-            hidden(&mime).hash(&mut hasher);
-            even += (hasher.finish() % 2 == 0) as usize;
-            answer = usize::from(even < usize::MAX);
-        }
-    }
-    clone(text, _other) {
-        let mime = value_of(text);
-        repeat copied {
-            copied += !hidden(&hidden(&mime).clone()).as_ref().is_empty() as usize;
-        }
-    }
-    print(text, _other) {
-        let mime = value_of(text);
-        let mut printed = String::with_capacity(text.len());
-        repeat length {
-            printed.clear();
-            let _ = write!(printed, "{}", hidden(&mime));
-            length = printed.len();
-        }
-    }
+    hash(text, _other), mime = value_of(text), mut even = 0 => answer = {
+        let mut hasher = DefaultHasher::new();
+        hidden(&mime).hash(&mut hasher);
+        even += (hasher.finish() % 2 == 0) as usize;
+        usize::from(even < usize::MAX)
+    };
+    clone(text, _other), mime = value_of(text) => copied += !hidden(&hidden(&mime).clone()).as_ref().is_empty() as usize;
+    print(text, _other), mime = value_of(text), mut printed = String::with_capacity(text.len()) => length = {
+        printed.clear();
+        let _ = write!(printed, "{}", hidden(&mime));
+        printed.len()
+    };
     // One of four constants as a value, whatever the text is.
-    atom(_text, _other) {
-        let constants = [TEXT_HTML, APPLICATION_JSON, TEXT_PLAIN_UTF_8, IMAGE_SVG];
-        repeat length {
-            length += hidden(&constants)[length % 4].clone().as_ref().len();
-        }
-    }
+    atom(_text, _other), constants = [TEXT_HTML, APPLICATION_JSON, TEXT_PLAIN_UTF_8, IMAGE_SVG] =>
+        length += hidden(&constants)[length % 4].clone().as_ref().len();
 }
 
 /// The value of a text that is a media type.
@@ -238,9 +183,8 @@ fn push_row(report: &mut String, label: &str, text: &str) -> fmt::Result {
 fn write_report(input: &[u8]) -> io::Result<()> {
     let mut report = String::new();
     if !input.is_empty() {
-        for line in input.strip_suffix(b"\n").unwrap_or(input).split(|byte| *byte == b'\n') {
-            push_line(&mut report, line).expect("a String takes all that is written to it");
-        }
+        let lines = input.strip_suffix(b"\n").unwrap_or(input).split(|byte| *byte == b'\n');
+        lines.for_each(|line| push_line(&mut report, line).expect("a String takes all that is written to it"));
     }
     io::stdout().write_all(report.as_bytes())
 }
@@ -253,7 +197,6 @@ fn main() -> io::Result<()> {
     }
     let given = String::from_utf8(input).unwrap();
     let (text, other) = given.split_once('\n').unwrap();
-    let slice = |text: &str| Slice(text.as_ptr(), text.len());
     let call = words[1].strip_prefix("call_");
     let run = |times| match (&*words[2], call) {
         ("here", Some(call)) => called(call, text, other, times),

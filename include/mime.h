@@ -43,7 +43,7 @@ enum {
     MIME_MISSING_QUOTE = 5,
     /* or it has a byte that no media type could have there. */
     MIME_INVALID_BYTE = 6,
-    /* malloc gave no memory. This never comes for a text that is no media type, nor for `*` `/` `*`. */
+    /* malloc gave no memory. This comes only where a media type other than `*` `/` `*` is read. */
     MIME_NO_MEMORY = 7,
     /* The text isn't valid UTF-8. */
     MIME_NOT_UTF8 = 8,
@@ -69,7 +69,8 @@ struct mime_found {
  * essence, the name and the value of each parameter in the text's order, and the media type as it is printed. Those of
  * `Text/SVG+XML; Charset="UTF-8"` are `text/svg+xml`, `charset`, `utf-8` and `text/svg+xml; charset="utf-8"`; `slash` is 4
  * and `subtype_end` 8. Essence, names and the value of a charset are in lowercase. A value has no quotes, and keeps its
- * backslashes. The rest of `out` stays as it was, and with another answer all of it. */
+ * backslashes. The rest of `out` stays as it was, and with another answer all of it.
+ * The answers are all of the above. */
 uint32_t mime_read(const char *text, size_t text_len, char *out, size_t out_len, struct mime_found *found);
 
 /* Takes the media types one by one out of `text`, such as an Accept header. `out` has at least 2 * text_len bytes. With

@@ -23,12 +23,18 @@ void *__wrap_malloc(size_t size)
 #define CHECK(is) \
     do { \
         if (!(is)) { \
-            printf("%s:%d: not so: %s; the text is: ", __FILE__, __LINE__, #is); \
-            fwrite(text, 1, len, stdout); \
-            puts(""); \
+            printf("%s:%d: not so: %s; the text is: %.*s\n", __FILE__, __LINE__, #is, (int)len, text); \
             exit(1); \
         } \
     } while (0)
+
+/* Checks a call with each of so many requests refused in turn. */
+#define CHECK_REFUSED(count, is) \
+    for (refused_at = 1; refused_at <= (count); refused_at++) { \
+        requests = 0; \
+        CHECK(is); \
+    } \
+    refused_at = 0
 
 /* A buffer of a size, filled with a byte, and eight more before it. */
 static char *buffer(size_t size)
@@ -53,6 +59,13 @@ static const char *skip(const char *string, size_t count)
     return string;
 }
 
+/* Whether mime_is answers so. */
+static int compares(const char *one, size_t one_len, const char *other, size_t other_len, uint32_t answer, int is_equal)
+{
+    uint8_t equal = 2;
+    return mime_is(one, one_len, other, other_len, &equal) == answer && equal == is_equal;
+}
+
 static void check_read(const char *text, size_t len)
 {
     struct mime_found found;
@@ -73,25 +86,14 @@ static void check_read(const char *text, size_t len)
             CHECK(value != NULL && value <= skip(name, 1));
         }
         CHECK(mime_param(out, &found, "/") == NULL);
-        uint8_t equal = 2;
-        CHECK(mime_is(text, len, out + found.printed, strlen(out + found.printed), &equal) == MIME_OK && equal == 1);
-        CHECK(mime_is("*/*", 3, text, len, &equal) == MIME_OK && equal == (strcmp(out, "*/*") == 0 && found.params == 0));
+        CHECK(compares(text, len, out + found.printed, strlen(out + found.printed), MIME_OK, 1));
+        CHECK(compares("*/*", 3, text, len, MIME_OK, strcmp(out, "*/*") == 0 && found.params == 0));
     } else {
-        uint8_t equal = 2;
         CHECK(is_untouched(room + 8) && found.length == 0 && found.params == 0 && mime_param(out, &found, "q") == NULL);
-        CHECK(mime_is(text, len, text, len, &equal) == answer && equal == 0);
-        CHECK(mime_is("*/*", 3, text, len, &equal) == answer && equal == 0);
+        CHECK(compares(text, len, text, len, answer, 0) && compares("*/*", 3, text, len, answer, 0));
     }
-    for (refused_at = 1; refused_at <= asked; refused_at++) {
-        requests = 0;
-        CHECK(mime_read(text, len, buffer(room), room, &found) == MIME_NO_MEMORY && is_untouched(room + 8) && found.length == 0);
-    }
-    for (refused_at = 1; refused_at <= 2 * asked; refused_at++) {
-        uint8_t equal = 2;
-        requests = 0;
-        CHECK(mime_is(text, len, text, len, &equal) == MIME_NO_MEMORY && equal == 0);
-    }
-    refused_at = 0;
+    CHECK_REFUSED(asked, mime_read(text, len, buffer(room), room, &found) == MIME_NO_MEMORY && is_untouched(room + 8) && found.length == 0);
+    CHECK_REFUSED(2 * asked, compares(text, len, text, len, MIME_NO_MEMORY, 0));
 }
 
 static void check_list(const char *text, size_t len)
@@ -111,11 +113,7 @@ static void check_list(const char *text, size_t len)
         uint32_t is = mime_read(item + 1, strlen(item + 1), more, sizeof more, &found);
         CHECK(*item == MIME_GOOD ? is == MIME_OK && strcmp(more + found.printed, item + 1) == 0 : *item == MIME_BAD && is != MIME_OK);
     }
-    for (refused_at = 1; refused_at <= asked; refused_at++) {
-        requests = 0;
-        CHECK(mime_list(text, len, buffer(room), room, &length) == MIME_NO_MEMORY && length == 0);
-    }
-    refused_at = 0;
+    CHECK_REFUSED(asked, mime_list(text, len, buffer(room), room, &length) == MIME_NO_MEMORY && length == 0);
 }
 
 static void check(const char *given, size_t len)
@@ -138,8 +136,9 @@ static char *end_of_block(void)
 /* A text of up to twelve pieces. */
 static size_t near_the_grammar(char *text)
 {
-    static const char *const pieces[] = {"a", "text", "/", "/", ";", ";", "; ", "=", "=", "\"", "\"", "\\", "+", ",", "*/*", "a/b", "text/html;q=0.5",
-                                         " ", "\t", "charset", "UTF-8", "Q", "é", "\xff", "(", "\x7f", "p=\"x y\"", "image/SVG+xml"};
+    static const char *const pieces[] = {
+        "a", "text", "/", "/", ";", ";", "; ", "=", "=", "\"", "\"", "\\", "+", ",", "*/*", "a/b", "text/html;q=0.5", " ", "\t", "charset",
+        "UTF-8", "Q", "é", "\xff", "(", "\x7f", "p=\"x y\"", "image/SVG+xml"};
     static uint32_t seed = 1;
     size_t len = 0;
     for (int left = seed >> 16 & 15; left > 3; left--) {

@@ -1,7 +1,7 @@
-"""What the tools share: how they run commands, each with a time limit and none longer than the tool that began it; copies of crates,
-and programs."""
+"""What the tools share: commands with time limits, none of which outlives its tool; copies of crates; programs; and what counts."""
 
 import contextlib
+import functools
 import os
 import re
 import shlex
@@ -9,6 +9,8 @@ import shutil
 import signal
 import subprocess
 import tempfile
+import time
+from subprocess import PIPE, STDOUT
 
 TOP = os.path.dirname(os.path.dirname(os.path.realpath(__file__)))
 
@@ -21,10 +23,10 @@ RT_SECONDS, PROGRAM_SECONDS = 20 * 60, 60
 _running, _is_ended = set(), False
 
 
-def run(words, seconds, given=None, **how):
+def run(words, seconds=RT_SECONDS, given=None, **how):
     """Runs a command on these bytes, or on nothing, as subprocess.run does. What takes longer is ended, with all that it began, and is a
     TimeoutError; and once the tool was told to end, nothing is begun any more."""
-    how = {"stdin": subprocess.DEVNULL if given is None else subprocess.PIPE, **how}
+    how = {"stdin": subprocess.DEVNULL if given is None else PIPE, **how}
     process = subprocess.Popen(["timeout", "-k", "5", str(seconds), *words], **how)
     _running.add(process)
     try:
@@ -40,10 +42,49 @@ def run(words, seconds, given=None, **how):
     return subprocess.CompletedProcess(words, process.returncode, output, errors)
 
 
-def end_on_signals():
-    """Lets SIGTERM and SIGINT end a tool as an error does, so that its folders are removed, and with it what it runs."""
+def said(words, folder=TOP, given=None, **how):
+    """What a command says on both its outputs, as a text, and its status."""
+    it = run(words, given=given, cwd=folder, **{"stdout": PIPE, "stderr": STDOUT, **how})
+    return it.stdout.decode(errors="replace"), it.returncode
+
+
+def done(*words, folder=TOP, given=None):
+    """What a command says. Its failure is an error."""
+    text, status = said(words, folder, given)
+    if status:
+        raise OSError(f"{' '.join(words[:6])} ended with status {status}:\n{text[-3000:]}")
+    return text
+
+
+def is_right(tool, command, is_wanted, folder=TOP, **how):
+    """Whether a command of the shell succeeds and says what is wanted."""
+    began = time.monotonic()
+    try:
+        text, status = said(["bash", "-euo", "pipefail", "-c", command], folder, **how)
+    except TimeoutError as error:
+        text, status = str(error), 1
+    well = not status and bool(is_wanted(text))
+    print(f"{tool}: {command.splitlines()[-1][:60]}: {time.monotonic() - began:.0f} s", flush=True)
+    if not well:
+        print(f"{tool}: not as it is wanted: {command}\n{text[-3000:]}", flush=True)
+    return well
+
+
+def ended(tool, tries, least=1):
+    """The status of a tool, with its last line. Each of its tries gives whether it came as it must; an error ends them; and fewer than the
+    least say that some are lost. SIGTERM and SIGINT end it as an error does, so that its folders are removed, and with it what it runs."""
     for number in (signal.SIGTERM, signal.SIGINT):
         signal.signal(number, _end)
+    results = []
+    try:
+        for well in tries:
+            results.append(bool(well))
+    except OSError as error:
+        print(f"{tool}: {error}")
+        results.append(False)
+    failed = max(len(results), least) - sum(results)
+    print(f"{sum(results)} passed, {failed} failed")
+    return 1 if failed else 0
 
 
 def _end(number, _frame):
@@ -54,44 +95,49 @@ def _end(number, _frame):
     raise SystemExit(128 + number)
 
 
+def need(what, *packages):
+    """Installs Debian's packages that have a command or a file, where it is missing. Where it still is then, that is an error."""
+    is_there = lambda: shutil.which(what) or os.path.exists(what)
+    if is_there():
+        return
+    print(f"{what} is missing: apt-get installs {' '.join(packages)}", flush=True)
+    text = ""
+    for words in (["update", "-qq"], ["install", "-y", "-qq", "--no-install-recommends", *packages]):
+        with contextlib.suppress(OSError):
+            text, _ = said(["apt-get", *words])
+    if not is_there():
+        raise OSError(f"{what} is needed, and could not be installed: install it (on Debian: {' '.join(packages)})\n{text[-600:]}")
+
+
 def instructions(words, given):
     """How many instructions a whole run takes, by valgrind."""
     words = ["valgrind", "--tool=callgrind", "--callgrind-out-file=/dev/null", *words]
-    said = run(words, RT_SECONDS, given, stdout=subprocess.DEVNULL, stderr=subprocess.PIPE).stderr
-    found = re.search(rb"Collected : (\d+)", said)
+    text = run(words, given=given, stdout=subprocess.DEVNULL, stderr=PIPE).stderr
+    found = re.search(rb"Collected : (\d+)", text)
     if not found:
-        raise OSError(f"valgrind counted nothing:\n{said[-600:].decode(errors='replace')}")
+        raise OSError(f"valgrind counted nothing:\n{text[-600:].decode(errors='replace')}")
     return int(found[1])
 
 
 def refusing_library(room):
     """tools/refusals/refuse.c, compiled."""
-    library = f"{room}/refuse.so"
-    if not is_there("cc", "gcc", "libc6-dev"):
-        raise OSError("nothing is tried without cc")
-    words = ["cc", "-O2", "-shared", "-fPIC", "-o", library, f"{TOP}/tools/refusals/refuse.c"]
-    made = run(words, PROGRAM_SECONDS, stdout=subprocess.PIPE, stderr=subprocess.STDOUT, errors="replace")
-    if made.returncode:
-        raise OSError(f"tools/refusals/refuse.c could not be compiled:\n{made.stdout[-3000:]}")
-    return library
+    need("cc", "gcc", "libc6-dev")
+    done("cc", "-O2", "-shared", "-fPIC", "-o", f"{room}/refuse.so", "tools/refusals/refuse.c")
+    return f"{room}/refuse.so"
 
 
 def refuse(library, words, given, number, **how):
     """Runs a program with one request for memory refused, or none if the number is 0: what it did, and how many requests and bytes each
     count had, with whether one was refused. REFUSE_FROM="start" makes the whole run one count."""
-    with tempfile.TemporaryFile() as counted:
-        how = {"LD_PRELOAD": library, "REFUSE": str(number), "REFUSE_COUNT": str(counted.fileno()), **how}
+    with tempfile.TemporaryFile() as counts:
+        how = {"LD_PRELOAD": library, "REFUSE": str(number), "REFUSE_COUNT": str(counts.fileno()), **how}
         words = ["env", "-i", *(f"{name}={value}" for name, value in how.items()), *words]
-        done = run(words, PROGRAM_SECONDS, given, stdout=subprocess.PIPE, stderr=subprocess.PIPE, pass_fds=[counted.fileno()])
-        counted.seek(0)
-        return done, [(int(it.split()[0]), int(it.split()[1]), b"refused" in it) for it in counted.read().splitlines()]
+        it = run(words, PROGRAM_SECONDS, given, stdout=PIPE, stderr=PIPE, pass_fds=[counts.fileno()])
+        counts.seek(0)
+        return it, [(int(line.split()[0]), int(line.split()[1]), b"refused" in line) for line in counts.read().splitlines()]
 
 
-def rt(words, folder, given=None):
-    """A run of rt, with all that it and what it runs say as its output."""
-    return run(["rt", *words], RT_SECONDS, given, cwd=folder, stdout=subprocess.PIPE, stderr=subprocess.STDOUT, errors="replace")
-
-
+@functools.cache
 def text_of(path):
     """The text of a file of the repository."""
     with open(f"{TOP}/{path}", encoding="utf-8", newline="") as file:
@@ -102,21 +148,6 @@ def write(path, text):
     os.makedirs(os.path.dirname(path), exist_ok=True)
     with open(path, "w", encoding="utf-8") as file:
         file.write(text)
-
-
-def is_there(what, *packages):
-    """Whether a command can be run, or a file is there. Where not, Debian's packages that have it are installed, if they can be."""
-    is_found = lambda: bool(shutil.which(what)) or os.path.exists(what)
-    if is_found():
-        return True
-    print(f"{what} is missing: apt-get installs {' '.join(packages)}", flush=True)
-    said = ""
-    for words in (["update", "-qq"], ["install", "-y", "-qq", "--no-install-recommends", *packages]):
-        with contextlib.suppress(OSError):
-            said = run(["apt-get", *words], RT_SECONDS, stdout=subprocess.PIPE, stderr=subprocess.STDOUT, errors="replace").stdout
-    if not is_found():
-        print(f"{said[-600:]}\n{what} is needed, and could not be installed: install it (on Debian: {' '.join(packages)})".lstrip())
-    return is_found()
 
 
 def copied(crates, room, top=TOP, without=("out",)):
@@ -140,13 +171,7 @@ def program(crate, backend="llvm", room=None):
     with contextlib.suppress(FileNotFoundError):
         os.remove(made)
     print(f"rt proves and builds {crate} by the compiler {backend}, as far as it isn't up to date", flush=True)
-    said = rt(["run", *["--backend", backend][: 2 * (backend == "rattle")]], f"{top}/crates/{crate}").stdout
+    text, _ = said(["rt", "run", *(["--backend", backend] if backend == "rattle" else [])], f"{top}/crates/{crate}")
     if not os.path.exists(made):
-        raise OSError(f"{crate} could not be built:\n{said[-3000:]}")
+        raise OSError(f"{crate} could not be built:\n{text[-3000:]}")
     return made
-
-
-def ended(passed, failed):
-    """The status of a tool that counted these, with its last line."""
-    print(f"{passed} passed, {failed} failed")
-    return 1 if failed or not passed else 0

@@ -1,5 +1,5 @@
 -- How media types compare: which are equal, and which comes before which.
-use Rattle.std.specs.Prelude.{◌≡◌, ℕ, ◌<◌, ◌⊎◌, List, [], ◌∷◌, IsTrue, not, ◌==◌}
+use Rattle.std.specs.Prelude.{◌≡◌, ℕ, ◌<◌, ◌⊎◌, List, [], ◌∷◌, IsTrue, not, ◌==◌, ⊤}
 use Rattle.std.specs.List.{list_all}
 use Rattle.std.specs.declared.cmp.Ordering.{Ordering}
 use Rattle.std.specs.Cmp.Lexicographic.{slice_cmp}
@@ -14,7 +14,7 @@ Same first second = (first.essence ≡ second.essence) × (first.pairs ≡ secon
 -- a list comes before another: after items that are the same it ends first, or has the lesser item
 abbrev pub IsListBefore : {X : Type 0} → (X → X → Type 0) → List X → List X → Type 0
 IsListBefore IsLess [] [] = ⊥
-IsListBefore IsLess [] (y ∷ ys) = Unit {0}
+IsListBefore IsLess [] (y ∷ ys) = ⊤
 IsListBefore IsLess (x ∷ xs) [] = ⊥
 IsListBefore IsLess (x ∷ xs) (y ∷ ys) = IsLess x y ⊎ ((x ≡ y) × IsListBefore IsLess xs ys)
 

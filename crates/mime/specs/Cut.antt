@@ -1,6 +1,6 @@
 -- How a text is cut into media types and bad pieces: each piece is the longest viable prefix of what is left, and the
 -- character after it, which can't follow it, is passed.
-use Rattle.std.specs.Prelude.{◌≡◌, ◌≢◌, ℕ, ◌+◌, Bool, ◌&&◌, nat_le, IsTrue, IsFalse, List, [], ◌∷◌, ◌++◌, length}
+use Rattle.std.specs.Prelude.{◌≡◌, ◌≢◌, ℕ, ◌+◌, Bool, ◌&&◌, nat_le, IsTrue, IsFalse, List, [], ◌∷◌, ◌++◌, length, ⊤}
 use Rattle.std.specs.List.{list_all}
 use Rattle.mime.specs.Values.{MediaType, Reads, IsRefused}
 use Rattle.mime.specs.Refusals.{IsViable, IsLongestPrefix}
@@ -11,7 +11,7 @@ is_following_byte b = nat_le 128 b && nat_le b 191
 
 -- the first byte, if there is one, isn't from 128 to 191
 abbrev pub BeginsCharacter : List ℕ → Type 0
-BeginsCharacter [] = Unit {0}
+BeginsCharacter [] = ⊤
 BeginsCharacter (b ∷ bytes) = IsFalse (is_following_byte b)
 
 -- one byte, and all bytes from 128 to 191 that follow it directly: in valid UTF-8 one character

@@ -1,6 +1,6 @@
 -- The grammar of media types: the syntax trees, the text of each, and which trees are well formed
 -- (RFC 7231, 3.1.1.1, with the departures that docs/DIFFERENCES.md lists).
-use Rattle.std.specs.Prelude.{ℕ, List, [], ◌∷◌, ◌++◌, ◌==◌, ◌||◌, Bool, IsTrue}
+use Rattle.std.specs.Prelude.{ℕ, List, [], ◌∷◌, ◌++◌, ◌==◌, ◌||◌, Bool, IsTrue, ⊤}
 use Rattle.std.specs.List.{list_all}
 use Rattle.mime.specs.Bytes.{is_token_byte, is_quoted_byte, is_quoted_text_byte, slash_byte, semicolon_byte, equals_byte, quote_byte, backslash_byte, space_byte, tab_byte}
 
@@ -82,7 +82,7 @@ AreParameters (more n parameter rest) = AreSpaces n × IsParameter parameter × 
 
 -- what follows the subtype is well formed: nothing, or a semicolon and a well-formed parameter list
 abbrev pub IsTail : Tail → Type 0
-IsTail no_list = Unit {0}
+IsTail no_list = ⊤
 IsTail (listed parameters) = AreParameters parameters
 
 -- a tree is well formed: its type and its subtype are tokens, and its tail is well formed

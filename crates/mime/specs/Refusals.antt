@@ -1,5 +1,5 @@
 -- How a text is refused: which texts may still become a media type, up to where a text may, and its one fault.
-use Rattle.std.specs.Prelude.{◌≡◌, ◌≢◌, ℕ, ◌<◌, ◌≤◌, List, [], ◌∷◌, ◌++◌, length, take, slice_get, Option, Some, None, MatchOption, codes}
+use Rattle.std.specs.Prelude.{◌≡◌, ◌≢◌, ℕ, ◌<◌, ◌≤◌, List, [], ◌∷◌, ◌++◌, length, take, slice_get, Option, Some, None, MatchOption, codes, ⊤}
 use Rattle.mime.specs.Bytes.{slash_byte, equals_byte}
 use Rattle.mime.specs.Values.{IsAccepted}
 use Rattle.mime.specs.declared.scan.fault.ParseError.{ParseError}
@@ -40,7 +40,7 @@ EndsIn text byte = (prefix : List ℕ) × (text ≡ prefix ++ (byte ∷ []))
 abbrev pub Lacks : List ℕ → ParseError → Type 0
 Lacks text fault =
     MatchOption (completion_of fault) ⊥ (λ more. IsAccepted (text ++ more))
-    × MatchOption (last_byte_of fault) (Unit {0}) (EndsIn text)
+    × MatchOption (last_byte_of fault) ⊤ (EndsIn text)
 
 -- the text ends in an open quoted value
 abbrev pub IsUnclosed : List ℕ → Type 0

@@ -222,11 +222,8 @@ impl Mime {
         ensures pairs { result ≡ self.now.media.pairs }
         ensures low { AreLowPairs result }
     {
-        Pairs::after(
-            self.text.as_str(),
-            self.positions.semicolon,
-            self.positions.pairs,
-        )
+        let text = self.text.as_str();
+        Pairs::after(text, self.positions.semicolon, self.positions.pairs)
     }
 
     /// How many parameters there are.

@@ -4,7 +4,7 @@ use Rattle.std.specs.Str.{IsUtf8}
 use Rattle.mime.specs.Bytes.{is_token_byte}
 use Rattle.mime.specs.Grammar.{no_list}
 use Rattle.mime.specs.Values.{MediaType, Reads}
-use Rattle.mime.specs.Cut.{good, bad, whole}
+use Rattle.mime.specs.Cut.{good, bad, Cut, whole}
 use Rattle.mime.specs.declared.scan.fault.ParseError.TheVariants.{MissingSlash, MissingSubtype, MissingEqual, MissingValue, MissingQuote, InvalidToken, NoMemory}
 use Rattle.mime.proofs.CutLemmas.{empty-cut, cut_unique}
 use Rattle.mime_c.specs.Strings.{strings, ComeBack, texts_of, item_texts, written}
@@ -59,64 +59,59 @@ reads_ab : Reads (codes "A/B") ab
 unfolding ab is_token_byte
 reads_ab = record { tree = record { top = codes "A"; sub = codes "B"; tail = no_list }; well_formed = (refl, refl, tt); spelled = refl; valued = refl }
 
--- a buffer of eight bytes is enough for a text of three, and nothing else is answered
-ab_read : IsUtf8 (codes "A/B") → ReadsTo (codes "A/B") (codes "--------") MIME_OK (codes "a/b" ++ 0 ∷ codes "a/b" ++ 0 ∷ []) (record { length = 8; params = 0; printed = 4; slash = 1; subtype_end = 3; pos = 0; byte = 0 })
-unfolding ab
-ab_read utf8 = is_read ab (omega arith) utf8 reads_ab refl
+whole_ab : Cut (codes "A/B") (good (codes "A/B") ab ∷ []) []
+whole_ab = whole (codes "A/B") ab reads_ab
 
-ab_not_else : IsUtf8 (codes "A/B") → (answer : ℕ) (new : List ℕ) (found : MimeFound) → answer ≢ MIME_NO_MEMORY → answer ≢ MIME_OK
-    → ¬ (ReadsTo (codes "A/B") (codes "--------") answer new found)
-ab_not_else utf8 answer new found some other answers =
-    let only = (reads_to_one (codes "A/B") (codes "--------")).5 in
-    other ((only answer new found some answers).0 ∙ sym (only MIME_OK _ _ (λ is. omega (arith, is)) (ab_read utf8)).0)
-
--- seven aren't, whatever the text is
+-- seven bytes aren't enough for a text of three, whatever it is
 ab_no_room : ReadsTo (codes "A/B") (codes "-------") MIME_NO_ROOM (codes "-------") nothing
 ab_no_room = has_no_room (omega arith)
 
-not_text : ¬ (IsUtf8 (255 ∷ [])) → ReadsTo (255 ∷ []) (codes "----") MIME_NOT_UTF8 (codes "----") nothing
-not_text isnt = fails MIME_NOT_UTF8 nothing (omega arith) (is_not_text isnt)
+module _ (utf8 : IsUtf8 (codes "A/B")) where
+  -- eight are, and nothing else is answered
+  ab_read : ReadsTo (codes "A/B") (codes "--------") MIME_OK (codes "a/b" ++ 0 ∷ codes "a/b" ++ 0 ∷ []) (record { length = 8; params = 0; printed = 4; slash = 1; subtype_end = 3; pos = 0; byte = 0 })
+  unfolding ab
+  ab_read = is_read ab (omega arith) utf8 reads_ab refl
 
--- a list of one item, and nothing else is answered
-ab_listed : IsUtf8 (codes "A/B") → ListsTo (codes "A/B") (codes "------") MIME_OK (codes "+a/b" ++ 0 ∷ codes "-") 5
-unfolding ab
-ab_listed utf8 = is_listed (good (codes "A/B") ab ∷ []) [] (omega arith) utf8 (whole (codes "A/B") ab reads_ab) refl
+  ab_not_else : (answer : ℕ) (new : List ℕ) (found : MimeFound) → answer ≢ MIME_NO_MEMORY → answer ≢ MIME_OK
+      → ¬ (ReadsTo (codes "A/B") (codes "--------") answer new found)
+  ab_not_else answer new found some other answers =
+      let only = (reads_to_one (codes "A/B") (codes "--------")).4 in
+      other ((only answer (new, found) some answers).0 ∙ sym (only MIME_OK _ (λ is. omega (arith, is)) ab_read).0)
 
-ab_not_listed_else : IsUtf8 (codes "A/B") → (answer : ℕ) (new : List ℕ) (size : ℕ) → answer ≢ MIME_NO_MEMORY → size ≢ 5
-    → ¬ (ListsTo (codes "A/B") (codes "------") answer new size)
-ab_not_listed_else utf8 answer new size some other answers =
-    let only = (lists_to_one (codes "A/B") (codes "------")).5 in
-    other ((only answer new size some answers).2 ∙ sym (only MIME_OK _ 5 (λ is. omega (arith, is)) (ab_listed utf8)).2)
+  -- a list of one item, and nothing else is answered
+  ab_listed : ListsTo (codes "A/B") (codes "------") MIME_OK (codes "+a/b" ++ 0 ∷ codes "-") 5
+  unfolding ab
+  ab_listed = is_listed (good (codes "A/B") ab ∷ []) [] (omega arith) utf8 whole_ab refl
+
+  ab_not_listed_else : (answer : ℕ) (new : List ℕ) (size : ℕ) → answer ≢ MIME_NO_MEMORY → size ≢ 5
+      → ¬ (ListsTo (codes "A/B") (codes "------") answer new size)
+  ab_not_listed_else answer new size some other answers =
+      let only = (lists_to_one (codes "A/B") (codes "------")).4 in
+      other (ap (λ it. it.1) ((only answer (new, size) some answers).1 ∙ sym (only MIME_OK _ (λ is. omega (arith, is)) ab_listed).1))
+
+  -- equal, and nothing else is answered
+  same_ab : Compares (codes "A/B") (codes "A/B") MIME_OK 1
+  same_ab = are_read ab ab true utf8 utf8 reads_ab reads_ab ((λ is. (refl, refl)), (λ is. refl))
+
+  not_different : ¬ (Compares (codes "A/B") (codes "A/B") MIME_OK 0)
+  not_different different =
+      let only = (compares_as_one (codes "A/B") (codes "A/B")).4 MIME_OK in
+      absurd (omega (arith, (only 0 (λ is. omega (arith, is)) different).1, (only 1 (λ is. omega (arith, is)) same_ab).1))
 
 -- it needs memory, and the empty text needs none
 ab_needs : NeedsMemory (codes "A/B")
-ab_needs = record {
-  before = [];
-  piece = codes "A/B";
-  media = ab;
-  after = [];
-  rest = [];
-  cut = whole (codes "A/B") ab reads_ab;
-  not_star = λ is. omega (arith, ap (λ text. get_or text 0 0) is);
-}
+ab_needs = record { before = []; piece = codes "A/B"; media = ab; after = []; rest = []; cut = whole_ab; not_star = λ is. omega (arith, ap (λ text. get_or text 0 0) is) }
 
 empty_needs_none : ¬ (NeedsMemory [])
 empty_needs_none needs =
     let none = (cut_unique [] [] [] empty-cut (needs.before ++ good needs.piece needs.media ∷ needs.after) needs.rest needs.cut).0 in
     absurd (omega (arith, ap length none, length-append needs.before (good needs.piece needs.media ∷ needs.after)))
 
--- equal, and nothing else is answered
-same_ab : IsUtf8 (codes "A/B") → Compares (codes "A/B") (codes "A/B") MIME_OK 1
-same_ab utf8 = are_read ab ab true utf8 utf8 reads_ab reads_ab ((λ is. (refl, refl)), (λ is. refl))
+-- no text, alone, as the first or as the second
+module _ (isnt : ¬ (IsUtf8 (255 ∷ []))) where
+  not_read : ReadsTo (255 ∷ []) (codes "----") MIME_NOT_UTF8 (codes "----") nothing
+  not_read = fails MIME_NOT_UTF8 nothing (omega arith) (is_not_text isnt)
 
-not_different : IsUtf8 (codes "A/B") → ¬ (Compares (codes "A/B") (codes "A/B") MIME_OK 0)
-not_different utf8 different =
-    let only = (compares_as_one (codes "A/B") (codes "A/B")).4 in
-    let some : MIME_OK ≢ MIME_NO_MEMORY = λ is. omega (arith, is) in
-    absurd (omega (arith, (only MIME_OK 0 some different).1, (only MIME_OK 1 some (same_ab utf8)).1))
-
--- the first or the second is no text
-no_text : ¬ (IsUtf8 (255 ∷ [])) → IsUtf8 (codes "A/B")
-    → Compares (255 ∷ []) (codes "A/B") MIME_NOT_UTF8 0 × Compares (codes "A/B") (255 ∷ []) MIME_NOT_UTF8 0
-no_text isnt utf8 =
-    (first_fails MIME_NOT_UTF8 nothing (is_not_text isnt), second_fails ab MIME_NOT_UTF8 nothing utf8 reads_ab (is_not_text isnt))
+  not_compared : IsUtf8 (codes "A/B") → Compares (255 ∷ []) (codes "A/B") MIME_NOT_UTF8 0 × Compares (codes "A/B") (255 ∷ []) MIME_NOT_UTF8 0
+  not_compared utf8 =
+      (first_fails MIME_NOT_UTF8 nothing (is_not_text isnt), second_fails ab MIME_NOT_UTF8 nothing utf8 reads_ab (is_not_text isnt))

@@ -1,7 +1,5 @@
-pub mod Writing
-pub mod Room
-pub mod Parts
 pub mod NoZero
-pub mod Listing
+pub mod Room
+pub mod Writing
 pub mod OneOutcome
 mod AnswerFacts

@@ -2,19 +2,20 @@
 use Rattle.std.proofs.Common.{◌≡◌, ℕ, true, false, List, [], ◌∷◌, ◌++◌, refl, ap, ◌∙◌, arith}
 use Rattle.std.specs.Prelude.{◌==◌}
 use Rattle.std.specs.List.{list_all, onto_first, AllByRecursion}
-use Rattle.std.proofs.lemmas.Bool.{and_parts, and_from, cond-false}
+use Rattle.std.proofs.lemmas.Bool.{and_parts, and_from}
 use Rattle.std.proofs.lemmas.Bool.Decides.{nat_tests}
 use Rattle.mime.specs.Bytes.{is_token_byte, is_quoted_byte}
 use Rattle.mime.specs.Grammar.{IsContent, no_byte, text_byte, quoted_pair}
 use Rattle.mime.specs.Values.{MediaType, Reads}
 use Rattle.mime.specs.Refusals.{IsViable}
-use Rattle.mime.specs.HeaderLaws.{AreHeaderBytes, IsSafePair}
+use Rattle.mime.specs.HeaderLaws.{IsSafePair}
 use Rattle.mime.specs.Laws.{without_parameters}
 use Rattle.mime.specs.Cut.{CutItem, good, bad, Cut}
 use Rattle.mime.specs.CutLaws.{IsItem}
 use Rattle.mime.proofs.BytesLemmas.{is_other, list_all-wider, are_other-token, AreTokenBytes-from_token}
 use Rattle.mime.proofs.GrammarLemmas.Viability.{accepted_is_viable, walk-from_viable}
 use Rattle.mime.proofs.HeaderLawsLemmas.{walked-safe, kept_is_safe}
+use Rattle.mime.proofs.ValueLemmas.KeptText.{kept_is_read}
 use Rattle.mime.proofs.LawsLemmas.{essence_is_read, cut_has_items}
 use Rattle.mime_c.specs.Strings.{string_of, strings, texts_in, ComeBack, pair_texts, texts_of, item_texts}
 
@@ -28,8 +29,7 @@ texts_in-string [] bytes none = refl
 texts_in-string (b ∷ text) bytes none =
     let parts = and_parts (is_other 0 b) (list_all (is_other 0) text) none in
     let other : (b == 0) ≡ false = grind (arith, nat_tests, parts.0) in
-    cond-false (b == 0) ([] ∷ texts_in (string_of text ++ bytes)) (onto_first b (texts_in (string_of text ++ bytes))) other
-    ∙ ap (onto_first b) (texts_in-string text bytes parts.1)
+    rw other (ap (onto_first b) (texts_in-string text bytes parts.1))
 
 come_back : (texts : List (List ℕ)) → AllByRecursion HasNoZero texts → ComeBack texts
 come_back [] none = refl
@@ -40,14 +40,14 @@ quoted_byte-other : (b : ℕ) → is_quoted_byte b ≡ true → is_other 0 b ≡
 unfolding is_quoted_byte
 quoted_byte-other b is = grind (arith, nat_tests)
 
-no_zero-bytes : (text : List ℕ) → AreHeaderBytes text → HasNoZero text
-no_zero-bytes text are = list_all-wider is_quoted_byte (is_other 0) quoted_byte-other text are
-
 -- so no viable text has it,
 no_zero-viable : (text : List ℕ) → IsViable text → HasNoZero text
 no_zero-viable text viable =
     let walked = walk-from_viable text viable in
-    no_zero-bytes text (walked-safe _ walked.0 text walked.1)
+    list_all-wider is_quoted_byte (is_other 0) quoted_byte-other text (walked-safe _ walked.0 text walked.1)
+
+no_zero-read : (text : List ℕ) (media : MediaType) → Reads text media → HasNoZero text
+no_zero-read text media reads = no_zero-viable text (accepted_is_viable text (media, reads))
 
 -- no content,
 no_zero-content : (content : List ℕ) → IsContent content → HasNoZero content
@@ -67,15 +67,14 @@ no_zero-pairs ((name, value) ∷ pairs) kept (is, others) none =
 -- so the texts of a media type that was read come back,
 pub texts_come_back : (text : List ℕ) (media : MediaType) → Reads text media → ComeBack (texts_of media)
 texts_come_back text media reads =
-    let safe = kept_is_safe text media reads in
-    let essence = accepted_is_viable media.essence (without_parameters media, essence_is_read text media reads) in
-    come_back (texts_of media)
-    (no_zero-viable media.essence essence, no_zero-pairs media.pairs media.kept safe.pairs (no_zero-bytes media.kept safe.kept))
+    let kept = no_zero-read media.kept media (kept_is_read text media reads) in
+    let essence = no_zero-read media.essence (without_parameters media) (essence_is_read text media reads) in
+    come_back (texts_of media) (essence, no_zero-pairs media.pairs media.kept (kept_is_safe text media reads).pairs kept)
 
 no_zero-items : (items : List CutItem) → AllByRecursion IsItem items → AllByRecursion HasNoZero (item_texts items)
 no_zero-items [] are = tt
 no_zero-items (good piece media ∷ items) (reads, others) =
-    (no_zero-bytes media.kept (kept_is_safe piece media reads).kept, no_zero-items items others)
+    (no_zero-read media.kept media (kept_is_read piece media reads), no_zero-items items others)
 no_zero-items (bad piece ∷ items) (is, others) = (no_zero-viable piece is.0, no_zero-items items others)
 
 -- and the items of a list

@@ -1,7 +1,7 @@
 -- How many bytes the strings are.
 use Rattle.std.proofs.Common.{◌≡◌, ℕ, zero, suc, ◌+◌, ◌*◌, ◌<◌, ◌≤◌, List, [], ◌∷◌, ◌++◌, length, take, Option, Some, None, sym, ap, ◌∙◌, subst, arith, length-append, length-take}
 use Rattle.std.proofs.lemmas.List.{map-append}
-use Rattle.mime.specs.Bytes.{semicolon_byte, equals_byte, quote_byte}
+use Rattle.std.proofs.lemmas.List.Concat.{flat_map-append}
 use Rattle.mime.specs.Grammar.{Parameter, plain, quoted, Parameters, blank, final, more, Tail, no_list, listed, SyntaxTree, text_of, text_of_parameter, text_of_list, text_of_tail, IsToken}
 use Rattle.mime.specs.Values.{MediaType, Reads, pair_of, pairs_of_list, pairs_of_tail, essence_of, kept_text}
 use Rattle.mime.specs.Scanning.{places_of}
@@ -11,84 +11,49 @@ use Rattle.mime.proofs.ValueLemmas.Lowercase.{length-lowered}
 use Rattle.mime.proofs.ValueLemmas.Utf8.{length-in_part}
 use Rattle.mime.proofs.ValueLemmas.KeptText.{text_of-essence, length-essence_of, value_of_low, value_of-lowering, keeps-tree, kept-in_part}
 use Rattle.mime.proofs.CutLemmas.{split-size}
-use Rattle.mime_c.specs.Strings.{strings, pair_texts, texts_of, item_text, item_texts}
+use Rattle.mime_c.specs.Strings.{string_of, strings, pair_texts, texts_of, item_text, item_texts}
 use Rattle.mime_c.specs.declared.TheConstants.{MIME_GOOD, MIME_BAD}
-use Rattle.mime_c.proofs.Writing.{strings-append, length-strings}
+
+-- a string has one byte more than its text
+length-strings : (text : List ℕ) (texts : List (List ℕ)) → length (strings (text ∷ texts)) ≡ length text + 1 + length (strings texts)
+length-strings text texts = omega (arith, length-append {A = ℕ})
 
 -- ---- the strings of a tree that is its own lowering
 
 -- those of a parameter are at most one byte more than its text,
 room-parameter : (parameter : Parameter) (pairs : List (List ℕ × List ℕ))
     → length (strings (pair_texts (pair_of parameter ∷ pairs))) ≤ length (text_of_parameter parameter) + 1 + length (strings (pair_texts pairs))
-room-parameter (plain name value) pairs =
-    omega (
-      arith,
-      length-strings name (value ∷ pair_texts pairs),
-      length-strings value (pair_texts pairs),
-      length-append name (equals_byte ∷ value),
-    )
-room-parameter (quoted name content n) pairs =
-    omega (
-      arith,
-      length-strings name (content ∷ pair_texts pairs),
-      length-strings content (pair_texts pairs),
-      length-append name (equals_byte ∷ quote_byte ∷ (content ++ (quote_byte ∷ n))),
-      length-append content (quote_byte ∷ n),
-    )
+room-parameter (plain name value) pairs = omega (arith, length-strings, length-append {A = ℕ})
+room-parameter (quoted name content n) pairs = omega (arith, length-strings, length-append {A = ℕ})
 
 -- those of a list too,
 room-list : (list : Parameters) → length (strings (pair_texts (pairs_of_list list))) ≤ length (text_of_list list) + 1
 room-list (blank n) = omega arith
-room-list (final n parameter) = omega (arith, room-parameter parameter [], length-append n (text_of_parameter parameter))
-room-list (more n parameter rest) =
-    omega (
-      arith,
-      room-parameter parameter (pairs_of_list rest),
-      room-list rest,
-      length-append n (text_of_parameter parameter ++ (semicolon_byte ∷ text_of_list rest)),
-      length-append (text_of_parameter parameter) (semicolon_byte ∷ text_of_list rest),
-    )
+room-list (final n parameter) = omega (arith, room-parameter parameter [], length-append {A = ℕ})
+room-list (more n parameter rest) = omega (arith, room-parameter parameter (pairs_of_list rest), room-list rest, length-append {A = ℕ})
 
 room-tail : (tail : Tail) → length (strings (pair_texts (pairs_of_tail tail))) ≤ length (text_of_tail tail)
 room-tail no_list = omega arith
 room-tail (listed list) = omega (arith, room-list list)
 
 -- and the kept text is no longer than the text
-length-tree : (tree : SyntaxTree) → length (text_of tree) ≡ length (essence_of tree) + length (text_of_tail tree.tail)
-length-tree tree = ap length (text_of-essence tree) ∙ length-append (essence_of tree) (text_of_tail tree.tail)
-
 room-kept : (tree : SyntaxTree) (pairs : List (List ℕ × List ℕ)) → length (kept_text pairs tree) ≤ length (text_of tree)
-room-kept tree [] = omega (arith, length-tree tree)
+room-kept tree [] = omega (arith, ap length (text_of-essence tree), length-append {A = ℕ})
 room-kept tree (pair ∷ pairs) = omega arith
 
 -- ---- the strings of a media type
 
 -- how long a kept text, the strings of a media type and the text that is read as it are
-record Lengths (text : List ℕ) (media : MediaType) : Type 0 where
-  kept : length media.kept ≤ length text
-  strings : length (strings (texts_of media)) ≤ 2 * length text + 2
-  some : 2 < length text
+abbrev Lengths : List ℕ → MediaType → Type 0
+Lengths text media = (length media.kept ≤ length text) × (length (strings (texts_of media)) ≤ 2 * length text + 2) × (2 < length text)
 
 lengths-low : (text : List ℕ) (tree : SyntaxTree) → length (text_of tree) ≤ length text → 2 < length text → Lengths text (value_of_low tree)
 lengths-low text tree size some =
     let pairs = pairs_of_tail tree.tail in
     let parts = essence_of tree ∷ pair_texts pairs in
-    let kept = kept_text pairs tree in
-    record {
-      kept = omega (arith, room-kept tree pairs, size);
-      strings = omega (
-        arith,
-        ap length (strings-append parts (kept ∷ [])),
-        length-append (strings parts) (strings (kept ∷ [])),
-        length-strings (essence_of tree) (pair_texts pairs),
-        length-strings kept [],
-        room-kept tree pairs,
-        room-tail tree.tail,
-        length-tree tree,
-        size,
-      );
-      some = some;
-    }
+    let kept = room-kept tree pairs in
+    let all = ap length (flat_map-append string_of parts (kept_text pairs tree ∷ [])) in
+    (omega arith, omega (arith, length-append {A = ℕ}, length-strings, room-tail tree.tail, ap length (text_of-essence tree)), some)
 
 -- a kept text is no longer than the text that it is of,
 length-kept : (pairs : ℕ) (semicolon : Option ℕ) (text : List ℕ) → length (kept_text_of pairs semicolon text) ≤ length text
@@ -104,48 +69,37 @@ some-token (b ∷ token) is = omega arith
 lengths_of : (text : List ℕ) (media : MediaType) → Reads text media → Lengths text media
 lengths_of text media reads =
     let tree = reads.tree in
-    let kept = (keeps-tree tree reads.well_formed).is_kept in
+    let keeps = keeps-tree tree reads.well_formed in
     let spelled = ap length reads.spelled in
-    let some : 2 < length text =
-    omega (
-      arith,
-      spelled,
-      length-tree tree,
-      length-essence_of tree,
-      some-token tree.top reads.well_formed.0,
-      some-token tree.sub reads.well_formed.1,
-    ) in
-    subst (Lengths text)
-    (sym (sym reads.valued ∙ (keeps-tree tree reads.well_formed).valued ∙ value_of-lowering kept.tree ∙ ap value_of_low kept.low))
-    (lengths-low text kept.tree (omega (arith, ap length kept.spelled, length-kept (places_of tree).pairs (places_of tree).semicolon (text_of tree), spelled)) some)
+    let all = ap length (text_of-essence tree) in
+    let top = some-token tree.top reads.well_formed.0 in
+    let some : 2 < length text = omega (arith, length-essence_of tree, some-token tree.sub reads.well_formed.1, length-append {A = ℕ}) in
+    let size = ap length keeps.is_kept.spelled in
+    subst (Lengths text) (sym (sym reads.valued ∙ keeps.valued ∙ value_of-lowering keeps.is_kept.tree ∙ ap value_of_low keeps.is_kept.low))
+    (lengths-low text keeps.is_kept.tree (omega (arith, length-kept (places_of tree).pairs (places_of tree).semicolon (text_of tree))) some)
 
 -- the strings of a media type are at most twice as many bytes as the text that is read as it, and two
 pub texts_fit : (text : List ℕ) (media : MediaType) → Reads text media → length (strings (texts_of media)) ≤ 2 * length text + 2
-texts_fit text media reads = (lengths_of text media reads).strings
+texts_fit text media reads = (lengths_of text media reads).1
 
 -- ---- the items of a list
 
 room-items : (piece : List ℕ) (items : List CutItem) → ItemsOf piece items → length (strings (item_texts items)) ≤ length piece + 2
-room-items piece items (is_read media reads) =
-    omega (arith, length-strings (MIME_GOOD ∷ media.kept) [], (lengths_of piece media reads).kept)
+room-items piece items (is_read media reads) = omega (arith, length-strings (MIME_GOOD ∷ media.kept) [], (lengths_of piece media reads).0)
 room-items piece items (is_refused refused some) = omega (arith, length-strings (MIME_BAD ∷ piece) [])
 room-items piece items (is_empty none) = omega arith
+
+pub strings_of_items : (items others : List CutItem)
+    → strings (item_texts (items ++ others)) ≡ strings (item_texts items) ++ strings (item_texts others)
+strings_of_items items others = ap strings (map-append item_text items others) ∙ flat_map-append string_of (item_texts items) (item_texts others)
 
 -- the strings of a text's items are at most twice as many bytes as the text
 pub items_fit : (text : List ℕ) (items : List CutItem) (rest : List ℕ) → Cut text items rest → length (strings (item_texts items)) ≤ 2 * length text
 items_fit text items rest (whole t media reads) =
     let lengths = lengths_of t media reads in
-    omega (arith, length-strings (MIME_GOOD ∷ media.kept) [], lengths.kept, lengths.some)
+    omega (arith, length-strings (MIME_GOOD ∷ media.kept) [], lengths.0, lengths.2)
 items_fit text items rest (unfinished t viable refused) = omega arith
 items_fit text items rest (goes_on t piece character left first others end split of_piece cut) =
     let size = split-size t piece character left split in
-    omega (
-      arith,
-      size.0,
-      size.1,
-      room-items piece first of_piece,
-      items_fit left others end cut,
-      ap (λ it. length (strings it)) (map-append item_text first others),
-      ap length (strings-append (item_texts first) (item_texts others)),
-      length-append (strings (item_texts first)) (strings (item_texts others)),
-    )
+    let all = ap length (strings_of_items first others) in
+    omega (arith, room-items piece first of_piece, items_fit left others end cut, length-append {A = ℕ})

@@ -1,89 +1,129 @@
 -- Strings that are written one after another into the caller's buffer.
-use Rattle.std.proofs.Common.{◌≡◌, ℕ, ◌+◌, ◌-◌, ◌<◌, ◌≤◌, List, [], ◌∷◌, ◌++◌, length, drop, set, refl, sym, ap, ◌∙◌, arith, append_assoc, append-nil, length-append}
-use Rattle.std.proofs.Math.Seq.{paste}
-use Rattle.std.proofs.lemmas.List.{take_at}
-use Rattle.std.proofs.lemmas.List.Edits.{paste_none, paste_more, paste_all, paste-paste, length-paste}
-use Rattle.std.proofs.lemmas.Slice.{put_mid-paste}
-use borrow.Rule.Slice.PartMut.{put_mid}
-use Rattle.mime_c.specs.Strings.{string_of, strings, written}
+use Rattle.std.proofs.Common.{◌≡◌, ℕ, ◌+◌, ◌*◌, ◌<◌, ◌≤◌, List, [], ◌∷◌, ◌++◌, length, refl, sym, ap, ◌∙◌, subst, arith, append_assoc, append-nil, length-append, length-drop}
+use Rattle.std.specs.Str.{IsUtf8}
+use Rattle.mime.specs.Items.{Item, items_of}
+use Rattle.mime.specs.Values.{MediaType}
+use Rattle.mime.specs.Cut.{CutItem, Cut}
+use Rattle.mime.specs.Runs.{IsFirstItem, HasNoItem}
+use Rattle.mime.specs.Runs as runs
+use Rattle.mime.proofs.CutLemmas.{has_cut}
+use Rattle.mime_c.specs.Strings.{string_of, strings, pair_texts, texts_of, item_text, item_texts}
+use Rattle.mime_c.specs.Writing.{HasWritten, Writes}
+use Rattle.mime_c.specs.Answers.{ListsTo, is_listed, has_no_memory}
+use Rattle.mime_c.specs.declared.TheConstants.{MIME_OK, MIME_NO_MEMORY}
+use Rattle.mime_c.proofs.NoZero.{items_come_back}
+use Rattle.mime_c.proofs.Room.{items_fit, strings_of_items}
 
--- a byte at a position
-pub set-paste : (out : List ℕ) (at byte : ℕ) → at < length out → set out at byte ≡ paste out at (byte ∷ []) 1
-set-paste out at byte room =
-    let here : at ≡ at + 0 = omega arith in
-    ap (λ xs. set xs at byte) (paste_none out at (byte ∷ [])) ∙ ap (λ n. set (paste out at (byte ∷ []) 0) n byte) here
-    ∙ paste_more out at (byte ∷ []) 0 byte (omega (arith, room)) (omega arith)
+-- bytes and then others are written
+pub both_written : (now mid new one other : List ℕ) (at next end : ℕ) → Writes now at one mid next → Writes mid next other new end
+    → Writes now at (one ++ other) new end
+both_written now mid new one other at next end first second = record {
+  adds = λ old front wrote. subst (HasWritten old new end) (append_assoc front one other) (second.adds old _ (first.adds old front wrote));
+}
 
--- a string at a position, as the code writes it: the text, and then the 0
-pub put_string : (at : ℕ) (out part text : List ℕ) → part ≡ text → at + length text < length out
-    → set (put_mid at (at + length text - at) out part) (at + length text) 0 ≡ paste out at (string_of text) (length text + 1)
-put_string at out part text same room =
-    let size = length-paste out at text (length text) (omega (arith, room)) (omega arith) in
-    ap (λ xs. set xs (at + length text) 0) (put_mid-paste at (at + length text - at) out part text (length text) same (omega arith) refl)
-    ∙ set-paste (paste out at text (length text)) (at + length text) 0 (omega (arith, room, size))
-    ∙ paste-paste out at text (0 ∷ []) (length text) 1 refl refl (omega (arith, room))
+-- a text that there is room for behind what is written fits
+pub fits : {old now front : List ℕ} {at : ℕ} → HasWritten old now at front → (text more : List ℕ)
+    → length (front ++ (string_of text ++ more)) ≤ length old → at + length text < length now
+fits {old} {now} {front} wrote text more room = omega (arith, wrote.end, ap length wrote.there, length-append {A = ℕ}, length-drop {A = ℕ})
 
--- the strings of some texts, and then of others
-pub strings-append : (texts others : List (List ℕ)) → strings (texts ++ others) ≡ strings texts ++ strings others
-strings-append [] others = refl
-strings-append (text ∷ texts) others =
-    ap (λ bytes. string_of text ++ bytes) (strings-append texts others)
-    ∙ sym (append_assoc (string_of text) (strings texts) (strings others))
+-- of all bytes that are to be written some are there, and the others are left
+pub record Leaves (old now : List ℕ) (at : ℕ) (left all : List ℕ) : Type 0 where
+  pub front : List ℕ
+  pub wrote : HasWritten old now at front
+  pub onward : front ++ left ≡ all
 
--- a string has one byte more than its text
-pub length-strings : (text : List ℕ) (texts : List (List ℕ)) → length (strings (text ∷ texts)) ≡ length text + 1 + length (strings texts)
-length-strings text texts = omega (arith, length-append (string_of text) (strings texts), length-append text (0 ∷ []))
+-- at first all are left,
+pub leaves-first : (old all : List ℕ) → Leaves old old 0 all all
+leaves-first old all = record { front = []; wrote = record { there = refl; end = refl }; onward = refl }
 
--- some of the texts that are to be written are there, in `at` bytes, and the others are left to write
-pub record Fills (old : List ℕ) (texts : List (List ℕ)) (new : List ℕ) (at : ℕ) (left : List (List ℕ)) : Type 0 where
-  pub done : List (List ℕ)
-  pub counted : at ≡ length (strings done)
-  pub there : new ≡ paste old 0 (strings done) at
-  pub onward : texts ≡ done ++ left
-  pub room : length (strings texts) ≤ length old
+module _ {old now left all : List ℕ} {at : ℕ} (leaves : Leaves old now at left all) where
+  -- the next string fits,
+  pub leaves-fits : (text more : List ℕ) → left ≡ string_of text ++ more → length all ≤ length old → at + length text < length now
+  leaves-fits text more is room = fits leaves.wrote text more (rw (← is, leaves.onward) room)
 
--- nothing is there,
-pub fills-first : (old : List ℕ) (texts : List (List ℕ)) → length (strings texts) ≤ length old → Fills old texts old 0 texts
-fills-first old texts room = record { done = []; counted = refl; there = paste_none old 0 []; onward = refl; room = room }
+  -- it is written,
+  pub leaves-next : (bytes more new : List ℕ) (end : ℕ) → left ≡ bytes ++ more → Writes now at bytes new end → Leaves old new end more all
+  leaves-next bytes more new end is writes = record {
+    front = leaves.front ++ bytes;
+    wrote = writes.adds old leaves.front leaves.wrote;
+    onward = append_assoc leaves.front bytes more ∙ ap (λ it. leaves.front ++ it) (sym is) ∙ leaves.onward;
+  }
 
--- the next text fits,
-pub fills-fits : (old : List ℕ) (texts : List (List ℕ)) (new : List ℕ) (at : ℕ) (left : List (List ℕ)) (text : List ℕ) (rest : List (List ℕ))
-    → Fills old texts new at left → left ≡ text ∷ rest → at + length text < length new
-fills-fits old texts new at left text rest fills is =
-    let all = ap (λ it. length (strings it)) (fills.onward ∙ ap (λ it. fills.done ++ it) is)
-    ∙ ap length (strings-append fills.done (text ∷ rest)) ∙ length-append (strings fills.done) (strings (text ∷ rest)) in
-    let most : at + length text < length old = omega (arith, fills.room, all, length-strings text rest, fills.counted) in
-    omega (arith, most, ap length fills.there, length-paste old 0 (strings fills.done) at (omega (arith, most)) (omega (arith, fills.counted)))
+-- and at the end none is left
+pub leaves-last : {old now all : List ℕ} {at : ℕ} → Leaves old now at [] all → HasWritten old now at all
+leaves-last {old} {now} {all} {at} leaves = subst (HasWritten old now at) (sym (append-nil leaves.front) ∙ leaves.onward) leaves.wrote
 
--- it is written,
-pub fills-next : (old : List ℕ) (texts : List (List ℕ)) (new more : List ℕ) (at next : ℕ) (left : List (List ℕ)) (text : List ℕ) (rest : List (List ℕ))
-    → Fills old texts new at left → left ≡ text ∷ rest → next ≡ at + (length text + 1)
-    → more ≡ paste new at (string_of text) (length text + 1) → Fills old texts more next rest
-fills-next old texts new more at next left text rest fills is counts writes =
-    let done = fills.done ++ text ∷ [] in
-    let bytes = strings-append fills.done (text ∷ []) ∙ ap (λ it. strings fills.done ++ it) (append-nil (string_of text)) in
-    let size = length-append text (0 ∷ []) in
-    let here : at ≡ 0 + at = omega arith in
-    record {
-      done = done;
-      counted = omega (arith, counts, fills.counted, ap length bytes, length-append (strings fills.done) (string_of text), size);
-      there = writes ∙ ap (λ it. paste it at (string_of text) (length text + 1)) fills.there
-          ∙ ap (λ n. paste (paste old 0 (strings fills.done) at) n (string_of text) (length text + 1)) here
-          ∙ paste-paste old 0 (strings fills.done) (string_of text) at (length text + 1) fills.counted (sym size) (omega arith)
-          ∙ ap (λ n. paste old 0 (strings fills.done ++ string_of text) n) (sym counts) ∙ ap (λ it. paste old 0 it next) (sym bytes);
-      onward = fills.onward ∙ ap (λ it. fills.done ++ it) is ∙ sym (append_assoc fills.done (text ∷ []) rest);
-      room = fills.room;
-    }
+-- ---- the texts of a media type
 
--- and at the end all are there
-pub fills-last : (old : List ℕ) (texts : List (List ℕ)) (new : List ℕ) (at : ℕ) → Fills old texts new at []
-    → (new ≡ written (strings texts) old) × (at ≡ length (strings texts))
-fills-last old texts new at fills =
-    let is : texts ≡ fills.done = fills.onward ∙ append-nil fills.done in
-    let end : 0 + at ≡ length (strings fills.done) = omega (arith, fills.counted) in (
-      fills.there ∙ paste_all old 0 (strings fills.done) at fills.counted
-          ∙ ap (λ it. it ++ (strings fills.done ++ drop (0 + at) old)) (take_at [] old 0 refl)
-          ∙ ap (λ n. strings fills.done ++ drop n old) end
-          ∙ ap (λ it. written (strings it) old) (sym is),
-      fills.counted ∙ ap (λ it. length (strings it)) (sym is),
-    )
+-- the names and the values of items, and then the kept text
+abbrev pub given_texts : List Item → List ℕ → List (List ℕ)
+given_texts [] kept = kept ∷ []
+given_texts (item ∷ items) kept = item.name ∷ item.value ∷ given_texts items kept
+
+-- those of the items of pairs are those of the pairs
+given_texts-items_of : (pairs : List (List ℕ × List ℕ)) (kept : List ℕ) → given_texts (items_of pairs) kept ≡ pair_texts pairs ++ kept ∷ []
+given_texts-items_of [] kept = refl
+given_texts-items_of ((name, value) ∷ pairs) kept = ap (λ texts. name ∷ value ∷ texts) (given_texts-items_of pairs kept)
+
+-- first comes the essence,
+pub given-first : (media : MediaType) (items : List Item) (text : List ℕ) → items ≡ items_of media.pairs → text ≡ media.essence
+    → strings (texts_of media) ≡ string_of text ++ strings (given_texts items media.kept)
+given-first media items text given is = rw (given, is, given_texts-items_of media.pairs media.kept) refl
+
+-- then the name and the value of each item,
+pub given-next : (items more : List Item) (item : Item) (kept name value : List ℕ) → items ≡ item ∷ more → name ≡ item.name
+    → value ≡ item.value → strings (given_texts items kept) ≡ string_of name ++ (string_of value ++ strings (given_texts more kept))
+given-next items more item kept name value next named valued = rw (next, named, valued) refl
+
+-- and last the kept text
+pub given-last : (items : List Item) (kept text : List ℕ) → items ≡ [] → text ≡ kept → strings (given_texts items kept) ≡ string_of text ++ []
+given-last items kept text none is = rw (none, is) refl
+
+-- ---- the items of a list
+
+-- items of the text are written, and the others are those of what is left of it
+pub record Lists (text old now : List ℕ) (at : ℕ) (left : List ℕ) : Type 0 where
+  pub before : List CutItem
+  pub cuts : (items : List CutItem) (rest : List ℕ) → Cut left items rest → Cut text (before ++ items) rest
+  pub wrote : HasWritten old now at (strings (item_texts before))
+
+module _ {text old now left next : List ℕ} {at : ℕ} {item : CutItem} (lists : Lists text old now at left) (is_first : IsFirstItem left item next) where
+  -- the text of the next item fits,
+  pub lists-fits : (body : List ℕ) → item_text item ≡ body → 2 * length text ≤ length old → at + length body < length now
+  lists-fits body is room =
+      let has = has_cut next in
+      let all = item ∷ has.items in
+      let size = items_fit text _ has.rest (lists.cuts all has.rest (is_first has.items has.rest has.cut)) in
+      rw (← is)
+      (fits lists.wrote (item_text item) (strings (item_texts has.items)) (omega (arith, room, size, ap length (strings_of_items lists.before all))))
+
+  -- it is written,
+  pub lists-next : (body new : List ℕ) (end : ℕ) → item_text item ≡ body → Writes now at (string_of body) new end → Lists text old new end next
+  lists-next body new end is writes =
+      let here = item ∷ [] in
+      let there = ap (λ it. strings (item_texts lists.before) ++ it) (append-nil (string_of (item_text item)) ∙ ap string_of is) in
+      record {
+        before = lists.before ++ here;
+        cuts = λ items rest cut. subst (λ all. Cut text all rest) (sym (append_assoc lists.before here items))
+            (lists.cuts (item ∷ items) rest (is_first items rest cut));
+        wrote = subst (HasWritten old new end) (sym (strings_of_items lists.before here ∙ there)) (writes.adds old _ lists.wrote);
+      }
+
+module _ {text old now left : List ℕ} {at : ℕ} (lists : Lists text old now at left) (room : 2 * length text ≤ length old) (utf8 : IsUtf8 text) where
+  -- at the end all are written,
+  pub lists-last : HasNoItem left → ListsTo text old MIME_OK now at
+  lists-last (rest, none) =
+      let cut = subst (λ items. Cut text items rest) (append-nil lists.before) (lists.cuts [] rest none) in
+      rw (lists.wrote.there, lists.wrote.end) (is_listed lists.before rest room utf8 cut (items_come_back text lists.before rest cut))
+
+  -- or there was no memory for one
+  pub lists-no_memory : runs.NeedsMemory left → ListsTo text old MIME_NO_MEMORY now 0
+  lists-no_memory needs = has_no_memory now room utf8 (record {
+    before = lists.before;
+    piece = needs.piece;
+    media = needs.value;
+    after = needs.items;
+    rest = needs.rest;
+    cut = lists.cuts _ needs.rest needs.cut;
+    not_star = needs.not_star;
+  })

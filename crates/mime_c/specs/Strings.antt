@@ -1,6 +1,6 @@
 -- What is written into the caller's buffer: strings, each with the byte 0 after it.
 use Rattle.std.specs.Prelude.{◌≡◌, ℕ, List, [], ◌∷◌, ◌++◌, length, drop, map, if◌then◌else◌, ◌==◌}
-use Rattle.std.specs.List.{onto_first}
+use Rattle.std.specs.List.{onto_first, flat_map}
 use Rattle.mime.specs.Values.{MediaType}
 use Rattle.mime.specs.Cut.{CutItem, good, bad}
 use Rattle.mime_c.specs.declared.TheConstants.{MIME_GOOD, MIME_BAD}
@@ -11,8 +11,7 @@ string_of text = text ++ 0 ∷ []
 
 -- texts as strings, one after another
 abbrev pub strings : List (List ℕ) → List ℕ
-strings [] = []
-strings (text ∷ texts) = string_of text ++ strings texts
+strings texts = flat_map string_of texts
 
 -- the texts of strings: each ends before its 0
 abbrev pub texts_in : List ℕ → List (List ℕ)

@@ -6,10 +6,10 @@
 
 ghost use Rattle.std.specs.Prelude.{◌≡◌, ◌+◌, ◌<◌, ◌≤◌, ◌∷◌, length, IfOk, IfErr};
 ghost use Rattle.std.specs.Str.{IsUtf8};
-ghost use Rattle.std.proofs.Math.Seq.{paste};
 ghost use Rattle.mime.specs.Values.{Reads};
 ghost use Rattle.mime.specs.CutLaws.{IsRead};
 ghost use Rattle.mime_c.specs.Strings.{string_of, strings, texts_of, written};
+ghost use Rattle.mime_c.specs.Writing.{Writes};
 ghost use Rattle.mime_c.specs.Answers.{number_of, found_of_fault, found_of, Fails, ReadsTo, ListsTo, Compares};
 
 pub mod laws;
@@ -111,6 +111,7 @@ fn found_of_fault(fault: &ParseError) -> MimeFound
 }
 
 /// The media type that a text is read as.
+#[tactic(auto, using(crate::specs::Answers::is_not_text))]
 fn read(alloc: Global, text: &[u8]) -> Result<Mime, Failure>
     ensures read { IfOk result (λ mime. IsUtf8 text.now × Reads text.now mime.media) }
     ensures fails { IfErr result (λ failure. Fails text.now failure.answer failure.found) }
@@ -133,16 +134,25 @@ fn read(alloc: Global, text: &[u8]) -> Result<Mime, Failure>
     }
 }
 
+/// Copies bytes to a position, and gives the position after them.
+fn copy(out: &mut [u8], at: usize, bytes: &[u8]) -> usize
+    requires { at + length bytes.now ≤ length out.old }
+    ensures end { result ≡ at + length bytes.now }
+    ensures writes { Writes out.old at bytes.now out.new result }
+{
+    let end = at + bytes.len();
+    out[at..end].copy_from_slice(bytes);
+    end
+}
+
 /// Writes a text and a 0 at a position, and gives the position after them.
+#[tactic(auto, using(crate::proofs::Writing::both_written))]
 fn put(out: &mut [u8], at: usize, text: &str) -> usize
     requires { at + length text.now < length out.old }
-    ensures end { result ≡ at + (length text.now + 1) }
-    ensures bytes { out.new ≡ paste out.old at (string_of text.now) (length text.now + 1) }
+    ensures { Writes out.old at (string_of text.now) out.new result }
 {
-    let end = at + text.len();
-    out[at..end].copy_from_slice(text.as_bytes());
-    out[end] = 0;
-    end + 1
+    let end = copy(out, at, text.as_bytes());
+    copy(out, end, b"\0")
 }
 
 /// Writes the strings of a media type, and says what is found.
@@ -173,6 +183,7 @@ fn put_parts(out: &mut [u8], mime: &Mime) -> MimeFound
 /// Reads a media type from the whole of `text`, and writes its parts and the text that it is printed as to `out`, whose
 /// first `2 * text.len() + 2` bytes are enough.
 #[unsafe(no_mangle)]
+#[tactic(auto, using(crate::specs::Answers::has_no_room, crate::specs::Answers::fails, crate::specs::Answers::is_read, crate::proofs::NoZero::texts_come_back, crate::proofs::Room::texts_fit))]
 pub extern "C" fn mime_read(
     alloc: Global,
     text: &[u8],
@@ -198,18 +209,19 @@ pub extern "C" fn mime_read(
 }
 
 /// Writes an item of a list at a position, and gives the position after it.
+#[tactic(auto, using(crate::proofs::Writing::both_written))]
 fn put_item(out: &mut [u8], at: usize, mark: u8, text: &str) -> usize
     requires { at + length (mark ∷ text.now) < length out.old }
-    ensures end { result ≡ at + (length (mark ∷ text.now) + 1) }
-    ensures bytes { out.new ≡ paste out.old at (string_of (mark ∷ text.now)) (length (mark ∷ text.now) + 1) }
+    ensures { Writes out.old at (string_of (mark ∷ text.now)) out.new result }
 {
-    out[at] = mark;
-    put(out, at + 1, text)
+    let next = copy(out, at, &[mark]);
+    put(out, next, text)
 }
 
 /// Takes the media types one by one out of `text`, and writes a string for each, and for each bad piece, to `out`, whose
 /// first `2 * text.len()` bytes are enough.
 #[unsafe(no_mangle)]
+#[tactic(auto, using(crate::specs::Answers::has_no_room, crate::specs::Answers::is_not_text))]
 pub extern "C" fn mime_list(alloc: Global, text: &[u8], out: &mut [u8], length: &mut usize) -> u32
     ensures { ListsTo text.now out.old result out.new length.new }
 {
@@ -234,6 +246,7 @@ pub extern "C" fn mime_list(alloc: Global, text: &[u8], out: &mut [u8], length: 
 
 /// Sets `equal` to 1 if two texts are read as equal media types, else to 0.
 #[unsafe(no_mangle)]
+#[tactic(auto, using(crate::specs::Answers::first_fails, crate::specs::Answers::second_fails))]
 pub extern "C" fn mime_is(alloc: Global, one: &[u8], other: &[u8], equal: &mut u8) -> u32
     ensures { Compares one.now other.now result equal.new }
 {

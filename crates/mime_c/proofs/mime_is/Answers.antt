@@ -1,26 +1,9 @@
--- Each answer is what it says.
-use Rattle.std.proofs.Common.{◌≡◌, Bool, true, false, refl, sym, ◌∙◌, subst}
-use Rattle.std.specs.Prelude.{if◌then◌else◌}
-use mir.Val.{bool_byte}
-use Rattle.mime_c.specs.declared.TheConstants.{MIME_OK}
-use Rattle.mime_c.specs.Answers.{Compares, are_read, first_fails, second_fails}
+-- The byte says whether both are read as equal.
+use Rattle.mime_c.proofs.OneOutcome.{compared}
 use Rattle.mime_c.proofs.mime_is.Goals as goal
-
-pub returns-in-Err : goal.returns-in-Err
-returns-in-Err c = first_fails c.in-Err.failure.answer c.in-Err.failure.found c.in-Err.ensures.fails
-
-pub returns-in-Err-read : goal.returns-in-Err-read
-returns-in-Err-read c =
-    let one = c.in-Ok.ensures.read in
-    second_fails c.in-Ok.mime.media c.in-Err-read.failure.answer c.in-Err-read.failure.found one.0 one.1 c.in-Err-read.ensures.fails
-
-byte_of : (equal : Bool) → (if equal then 1 else 0) ≡ bool_byte equal
-byte_of true = refl
-byte_of false = refl
 
 pub returns : goal.returns
 returns c =
     let one = c.in-Ok.ensures.read in
     let other = c.in-Ok-read.ensures.read in
-    subst (Compares c.args.one.now c.args.other.now MIME_OK) (byte_of c.eq.result ∙ sym c.from.ensures)
-    (are_read _ _ c.eq.result one.0 other.0 one.1 other.1 c.eq.ensures.same)
+    compared _ _ _ _ c.eq.result _ one.0 other.0 one.1 other.1 c.eq.ensures.same c.from.ensures

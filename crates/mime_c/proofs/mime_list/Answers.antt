@@ -1,60 +1,46 @@
 -- Each item is written after those before it, and each answer is what it says.
-use Rattle.std.proofs.Common.{◌≡◌, ◌∷◌, refl, ap, sym, ◌∙◌, subst, rules, arith, Some, Err}
-use Rattle.mime.specs.Runs.{GivesItem}
+use Rattle.std.proofs.Common.{◌≡◌, ◌∷◌, refl, ap, ◌∙◌, subst, rules, arith, Result, Some, Err}
+use Rattle.mime.specs.Values.{OwnedMedia}
+use Rattle.mime.specs.Runs.{Iteration, IsNext, GivesItem}
+use Rattle.mime.specs.declared.iter.Bad.{Bad}
 use Rattle.mime.specs.declared.iter.Bad.TheVariants.{Piece, NoMemory}
-use Rattle.mime_c.specs.Answers.{is_not_text, has_no_room}
 use Rattle.mime_c.specs.declared.TheConstants.{MIME_GOOD, MIME_BAD}
-use Rattle.mime_c.proofs.Listing.{Lists, lists-first, lists-fits, lists-next, lists-last, lists-no_memory}
+use Rattle.mime_c.proofs.Writing.{lists-fits, lists-next, lists-last, lists-no_memory}
 use Rattle.mime_c.proofs.mime_list.Goals as goal
 
-pub returns-then-out-text : goal.returns-then-out-text
-returns-then-out-text c = has_no_room (omega (arith, c.if-out-text.true))
-
-pub returns-in_default : goal.returns-in_default
-returns-in_default c = is_not_text (omega (arith, c.if-out-text.false)) c.in_default.ensures.cases.0
-
-pub loop-item-init : goal.loop-item-init
-loop-item-init c =
-    let left = ap (λ i. i.left) c.into_iter-item-iterator.ensures.into_iter_gives ∙ c.new-item-items.ensures.left ∙ c.in-Ok.ensures.cases.0 in
-    subst (Lists c.args.text.now c.args.out.now c.args.out.now 0) (sym left)
-    (lists-first c.args.text.now c.args.out.now (omega (arith, c.if-out-text.false)))
+-- what is given, as it is matched
+gives : {old new : Iteration} {item seen : Result OwnedMedia Bad} → item ≡ seen → IsNext old (Some item) new → GivesItem old (Some seen) new
+gives {old} {new} is next = subst (λ item. GivesItem old (Some item) new) is next.item
 
 pub put_item-at-requires : goal.put_item-at-requires
 put_item-at-requires c =
-    let gives = subst (λ it. GivesItem c.loop-item.item-iterator (Some it) c.next.new.self) c.in-Ok-item.is c.in-Some.ensures.steps.item in
-    lists-fits _ _ _ _ _ (MIME_GOOD ∷ c.as_str.result.now) _ _ c.loop-item.invariant gives.1
-    (ap (λ kept. MIME_GOOD ∷ kept) (sym c.as_str.ensures.text))
+    lists-fits c.loop-item.invariant (gives c.in-Ok-item.is c.in-Some.ensures.steps).1 (MIME_GOOD ∷ c.as_str.result.now) (cc)
+    (omega (arith, c.if-out-text.false))
 
 pub loop-item-preserved-in-Ok-item : goal.loop-item-preserved-in-Ok-item
 loop-item-preserved-in-Ok-item c =
-    let gives = subst (λ it. GivesItem c.loop-item.item-iterator (Some it) c.next.new.self) c.in-Ok-item.is c.in-Some.ensures.steps.item in
-    lists-next _ _ _ _ _ _ (MIME_GOOD ∷ c.as_str.result.now) _ _ _ c.loop-item.invariant gives.1
-    (ap (λ kept. MIME_GOOD ∷ kept) (sym c.as_str.ensures.text)) c.put_item-at.ensures.end c.put_item-at.ensures.bytes
+    lists-next c.loop-item.invariant (gives c.in-Ok-item.is c.in-Some.ensures.steps).1 (MIME_GOOD ∷ c.as_str.result.now) _ _ (cc) c.put_item-at.ensures
 
 pub loop-item-preserved-in-Ok-item-2 : goal.loop-item-preserved-in-Ok-item-2
 loop-item-preserved-in-Ok-item-2 c =
-    let gives = subst (λ it. GivesItem c.loop-item.item-iterator (Some it) c.next.new.self) c.in-Ok-item.is c.in-Some.ensures.steps.item in
-    lists-next _ _ _ _ _ _ (MIME_GOOD ∷ c.as_str.result.now) _ _ _ c.loop-item.invariant gives.1
-    (ap (λ kept. MIME_GOOD ∷ kept) (sym c.as_str.ensures.text)) c.put_item-at.ensures.end c.put_item-at.ensures.bytes
+    lists-next c.loop-item.invariant (gives c.in-Ok-item.is c.in-Some.ensures.steps).1 (MIME_GOOD ∷ c.as_str.result.now) _ _ (cc) c.put_item-at.ensures
 
 pub put_item-at-requires-in-Err-Piece : goal.put_item-at-requires-in-Err-Piece
 put_item-at-requires-in-Err-Piece c =
     let is : c.in-Some.item ≡ Err (Piece c.in-Err-Piece.piece) = c.in-Err-Piece.is ∙ ap Err (search rules) in
-    let gives = subst (λ it. GivesItem c.loop-item.item-iterator (Some it) c.next.new.self) is c.in-Some.ensures.steps.item in
-    lists-fits _ _ _ _ _ (MIME_BAD ∷ c.in-Err-Piece.piece.now) _ _ c.loop-item.invariant gives.0 refl
+    lists-fits c.loop-item.invariant (gives is c.in-Some.ensures.steps).0 (MIME_BAD ∷ c.in-Err-Piece.piece.now) refl
+    (omega (arith, c.if-out-text.false))
 
 pub loop-item-preserved : goal.loop-item-preserved
 loop-item-preserved c =
     let is : c.in-Some.item ≡ Err (Piece c.in-Err-Piece.piece) = c.in-Err-Piece.is ∙ ap Err (search rules) in
-    let gives = subst (λ it. GivesItem c.loop-item.item-iterator (Some it) c.next.new.self) is c.in-Some.ensures.steps.item in
-    lists-next _ _ _ _ _ _ (MIME_BAD ∷ c.in-Err-Piece.piece.now) _ _ _ c.loop-item.invariant gives.0 refl
-    c.put_item-at-in-Err-Piece.ensures.end c.put_item-at-in-Err-Piece.ensures.bytes
+    lists-next c.loop-item.invariant (gives is c.in-Some.ensures.steps).0 (MIME_BAD ∷ c.in-Err-Piece.piece.now) _ _ refl
+    c.put_item-at-in-Err-Piece.ensures
 
 pub returns-in-Err-NoMemory : goal.returns-in-Err-NoMemory
 returns-in-Err-NoMemory c =
     let is : c.in-Some.item ≡ Err NoMemory = c.in-Err-NoMemory.is ∙ ap Err (search rules) in
-    let gives = subst (λ it. GivesItem c.loop-item.item-iterator (Some it) c.next.new.self) is c.in-Some.ensures.steps.item in
-    lists-no_memory _ _ _ _ c.loop-item.at (omega (arith, c.if-out-text.false)) (search rules) c.loop-item.invariant gives.0
+    lists-no_memory c.loop-item.invariant (omega (arith, c.if-out-text.false)) (search rules) (gives is c.in-Some.ensures.steps).0
 
 pub returns : goal.returns
-returns c = lists-last _ _ _ _ _ (omega (arith, c.if-out-text.false)) (search rules) c.loop-item.invariant c.in-None.ensures.steps.item.0
+returns c = lists-last c.loop-item.invariant (omega (arith, c.if-out-text.false)) (search rules) c.in-None.ensures.steps.item.0

@@ -1,5 +1,5 @@
--- The items of what is left are left to write.
-use Rattle.mime_c.proofs.Listing.{Lists}
+-- Of the items of the text those are written that aren't items of what is left.
+use Rattle.mime_c.proofs.Writing.{Lists}
 use Rattle.mime_c.proofs.mime_list.Given as goal
 
 abbrev pub invariant-loop-item : goal.invariant-loop-item

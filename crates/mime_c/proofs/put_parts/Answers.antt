@@ -1,57 +1,53 @@
 -- String after string is written, and what is found is in the essence.
-use Rattle.std.proofs.Common.{◌≡◌, ◌+◌, ap, refl, sym, ◌∙◌, subst, ◌++◌, ◌∷◌, [], length}
-use Rattle.mime.specs.Items.{items_of}
-use Rattle.mime_c.specs.Strings.{texts_of, pair_texts}
-use Rattle.mime_c.proofs.Writing.{Fills, fills-first, fills-fits, fills-next, fills-last}
-use Rattle.mime_c.proofs.Parts.{given_texts, given_texts-items_of, given-next, given-last, found-there}
+use Rattle.std.proofs.Common.{◌≡◌, ℕ, ◌∷◌, [], length, refl, ap, ◌∙◌, arith, length-append}
+use Rattle.std.proofs.lemmas.List.{length-map}
+use Rattle.std.proofs.lemmas.List.Concat.{flat_map-append}
+use Rattle.mime.specs.Items.{item_of}
+use Rattle.mime_c.specs.Strings.{string_of, strings, parts_of}
+use Rattle.mime_c.proofs.Writing.{leaves-first, leaves-fits, leaves-next, leaves-last, given-first, given-next, given-last}
 use Rattle.mime_c.proofs.put_parts.Goals as goal
 
 pub loop-name-init : goal.loop-name-init
 loop-name-init c =
-    let media = c.args.mime.now.media in
-    let given : c.into_iter-name-iterator.result ≡ items_of media.pairs =
-    c.into_iter-name-iterator.ensures.into_iter_gives ∙ c.params-params.ensures.items in
-    let left = ap (λ texts. texts ++ media.kept ∷ []) (ap given_texts given ∙ given_texts-items_of media.pairs) in
-    subst (Fills c.args.out.now (texts_of media) c.put-at.new.out c.put-at.result) (sym left)
-    (fills-next _ _ _ _ _ _ _ c.essence_str.result.now (pair_texts media.pairs ++ media.kept ∷ [])
-    (fills-first c.args.out.now (texts_of media) c.requires.room)
-    (ap (λ text. text ∷ pair_texts media.pairs ++ media.kept ∷ []) (sym c.essence_str.ensures)) c.put-at.ensures.end c.put-at.ensures.bytes)
+    leaves-next (leaves-first _ _) _ _ _ _
+    (given-first c.args.mime.now.media _ _ (c.into_iter-name-iterator.ensures.into_iter_gives ∙ c.params-params.ensures.items) c.essence_str.ensures)
+    c.put-at.ensures
 
 pub put-at-requires-in-loop-name : goal.put-at-requires-in-loop-name
 put-at-requires-in-loop-name c =
-    fills-fits _ _ _ _ _ c.as_str.result.now _ c.loop-name.invariant
-    (given-next _ _ _ c.args.mime.now.media.kept _ _ c.in-Some.ensures.steps c.as_str.ensures refl)
+    leaves-fits c.loop-name.invariant c.as_str.result.now _ (given-next _ _ _ _ _ _ c.in-Some.ensures.steps c.as_str.ensures refl) c.requires.room
 
 pub put-at-requires-in-loop-name-2 : goal.put-at-requires-in-loop-name-2
 put-at-requires-in-loop-name-2 c =
-    let name = fills-next _ _ _ _ _ _ _ c.as_str.result.now _ c.loop-name.invariant
-    (given-next _ _ _ c.args.mime.now.media.kept _ _ c.in-Some.ensures.steps c.as_str.ensures c.as_str-in-loop-name.ensures)
-    c.put-at-in-loop-name.ensures.end c.put-at-in-loop-name.ensures.bytes in
-    fills-fits _ _ _ _ _ c.as_str-in-loop-name.result.now _ name refl
+    leaves-fits
+    (leaves-next c.loop-name.invariant _ _ _ _ (given-next _ _ _ _ _ _ c.in-Some.ensures.steps c.as_str.ensures c.as_str-in-loop-name.ensures)
+    c.put-at-in-loop-name.ensures) c.as_str-in-loop-name.result.now _ refl c.requires.room
 
 pub loop-name-preserved : goal.loop-name-preserved
 loop-name-preserved c =
-    let name = fills-next _ _ _ _ _ _ _ c.as_str.result.now _ c.loop-name.invariant
-    (given-next _ _ _ c.args.mime.now.media.kept _ _ c.in-Some.ensures.steps c.as_str.ensures c.as_str-in-loop-name.ensures)
-    c.put-at-in-loop-name.ensures.end c.put-at-in-loop-name.ensures.bytes in
-    fills-next _ _ _ _ _ _ _ c.as_str-in-loop-name.result.now _ name refl c.put-at-in-loop-name-2.ensures.end c.put-at-in-loop-name-2.ensures.bytes
+    leaves-next
+    (leaves-next c.loop-name.invariant _ _ _ _ (given-next _ _ _ _ _ _ c.in-Some.ensures.steps c.as_str.ensures c.as_str-in-loop-name.ensures)
+    c.put-at-in-loop-name.ensures) _ _ _ _ refl c.put-at-in-loop-name-2.ensures
 
 pub put-requires : goal.put-requires
 put-requires c =
-    fills-fits _ _ _ _ _ c.as_str-2.result.now [] c.loop-name.invariant (given-last _ _ _ c.in-None.ensures.steps.0 c.as_str-2.ensures.text)
+    leaves-fits c.loop-name.invariant c.as_str-2.result.now [] (given-last _ _ _ c.in-None.ensures.steps.0 c.as_str-2.ensures.text) c.requires.room
 
-pub returns-clause-bytes : goal.returns-clause-bytes
-returns-clause-bytes c =
-    (fills-last _ (texts_of c.args.mime.now.media) _ _ (fills-next _ _ _ _ _ _ _ c.as_str-2.result.now [] c.loop-name.invariant
-    (given-last _ _ _ c.in-None.ensures.steps.0 c.as_str-2.ensures.text) c.put.ensures.end c.put.ensures.bytes)).0
-
-pub returns-clause-found : goal.returns-clause-found
-returns-clause-found c =
+pub returns : goal.returns
+returns c =
     let media = c.args.mime.now.media in
-    let last = fills-last _ (texts_of media) _ _ (fills-next _ _ _ _ _ _ _ c.as_str-2.result.now [] c.loop-name.invariant
-    (given-last _ _ _ c.in-None.ensures.steps.0 c.as_str-2.ensures.text) c.put.ensures.end c.put.ensures.bytes) in
-    let count : c.size_hint-count.result.0 ≡ length (items_of media.pairs) =
-    ap (λ hint. hint.0) c.size_hint-count.ensures.exact ∙ ap length c.params-params.ensures.items in
-    found-there media _ _ _ _ _ last.1 count
-    (c.put.ensures.end ∙ ap (λ text. c.loop-name.at + (length text + 1)) c.as_str-2.ensures.text)
-    (ap length c.as_str-slash.ensures ∙ ap length c.type_.ensures.text) (ap length c.as_str-3.ensures ∙ ap length c.subtype.ensures.text)
+    let left = given-last _ _ _ c.in-None.ensures.steps.0 c.as_str-2.ensures.text in
+    let last = leaves-last (leaves-next c.loop-name.invariant _ _ _ _ left c.put.ensures) in
+    let params : c.size_hint-count.result.0 ≡ length media.pairs =
+    ap (λ hint. hint.0) c.size_hint-count.ensures.exact ∙ ap length c.params-params.ensures.items ∙ length-map media.pairs item_of in
+    let printed : c.loop-name.at ≡ length (strings (parts_of media)) =
+    omega (
+      arith,
+      c.loop-name.invariant.wrote.end,
+      ap length c.loop-name.invariant.onward,
+      ap length left,
+      ap length (flat_map-append string_of (parts_of media) (media.kept ∷ [])),
+      ap length c.as_str-2.ensures.text,
+      length-append {A = ℕ},
+    ) in
+    record { bytes = last.there; found = cc (last.end, params, printed) }

@@ -1,11 +1,8 @@
 -- A failure is what it says.
 use Rattle.std.proofs.Common.{ap, ◌∙◌, subst, rules}
 use Rattle.mime.specs.Refusals.{Explains}
-use Rattle.mime_c.specs.Answers.{number_of, found_of_fault, is_refused, is_not_text}
+use Rattle.mime_c.specs.Answers.{number_of, found_of_fault, is_refused}
 use Rattle.mime_c.proofs.read.Goals as goal
-
-pub returns-in_default-clause-fails : goal.returns-in_default-clause-fails
-returns-in_default-clause-fails c = is_not_text c.in_default.ensures.cases.0
 
 pub returns-in-Err-clause-fails : goal.returns-in-Err-clause-fails
 returns-in-Err-clause-fails c =
