@@ -124,11 +124,10 @@ different_values one other first second reads also d same =
     let begins = stripped-reads one first reads in
     let other_begins = stripped-reads other second also in
     let whole : stripped_value first ≡ stripped_value second = cc in
-    d.first.differ (same_byte (filter reaches_value (take d.at (lowered one))) _ _ _ _ begins.rest other_begins.rest
-    (sym (ap (λ t. t ++ begins.rest) (stripped-at one d.at d.first.within d.reaches)) ∙ sym begins.is ∙ whole ∙ other_begins.is
-    ∙ ap (λ t. t ++ other_begins.rest) (stripped-at other d.at d.first.within_other d.other_reaches
-    ∙ ap (λ t. filter reaches_value t ++ (to_ascii_lowercase (slice_index other d.at) ∷ stripped (drop (d.at + 1) other)))
-    (sym d.first.equal_before))))
+    let cut = stripped-at one d.at d.first.within d.reaches in
+    let other_cut = rw (← d.first.equal_before) at (stripped-at other d.at d.first.within_other d.other_reaches) in
+    let both = rw (cut, other_cut) at (sym begins.is ∙ whole ∙ other_begins.is) in
+    d.first.differ (same_byte (filter reaches_value (take d.at (lowered one))) _ _ _ _ begins.rest other_begins.rest both)
 
 -- a text whose first difference from a kept text reaches the value isn't that value
 pub text_is-different_values : (kept text : List ℕ) (value : MediaType) → Reads kept value → DifferInValue kept text → TextIs value text → ⊥

@@ -135,8 +135,7 @@ low_pairs ((name, value) ∷ pairs) = (cc (lowered-lowered name, lowered_value-l
 -- the pairs of a value that was read are low
 pub read-low_pairs : (text : List ℕ) (value : MediaType) → Reads text value → AreLowPairs value.pairs
 read-low_pairs text value reads =
-    subst (λ (v : MediaType). AreLowPairs v.pairs) reads.valued
-    (subst AreLowPairs (sym (pairs_of_tail-lowered reads.tree.tail)) (low_pairs (pairs_of_tail reads.tree.tail)))
+    subst (λ (v : MediaType). AreLowPairs v.pairs) reads.valued (rw (pairs_of_tail-lowered reads.tree.tail) (low_pairs _))
 
 -- ---- the items of pairs
 

@@ -67,10 +67,6 @@ finds_media x y =
     (finds_texts x.essence y.essence) (exact_texts x.essence y.essence)
     (finds_lists pair_cmp IsPairBefore finds_pairs (exact pair_cmp_total (exact_pairs _ _ exact_bytes exact_bytes)) x.pairs y.pairs)
 
--- a value before another is less
-less-media : (x y : MediaType) → Before x y → media_cmp x y ≡ Less
-less-media x y = (finds_media x y).1
-
 -- what the order of values says: the first comes before the second, they are equal, or the second comes first
 pub tells_media : (x y : MediaType) → MatchOrdering (media_cmp x y) (Before x y) (Same x y) (Before y x)
 tells_media x y = go (media_cmp x y) refl
@@ -89,23 +85,20 @@ tells_answer x y answer is = subst (λ order. MatchOrdering order (Before x y) (
 pub equal-media : (x y : MediaType) → Same x y → media_cmp x y ≡ Equal
 equal-media x y same = cc (same.0, same.1, tied_itself media_cmp_total y)
 
-less-not_equal : (o : Ordering) → o ≡ Less → ¬ (o ≡ Equal)
-less-not_equal o less equal = true≢false (ap is_lt (sym less ∙ equal))
-
 -- neither of two equal values comes before the other
 Before-not_same : (x y : MediaType) → Before x y → ¬ (Same x y)
-Before-not_same x y before same = less-not_equal (media_cmp x y) (less-media x y before) (equal-media x y same)
+Before-not_same x y before same = true≢false (ap is_lt (sym ((finds_media x y).1 before) ∙ equal-media x y same))
 
 -- of two values one at most comes before the other
 Before-not_both : (x y : MediaType) → Before x y → ¬ (Before y x)
 Before-not_both x y before back =
-    true≢false (ap is_lt (sym (less-media x y before) ∙ media_cmp_total.antisymm x y ∙ ap ordering_reverse (less-media y x back)))
+    true≢false (ap is_lt (sym ((finds_media x y).1 before) ∙ media_cmp_total.antisymm x y ∙ ap ordering_reverse ((finds_media y x).1 back)))
 
 -- a value before one that comes before a third comes before the third
 pub Before-transitive : (x y z : MediaType) → Before x y → Before y z → Before x z
 Before-transitive x y z first second =
     subst (λ o. MatchOrdering o (Before x z) (Same x z) (Before z x))
-    (media_cmp_total.trans x y z (less-media x y first) (less-media y z second)) (tells_media x z)
+    (media_cmp_total.trans x y z ((finds_media x y).1 first) ((finds_media y z).1 second)) (tells_media x z)
 
 -- two values are equal exactly where the order finds them equal
 pub eq_by_cmp-tells : (x y : MediaType) → IsTrue (eq_by_cmp media_cmp x y) ↔ Same x y
