@@ -1,9 +1,9 @@
 -- The parts of an essence, and what is printed into a header.
 use Rattle.std.proofs.Common.{◌≡◌, ℕ, ◌+◌, List, ◌∷◌, ◌++◌, length, drop, Option, Some, None, sym, ap, ◌∙◌, subst, refl, arith, zero, suc, ◌-◌, ◌<◌, Bool, true, false, [], take, append_assoc}
-use Rattle.std.specs.Prelude.{slice_get, slice_range, unwrap_or, IsTrue, IsFalse, MatchOption, ◌==◌, ◌&&◌, not}
+use Rattle.std.specs.Prelude.{slice_get, slice_range, unwrap_or, IsFalse, MatchOption, ◌==◌, ◌&&◌, not}
 use Rattle.std.specs.Option.{option_map, IfSome}
-use Rattle.std.proofs.lemmas.List.{take-append-drop, take_at, drop_at, drop-drop, drop_more, drop_all, length-drop}
-use Rattle.std.proofs.lemmas.List.Folds.{drop_split, list_all-append}
+use Rattle.std.proofs.lemmas.List.{take-append-drop, take_at, drop_more, drop_all, length-drop}
+use Rattle.std.proofs.lemmas.List.Folds.{drop_split}
 use Rattle.std.proofs.lemmas.Option.{slice_get_within, get_or_from_slice_get, none-some, option_and_then_some}
 use Rattle.mime.specs.Bytes.{slash_byte, plus_byte, is_token_byte, is_quoted_byte, is_quoted_text_byte, quote_byte}
 use Rattle.mime.specs.Values.{MediaType, Reads, lowered, type_of, subtype_of, suffix_of, lowered_value, lowered_tail, pair_of, pairs_of_list, pairs_of_tail}
@@ -13,7 +13,7 @@ use Rattle.mime.proofs.ValueLemmas.Lowercase.{length-lowered, lowered-lowered, I
 use Rattle.mime.proofs.ValueLemmas.ListText.{flagged, drop_past}
 use Rattle.mime.proofs.ValueLemmas.Parts.{slash_in, plus_in, subtype_end}
 use Rattle.mime.proofs.GrammarLemmas.Readings.{one_reading, walk-accepted}
-use Rattle.std.specs.List.{list_all, AllByRecursion}
+use Rattle.std.specs.List.{AllByRecursion}
 use Rattle.std.proofs.lemmas.Bool.{and_parts, and_from, cond-false}
 use Rattle.std.proofs.lemmas.Bool.Decides.{nat_tests}
 use Rattle.mime.specs.Grammar.{Parameter, plain, quoted, Parameters, blank, final, more, Tail, no_list, listed, SyntaxTree, AreTokenBytes, IsToken, IsContent, IsParameter, AreParameters, IsTail}

@@ -7,7 +7,6 @@ use Rattle.std.specs.Cmp.{IsTotalOrder, on_total, then_total, Equal-is}
 use Rattle.std.specs.Cmp.Lexicographic.{slice_cmp, lists_total, nat_list_cmp_total}
 use Rattle.std.specs.FinMap.{slice_cmp-IsAntisymmetric}
 use Rattle.std.specs.Ordering.{nat_cmp, eq_by_cmp}
-use Rattle.std.proofs.Common.{ap}
 use Rattle.std.proofs.lemmas.Map.Lookups.{exact_bytes, exact_pairs}
 use Rattle.mime.specs.Comparison.{Same, pair_cmp, media_cmp}
 use Rattle.std.specs.Hash as fed

@@ -1,21 +1,18 @@
 -- What a value feeds a hasher: the buffer in which a pair is joined, and that what is fed is prefix-free.
-use Rattle.std.proofs.Common.{◌≡◌, ℕ, suc, ◌+◌, ◌-◌, ◌%◌, ◌<◌, ◌≤◌, List, [], ◌∷◌, ◌++◌, length, take, drop, replicate, refl, sym, ap, ◌∙◌, arith, ◌/◌, Bool, true, false, cond, subst, append-nil, append_assoc, ⊎_elim}
+use Rattle.std.proofs.Common.{◌≡◌, ℕ, suc, ◌+◌, ◌-◌, ◌%◌, ◌<◌, ◌≤◌, List, [], ◌∷◌, ◌++◌, length, take, drop, replicate, refl, sym, ap, ◌∙◌, arith, true, false, cond, subst, append-nil, append_assoc, ⊎_elim}
 use Rattle.std.proofs.Math.ListN.{set}
 use Rattle.std.proofs.Math.Seq.{take-append-add}
 use Rattle.std.proofs.lemmas.List.{append_assoc, take_at, drop_at, set_at, drop-replicate, take-replicate, length-append, append_cancel_left}
 use Rattle.mime.specs.HashInput.{pair_count, pair_run, pair_end, pair_parts, pair_input, media_input}
-use Rattle.std.specs.Prelude.{IsTrue, IsUtf8, nat_lt}
-use Rattle.std.specs.Char.{to_ascii_lowercase}
-use Rattle.std.specs.Hash.{HashWrites}
+use Rattle.std.specs.Prelude.{IsUtf8, nat_lt}
 use Rattle.std.specs.List.{list_all, flat_map, concat, AllByRecursion}
-use Rattle.std.proofs.lemmas.Bool.{and_parts, and_from, cond_both}
+use Rattle.std.proofs.lemmas.Bool.{and_parts, and_from}
 use Rattle.std.proofs.lemmas.Bool.Decides.{nat_tests}
 use Rattle.std.proofs.lemmas.List.Concat.{flat_map-cons}
 use Rattle.std.proofs.lemmas.List.Folds.{concat-append, list_all-append}
 use Rattle.mime.specs.Bytes.{is_token_byte, slash_byte}
-use Rattle.mime.specs.Grammar.{Parameter, plain, quoted, Parameters, blank, final, more, Tail, no_list, listed, AreTokenBytes, IsParameter, AreParameters, IsTail, text_of, text_of_parameter, text_of_list, text_of_tail}
-use Rattle.mime.specs.Values.{MediaType, Reads, lowered, lowered_parameter, lowered_list, lowered_tail, pair_of, pairs_of_list, pairs_of_tail}
-use Rattle.mime.specs.Comparison.{Same}
+use Rattle.mime.specs.Grammar.{Parameter, plain, quoted, Parameters, blank, final, more, Tail, no_list, listed, AreTokenBytes, IsParameter, AreParameters, IsTail, text_of_parameter, text_of_list, text_of_tail}
+use Rattle.mime.specs.Values.{MediaType, lowered, lowered_parameter, lowered_list, lowered_tail, pair_of, pairs_of_list, pairs_of_tail}
 use Rattle.mime.specs.HashLaws.{IsReadInUtf8, IsPrefixFree}
 use Rattle.mime.proofs.BytesLemmas.{list_all-parts, list_all-wider, is_other, AreTokenBytes-from_token, are_other-token}
 use Rattle.mime.proofs.ValueLemmas.Lowercase.{IsToken-lowered, list_all-lowered, lowered_value-either}

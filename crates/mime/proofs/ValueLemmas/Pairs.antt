@@ -4,11 +4,11 @@ use Rattle.std.specs.Prelude.{IsTrue, ◌==◌, ◌&&◌, not}
 use Rattle.std.specs.List.{position_or_len}
 use Rattle.std.proofs.lemmas.List.{drop_more, drop_all, take_at, drop_at, drop-drop, take-append-drop}
 use Rattle.std.proofs.lemmas.Bool.{and_parts, cond-false, eqb-true, true≢false, cond_both}
-use Rattle.mime.specs.Bytes.{quote_byte, backslash_byte, semicolon_byte, equals_byte}
+use Rattle.mime.specs.Bytes.{quote_byte, backslash_byte, equals_byte}
 use Rattle.mime.specs.Grammar.{IsContent}
 use Rattle.mime.specs.Blocks.{first_position, before_byte, after_byte, IsEndOf}
 use Rattle.mime.proofs.BlocksLemmas.{end_all, end_drop}
-use Rattle.mime.specs.Quoted.{awaits_first, awaits_next, takes, takes_all, awaits_after, len_from, content_len, after_content}
+use Rattle.mime.specs.Quoted.{awaits_first, awaits_next, takes, takes_all, awaits_after, len_from, content_len}
 use Rattle.mime.proofs.GrammarLemmas.Content.{taken-closes_not, content-taken, content-awaits}
 use Rattle.mime.specs.Values.{lowered, lowered_value}
 use Rattle.mime.specs.Pairs.{PairCut, cut_after_equals, leading_spaces, without_spaces, cut_of, lowered_first, lowered_within}

@@ -2,7 +2,7 @@
 use Rattle.std.proofs.Common.{◌≡◌, ℕ, List, [], ◌∷◌, refl, sym, ap, ◌∙◌, subst, ◌+◌, length, take, drop, Option, Some, None, codes}
 use Rattle.std.specs.Prelude.{◌≢◌, Result, Ok, Err, IfErr, codes, unwrap_or}
 use Rattle.mime.specs.Bytes.{is_token_byte, space_byte}
-use Rattle.mime.specs.Grammar.{SyntaxTree, no_list, IsWellFormed, plain, final, Tail, listed, text_of, IsToken, IsTail}
+use Rattle.mime.specs.Grammar.{SyntaxTree, no_list, plain, final, Tail, listed, text_of, IsToken, IsTail}
 use Rattle.mime.specs.Values.{value_of, IsAccepted, IsRefused, lowered_tree}
 use Rattle.mime.specs.Refusals.{IsFault, Explains}
 use Rattle.mime.specs.Scanning.{HasPositions, positions_of}

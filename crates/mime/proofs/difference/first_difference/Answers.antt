@@ -1,6 +1,6 @@
 -- Texts are equal block by block, up to one that differs; the last block may overlap the one before.
-use Rattle.std.proofs.Common.{◌≡◌, ◌≤◌, ◌-◌, ◌+◌, ℕ, List, take, length, sym, ap, ◌∙◌, arith, refl}
-use Rattle.std.proofs.lemmas.List.{take-take, take_all}
+use Rattle.std.proofs.Common.{◌≡◌, ◌-◌, ◌+◌, length, sym, ◌∙◌, arith, refl}
+use Rattle.std.proofs.lemmas.List.{take_all}
 use Rattle.mime.specs.Values.{lowered}
 use Rattle.mime.proofs.ValueLemmas.Lowercase.{length-lowered}
 use Rattle.mime.proofs.DifferenceLemmas.{shorter, equal_onward, difference_onward}
