@@ -16,12 +16,16 @@ use Rattle.mime.specs.Blocks.{mask_of, IsEndOf, first_position}
 end_nothing : (whole : List ℕ) → IsEndOf [] whole
 end_nothing whole = sym (drop_all (length whole - 0) whole (omega arith))
 
+-- all of a list is an end of it
+pub end_all : (whole : List ℕ) → IsEndOf whole whole
+end_all whole = let none : 0 ≡ length whole - length whole = omega arith in ap (λ n. drop n whole) none
+
 -- the length of an end
 pub end-le : (text whole : List ℕ) → IsEndOf text whole → length text ≤ length whole
 end-le text whole is = omega (arith, ap length is, length-drop (length whole - length text) whole)
 
 -- an end of an end
-end_drop : (n : ℕ) (text whole : List ℕ) → IsEndOf text whole → IsEndOf (drop n text) whole
+pub end_drop : (n : ℕ) (text whole : List ℕ) → IsEndOf text whole → IsEndOf (drop n text) whole
 end_drop n text whole is =
     elim (cases_lt (length text) n) [
       | inl past ↦ subst (λ end. IsEndOf end whole) (sym (drop_all n text (omega (arith, past)))) (end_nothing whole)
@@ -51,9 +55,7 @@ split byte text n =
 position-unflagged : (byte : ℕ) (text : List ℕ) (n : ℕ) → n ≤ length text → mask_of byte (take n text) ≡ 0
     → first_position byte text ≡ n + first_position byte (drop n text)
 position-unflagged byte text n room none =
-    split byte text n
-    ∙ ap (λ b. cond b (length (take n text) + first_position byte (drop n text)) (first_position byte (take n text)))
-    (eq-eqb _ _ (leading_from_mask_l (λ b. b == byte) (take n text) none))
+    split byte text n ∙ cond-true _ _ _ (eq-eqb _ _ (leading_from_mask_l (λ b. b == byte) (take n text) none))
     ∙ ap (λ k. k + first_position byte (drop n text)) (length-take-le n text room)
 
 -- else the lowest flag is the first position
@@ -61,9 +63,8 @@ pub position-flagged : (byte : ℕ) (text : List ℕ) (n : ℕ) → n ≤ length
     → first_position byte text ≡ count_trailing_zeros 64 (mask_of byte (take n text))
 position-flagged byte text n room few some =
     let prefix = take n text in
-    split byte text n
-    ∙ ap (λ b. cond b (length prefix + first_position byte (drop n text)) (first_position byte prefix))
-    (ne_eqb _ _ (λ (e : first_position byte prefix ≡ length prefix). omega (arith, some, all_pass (λ b. b == byte) prefix e)))
+    let stops : first_position byte prefix ≢ length prefix = λ e. omega (arith, some, all_pass (λ b. b == byte) prefix e) in
+    split byte text n ∙ cond-false _ _ _ (ne_eqb _ _ stops)
     ∙ sym (trailing_mask_l (λ b. b == byte) 64 prefix (omega (arith, few, length-take-le n text room)) some)
 
 -- a bit mask without its lowest bit, and without more of them

@@ -2,6 +2,7 @@
 use Rattle.std.proofs.Common.{◌≡◌, ℕ, ◌<◌, Bool, List, get_or, map, ap, sym, ◌∙◌, arith, length, true, subst, zero-add, suc, ◌+◌, [], ◌∷◌, ◌++◌, Some, slice_get, refl, false, ◌==◌}
 use Rattle.std.specs.List.{range_with_len, list_all}
 use Rattle.std.proofs.lemmas.List.{get_or-map}
+use Rattle.std.proofs.lemmas.List.Folds.{list_all-append}
 use Rattle.std.proofs.lemmas.List.FromFn.{get_or-map-range_with_len, get_or-range_with_len}
 use Rattle.std.proofs.lemmas.List.Sums.{AllPass-from_list_all, passes_at_first}
 use Rattle.std.specs.Prelude.{IsTrue, IsFalse, ◌==◌, not}
@@ -69,6 +70,11 @@ list_all-wider class wider within [] all = refl
 list_all-wider class wider within (b ∷ bytes) all =
     let parts = and_parts (class b) (list_all class bytes) all in
     and_from (wider b) (list_all wider bytes) (within b parts.0) (list_all-wider class wider within bytes parts.1)
+
+-- the parts of a list of a class are of it
+pub list_all-parts : (class : ℕ → Bool) (prefix back : List ℕ) → list_all class (prefix ++ back) ≡ true
+    → (list_all class prefix ≡ true) × (list_all class back ≡ true)
+list_all-parts class prefix back all = and_parts (list_all class prefix) _ (sym (list_all-append class prefix back) ∙ all)
 
 -- whether a byte differs from a given one
 abbrev pub is_other : ℕ → ℕ → Bool

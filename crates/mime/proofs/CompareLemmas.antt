@@ -1,41 +1,33 @@
 -- A text against a value: what a text has that is equal to the value, and what suffices.
-use Rattle.std.proofs.Common.{◌≡◌, ℕ, ◌+◌, true, false, List, [], ◌∷◌, ◌++◌, length, take, drop, Some, map, refl, sym, ap, ◌∙◌, subst, ◌↔◌, append-nil}
+use Rattle.std.proofs.Common.{◌≡◌, ℕ, ◌+◌, true, arith, List, [], ◌∷◌, ◌++◌, length, take, drop, Some, map, refl, sym, ap, ◌∙◌, subst, ◌↔◌, append-nil}
 use Rattle.std.specs.Prelude.{◌≢◌, ◌==◌, not, codes}
-use Rattle.std.proofs.lemmas.Bool.{and_parts, cond_both}
+use Rattle.std.proofs.lemmas.Bool.{cond_both}
+use Rattle.std.proofs.lemmas.Bool.Decides.{nat_tests}
 use Rattle.std.proofs.lemmas.List.{nil_from_length, take-append-drop}
+use Rattle.std.proofs.lemmas.Option.{same_Some}
 use Rattle.std.specs.List.{list_all}
 use Rattle.std.proofs.lemmas.List.Folds.{list_all-append}
 use Rattle.mime.specs.Bytes.{slash_byte, semicolon_byte, quote_byte}
-use Rattle.mime.specs.Grammar.{plain, quoted, Parameters, blank, final, more, Tail, no_list, listed, SyntaxTree, text_of, text_of_tail, text_of_list, IsToken, IsWellFormed}
-use Rattle.mime.specs.Values.{MediaType, Reads, IsAccepted, value_of, essence_of, lowered, lowered_list, pairs_of_list, pairs_of_tail, is_charset}
+use Rattle.mime.specs.Grammar.{Tail, no_list, listed, SyntaxTree, text_of, text_of_tail, text_of_list, IsToken, IsWellFormed}
+use Rattle.mime.specs.Values.{MediaType, Reads, value_of, essence_of, lowered, lowered_tail, pairs_of_list, pairs_of_tail, is_charset}
 use Rattle.mime.specs.Comparison.{TextIs, HasNoSemicolon}
 use Rattle.mime.specs.Pairs.{PairCut, cut_after_equals, cut_of, pairs_within}
-use Rattle.mime.specs.Scanning.{HasPositions, positions_of, semicolon_of}
+use Rattle.mime.specs.Scanning.{positions_of, semicolon_of}
 use Rattle.mime.specs.KeptText.{lowered_pair}
 use Rattle.mime.specs.ComparedText.{IsListAfter, IsAcceptedAt, IsLoneCharset}
 use Rattle.mime.specs.declared.scan.Positions.{Positions}
-use Rattle.mime.proofs.BytesLemmas.{AreTokenBytes-from_token, are_other-token, semicolon_is_no_token}
+use Rattle.mime.proofs.BytesLemmas.{list_all-parts, AreTokenBytes-from_token, are_other-token, semicolon_is_no_token}
 use Rattle.mime.proofs.ValueLemmas.Parts.{kept-essence, read-low_essence}
-use Rattle.mime.proofs.ValueLemmas.KeptText.{text_of-essence, take-essence, drop-to_semicolon, length-essence_of, slice_get-semicolon, kept_is_read}
-use Rattle.mime.proofs.ValueLemmas.ListText.{pairs_within-text_of_list}
-use Rattle.mime.proofs.ValueLemmas.Lowercase.{lowered-append, length-lowered, length-pairs_lowered}
-use Rattle.mime.proofs.GrammarLemmas.Readings.{one_tree, one_reading}
-use Rattle.mime.proofs.IgnoringCase.{semicolon-lower, case_read, case_read-count, case_read-lone_charset}
+use Rattle.mime.proofs.ValueLemmas.KeptText.{text_of-essence, take-essence, length-essence_of, slice_get-semicolon, kept_is_read, pairs_within-text_of}
+use Rattle.mime.proofs.ValueLemmas.Lowercase.{lowered-append, length-lowered, length-tail_lowered, pairs_of_tail-lowered, list_all-lowered}
+use Rattle.mime.proofs.GrammarLemmas.Readings.{one_reading}
+use Rattle.mime.proofs.IgnoringCase.{case_read, case_read-count, case_read-lone_charset}
 
 -- ---- what an accepted text with parameters is read as
 
 -- a value's essence is its tree's, lowercased
 pub essence-lowered : (tree : SyntaxTree) → (value_of tree).essence ≡ lowered (essence_of tree)
 essence-lowered tree = sym (lowered-append tree.top (slash_byte ∷ tree.sub))
-
--- the pairs of a lowercased list are those of the list, each lowercased
-pairs_of_list-lowered : (list : Parameters) → pairs_of_list (lowered_list list) ≡ map lowered_pair (pairs_of_list list)
-pairs_of_list-lowered (blank n) = refl
-pairs_of_list-lowered (final n (plain name value)) = refl
-pairs_of_list-lowered (final n (quoted name content m)) = refl
-pairs_of_list-lowered (more n (plain name value) rest) = ap (λ pairs. lowered_pair (name, value) ∷ pairs) (pairs_of_list-lowered rest)
-pairs_of_list-lowered (more n (quoted name content m) rest) = ap (λ pairs. lowered_pair (name, content) ∷ pairs)
-    (pairs_of_list-lowered rest)
 
 -- a value's essence is as long as its tree's
 length-value_essence : (tree : SyntaxTree) → length (value_of tree).essence ≡ length tree.top + 1 + length tree.sub
@@ -49,71 +41,48 @@ record ReadAt (text : List ℕ) (end count : ℕ) : Type 0 where
   pairs : value.pairs ≡ map lowered_pair (pairs_within count (drop (end + 1) text))
 
 -- of the text of a tree
-read_at-tree : (top sub : List ℕ) (list : Parameters) → IsWellFormed (record { top = top; sub = sub; tail = listed list })
-    → ReadAt (text_of (record { top = top; sub = sub; tail = listed list })) (length top + 1 + length sub) (length (pairs_of_list list))
-read_at-tree top sub list well =
+read_at-tree : (top sub : List ℕ) (tail : Tail) → let tree : SyntaxTree = record { top = top; sub = sub; tail = tail } in IsWellFormed tree
+    → (end : ℕ) → semicolon_of (length top + 1 + length sub) tail ≡ Some end → ReadAt (text_of tree) end (length (pairs_of_tail tail))
+read_at-tree top sub no_list well end at = absurd cc
+read_at-tree top sub (listed list) well end at =
     let tree : SyntaxTree = record { top = top; sub = sub; tail = listed list } in
-    record {
+    subst (λ n. ReadAt (text_of tree) n (length (pairs_of_list list))) (same_Some (length top + 1 + length sub) end at) (record {
       value = value_of tree;
       reads = record { tree = tree; well_formed = well; spelled = refl; valued = refl };
       essence = essence-lowered tree ∙ ap lowered (sym (take-essence tree));
-      pairs = pairs_of_list-lowered list
-          ∙ ap (map lowered_pair) (sym (ap (pairs_within (length (pairs_of_list list))) (drop-to_semicolon top sub (text_of_list list))
-          ∙ pairs_within-text_of_list list well.2));
-    }
+      pairs = pairs_of_tail-lowered (listed list) ∙ ap (map lowered_pair) (sym (pairs_within-text_of top sub list well.2));
+    })
 
 -- of every such text
 read_at : (text : List ℕ) (end count : ℕ) → IsAcceptedAt text end count → ReadAt text end count
 read_at text end count is =
-    subst (λ t. ReadAt t end count) is.has.spelled
-    (go is.has.tree.top is.has.tree.sub is.has.tree.tail is.has.well_formed
-    (ap (λ (p : Positions). p.semicolon) is.has.same_positions ∙ is.at) (ap (λ (p : Positions). p.pairs) is.has.same_positions ∙ is.counted))
-  where
-    go : (top sub : List ℕ) (tail : Tail) → IsWellFormed (record { top = top; sub = sub; tail = tail })
-        → semicolon_of (length top + 1 + length sub) tail ≡ Some end → length (pairs_of_tail tail) ≡ count
-        → ReadAt (text_of (record { top = top; sub = sub; tail = tail })) end count
-    go top sub no_list well at counted = absurd cc
-    go top sub (listed list) well at counted =
-        let same : length top + 1 + length sub ≡ end = cc in
-        subst (λ n. ReadAt (text_of (record { top = top; sub = sub; tail = listed list })) n count) same
-        (subst (ReadAt (text_of (record { top = top; sub = sub; tail = listed list })) (length top + 1 + length sub)) counted
-        (read_at-tree top sub list well))
+    let tree = is.has.tree in
+    let counted = ap (λ (p : Positions). p.pairs) is.has.same_positions ∙ is.counted in
+    subst (λ t. ReadAt t end count) is.has.spelled (subst (ReadAt (text_of tree) end) counted
+    (read_at-tree tree.top tree.sub tree.tail is.has.well_formed end (ap (λ (p : Positions). p.semicolon) is.has.same_positions ∙ is.at)))
 
 -- a text that is read as a value with pairs is accepted so
 accepted_at : (text : List ℕ) (value : MediaType) → Reads text value → value.pairs ≢ []
     → IsAcceptedAt text (length value.essence) (length value.pairs)
 accepted_at text value reads some =
-    go reads.tree.top reads.tree.sub reads.tree.tail reads.well_formed reads.spelled reads.valued
+    let tree = reads.tree in
+    record {
+      positions = positions_of tree;
+      has = record { tree = tree; well_formed = reads.well_formed; spelled = reads.spelled; same_positions = refl };
+      at = listed_at _ tree.tail (ap (λ (v : MediaType). v.pairs) reads.valued)
+          ∙ ap Some (sym (length-value_essence tree) ∙ ap (λ (v : MediaType). length v.essence) reads.valued);
+      counted = sym (length-tail_lowered tree.tail) ∙ ap (λ (v : MediaType). length v.pairs) reads.valued;
+    }
   where
-    go : (top sub : List ℕ) (tail : Tail) → IsWellFormed (record { top = top; sub = sub; tail = tail })
-        → text_of (record { top = top; sub = sub; tail = tail }) ≡ text → value_of (record { top = top; sub = sub; tail = tail }) ≡ value
-        → IsAcceptedAt text (length value.essence) (length value.pairs)
-    go top sub no_list well spelled valued = absurd (some (ap (λ (v : MediaType). v.pairs) (sym valued)))
-    go top sub (listed list) well spelled valued =
-        let tree : SyntaxTree = record { top = top; sub = sub; tail = listed list } in
-        record {
-          positions = positions_of tree;
-          has = record { tree = tree; well_formed = well; spelled = spelled; same_positions = refl };
-          at = ap Some (sym (length-value_essence tree) ∙ ap (λ (v : MediaType). length v.essence) valued);
-          counted = sym (length-pairs_lowered list) ∙ ap (λ (v : MediaType). length v.pairs) valued;
-        }
+    listed_at : (n : ℕ) (tail : Tail) → pairs_of_tail (lowered_tail tail) ≡ value.pairs → semicolon_of n tail ≡ Some n
+    listed_at n no_list is = absurd (some (sym is))
+    listed_at n (listed list) is = refl
 
 -- the same position and the same number, written in another way
 IsAcceptedAt-same : (text : List ℕ) {end also count number : ℕ} → end ≡ also → count ≡ number → IsAcceptedAt text end count
     → IsAcceptedAt text also number
 IsAcceptedAt-same text {end} {also} {count} {number} ends counts is =
     subst (λ n. IsAcceptedAt text n number) ends (subst (IsAcceptedAt text end) counts is)
-
--- each part of an accepted text has one position
-pub one_positions : (text : List ℕ) (first second : Positions) → HasPositions text first → HasPositions text second → first ≡ second
-one_positions text first second has also =
-    sym has.same_positions ∙ ap positions_of (one_tree has.tree also.tree has.well_formed also.well_formed (has.spelled ∙ sym also.spelled))
-    ∙ also.same_positions
-
--- a text that is accepted with these positions is accepted
-pub IsAccepted-at : (text : List ℕ) (end count : ℕ) → IsAcceptedAt text end count → IsAccepted text
-IsAccepted-at text end count is =
-    (value_of is.has.tree, record { tree = is.has.tree; well_formed = is.has.well_formed; spelled = is.has.spelled; valued = refl })
 
 -- ---- a text against a value with pairs
 
@@ -207,8 +176,7 @@ bare_essence top sub token sub_token =
 -- lowering keeps semicolons
 HasNoSemicolon-lowered : (text : List ℕ)
     → list_all (λ b. not (b == semicolon_byte)) (lowered text) ≡ list_all (λ b. not (b == semicolon_byte)) text
-HasNoSemicolon-lowered [] = refl
-HasNoSemicolon-lowered (b ∷ text) = rw (semicolon-lower b, HasNoSemicolon-lowered text) refl
+HasNoSemicolon-lowered = list_all-lowered (λ b. not (b == semicolon_byte)) (λ b. grind (arith, nat_tests))
 
 -- an accepted text without a semicolon is an essence
 text_of-bare : (tree : SyntaxTree) → HasNoSemicolon (text_of tree) → text_of tree ≡ essence_of tree
@@ -218,8 +186,7 @@ text_of-bare tree bare = go tree.tail (subst HasNoSemicolon (text_of-essence tre
         → tree.top ++ (slash_byte ∷ (tree.sub ++ text_of_tail tail)) ≡ essence_of tree
     go no_list none = ap (λ x. tree.top ++ (slash_byte ∷ x)) (append-nil tree.sub)
     go (listed list) none =
-        let parts = list_all-append (λ b. not (b == semicolon_byte)) (essence_of tree) (semicolon_byte ∷ text_of_list list) in
-        absurd (let last = (and_parts _ false (sym parts ∙ none)).1 in cc)
+        absurd (let parts = list_all-parts _ (essence_of tree) (semicolon_byte ∷ text_of_list list) none in cc)
 
 -- a text that, lowercased, is the essence of a value without pairs is equal to the value
 pub text_is-from_lowered : (text kept : List ℕ) (value : MediaType) → Reads kept value → value.pairs ≡ [] → lowered text ≡ value.essence

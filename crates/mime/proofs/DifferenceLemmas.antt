@@ -22,34 +22,21 @@ use Rattle.mime.proofs.BlocksLemmas.{position-flagged, all_pass}
 pub together : (n m : ℕ) (P Q Whole : Type 0) → (n ≡ 0) ↔ P → (m ≡ 0) ↔ Q → (P → Q → Whole) → (Whole → P × Q) → (bit_or n m ≡ 0) ↔ Whole
 together n m P Q Whole first second whole parts = (
   λ none. whole (first.0 (omega (arith, le_or_l n m))) (second.0 (omega (arith, le_or_r n m))),
-  λ all. let both = parts all in
-      let one = first.1 both.0 in
-      let other = second.1 both.1 in
-      cc (one, other),
+  λ all. let both = parts all in cc (first.1 both.0, second.1 both.1),
 )
 
--- a test of the first bytes of two texts is one of the first bytes of their lowerings
-pub of_first : (W : Type 0) (a b : List ℕ) (block : ℕ) → W ↔ (lowered (take block a) ≡ lowered (take block b))
-    → W ↔ (take block (lowered a) ≡ take block (lowered b))
-of_first W a b block says =
-    let one = lowered-take block a in
-    let other = lowered-take block b in
-    (λ w. sym one ∙ says.0 w ∙ other, λ same. says.1 (one ∙ same ∙ sym other))
+-- the lowercased form of a text's last bytes
+pub lowered_rest : (text : List ℕ) (from : ℕ) → lowered (take (length text - from) (drop from text)) ≡ drop from (lowered text)
+lowered_rest text from = ap lowered (take_rest text from) ∙ lowered-drop from text
 
--- a test of the last bytes of two texts is one of the last bytes of their lowerings
-pub of_last : (W : Type 0) (a b : List ℕ) (from : ℕ)
-    → W ↔ (lowered (take (length a - from) (drop from a)) ≡ lowered (take (length b - from) (drop from b)))
-    → W ↔ (drop from (lowered a) ≡ drop from (lowered b))
-of_last W a b from says = (λ w. sym (ending a) ∙ says.0 w ∙ ending b, λ same. says.1 (ending a ∙ same ∙ sym (ending b)))
-  where
-    ending : (text : List ℕ) → lowered (take (length text - from) (drop from text)) ≡ drop from (lowered text)
-    ending text = ap lowered (take_rest text from) ∙ lowered-drop from text
+-- prefixes that are the same have the same shorter prefixes
+pub shorter : (a b : List ℕ) (n m : ℕ) → n ≤ m → take m a ≡ take m b → take n a ≡ take n b
+shorter a b n m less same = sym (take-take n m a less) ∙ ap (take n) same ∙ take-take n m b less
 
 -- texts that are the same up to a position, and from there or before on, are the same
 pub lapped : (a b : List ℕ) (n last : ℕ) → last ≤ n → take n a ≡ take n b → drop last a ≡ drop last b → a ≡ b
 lapped a b n last after prefix back =
-    let shorter : take last a ≡ take last b = sym (take-take last n a after) ∙ ap (take last) prefix ∙ take-take last n b after in
-    sym (take-append-drop last a) ∙ ap (λ t. t ++ drop last a) shorter ∙ ap (λ t. take last b ++ t) back ∙ take-append-drop last b
+    sym (take-append-drop last a) ∙ (λ i. shorter a b last n after prefix i ++ back i) ∙ take-append-drop last b
 
 -- one more flag
 zip2_push : (f : ℕ → ℕ → ℕ) (xs ys : List ℕ) (x y : ℕ) → length xs ≡ length ys
@@ -69,12 +56,6 @@ one_more f a b flags n room other_room within so_far =
     ∙ zip2_push f (take n a) (take n b) (get_or a n 0) (get_or b n 0)
     (omega (arith, length-take-le n a, length-take-le n b, room, other_room)))
 
--- one more byte
-same_take-cons : (x y n : ℕ) (xs ys : List ℕ) → x ≡ y → take n xs ≡ take n ys → take (1 + n) (x ∷ xs) ≡ take (1 + n) (y ∷ ys)
-same_take-cons x y n xs ys one rest =
-    let next : 1 + n ≡ suc n = omega arith in
-    ap (λ m. take m (x ∷ xs)) next ∙ cc (one, rest) ∙ ap (λ m. take m (y ∷ ys)) (sym next)
-
 -- up to the first flag
 equal_to_flag : (xs ys : List ℕ)
     → take (first_position 1 (zip2 difference_bit xs ys)) (lowered xs) ≡ take (first_position 1 (zip2 difference_bit xs ys)) (lowered ys)
@@ -86,7 +67,11 @@ equal_to_flag (x ∷ xs) (y ∷ ys) = go (to_ascii_lowercase x == to_ascii_lower
         → take (first_position 1 (zip2 difference_bit xs ys)) (lowered xs) ≡ take (first_position 1 (zip2 difference_bit xs ys)) (lowered ys)
         → take (first_position 1 (cond same 0 1 ∷ zip2 difference_bit xs ys)) (lowered (x ∷ xs))
         ≡ take (first_position 1 (cond same 0 1 ∷ zip2 difference_bit xs ys)) (lowered (y ∷ ys))
-    go true is rest = same_take-cons _ _ (first_position 1 (zip2 difference_bit xs ys)) (lowered xs) (lowered ys) (eqb-true _ _ is) rest
+    go true is rest =
+        let n = first_position 1 (zip2 difference_bit xs ys) in
+        let next : 1 + n ≡ suc n = omega arith in
+        let byte = eqb-true (to_ascii_lowercase x) (to_ascii_lowercase y) is in
+        rw next (λ i. byte i ∷ rest i)
     go false is rest = refl
 
 -- bytes are not flagged exactly where they are the same ignoring ASCII case
@@ -158,12 +143,8 @@ module _ (a b : List ℕ) (from : ℕ) (before : take from (lowered a) ≡ take 
       ≡ take n (lowered (take (length b - from) (drop from b)))
       → take (from + n) (lowered a) ≡ take (from + n) (lowered b)
   equal_onward n block =
-      take-add from n (lowered a) ∙ ap (λ t. t ++ take n (drop from (lowered a))) before
-      ∙ ap (λ t. take from (lowered b) ++ t) (ap (take n) (sym (ending a)) ∙ block ∙ ap (take n) (ending b))
-      ∙ sym (take-add from n (lowered b))
-    where
-      ending : (text : List ℕ) → lowered (take (length text - from) (drop from text)) ≡ drop from (lowered text)
-      ending text = ap lowered (take_rest text from) ∙ lowered-drop from text
+      let rest = ap (take n) (sym (lowered_rest a from)) ∙ block ∙ ap (take n) (lowered_rest b from) in
+      take-add from n (lowered a) ∙ (λ i. before i ++ rest i) ∙ sym (take-add from n (lowered b))
 
   pub difference_onward : (n : ℕ) → FirstDifference (take (length a - from) (drop from a)) (take (length b - from) (drop from b)) n
       → FirstDifference a b (from + n)

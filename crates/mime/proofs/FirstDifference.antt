@@ -21,15 +21,15 @@ use Rattle.mime.proofs.CompareLemmas.{essence-lowered}
 abbrev stripped : List ℕ → List ℕ
 stripped text = filter reaches_value (lowered text)
 
-told-append : (xs ys : List ℕ) → stripped (xs ++ ys) ≡ stripped xs ++ stripped ys
-told-append xs ys = ap (filter reaches_value) (lowered-append xs ys) ∙ filter-append reaches_value (lowered xs) (lowered ys)
+stripped-append : (xs ys : List ℕ) → stripped (xs ++ ys) ≡ stripped xs ++ stripped ys
+stripped-append xs ys = ap (filter reaches_value) (lowered-append xs ys) ∙ filter-append reaches_value (lowered xs) (lowered ys)
 
--- spaces tell nothing
-told-spaces : (n : List ℕ) → AreSpaces n → stripped n ≡ []
-told-spaces [] white = refl
-told-spaces (b ∷ n) white =
+-- spaces leave nothing
+stripped-spaces : (n : List ℕ) → AreSpaces n → stripped n ≡ []
+stripped-spaces [] white = refl
+stripped-spaces (b ∷ n) white =
     let parts = and_parts (is_space b) (list_all is_space n) white in
-    cond-false (reaches_value (to_ascii_lowercase b)) _ _ (grind (arith, nat_tests, parts.0)) ∙ told-spaces n parts.1
+    cond-false (reaches_value (to_ascii_lowercase b)) _ _ (grind (arith, nat_tests, parts.0)) ∙ stripped-spaces n parts.1
 
 -- a value stripped: its essence and each pair, a semicolon after each
 abbrev stripped_pair : List ℕ × List ℕ → List ℕ
@@ -48,64 +48,63 @@ record Begins (prefix whole : List ℕ) : Type 0 where
   is : whole ≡ prefix ++ rest
 
 -- a parameter is stripped to what its pair is
-told-parameter : (p : Parameter) → IsParameter p → stripped (text_of_parameter p) ≡ stripped_pair (pair_of (lowered_parameter p))
-told-parameter (plain name value) well =
-    told-append name (equals_byte ∷ value)
+stripped-parameter : (p : Parameter) → IsParameter p → stripped (text_of_parameter p) ≡ stripped_pair (pair_of (lowered_parameter p))
+stripped-parameter (plain name value) well =
+    stripped-append name (equals_byte ∷ value)
     ∙ rw (lowered-lowered name, lowered-lowered_value name value) refl
-told-parameter (quoted name content n) well =
-    told-append name (equals_byte ∷ quote_byte ∷ (content ++ (quote_byte ∷ n)))
-    ∙ ap (λ t. stripped name ++ (equals_byte ∷ t)) (told-append content (quote_byte ∷ n)
-    ∙ ap (λ t. stripped content ++ t) (told-spaces n well.2)
-    ∙ append-nil (stripped content))
-    ∙ rw (lowered-lowered name, lowered-lowered_value name content) refl
+stripped-parameter (quoted name content n) well =
+    stripped-append name (equals_byte ∷ quote_byte ∷ (content ++ (quote_byte ∷ n)))
+    ∙ rw (stripped-append content (quote_byte ∷ n), stripped-spaces n well.2, lowered-lowered name, lowered-lowered_value name content)
+    (simp append-nil)
 
 -- a list is stripped to what its pairs are, except perhaps for the last semicolon
-told-list : (list : Parameters) → AreParameters list
+stripped-list : (list : Parameters) → AreParameters list
     → Begins (stripped (text_of_list list)) (stripped_pairs (pairs_of_list (lowered_list list)))
-told-list (blank n) white = record { rest = []; is = sym (append-nil (stripped n) ∙ told-spaces n white) }
-told-list (final n p) (white, well) = record {
+stripped-list (blank n) white = record { rest = []; is = sym (append-nil (stripped n) ∙ stripped-spaces n white) }
+stripped-list (final n p) (white, well) = record {
   rest = semicolon_byte ∷ [];
-  is = sym (ap (λ t. t ++ (semicolon_byte ∷ [])) (told-append n (text_of_parameter p)
-      ∙ ap (λ t. t ++ stripped (text_of_parameter p)) (told-spaces n white)
-      ∙ told-parameter p well));
+  is = sym (rw (stripped-append n (text_of_parameter p), stripped-spaces n white, stripped-parameter p well) refl);
 }
-told-list (more n p others) (white, well, follow) =
-    let after = told-list others follow in
+stripped-list (more n p others) (white, well, follow) =
+    let after = stripped-list others follow in
+    let tail = semicolon_byte ∷ text_of_list others in
     record {
       rest = after.rest;
-      is = ap (λ t. stripped_pair (pair_of (lowered_parameter p)) ++ (semicolon_byte ∷ t)) after.is
-          ∙ sym (ap (λ t. t ++ after.rest) (told-append n (text_of_parameter p ++ (semicolon_byte ∷ text_of_list others))
-          ∙ ap (λ t. t ++ stripped (text_of_parameter p ++ (semicolon_byte ∷ text_of_list others))) (told-spaces n white)
-          ∙ told-append (text_of_parameter p) (semicolon_byte ∷ text_of_list others)
-          ∙ ap (λ t. t ++ (semicolon_byte ∷ stripped (text_of_list others))) (told-parameter p well))
-          ∙ append_assoc (stripped_pair (pair_of (lowered_parameter p))) (semicolon_byte ∷ stripped (text_of_list others)) after.rest);
+      is = rw (
+        stripped-append n (text_of_parameter p ++ tail),
+        stripped-spaces n white,
+        stripped-append (text_of_parameter p) tail,
+        stripped-parameter p well,
+        after.is,
+      ) (sym (append_assoc (stripped_pair (pair_of (lowered_parameter p))) (stripped tail) after.rest));
     }
 
 -- a tail is stripped to what its pairs are
-told-tail : (tail : Tail) → IsTail tail
+stripped-tail : (tail : Tail) → IsTail tail
     → Begins (stripped (text_of_tail tail)) (semicolon_byte ∷ stripped_pairs (pairs_of_tail (lowered_tail tail)))
-told-tail no_list well = record { rest = semicolon_byte ∷ []; is = refl }
-told-tail (listed list) well = let parts = told-list list well in record { rest = parts.rest; is = ap (λ t. semicolon_byte ∷ t) parts.is }
+stripped-tail no_list well = record { rest = semicolon_byte ∷ []; is = refl }
+stripped-tail (listed list) well = let parts = stripped-list list well in record { rest = parts.rest; is = ap (λ t. semicolon_byte ∷ t) parts.is }
 
 -- a text is stripped to what the value is that it is read as
-told-reads : (text : List ℕ) (value : MediaType) → Reads text value → Begins (stripped text) (stripped_value value)
-told-reads text value reads =
+stripped-reads : (text : List ℕ) (value : MediaType) → Reads text value → Begins (stripped text) (stripped_value value)
+stripped-reads text value reads =
     let tree = reads.tree in
-    let tail = told-tail tree.tail reads.well_formed.2 in
+    let tail = stripped-tail tree.tail reads.well_formed.2 in
     let essence : stripped (value_of tree).essence ≡ stripped (essence_of tree) =
     ap stripped (essence-lowered tree) ∙ ap (filter reaches_value) (lowered-lowered (essence_of tree)) in
+    let text_parts : stripped (text_of tree) ≡ stripped (essence_of tree) ++ stripped (text_of_tail tree.tail) =
+    ap stripped (text_of-essence tree) ∙ stripped-append (essence_of tree) (text_of_tail tree.tail) in
     subst (λ t. Begins (stripped t) (stripped_value value)) reads.spelled
     (subst (λ (v : MediaType). Begins (stripped (text_of tree)) (stripped_value v)) reads.valued (record {
       rest = tail.rest;
-      is = ap (λ t. stripped (value_of tree).essence ++ t) tail.is ∙ ap (λ t. t ++ (stripped (text_of_tail tree.tail) ++ tail.rest)) essence
-          ∙ sym (ap (λ t. t ++ tail.rest) (ap stripped (text_of-essence tree) ∙ told-append (essence_of tree) (text_of_tail tree.tail))
-          ∙ append_assoc (stripped (essence_of tree)) (stripped (text_of_tail tree.tail)) tail.rest);
+      is = (λ i. essence i ++ tail.is i)
+          ∙ sym (ap (λ t. t ++ tail.rest) text_parts ∙ append_assoc (stripped (essence_of tree)) (stripped (text_of_tail tree.tail)) tail.rest);
     }))
 
 -- a stripped text, cut at a byte that stays
-told-at : (text : List ℕ) (n : ℕ) → n < length text → IsTrue (reaches_value (slice_index text n))
+stripped-at : (text : List ℕ) (n : ℕ) → n < length text → IsTrue (reaches_value (slice_index text n))
     → stripped text ≡ filter reaches_value (take n (lowered text)) ++ (to_ascii_lowercase (slice_index text n) ∷ stripped (drop (n + 1) text))
-told-at text n within reaches =
+stripped-at text n within reaches =
     let b = to_ascii_lowercase (slice_index text n) in
     let rest : drop n (lowered text) ≡ b ∷ lowered (drop (n + 1) text) = sym (lowered-drop n text)
     ∙ ap lowered (drop_more text n 0 within) in
@@ -122,14 +121,13 @@ same_byte (f ∷ prefix) x y xs ys rest others is = same_byte prefix x y xs ys r
 pub different_values : (one other : List ℕ) (first second : MediaType) → Reads one first → Reads other second → DifferInValue one other
     → ¬ (Same first second)
 different_values one other first second reads also d same =
-    let begins = told-reads one first reads in
-    let other_begins = told-reads other second also in
+    let begins = stripped-reads one first reads in
+    let other_begins = stripped-reads other second also in
     let whole : stripped_value first ≡ stripped_value second = cc in
-    d.first.differ (same_byte (filter reaches_value (take d.at (lowered one))) _ _ _ _ begins.rest other_begins.rest
-    (sym (ap (λ t. t ++ begins.rest) (told-at one d.at d.first.within d.reaches)) ∙ sym begins.is ∙ whole ∙ other_begins.is
-    ∙ ap (λ t. t ++ other_begins.rest) (told-at other d.at d.first.within_other d.other_reaches
-    ∙ ap (λ t. filter reaches_value t ++ (to_ascii_lowercase (slice_index other d.at) ∷ stripped (drop (d.at + 1) other)))
-    (sym d.first.equal_before))))
+    let cut = stripped-at one d.at d.first.within d.reaches in
+    let other_cut = rw (← d.first.equal_before) at (stripped-at other d.at d.first.within_other d.other_reaches) in
+    let both = rw (cut, other_cut) at (sym begins.is ∙ whole ∙ other_begins.is) in
+    d.first.differ (same_byte (filter reaches_value (take d.at (lowered one))) _ _ _ _ begins.rest other_begins.rest both)
 
 -- a text whose first difference from a kept text reaches the value isn't that value
 pub text_is-different_values : (kept text : List ℕ) (value : MediaType) → Reads kept value → DifferInValue kept text → TextIs value text → ⊥

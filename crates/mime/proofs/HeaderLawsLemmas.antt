@@ -1,33 +1,29 @@
 -- The parts of an essence, and what is printed into a header.
 use Rattle.std.proofs.Common.{◌≡◌, ℕ, ◌+◌, List, ◌∷◌, ◌++◌, length, drop, Option, Some, None, sym, ap, ◌∙◌, subst, refl, arith, zero, suc, ◌-◌, ◌<◌, Bool, true, false, [], take, append_assoc}
-use Rattle.std.specs.Prelude.{slice_get, slice_range, unwrap_or, IsTrue, IsFalse, MatchOption, ◌==◌, ◌&&◌, not}
+use Rattle.std.specs.Prelude.{slice_get, slice_range, unwrap_or, IsFalse, MatchOption, ◌==◌, ◌&&◌, not}
 use Rattle.std.specs.Option.{option_map, IfSome}
-use Rattle.std.proofs.lemmas.List.{take-append-drop, take_at, drop_at, drop-drop, drop_more, drop_all, length-drop}
-use Rattle.std.proofs.lemmas.List.Folds.{drop_split, list_all-append}
+use Rattle.std.proofs.lemmas.List.{take-append-drop, take_at, drop_more, drop_all, length-drop}
+use Rattle.std.proofs.lemmas.List.Folds.{drop_split}
 use Rattle.std.proofs.lemmas.Option.{slice_get_within, get_or_from_slice_get, none-some, option_and_then_some}
 use Rattle.mime.specs.Bytes.{slash_byte, plus_byte, is_token_byte, is_quoted_byte, is_quoted_text_byte, quote_byte}
 use Rattle.mime.specs.Values.{MediaType, Reads, lowered, type_of, subtype_of, suffix_of, lowered_value, lowered_tail, pair_of, pairs_of_list, pairs_of_tail}
 use Rattle.mime.specs.Laws.{without_parameters, suffix_text, EssenceIsParts, SameEssence}
 use Rattle.mime.proofs.LawsLemmas.{essence_is_read}
 use Rattle.mime.proofs.ValueLemmas.Lowercase.{length-lowered, lowered-lowered, IsToken-lowered, IsWellFormed-lowered_tree}
+use Rattle.mime.proofs.ValueLemmas.ListText.{flagged, drop_past}
 use Rattle.mime.proofs.ValueLemmas.Parts.{slash_in, plus_in, subtype_end}
 use Rattle.mime.proofs.GrammarLemmas.Readings.{one_reading, walk-accepted}
-use Rattle.std.specs.List.{list_all, AllByRecursion}
+use Rattle.std.specs.List.{AllByRecursion}
 use Rattle.std.proofs.lemmas.Bool.{and_parts, and_from, cond-false}
 use Rattle.std.proofs.lemmas.Bool.Decides.{nat_tests}
 use Rattle.mime.specs.Grammar.{Parameter, plain, quoted, Parameters, blank, final, more, Tail, no_list, listed, SyntaxTree, AreTokenBytes, IsToken, IsContent, IsParameter, AreParameters, IsTail}
 use Rattle.mime.specs.HeaderLaws.{AreHeaderBytes, IsSafePair, KeptIsSafe, text_with_parameter, with_parameter, ParameterIsRead}
 use Rattle.mime.specs.Quoted.{takes, awaits_after, continues}
 use Rattle.mime.proofs.GrammarLemmas.Begun.{Begun, in_type, in_list, in_quotes, list_at, grow, walk_from}
-use Rattle.mime.proofs.BytesLemmas.{list_all-wider, AreTokenBytes-from_token}
+use Rattle.mime.proofs.BytesLemmas.{list_all-wider, list_all-parts, AreTokenBytes-from_token}
 use Rattle.mime.proofs.GrammarLemmas.Characters.{IsForeign, IsOpen, grow-foreign}
 use Rattle.mime.proofs.ValueLemmas.KeptText.{kept_is_read}
 use Rattle.mime.proofs.GrammarLemmas.Content.{IsContent-taken, takes_all-text, awaits_after-text}
-
--- the bytes after one that follows a prefix
-drop-after : (prefix : List ℕ) (b : ℕ) (after : List ℕ) (n : ℕ) → length prefix ≡ n → drop (n + 1) (prefix ++ (b ∷ after)) ≡ after
-drop-after prefix b after n long =
-    sym (drop-drop 1 n (prefix ++ (b ∷ after))) ∙ ap (drop 1) (drop_at prefix (b ∷ after) n long)
 
 -- the bytes from a position on begin with the byte there
 drop-from : (bytes : List ℕ) (p b : ℕ) → slice_get bytes p ≡ Some b → drop p bytes ≡ b ∷ drop (p + 1) bytes
@@ -47,7 +43,7 @@ after_slash-read text value reads =
     let top = lowered reads.tree.top in
     let sub = lowered reads.tree.sub in
     subst (λ (v : MediaType). drop (v.slash + 1) v.essence ≡ sub) reads.valued
-    (drop-after top slash_byte sub _ (length-lowered reads.tree.top))
+    (drop_past slash_byte top (slash_byte ∷ sub) sub _ (flagged sub) (length-lowered reads.tree.top))
 
 -- what follows the slash is the subtype, and a plus with the suffix if there is one
 after_slash : (text : List ℕ) (value : MediaType) (plus : Option ℕ) → Reads text value → value.plus ≡ plus
@@ -80,9 +76,7 @@ same_essence one other first second reads again = (
       (ap type_of bare, ap subtype_of bare, ap suffix_of bare),
   λ same.
       essence_is_parts one first reads
-      ∙ ap (λ top. top ++ (slash_byte ∷ (subtype_of first ++ suffix_text (suffix_of first)))) same.0
-      ∙ ap (λ sub. type_of second ++ (slash_byte ∷ (sub ++ suffix_text (suffix_of first)))) same.1
-      ∙ ap (λ suffix. type_of second ++ (slash_byte ∷ (subtype_of second ++ suffix_text suffix))) same.2
+      ∙ (λ i. same.0 i ++ (slash_byte ∷ (same.1 i ++ suffix_text (same.2 i))))
       ∙ sym (essence_is_parts other second again),
 )
 
@@ -161,19 +155,12 @@ safe_pairs-tail : (tail : Tail) → IsTail tail → AllByRecursion IsSafePair (p
 safe_pairs-tail no_list well = tt
 safe_pairs-tail (listed list) well = safe_pairs list well
 
--- bytes of a class that are two parts
-both_parts : (class : ℕ → Bool) (prefix back bytes : List ℕ) → bytes ≡ prefix ++ back → IsTrue (list_all class bytes)
-    → IsTrue (list_all class prefix) × IsTrue (list_all class back)
-both_parts class prefix back bytes is all =
-    and_parts (list_all class prefix) (list_all class back)
-    (sym (list_all-append class prefix back) ∙ ap (list_all class) (sym is) ∙ all)
-
 -- a prefix of a token
 token-take : (n : ℕ) (bytes : List ℕ) → 0 < n → IsToken bytes → IsToken (take n bytes)
 token-take n [] some token = absurd token
 token-take zero (b ∷ bytes) some token = absurd (omega (arith, some))
 token-take (suc n) (b ∷ bytes) some token =
-    (both_parts is_token_byte (b ∷ take n bytes) (drop n bytes) (b ∷ bytes) (ap (λ t. b ∷ t) (sym (take-append-drop n bytes))) token).0
+    (list_all-parts is_token_byte (b ∷ take n bytes) (drop n bytes) (rw (take-append-drop n bytes) token)).0
 
 -- the subtype isn't empty
 subtype_some : (text : List ℕ) (value : MediaType) (plus : Option ℕ) → Reads text value → value.plus ≡ plus
@@ -203,8 +190,8 @@ kept_is_safe text value reads =
       top = subst IsToken (sym (type_of-read text value reads)) low.0;
       sub = token-take _ (drop (value.slash + 1) value.essence) (subtype_some text value value.plus reads refl) after;
       suffix = suffix_bytes (suffix_of value)
-          (both_parts is_token_byte (subtype_of value) (suffix_text (suffix_of value)) (drop (value.slash + 1) value.essence)
-          (after_slash text value value.plus reads refl) (AreTokenBytes-from_token _ after)).1;
+          (list_all-parts is_token_byte (subtype_of value) (suffix_text (suffix_of value))
+          (subst AreTokenBytes (after_slash text value value.plus reads refl) (AreTokenBytes-from_token _ after))).1;
       pairs = subst (λ (v : MediaType). AllByRecursion IsSafePair v.pairs) reads.valued
           (safe_pairs-tail (lowered_tail reads.tree.tail) low.2);
     }

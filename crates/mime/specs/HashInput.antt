@@ -7,7 +7,6 @@ use Rattle.std.specs.Cmp.{IsTotalOrder, on_total, then_total, Equal-is}
 use Rattle.std.specs.Cmp.Lexicographic.{slice_cmp, lists_total, nat_list_cmp_total}
 use Rattle.std.specs.FinMap.{slice_cmp-IsAntisymmetric}
 use Rattle.std.specs.Ordering.{nat_cmp, eq_by_cmp}
-use Rattle.std.proofs.Common.{ap}
 use Rattle.std.proofs.lemmas.Map.Lookups.{exact_bytes, exact_pairs}
 use Rattle.mime.specs.Comparison.{Same, pair_cmp, media_cmp}
 use Rattle.std.specs.Hash as fed
@@ -49,9 +48,8 @@ media_cmp_total =
 pub same_from_cmp : (x y : MediaType) → eq_by_cmp media_cmp x y ≡ true → Same x y
 same_from_cmp x y equal =
     let pairs = slice_cmp-IsAntisymmetric (exact_pairs (slice_cmp nat_cmp) (slice_cmp nat_cmp) exact_bytes exact_bytes) in
-    let both = exact_pairs (slice_cmp nat_cmp) (slice_cmp pair_cmp) exact_bytes pairs (x.essence, x.pairs) (y.essence, y.pairs)
-    ((Equal-is (media_cmp x y)).0 equal) in
-    (ap (λ value. value.0) both, ap (λ value. value.1) both)
+    let both = exact_pairs _ _ exact_bytes pairs (x.essence, x.pairs) (y.essence, y.pairs) ((Equal-is (media_cmp x y)).0 equal) in
+    (λ i. (both i).0, λ i. (both i).1)
 
 -- equal values feed a hasher the same
 pub media_input-same : (x y : MediaType) → Same x y → media_input x ≡ media_input y

@@ -1,10 +1,9 @@
 -- Private. The kept text of a value, with the positions of its parts.
 use Rattle.std.specs.Prelude.{◌≡◌, ℕ, zero, suc, ◌+◌, List, ◌++◌, length, take, drop, Option, Some, None, unwrap_or, ◌==◌}
 use Rattle.std.specs.List.{AllByRecursion, position}
-use Rattle.mime.specs.Grammar.{Tail, no_list, listed, blank, final, more, SyntaxTree, text_of, IsWellFormed}
 use Rattle.mime.specs.Values.{MediaType, lowered, lowered_value, lowered_tree}
 use Rattle.mime.specs.Pairs.{pairs_after, lowered_within}
-use Rattle.mime.specs.Scanning.{positions_of}
+use Rattle.mime.specs.Scanning.{HasPositions}
 use Rattle.mime.specs.declared.scan.Positions.{Positions}
 use Rattle.std.specs.Option.{option_to_list}
 use Rattle.mime.specs.Bytes.{slash_byte, plus_byte, semicolon_byte}
@@ -19,22 +18,6 @@ media_of text positions = record {
   kept = text;
 }
 
--- a list that is kept holds a parameter
-abbrev pub HoldsParameter : Tail → Type 0
-HoldsParameter no_list = Unit {0}
-HoldsParameter (listed (blank n)) = ⊥
-HoldsParameter (listed (final n parameter)) = Unit {0}
-HoldsParameter (listed (more n parameter rest)) = Unit {0}
-
--- a text as it is kept: that of a well-formed tree which is its own lowering, without an empty list
-pub record IsKept (text : List ℕ) (positions : Positions) : Type 0 where
-  pub tree : SyntaxTree
-  pub well_formed : IsWellFormed tree
-  pub low : lowered_tree tree ≡ tree
-  pub kept : HoldsParameter tree.tail
-  pub spelled : text_of tree ≡ text
-  pub same_positions : positions_of tree ≡ positions
-
 -- the positions in the kept text: no semicolon where there is no pair
 abbrev pub kept_semicolon : ℕ → Option ℕ → Option ℕ
 kept_semicolon zero semicolon = None
@@ -42,6 +25,12 @@ kept_semicolon (suc pairs) semicolon = semicolon
 
 abbrev pub kept_positions : Positions → Positions
 kept_positions positions = record positions { semicolon = kept_semicolon positions.pairs positions.semicolon }
+
+-- a text as it is kept, with the positions of its parts: its tree is its own lowering, without an empty list
+pub record IsKept (text : List ℕ) (positions : Positions) : Type 0 where
+  pub has : HasPositions text positions
+  pub low : lowered_tree has.tree ≡ has.tree
+  pub kept : kept_positions positions ≡ positions
 
 -- a text lowercased up to its semicolon, and then pair by pair
 abbrev pub with_pairs_lowered : ℕ → ℕ → List ℕ → List ℕ

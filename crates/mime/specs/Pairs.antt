@@ -19,21 +19,12 @@ pub record PairCut : Type 0 where
 -- after the equals sign: a quoted value, or a plain one.
 -- The length before it is the whole length less the remaining length, so it lies within the list
 abbrev pub cut_after_equals : ℕ → List ℕ → List ℕ → PairCut
-cut_after_equals whole name [] = record { name = name; head = whole; value = []; rest = [] }
-cut_after_equals whole name (b ∷ bytes) =
+cut_after_equals size name [] = record { name = name; head = size; value = []; rest = [] }
+cut_after_equals size name (b ∷ back) =
+    let text = b ∷ back in
     if b == quote_byte
-    then record {
-      name = name;
-      head = whole - length bytes;
-      value = content_of bytes;
-      rest = after_byte semicolon_byte (after_content bytes);
-    }
-    else record {
-      name = name;
-      head = whole - length (b ∷ bytes);
-      value = before_byte semicolon_byte (b ∷ bytes);
-      rest = after_byte semicolon_byte (b ∷ bytes);
-    }
+    then record { name = name; head = size - length back; value = content_of back; rest = after_byte semicolon_byte (after_content back) }
+    else record { name = name; head = size - length text; value = before_byte semicolon_byte text; rest = after_byte semicolon_byte text }
 
 -- the spaces before the first name, and the list without them
 abbrev pub leading_spaces : List ℕ → ℕ

@@ -74,9 +74,10 @@ lengths_of text media reads =
     let all = ap length (text_of-essence tree) in
     let top = some-token tree.top reads.well_formed.0 in
     let some : 2 < length text = omega (arith, length-essence_of tree, some-token tree.sub reads.well_formed.1, length-append {A = ℕ}) in
-    let size = ap length keeps.is_kept.spelled in
-    subst (Lengths text) (sym (sym reads.valued ∙ keeps.valued ∙ value_of-lowering keeps.is_kept.tree ∙ ap value_of_low keeps.is_kept.low))
-    (lengths-low text keeps.is_kept.tree (omega (arith, length-kept (positions_of tree).pairs (positions_of tree).semicolon (text_of tree))) some)
+    let kept = keeps.is_kept.has in
+    let size = ap length kept.spelled in
+    subst (Lengths text) (sym (sym reads.valued ∙ keeps.valued ∙ value_of-lowering kept.tree ∙ ap value_of_low keeps.is_kept.low))
+    (lengths-low text kept.tree (omega (arith, length-kept (positions_of tree).pairs (positions_of tree).semicolon (text_of tree))) some)
 
 -- the strings of a media type are at most twice as many bytes as the text that is read as it, and two
 pub texts_fit : (text : List ℕ) (media : MediaType) → Reads text media → length (strings (texts_of media)) ≤ 2 * length text + 2

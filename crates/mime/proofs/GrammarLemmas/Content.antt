@@ -187,12 +187,11 @@ awaits_after-lowered awaiting (b ∷ bytes) =
     ap (λ (a : Bool). awaits_after a (lowered bytes)) (awaits_next-lowercase awaiting b)
     ∙ awaits_after-lowered (awaits_next awaiting b) bytes
 
--- a byte continues open content as its lowercase letter continues the lowercased content
-pub continues-lowered : (content : List ℕ) (b : ℕ) → continues (lowered content) (to_ascii_lowercase b) ≡ continues content b
-continues-lowered content b = rw (awaits_after-lowered false content) (takes-of_lowercase (awaits_after false content) b)
-
--- lowercased content is content
-pub IsContent-lowered : (content : List ℕ) → IsContent content → IsContent (lowered content)
-IsContent-lowered content is =
-    IsContent-taken (lowered content) (takes_all-lowered false content ∙ content-taken content is)
-    (awaits_after-lowered false content ∙ content-awaits content is)
+-- content in another case is content
+pub IsContent-case : (content other : List ℕ) → lowered other ≡ lowered content → IsContent content → IsContent other
+IsContent-case content other same is =
+    IsContent-taken other
+    (sym (takes_all-lowered false other) ∙ ap (takes_all false) same
+    ∙ takes_all-lowered false content ∙ content-taken content is)
+    (sym (awaits_after-lowered false other) ∙ ap (awaits_after false) same
+    ∙ awaits_after-lowered false content ∙ content-awaits content is)

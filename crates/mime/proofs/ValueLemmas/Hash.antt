@@ -1,27 +1,27 @@
 -- What a value feeds a hasher: the buffer in which a pair is joined, and that what is fed is prefix-free.
-use Rattle.std.proofs.Common.{◌≡◌, ℕ, suc, ◌+◌, ◌-◌, ◌%◌, ◌<◌, ◌≤◌, List, [], ◌∷◌, ◌++◌, length, take, drop, replicate, refl, sym, ap, ◌∙◌, arith, ◌/◌, Bool, true, false, cond, subst, append-nil, append_assoc, ⊎_elim}
+use Rattle.std.proofs.Common.{◌≡◌, ℕ, suc, ◌+◌, ◌-◌, ◌%◌, ◌<◌, ◌≤◌, List, [], ◌∷◌, ◌++◌, length, take, drop, replicate, refl, sym, ap, ◌∙◌, arith, true, false, cond, subst, append-nil, append_assoc, ⊎_elim}
 use Rattle.std.proofs.Math.ListN.{set}
 use Rattle.std.proofs.Math.Seq.{take-append-add}
 use Rattle.std.proofs.lemmas.List.{append_assoc, take_at, drop_at, set_at, drop-replicate, take-replicate, length-append, append_cancel_left}
 use Rattle.mime.specs.HashInput.{pair_count, pair_run, pair_end, pair_parts, pair_input, media_input}
-use Rattle.std.specs.Prelude.{IsTrue, IsUtf8, nat_lt}
-use Rattle.std.specs.Char.{to_ascii_lowercase}
-use Rattle.std.specs.Hash.{HashWrites}
+use Rattle.std.specs.Prelude.{IsUtf8, nat_lt}
 use Rattle.std.specs.List.{list_all, flat_map, concat, AllByRecursion}
 use Rattle.std.proofs.lemmas.Bool.{and_parts, and_from}
 use Rattle.std.proofs.lemmas.Bool.Decides.{nat_tests}
-use Rattle.std.proofs.lemmas.Grind.{flat_map-append}
-use Rattle.std.proofs.lemmas.List.Concat.{concat_is, flat_map-cons}
-use Rattle.std.proofs.lemmas.List.Folds.{list_all-append, list_all-map}
+use Rattle.std.proofs.lemmas.List.Concat.{flat_map-cons}
+use Rattle.std.proofs.lemmas.List.Folds.{concat-append, list_all-append}
 use Rattle.mime.specs.Bytes.{is_token_byte, slash_byte}
-use Rattle.mime.specs.Grammar.{Parameter, plain, quoted, Parameters, blank, final, more, Tail, no_list, listed, AreTokenBytes, IsParameter, AreParameters, IsTail, text_of, text_of_parameter, text_of_list, text_of_tail}
-use Rattle.mime.specs.Values.{MediaType, Reads, lowered, lowered_parameter, lowered_list, lowered_tail, pair_of, pairs_of_list, pairs_of_tail}
-use Rattle.mime.specs.Comparison.{Same}
+use Rattle.mime.specs.Grammar.{Parameter, plain, quoted, Parameters, blank, final, more, Tail, no_list, listed, AreTokenBytes, IsParameter, AreParameters, IsTail, text_of_parameter, text_of_list, text_of_tail}
+use Rattle.mime.specs.Values.{MediaType, lowered, lowered_parameter, lowered_list, lowered_tail, pair_of, pairs_of_list, pairs_of_tail}
 use Rattle.mime.specs.HashLaws.{IsReadInUtf8, IsPrefixFree}
-use Rattle.mime.proofs.BytesLemmas.{list_all-wider, is_other, AreTokenBytes-from_token, are_other-token}
-use Rattle.mime.proofs.ValueLemmas.Lowercase.{AreTokenBytes-lowered, lowered_value-either}
-use lib.Dec.{T, ltb, ltb→lt}
-use lib.Utf8.{scalars, scalar, encodes, encode, scalar_cases}
+use Rattle.mime.proofs.BytesLemmas.{list_all-parts, list_all-wider, is_other, AreTokenBytes-from_token, are_other-token}
+use Rattle.mime.proofs.ValueLemmas.Lowercase.{IsToken-lowered, list_all-lowered, lowered_value-either}
+use Rattle.mime.specs.Blocks.{before_byte, after_byte}
+use Rattle.mime.proofs.ValueLemmas.ListText.{flagged, before_to, after_to}
+use Rattle.std.proofs.lemmas.Bool.{cases_lt}
+use Rattle.std.proofs.lemmas.Str.{encode_ascii}
+use Rattle.mime.proofs.ValueLemmas.Utf8.{high_bytes}
+use lib.Utf8.{scalars, scalar, encodes, encode}
 
 -- a text copied in after what the buffer holds
 put-text : (free at count : ℕ) (held text : List ℕ) → length held ≡ at
@@ -77,34 +77,19 @@ joined_pair name value one other first second short =
 abbrev AreTextBytes : List ℕ → Type 0
 AreTextBytes bytes = list_all (is_other 255) bytes ≡ true
 
--- the parts of bytes none of which is 255
+-- bytes none of which is 255, and their parts
 text_parts : (prefix back : List ℕ) → AreTextBytes (prefix ++ back) → AreTextBytes prefix × AreTextBytes back
-text_parts prefix back all =
-    and_parts (list_all (is_other 255) prefix) (list_all (is_other 255) back) (sym (list_all-append (is_other 255) prefix back) ∙ all)
+text_parts = list_all-parts (is_other 255)
 
 text_join : (prefix back : List ℕ) → AreTextBytes prefix → AreTextBytes back → AreTextBytes (prefix ++ back)
 text_join prefix back first second = list_all-append (is_other 255) prefix back ∙ and_from _ _ first second
 
--- a test of numbers, either way
-by_test : (P : List ℕ → Type 0) (m n : ℕ) (one other : List ℕ) → (m < n → P one) → P other → P (cond (ltb m n) one other)
-by_test P m n one other under over = go (ltb m n) refl
-  where
-    go : (b : Bool) → ltb m n ≡ b → P (cond b one other)
-    go true is = under (ltb→lt m n (subst T (sym is) tt))
-    go false is = over
-
--- a scalar value is below 1,114,112
-scalar-below : (c : ℕ) → scalar c ≡ true → c < 1114112
-scalar-below c is = ⊎_elim (λ under. omega (arith, under)) (λ over. over.1) (scalar_cases c is)
-
 -- no character has the byte 255
 character_bytes : (c : ℕ) → scalar c ≡ true → AreTextBytes (encode c)
-unfolding encode
-character_bytes c is =
-    let below = scalar-below c is in
-    by_test AreTextBytes c 128 _ _ (λ under. grind (arith, nat_tests))
-    (by_test AreTextBytes c 2048 _ _ (λ under. grind (arith, nat_tests))
-    (by_test AreTextBytes c 65536 _ _ (λ under. grind (arith, nat_tests)) (grind (arith, nat_tests))))
+character_bytes c is = ⊎_elim
+    (λ ascii. subst AreTextBytes (sym (encode_ascii c ascii)) (grind (arith, nat_tests)))
+    (λ above. list_all-wider _ (is_other 255) (λ b high. grind (arith, nat_tests)) (encode c) (high_bytes c is above))
+    (cases_lt c 128)
 
 -- no valid UTF-8 has it
 characters_bytes : (characters : List ℕ) → scalars characters ≡ true → AreTextBytes (encodes characters)
@@ -118,24 +103,14 @@ utf8_bytes text utf8 = subst AreTextBytes utf8.1.1 (characters_bytes utf8.0 utf8
 
 -- lowering adds none
 lowered_bytes : (text : List ℕ) → AreTextBytes text → AreTextBytes (lowered text)
-lowered_bytes text all =
-    list_all-map (is_other 255) to_ascii_lowercase text
-    ∙ list_all-wider (is_other 255) (λ b. is_other 255 (to_ascii_lowercase b)) (λ b other. grind (arith, nat_tests)) text all
+lowered_bytes text all = list_all-lowered (is_other 255) (λ b. grind (arith, nat_tests)) text ∙ all
 
 -- two runs up to the first byte 255 are the same, and so is what follows
 first_flag : (xs ys m n : List ℕ) → AreTextBytes xs → AreTextBytes ys → xs ++ (255 ∷ m) ≡ ys ++ (255 ∷ n) → (xs ≡ ys) × (m ≡ n)
-first_flag [] [] m n one other same = (refl, cc)
-first_flag [] (y ∷ ys) m n one other same =
-    let first : 255 ≡ y = cc in
-    absurd (grind (arith, nat_tests, first, (and_parts (is_other 255 y) (list_all (is_other 255) ys) other).0))
-first_flag (x ∷ xs) [] m n one other same =
-    let first : 255 ≡ x = cc in
-    absurd (grind (arith, nat_tests, first, (and_parts (is_other 255 x) (list_all (is_other 255) xs) one).0))
-first_flag (x ∷ xs) (y ∷ ys) m n one other same =
-    let rest = first_flag xs ys m n (and_parts (is_other 255 x) (list_all (is_other 255) xs) one).1
-    (and_parts (is_other 255 y) (list_all (is_other 255) ys) other).1 (cc) in
-    let runs : xs ≡ ys = rest.0 in
-    (cc, rest.1)
+first_flag xs ys m n one other same = (
+  sym (before_to 255 xs (255 ∷ m) m one (flagged m)) ∙ ap (before_byte 255) same ∙ before_to 255 ys (255 ∷ n) n other (flagged n),
+  sym (after_to 255 xs (255 ∷ m) m one (flagged m)) ∙ ap (after_byte 255) same ∙ after_to 255 ys (255 ∷ n) n other (flagged n),
+)
 
 -- ---- the values that are read
 
@@ -146,15 +121,11 @@ IsFedPair (name, value) = AreTokenBytes name × AreTextBytes value
 -- those of a text without the byte 255 are such pairs
 fed_pair : (p : Parameter) → IsParameter p → AreTextBytes (text_of_parameter p) → IsFedPair (pair_of (lowered_parameter p))
 fed_pair (plain name value) well all =
-    let bytes = and_parts (is_other 255 61) (list_all (is_other 255) value) (text_parts name (61 ∷ value) all).1 in (
-      AreTokenBytes-lowered name (AreTokenBytes-from_token name well.0),
-      lowered_value-either AreTextBytes name value bytes.1 (lowered_bytes value bytes.1),
-    )
-fed_pair (quoted name content n) well all =
-    let bytes = text_parts content (34 ∷ n) (text_parts name (61 ∷ 34 ∷ (content ++ (34 ∷ n))) all).1 in (
-      AreTokenBytes-lowered name (AreTokenBytes-from_token name well.0),
-      lowered_value-either AreTextBytes name content bytes.0 (lowered_bytes content bytes.0),
-    )
+    let bytes = (text_parts (61 ∷ []) value (text_parts name (61 ∷ value) all).1).1 in
+    (AreTokenBytes-from_token _ (IsToken-lowered _ well.0), lowered_value-either AreTextBytes name value bytes (lowered_bytes value bytes))
+fed_pair (quoted name value n) well all =
+    let bytes = (text_parts value (34 ∷ n) (text_parts name (61 ∷ 34 ∷ (value ++ (34 ∷ n))) all).1).0 in
+    (AreTokenBytes-from_token _ (IsToken-lowered _ well.0), lowered_value-either AreTextBytes name value bytes (lowered_bytes value bytes))
 
 fed_list : (list : Parameters) → AreParameters list → AreTextBytes (text_of_list list)
     → AllByRecursion IsFedPair (pairs_of_list (lowered_list list))
@@ -171,9 +142,7 @@ fed_tail (listed list) well all = fed_list list well all
 -- a text with a slash is no token
 slash_is_no_token : (prefix back : List ℕ) → ¬ (AreTokenBytes (prefix ++ (slash_byte ∷ back)))
 unfolding is_token_byte
-slash_is_no_token prefix back all =
-    let parts = and_parts (list_all is_token_byte prefix) _ (sym (list_all-append is_token_byte prefix (slash_byte ∷ back)) ∙ all) in
-    absurd cc
+slash_is_no_token prefix back all = let parts = list_all-parts is_token_byte prefix (slash_byte ∷ back) all in absurd cc
 
 -- what is known of a value that was read
 pub record IsFed (value : MediaType) : Type 0 where
@@ -195,12 +164,6 @@ fed-read value (text, utf8, reads) =
 
 -- ---- the bytes that are fed
 
--- of two lists of writes the bytes follow one another
-concat-append : (first second : HashWrites) → concat (first ++ second) ≡ concat first ++ concat second
-concat-append first second =
-    concat_is (first ++ second) ∙ flat_map-append (λ x. x) first second
-    ∙ ap (λ xs. xs ++ flat_map (λ x. x) second) (sym (concat_is first)) ∙ ap (λ ys. concat first ++ ys) (sym (concat_is second))
-
 -- a pair feeds its run, in one piece or part by part
 pair_bytes : (pair : List ℕ × List ℕ) → concat (pair_input pair) ≡ pair_run pair
 pair_bytes pair =
@@ -213,17 +176,13 @@ pairs_bytes : (pairs : List (List ℕ × List ℕ)) → concat (flat_map pair_in
 pairs_bytes [] = refl
 pairs_bytes (pair ∷ pairs) =
     ap concat (flat_map-cons pair_input pair pairs) ∙ concat-append (pair_input pair) (flat_map pair_input pairs)
-    ∙ ap (λ xs. xs ++ concat (flat_map pair_input pairs)) (pair_bytes pair) ∙ ap (λ xs. pair_run pair ++ xs) (pairs_bytes pairs)
-    ∙ sym (flat_map-cons pair_run pair pairs)
+    ∙ (λ i. pair_bytes pair i ++ pairs_bytes pairs i) ∙ sym (flat_map-cons pair_run pair pairs)
 
 -- a value feeds the runs of its pairs, its essence, and the byte 255
 media_bytes : (media : MediaType) (after : List ℕ)
     → concat (media_input media) ++ after ≡ flat_map pair_run media.pairs ++ (media.essence ++ (255 ∷ after))
 media_bytes media after =
-    let end = media.essence ∷ (255 ∷ []) ∷ [] in
-    ap (λ xs. xs ++ after) (concat-append (flat_map pair_input media.pairs) end)
-    ∙ ap (λ xs. (xs ++ concat end) ++ after) (pairs_bytes media.pairs)
-    ∙ simp append_assoc
+    rw (concat-append (flat_map pair_input media.pairs) (media.essence ∷ (255 ∷ []) ∷ []), pairs_bytes media.pairs) (simp append_assoc)
 
 -- the runs of pairs, and what follows them
 more_runs : (pair : List ℕ × List ℕ) (pairs : List (List ℕ × List ℕ)) (after : List ℕ)

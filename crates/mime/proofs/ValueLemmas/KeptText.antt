@@ -3,11 +3,11 @@ use Rattle.std.proofs.Common.{◌≡◌, ℕ, ◌+◌, List, [], ◌∷◌, ◌+
 use Rattle.std.specs.Prelude.{slice_get}
 use Rattle.std.proofs.lemmas.List.{take_at, drop_at, take_all, take-append-drop}
 use Rattle.mime.specs.Bytes.{slash_byte, semicolon_byte}
-use Rattle.mime.specs.Grammar.{Parameters, blank, final, more, Tail, no_list, listed, SyntaxTree, text_of, text_of_tail, text_of_list, IsToken, AreParameters, IsTail, IsWellFormed}
+use Rattle.mime.specs.Grammar.{Parameters, blank, final, more, Tail, no_list, listed, SyntaxTree, text_of, text_of_tail, text_of_list, AreParameters, IsTail, IsWellFormed}
 use Rattle.mime.specs.Values.{MediaType, Reads, value_of, essence_of, kept_text, lowered, lowered_tree, last_plus, pairs_of_list, pairs_of_tail}
 use Rattle.mime.specs.Pairs.{pairs_within, lowered_within}
 use Rattle.mime.specs.Scanning.{HasPositions, positions_of, semicolon_of, before_list}
-use Rattle.mime.specs.KeptText.{media_of, HoldsParameter, IsKept, with_pairs_lowered, kept_text_of, kept_positions}
+use Rattle.mime.specs.KeptText.{media_of, IsKept, with_pairs_lowered, kept_text_of, kept_positions}
 use Rattle.mime.specs.declared.scan.Positions.{Positions}
 use Rattle.mime.proofs.BytesLemmas.{slice_get-prefix}
 use Rattle.mime.proofs.ValueLemmas.Lowercase.{length-lowered, lowered-append, lowered_tree-lowered_tree, IsWellFormed-lowered_tree, positions_of-lowered_tree}
@@ -70,19 +70,21 @@ value_of-lowering tree = rw (length-lowered tree.top)
 -- a text is kept, with the value of a tree
 pub record Keeps (tree : SyntaxTree) (text : List ℕ) (positions : Positions) : Type 0 where
   pub is_kept : IsKept text positions
-  pub valued : value_of tree ≡ value_of is_kept.tree
+  pub valued : value_of tree ≡ value_of is_kept.has.tree
 
 -- a tree is kept as another that has its value: the tree itself, or the one that its essence spells
-keeps_as : (tree kept : SyntaxTree) (text : List ℕ) → IsWellFormed kept → HoldsParameter (lowered_tree kept).tail
+keeps_as : (tree kept : SyntaxTree) (text : List ℕ) → IsWellFormed kept → kept_positions (positions_of kept) ≡ positions_of kept
     → text_of (lowered_tree kept) ≡ text → value_of tree ≡ value_of kept → Keeps tree text (positions_of kept)
 keeps_as tree kept text well holds spelled valued = record {
   is_kept = record {
-    tree = lowered_tree kept;
-    well_formed = IsWellFormed-lowered_tree kept well;
+    has = record {
+      tree = lowered_tree kept;
+      well_formed = IsWellFormed-lowered_tree kept well;
+      spelled = spelled;
+      same_positions = positions_of-lowered_tree kept;
+    };
     low = lowered_tree-lowered_tree kept;
     kept = holds;
-    spelled = spelled;
-    same_positions = positions_of-lowered_tree kept;
   };
   valued = valued ∙ value_of-lowering kept ∙ sym (value_of-lowering (lowered_tree kept) ∙ ap value_of_low (lowered_tree-lowered_tree kept));
 }
@@ -107,61 +109,66 @@ essence_text : (top sub text : List ℕ) → text ≡ top ++ (slash_byte ∷ sub
 essence_text top sub text is = rw (is, lowered-append top (slash_byte ∷ sub), append-nil (lowered sub)) refl
 
 -- every accepted text is kept so
-keeps_parts : (top sub : List ℕ) (tail : Tail) → IsToken top → IsToken sub → IsTail tail
+keeps_parts : (top sub : List ℕ) (tail : Tail) → IsWellFormed (tree_with top sub tail)
     → Keeps (tree_with top sub tail)
     (kept_text_of (length (pairs_of_tail tail)) (semicolon_of (length top + 1 + length sub) tail) (text_of (tree_with top sub tail)))
     (kept_positions (positions_of (tree_with top sub tail)))
-keeps_parts top sub no_list top_well sub_well well =
-    keeps_as _ (tree_with top sub no_list) _ (top_well, sub_well, tt) tt
+keeps_parts top sub no_list well =
+    keeps_as _ (tree_with top sub no_list) _ well refl
     (essence_text top sub _ (ap (λ x. top ++ (slash_byte ∷ x)) (append-nil sub))) refl
-keeps_parts top sub (listed (blank n)) top_well sub_well well =
-    keeps_as _ (tree_with top sub no_list) _ (top_well, sub_well, tt) tt
+keeps_parts top sub (listed (blank n)) well =
+    keeps_as _ (tree_with top sub no_list) _ (well.0, well.1, tt) refl
     (essence_text top sub _ (take-essence (tree_with top sub (listed (blank n))))) refl
-keeps_parts top sub (listed (final n p)) top_well sub_well well =
-    keeps_as _ (tree_with top sub (listed (final n p))) _ (top_well, sub_well, well) tt (whole_text top sub (final n p) well) refl
-keeps_parts top sub (listed (more n p rest)) top_well sub_well well =
-    keeps_as _ (tree_with top sub (listed (more n p rest))) _ (top_well, sub_well, well) tt (whole_text top sub (more n p rest) well) refl
+keeps_parts top sub (listed (final n p)) well =
+    keeps_as _ (tree_with top sub (listed (final n p))) _ well refl (whole_text top sub (final n p) well.2) refl
+keeps_parts top sub (listed (more n p rest)) well =
+    keeps_as _ (tree_with top sub (listed (more n p rest))) _ well refl (whole_text top sub (more n p rest) well.2) refl
 
 -- the same, by the positions that the tree gives
 pub keeps-tree : (tree : SyntaxTree) → IsWellFormed tree
     → Keeps tree (kept_text_of (positions_of tree).pairs (positions_of tree).semicolon (text_of tree)) (kept_positions (positions_of tree))
-keeps-tree tree well = keeps_parts tree.top tree.sub tree.tail well.0 well.1 well.2
+keeps-tree tree well = keeps_parts tree.top tree.sub tree.tail well
+
+-- the pairs of a tree with a list, cut out of its text
+pub pairs_within-text_of : (top sub : List ℕ) (list : Parameters) → AreParameters list
+    → pairs_within (length (pairs_of_list list)) (drop (length top + 1 + length sub + 1) (text_of (tree_with top sub (listed list))))
+    ≡ pairs_of_list list
+pairs_within-text_of top sub list well = rw (drop-to_semicolon top sub (text_of_list list)) (pairs_within-text_of_list list well)
 
 -- the value of a tree with a parameter, cut out of its text
 media_whole : (top sub : List ℕ) (list : Parameters) → AreParameters list
     → let tree = tree_with top sub (listed list) in kept_text (pairs_of_list list) tree ≡ text_of tree
     → value_of_low tree ≡ media_of (text_of tree) (positions_of tree)
 media_whole top sub list well kept =
-    let tree : SyntaxTree = tree_with top sub (listed list) in
-    let essence = take-essence tree in
-    let pairs : pairs_within (length (pairs_of_list list)) (drop (length top + 1 + length sub + 1) (text_of tree)) ≡ pairs_of_list list =
-    ap (pairs_within (length (pairs_of_list list))) (drop-to_semicolon top sub (text_of_list list)) ∙ pairs_within-text_of_list list well in
-    cc
+    cc (kept, take-essence (tree_with top sub (listed list)), pairs_within-text_of top sub list well)
 
 -- the value of a kept tree is what its text and its positions give
-media_parts : (top sub : List ℕ) (tail : Tail) → IsTail tail → HoldsParameter tail
+media_parts : (top sub : List ℕ) (tail : Tail) → IsTail tail
+    → let positions = positions_of (tree_with top sub tail) in kept_positions positions ≡ positions
     → value_of_low (tree_with top sub tail) ≡ media_of (text_of (tree_with top sub tail)) (positions_of (tree_with top sub tail))
 media_parts top sub no_list well holds =
     rw (append-nil sub, take_all (length (top ++ (slash_byte ∷ sub))) (top ++ (slash_byte ∷ sub)) (omega arith))
-media_parts top sub (listed (blank n)) well holds = absurd holds
+media_parts top sub (listed (blank n)) well holds = absurd (let none = ap (λ (p : Positions). p.semicolon) holds in cc)
 media_parts top sub (listed (final n p)) well holds = media_whole top sub (final n p) well refl
 media_parts top sub (listed (more n p rest)) well holds = media_whole top sub (more n p rest) well refl
 
 -- the value of a kept text's tree is what its positions give
-media_of-kept : (text : List ℕ) (positions : Positions) (is_kept : IsKept text positions) → value_of is_kept.tree ≡ media_of text positions
+pub media_of-kept : (text : List ℕ) (positions : Positions) (is_kept : IsKept text positions)
+    → value_of is_kept.has.tree ≡ media_of text positions
 media_of-kept text positions is_kept =
-    value_of-lowering is_kept.tree ∙ ap value_of_low is_kept.low
-    ∙ media_parts is_kept.tree.top is_kept.tree.sub is_kept.tree.tail is_kept.well_formed.2 is_kept.kept
-    ∙ cc (is_kept.spelled, is_kept.same_positions)
+    let tree = is_kept.has.tree in
+    let kept = subst (λ p. kept_positions p ≡ p) (sym is_kept.has.same_positions) is_kept.kept in
+    value_of-lowering tree ∙ ap value_of_low is_kept.low ∙ media_parts tree.top tree.sub tree.tail is_kept.has.well_formed.2 kept
+    ∙ cc (is_kept.has.spelled, is_kept.has.same_positions)
+
+-- an accepted text reads as its tree's value
+pub reads_as : {text : List ℕ} {positions : Positions} {value : MediaType} (has : HasPositions text positions) → value_of has.tree ≡ value
+    → Reads text value
+reads_as has valued = record { tree = has.tree; well_formed = has.well_formed; spelled = has.spelled; valued = valued }
 
 -- a kept text reads as the value that it gives
 pub reads-from_kept : (text : List ℕ) (positions : Positions) → IsKept text positions → Reads text (media_of text positions)
-reads-from_kept text positions is_kept = record {
-  tree = is_kept.tree;
-  well_formed = is_kept.well_formed;
-  spelled = is_kept.spelled;
-  valued = media_of-kept text positions is_kept;
-}
+reads-from_kept text positions is_kept = reads_as is_kept.has (media_of-kept text positions is_kept)
 
 -- a text that keeps a tree gives the tree's value
 kept_media : (tree : SyntaxTree) (text : List ℕ) (positions : Positions) → Keeps tree text positions → value_of tree ≡ media_of text positions
@@ -187,12 +194,7 @@ kept-from_positions text positions has = (keeps-accepted text positions has).is_
 -- an accepted text reads as the value that its kept text gives
 pub kept_reads : (text : List ℕ) (positions : Positions) → HasPositions text positions
     → Reads text (media_of (kept_text_of positions.pairs positions.semicolon text) (kept_positions positions))
-kept_reads text positions has = record {
-  tree = has.tree;
-  well_formed = has.well_formed;
-  spelled = has.spelled;
-  valued = kept_media has.tree _ _ (keeps-accepted text positions has);
-}
+kept_reads text positions has = reads_as has (kept_media has.tree _ _ (keeps-accepted text positions has))
 
 -- the kept text of a value that was read reads as the value
 pub kept_is_read : (text : List ℕ) (value : MediaType) → Reads text value → Reads value.kept value

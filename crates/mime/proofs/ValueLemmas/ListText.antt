@@ -18,7 +18,7 @@ use Rattle.mime.proofs.ValueLemmas.Lowercase.{lowered-append, length-lowered}
 use borrow.Rule.Slice.PartMut.{put_mid}
 
 -- what may follow a run: nothing, or the byte and the rest
-data IsFollow (byte : ℕ) : List ℕ → List ℕ → Type 0 where
+pub data IsFollow (byte : ℕ) : List ℕ → List ℕ → Type 0 where
   nothing : IsFollow byte [] []
   flagged : (rest : List ℕ) → IsFollow byte (byte ∷ rest) rest
 
@@ -40,12 +40,12 @@ position_to byte (x ∷ run) follow rest all nothing =
     cond-true (is_other byte x) _ 0 parts.0 ∙ omega (arith, position_to byte run [] [] parts.1 nothing)
 
 -- the text before it
-before_to : (byte : ℕ) (run follow rest : List ℕ) → list_all (is_other byte) run ≡ true → IsFollow byte follow rest
+pub before_to : (byte : ℕ) (run follow rest : List ℕ) → list_all (is_other byte) run ≡ true → IsFollow byte follow rest
     → before_byte byte (run ++ follow) ≡ run
 before_to byte run follow rest all follows = take_at run follow _ (omega (arith, position_to byte run follow rest all follows))
 
 -- what is left after a run and a byte
-drop_past : (byte : ℕ) (run follow rest : List ℕ) (n : ℕ) → IsFollow byte follow rest → length run ≡ n → drop (n + 1) (run ++ follow) ≡ rest
+pub drop_past : (byte : ℕ) (run follow rest : List ℕ) (n : ℕ) → IsFollow byte follow rest → length run ≡ n → drop (n + 1) (run ++ follow) ≡ rest
 drop_past byte run follow rest n follows long =
     sym (drop-drop 1 n (run ++ follow)) ∙ ap (drop 1) (drop_at run follow n long) ∙ past follow rest follows
   where
@@ -54,7 +54,7 @@ drop_past byte run follow rest n follows long =
     past follow rest (flagged _) = refl
 
 -- the text after it
-after_to : (byte : ℕ) (run follow rest : List ℕ) → list_all (is_other byte) run ≡ true → IsFollow byte follow rest
+pub after_to : (byte : ℕ) (run follow rest : List ℕ) → list_all (is_other byte) run ≡ true → IsFollow byte follow rest
     → after_byte byte (run ++ follow) ≡ rest
 after_to byte run follow rest all follows =
     drop_past byte run follow rest _ follows (omega (arith, position_to byte run follow rest all follows))

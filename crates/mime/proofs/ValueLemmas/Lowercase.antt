@@ -1,5 +1,5 @@
 -- What lowering leaves as it is: lengths, cuts, classes of bytes, positions; and lowering twice is lowering once.
-use Rattle.std.proofs.Common.{◌≡◌, ℕ, ◌+◌, true, false, cond, List, [], ◌∷◌, ◌++◌, length, take, drop, refl, sym, ap, ◌∙◌, arith}
+use Rattle.std.proofs.Common.{◌≡◌, ℕ, ◌+◌, Bool, true, false, map, cond, List, [], ◌∷◌, ◌++◌, length, take, drop, refl, sym, ap, ◌∙◌, arith}
 use Rattle.std.specs.Prelude.{◌==◌, IsTrue}
 use Rattle.std.specs.Char.{to_ascii_lowercase}
 use Rattle.std.proofs.lemmas.Bool.{cond-true}
@@ -8,12 +8,12 @@ use Rattle.std.proofs.lemmas.List.{map-append, length-map, take-map, drop-map}
 use Rattle.std.proofs.lemmas.List.Folds.{list_all-map}
 use Rattle.std.proofs.lemmas.Str.Ascii.{lowercase-lowercase}
 use Rattle.mime.specs.Bytes.{is_token_byte}
-use Rattle.mime.specs.Grammar.{Parameter, plain, quoted, Parameters, blank, final, more, Tail, no_list, listed, SyntaxTree, AreTokenBytes, IsToken, IsContent, IsParameter, AreParameters, IsTail, IsWellFormed}
-use Rattle.mime.specs.Values.{lowered, is_charset, lowered_value, lowered_parameter, lowered_list, lowered_tail, lowered_tree, last_plus, pairs_of_list, pairs_of_tail}
+use Rattle.mime.specs.Grammar.{Parameter, plain, quoted, Parameters, blank, final, more, Tail, no_list, listed, SyntaxTree, IsToken, IsContent, IsParameter, AreParameters, IsTail, IsWellFormed}
+use Rattle.mime.specs.Values.{lowered, is_charset, lowered_value, lowered_parameter, lowered_list, lowered_tail, lowered_tree, last_plus, pair_of, pairs_of_list, pairs_of_tail}
 use Rattle.mime.specs.Scanning.{positions_of, semicolon_of}
-use Rattle.mime.specs.KeptText.{IsLowPair}
-use Rattle.mime.proofs.GrammarLemmas.Content.{IsContent-lowered}
-use Rattle.mime.proofs.BytesLemmas.{list_all-wider}
+use Rattle.mime.specs.KeptText.{IsLowPair, lowered_pair}
+use Rattle.mime.proofs.GrammarLemmas.Content.{IsContent-case}
+use Rattle.std.specs.List.{list_all}
 
 -- lowering twice is lowering once
 pub lowered-lowered : (text : List ℕ) → lowered (lowered text) ≡ lowered text
@@ -36,21 +36,27 @@ lowered-take n text = sym (take-map to_ascii_lowercase n text)
 pub lowered-drop : (n : ℕ) (text : List ℕ) → lowered (drop n text) ≡ drop n (lowered text)
 lowered-drop n text = sym (drop-map to_ascii_lowercase n text)
 
--- a lowercased token byte is a token byte
-is_token_byte-lowercase : (b : ℕ) → is_token_byte b ≡ true → is_token_byte (to_ascii_lowercase b) ≡ true
+-- lowered bytes are of a class exactly if the bytes are, where case doesn't matter to the class
+pub list_all-lowered : (class : ℕ → Bool) → ((b : ℕ) → class (to_ascii_lowercase b) ≡ class b) → (bytes : List ℕ)
+    → list_all class (lowered bytes) ≡ list_all class bytes
+list_all-lowered class either bytes = list_all-map class to_ascii_lowercase bytes ∙ ap (λ c. list_all c bytes) (λ i b. either b i)
+
+-- so are the same bytes in another case
+pub list_all-case : (class : ℕ → Bool) → ((b : ℕ) → class (to_ascii_lowercase b) ≡ class b) → (bytes other : List ℕ)
+    → lowered other ≡ lowered bytes → list_all class bytes ≡ true → list_all class other ≡ true
+list_all-case class either bytes other is all =
+    sym (list_all-lowered class either other) ∙ ap (list_all class) is ∙ list_all-lowered class either bytes ∙ all
+
+-- a token in another case is a token
+pub IsToken-case : (bytes other : List ℕ) → lowered other ≡ lowered bytes → IsToken bytes → IsToken other
 unfolding is_token_byte
-is_token_byte-lowercase b member = grind (arith, nat_tests)
+IsToken-case [] other is token = absurd token
+IsToken-case (b ∷ bytes) [] is token = absurd cc
+IsToken-case (b ∷ bytes) (c ∷ other) is token =
+    list_all-case is_token_byte (λ x. grind (arith, nat_tests)) (b ∷ bytes) (c ∷ other) is token
 
--- lowercased token bytes are token bytes
-pub AreTokenBytes-lowered : (bytes : List ℕ) → AreTokenBytes bytes → AreTokenBytes (lowered bytes)
-AreTokenBytes-lowered bytes all =
-    list_all-map is_token_byte to_ascii_lowercase bytes
-    ∙ list_all-wider is_token_byte (λ b. is_token_byte (to_ascii_lowercase b)) is_token_byte-lowercase bytes all
-
--- a lowercased token is a token
 pub IsToken-lowered : (bytes : List ℕ) → IsToken bytes → IsToken (lowered bytes)
-IsToken-lowered [] token = token
-IsToken-lowered (b ∷ bytes) token = AreTokenBytes-lowered (b ∷ bytes) token
+IsToken-lowered bytes = IsToken-case bytes (lowered bytes) (lowered-lowered bytes)
 
 -- what holds of a value and of its lowering holds of it under any parameter's name
 pub lowered_value-either : (P : List ℕ → Type 0) (name value : List ℕ) → P value → P (lowered value) → P (lowered_value name value)
@@ -62,7 +68,8 @@ IsParameter-lowered : (p : Parameter) → IsParameter p → IsParameter (lowered
 IsParameter-lowered (plain name value) (named, token) =
     (IsToken-lowered name named, lowered_value-either IsToken name value token (IsToken-lowered value token))
 IsParameter-lowered (quoted name content n) (named, is, white) =
-    (IsToken-lowered name named, lowered_value-either IsContent name content is (IsContent-lowered content is), white)
+    let low = IsContent-case content (lowered content) (lowered-lowered content) is in
+    (IsToken-lowered name named, lowered_value-either IsContent name content is low, white)
 
 -- a lowercased parameter list is well formed
 AreParameters-lowered : (list : Parameters) → AreParameters list → AreParameters (lowered_list list)
@@ -122,16 +129,24 @@ last_plus-lowered at (b ∷ bytes) =
     let plus : (to_ascii_lowercase b == 43) ≡ (b == 43) = grind (arith, nat_tests) in
     rw (plus, last_plus-lowered (at + 1) bytes)
 
--- a lowercased list has as many pairs
-pub length-pairs_lowered : (list : Parameters) → length (pairs_of_list (lowered_list list)) ≡ length (pairs_of_list list)
-length-pairs_lowered (blank n) = refl
-length-pairs_lowered (final n p) = refl
-length-pairs_lowered (more n p rest) = omega (arith, length-pairs_lowered rest)
+-- the pair of a lowercased parameter is its pair, lowercased
+pub pair_of-lowered : (p : Parameter) → pair_of (lowered_parameter p) ≡ lowered_pair (pair_of p)
+pair_of-lowered (plain name value) = refl
+pair_of-lowered (quoted name content n) = refl
 
--- what follows a lowercased subtype has as many pairs
-length-tail_lowered : (tail : Tail) → length (pairs_of_tail (lowered_tail tail)) ≡ length (pairs_of_tail tail)
-length-tail_lowered no_list = refl
-length-tail_lowered (listed list) = length-pairs_lowered list
+-- so are the pairs of a lowercased list and tail
+pairs_of_list-lowered : (list : Parameters) → pairs_of_list (lowered_list list) ≡ map lowered_pair (pairs_of_list list)
+pairs_of_list-lowered (blank n) = refl
+pairs_of_list-lowered (final n p) = ap (λ pair. pair ∷ []) (pair_of-lowered p)
+pairs_of_list-lowered (more n p rest) = cc (pair_of-lowered p, pairs_of_list-lowered rest)
+
+pub pairs_of_tail-lowered : (tail : Tail) → pairs_of_tail (lowered_tail tail) ≡ map lowered_pair (pairs_of_tail tail)
+pairs_of_tail-lowered no_list = refl
+pairs_of_tail-lowered (listed list) = pairs_of_list-lowered list
+
+-- there are as many
+pub length-tail_lowered : (tail : Tail) → length (pairs_of_tail (lowered_tail tail)) ≡ length (pairs_of_tail tail)
+length-tail_lowered tail = ap length (pairs_of_tail-lowered tail) ∙ length-map (pairs_of_tail tail) lowered_pair
 
 -- lowering keeps the position of the semicolon
 semicolon_of-lowered : (at : ℕ) (tail : Tail) → semicolon_of at (lowered_tail tail) ≡ semicolon_of at tail

@@ -4,10 +4,11 @@ use Rattle.std.specs.Prelude.{IsTrue, ◌==◌, ◌&&◌, not}
 use Rattle.std.specs.List.{position_or_len}
 use Rattle.std.proofs.lemmas.List.{drop_more, drop_all, take_at, drop_at, drop-drop, take-append-drop}
 use Rattle.std.proofs.lemmas.Bool.{and_parts, cond-false, eqb-true, true≢false, cond_both}
-use Rattle.mime.specs.Bytes.{quote_byte, backslash_byte, semicolon_byte, equals_byte}
+use Rattle.mime.specs.Bytes.{quote_byte, backslash_byte, equals_byte}
 use Rattle.mime.specs.Grammar.{IsContent}
-use Rattle.mime.specs.Blocks.{first_position, before_byte, after_byte}
-use Rattle.mime.specs.Quoted.{awaits_next, takes, takes_all, awaits_after, len_from, content_len, after_content}
+use Rattle.mime.specs.Blocks.{first_position, before_byte, after_byte, IsEndOf}
+use Rattle.mime.proofs.BlocksLemmas.{end_all, end_drop}
+use Rattle.mime.specs.Quoted.{awaits_next, takes, takes_all, awaits_after, len_from, content_len}
 use Rattle.mime.proofs.GrammarLemmas.Content.{taken-closes_not, content-taken, content-awaits}
 use Rattle.mime.specs.Values.{lowered, lowered_value}
 use Rattle.mime.specs.Pairs.{PairCut, cut_after_equals, leading_spaces, without_spaces, cut_of, lowered_first, lowered_within}
@@ -116,14 +117,6 @@ pub content_len-first_quote : (text : List ℕ) (n : ℕ) → n ≡ first_positi
     → ((m : ℕ) → suc m ≡ n → get_or text m 0 ≢ backslash_byte) → n ≡ content_len text
 content_len-first_quote text n e before = sym (first_quote false text n e (λ _. refl) before)
 
--- the first list is the second without some of its first bytes
-abbrev IsEnd : List ℕ → List ℕ → Type 0
-IsEnd end list = (n : ℕ) × (end ≡ drop n list)
-
--- an end of an end of a list is an end of the list
-IsEnd-trans : (end middle list : List ℕ) → IsEnd end middle → IsEnd middle list → IsEnd end list
-IsEnd-trans end middle list first second = (second.0 + first.0, first.1 ∙ ap (drop first.0) second.1 ∙ drop-drop first.0 second.0 list)
-
 -- where the parts of a cut lie in a list
 pub record LiesIn (list : List ℕ) (cut : PairCut) : Type 0 where
   pub prefix : List ℕ
@@ -132,30 +125,26 @@ pub record LiesIn (list : List ℕ) (cut : PairCut) : Type 0 where
   pub head : cut.head ≡ length prefix
 
 -- a value that begins an end of the list lies in the list
-lies_from_end : (list bytes name rest : List ℕ) (k : ℕ) → IsEnd bytes list → IsEnd rest (drop k bytes)
+lies_from_end : (list bytes name rest : List ℕ) (k n : ℕ) → IsEndOf bytes list → rest ≡ drop n (drop k bytes)
     → LiesIn list (record { name = name; head = length list - length bytes; value = take k bytes; rest = rest })
-lies_from_end list bytes name rest k end after =
-    let prefix = take end.0 list in
-    let middle = take after.0 (drop k bytes) in
-    let whole : list ≡ prefix ++ bytes = sym (ap (λ x. prefix ++ x) end.1 ∙ take-append-drop end.0 list) in
+lies_from_end list bytes name rest k n end after =
+    let prefix = take (length list - length bytes) list in
+    let whole : prefix ++ bytes ≡ list = ap (λ x. prefix ++ x) end ∙ take-append-drop (length list - length bytes) list in
     record {
       prefix = prefix;
-      middle = middle;
-      parts =
-          whole ∙ ap (λ x. prefix ++ x) (sym (take-append-drop k bytes)
-          ∙ ap (λ x. take k bytes ++ x) (sym (ap (λ x. middle ++ x) after.1 ∙ take-append-drop after.0 (drop k bytes))));
+      middle = take n (drop k bytes);
+      parts = sym (rw (after, take-append-drop n (drop k bytes), take-append-drop k bytes) whole);
       head = omega (arith, ap length whole, length-append prefix bytes);
     }
 
 -- the cut after the equals sign lies in the list
-cut_value-lies : (list name bytes : List ℕ) → IsEnd bytes list → LiesIn list (cut_after_equals (length list) name bytes)
+cut_value-lies : (list name bytes : List ℕ) → IsEndOf bytes list → LiesIn list (cut_after_equals (length list) name bytes)
 cut_value-lies list name [] end = record { prefix = list; middle = []; parts = sym (append-nil list); head = refl }
 cut_value-lies list name (b ∷ bytes) end =
     cond_both (b == quote_byte) _ _ (LiesIn list)
-    (λ _. lies_from_end list bytes name _ (content_len bytes)
-    (IsEnd-trans bytes (b ∷ bytes) list (1, refl) end)
-    (IsEnd-trans _ (after_content bytes) _ (_, refl) (1, sym (drop-drop 1 (content_len bytes) bytes))))
-    (λ _. lies_from_end list (b ∷ bytes) name _ _ end (1, sym (drop-drop 1 (first_position semicolon_byte (b ∷ bytes)) (b ∷ bytes))))
+    (λ _. lies_from_end list bytes name _ (content_len bytes) _ (end_drop 1 (b ∷ bytes) list end)
+    (ap (drop _) (sym (drop-drop 1 (content_len bytes) bytes)) ∙ drop-drop _ 1 (drop (content_len bytes) bytes)))
+    (λ _. lies_from_end list (b ∷ bytes) name _ _ 1 end (sym (drop-drop 1 _ (b ∷ bytes))))
 
 -- the cut of any list lies in it
 pub cut_of-lies : (list : List ℕ) → LiesIn list (cut_of list)
@@ -163,7 +152,7 @@ unfolding cut_of
 cut_of-lies list =
     let body = without_spaces list in
     cut_value-lies list (before_byte equals_byte body) (after_byte equals_byte body)
-    (IsEnd-trans _ body list (_, refl) (leading_spaces list, refl))
+    (end_drop _ body list (end_drop (leading_spaces list) list list (end_all list)))
 
 -- the first value and the rest don't overlap within the list
 pub cut_of-within : (list : List ℕ) → (cut_of list).head + length (cut_of list).value + length (cut_of list).rest ≤ length list

@@ -1,23 +1,22 @@
 -- The parts of a value that was read: its plus, where its essence may be cut, what is lowercase, and how many pairs it has.
-use Rattle.std.proofs.Common.{◌≡◌, ℕ, suc, ◌+◌, ◌-◌, ◌<◌, List, [], ◌∷◌, ◌++◌, length, drop, Option, Some, None, refl, sym, ap, ◌∙◌, subst, arith, ⊎_elim, zero, ◌≤◌, true, take, lit<}
+use Rattle.std.proofs.Common.{◌≡◌, ℕ, suc, ◌+◌, ◌-◌, ◌<◌, List, map, [], ◌∷◌, ◌++◌, length, drop, Option, Some, None, refl, sym, ap, ◌∙◌, subst, arith, ⊎_elim, zero, ◌≤◌, true, take, lit<}
 use Rattle.std.specs.Prelude.{slice_get, MatchOption, if◌then◌else◌, ◌==◌, unwrap_or, IsUtf8, codes}
 use Rattle.std.specs.Option.{option_or}
 use Rattle.std.proofs.lemmas.Bool.{cond_both, cases_lt, eqb-true, eqb-false}
 use Rattle.std.proofs.lemmas.Option.{same_Some, none-some, slice_get_within, MatchOption-at_some}
 use Rattle.mime.specs.Bytes.{slash_byte, plus_byte}
-use Rattle.mime.specs.Values.{lowered, last_plus, MediaType, Reads, lowered_parameter, lowered_list, lowered_tail, pair_of, pairs_of_list, pairs_of_tail, lowered_tree, kept_text, essence_of}
+use Rattle.mime.specs.Values.{lowered, last_plus, MediaType, Reads, pairs_of_tail, lowered_tree, kept_text, essence_of}
 use Rattle.mime.specs.Laws.{HasNoPlusFrom, PlusIsLast}
 use Rattle.mime.proofs.BytesLemmas.{slice_get-after, slice_get-prefix, boundary_before, boundary_after}
-use Rattle.mime.proofs.ValueLemmas.Lowercase.{length-lowered, lowered-lowered, lowered-append, lowered-take, lowered-drop, lowered_value-lowered, low_pair-parts}
+use Rattle.mime.proofs.ValueLemmas.Lowercase.{length-lowered, lowered-lowered, lowered-append, lowered-take, lowered-drop, lowered_value-lowered, low_pair-parts, length-tail_lowered, pairs_of_tail-lowered}
+use Rattle.mime.proofs.ValueLemmas.KeptText.{media_of-kept}
 use Rattle.std.specs.List.{AllByRecursion}
 use Rattle.std.specs.Str.{IsCharBoundary, bytes_eq}
 use Rattle.std.proofs.lemmas.Str.{IsCharBoundary-end}
-use Rattle.mime.specs.Grammar.{Parameter, plain, quoted, Parameters, blank, final, more, Tail, no_list, listed}
-use Rattle.mime.specs.Pairs.{cut_of, pairs_within, pairs_after}
+use Rattle.mime.specs.Pairs.{cut_of, pairs_within}
 use Rattle.mime.specs.Items.{items_of, IsLowItem}
-use Rattle.mime.specs.KeptText.{IsLowPair, AreLowPairs, media_of, IsKept}
+use Rattle.mime.specs.KeptText.{lowered_pair, AreLowPairs, media_of, IsKept}
 use Rattle.mime.specs.Comparison.{Same}
-use Rattle.mime.specs.Scanning.{semicolon_of}
 use Rattle.mime.specs.declared.scan.Positions.{Positions}
 use Rattle.mime.proofs.GrammarLemmas.Readings.{one_reading}
 
@@ -126,25 +125,15 @@ read-low_essence text value reads =
     subst (λ (v : MediaType). lowered v.essence ≡ v.essence) reads.valued
     (lowered-append top (slash_byte ∷ sub) ∙ rw (lowered-lowered reads.tree.top, lowered-lowered reads.tree.sub) refl)
 
--- the pair of a lowercased parameter is low
-low_pair : (p : Parameter) → IsLowPair (pair_of (lowered_parameter p))
-low_pair (plain name value) = cc (lowered-lowered name, lowered_value-lowered name value)
-low_pair (quoted name content n) = cc (lowered-lowered name, lowered_value-lowered name content)
-
--- the pairs of a lowercased list are low
-low_pairs : (list : Parameters) → AreLowPairs (pairs_of_list (lowered_list list))
-low_pairs (blank n) = tt
-low_pairs (final n p) = (low_pair p, tt)
-low_pairs (more n p rest) = (low_pair p, low_pairs rest)
-
--- the pairs of a lowercased tail are low
-low_pairs-tail : (tail : Tail) → AreLowPairs (pairs_of_tail (lowered_tail tail))
-low_pairs-tail no_list = tt
-low_pairs-tail (listed list) = low_pairs list
+-- lowercased pairs are low
+low_pairs : (pairs : List (List ℕ × List ℕ)) → AreLowPairs (map lowered_pair pairs)
+low_pairs [] = tt
+low_pairs ((name, value) ∷ pairs) = (cc (lowered-lowered name, lowered_value-lowered name value), low_pairs pairs)
 
 -- the pairs of a value that was read are low
 pub read-low_pairs : (text : List ℕ) (value : MediaType) → Reads text value → AreLowPairs value.pairs
-read-low_pairs text value reads = subst (λ (v : MediaType). AreLowPairs v.pairs) reads.valued (low_pairs-tail reads.tree.tail)
+read-low_pairs text value reads =
+    subst (λ (v : MediaType). AreLowPairs v.pairs) reads.valued (rw (pairs_of_tail-lowered reads.tree.tail) (low_pairs _))
 
 -- ---- the items of pairs
 
@@ -160,22 +149,11 @@ pub length-pairs_within : (count : ℕ) (list : List ℕ) → length (pairs_with
 length-pairs_within zero list = refl
 length-pairs_within (suc count) list = ap suc (length-pairs_within count (cut_of list).rest)
 
--- without a semicolon there is no pair
-kept-none : (text : List ℕ) (positions : Positions) → IsKept text positions → positions.semicolon ≡ None → positions.pairs ≡ 0
-kept-none text positions is_kept none =
-    ap (λ p. p.pairs) (sym is_kept.same_positions) ∙ go is_kept.tree.tail _ (ap (λ p. p.semicolon) is_kept.same_positions ∙ none)
-  where
-    go : (tail : Tail) (at : ℕ) → semicolon_of at tail ≡ None → length (pairs_of_tail tail) ≡ 0
-    go no_list at is = refl
-    go (listed list) at is = absurd cc
-
 -- the count is that of the pairs
 pub kept-count : (text : List ℕ) (positions : Positions) → IsKept text positions → positions.pairs ≡ length (media_of text positions).pairs
-kept-count text positions is_kept = go positions.semicolon refl
-  where
-    go : (semicolon : Option ℕ) → positions.semicolon ≡ semicolon → positions.pairs ≡ length (pairs_after positions.pairs semicolon text)
-    go None is = kept-none text positions is_kept is
-    go (Some semicolon) is = sym (length-pairs_within positions.pairs (drop (semicolon + 1) text))
+kept-count text positions is_kept =
+    sym (length-tail_lowered is_kept.has.tree.tail ∙ ap (λ p. p.pairs) is_kept.has.same_positions)
+    ∙ ap (λ (value : MediaType). length value.pairs) (media_of-kept text positions is_kept)
 
 -- values that were read from one text are equal
 pub same_from_text : (text other : List ℕ) (x y : MediaType) → Reads text x → Reads other y → text ≡ other → Same x y

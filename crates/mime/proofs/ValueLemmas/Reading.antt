@@ -2,15 +2,16 @@
 use Rattle.std.proofs.Common.{◌≡◌, ℕ, List, [], ◌∷◌, refl, sym, ap, ◌∙◌, subst, ◌+◌, length, take, drop, Option, Some, None, codes}
 use Rattle.std.specs.Prelude.{◌≢◌, Result, Ok, Err, IfErr, codes, unwrap_or}
 use Rattle.mime.specs.Bytes.{is_token_byte, space_byte}
-use Rattle.mime.specs.Grammar.{SyntaxTree, no_list, IsWellFormed, plain, final, Tail, listed, text_of, IsToken, IsTail}
+use Rattle.mime.specs.Grammar.{SyntaxTree, no_list, plain, final, Tail, listed, text_of, IsToken, IsTail}
 use Rattle.mime.specs.Values.{value_of, IsAccepted, IsRefused, lowered_tree}
 use Rattle.mime.specs.Refusals.{IsFault, Explains}
 use Rattle.mime.specs.Scanning.{HasPositions, positions_of}
-use Rattle.mime.specs.KeptText.{IsKept, HoldsParameter, positions_in}
+use Rattle.mime.specs.KeptText.{IsKept, kept_positions, positions_in}
 use Rattle.mime.specs.declared.scan.fault.ParseError.{ParseError}
 use Rattle.mime.specs.declared.scan.fault.ParseError.TheVariants.{InvalidToken, NoMemory}
 use Rattle.mime.specs.declared.scan.Positions.{Positions}
 use Rattle.mime.proofs.GrammarLemmas.Readings.{one_tree}
+use Rattle.mime.proofs.ValueLemmas.KeptText.{reads_as}
 use Rattle.mime.proofs.GrammarLemmas.Viability.{refused-at_dead}
 use Rattle.mime.proofs.GrammarLemmas.Faults.{completed_is_refused}
 use Rattle.mime.specs.Atoms.{atom_text}
@@ -19,8 +20,7 @@ use Rattle.mime.specs.declared.atoms.Atom.TheVariants.{STAR_STAR}
 
 -- a text with positions of its parts is accepted
 pub accepted-from_positions : (text : List ℕ) (positions : Positions) → HasPositions text positions → IsAccepted text
-accepted-from_positions text positions has =
-    (value_of has.tree, record { tree = has.tree; well_formed = has.well_formed; spelled = has.spelled; valued = refl })
+accepted-from_positions text positions has = (value_of has.tree, reads_as has refl)
 
 -- running out of memory is explained where the text is accepted
 pub Explains-no_memory : {T : Type 0} (text : List ℕ) (result : Result T ParseError) → IsAccepted text
@@ -32,31 +32,6 @@ Explains-no_memory text (Err error) accepted memory = subst (Explains text) (sym
 pub refused-from_fault : (text : List ℕ) (fault : ParseError) → IsFault text fault → IsRefused text
 refused-from_fault text (InvalidToken pos byte) fault = refused-at_dead text pos byte fault
 refused-from_fault text other fault = completed_is_refused text other fault
-
--- the tree of `*/*`
-abbrev star_tree : SyntaxTree
-star_tree = record { top = 42 ∷ []; sub = 42 ∷ []; tail = no_list }
-
--- the tree of `*/*` is well formed
-star_tree-IsWellFormed : IsWellFormed star_tree
-unfolding is_token_byte
-star_tree-IsWellFormed = (refl, refl, tt)
-
--- `*/*` is kept as it is
-pub star-IsKept : (positions : Positions) → HasPositions (42 ∷ 47 ∷ 42 ∷ []) positions → IsKept (42 ∷ 47 ∷ 42 ∷ []) positions
-star-IsKept positions has = record {
-  tree = star_tree;
-  well_formed = star_tree-IsWellFormed;
-  low = refl;
-  kept = tt;
-  spelled = refl;
-  same_positions = ap positions_of (one_tree star_tree has.tree star_tree-IsWellFormed has.well_formed (sym has.spelled)) ∙ has.same_positions;
-}
-
--- `*/*` is accepted
-pub star-accepted : (text : List ℕ) → text ≡ 42 ∷ 47 ∷ 42 ∷ [] → IsAccepted text
-star-accepted text is =
-    (value_of star_tree, record { tree = star_tree; well_formed = star_tree-IsWellFormed; spelled = sym is; valued = refl })
 
 -- a fault explains a refusal
 pub Explains-from_fault : (text : List ℕ) (fault : ParseError) → IsFault text fault → Explains text fault
@@ -74,11 +49,6 @@ unfolding is_token_byte
 is_tail None = tt
 is_tail (Some semicolon) = (refl, (refl, refl))
 
--- the tail of a constant's text holds a parameter if it is a list
-holds_parameter : (semicolon : Option ℕ) → HoldsParameter (tail_at semicolon)
-holds_parameter None = tt
-holds_parameter (Some semicolon) = tt
-
 -- the tree of a constant's text
 abbrev tree_in : List ℕ → SyntaxTree
 tree_in text = record {
@@ -89,18 +59,36 @@ tree_in text = record {
 
 -- a text is kept if it is that of the tree in it, which is well formed and its own lowercased form
 kept_by : (text : List ℕ) → IsToken (tree_in text).top → IsToken (tree_in text).sub → lowered_tree (tree_in text) ≡ tree_in text
-    → text_of (tree_in text) ≡ text → positions_of (tree_in text) ≡ positions_in text → IsKept text (positions_in text)
-kept_by text top sub low spelled same_positions = record {
-  tree = tree_in text;
-  well_formed = (top, sub, is_tail (positions_in text).semicolon);
+    → text_of (tree_in text) ≡ text → positions_of (tree_in text) ≡ positions_in text
+    → kept_positions (positions_in text) ≡ positions_in text → IsKept text (positions_in text)
+kept_by text top sub low spelled same_positions kept = record {
+  has = record {
+    tree = tree_in text;
+    well_formed = (top, sub, is_tail (positions_in text).semicolon);
+    spelled = spelled;
+    same_positions = same_positions;
+  };
   low = low;
-  kept = holds_parameter (positions_in text).semicolon;
-  spelled = spelled;
-  same_positions = same_positions;
+  kept = kept;
 }
 
 -- each constant's text is kept: the second line is one case for each constant but the first
 pub kept_atom : (atom : Atom) → IsKept (atom_text atom) (positions_in (atom_text atom))
 unfolding is_token_byte
-kept_atom STAR_STAR = kept_by (atom_text STAR_STAR) refl refl refl refl refl
-kept_atom atom = kept_by (atom_text atom) refl refl refl refl refl
+kept_atom STAR_STAR = kept_by (atom_text STAR_STAR) refl refl refl refl refl refl
+kept_atom atom = kept_by (atom_text atom) refl refl refl refl refl refl
+
+-- each part of an accepted text has one position
+pub one_positions : (text : List ℕ) (first second : Positions) → HasPositions text first → HasPositions text second → first ≡ second
+one_positions text first second has also =
+    sym has.same_positions ∙ ap positions_of (one_tree has.tree also.tree has.well_formed also.well_formed (has.spelled ∙ sym also.spelled))
+    ∙ also.same_positions
+
+-- `*/*` is kept as it is
+pub star-IsKept : (positions : Positions) → HasPositions (42 ∷ 47 ∷ 42 ∷ []) positions → IsKept (42 ∷ 47 ∷ 42 ∷ []) positions
+star-IsKept positions has =
+    let star = kept_atom STAR_STAR in subst (IsKept (42 ∷ 47 ∷ 42 ∷ [])) (one_positions _ _ positions star.has has) star
+
+-- `*/*` is accepted
+pub star-accepted : (text : List ℕ) → text ≡ 42 ∷ 47 ∷ 42 ∷ [] → IsAccepted text
+star-accepted text is = subst IsAccepted (sym is) (accepted-from_positions _ _ (kept_atom STAR_STAR).has)

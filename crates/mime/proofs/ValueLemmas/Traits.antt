@@ -1,8 +1,10 @@
 -- The order of values, with the laws of `Before` and `Same`, and two iterators that std's `eq` compares.
-use Rattle.std.proofs.Common.{◌≡◌, ℕ, ◌<◌, ◌⊎◌, inl, inr, Bool, true, false, IsTrue, ◌↔◌, List, [], ◌∷◌, refl, sym, ap, ◌∙◌, subst, true≢false, Option, None, Some}
+use Rattle.std.proofs.Common.{◌≡◌, ◌<◌, ◌⊎◌, inl, inr, ⊎_elim, Bool, true, false, IsTrue, ◌↔◌, List, [], ◌∷◌, refl, sym, ap, ◌∙◌, subst, true≢false, Option, None, Some}
 use Rattle.std.specs.declared.cmp.Ordering.{Ordering}
 use Rattle.std.specs.declared.cmp.Ordering.TheVariants.{Less, Equal, Greater}
-use Rattle.std.specs.Cmp.{tied_itself, nat_cmp_is, nat_cmp_total, ranked}
+use Rattle.std.specs.Cmp.{IsTotalOrder, tied_itself, nat_cmp_is, nat_cmp_total, ranked}
+use Rattle.std.specs.FinMap.{IsAntisymmetric, nat_cmp-IsAntisymmetric}
+use Rattle.std.proofs.lemmas.Map.Lookups.{exact_bytes, exact_pairs}
 use Rattle.std.specs.Cmp.Lexicographic.{slice_cmp, nat_list_cmp_total}
 use Rattle.std.specs.Ordering.{MatchOrdering, nat_cmp, ordering_then, is_eq, is_lt, eq_by_cmp, ordering_reverse}
 use Rattle.mime.specs.Values.{MediaType}
@@ -15,122 +17,88 @@ use Rattle.std.specs.List.{AllZip}
 use Rattle.std.proofs.lemmas.Bool.{true≢false}
 use Rattle.mime.proofs.IgnoringCase.{cons_parts}
 
--- what an answer of an order says
-abbrev Tells : {X : Type 0} → (X → X → Ordering) → (X → X → Type 0) → Type 0
-Tells {X} cmp IsLess = (x y : X) → MatchOrdering (cmp x y) (IsLess x y) (x ≡ y) (IsLess y x)
+-- an order finds one thing less than another exactly where that comes before, and finds them equal exactly where they are the same
+abbrev Finds : {X : Type 0} → (X → X → Ordering) → (X → X → Type 0) → Type 0
+Finds {X} cmp IsLess = (x y : X) → (cmp x y ≡ Less) ↔ IsLess x y
 
--- what two orders say, one after the other
-tells_then : {X : Type 0} (x y : X) (P P' Q Q' R : Type 0) (a b : Ordering)
-    → MatchOrdering a P (x ≡ y) P' → MatchOrdering b Q R Q'
-    → MatchOrdering (ordering_then a b) (P ⊎ ((x ≡ y) × Q)) ((x ≡ y) × R) (P' ⊎ ((y ≡ x) × Q'))
-tells_then x y P P' Q Q' R Less b first second = inl first
-tells_then x y P P' Q Q' R Equal Less first second = inr (first, second)
-tells_then x y P P' Q Q' R Equal Equal first second = (first, second)
-tells_then x y P P' Q Q' R Equal Greater first second = inr (sym first, second)
-tells_then x y P P' Q Q' R Greater b first second = inl first
+abbrev Exact : {X : Type 0} → (X → X → Ordering) → Type 0
+Exact {X} cmp = (x y : X) → (cmp x y ≡ Equal) ↔ (x ≡ y)
 
--- what an order says, with what is equal in other words
-tells_equal : (P P' Q R : Type 0) (a : Ordering) → MatchOrdering a P Q P' → (Q → R) → MatchOrdering a P R P'
-tells_equal P P' Q R Less says by = says
-tells_equal P P' Q R Equal says by = by says
-tells_equal P P' Q R Greater says by = says
+exact : {X : Type 0} {cmp : X → X → Ordering} → IsTotalOrder cmp → IsAntisymmetric cmp → Exact cmp
+exact {cmp = cmp} total same x y = (same x y, λ is. ap (cmp x) (sym is) ∙ tied_itself total x)
 
--- the order of lists says what comes before, if that of their items does
-tells_lists : {X : Type 0} (cmp : X → X → Ordering) (IsLess : X → X → Type 0) → Tells cmp IsLess
-    → Tells (slice_cmp cmp) (IsListBefore IsLess)
-tells_lists cmp IsLess tells [] [] = refl
-tells_lists cmp IsLess tells [] (y ∷ ys) = tt
-tells_lists cmp IsLess tells (x ∷ xs) [] = tt
-tells_lists cmp IsLess tells (x ∷ xs) (y ∷ ys) =
-    tells_equal _ _ _ _ (ordering_then (cmp x y) (slice_cmp cmp xs ys))
-    (tells_then x y _ _ _ _ _ (cmp x y) (slice_cmp cmp xs ys) (tells x y) (tells_lists cmp IsLess tells xs ys))
-    (λ same i. same.0 i ∷ same.1 i)
+-- what two orders find, one after the other
+finds_then : {X : Type 0} (x y : X) (P Q : Type 0) (a b : Ordering) → (a ≡ Less) ↔ P → (a ≡ Equal) ↔ (x ≡ y) → (b ≡ Less) ↔ Q
+    → (ordering_then a b ≡ Less) ↔ (P ⊎ ((x ≡ y) × Q))
+finds_then x y P Q Less b less equal rest = (λ is. inl (less.0 refl), λ _. refl)
+finds_then x y P Q Equal b less equal rest =
+    (λ is. inr (equal.0 refl, rest.0 is), ⊎_elim (λ first. absurd (let e = less.1 first in cc)) (λ both. rest.1 both.1))
+finds_then x y P Q Greater b less equal rest =
+    (λ is. inl (less.0 is), ⊎_elim less.1 (λ both. absurd (let e = equal.1 both.0 in cc)))
 
--- the order of bytes says which is less
-tells_bytes : Tells nat_cmp (λ x y. x < y)
-tells_bytes x y = ranked x y (nat_cmp x y) refl
+-- the order of lists finds less what comes before, if that of their items does
+finds_lists : {X : Type 0} (cmp : X → X → Ordering) (IsLess : X → X → Type 0) → Finds cmp IsLess → Exact cmp
+    → Finds (slice_cmp cmp) (IsListBefore IsLess)
+finds_lists cmp IsLess finds exact [] [] = (λ is. absurd cc, λ before. absurd before)
+finds_lists cmp IsLess finds exact [] (y ∷ ys) = (λ _. tt, λ _. refl)
+finds_lists cmp IsLess finds exact (x ∷ xs) [] = (λ is. absurd cc, λ before. absurd before)
+finds_lists cmp IsLess finds exact (x ∷ xs) (y ∷ ys) =
+    finds_then x y _ _ (cmp x y) (slice_cmp cmp xs ys) (finds x y) (exact x y) (finds_lists cmp IsLess finds exact xs ys)
 
--- the order of texts says which comes before
-tells_texts : Tells (slice_cmp nat_cmp) IsTextBefore
-tells_texts = tells_lists nat_cmp (λ x y. x < y) tells_bytes
+-- so of bytes, of texts, of pairs and of values
+finds_bytes : Finds nat_cmp (λ x y. x < y)
+finds_bytes x y =
+    (λ is. subst (λ o. MatchOrdering o (x < y) (x ≡ y) (y < x)) is (ranked x y (nat_cmp x y) refl), λ less. sym (nat_cmp_is x y Less less))
 
--- the order of pairs says which comes before
-tells_pairs : Tells pair_cmp IsPairBefore
-tells_pairs x y =
-    tells_equal _ _ _ _ (pair_cmp x y)
-    (tells_then x.0 y.0 _ _ _ _ _ (slice_cmp nat_cmp x.0 y.0) (slice_cmp nat_cmp x.1 y.1) (tells_texts x.0 y.0) (tells_texts x.1 y.1))
-    (λ same i. (same.0 i, same.1 i))
+finds_texts : Finds (slice_cmp nat_cmp) IsTextBefore
+finds_texts = finds_lists nat_cmp (λ x y. x < y) finds_bytes (exact nat_cmp_total nat_cmp-IsAntisymmetric)
 
--- the order of values says which comes before
+exact_texts : Exact (slice_cmp nat_cmp)
+exact_texts = exact nat_list_cmp_total exact_bytes
+
+finds_pairs : Finds pair_cmp IsPairBefore
+finds_pairs x y =
+    finds_then x.0 y.0 _ _ (slice_cmp nat_cmp x.0 y.0) (slice_cmp nat_cmp x.1 y.1) (finds_texts x.0 y.0) (exact_texts x.0 y.0)
+    (finds_texts x.1 y.1)
+
+finds_media : (x y : MediaType) → (media_cmp x y ≡ Less) ↔ Before x y
+finds_media x y =
+    finds_then x.essence y.essence _ _ (slice_cmp nat_cmp x.essence y.essence) (slice_cmp pair_cmp x.pairs y.pairs)
+    (finds_texts x.essence y.essence) (exact_texts x.essence y.essence)
+    (finds_lists pair_cmp IsPairBefore finds_pairs (exact pair_cmp_total (exact_pairs _ _ exact_bytes exact_bytes)) x.pairs y.pairs)
+
+-- what the order of values says: the first comes before the second, they are equal, or the second comes first
 pub tells_media : (x y : MediaType) → MatchOrdering (media_cmp x y) (Before x y) (Same x y) (Before y x)
-tells_media x y =
-    tells_then x.essence y.essence _ _ _ _ _ (slice_cmp nat_cmp x.essence y.essence) (slice_cmp pair_cmp x.pairs y.pairs)
-    (tells_texts x.essence y.essence) (tells_lists pair_cmp IsPairBefore tells_pairs x.pairs y.pairs)
+tells_media x y = go (media_cmp x y) refl
+  where
+    go : (o : Ordering) → media_cmp x y ≡ o → MatchOrdering o (Before x y) (Same x y) (Before y x)
+    go Less is = (finds_media x y).0 is
+    go Equal is = same_from_cmp x y (ap is_eq is)
+    go Greater is = (finds_media y x).0 (media_cmp_total.antisymm y x ∙ ap ordering_reverse is)
 
--- what an answer of the order says: the first comes before the second, they are equal, or the second comes first
+-- so does an answer that is the order's
 pub tells_answer : (x y : MediaType) (answer : Ordering) → answer ≡ media_cmp x y
     → MatchOrdering answer (Before x y) (Same x y) (Before y x)
 tells_answer x y answer is = subst (λ order. MatchOrdering order (Before x y) (Same x y) (Before y x)) (sym is) (tells_media x y)
-
--- where the first order finds equal and the second less, the two find less
-then-less : (a b : Ordering) → a ≡ Equal → b ≡ Less → ordering_then a b ≡ Less
-then-less a b equal less = ap (λ o. ordering_then o b) equal ∙ less
-
--- a list before another is less
-less-lists : {X : Type 0} (cmp : X → X → Ordering) (IsLess : X → X → Type 0) → ((x y : X) → IsLess x y → cmp x y ≡ Less)
-    → ((x : X) → cmp x x ≡ Equal) → (xs ys : List X) → IsListBefore IsLess xs ys → slice_cmp cmp xs ys ≡ Less
-less-lists cmp IsLess less same [] [] before = absurd before
-less-lists cmp IsLess less same [] (y ∷ ys) before = refl
-less-lists cmp IsLess less same (x ∷ xs) [] before = absurd before
-less-lists cmp IsLess less same (x ∷ xs) (y ∷ ys) (inl first) = ap (λ o. ordering_then o (slice_cmp cmp xs ys)) (less x y first)
-less-lists cmp IsLess less same (x ∷ xs) (y ∷ ys) (inr rest) =
-    then-less (cmp x y) (slice_cmp cmp xs ys) (ap (cmp x) (sym rest.0) ∙ same x) (less-lists cmp IsLess less same xs ys rest.1)
-
--- a lesser byte is less to the order
-less-bytes : (x y : ℕ) → x < y → nat_cmp x y ≡ Less
-less-bytes x y less = sym (nat_cmp_is x y Less less)
-
--- a text before another is less
-less-texts : (x y : List ℕ) → IsTextBefore x y → slice_cmp nat_cmp x y ≡ Less
-less-texts x y before = less-lists nat_cmp (λ x y. x < y) less-bytes (tied_itself nat_cmp_total) x y before
-
--- a pair before another is less
-less-pairs : (x y : List ℕ × List ℕ) → IsPairBefore x y → pair_cmp x y ≡ Less
-less-pairs x y (inl name) = ap (λ o. ordering_then o (slice_cmp nat_cmp x.1 y.1)) (less-texts x.0 y.0 name)
-less-pairs x y (inr rest) =
-    then-less (slice_cmp nat_cmp x.0 y.0) (slice_cmp nat_cmp x.1 y.1)
-    (ap (slice_cmp nat_cmp x.0) (sym rest.0) ∙ tied_itself nat_list_cmp_total x.0)
-    (less-texts x.1 y.1 rest.1)
-
--- a value before another is less
-less-media : (x y : MediaType) → Before x y → media_cmp x y ≡ Less
-less-media x y (inl essence) = ap (λ o. ordering_then o (slice_cmp pair_cmp x.pairs y.pairs)) (less-texts x.essence y.essence essence)
-less-media x y (inr rest) =
-    then-less (slice_cmp nat_cmp x.essence y.essence) (slice_cmp pair_cmp x.pairs y.pairs)
-    (ap (slice_cmp nat_cmp x.essence) (sym rest.0) ∙ tied_itself nat_list_cmp_total x.essence)
-    (less-lists pair_cmp IsPairBefore less-pairs (tied_itself pair_cmp_total) x.pairs y.pairs rest.1)
 
 -- equal values are equal to the order
 pub equal-media : (x y : MediaType) → Same x y → media_cmp x y ≡ Equal
 equal-media x y same = cc (same.0, same.1, tied_itself media_cmp_total y)
 
-less-not_equal : (o : Ordering) → o ≡ Less → ¬ (o ≡ Equal)
-less-not_equal o less equal = true≢false (ap is_lt (sym less ∙ equal))
-
 -- neither of two equal values comes before the other
 Before-not_same : (x y : MediaType) → Before x y → ¬ (Same x y)
-Before-not_same x y before same = less-not_equal (media_cmp x y) (less-media x y before) (equal-media x y same)
+Before-not_same x y before same = true≢false (ap is_lt (sym ((finds_media x y).1 before) ∙ equal-media x y same))
 
 -- of two values one at most comes before the other
 Before-not_both : (x y : MediaType) → Before x y → ¬ (Before y x)
 Before-not_both x y before back =
-    true≢false (ap is_lt (sym (less-media x y before) ∙ media_cmp_total.antisymm x y ∙ ap ordering_reverse (less-media y x back)))
+    true≢false (ap is_lt (sym ((finds_media x y).1 before) ∙ media_cmp_total.antisymm x y ∙ ap ordering_reverse ((finds_media y x).1 back)))
 
 -- a value before one that comes before a third comes before the third
 pub Before-transitive : (x y z : MediaType) → Before x y → Before y z → Before x z
 Before-transitive x y z first second =
     subst (λ o. MatchOrdering o (Before x z) (Same x z) (Before z x))
-    (media_cmp_total.trans x y z (less-media x y first) (less-media y z second)) (tells_media x z)
+    (media_cmp_total.trans x y z ((finds_media x y).1 first) ((finds_media y z).1 second)) (tells_media x z)
 
 -- two values are equal exactly where the order finds them equal
 pub eq_by_cmp-tells : (x y : MediaType) → IsTrue (eq_by_cmp media_cmp x y) ↔ Same x y
@@ -165,18 +133,10 @@ module _ {A B : Type 0} (seen : A → B) (eq : A → A → Bool) (agrees : (x y 
 
   at_last : (o p : Option A) (s t u w : List B) → Steps s o u → Steps t p w → Last o p → IsTrue r ↔ (s ≡ t)
   at_last None None s t u w one other last = (λ _. one.0 ∙ sym other.0, λ _. last)
-  at_last None (Some y) s t u w one other last = (
-    λ yes. absurd (true≢false (sym yes ∙ last)),
-    λ same. absurd (let e = sym one.0 ∙ same ∙ other in cc),
-  )
-  at_last (Some x) None s t u w one other last = (
-    λ yes. absurd (true≢false (sym yes ∙ last.0)),
-    λ same. absurd (let e = sym one ∙ same ∙ other.0 in cc),
-  )
-  at_last (Some x) (Some y) s t u w one other last = (
-    λ yes. absurd (true≢false (sym yes ∙ last.0)),
-    λ same. absurd (true≢false (sym ((agrees x y).1 (cons_parts (sym one ∙ same ∙ other)).0) ∙ last.1)),
-  )
+  at_last None (Some y) s t u w one other last = (λ yes. absurd cc, λ same. absurd (let e = sym one.0 ∙ same ∙ other in cc))
+  at_last (Some x) None s t u w one other (unequal, _) = (λ yes. absurd cc, λ same. absurd (let e = sym one ∙ same ∙ other.0 in cc))
+  at_last (Some x) (Some y) s t u w one other (unequal, differ) =
+      (λ yes. absurd cc, λ same. absurd (true≢false (sym ((agrees x y).1 (cons_parts (sym one ∙ same ∙ other)).0) ∙ differ)))
 
   along : (xs ys : List A) (o p : Option A) (s t u w : List B) → YieldsThen Steps s xs o u → YieldsThen Steps t ys p w
       → AllZip (λ x y. eq x y ≡ true) xs ys → Last o p → IsTrue r ↔ (s ≡ t)

@@ -1,15 +1,20 @@
 -- A text of which parts are lowercased: what holds of it, and that it keeps UTF-8.
-use Rattle.std.proofs.Common.{◌≡◌, ℕ, suc, ◌<◌, ◌≤◌, true, List, [], ◌∷◌, ◌++◌, length, take, drop, get_or, refl, sym, ap, ◌∙◌, subst, arith, append-nil, ⊎_elim}
+use Rattle.std.proofs.Common.{◌≡◌, ℕ, ◌<◌, ◌≤◌, Bool, true, List, [], ◌∷◌, ◌++◌, length, take, drop, refl, sym, ap, ◌∙◌, subst, arith, ⊎_elim}
 use Rattle.std.specs.Prelude.{IsUtf8}
 use Rattle.std.specs.Char.{to_ascii_lowercase}
 use Rattle.std.proofs.lemmas.Bool.{and_parts, cases_lt}
 use Rattle.std.proofs.lemmas.Bool.Decides.{nat_tests}
 use Rattle.std.proofs.lemmas.List.{take_at, drop_at, take-append-drop}
-use Rattle.std.proofs.lemmas.Str.{IsUtf8-nil, IsUtf8-append, IsUtf8-encode, IsUtf8-from_ascii, encode_ascii, inside_one}
+use Rattle.std.proofs.lemmas.Str.{IsUtf8-nil, IsUtf8-append, IsUtf8-encode, IsUtf8-from_ascii, encode_ascii}
 use Rattle.std.proofs.lemmas.Str.Ascii.{IsAscii-cons, IsAscii-nil}
 use Rattle.mime.specs.Values.{lowered}
 use Rattle.mime.proofs.ValueLemmas.Lowercase.{lowered-lowered, length-lowered, lowered-append, lowered-take, lowered-drop}
-use lib.Utf8.{scalars, scalar, encodes, encode}
+use Rattle.std.specs.Prelude.{◌&&◌, ◌||◌, nat_le, nat_lt}
+use Rattle.std.specs.List.{list_all}
+use Rattle.std.proofs.lemmas.Bool.{cond_both}
+use Rattle.mime.proofs.BytesLemmas.{list_all-wider}
+use lib.Dec.{T, ltb, ltb→lt}
+use lib.Utf8.{scalars, scalar, encodes, encode, scalar_cases}
 
 -- the second text is the first with some of its parts lowercased
 pub data IsLoweredInPart : List ℕ → List ℕ → Type 0 where
@@ -45,7 +50,7 @@ low-in_part text partly (in_parts prefix back low_prefix low_back first second) 
     rw (low-in_part prefix low_prefix first parts.0, low-in_part back low_back second parts.1) refl
 
 -- the lowercased forms of a prefix and of what follows it, taken from the lowercased form of the whole
-lowered-parts : (prefix back partly : List ℕ) → lowered partly ≡ lowered (prefix ++ back)
+pub lowered-parts : (prefix back partly : List ℕ) → lowered partly ≡ lowered (prefix ++ back)
     → (lowered (take (length prefix) partly) ≡ lowered prefix) × (lowered (drop (length prefix) partly) ≡ lowered back)
 lowered-parts prefix back partly is =
     let n = length prefix in
@@ -55,17 +60,30 @@ lowered-parts prefix back partly is =
       lowered-drop n partly ∙ ap (drop n) whole ∙ drop_at (lowered prefix) (lowered back) n size,
     )
 
--- a text with the lowercased form of bytes past ASCII is these bytes
-high_stays : (text partly : List ℕ) → lowered partly ≡ lowered text → ((k : ℕ) → k < length text → 128 ≤ get_or text k 0) → partly ≡ text
-high_stays [] [] is high = refl
-high_stays [] (c ∷ partly) is high = absurd cc
-high_stays (b ∷ text) [] is high = absurd cc
-high_stays (b ∷ text) (c ∷ partly) is high =
-    let above : 128 ≤ b = high 0 (omega arith) in
+-- bytes below the letters and past ASCII are themselves in any case
+abbrev pub is_no_letter : ℕ → Bool
+is_no_letter b = nat_lt b 65 || nat_le 128 b
+
+pub stays : (text partly : List ℕ) → list_all is_no_letter text ≡ true → lowered partly ≡ lowered text → partly ≡ text
+stays [] [] none is = refl
+stays [] (c ∷ partly) none is = absurd cc
+stays (b ∷ text) [] none is = absurd cc
+stays (b ∷ text) (c ∷ partly) none is =
+    let parts = and_parts (is_no_letter b) (list_all is_no_letter text) none in
     let lowers : to_ascii_lowercase c ≡ to_ascii_lowercase b = cc in
-    let byte : c ≡ b = grind (arith, nat_tests) in
-    let rest : partly ≡ text = high_stays text partly (cc) (λ k l. high (suc k) (omega arith)) in
-    cc
+    let byte : c ≡ b = grind (arith, nat_tests, parts.0) in
+    cc (byte, stays text partly parts.1 cc)
+
+-- the bytes of a character past ASCII are past ASCII, and below 248
+pub high_bytes : (c : ℕ) → scalar c ≡ true → 128 ≤ c → list_all (λ b. nat_le 128 b && nat_lt b 248) (encode c) ≡ true
+unfolding encode
+high_bytes c is above =
+    let below : c < 1114112 = ⊎_elim (λ under. omega (arith, under)) (λ over. over.1) (scalar_cases c is) in
+    let P : List ℕ → Type 0 = λ bytes. list_all (λ b. nat_le 128 b && nat_lt b 248) bytes ≡ true in
+    let under = λ (m : ℕ) (is : ltb c m ≡ true). ltb→lt c m (subst T (sym is) tt) in
+    cond_both (ltb c 128) _ _ P (λ yes. absurd (omega (arith, above, under 128 yes)))
+    (λ _. cond_both (ltb c 2048) _ _ P (λ yes. grind (arith, nat_tests, under 2048 yes))
+    (λ _. cond_both (ltb c 65536) _ _ P (λ yes. grind (arith, nat_tests, under 65536 yes)) (λ _. grind (arith, nat_tests))))
 
 -- a text with the lowercased form of an ASCII character is in UTF-8
 of_ascii : (c : ℕ) (partly : List ℕ) → c < 128 → lowered partly ≡ lowered (c ∷ []) → IsUtf8 partly
@@ -79,14 +97,10 @@ of_ascii c (b ∷ d ∷ partly) ascii is = absurd cc
 of_character : (c : ℕ) (partly : List ℕ) → scalar c ≡ true → lowered partly ≡ lowered (encode c) → IsUtf8 partly
 of_character c partly is low = ⊎_elim
     (λ ascii. of_ascii c partly ascii (low ∙ ap lowered (encode_ascii c ascii)))
-    (λ above. subst IsUtf8 (sym (high_stays (encode c) partly low (high above))) (IsUtf8-encode c is))
+    (λ above.
+    let none = list_all-wider _ is_no_letter (λ b high. grind (arith, nat_tests)) (encode c) (high_bytes c is above) in
+    subst IsUtf8 (sym (stays (encode c) partly none low)) (IsUtf8-encode c is))
     (cases_lt c 128)
-  where
-    high : 128 ≤ c → (k : ℕ) → k < length (encode c) → 128 ≤ get_or (encode c) k 0
-    high above k l = ⊎_elim
-        (λ under. absurd (omega (arith, inside_one c [] (encode c) k (sym (append-nil (encode c))) l under)))
-        (λ enough. enough)
-        (cases_lt (get_or (encode c) k 0) 128)
 
 -- a text with the lowercased form of characters is valid UTF-8
 of_characters : (characters partly : List ℕ) → scalars characters ≡ true → lowered partly ≡ lowered (encodes characters) → IsUtf8 partly

@@ -5,8 +5,7 @@ use Rattle.mime.specs.Scanning.{HasPositions, Judges}
 use Rattle.mime.specs.declared.scan.Positions.{Positions}
 use Rattle.mime.specs.declared.scan.Verdict.{Verdict}
 use Rattle.mime.specs.declared.scan.Verdict.TheVariants.{Accepted, Unfinished, Stopped}
-use Rattle.mime.proofs.ValueLemmas.Reading.{refused-from_fault}
-use Rattle.mime.proofs.CompareLemmas.{one_positions, IsAccepted-at}
+use Rattle.mime.proofs.ValueLemmas.Reading.{accepted-from_positions, one_positions, refused-from_fault}
 use Rattle.mime.proofs.GrammarLemmas.Viability.{refused-at_dead}
 use Rattle.mime.proofs.compare.is_accepted_at.Goals as goal
 
@@ -29,4 +28,4 @@ returns-in-Accepted c =
 pub returns-in_default : goal.returns-in_default
 returns-in_default c =
     let judged = rw c.new-reader.ensures.left at c.scan.ensures.judged in
-    (λ bad. absurd cc, λ is. absurd (refused-not_accepted _ _ _ judged c.in_default.not-Accepted (IsAccepted-at _ _ _ is)))
+    (λ bad. absurd cc, λ is. absurd (refused-not_accepted _ _ _ judged c.in_default.not-Accepted (accepted-from_positions _ _ is.has)))

@@ -1,14 +1,10 @@
 -- Texts are equal block by block, up to one that differs; the last block may overlap the one before.
-use Rattle.std.proofs.Common.{◌≡◌, ◌≤◌, ◌-◌, ◌+◌, ℕ, List, take, length, sym, ap, ◌∙◌, arith, refl}
-use Rattle.std.proofs.lemmas.List.{take-take, take_all}
+use Rattle.std.proofs.Common.{◌≡◌, ◌-◌, ◌+◌, length, sym, ◌∙◌, arith, refl}
+use Rattle.std.proofs.lemmas.List.{take_all}
 use Rattle.mime.specs.Values.{lowered}
 use Rattle.mime.proofs.ValueLemmas.Lowercase.{length-lowered}
-use Rattle.mime.proofs.DifferenceLemmas.{equal_onward, difference_onward}
+use Rattle.mime.proofs.DifferenceLemmas.{shorter, equal_onward, difference_onward}
 use Rattle.mime.proofs.difference.first_difference.Goals as goal
-
--- fronts that are the same have the same shorter fronts
-shorter : (a b : List ℕ) (n m : ℕ) → n ≤ m → take m a ≡ take m b → take n a ≡ take n b
-shorter a b n m less same = sym (take-take n m a less) ∙ ap (take n) same ∙ take-take n m b less
 
 pub returns-in-Some-clause-some : goal.returns-in-Some-clause-some
 returns-in-Some-clause-some c =
