@@ -1,6 +1,5 @@
 //! The media types in a text.
 
-use crate::fields::print_line;
 use mime::{Bad, Mime, MimeIter};
 use std::alloc::{AllocError, Global};
 use std::fmt::Write;
@@ -54,11 +53,8 @@ pub(crate) fn all_items(alloc: Global, out: &mut String, text: &str) -> Result<(
         is_exact = is_exact && iter.size_hint() == (0, None);
     }
     for item in &kept {
-        match item {
-            Ok(mime) => print_line(alloc, out, "item ok ", mime.as_str())?,
-            Err(Bad::Piece(piece)) => print_line(alloc, out, "item bad ", piece)?,
-            Err(Bad::NoMemory) => writeln!(out, "no memory")?,
-        }
+        write!(out, "item ")?;
+        print_item(out, item)?;
     }
     writeln!(out, "steps {}, size hints right: {is_exact}", iter.steps())
 }
