@@ -1,6 +1,6 @@
 //! The constants, and the classes of bytes.
 
-use crate::relations::relation;
+use crate::relations::{BothSets, relation};
 use crate::values::{PartsOf, print_copy, sign};
 use mime::{
     APPLICATION, APPLICATION_JAVASCRIPT, APPLICATION_JAVASCRIPT_UTF_8, APPLICATION_JSON,
@@ -17,7 +17,6 @@ use mime::{
     is_quoted_text_byte, is_token, name_eq_str,
 };
 use std::alloc::{AllocError, Global};
-use std::collections::{BTreeSet, HashSet};
 use std::fmt::Write;
 
 /// The constant media types. The last is an old spelling of another.
@@ -161,32 +160,31 @@ pub(crate) fn constants(alloc: Global, out: &mut String) -> Result<(), AllocErro
 
 /// Prints the constant media types with their parts.
 fn print_atoms(alloc: Global, out: &mut String) -> Result<(), AllocError> {
-    let mut hashed = HashSet::new(alloc);
-    let mut ordered = BTreeSet::new(alloc);
+    let mut sets = BothSets::new(alloc);
     for atom in ATOMS {
         let mime = atom.mime();
+        let is_new = sets.insert(&mime)?;
         let mut alike = 0u32;
         for other in ATOMS {
             alike = alike.wrapping_add((*other == *atom) as u32);
         }
-        writeln!(
-            out,
-            "{atom:?}: {}\nas often in the table: {alike}",
-            PartsOf(&mime)
-        )?;
-        // The old spelling of a constant is none of its variants.
-        if let TEXT_HTML | TEXT_HTML_UTF_8 | TEXT_JAVSCRIPT = *atom {
-            writeln!(out, "a page or a script")?;
+        let parts = PartsOf(&mime);
+        writeln!(out, "{atom:?}: {parts}\nas often in the table: {alike}")?;
+        if is_page_or_script(*atom) {
+            out.push_str("a page or a script\n")?;
         }
         let Ok(read) = Mime::from_str(alloc, atom.text()) else {
             return writeln!(out, "not a media type");
         };
-        let sign = relation(&mime, &read);
-        let is_new = hashed.insert(atom.mime())? && ordered.insert(mime)?;
-        let is_found = hashed.contains(&read) && ordered.contains(&read);
+        let (sign, is_found) = (relation(&mime, &read), sets.sign_of(&read) == '=');
         writeln!(out, "{sign} what is read, new {is_new}, found {is_found}")?;
     }
     Ok(())
+}
+
+/// Whether a constant is a page of HTML, or JavaScript by its old spelling, which is no variant.
+fn is_page_or_script(atom: Atom) -> bool {
+    matches!(atom, TEXT_HTML | TEXT_HTML_UTF_8 | TEXT_JAVSCRIPT)
 }
 
 /// Prints each byte with the classes that it is in.
@@ -200,7 +198,7 @@ pub(crate) fn bytes(out: &mut String) -> Result<(), AllocError> {
         ] {
             out.push_str(if is_in { class } else { "" })?;
         }
-        writeln!(out, "")?;
+        out.push('\n')?;
     }
     Ok(())
 }

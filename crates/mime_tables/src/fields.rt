@@ -5,7 +5,7 @@ use std::fmt::Write;
 
 /// The text that a field of a table stands for: the signs from U+2400 on stand for the controls, U+2421 for the byte 127,
 /// and `⟨part×count⟩` for so many parts.
-pub(crate) fn text_of(alloc: Global, field: &str) -> Result<String, AllocError> {
+fn text_of(alloc: Global, field: &str) -> Result<String, AllocError> {
     if field.is_ascii() {
         return String::from_str(alloc, field);
     }
@@ -25,6 +25,15 @@ pub(crate) fn text_of(alloc: Global, field: &str) -> Result<String, AllocError> 
     Ok(text)
 }
 
+/// The texts that fields between tabs stand for.
+pub(crate) fn texts_of(alloc: Global, fields: &str) -> Result<Vec<String>, AllocError> {
+    let mut texts = Vec::new(alloc);
+    for field in fields.split('\t') {
+        texts.push(text_of(alloc, field)?)?;
+    }
+    Ok(texts)
+}
+
 /// One of the texts of a row, or an empty one.
 pub(crate) fn text_at(texts: &[String], at: usize) -> &str {
     match texts.get(at) {
@@ -33,23 +42,22 @@ pub(crate) fn text_at(texts: &[String], at: usize) -> &str {
     }
 }
 
-/// A text in which `⟨x×61⟩` stands for 61 letters `x`, where that many or more follow each other.
-pub(crate) fn shown(alloc: Global, text: &str) -> Result<String, AllocError> {
-    let mut shown = String::new(alloc);
+/// Adds a text in which `⟨x×61⟩` stands for 61 letters `x`, where that many or more follow each other.
+pub(crate) fn push_shown(out: &mut String, text: &str) -> Result<(), AllocError> {
     let (mut last, mut count) = ('\0', 0usize);
     // The zero after the text ends its last run.
     for character in text.chars().chain("\0".chars()) {
         if character != last {
             if count > 60 {
-                write!(shown, "⟨{last}×{count}⟩")?;
+                write!(out, "⟨{last}×{count}⟩")?;
                 count = 0;
             }
             for _ in 0..count {
-                shown.push(last)?;
+                out.push(last)?;
             }
             (last, count) = (character, 0);
         }
         count = count.wrapping_add(1);
     }
-    Ok(shown)
+    Ok(())
 }

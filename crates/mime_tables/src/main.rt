@@ -28,9 +28,9 @@ mod short;
 mod values;
 
 use crate::constants::{bytes, constants, copies};
-use crate::fields::{shown, text_at, text_of};
+use crate::fields::{text_at, texts_of};
 use crate::items::{again, items};
-use crate::relations::{against, case, compare, names, pair, with_text};
+use crate::relations::{against, case, compare, names, pair, sets, with_text};
 use crate::rooms::rooms;
 use crate::short::short;
 use crate::values::{key, long, parts, print, print_copy};
@@ -56,25 +56,17 @@ fn main(rt: HostRuntime) -> io::Result<()> {
 }
 
 fn row(rt: &HostRuntime, out: &mut String, line: &str) -> io::Result<()> {
-    println!(rt; "{line}")?;
-    let mut fields = line.split('\t');
-    let word = fields.next().unwrap_or("");
-    let mut texts = Vec::new(rt.alloc());
-    for field in fields {
-        texts.push(text_of(rt.alloc(), field)?)?;
-    }
+    let (word, fields) = line.split_once('\t').unwrap_or((line, ""));
+    let texts = texts_of(rt.alloc(), fields)?;
     out.clear();
+    println!(rt; "{line}")?;
     println!(rt; "now")?;
-    let answered = answer(rt.alloc(), out, word, texts.as_slice());
-    println!(rt; "end")?;
-    if answered.is_err() {
-        println!(rt; "out of memory")?;
-    }
-    if word == "parts" {
-        print!(rt; "{}", shown(rt.alloc(), out.as_str())?)
-    } else {
-        print!(rt; "{out}")
-    }
+    let end = match answer(rt.alloc(), out, word, texts.as_slice()) {
+        Ok(()) => "end",
+        Err(_) => "end\nout of memory",
+    };
+    println!(rt; "{end}")?;
+    print!(rt; "{out}")
 }
 
 /// Writes what the library says of a row.
@@ -84,8 +76,8 @@ fn answer(alloc: Global, out: &mut String, word: &str, texts: &[String]) -> Resu
         "items" => items(alloc, out, text),
         "again" => again(alloc, out, text),
         "parts" => parts(alloc, out, text),
-        "compare" => compare(alloc, out, texts, false),
-        "sets" => compare(alloc, out, texts, true),
+        "compare" => compare(alloc, out, texts),
+        "sets" => sets(alloc, out, texts),
         "names" => names(out, texts),
         "bytes" => bytes(out),
         "constants" => constants(alloc, out),

@@ -1,7 +1,5 @@
 //! Values and names against each other.
 
-ghost use Rattle.std.specs.Prelude.{◌+◌, ◌*◌, ◌%◌, ◌^◌, fold};
-
 use crate::constants::constant_of;
 use crate::fields::text_at;
 use mime::{Mime, Name, mime_eq_str, name_eq_str};
@@ -9,44 +7,23 @@ use std::alloc::{AllocError, Global};
 use std::cmp::Ordering;
 use std::collections::{BTreeSet, HashSet};
 use std::fmt::Write;
-use std::hash::{DefaultHasher, Hash, Hasher};
+use std::hash::{DefaultHasher, FoldHasher, Hash, Hasher};
 
-/// A hasher whose state is a number made of all bytes.
-#[derive(Drop)]
-struct Digits(u64);
-
-impl Hasher for Digits {
-    ghost write = { λ state bytes. record { 0 = fold (λ sum byte. (sum * 257 + byte) % 2 ^ 64) state.0 bytes } };
-
-    ghost finish = { λ state. state.0 };
-
-    fn finish(&self) -> u64 {
-        self.0
-    }
-
-    fn write(&mut self, bytes: &[u8]) {
-        for byte in bytes {
-            self.0 = self.0.wrapping_mul(257).wrapping_add(*byte as u64);
-        }
-    }
-}
-
-/// What two hashers make of a value.
-fn hashes_of<T: Hash>(value: &T) -> (u64, u64) {
-    let (mut digits, mut hasher) = (Digits(1), DefaultHasher::new());
-    value.hash(&mut digits);
+fn hash_of<T: Hash, H: Hasher + Drop>(value: &T, mut hasher: H) -> u64 {
     value.hash(&mut hasher);
-    (digits.finish(), hasher.finish())
+    hasher.finish()
 }
 
-/// How two values compare; `?` where order, equality and hashes don't agree.
+/// How two values compare; `?` where order, equality and the hashes by two hashers don't agree.
 pub(crate) fn relation<T: Ord + Hash>(one: &T, other: &T) -> char {
     let order = one.cmp(other);
     let is_same = order == Ordering::Equal;
-    let (first, second) = (hashes_of(one), hashes_of(other));
-    let by_hash = (first.0 == second.0) == is_same && (first.1 == second.1) == is_same;
+    let (first, second) = (DefaultHasher::new(), DefaultHasher::new());
+    let by_default = (hash_of(one, first) == hash_of(other, second)) == is_same;
+    let (first, second) = (FoldHasher::default(), FoldHasher::default());
+    let by_folds = (hash_of(one, first) == hash_of(other, second)) == is_same;
     let by_eq = (*one == *other) == is_same && (*one != *other) != is_same;
-    if !by_hash || !by_eq || one.partial_cmp(other) != Some(order) {
+    if !by_default || !by_folds || !by_eq || one.partial_cmp(other) != Some(order) {
         return '?';
     }
     match order {
@@ -56,44 +33,71 @@ pub(crate) fn relation<T: Ord + Hash>(one: &T, other: &T) -> char {
     }
 }
 
-/// Whether a hash set and an ordered set that have the one value say that they have the other (`=`) or that they haven't
-/// (`-`); `?` where they don't agree.
-fn sign_of_sets(alloc: Global, one: &Mime, other: &Mime) -> Result<char, AllocError> {
-    let mut hashed = HashSet::new(alloc);
-    hashed.insert(one.clone()?)?;
-    let mut ordered = BTreeSet::new(alloc);
-    ordered.insert(one.clone()?)?;
-    Ok(match (hashed.contains(other), ordered.contains(other)) {
-        (true, true) => '=',
-        (false, false) => '-',
-        _ => '?',
-    })
+/// A hash set and an ordered set of the same values.
+#[derive(Drop)]
+pub(crate) struct BothSets {
+    hashed: HashSet<Mime>,
+    ordered: BTreeSet<Mime>,
 }
 
-/// Prints a line for each value, with its relation to each, and whether that one's text is it (`t`); or else, in sets, with `=` for
-/// each that a set which has it says that it has, `-` for each other.
-pub(crate) fn compare(
-    alloc: Global,
-    out: &mut String,
-    texts: &[String],
-    in_sets: bool,
-) -> Result<(), AllocError> {
+impl BothSets {
+    pub(crate) fn new(alloc: Global) -> BothSets {
+        BothSets {
+            hashed: HashSet::new(alloc),
+            ordered: BTreeSet::new(alloc),
+        }
+    }
+
+    /// Adds a value, and says whether both sets hadn't it before.
+    pub(crate) fn insert(&mut self, mime: &Mime) -> Result<bool, AllocError> {
+        let is_first = self.hashed.insert(mime.clone()?)?;
+        Ok(self.ordered.insert(mime.clone()?)? && is_first)
+    }
+
+    /// Whether the sets say that they have a value (`=`) or that they haven't (`-`); `?` where they don't agree.
+    pub(crate) fn sign_of(&self, mime: &Mime) -> char {
+        match (self.hashed.contains(mime), self.ordered.contains(mime)) {
+            (true, true) => '=',
+            (false, false) => '-',
+            _ => '?',
+        }
+    }
+}
+
+/// Reads texts that are media types.
+fn values_of(alloc: Global, texts: &[String]) -> Result<Vec<Mime>, AllocError> {
     let mut values = Vec::with_capacity(alloc, texts.len())?;
     for text in texts {
         if let Ok(mime) = Mime::from_str(alloc, text.as_str()) {
             values.push(mime)?;
         }
     }
+    Ok(values)
+}
+
+/// Prints a line for each value, with its relation to each, and whether that one's text is it (`t`).
+pub(crate) fn compare(alloc: Global, out: &mut String, texts: &[String]) -> Result<(), AllocError> {
+    let values = values_of(alloc, texts)?;
     for one in &values {
         for (other, text) in values.iter().zip(texts) {
-            if in_sets {
-                out.push(sign_of_sets(alloc, one, other)?)?;
-            } else {
-                out.push(relation(one, other))?;
-                out.push(sign_of_text(mime_eq_str(one, text.as_str())))?;
-            }
+            let is_text = mime_eq_str(one, text.as_str());
+            write!(out, "{}{}", relation(one, other), sign_of_text(is_text))?;
         }
-        writeln!(out, ".")?;
+        out.push_str(".\n")?;
+    }
+    Ok(())
+}
+
+/// Prints a line for each value, with what sets that have it say of each.
+pub(crate) fn sets(alloc: Global, out: &mut String, texts: &[String]) -> Result<(), AllocError> {
+    let values = values_of(alloc, texts)?;
+    for one in &values {
+        let mut sets = BothSets::new(alloc);
+        sets.insert(one)?;
+        for other in &values {
+            out.push(sets.sign_of(other))?;
+        }
+        out.push_str(".\n")?;
     }
     Ok(())
 }
@@ -105,7 +109,7 @@ fn sign_of_text(is_text: bool) -> char {
 /// A name that a field stands for: `~` before its text says that it ignores case, `=` that it doesn't.
 fn name_of(field: &str) -> Name<'_> {
     Name {
-        text: field.trim_start_matches(['~', '=']),
+        text: field.get(1..).unwrap_or(""),
         ignores_case: field.starts_with('~'),
     }
 }
@@ -120,10 +124,10 @@ pub(crate) fn names(out: &mut String, fields: &[String]) -> Result<(), AllocErro
         )?;
         for field in fields {
             let other = name_of(field.as_str());
-            out.push(relation(&name, &other))?;
-            out.push(sign_of_text(name_eq_str(&name, other.text)))?;
+            let is_text = name_eq_str(&name, other.text);
+            write!(out, "{}{}", relation(&name, &other), sign_of_text(is_text))?;
         }
-        writeln!(out, "|")?;
+        out.push_str("|\n")?;
     }
     Ok(())
 }
@@ -166,10 +170,8 @@ pub(crate) fn pair(
         return writeln!(out, "not a media type");
     };
     let is_equal = *one == other && one.cmp(&other).is_eq();
-    let (mut first, mut second) = (DefaultHasher::new(), DefaultHasher::new());
-    one.hash(&mut first);
-    other.hash(&mut second);
-    let by_hash = first.finish() == second.finish();
+    let (first, second) = (DefaultHasher::new(), DefaultHasher::new());
+    let by_hash = hash_of(one, first) == hash_of(&other, second);
     let by_text = mime_eq_str(one, text);
     writeln!(
         out,
@@ -188,7 +190,8 @@ pub(crate) fn with_text(
         return writeln!(out, "not a media type");
     };
     let (one, other) = ((one, text_at(texts, 1)), (other, text_at(texts, 3)));
-    let by_hash = hashes_of(&one).0 == hashes_of(&other).0;
+    let (first, second) = (DefaultHasher::new(), DefaultHasher::new());
+    let by_hash = hash_of(&one, first) == hash_of(&other, second);
     let mut hashed = HashSet::new(alloc);
     hashed.insert(one)?;
     let is_found = hashed.contains(&other);

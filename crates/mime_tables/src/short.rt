@@ -1,6 +1,7 @@
 //! All short texts over an alphabet, by rules that need no table.
 
-use mime::{Bad, Mime, MimeIter, ParseError, mime_eq_str};
+use crate::items::is_item;
+use mime::{Mime, MimeIter, ParseError, mime_eq_str};
 use std::alloc::{AllocError, Global};
 use std::fmt::Write;
 
@@ -163,15 +164,6 @@ fn longest_front(alloc: Global, text: &str) -> Result<&str, AllocError> {
         }
     }
     Ok(longest)
-}
-
-/// Whether an item is what this piece is read as, or else the piece.
-fn is_item(alloc: Global, item: Option<Result<Mime, Bad<'_>>>, piece: &str) -> bool {
-    match (item, Mime::from_str(alloc, piece)) {
-        (Some(Ok(item)), Ok(mime)) => item == mime && item.as_str() == mime.as_str(),
-        (Some(Err(Bad::Piece(bad))), Err(_)) => bad == piece,
-        _ => false,
-    }
 }
 
 /// Whether an iterator gives the items of the plain cut, which is found by reading alone, with a step for each byte of a piece, and

@@ -3,7 +3,8 @@
 ghost use Rattle.std.specs.Prelude.{◌≡◌, codes};
 
 use crate::constants::{constant_of, name_of};
-use crate::items::all_items;
+use crate::fields::push_shown;
+use crate::items::{all_items, is_item};
 use mime::{Mime, MimeIter, Name, ParamKey, TextKey, name_eq_str};
 use std::alloc::{AllocError, Global};
 use std::fmt;
@@ -75,19 +76,33 @@ fn print_value(alloc: Global, out: &mut String, mime: Mime) -> Result<(), AllocE
     )
 }
 
-/// Prints all that a text tells. A width of an error is ignored.
+/// Prints all that a text tells, with long runs of one character shortened. A width of an error is ignored.
 pub(crate) fn parts(alloc: Global, out: &mut String, text: &str) -> Result<(), AllocError> {
+    let mut told = String::new(alloc);
     match Mime::from_str(alloc, text) {
-        Ok(mime) => print_value(alloc, out, mime)?,
+        Ok(mime) => print_value(alloc, &mut told, mime)?,
         Err(error) => {
             let fault = error.fault();
-            writeln!(out, "bad {error}\nbad {error:99} | {fault:>99} | {fault:?}")?;
+            writeln!(
+                told,
+                "bad {error}\nbad {error:99} | {fault:>99} | {fault:?}"
+            )?;
         }
     }
-    all_items(alloc, out, text)
+    all_items(alloc, &mut told, text)?;
+    push_shown(out, told.as_str())
 }
 
-/// Prints the numbers of a value with many parameters `p=x`.
+/// How many parameters are `p=x`.
+fn count_of_p(mime: &Mime) -> u64 {
+    let mut count = 0u64;
+    for (name, value) in mime.params() {
+        count = count.wrapping_add((name.text == "p" && value.text == "x") as u64);
+    }
+    count
+}
+
+/// Prints the numbers of a value with many parameters `p=x`, whose text is the first item of itself, and the last.
 pub(crate) fn long(
     alloc: Global,
     out: &mut String,
@@ -95,21 +110,15 @@ pub(crate) fn long(
     text: &str,
 ) -> Result<(), AllocError> {
     let is_kept = mime.as_str() == text && mime.get_param(TextKey("q")).is_none();
-    let mut count = 0u64;
-    for (name, value) in mime.params() {
-        count = count.wrapping_add((name.text == "p" && value.text == "x") as u64);
-    }
+    writeln!(out, "{} bytes, kept as they are {is_kept}", text.len())?;
+    let (hint, count) = (mime.params().size_hint(), count_of_p(mime));
+    writeln!(out, "parameters {hint:?}, {count}")?;
     let mut iter = MimeIter::new(alloc, text);
-    let is_item = match iter.next() {
-        Some(Ok(item)) => item == *mime && item.as_str() == text,
-        _ => false,
-    };
+    let is_item = is_item(alloc, iter.next(), text);
     let (is_last, steps) = (iter.next().is_none(), iter.steps());
+    writeln!(out, "an item {is_item}, the last {is_last}, steps {steps}")?;
     let copy = mime.clone()?;
     let is_copied = copy == *mime && copy.as_str() == text;
-    writeln!(out, "{} bytes, kept as they are {is_kept}", text.len())?;
-    writeln!(out, "parameters {:?}, {count}", mime.params().size_hint())?;
-    writeln!(out, "an item {is_item}, the last {is_last}, steps {steps}")?;
     writeln!(out, "copied {is_copied}")
 }
 
@@ -134,33 +143,38 @@ impl ParamKey for Foo {
     }
 }
 
-/// Prints the parts of a value, and what is found in it by a key, as a text and as a constant, and by the key `Foo`; of what is
-/// found also whether it equals another text, and what is found by it.
+/// Prints the value that a key finds, if one, what it is against another text, and what it finds itself as a key.
+fn print_found(
+    out: &mut String,
+    mime: &Mime,
+    found: Option<Name<'_>>,
+    other: &str,
+) -> Result<(), AllocError> {
+    let Some(value) = found else {
+        return out.push_str("none\n");
+    };
+    let is_other = name_eq_str(&value, other);
+    writeln!(out, "{}{value}, as {other}: {is_other}", sign(value))?;
+    match mime.get_param(value) {
+        Some(second) => writeln!(out, "its own value {}{second}", sign(second)),
+        None => out.push_str("no value of its own\n"),
+    }
+}
+
+/// Prints the parts of a value, and what is found in it by a key, as a text and as a constant, and by the key `Foo`.
 pub(crate) fn key(out: &mut String, mime: &Mime, key: &str, other: &str) -> Result<(), AllocError> {
-    match counted(mime) {
-        Some(count) => writeln!(out, "{}, {count} parameters", PartsOf(mime))?,
-        None => writeln!(out, "wrongly counted")?,
-    }
+    let count = counted(mime).unwrap_or(usize::MAX);
+    writeln!(out, "{}, {count} parameters", PartsOf(mime))?;
     let found = mime.get_param(TextKey(key));
-    match found {
-        Some(value) => {
-            let is_other = name_eq_str(&value, other);
-            writeln!(out, "{}{value}, as {other}: {is_other}", sign(value))?;
-            match mime.get_param(value) {
-                Some(second) => writeln!(out, "its own value {}{second}", sign(second))?,
-                None => writeln!(out, "no value of its own")?,
-            }
-        }
-        None => writeln!(out, "none")?,
-    }
+    print_found(out, mime, found, other)?;
     if mime.get_param(key) != found {
-        writeln!(out, "not found by the text alone")?;
+        out.push_str("not found by the text alone\n")?;
     }
     if let Some(name) = name_of(key) {
         writeln!(out, "by the constant {}", mime.get_param(name) == found)?;
     }
     match mime.get_param(Foo) {
         Some(value) => writeln!(out, "foo {value}"),
-        None => writeln!(out, "foo -"),
+        None => out.push_str("foo -\n"),
     }
 }
