@@ -58,22 +58,28 @@ fn counted(mime: &Mime) -> Option<usize> {
     Some(count)
 }
 
+/// Whether a text is read as this value, with these parts.
+fn is_read_as(alloc: Global, text: &str, mime: &Mime, parts: &str) -> Result<bool, AllocError> {
+    match Mime::from_str(alloc, text) {
+        Ok(read) => Ok(read == *mime && format!(in alloc; "{}", PartsOf(&read))?.as_str() == parts),
+        Err(_) => Ok(false),
+    }
+}
+
 /// Prints a value, and whether its text is read as it and a copy is as it was, once the value itself is gone.
 fn print_value(alloc: Global, out: &mut String, mime: Mime) -> Result<(), AllocError> {
     let parts = format!(in alloc; "{}", PartsOf(&mime))?;
     let (count, constant) = (counted(&mime), constant_of(&mime));
-    let is_read = match Mime::from_str(alloc, mime.as_str()) {
-        Ok(read) => read == mime && format!(in alloc; "{}", PartsOf(&read))? == parts,
-        Err(_) => false,
-    };
+    writeln!(
+        out,
+        "ok {parts}\nparameters {count:?}, constant {constant:?}"
+    )?;
+    let is_read = is_read_as(alloc, mime.as_str(), &mime, parts.as_str())?;
     let copy = mime.clone()?;
     let is_equal = copy == mime;
     drop(mime);
     let is_copied = is_equal && format!(in alloc; "{}", PartsOf(&copy))? == parts;
-    writeln!(
-        out,
-        "ok {parts}\nparameters {count:?}, constant {constant:?}\nread again {is_read}, copied {is_copied}"
-    )
+    writeln!(out, "read again {is_read}, copied {is_copied}")
 }
 
 /// Prints all that a text tells, with long runs of one character shortened. A width of an error is ignored.
@@ -102,21 +108,30 @@ fn count_of_p(mime: &Mime) -> u64 {
     count
 }
 
-/// Prints the numbers of a value with many parameters `p=x`, whose text is the first item of itself, and the last.
+fn print_counts(out: &mut String, mime: &Mime, text: &str) -> Result<(), AllocError> {
+    let is_kept = mime.as_str() == text && mime.get_param(TextKey("q")).is_none();
+    writeln!(out, "{} bytes, kept as they are {is_kept}", text.len())?;
+    let (hint, count) = (mime.params().size_hint(), count_of_p(mime));
+    writeln!(out, "parameters {hint:?}, {count}")
+}
+
+/// Prints whether the first item of a text is what the text is read as, and the last.
+fn print_first(alloc: Global, out: &mut String, text: &str) -> Result<(), AllocError> {
+    let mut iter = MimeIter::new(alloc, text);
+    let is_item = is_item(alloc, iter.next(), text);
+    let (is_last, steps) = (iter.next().is_none(), iter.steps());
+    writeln!(out, "an item {is_item}, the last {is_last}, steps {steps}")
+}
+
+/// Prints the numbers of a value with many parameters `p=x`.
 pub(crate) fn long(
     alloc: Global,
     out: &mut String,
     mime: &Mime,
     text: &str,
 ) -> Result<(), AllocError> {
-    let is_kept = mime.as_str() == text && mime.get_param(TextKey("q")).is_none();
-    writeln!(out, "{} bytes, kept as they are {is_kept}", text.len())?;
-    let (hint, count) = (mime.params().size_hint(), count_of_p(mime));
-    writeln!(out, "parameters {hint:?}, {count}")?;
-    let mut iter = MimeIter::new(alloc, text);
-    let is_item = is_item(alloc, iter.next(), text);
-    let (is_last, steps) = (iter.next().is_none(), iter.steps());
-    writeln!(out, "an item {is_item}, the last {is_last}, steps {steps}")?;
+    print_counts(out, mime, text)?;
+    print_first(alloc, out, text)?;
     let copy = mime.clone()?;
     let is_copied = copy == *mime && copy.as_str() == text;
     writeln!(out, "copied {is_copied}")
