@@ -1,7 +1,7 @@
 //! The constants, and the classes of bytes.
 
-use crate::relations::relation;
-use crate::values::{parts_of, print_copy, sign};
+use crate::relations::{BothSets, relation};
+use crate::values::{PartsOf, print_copy, sign};
 use mime::{
     APPLICATION, APPLICATION_JAVASCRIPT, APPLICATION_JAVASCRIPT_UTF_8, APPLICATION_JSON,
     APPLICATION_MSGPACK, APPLICATION_OCTET_STREAM, APPLICATION_PDF,
@@ -17,7 +17,6 @@ use mime::{
     is_quoted_text_byte, is_token, name_eq_str,
 };
 use std::alloc::{AllocError, Global};
-use std::collections::{BTreeSet, HashSet};
 use std::fmt::Write;
 
 /// The constant media types. The last is an old spelling of another.
@@ -119,33 +118,29 @@ pub(crate) fn name_of(text: &str) -> Option<Name<'static>> {
     None
 }
 
-/// Whether a constant is a page of HTML, or JavaScript by its old spelling, which is no variant.
-fn is_page_or_script(atom: Atom) -> bool {
-    match atom {
-        TEXT_HTML | TEXT_HTML_UTF_8 | TEXT_JAVSCRIPT => true,
-        _ => false,
-    }
-}
-
 /// Compiles only for a type whose values threads may hand over and share.
-fn crosses_threads<T: Send + Sync>() {}
+trait CrossesThreads: Send + Sync {}
 
-/// Compiles only if that is so of each public type.
-fn public_types_cross_threads() {
-    crosses_threads::<Mime>();
-    crosses_threads::<Params<'static>>();
-    crosses_threads::<Name<'static>>();
-    crosses_threads::<Atom>();
-    crosses_threads::<MimeIter<'static>>();
-    crosses_threads::<Bad<'static>>();
-    crosses_threads::<TextKey<'static>>();
-    crosses_threads::<ParseError>();
-    crosses_threads::<FromStrError>();
-}
+impl CrossesThreads for Mime {}
+
+impl CrossesThreads for Params<'_> {}
+
+impl CrossesThreads for Name<'_> {}
+
+impl CrossesThreads for Atom {}
+
+impl CrossesThreads for MimeIter<'_> {}
+
+impl CrossesThreads for Bad<'_> {}
+
+impl CrossesThreads for TextKey<'_> {}
+
+impl CrossesThreads for ParseError {}
+
+impl CrossesThreads for FromStrError {}
 
 /// Prints the copies of the constant media types.
 pub(crate) fn copies(out: &mut String) -> Result<(), AllocError> {
-    public_types_cross_threads();
     for atom in ATOMS {
         print_copy(out, &atom.mime())?;
     }
@@ -165,41 +160,45 @@ pub(crate) fn constants(alloc: Global, out: &mut String) -> Result<(), AllocErro
 
 /// Prints the constant media types with their parts.
 fn print_atoms(alloc: Global, out: &mut String) -> Result<(), AllocError> {
-    let mut hashed = HashSet::new(alloc);
-    let mut ordered = BTreeSet::new(alloc);
+    let mut sets = BothSets::new(alloc);
     for atom in ATOMS {
-        let parts = parts_of(alloc, &atom.mime())?;
-        writeln!(out, "{atom:?}: {parts}")?;
+        let mime = atom.mime();
+        let is_new = sets.insert(&mime)?;
         let mut alike = 0u32;
         for other in ATOMS {
             alike = alike.wrapping_add((*other == *atom) as u32);
         }
-        writeln!(out, "as often in the table: {alike}")?;
+        let parts = PartsOf(&mime);
+        writeln!(out, "{atom:?}: {parts}\nas often in the table: {alike}")?;
         if is_page_or_script(*atom) {
-            writeln!(out, "a page or a script")?;
+            out.push_str("a page or a script\n")?;
         }
         let Ok(read) = Mime::from_str(alloc, atom.text()) else {
             return writeln!(out, "not a media type");
         };
-        let is_new = hashed.insert(atom.mime())? && ordered.insert(atom.mime())?;
-        let is_found = hashed.contains(&read) && ordered.contains(&read);
-        let sign = relation(&atom.mime(), &read);
+        let (sign, is_found) = (relation(&mime, &read), sets.sign_of(&read) == '=');
         writeln!(out, "{sign} what is read, new {is_new}, found {is_found}")?;
     }
     Ok(())
 }
 
+/// Whether a constant is a page of HTML, or JavaScript by its old spelling, which is no variant.
+fn is_page_or_script(atom: Atom) -> bool {
+    matches!(atom, TEXT_HTML | TEXT_HTML_UTF_8 | TEXT_JAVSCRIPT)
+}
+
 /// Prints each byte with the classes that it is in.
 pub(crate) fn bytes(out: &mut String) -> Result<(), AllocError> {
     for byte in 0..=255u8 {
-        let token = if is_token(byte) { " token" } else { "" };
-        let text = if is_quoted_text_byte(byte) {
-            " text"
-        } else {
-            ""
-        };
-        let quoted = if is_quoted_byte(byte) { " quoted" } else { "" };
-        writeln!(out, "{byte}{token}{text}{quoted}")?;
+        write!(out, "{byte}")?;
+        for (is_in, class) in [
+            (is_token(byte), " token"),
+            (is_quoted_text_byte(byte), " text"),
+            (is_quoted_byte(byte), " quoted"),
+        ] {
+            out.push_str(if is_in { class } else { "" })?;
+        }
+        out.push('\n')?;
     }
     Ok(())
 }

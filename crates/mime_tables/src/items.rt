@@ -1,6 +1,5 @@
 //! The media types in a text.
 
-use crate::fields::print_line;
 use mime::{Bad, Mime, MimeIter};
 use std::alloc::{AllocError, Global};
 use std::fmt::Write;
@@ -54,11 +53,17 @@ pub(crate) fn all_items(alloc: Global, out: &mut String, text: &str) -> Result<(
         is_exact = is_exact && iter.size_hint() == (0, None);
     }
     for item in &kept {
-        match item {
-            Ok(mime) => print_line(alloc, out, "item ok ", mime.as_str())?,
-            Err(Bad::Piece(piece)) => print_line(alloc, out, "item bad ", piece)?,
-            Err(Bad::NoMemory) => writeln!(out, "no memory")?,
-        }
+        out.push_str("item ")?;
+        print_item(out, item)?;
     }
     writeln!(out, "steps {}, size hints right: {is_exact}", iter.steps())
+}
+
+/// Whether an item is what this piece is read as, or else the piece.
+pub(crate) fn is_item(alloc: Global, item: Option<Result<Mime, Bad<'_>>>, piece: &str) -> bool {
+    match (item, Mime::from_str(alloc, piece)) {
+        (Some(Ok(item)), Ok(mime)) => item == mime && item.as_str() == mime.as_str(),
+        (Some(Err(Bad::Piece(bad))), Err(_)) => bad == piece,
+        _ => false,
+    }
 }

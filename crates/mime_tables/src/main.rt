@@ -19,100 +19,99 @@
 //! tools/refused_requests refuses and counts them. What it says is printed after them.
 #![tactic(auto)]
 
-mod alphabet;
 mod constants;
 mod fields;
 mod items;
-mod names;
 mod relations;
 mod rooms;
-mod short_against;
-mod short_cuts;
-mod short_verdicts;
+mod short;
 mod values;
 
 use crate::constants::{bytes, constants, copies};
-use crate::fields::{text_at, text_of};
+use crate::fields::{text_at, texts_of};
 use crate::items::{again, items};
-use crate::names::{case, names};
-use crate::relations::{against, compare, pair, sets, with_text};
+use crate::relations::{against, case, compare, names, pair, sets, with_text};
 use crate::rooms::rooms;
-use crate::short_against::short_against;
-use crate::short_cuts::short_cuts;
-use crate::short_verdicts::short_verdicts;
-use crate::values::{clone, key, long, parts, print, read};
+use crate::short::short;
+use crate::values::{key, long, parts, print, print_copy};
+use mime::Mime;
 use std::alloc::{AllocError, Global};
 use std::io;
 use std::io::Read;
-use std::process::ExitCode;
 
 /// How many bytes a row prints without a request for memory.
 const ROOM: usize = 65_536;
 
-fn main(rt: HostRuntime) -> ExitCode {
-    match all_rows(&rt) {
-        Ok(()) => ExitCode::SUCCESS,
-        Err(_) => ExitCode::FAILURE,
-    }
-}
-
 /// Prints each row of standard input, with what the library says of it.
-fn all_rows(rt: &HostRuntime) -> io::Result<()> {
+fn main(rt: HostRuntime) -> io::Result<()> {
     let mut table = String::new(rt.alloc());
     rt.stdin().read_to_string(&mut table)?;
     let mut out = String::with_capacity(rt.alloc(), ROOM)?;
     for line in table.as_str().lines() {
         if !line.is_empty() && !line.starts_with('#') {
-            row(rt, &mut out, line)?;
+            row(&rt, &mut out, line)?;
         }
     }
     Ok(())
 }
 
 fn row(rt: &HostRuntime, out: &mut String, line: &str) -> io::Result<()> {
-    println!(rt; "{line}")?;
-    let mut fields = line.split('\t');
-    let word = fields.next().unwrap_or("");
-    let mut texts = Vec::new(rt.alloc());
-    for field in fields {
-        texts.push(text_of(rt.alloc(), field)?)?;
-    }
+    let (word, fields) = line.split_once('\t').unwrap_or((line, ""));
+    let texts = texts_of(rt.alloc(), fields)?;
     out.clear();
+    println!(rt; "{line}")?;
     println!(rt; "now")?;
-    let answered = answer(rt.alloc(), out, word, texts.as_slice());
-    println!(rt; "end")?;
-    if answered.is_err() {
-        println!(rt; "out of memory")?;
-    }
+    let end = match answer(rt.alloc(), out, word, texts.as_slice()) {
+        Ok(()) => "end",
+        Err(_) => "end\nout of memory",
+    };
+    println!(rt; "{end}")?;
     print!(rt; "{out}")
 }
 
 /// Writes what the library says of a row.
 fn answer(alloc: Global, out: &mut String, word: &str, texts: &[String]) -> Result<(), AllocError> {
-    let (first, second) = (text_at(texts, 0), text_at(texts, 1));
+    let text = text_at(texts, 0);
     match word {
-        "read" => read(alloc, out, first),
-        "clone" => clone(alloc, out, first),
-        "items" => items(alloc, out, first),
-        "again" => again(alloc, out, first),
-        "parts" => parts(alloc, out, first),
-        "long" => long(alloc, out, first),
-        "print" => print(alloc, out, first),
-        "key" => key(alloc, out, first, second, text_at(texts, 2)),
-        "pair" => pair(alloc, out, first, second),
+        "items" => items(alloc, out, text),
+        "again" => again(alloc, out, text),
+        "parts" => parts(alloc, out, text),
         "compare" => compare(alloc, out, texts),
         "sets" => sets(alloc, out, texts),
-        "with_text" => with_text(alloc, out, texts),
-        "against" => against(alloc, out, texts),
         "names" => names(out, texts),
         "bytes" => bytes(out),
         "constants" => constants(alloc, out),
         "copies" => copies(out),
-        "case" => case(out),
+        "case" => case(alloc, out),
         "rooms" => rooms(alloc, out),
-        "short_verdicts" => short_verdicts(alloc, out),
-        "short_cuts" => short_cuts(alloc, out),
-        "short_against" => short_against(alloc, out),
-        _ => out.push_str("no such row\n"),
+        "short_verdicts" | "short_cuts" | "short_against" => short(alloc, out, word),
+        _ => answer_of_value(alloc, out, word, texts),
+    }
+}
+
+/// Writes what the library says of a row whose first text is read.
+fn answer_of_value(
+    alloc: Global,
+    out: &mut String,
+    word: &str,
+    texts: &[String],
+) -> Result<(), AllocError> {
+    let (text, second) = (text_at(texts, 0), text_at(texts, 1));
+    match (word, Mime::from_str(alloc, text)) {
+        ("read", Ok(mime)) => writeln!(out, "ok {mime}"),
+        ("read", Err(error)) => writeln!(out, "bad {error}"),
+        (_, Err(_)) => writeln!(out, "not a media type"),
+        ("clone", Ok(mime)) => {
+            // The original is printed too, since a clone that is refused leaves it as it was.
+            print_copy(out, &mime)?;
+            writeln!(out, "original {mime}")
+        }
+        ("long", Ok(mime)) => long(alloc, out, &mime, text),
+        ("print", Ok(mime)) => print(out, &mime),
+        ("key", Ok(mime)) => key(out, &mime, second, text_at(texts, 2)),
+        ("pair", Ok(mime)) => pair(alloc, out, &mime, second),
+        ("with_text", Ok(mime)) => with_text(alloc, out, mime, texts),
+        ("against", Ok(mime)) => against(out, &mime, texts),
+        _ => writeln!(out, "no such row"),
     }
 }

@@ -34,16 +34,6 @@ fn print_rooms<D: fmt::Display>(
     writeln!(out, "{text}: {is_right}")
 }
 
-/// A name that prints its quoted form.
-#[derive(Clone, Copy)]
-struct Quoted<'a>(Name<'a>);
-
-impl fmt::Display for Quoted<'_> {
-    fn fmt<W: fmt::Write>(&self, f: &mut fmt::Formatter<W>) -> fmt::Result {
-        fmt::Debug::fmt(&self.0, f)
-    }
-}
-
 /// Prints whether names, errors and faults are refused exactly where their writer refuses them.
 pub(crate) fn rooms(alloc: Global, out: &mut String) -> Result<(), AllocError> {
     for text in ["charset", "", "é\n"] {
@@ -52,7 +42,7 @@ pub(crate) fn rooms(alloc: Global, out: &mut String) -> Result<(), AllocError> {
             ignores_case: true,
         };
         print_rooms(alloc, out, &name)?;
-        print_rooms(alloc, out, &Quoted(name))?;
+        print_rooms(alloc, out, &format_args!("{name:?}"))?;
     }
     for text in ["", "a/b;p", "a/b;p=\"", "a b", "a/b;p=\"\n"] {
         if let Err(error) = Mime::from_str(alloc, text) {
