@@ -1,5 +1,5 @@
 -- Private. What the reader has left, what a pass over it leaves, and what the scanner finds.
-use Rattle.std.specs.Prelude.{◌≡◌, ℕ, ◌+◌, ◌-◌, ◌<◌, ◌≤◌, Bool, IsTrue, IsFalse, List, [], ◌++◌, length, take, drop, Option, Some, None, MatchOption}
+use Rattle.std.specs.Prelude.{◌≡◌, ℕ, ◌+◌, ◌-◌, ◌<◌, ◌≤◌, Bool, IsTrue, IsFalse, List, [], ◌++◌, length, take, drop, Option, Some, None, MatchOption, ⊤}
 use Rattle.std.specs.Option.{option_to_list}
 use Rattle.std.specs.List.{list_all}
 use Rattle.mime.specs.Bytes.{is_token_byte}
@@ -19,7 +19,7 @@ pub record Given (old new : Remaining) (run : List ℕ) (stop : Option ℕ) : Ty
 
 -- the next byte was given, or there was none
 abbrev pub GivesFirst : Remaining → Remaining → Option ℕ → Type 0
-GivesFirst old new first = Given old new [] first × MatchOption first (new.left ≡ []) (λ b. Unit {0})
+GivesFirst old new first = Given old new [] first × MatchOption first (new.left ≡ []) (λ b. ⊤)
 
 -- the longest run of a class was passed; the byte after it isn't of the class
 pub record Passes (class : ℕ → Bool) (old new : Remaining) (stop : Option ℕ) : Type 0 where

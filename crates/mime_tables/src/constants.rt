@@ -56,46 +56,46 @@ static ATOMS: &[Atom] = &[
     TEXT_JAVSCRIPT,
 ];
 
-/// The constant names.
-static NAMES: &[Name<'static>] = &[
-    STAR,
-    TEXT,
-    IMAGE,
-    AUDIO,
-    VIDEO,
-    APPLICATION,
-    MULTIPART,
-    MESSAGE,
-    MODEL,
-    FONT,
-    PLAIN,
-    HTML,
-    XML,
-    JAVASCRIPT,
-    CSS,
-    CSV,
-    EVENT_STREAM,
-    VCARD,
-    JSON,
-    WWW_FORM_URLENCODED,
-    MSGPACK,
-    OCTET_STREAM,
-    PDF,
-    WOFF,
-    WOFF2,
-    FORM_DATA,
-    BMP,
-    GIF,
-    JPEG,
-    PNG,
-    SVG,
-    BASIC,
-    MPEG,
-    MP4,
-    OGG,
-    CHARSET,
-    BOUNDARY,
-    UTF_8,
+/// The constant names, each with its identifier.
+static NAMES: &[(&str, Name<'static>)] = &[
+    ("STAR", STAR),
+    ("TEXT", TEXT),
+    ("IMAGE", IMAGE),
+    ("AUDIO", AUDIO),
+    ("VIDEO", VIDEO),
+    ("APPLICATION", APPLICATION),
+    ("MULTIPART", MULTIPART),
+    ("MESSAGE", MESSAGE),
+    ("MODEL", MODEL),
+    ("FONT", FONT),
+    ("PLAIN", PLAIN),
+    ("HTML", HTML),
+    ("XML", XML),
+    ("JAVASCRIPT", JAVASCRIPT),
+    ("CSS", CSS),
+    ("CSV", CSV),
+    ("EVENT_STREAM", EVENT_STREAM),
+    ("VCARD", VCARD),
+    ("JSON", JSON),
+    ("WWW_FORM_URLENCODED", WWW_FORM_URLENCODED),
+    ("MSGPACK", MSGPACK),
+    ("OCTET_STREAM", OCTET_STREAM),
+    ("PDF", PDF),
+    ("WOFF", WOFF),
+    ("WOFF2", WOFF2),
+    ("FORM_DATA", FORM_DATA),
+    ("BMP", BMP),
+    ("GIF", GIF),
+    ("JPEG", JPEG),
+    ("PNG", PNG),
+    ("SVG", SVG),
+    ("BASIC", BASIC),
+    ("MPEG", MPEG),
+    ("MP4", MP4),
+    ("OGG", OGG),
+    ("CHARSET", CHARSET),
+    ("BOUNDARY", BOUNDARY),
+    ("UTF_8", UTF_8),
 ];
 
 /// The constant that equals a media type.
@@ -110,7 +110,7 @@ pub(crate) fn constant_of(mime: &Mime) -> Option<Atom> {
 
 /// The constant name that equals a text.
 pub(crate) fn name_of(text: &str) -> Option<Name<'static>> {
-    for name in NAMES {
+    for (_, name) in NAMES {
         if name_eq_str(name, text) {
             return Some(*name);
         }
@@ -150,8 +150,8 @@ pub(crate) fn copies(out: &mut String) -> Result<(), AllocError> {
 /// Prints the constants: names, and media types with their parts, and whether a set of those before finds what the text of one is
 /// read as.
 pub(crate) fn constants(alloc: Global, out: &mut String) -> Result<(), AllocError> {
-    for name in NAMES {
-        writeln!(out, "{}{name}", sign(*name))?;
+    for (identifier, name) in NAMES {
+        writeln!(out, "{identifier}: {}{name}", sign(*name))?;
     }
     let fault = ParseError::NoMemory;
     writeln!(out, "{fault}|{fault:>99}|{fault:?}")?;
