@@ -33,7 +33,7 @@ use crate::items::{again, items};
 use crate::relations::{against, case, compare, names, pair, sets, with_text};
 use crate::rooms::rooms;
 use crate::short::short;
-use crate::values::{key, long, parts, print, print_copy};
+use crate::values::{clone, key, long, parts, print};
 use mime::Mime;
 use std::alloc::{AllocError, Global};
 use std::io;
@@ -69,6 +69,8 @@ fn row(rt: &HostRuntime, out: &mut String, line: &str) -> io::Result<()> {
     print!(rt; "{out}")
 }
 
+// A function for a few words each, since the time of a proof grows with the square of a `match`.
+
 /// Writes what the library says of a row.
 fn answer(alloc: Global, out: &mut String, word: &str, texts: &[String]) -> Result<(), AllocError> {
     let text = text_at(texts, 0);
@@ -79,6 +81,18 @@ fn answer(alloc: Global, out: &mut String, word: &str, texts: &[String]) -> Resu
         "compare" => compare(alloc, out, texts),
         "sets" => sets(alloc, out, texts),
         "names" => names(out, texts),
+        _ => answer_alone(alloc, out, word, texts),
+    }
+}
+
+/// Writes what the library says of a row without texts.
+fn answer_alone(
+    alloc: Global,
+    out: &mut String,
+    word: &str,
+    texts: &[String],
+) -> Result<(), AllocError> {
+    match word {
         "bytes" => bytes(out),
         "constants" => constants(alloc, out),
         "copies" => copies(out),
@@ -96,22 +110,42 @@ fn answer_of_value(
     word: &str,
     texts: &[String],
 ) -> Result<(), AllocError> {
-    let (text, second) = (text_at(texts, 0), text_at(texts, 1));
-    match (word, Mime::from_str(alloc, text)) {
-        ("read", Ok(mime)) => writeln!(out, "ok {mime}"),
-        ("read", Err(error)) => writeln!(out, "bad {error}"),
-        (_, Err(_)) => writeln!(out, "not a media type"),
-        ("clone", Ok(mime)) => {
-            // The original is printed too, since a clone that is refused leaves it as it was.
-            print_copy(out, &mime)?;
-            writeln!(out, "original {mime}")
-        }
-        ("long", Ok(mime)) => long(alloc, out, &mime, text),
-        ("print", Ok(mime)) => print(out, &mime),
-        ("key", Ok(mime)) => key(out, &mime, second, text_at(texts, 2)),
-        ("pair", Ok(mime)) => pair(alloc, out, &mime, second),
-        ("with_text", Ok(mime)) => with_text(alloc, out, mime, texts),
-        ("against", Ok(mime)) => against(out, &mime, texts),
-        _ => writeln!(out, "no such row"),
+    match Mime::from_str(alloc, text_at(texts, 0)) {
+        Ok(mime) => tell(alloc, out, word, &mime, texts),
+        Err(error) if word == "read" => writeln!(out, "bad {error}"),
+        Err(_) => out.push_str("not a media type\n"),
+    }
+}
+
+fn tell(
+    alloc: Global,
+    out: &mut String,
+    word: &str,
+    mime: &Mime,
+    texts: &[String],
+) -> Result<(), AllocError> {
+    match word {
+        "read" => writeln!(out, "ok {mime}"),
+        "clone" => clone(out, mime),
+        "long" => long(alloc, out, mime, text_at(texts, 0)),
+        "print" => print(out, mime),
+        _ => tell_with_texts(alloc, out, word, mime, texts),
+    }
+}
+
+fn tell_with_texts(
+    alloc: Global,
+    out: &mut String,
+    word: &str,
+    mime: &Mime,
+    texts: &[String],
+) -> Result<(), AllocError> {
+    let second = text_at(texts, 1);
+    match word {
+        "key" => key(out, mime, second, text_at(texts, 2)),
+        "pair" => pair(alloc, out, mime, second),
+        "with_text" => with_text(alloc, out, mime, texts),
+        "against" => against(out, mime, texts),
+        _ => out.push_str("no such row\n"),
     }
 }

@@ -183,13 +183,16 @@ pub(crate) fn pair(
 pub(crate) fn with_text(
     alloc: Global,
     out: &mut String,
-    one: Mime,
+    one: &Mime,
     texts: &[String],
 ) -> Result<(), AllocError> {
     let Ok(other) = Mime::from_str(alloc, text_at(texts, 2)) else {
         return writeln!(out, "not a media type");
     };
-    let (one, other) = ((one, text_at(texts, 1)), (other, text_at(texts, 3)));
+    let (one, other) = (
+        (one.clone()?, text_at(texts, 1)),
+        (other, text_at(texts, 3)),
+    );
     let (first, second) = (DefaultHasher::new(), DefaultHasher::new());
     let by_hash = hash_of(&one, first) == hash_of(&other, second);
     let mut hashed = HashSet::new(alloc);

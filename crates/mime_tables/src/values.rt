@@ -10,12 +10,18 @@ use std::alloc::{AllocError, Global};
 use std::fmt;
 use std::fmt::Write;
 
-/// Clones what a text was read as, or a constant.
+/// Prints the copy of a value.
 pub(crate) fn print_copy(out: &mut String, original: &Mime) -> Result<(), AllocError> {
     match original.clone() {
         Ok(copy) => writeln!(out, "ok {copy}, equal: {}", copy == *original),
         Err(_) => writeln!(out, "no memory"),
     }
+}
+
+/// Clones a value. The original is printed too, since a clone that is refused leaves it as it was.
+pub(crate) fn clone(out: &mut String, original: &Mime) -> Result<(), AllocError> {
+    print_copy(out, original)?;
+    writeln!(out, "original {original}")
 }
 
 /// The sign of a name in tables: whether it ignores case.
