@@ -1,5 +1,5 @@
 -- What values feed a hasher, by computation; texts that a prefix-free input keeps from others, and an input that isn't prefix-free.
-use Rattle.std.proofs.Common.{◌≡◌, ◌≢◌, ℕ, false, List, [], ◌∷◌, ◌++◌, None, refl, sym, ap, ◌∙◌, codes}
+use Rattle.std.proofs.Common.{◌≡◌, ◌≢◌, ℕ, false, List, [], ◌∷◌, ◌++◌, None, refl, ap, codes}
 use Rattle.std.proofs.lemmas.Bool.{false≢true}
 use Rattle.std.specs.Char.{encode_utf8}
 use Rattle.std.specs.Hash.{HashWrites}
