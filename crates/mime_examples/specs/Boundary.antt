@@ -1,5 +1,5 @@
 -- What may stand between the parts of a multipart body (RFC 2046, 5.1.1).
-use Rattle.std.specs.Prelude.{◌≡◌, ◌≢◌, ◌≤◌, ◌-◌, ℕ, Bool, List, ◌||◌, ◌==◌, IsTrue, IsSomeAnd, codes, length, slice_get}
+use Rattle.std.specs.Prelude.{◌≢◌, ◌≤◌, ◌-◌, ℕ, Bool, List, ◌||◌, ◌==◌, IsTrue, IsSomeAnd, codes, length, slice_get}
 use Rattle.std.specs.List.{list_all, list_any}
 use Rattle.std.specs.Char.{is_ascii_alphanumeric}
 use Rattle.mime.specs.Bytes.{space_byte}

@@ -1,9 +1,9 @@
 //! White space before semicolons, taken out.
 
-use mime::is_token;
+use mime::{Mime, ParseError, is_quoted_byte};
 use std::alloc::{AllocError, Global};
 
-/// Adds a text without the white space before its semicolons.
+/// Adds a text without the white space before its semicolons, and without a second semicolon in a row.
 fn push_tight(tight: &mut String, text: &str) -> Result<(), AllocError> {
     let (parts, last) = match text.rsplit_once(';') {
         Some(parts) => parts,
@@ -11,45 +11,70 @@ fn push_tight(tight: &mut String, text: &str) -> Result<(), AllocError> {
     };
     for part in parts.split(';') {
         tight.push_str(part.trim_end_matches([' ', '\t']))?;
-        tight.push(';')?;
+        if !tight.as_str().ends_with(';') {
+            tight.push(';')?;
+        }
     }
     tight.push_str(last)
 }
 
-/// Whether a quote after this text begins a quoted value: a semicolon, a name and an equals sign are
-/// before it. Any other quote is a stray one.
-fn begins_value(text: &str) -> bool {
-    let Some((_, parameter)) = text.rsplit_once(';') else {
+/// The last piece of a text, where the library cuts it: what is left after each character that no media type
+/// has there.
+fn last_piece(alloc: Global, text: &str) -> &str {
+    let mut left = text;
+    for _ in 0..text.len() {
+        let Err(error) = Mime::from_str(alloc, left) else {
+            return left;
+        };
+        let ParseError::InvalidToken { pos, .. } = *error.fault() else {
+            return left;
+        };
+        let Some(dropped) = left.get(pos..) else {
+            return left;
+        };
+        let mut characters = dropped.chars();
+        let _ = characters.next();
+        left = characters.as_str();
+    }
+    left
+}
+
+/// Whether a piece ends in an open quoted value.
+fn is_open(alloc: Global, piece: &str) -> bool {
+    let Err(error) = Mime::from_str(alloc, piece) else {
         return false;
     };
-    let Some(name) = parameter.trim_start_matches([' ', '\t']).strip_suffix('=') else {
-        return false;
-    };
-    for &byte in name.as_bytes() {
-        if !is_token(byte) {
+    matches!(error.fault(), ParseError::MissingQuote)
+}
+
+/// Whether all bytes of a text may stand in a quoted value.
+fn is_quotable(text: &str) -> bool {
+    for byte in text.as_bytes() {
+        if !is_quoted_byte(*byte) {
             return false;
         }
     }
-    !name.is_empty()
+    true
 }
 
-/// A header's value without the white space before each semicolon outside quoted values.
+/// A header's value without the white space before each semicolon outside quoted values. A quote begins or
+/// ends a quoted value where the library reads it so.
 ///
 /// # Errors
 /// `AllocError` where memory runs out.
 pub fn tightened(alloc: Global, value: &str) -> Result<String, AllocError> {
     let mut tight = String::new(alloc);
-    let mut is_quoted = false;
+    // Where the last piece so far begins.
+    let mut from = 0;
     for (number, part) in value.split('"').enumerate() {
         if number > 0 {
             tight.push('"')?;
         }
-        if is_quoted {
-            // A quote after an odd number of backslashes is paired, and ends nothing.
-            is_quoted = (part.len() - part.trim_end_matches('\\').len()) % 2 == 1;
+        let piece = last_piece(alloc, tight.as_str().get(from..).unwrap_or(""));
+        from = tight.len().wrapping_sub(piece.len());
+        if is_open(alloc, piece) && is_quotable(part) {
             tight.push_str(part)?;
         } else {
-            is_quoted = begins_value(part);
             push_tight(&mut tight, part)?;
         }
     }
