@@ -173,7 +173,7 @@ bare_essence top sub token sub_token =
       are_other-token semicolon_byte semicolon_is_no_token sub (AreTokenBytes-from_token sub sub_token),
     )
 
--- lowering keeps semicolons
+-- lowercasing keeps semicolons
 HasNoSemicolon-lowered : (text : List ℕ)
     → list_all (λ b. not (b == semicolon_byte)) (lowered text) ≡ list_all (λ b. not (b == semicolon_byte)) text
 HasNoSemicolon-lowered = list_all-lowered (λ b. not (b == semicolon_byte)) (λ b. grind (arith, nat_tests))

@@ -26,7 +26,7 @@ kept_semicolon (suc pairs) semicolon = semicolon
 abbrev pub kept_positions : Positions → Positions
 kept_positions positions = record positions { semicolon = kept_semicolon positions.pairs positions.semicolon }
 
--- a text as it is kept, with the positions of its parts: its tree is its own lowering, without an empty list
+-- a text as it is kept, with the positions of its parts: its tree is in lowercase already, without an empty list
 pub record IsKept (text : List ℕ) (positions : Positions) : Type 0 where
   pub has : HasPositions text positions
   pub low : lowered_tree has.tree ≡ has.tree
@@ -47,7 +47,7 @@ kept_text_of (suc pairs) (Some semicolon) text = with_pairs_lowered (suc pairs) 
 abbrev pub lowered_pair : List ℕ × List ℕ → List ℕ × List ℕ
 lowered_pair (name, value) = (lowered name, lowered_value name value)
 
--- a pair as it is kept: lowering changes nothing of it
+-- a pair as it is kept: lowercasing changes nothing of it
 abbrev pub IsLowPair : List ℕ × List ℕ → Type 0
 IsLowPair pair = lowered_pair pair ≡ pair
 

@@ -18,7 +18,7 @@ use Rattle.mime_c.specs.declared.TheConstants.{MIME_GOOD, MIME_BAD}
 length-strings : (text : List ℕ) (texts : List (List ℕ)) → length (strings (text ∷ texts)) ≡ length text + 1 + length (strings texts)
 length-strings text texts = omega (arith, length-append {A = ℕ})
 
--- ---- the strings of a tree that is its own lowering
+-- ---- the strings of a tree that is in lowercase already
 
 -- those of a parameter are at most one byte more than its text,
 room-parameter : (parameter : Parameter) (pairs : List (List ℕ × List ℕ))

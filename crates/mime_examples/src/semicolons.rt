@@ -1,4 +1,4 @@
-//! White space before semicolons, taken out.
+//! White space before semicolons and empty parameters, taken out.
 
 use mime::{Mime, ParseError, is_quoted_byte};
 use std::alloc::{AllocError, Global};
@@ -57,8 +57,8 @@ fn is_quotable(text: &str) -> bool {
     true
 }
 
-/// A header's value without the white space before each semicolon outside quoted values. A quote begins or
-/// ends a quoted value where the library reads it so.
+/// A header's value without the white space before each semicolon outside quoted values, and without empty
+/// parameters. A quote begins or ends a quoted value where the library reads it so.
 ///
 /// # Errors
 /// `AllocError` where memory runs out.

@@ -23,7 +23,7 @@ use Rattle.mime_facts.proofs.StandardFacts.{media, tree_from_parts, reads}
 pub differ : (first second : List ℕ) → bytes_eq first second ≡ false → first ≢ second
 differ first second is same = true≢false (sym ((bytes_eq-Decides first second).1 same) ∙ is)
 
--- ---- lowering
+-- ---- lowercasing
 
 -- capitals alone are lowercased, of ASCII alone
 capitals_lowered : lowered (64 ∷ 65 ∷ 90 ∷ 91 ∷ 97 ∷ 195 ∷ 137 ∷ []) ≡ 64 ∷ 97 ∷ 122 ∷ 91 ∷ 97 ∷ 195 ∷ 137 ∷ []

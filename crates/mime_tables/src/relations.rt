@@ -138,10 +138,10 @@ pub(crate) fn case(alloc: Global, out: &mut String) -> Result<(), AllocError> {
     let text = "AZ@[`{azMimeMIMEmime0123456789-+.!#$%^_'";
     let mut tried = 0u32;
     for place in 0..text.len() {
-        let front = text.get(..place).unwrap_or("");
+        let prefix = text.get(..place).unwrap_or("");
         let end = text.get(place.wrapping_add(1)..).unwrap_or("");
         for byte in 0..128u8 {
-            let other = format!(in alloc; "{front}{}{end}", char::from(byte))?;
+            let other = format!(in alloc; "{prefix}{}{end}", char::from(byte))?;
             for length in place..=text.len() {
                 let (one, other) = (text.get(..length), other.as_str().get(..length));
                 let (text, other) = (one.unwrap_or(""), other.unwrap_or(""));

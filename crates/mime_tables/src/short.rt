@@ -53,12 +53,12 @@ pub(crate) fn short(alloc: Global, out: &mut String, word: &str) -> Result<(), A
         }
     }
     let mut text = String::with_capacity(alloc, 16)?;
-    for (rule, front, alphabet, most, unit) in RULES {
+    for (rule, prefix, alphabet, most, unit) in RULES {
         if *rule == word {
             let (mut count, mut sum) = (1u32, 0u32);
             for len in 0..=*most {
                 for number in 0..count {
-                    spell(&mut text, front, alphabet, number, len)?;
+                    spell(&mut text, prefix, alphabet, number, len)?;
                     match counted(alloc, word, &values, text.as_str())? {
                         Some(more) => sum = sum.wrapping_add(more),
                         None => return writeln!(out, "not so: {text}"),
@@ -72,16 +72,16 @@ pub(crate) fn short(alloc: Global, out: &mut String, word: &str) -> Result<(), A
     Ok(())
 }
 
-/// Writes a front, and after it the text of a number: its digits, the lowest first, count the characters of the alphabet.
+/// Writes a prefix, and after it the text of a number: its digits, the lowest first, count the characters of the alphabet.
 fn spell(
     text: &mut String,
-    front: &str,
+    prefix: &str,
     alphabet: &[char],
     number: u32,
     len: usize,
 ) -> Result<(), AllocError> {
     text.clear();
-    text.push_str(front)?;
+    text.push_str(prefix)?;
     let mut rest = number as usize;
     for _ in 0..len {
         let digit = rest.checked_rem(alphabet.len()).unwrap_or(0);
@@ -121,7 +121,7 @@ fn fault_of(alloc: Global, text: &str) -> Option<ParseError> {
     Some(*error.fault())
 }
 
-/// Whether the verdict on a text agrees with those on the text completed, and on its front. An accepted text lacks nothing, and one
+/// Whether the verdict on a text agrees with those on the text completed, and on its prefix. An accepted text lacks nothing, and one
 /// with an invalid byte can't be completed: the bytes up to that, with it, have this fault, and those before it have another, or none.
 fn agrees(alloc: Global, text: &str) -> Result<bool, AllocError> {
     let fault = fault_of(alloc, text);
@@ -141,23 +141,23 @@ fn agrees(alloc: Global, text: &str) -> Result<bool, AllocError> {
     let Some(ParseError::InvalidToken { pos, byte }) = fault else {
         return Ok(fault != Some(ParseError::NoMemory));
     };
-    let front = text.get(..pos).unwrap_or("");
+    let prefix = text.get(..pos).unwrap_or("");
     let dead = text.get(..pos.wrapping_add(1)).unwrap_or("");
     let is_live = !matches!(
-        fault_of(alloc, front),
+        fault_of(alloc, prefix),
         Some(ParseError::InvalidToken { .. })
     );
     Ok(is_live && dead.as_bytes().last() == Some(&byte) && fault_of(alloc, dead) == fault)
 }
 
-/// The longest front of a text that a completion makes an accepted text.
+/// The longest prefix of a text that a completion makes an accepted text.
 fn longest_front(alloc: Global, text: &str) -> Result<&str, AllocError> {
     let mut longest = "";
     for end in 0..=text.len() {
-        if let Some(front) = text.get(..end) {
+        if let Some(prefix) = text.get(..end) {
             for completion in ["", "x/x", "=x", "x", "x\""] {
-                if is_completed_by(alloc, front, completion)? {
-                    longest = front;
+                if is_completed_by(alloc, prefix, completion)? {
+                    longest = prefix;
                     break;
                 }
             }

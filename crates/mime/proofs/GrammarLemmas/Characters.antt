@@ -23,7 +23,7 @@ use Rattle.mime.specs.Cut.{is_following_byte, IsCharacter}
 use Rattle.mime.specs.CutLaws.{PassesOneCharacter}
 use lib.Utf8.{scalars, scalar}
 
--- a foreign byte: no token byte, no space and no flag
+-- a foreign byte: no token byte, no space and no delimiter
 pub record IsForeign (b : ℕ) : Type 0 where
   pub token : IsFalse (is_token_byte b)
   pub space : IsFalse (is_space b)
@@ -90,7 +90,7 @@ pub high_token : (b : ℕ) → 128 ≤ b → IsFalse (is_token_byte b)
 unfolding is_token_byte
 high_token b high = grind (arith, nat_tests)
 
--- a byte past ASCII is no token byte, no space and no flag
+-- a byte past ASCII is no token byte, no space and no delimiter
 foreign-from_high : (b : ℕ) → 128 ≤ b → IsForeign b
 foreign-from_high b high = record {
   token = high_token b high;

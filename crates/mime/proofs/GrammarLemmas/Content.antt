@@ -171,7 +171,7 @@ closed-letter content =
     takes-quote (awaits_after false (content ++ 120 ∷ []))
     ∙ awaits_after-append false content (120 ∷ []) ∙ awaits_next-letter (awaits_after false content)
 
--- ---- lowering
+-- ---- lowercasing
 
 -- byte after byte
 takes_all-lowered : (awaiting : Bool) (bytes : List ℕ) → takes_all awaiting (lowered bytes) ≡ takes_all awaiting bytes

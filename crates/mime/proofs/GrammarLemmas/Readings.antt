@@ -125,7 +125,7 @@ tree_of-subtype top [] token = absurd token
 tree_of-subtype top (s ∷ sub) token = refl
 
 -- the text of a well-formed tree is walked to that tree
-pub walk-text_of : (tree : SyntaxTree) → IsWellFormed tree
+walk-text_of : (tree : SyntaxTree) → IsWellFormed tree
     → (begun : Begun) × ((walk (text_of tree) ≡ Some begun) × (tree_of begun ≡ Some tree))
 walk-text_of tree well_formed = with_tail tree.tail well_formed.2
   where

@@ -28,7 +28,7 @@ given_whole {new} {xs} {b} g = record {
 }
 
 -- a run, and the byte that ended it, or the end of the text
-pub given_stop : {old mid new : Remaining} {xs : List ℕ} {stop : Option ℕ} → Given old mid xs None → GivesFirst mid new stop
+given_stop : {old mid new : Remaining} {xs : List ℕ} {stop : Option ℕ} → Given old mid xs None → GivesFirst mid new stop
     → Given old new xs stop
 given_stop {xs = xs} g first = rw (sym (append-nil xs)) (given_then g first.0)
 
@@ -131,7 +131,7 @@ content_text {new = new} stop p passes other = record {
     ends (Some b) stopped other = ap (λ (a : Bool). takes a b) closes ∙ not_taken b stopped other
 
 -- a plus at the end is the last one
-pub last_plus-plus : (at : ℕ) (xs : List ℕ) (b position : ℕ) → b ≡ plus_byte → at + length xs ≡ position
+last_plus-plus : (at : ℕ) (xs : List ℕ) (b position : ℕ) → b ≡ plus_byte → at + length xs ≡ position
     → last_plus at (xs ++ b ∷ []) ≡ Some position
 last_plus-plus at [] b position p e = rw p (ap Some (omega arith))
 last_plus-plus at (x ∷ xs) b position p e = rw (last_plus-plus (at + 1) xs b position p (omega arith))

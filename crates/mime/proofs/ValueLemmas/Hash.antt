@@ -101,7 +101,7 @@ characters_bytes (c ∷ characters) are =
 pub utf8_bytes : (text : List ℕ) → IsUtf8 text → AreTextBytes text
 utf8_bytes text utf8 = subst AreTextBytes utf8.1.1 (characters_bytes utf8.0 utf8.1.0)
 
--- lowering adds none
+-- lowercasing adds none
 lowered_bytes : (text : List ℕ) → AreTextBytes text → AreTextBytes (lowered text)
 lowered_bytes text all = list_all-lowered (is_other 255) (λ b. grind (arith, nat_tests)) text ∙ all
 

@@ -49,7 +49,7 @@ take-to_semicolon : (top sub after : List ℕ)
 take-to_semicolon top sub after = ap (take _) (semicolon_split top sub after) ∙ take_at _ after _ (length-before_list top sub)
 
 -- the rest of a text after its head
-pub drop-to_semicolon : (top sub after : List ℕ)
+drop-to_semicolon : (top sub after : List ℕ)
     → drop (length top + 1 + length sub + 1) (top ++ (slash_byte ∷ (sub ++ (semicolon_byte ∷ after)))) ≡ after
 drop-to_semicolon top sub after = ap (drop _) (semicolon_split top sub after) ∙ drop_at _ after _ (length-before_list top sub)
 
@@ -63,7 +63,7 @@ value_of_low low = record {
   kept = kept_text (pairs_of_tail low.tail) low;
 }
 
--- a tree's value is that of its lowering
+-- a tree's value is that of it in lowercase
 pub value_of-lowering : (tree : SyntaxTree) → value_of tree ≡ value_of_low (lowered_tree tree)
 value_of-lowering tree = rw (length-lowered tree.top)
 

@@ -160,7 +160,7 @@ pairs_within-text_of_list (more n p rest) (white, well, others) =
     (cut_of-parameter n p _ (text_of_list rest) white well (flagged _))
     ∙ ap (λ pairs. pair_of p ∷ pairs) (pairs_within-text_of_list rest others)
 
--- spaces are their own lowering
+-- spaces are in lowercase already
 lowered-spaces : (bytes : List ℕ) → AreSpaces bytes → lowered bytes ≡ bytes
 lowered-spaces [] white = refl
 lowered-spaces (b ∷ bytes) white =

@@ -1,4 +1,4 @@
--- What lowering leaves as it is: lengths, cuts, classes of bytes, positions; and lowering twice is lowering once.
+-- What lowercasing leaves as it is: lengths, cuts, classes of bytes, positions; and lowercasing twice is lowercasing once.
 use Rattle.std.proofs.Common.{◌≡◌, ℕ, ◌+◌, Bool, true, false, map, cond, List, [], ◌∷◌, ◌++◌, length, take, drop, refl, sym, ap, ◌∙◌, arith}
 use Rattle.std.specs.Prelude.{◌==◌, IsTrue}
 use Rattle.std.specs.Char.{to_ascii_lowercase}
@@ -15,7 +15,7 @@ use Rattle.mime.specs.KeptText.{IsLowPair, lowered_pair}
 use Rattle.mime.proofs.GrammarLemmas.Content.{IsContent-case}
 use Rattle.std.specs.List.{list_all}
 
--- lowering twice is lowering once
+-- lowercasing twice is lowercasing once
 pub lowered-lowered : (text : List ℕ) → lowered (lowered text) ≡ lowered text
 lowered-lowered [] = refl
 lowered-lowered (b ∷ text) = cc (lowercase-lowercase b, lowered-lowered text)
@@ -58,7 +58,7 @@ IsToken-case (b ∷ bytes) (c ∷ other) is token =
 pub IsToken-lowered : (bytes : List ℕ) → IsToken bytes → IsToken (lowered bytes)
 IsToken-lowered bytes = IsToken-case bytes (lowered bytes) (lowered-lowered bytes)
 
--- what holds of a value and of its lowering holds of it under any parameter's name
+-- what holds of a value and of it in lowercase holds of it under any parameter's name
 pub lowered_value-either : (P : List ℕ → Type 0) (name value : List ℕ) → P value → P (lowered value) → P (lowered_value name value)
 lowered_value-either P name value same lowercase =
     elim (is_charset name) as (λ b. P (cond b (lowered value) value)) [ true ↦ lowercase | false ↦ same ]
@@ -122,7 +122,7 @@ lowered_tail-lowered (listed list) = ap listed (lowered_list-lowered list)
 pub lowered_tree-lowered_tree : (tree : SyntaxTree) → lowered_tree (lowered_tree tree) ≡ lowered_tree tree
 lowered_tree-lowered_tree tree = cc (lowered-lowered tree.top, lowered-lowered tree.sub, lowered_tail-lowered tree.tail)
 
--- lowering keeps the position of the last plus
+-- lowercasing keeps the position of the last plus
 last_plus-lowered : (at : ℕ) (bytes : List ℕ) → last_plus at (lowered bytes) ≡ last_plus at bytes
 last_plus-lowered at [] = refl
 last_plus-lowered at (b ∷ bytes) =
@@ -130,7 +130,7 @@ last_plus-lowered at (b ∷ bytes) =
     rw (plus, last_plus-lowered (at + 1) bytes)
 
 -- the pair of a lowercased parameter is its pair, lowercased
-pub pair_of-lowered : (p : Parameter) → pair_of (lowered_parameter p) ≡ lowered_pair (pair_of p)
+pair_of-lowered : (p : Parameter) → pair_of (lowered_parameter p) ≡ lowered_pair (pair_of p)
 pair_of-lowered (plain name value) = refl
 pair_of-lowered (quoted name content n) = refl
 
@@ -148,12 +148,12 @@ pairs_of_tail-lowered (listed list) = pairs_of_list-lowered list
 pub length-tail_lowered : (tail : Tail) → length (pairs_of_tail (lowered_tail tail)) ≡ length (pairs_of_tail tail)
 length-tail_lowered tail = ap length (pairs_of_tail-lowered tail) ∙ length-map (pairs_of_tail tail) lowered_pair
 
--- lowering keeps the position of the semicolon
+-- lowercasing keeps the position of the semicolon
 semicolon_of-lowered : (at : ℕ) (tail : Tail) → semicolon_of at (lowered_tail tail) ≡ semicolon_of at tail
 semicolon_of-lowered at no_list = refl
 semicolon_of-lowered at (listed list) = refl
 
--- lowering moves no part
+-- lowercasing moves no part
 pub positions_of-lowered_tree : (tree : SyntaxTree) → positions_of (lowered_tree tree) ≡ positions_of tree
 positions_of-lowered_tree tree =
     let at = length tree.top + 1 + length tree.sub in

@@ -195,7 +195,7 @@ first_lowered-in_part list lies =
     (in_parts _ _ _ _ (lowered_value-either (IsLoweredInPart cut.value) cut.name cut.value (same cut.value) (lowercase cut.value))
     (same lies.middle))
 
--- lowering the first pair keeps the position of the rest
+-- lowercasing the first pair keeps the position of the rest
 length-first_lowered : (list : List ℕ) (lies : LiesIn list (cut_of list))
     → length (first_lowered list lies) + length (cut_of list).rest ≡ length list
 length-first_lowered list lies =

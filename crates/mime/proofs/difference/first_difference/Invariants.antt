@@ -1,4 +1,4 @@
--- The blocks so far have the same lowerings.
+-- The blocks so far are equal ignoring ASCII case.
 use Rattle.std.proofs.Common.{◌≡◌, ◌+◌, ◌-◌, ◌<◌, take}
 use Rattle.mime.specs.Values.{lowered}
 use Rattle.mime.proofs.difference.first_difference.Given as goal

@@ -1,4 +1,4 @@
--- A text without a capital is its kept text; lowering keeps UTF-8.
+-- A text without a capital is its kept text; lowercasing keeps UTF-8.
 use Rattle.std.proofs.Common.{List, ℕ, ◌≡◌, IfOk, string_bytes, length, drop, sym, ◌∙◌, subst}
 use Rattle.std.specs.Str.{IsUtf8}
 use Rattle.std.proofs.lemmas.List.{take_at}
