@@ -12,7 +12,7 @@ use std::alloc::{AllocError, Global};
 use std::fmt;
 use std::marker::Model;
 
-/// Why an item of a [`MimeIter`] is no media type (a list of them: RFC 7231, 5.3.2).
+/// Why an item of a [`MimeIter`] isn't a media type (lists of them: RFC 7231, 5.3.2).
 #[derive(Clone, Copy, PartialEq, Eq, Debug)]
 pub enum Bad<'a> {
     /// This piece of the text isn't a media type, as `invalid` in `invalid, a/b`.
@@ -70,7 +70,7 @@ fn pass<'a>(text: &'a str, from: u128) -> Passed<'a>
 }
 
 /// The media types of a text one by one, as those of an `Accept` header (RFC 7231, 5.3.2): the good
-/// entries of a list, and the pieces of it that are none.
+/// entries of a list, and the pieces of it that aren't media types.
 ///
 /// The text is cut into the longest pieces that some media type begins with. Each ends before a
 /// character that can't follow it, such as the comma of a list; that character is passed. A piece
@@ -78,8 +78,8 @@ fn pass<'a>(text: &'a str, from: u128) -> Passed<'a>
 /// unfinished. So a bad entry doesn't change the entries after its comma, unless it ends in an open quoted value. The
 /// scanner reads no byte twice.
 ///
-/// A media type allocates once, for its kept text, but an entry `*/*` never does: like the `*/*` that
-/// [`Mime::from_str`] gives it is fixed, so that its clone doesn't allocate either.
+/// To yield a media type allocates once, for its kept text; to yield `*/*` doesn't, and neither does cloning what is
+/// yielded for it.
 ///
 /// Over `text/html, invalid, a/b; q=1` it yields `text/html`, the bad piece `invalid`, and
 /// `a/b; q=1`. Over `a/b ; q=1` it yields `a/b` and the bad piece `q`, since no space may precede the
