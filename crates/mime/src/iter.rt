@@ -73,13 +73,13 @@ fn pass<'a>(text: &'a str, from: u128) -> Passed<'a>
 /// entries of a list, and the pieces of it that aren't media types.
 ///
 /// The text is cut into the longest pieces that some media type begins with. Each ends before a
-/// character that can't follow it, such as the comma of a list; that character is passed. A piece
+/// character that can't follow it, such as the comma of a list; that character is skipped. A piece
 /// is a media type or a bad piece; an empty one isn't yielded, nor is a last piece that is
 /// unfinished. So a bad entry doesn't change the entries after its comma, unless it ends in an open quoted value. The
 /// scanner reads no byte twice.
 ///
-/// To yield a media type allocates once, for its kept text; to yield `*/*` doesn't, and neither does cloning what is
-/// yielded for it.
+/// Yielding a media type allocates once, for its kept text. Yielding the piece `*/*` doesn't allocate, and neither does
+/// cloning its media type.
 ///
 /// Over `text/html, invalid, a/b; q=1` it yields `text/html`, the bad piece `invalid`, and
 /// `a/b; q=1`. Over `a/b ; q=1` it yields `a/b` and the bad piece `q`, since no space may precede the
@@ -122,9 +122,9 @@ impl<'a> MimeIter<'a> {
         }
     }
 
-    /// How many bytes were read so far, those of the items that were given included: 43 for all of
-    /// `application/json, invalid, application/json`, which are 16, 7 and 16 bytes and 4 characters
-    /// that were passed. It is never more than the text's length.
+    /// The number of bytes read so far, from the start of the text: 43 for all of
+    /// `application/json, invalid, application/json`, which are 16, 7 and 16 bytes and 4 skipped
+    /// characters. It is never more than the text's length.
     pub fn steps(&self) -> u128
         ensures steps { result ≡ self.now.steps }
         ensures few { result ≤ length self.now.text }

@@ -166,7 +166,7 @@ pub fn one_answer<K: ParamKey>(key: &K)
     ensures least { HasAnswer (K.Accepts key.now) }
 {}
 
-/// A `TextKey` accepts a name or doesn't, and so does a `Name`: `TextKey("P")` accepts `p`, and doesn't accept `q`.
+/// It is decided whether a `TextKey` accepts a name, and whether a `Name` does: `TextKey("P")` accepts `p`, and not `q`.
 pub fn keys_decide()
     ensures text { (key : TextKey) → IsDecided (⟦<TextKey<'static> as ParamKey>⟧.Accepts key) }
     ensures name { (key : Name) → IsDecided (⟦<Name<'static> as ParamKey>⟧.Accepts key) }
@@ -216,7 +216,7 @@ pub fn cut_writes_text()
     ensures { CutWritesText }
 {}
 
-/// In a text of valid UTF-8 what is passed after a piece is one character, a scalar value: both bytes of the `é` of
+/// In a text of valid UTF-8 what is skipped after a piece is one character, a scalar value: both bytes of the `é` of
 /// `a/bé`.
 pub fn passes_one_character()
     ensures { PassesOneCharacter }

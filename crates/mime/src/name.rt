@@ -71,7 +71,7 @@ fn eq_byte_by_byte(a: &[u8], b: &[u8]) -> bool
 }
 
 /// Whether two byte strings of one length, from `block` to twice `block`, are equal ignoring ASCII case: by their last
-/// and first `block` bytes, which together are all of them. Names and texts differ more often in their last bytes.
+/// and first `block` bytes, which together are all of them. Two names differ more often in their last bytes than in their first.
 #[inline(always)]
 fn eq_at_both_ends(a: &[u8], b: &[u8], block: usize) -> bool
     requires same_length { length a.now ≡ length b.now }
@@ -103,7 +103,7 @@ pub(crate) fn eq_ignoring_case(a: &[u8], b: &[u8]) -> bool
     eq_byte_by_byte(a, b)
 }
 
-/// Whether a name is the text `s`: ignoring ASCII case where the name does, else
+/// Whether a name is equal to the text `s`: ignoring ASCII case where the name does, else
 /// byte for byte (RFC 7231, 3.1.1.1). `name_eq_str(&TEXT, "Text")` is true; the boundary `ABC` isn't `abc`.
 /// It doesn't allocate.
 #[inline]
@@ -125,7 +125,7 @@ pub trait ParamKey: Drop {
         ensures { IsTrue result ↔ Accepts self.now name.entry.text.now name.entry.ignores_case };
 }
 
-/// The key that accepts the names which are this text, as [`name_eq_str`] compares them:
+/// The key that accepts the names that are equal to this text, as [`name_eq_str`] compares them:
 /// `TextKey("Charset")` accepts `charset` (names ignore case: RFC 7231, 3.1.1.1).
 #[derive(Clone, Copy)]
 pub struct TextKey<'k>(pub &'k str);

@@ -218,8 +218,8 @@ fn put_item(out: &mut [u8], at: usize, mark: u8, text: &str) -> usize
     put(out, next, text)
 }
 
-/// Takes the media types one by one out of `text`, and writes a string for each, and for each bad piece, to `out`, which
-/// needs `2 * text.len()` bytes. It returns `MIME_OK`, or why not: include/mime.h.
+/// Takes the media types one by one out of `text` (RFC 7231, 5.3.2), and writes a string for each, and for each bad piece,
+/// to `out`, which needs `2 * text.len()` bytes. It returns `MIME_OK`, or why not: include/mime.h.
 #[unsafe(no_mangle)]
 #[tactic(auto, using(crate::specs::Answers::has_no_room, crate::specs::Answers::is_not_text))]
 pub extern "C" fn mime_list(alloc: Global, text: &[u8], out: &mut [u8], length: &mut usize) -> u32
@@ -244,7 +244,7 @@ pub extern "C" fn mime_list(alloc: Global, text: &[u8], out: &mut [u8], length: 
     MIME_OK
 }
 
-/// Sets `equal` to 1 if two texts are read as equal media types, else to 0. It returns `MIME_OK`, or why a text isn't
+/// Sets `equal` to 1 if two texts are read as equal media types (RFC 7231, 3.1.1.1), else to 0. It returns `MIME_OK`, or why a text isn't
 /// read: include/mime.h.
 #[unsafe(no_mangle)]
 #[tactic(auto, using(crate::specs::Answers::first_fails, crate::specs::Answers::second_fails))]

@@ -23,8 +23,8 @@ pub enum ParseError {
     /// The text ends in a quoted value: its closing `"` is missing, as in `a/b;p="x`. After an unpaired backslash, as
     /// in `a/b;p="\`, the byte after it is missing too.
     MissingQuote,
-    /// Some media type begins with the bytes before this one, and none with the bytes up to and including it, as the
-    /// space in `a b`.
+    /// A byte that no media type has there, as the space in `a b`: some media type begins with the bytes before it, and
+    /// none with the bytes up to and including it.
     InvalidToken {
         /// The position of the byte, in bytes from 0.
         pos: usize,

@@ -22,7 +22,7 @@ const END: [u8; WORD] = [MARK, 0, 0, 0, 0, 0, 0, 0];
 /// Feeds a short pair to a hasher in one call.
 #[inline]
 fn feed_joined<H: Hasher>(name: &[u8], value: &[u8], state: &mut H)
-    requires { length name.now + 1 + length value.now < 64 }
+    requires { length name.now + 1 + length value.now < JOINED }
     ensures { state.new ≡ H.write state.old (pair_run (name.now, value.now)) }
 {
     let mut run = [0u8; JOINED];
@@ -35,7 +35,7 @@ fn feed_joined<H: Hasher>(name: &[u8], value: &[u8], state: &mut H)
     state.write(&run[..end + WORD - end % WORD]);
 }
 
-/// What is fed at the end of a pair after its name, `MARK` and value, which have `count` bytes.
+/// What is fed at the end of a pair, whose name, `MARK` and value have `count` bytes.
 #[inline(always)]
 fn end_after(count: usize) -> &'static [u8]
     ensures { result.now ≡ pair_end count }

@@ -73,35 +73,35 @@ fn lower_pairs(bytes: &mut [u8], list: TextEnd<'_>, count: usize)
     }
 }
 
-/// Lowercases what ignores case in a text with pairs, of whose bytes `bytes` is a copy: all up to its semicolon, and then
-/// in its pairs.
+/// Lowercases what ignores case in a text with `count` pairs, of whose bytes `bytes` is a copy: all up to the semicolon,
+/// and what ignores case in the pairs.
 #[inline]
-fn lower_text(bytes: &mut [u8], text: &str, semicolon: usize, pairs: usize)
+fn lower_text(bytes: &mut [u8], text: &str, semicolon: usize, count: usize)
     requires same { bytes.old ≡ text.now }
     requires parted { slice_get text.now semicolon ≡ Some semicolon_byte }
-    ensures { bytes.new ≡ with_pairs_lowered pairs semicolon text.now }
+    ensures { bytes.new ≡ with_pairs_lowered count semicolon text.now }
 {
     let start = semicolon + 1;
     lower_range(bytes, 0, start);
-    lower_pairs(&mut bytes[start..], TextEnd::of(text, start), pairs);
+    lower_pairs(&mut bytes[start..], TextEnd::of(text, start), count);
 }
 
-/// A text with pairs as it is kept: only what ignores case is lowercased.
+/// The kept text of a text with `count` pairs: only what ignores case is lowercased.
 #[inline(always)]
 fn keep_pairs(
     alloc: Global,
     text: &str,
     semicolon: usize,
-    pairs: usize,
+    count: usize,
 ) -> Result<String, AllocError>
     requires { slice_get text.now semicolon ≡ Some semicolon_byte }
-    ensures { IfOk result (λ kept. string_bytes kept ≡ with_pairs_lowered pairs semicolon text.now) }
+    ensures { IfOk result (λ kept. string_bytes kept ≡ with_pairs_lowered count semicolon text.now) }
 {
     if !has_capital(text) {
         return String::from_str(alloc, text);
     }
     let mut bytes = Vec::from_slice(alloc, text.as_bytes())?;
-    lower_text(&mut bytes, text, semicolon, pairs);
+    lower_text(&mut bytes, text, semicolon, count);
     // SAFETY: these are the bytes of a text, of which only ASCII capitals were lowercased: so they are UTF-8.
     Ok(unsafe { String::from_utf8_unchecked(bytes) })
 }

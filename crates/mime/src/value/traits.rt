@@ -78,7 +78,7 @@ impl PartialOrd for Mime {
 }
 
 /// Values are ordered by the bytes of their essences, and then by their parameters, pair by pair,
-/// each by its name and then its value; a list that begins another comes first: `a/b`, `a/b;p=1`, `a/b;p=2`, `a/c`.
+/// each by its name and then its value; a list that is a prefix of another comes first: `a/b`, `a/b;p=1`, `a/b;p=2`, `a/c`.
 /// It doesn't allocate.
 impl Ord for Mime {
     ghost cmp = { on (λ mime. mime.media) media_cmp };
