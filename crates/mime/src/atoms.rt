@@ -159,7 +159,7 @@ impl Atom {
             slash,
             plus,
             semicolon,
-            pairs: semicolon.is_some() as usize,
+            pair_count: semicolon.is_some() as usize,
         };
         (text, positions)
     }

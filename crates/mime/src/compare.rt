@@ -71,9 +71,9 @@ fn are_pairs(kept: Pairs<'_>, pairs: Pairs<'_>) -> bool
 /// Whether the first semicolon is at this position, and `count` parameters follow it.
 #[inline(always)]
 fn is_list_at(positions: Positions, semicolon: usize, count: usize) -> bool
-    ensures { IsTrue result ↔ ((positions.semicolon ≡ Some semicolon) × (positions.pairs ≡ count)) }
+    ensures { IsTrue result ↔ ((positions.semicolon ≡ Some semicolon) × (positions.pair_count ≡ count)) }
 {
-    positions.semicolon == Some(semicolon) && positions.pairs == count
+    positions.semicolon == Some(semicolon) && positions.pair_count == count
 }
 
 /// Whether a text is accepted, with its first semicolon at this position and `count` parameters.

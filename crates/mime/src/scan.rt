@@ -24,7 +24,7 @@ pub(crate) struct Positions {
     /// The semicolon after the essence.
     pub(crate) semicolon: Option<usize>,
     /// The number of parameters.
-    pub(crate) pairs: usize,
+    pub(crate) pair_count: usize,
 }
 
 /// What one pass over a text finds.
@@ -126,10 +126,10 @@ fn subtype(reader: &mut ByteReader<'_>, from: u128) -> (Option<usize>, Option<u8
     (if plus == 0 { None } else { Some(plus) }, stop)
 }
 
-/// Reads a parameter list, after its semicolon. `head` has the positions of the parts before it, and no parameters.
+/// Reads a parameter list, after its semicolon. `head` has the positions of the parts before it, and no pairs yet.
 #[inline(always)]
 fn parameters(reader: &mut ByteReader<'_>, head: Positions) -> Verdict
-    requires { head.pairs + length reader.old.left < 2 ^ 64 }
+    requires { head.pair_count + length reader.old.left < 2 ^ 64 }
     ensures { ScansList head reader.old reader.new result }
 {
     let mut positions = head;
@@ -160,7 +160,7 @@ fn parameters(reader: &mut ByteReader<'_>, head: Positions) -> Verdict
         } else {
             return Verdict::Stopped(first, None);
         };
-        positions.pairs += 1;
+        positions.pair_count += 1;
         match stop {
             None => return Verdict::Accepted(positions),
             Some(b';') => {}
@@ -198,7 +198,7 @@ pub(crate) fn scan(reader: &mut ByteReader<'_>) -> Verdict
         slash,
         plus,
         semicolon: None,
-        pairs: 0,
+        pair_count: 0,
     };
     match stop {
         None => return Verdict::Accepted(positions),

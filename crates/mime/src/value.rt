@@ -223,7 +223,7 @@ impl Mime {
         ensures low { AreLowPairs result }
     {
         let text = self.text.as_str();
-        Pairs::after(text, self.positions.semicolon, self.positions.pairs)
+        Pairs::after(text, self.positions.semicolon, self.positions.pair_count)
     }
 
     /// The number of parameters.
@@ -231,7 +231,7 @@ impl Mime {
     pub(crate) fn param_count(&self) -> usize
         ensures { result ≡ length self.now.media.pairs }
     {
-        self.positions.pairs
+        self.positions.pair_count
     }
 
     /// The value of the first parameter whose name the key accepts, or none if it accepts none:

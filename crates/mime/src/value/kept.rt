@@ -60,7 +60,7 @@ fn lower_first<'a>(bytes: &mut [u8], list: &TextEnd<'a>) -> TextEnd<'a>
     pair.rest
 }
 
-/// Lowercases what ignores case in the first `count` pairs of a list, of whose bytes `bytes` is a copy.
+/// Lowercases what ignores case in the first `count` pairs of a list. `bytes` is a copy of the list's bytes.
 #[inline]
 fn lower_pairs(bytes: &mut [u8], list: TextEnd<'_>, count: usize)
     requires { bytes.old ≡ list }
@@ -73,8 +73,8 @@ fn lower_pairs(bytes: &mut [u8], list: TextEnd<'_>, count: usize)
     }
 }
 
-/// Lowercases what ignores case in a text with `count` pairs, of whose bytes `bytes` is a copy: all up to the semicolon,
-/// and what ignores case in the pairs.
+/// Lowercases what ignores case in a text with `count` pairs: all up to the semicolon, and what does in the pairs. `bytes`
+/// is a copy of the text's bytes.
 #[inline]
 fn lower_text(bytes: &mut [u8], text: &str, semicolon: usize, count: usize)
     requires same { bytes.old ≡ text.now }
@@ -114,15 +114,15 @@ pub(crate) fn keep(
     positions: Positions,
 ) -> Result<(String, Positions), AllocError>
     requires { HasPositions text.now positions }
-    ensures text { IfOk result (λ kept. string_bytes kept.0 ≡ kept_text_of positions.pairs positions.semicolon text.now) }
+    ensures text { IfOk result (λ kept. string_bytes kept.0 ≡ kept_text_of positions.pair_count positions.semicolon text.now) }
     ensures positions { IfOk result (λ kept. kept.1 ≡ kept_positions positions) }
 {
     let Some(semicolon) = positions.semicolon else {
         return Ok((text.to_ascii_lowercase(alloc)?, positions));
     };
-    if positions.pairs != 0 {
+    if positions.pair_count != 0 {
         return Ok((
-            keep_pairs(alloc, text, semicolon, positions.pairs)?,
+            keep_pairs(alloc, text, semicolon, positions.pair_count)?,
             positions,
         ));
     }
