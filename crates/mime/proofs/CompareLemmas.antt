@@ -57,7 +57,7 @@ read_at-tree top sub (listed list) well end at =
 read_at : (text : List ℕ) (end count : ℕ) → IsAcceptedAt text end count → ReadAt text end count
 read_at text end count is =
     let tree = is.has.tree in
-    let counted = ap (λ (p : Positions). p.pairs) is.has.same_positions ∙ is.counted in
+    let counted = ap (λ (p : Positions). p.pair_count) is.has.same_positions ∙ is.counted in
     subst (λ t. ReadAt t end count) is.has.spelled (subst (ReadAt (text_of tree) end) counted
     (read_at-tree tree.top tree.sub tree.tail is.has.well_formed end (ap (λ (p : Positions). p.semicolon) is.has.same_positions ∙ is.at)))
 

@@ -15,7 +15,7 @@ pub record IsAcceptedAt (text : List ℕ) (semicolon count : ℕ) : Type 0 where
   pub positions : Positions
   pub has : HasPositions text positions
   pub at : positions.semicolon ≡ Some semicolon
-  pub counted : positions.pairs ≡ count
+  pub counted : positions.pair_count ≡ count
 
 -- the only pair is a charset
 abbrev pub IsLoneCharset : List (List ℕ × List ℕ) → Type 0

@@ -14,7 +14,7 @@ media_of text positions = record {
   essence = take (unwrap_or positions.semicolon (length text)) text;
   slash = positions.slash;
   plus = positions.plus;
-  pairs = pairs_after positions.pairs positions.semicolon text;
+  pairs = pairs_after positions.pair_count positions.semicolon text;
   kept = text;
 }
 
@@ -24,7 +24,7 @@ kept_semicolon zero semicolon = None
 kept_semicolon (suc pairs) semicolon = semicolon
 
 abbrev pub kept_positions : Positions → Positions
-kept_positions positions = record positions { semicolon = kept_semicolon positions.pairs positions.semicolon }
+kept_positions positions = record positions { semicolon = kept_semicolon positions.pair_count positions.semicolon }
 
 -- a text as it is kept, with the positions of its parts: its tree is in lowercase already, without an empty list
 pub record IsKept (text : List ℕ) (positions : Positions) : Type 0 where
@@ -64,5 +64,5 @@ positions_in text = record {
   slash = unwrap_or (first_of slash_byte text) 0;
   plus = first_of plus_byte text;
   semicolon = first_of semicolon_byte text;
-  pairs = length (option_to_list (first_of semicolon_byte text));
+  pair_count = length (option_to_list (first_of semicolon_byte text));
 }

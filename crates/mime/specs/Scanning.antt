@@ -38,7 +38,7 @@ positions_of tree = record {
   slash = length tree.top;
   plus = last_plus (length tree.top + 2) (drop 1 tree.sub);
   semicolon = semicolon_of (length tree.top + 1 + length tree.sub) tree.tail;
-  pairs = length (pairs_of_tail tree.tail);
+  pair_count = length (pairs_of_tail tree.tail);
 }
 
 -- the text is accepted, with its parts at these positions

@@ -106,7 +106,7 @@ pub const TEXT_JAVSCRIPT: Atom = Atom::TEXT_JAVASCRIPT;
 /// A constant's text, with the positions of its slash, its plus and its semicolon.
 type Row = (&'static str, usize, Option<usize>, Option<usize>);
 
-/// The one table of the constants, in the order of [`Atom`].
+/// The constants, in the order of [`Atom`].
 static TABLE: [Row; 32] = [
     ("*/*", 1, None, None),
     ("text/*", 4, None, None),
@@ -159,7 +159,7 @@ impl Atom {
             slash,
             plus,
             semicolon,
-            pairs: semicolon.is_some() as usize,
+            pair_count: semicolon.is_some() as usize,
         };
         (text, positions)
     }

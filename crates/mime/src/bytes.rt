@@ -9,7 +9,7 @@ ghost use Rattle.mime.specs.Bytes.{is_quoted_byte as is_quoted, is_quoted_text_b
 /// A byte that may stand nowhere.
 const N: u8 = 0;
 
-/// One that may stand in a quoted value after a backslash alone: a quote and a backslash.
+/// One that may stand in a quoted value only after a backslash: a quote or a backslash.
 const B: u8 = 1;
 
 /// One that may stand in a quoted value, and in no token.
@@ -21,7 +21,7 @@ const P: u8 = 3;
 /// Any other byte that may stand in a token.
 const T: u8 = 4;
 
-/// Where each byte may stand: each kind also where the kind before it may.
+/// The kind of each byte. A kind may also stand wherever the kinds before it may.
 static KINDS: [u8; 256] = [
     N, N, N, N, N, N, N, N, N, Q, N, N, N, N, N, N, N, N, N, N, N, N, N, N, N, N, N, N, N, N, N, N,
     Q, T, B, T, T, T, T, T, Q, Q, T, P, Q, T, T, Q, T, T, T, T, T, T, T, T, T, T, Q, Q, Q, Q, Q, Q,
@@ -59,7 +59,7 @@ pub(crate) fn is_space(b: u8) -> bool
 }
 
 /// Whether a byte may follow a backslash in a quoted value (the second byte of a quoted-pair of
-/// RFC 7230, 3.2.6): the tab, and any other byte from 32 on but 127. `is_quoted_byte(b'"')` is true.
+/// RFC 7230, 3.2.6): the tab, and any byte from 32 on except 127. `is_quoted_byte(b'"')` is true.
 #[inline(always)]
 pub fn is_quoted_byte(b: u8) -> bool
     ensures { result ≡ is_quoted b }
@@ -68,7 +68,7 @@ pub fn is_quoted_byte(b: u8) -> bool
 }
 
 /// Whether a byte may occur in a quoted value without a backslash before it (qdtext of RFC 7230, 3.2.6): any byte
-/// that may follow a backslash, but the quote and the backslash. `is_quoted_text_byte(b';')` is true.
+/// that may follow a backslash, except the quote and the backslash. `is_quoted_text_byte(b';')` is true.
 #[inline(always)]
 pub fn is_quoted_text_byte(b: u8) -> bool
     ensures { result ≡ is_quoted_text b }

@@ -1,4 +1,4 @@
-//! A media type against a text, without allocating.
+//! Comparing a media type with a text, without allocating.
 
 ghost use Rattle.std.specs.Prelude.{◌≡◌, ◌≢◌, ◌↔◌, IsTrue, Some, [], map};
 ghost use Rattle.mime.specs.Comparison.{TextIs};
@@ -20,7 +20,7 @@ fn eq_str_ignoring_case(one: &str, other: &str) -> bool
     eq_ignoring_case(one.as_bytes(), other.as_bytes())
 }
 
-/// Whether a text goes on with a semicolon after this essence, in any case.
+/// Whether a text begins with this essence, ignoring ASCII case, and a semicolon after it.
 #[inline]
 fn is_list_after(essence: &str, text: &str) -> bool
     ensures { IsTrue result ↔ IsListAfter essence.now text.now }
@@ -33,23 +33,24 @@ fn is_list_after(essence: &str, text: &str) -> bool
     eq_ignoring_case(essence.as_bytes(), &text[..end])
 }
 
-/// Whether a text's name and value are a kept parameter's: the name in any case, and the value too under `charset`.
+/// Whether a text's name and value are those of a kept parameter: ignoring ASCII case in the name, and in the value if the
+/// name is `charset`. The kept ones are `name` and `value`.
 #[inline]
-fn is_pair(name: &str, value: &str, other: &str, content: &str) -> bool
+fn is_pair(name: &str, value: &str, other_name: &str, other_value: &str) -> bool
     requires { IsLowPair (name.now, value.now) }
-    ensures { IsTrue result ↔ ((name.now, value.now) ≡ lowered_pair (other.now, content.now)) }
+    ensures { IsTrue result ↔ ((name.now, value.now) ≡ lowered_pair (other_name.now, other_value.now)) }
 {
-    if !eq_str_ignoring_case(name, other) {
+    if !eq_str_ignoring_case(name, other_name) {
         return false;
     }
     if name == "charset" {
-        eq_str_ignoring_case(value, content)
+        eq_str_ignoring_case(value, other_value)
     } else {
-        value == content
+        value == other_value
     }
 }
 
-/// Whether the pairs of a text are the kept ones, as they are read.
+/// Whether the pairs of a text are read as the kept ones.
 #[inline]
 fn are_pairs(kept: Pairs<'_>, pairs: Pairs<'_>) -> bool
     requires { AreLowPairs kept }
@@ -57,25 +58,25 @@ fn are_pairs(kept: Pairs<'_>, pairs: Pairs<'_>) -> bool
 {
     let mut others = pairs;
     for (name, value) in kept {
-        let Some((other, content)) = others.next() else {
+        let Some((other_name, other_value)) = others.next() else {
             return false;
         };
-        if !is_pair(name, value, other, content) {
+        if !is_pair(name, value, other_name, other_value) {
             return false;
         }
     }
     others.next().is_none()
 }
 
-/// Whether the semicolon is at this position, and this many parameters follow it.
+/// Whether the first semicolon is at this position, and `count` parameters follow it.
 #[inline(always)]
 fn is_list_at(positions: Positions, semicolon: usize, count: usize) -> bool
-    ensures { IsTrue result ↔ ((positions.semicolon ≡ Some semicolon) × (positions.pairs ≡ count)) }
+    ensures { IsTrue result ↔ ((positions.semicolon ≡ Some semicolon) × (positions.pair_count ≡ count)) }
 {
-    positions.semicolon == Some(semicolon) && positions.pairs == count
+    positions.semicolon == Some(semicolon) && positions.pair_count == count
 }
 
-/// Whether a text is accepted that has its semicolon at this position, and this many parameters.
+/// Whether a text is accepted, with its first semicolon at this position and `count` parameters.
 #[inline(never)]
 fn is_accepted_at(text: &str, semicolon: usize, count: usize) -> bool
     ensures { IsTrue result ↔ IsAcceptedAt text.now semicolon count }
@@ -87,13 +88,13 @@ fn is_accepted_at(text: &str, semicolon: usize, count: usize) -> bool
     }
 }
 
-/// Whether a text is a value with parameters, part by part: it has the essence, and then the parameters. A text that is
-/// the kept one ignoring ASCII case is accepted as that is; another is scanned.
+/// Whether a text is equal to a value with parameters, part by part: it has the essence, and then the parameters. If
+/// `equal_ignoring_case`, it is the kept text ignoring ASCII case, and so accepted; otherwise it is scanned.
 #[inline(never)]
-fn eq_by_parts(mime: &Mime, s: &str, is_equal: bool) -> bool
+fn eq_by_parts(mime: &Mime, s: &str, equal_ignoring_case: bool) -> bool
     requires reads { Reads mime.now.media.kept mime.now.media }
     requires some { mime.now.media.pairs ≢ [] }
-    requires equal { IsTrue is_equal → lowered mime.now.media.kept ≡ lowered s.now }
+    requires equal { IsTrue equal_ignoring_case → lowered mime.now.media.kept ≡ lowered s.now }
     ensures { IsTrue result ↔ TextIs mime.now.media s.now }
 {
     let essence = mime.essence_str();
@@ -101,14 +102,14 @@ fn eq_by_parts(mime: &Mime, s: &str, is_equal: bool) -> bool
         return false;
     }
     let end = essence.len();
-    if !are_pairs(mime.pairs(), Pairs::after(s, Some(end), mime.count())) {
+    if !are_pairs(mime.pairs(), Pairs::after(s, Some(end), mime.param_count())) {
         return false;
     }
-    is_equal || is_accepted_at(s, end, mime.count())
+    equal_ignoring_case || is_accepted_at(s, end, mime.param_count())
 }
 
-/// Whether a text is a value with parameters that isn't its kept text. The first difference decides most texts; a lone
-/// charset in another case is equal; otherwise the parts are compared.
+/// Whether a text other than the kept text is equal to a value with parameters. The first difference decides most texts;
+/// a lone charset in another case is equal; otherwise the parts are compared.
 #[inline(never)]
 fn eq_otherwise(mime: &Mime, s: &str) -> bool
     requires { mime.now.media.pairs ≢ [] }
@@ -132,7 +133,7 @@ pub fn mime_eq_str(mime: &Mime, s: &str) -> bool
     ensures { IsTrue result ↔ TextIs mime.now.media s.now }
 {
     let kept = mime.as_str();
-    if mime.count() == 0 {
+    if mime.param_count() == 0 {
         return eq_str_ignoring_case(kept, s);
     }
     kept == s || eq_otherwise(mime, s)

@@ -26,7 +26,7 @@ pub(crate) fn difference(x: u8, y: u8) -> u8
     u8::from((x ^ y) & !case != 0)
 }
 
-/// For each byte of the first blocks, 1 if the two differ ignoring ASCII case, else 0.
+/// For each position in the first block of two byte strings, 1 if their bytes differ ignoring ASCII case, else 0.
 #[inline(always)]
 fn differences(a: &[u8], b: &[u8]) -> [u8; BLOCK]
     requires room { BLOCK ≤ length a.now }
@@ -42,7 +42,7 @@ fn differences(a: &[u8], b: &[u8]) -> [u8; BLOCK]
     found
 }
 
-/// Where the first blocks first differ ignoring ASCII case, if they do.
+/// The first position in the first block at which two byte strings differ ignoring ASCII case, if they do.
 #[inline(always)]
 fn difference_in_block(a: &[u8], b: &[u8]) -> Option<usize>
     requires room { BLOCK ≤ length a.now }
@@ -58,8 +58,8 @@ fn difference_in_block(a: &[u8], b: &[u8]) -> Option<usize>
     }
 }
 
-/// Where two texts of at least a block first differ ignoring ASCII case, if they do before one of them ends. The last
-/// block may overlap the one before.
+/// The first position at which two texts of at least a block differ ignoring ASCII case, if they do before one of them
+/// ends. The last block may overlap the one before.
 #[inline(always)]
 pub(crate) fn first_difference(a: &[u8], b: &[u8]) -> Option<usize>
     requires room { BLOCK ≤ length a.now }
@@ -95,7 +95,7 @@ pub(crate) enum Compared {
     Equal,
     /// They are read as different values: their first difference, ignoring ASCII case, reaches the value.
     Different,
-    /// Undecided: a text is shorter than a block, or they first differ at a space, tab or quote, or one ends first.
+    /// Neither is known: a text is shorter than a block, or they first differ at a space, tab or quote, or one ends first.
     Undecided,
 }
 

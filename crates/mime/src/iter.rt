@@ -12,7 +12,7 @@ use std::alloc::{AllocError, Global};
 use std::fmt;
 use std::marker::Model;
 
-/// Why an item of a [`MimeIter`] is no media type (a list of them: RFC 7231, 5.3.2).
+/// Why an item of a [`MimeIter`] isn't a media type (lists of them: RFC 7231, 5.3.2).
 #[derive(Clone, Copy, PartialEq, Eq, Debug)]
 pub enum Bad<'a> {
     /// This piece of the text isn't a media type, as `invalid` in `invalid, a/b`.
@@ -70,16 +70,16 @@ fn pass<'a>(text: &'a str, from: u128) -> Passed<'a>
 }
 
 /// The media types of a text one by one, as those of an `Accept` header (RFC 7231, 5.3.2): the good
-/// entries of a list, and the pieces of it that are none.
+/// entries of a list, and the pieces of it that aren't media types.
 ///
 /// The text is cut into the longest pieces that some media type begins with. Each ends before a
-/// character that can't follow it, such as the comma of a list; that character is passed. A piece
+/// character that can't follow it, such as the comma of a list; that character is skipped. A piece
 /// is a media type or a bad piece; an empty one isn't yielded, nor is a last piece that is
 /// unfinished. So a bad entry doesn't change the entries after its comma, unless it ends in an open quoted value. The
 /// scanner reads no byte twice.
 ///
-/// A media type allocates once, for its kept text, but an entry `*/*` never does: like the `*/*` that
-/// [`Mime::from_str`] gives it is fixed, so that its clone doesn't allocate either.
+/// Yielding a media type allocates once, for its kept text. Yielding the piece `*/*` doesn't allocate, and neither does
+/// cloning its media type.
 ///
 /// Over `text/html, invalid, a/b; q=1` it yields `text/html`, the bad piece `invalid`, and
 /// `a/b; q=1`. Over `a/b ; q=1` it yields `a/b` and the bad piece `q`, since no space may precede the
@@ -122,9 +122,9 @@ impl<'a> MimeIter<'a> {
         }
     }
 
-    /// How many bytes were read so far, those of the items that were given included: 43 for all of
-    /// `application/json, invalid, application/json`, which are 16, 7 and 16 bytes and 4 characters
-    /// that were passed. It is never more than the text's length.
+    /// The number of bytes read so far, from the start of the text: 43 for all of
+    /// `application/json, invalid, application/json`, which are 16, 7 and 16 bytes and 4 skipped
+    /// characters. It is never more than the text's length.
     pub fn steps(&self) -> u128
         ensures steps { result ≡ self.now.steps }
         ensures few { result ≤ length self.now.text }

@@ -1,5 +1,6 @@
 //! The laws of the definitions, as calls: a caller that calls one has its law in its proof. Most do nothing;
-//! `name_constants` gives the constant names. docs/LAWS.md lists all claims.
+//! `name_constants` returns the constant names. docs/LAWS.md lists all claims, docs/RULES.md says what viable,
+//! accepted and cut mean.
 
 ghost use Rattle.std.specs.Prelude.{◌≡◌, ◌↔◌, IsTrue, map};
 ghost use Rattle.std.specs.Cmp.Lexicographic.{slice_cmp};
@@ -44,7 +45,7 @@ pub fn empty_is_viable()
     ensures { EmptyIsViable }
 {}
 
-/// What a viable text begins with is viable: `a/b;p`, since `a/b;p="` is.
+/// A prefix of a viable text is viable: `a/b;p`, since `a/b;p="` is.
 pub fn prefix_of_viable_is_viable()
     ensures { PrefixOfViableIsViable }
 {}
@@ -135,7 +136,7 @@ pub fn parameter_is_read()
     ensures { ParameterIsRead }
 {}
 
-/// Of two values exactly one is true: the first comes before the second, they are equal, or the second comes before
+/// Of two values exactly one of these is true: the first comes before the second, they are equal, or the second comes before
 /// the first. `a/b` comes before `a/b;p=1`, and that before `a/c`.
 pub fn one_order()
     ensures { OneOrder }
@@ -158,14 +159,14 @@ pub fn kept_text_is()
     ensures { KeptTextIs }
 {}
 
-/// A key finds at most one answer in a list of items, and one if it accepts each name or doesn't: `TextKey("P")` finds
-/// `1` in `a/b;p=1;p=2`, and nothing else.
+/// A key finds at most one answer in a list of items, and it finds one if for each name it is decided whether the key
+/// accepts it: `TextKey("P")` finds `1` in `a/b;p=1;p=2`, and nothing else.
 pub fn one_answer<K: ParamKey>(key: &K)
     ensures most { OneAnswer (K.Accepts key.now) }
     ensures least { HasAnswer (K.Accepts key.now) }
 {}
 
-/// A `TextKey` accepts a name or doesn't, and so does a `Name`: `TextKey("P")` accepts `p`, and doesn't accept `q`.
+/// It is decided whether a `TextKey` accepts a name, and whether a `Name` does: `TextKey("P")` accepts `p`, and not `q`.
 pub fn keys_decide()
     ensures text { (key : TextKey) → IsDecided (⟦<TextKey<'static> as ParamKey>⟧.Accepts key) }
     ensures name { (key : Name) → IsDecided (⟦<Name<'static> as ParamKey>⟧.Accepts key) }
@@ -176,7 +177,7 @@ pub fn mime_equality()
     ensures { (first second : OwnedMedia) → IsTrue (⟦<Mime as PartialEq>⟧.eq first second) ↔ Same first.media second.media }
 {}
 
-/// Two values compare as they come before each other: `a/b` is less than `a/c`.
+/// The `Ordering` of two values says which of them comes before the other: `a/b` is less than `a/c`.
 pub fn mime_order()
     ensures { (first second : OwnedMedia) → IsOrderOf first.media second.media (⟦<Mime as Ord>⟧.cmp first second) }
 {}
@@ -186,7 +187,7 @@ pub fn equal_values_feed_the_same()
     ensures { RespectsEquality ⟦<Mime as Hash>⟧.hash_input }
 {}
 
-/// What values feed a hasher is prefix-free: of two unequal values neither feeds bytes with which the other's begin, so a
+/// What values feed a hasher is prefix-free: what a value feeds is never a prefix of what an unequal one feeds, so a
 /// pair of a value and a text feeds what no other pair does. `a/bx` with `c` and `a/b` with `xc` feed different bytes.
 pub fn hash_is_prefix_free()
     ensures { IsPrefixFree ⟦<Mime as Hash>⟧.hash_input }
@@ -215,7 +216,7 @@ pub fn cut_writes_text()
     ensures { CutWritesText }
 {}
 
-/// In a text of valid UTF-8 what is passed after a piece is one character, a scalar value: both bytes of the `é` of
+/// In a text of valid UTF-8 what is skipped after a piece is one character, a scalar value: both bytes of the `é` of
 /// `a/bé`.
 pub fn passes_one_character()
     ensures { PassesOneCharacter }
@@ -245,7 +246,7 @@ pub fn http_list_is_cut()
     ensures { HttpListIsCut }
 {}
 
-/// A run gives the items of the cut, over `a/b, e, c/d` two media types and a bad piece. Out of memory may come
+/// A run of a `MimeIter` yields the items of the cut, over `a/b, e, c/d` two media types and a bad piece. Out of memory may come
 /// for an item that is a media type other than `*/*`, and ends the run.
 pub fn run_gives_cut()
     ensures { RunGivesCut }

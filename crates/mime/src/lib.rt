@@ -1,5 +1,5 @@
-//! Media types such as `text/plain; charset=utf-8` (RFC 7231, 3.1.1.1): read, held, compared and printed.
-//! It is a port of the Rust crate `mime`, series 0.3, whose promises are contracts.
+//! Media types such as `text/plain; charset=utf-8` (RFC 7231, 3.1.1.1): read, stored, compared and printed.
+//! It is a port of the Rust crate `mime`, series 0.3; what it promises are contracts that a prover checks.
 //!
 //! [`Mime::from_str`] reads a media type from a text, [`MimeIter`] takes them one by one out of a list, such
 //! as an `Accept` header, and [`mime_eq_str`] compares one with a text. The 38 constants such as [`CHARSET`]
@@ -29,7 +29,7 @@
 //!
 //! # Memory
 //! `Mime::from_str` and `MimeIter::new` take the allocator. Reading a media type, `clone` of a `Mime`, and each
-//! media type that a `MimeIter` yields allocate once, and have an error for running out of memory. Nothing else allocates;
+//! media type that a `MimeIter` yields allocate once, and report an error where memory runs out. Nothing else allocates;
 //! refused texts, `*/*` and constants don't either.
 //!
 //! # Standards

@@ -18,15 +18,15 @@ use std::fmt;
 /// text and then by the flag, `false` first. To compare with a text, see [`name_eq_str`].
 #[derive(Clone, Copy, PartialEq, Eq, PartialOrd, Ord, Hash)]
 pub struct Name<'a> {
-    /// The part's text. Where this crate gives a name that ignores case, it has no ASCII capital.
+    /// The part's text. In a name that this crate returns and that ignores case, it has no ASCII capital.
     pub text: &'a str,
-    /// Whether ASCII case doesn't count where the name is compared with a text.
+    /// Whether the name is compared with a text ignoring ASCII case.
     pub ignores_case: bool,
 }
 
 impl<'a> Name<'a> {
-    /// The name's text: `TEXT.as_str()` is `"text"`. It lives as long as what the name was lent from, which may
-    /// be longer than the `Name`.
+    /// The name's text: `TEXT.as_str()` is `"text"`. It is borrowed from what the name borrows from, so it may
+    /// outlive the `Name`.
     pub fn as_str(&self) -> &'a str
         ensures { result.now ≡ self.now.text.now }
     {
@@ -70,9 +70,8 @@ fn eq_byte_by_byte(a: &[u8], b: &[u8]) -> bool
     differs == 0
 }
 
-/// Whether two byte strings of one length are equal ignoring ASCII case, by
-/// their last and first `block` bytes, which together cover texts of at most twice that length. Names and
-/// texts differ at their ends more often than where they begin.
+/// Whether two byte strings of one length, from `block` to twice `block`, are equal ignoring ASCII case: by their last
+/// and first `block` bytes, which together are all of them. Two names differ more often in their last bytes than in their first.
 #[inline(always)]
 fn eq_at_both_ends(a: &[u8], b: &[u8], block: usize) -> bool
     requires same_length { length a.now ≡ length b.now }
@@ -104,7 +103,7 @@ pub(crate) fn eq_ignoring_case(a: &[u8], b: &[u8]) -> bool
     eq_byte_by_byte(a, b)
 }
 
-/// Whether a name is the text `s`: ignoring ASCII case where the name does, else
+/// Whether a name is equal to the text `s`: ignoring ASCII case where the name does, else
 /// byte for byte (RFC 7231, 3.1.1.1). `name_eq_str(&TEXT, "Text")` is true; the boundary `ABC` isn't `abc`.
 /// It doesn't allocate.
 #[inline]
@@ -126,7 +125,7 @@ pub trait ParamKey: Drop {
         ensures { IsTrue result ↔ Accepts self.now name.entry.text.now name.entry.ignores_case };
 }
 
-/// The key that accepts the names which are this text, as [`name_eq_str`] compares them:
+/// The key that accepts the names that are equal to this text, as [`name_eq_str`] compares them:
 /// `TextKey("Charset")` accepts `charset` (names ignore case: RFC 7231, 3.1.1.1).
 #[derive(Clone, Copy)]
 pub struct TextKey<'k>(pub &'k str);

@@ -1,4 +1,6 @@
 //! One pass over a text: where its parts are, or why it is refused.
+//!
+//! A function that reads a part returns the byte that ends it, which is read too, or none at the end of the text.
 
 ghost use Rattle.std.specs.Prelude.{◌+◌, ◌-◌, ◌<◌, ◌^◌, length};
 ghost use Rattle.mime.specs.Bytes.{is_token_byte, is_quoted_text_byte as is_quoted_text};
@@ -17,24 +19,27 @@ pub(crate) use crate::scan::reader::ByteReader;
 #[derive(Clone, Copy)]
 pub(crate) struct Positions {
     pub(crate) slash: usize,
+    /// The plus before the suffix.
     pub(crate) plus: Option<usize>,
+    /// The semicolon after the essence.
     pub(crate) semicolon: Option<usize>,
-    pub(crate) pairs: usize,
+    /// The number of parameters.
+    pub(crate) pair_count: usize,
 }
 
 /// What one pass over a text finds.
 #[derive(Clone, Copy)]
 pub(crate) enum Verdict {
-    /// It is accepted.
+    /// It is accepted, and its parts have these positions.
     Accepted(Positions),
-    /// It ends too early.
+    /// It ends too early: this is missing.
     Unfinished(ParseError),
-    /// This byte, the last one read, fits nowhere. The positions are those of the parts of the text before
-    /// it, if that is a media type by itself.
+    /// No media type has this byte here, which is the last one read. The positions are those of the parts of
+    /// the text before it, if that is a media type by itself.
     Stopped(u8, Option<Positions>),
 }
 
-/// Passes the bytes of a token, and gives the byte that ends it.
+/// Reads the bytes of a token, and returns the byte that ends it.
 #[inline(always)]
 fn token(reader: &mut ByteReader<'_>) -> Option<u8>
     ensures { Passes is_token_byte reader.old reader.new result }
@@ -47,7 +52,7 @@ fn token(reader: &mut ByteReader<'_>) -> Option<u8>
     None
 }
 
-/// Passes the bytes of a token up to a plus, and gives the byte that ends them.
+/// Reads the bytes of a token up to a plus, and returns the byte that ends them.
 #[inline(always)]
 fn token_to_plus(reader: &mut ByteReader<'_>) -> Option<u8>
     ensures { Passes is_token_except reader.old reader.new result }
@@ -60,7 +65,7 @@ fn token_to_plus(reader: &mut ByteReader<'_>) -> Option<u8>
     None
 }
 
-/// Passes spaces and tabs, and gives the byte that ends them.
+/// Reads optional whitespace, spaces and tabs (OWS of RFC 7230, 3.2.3), and returns the byte that ends it.
 #[inline(always)]
 fn spaces(reader: &mut ByteReader<'_>) -> Option<u8>
     ensures { Passes is_space_byte reader.old reader.new result }
@@ -73,7 +78,7 @@ fn spaces(reader: &mut ByteReader<'_>) -> Option<u8>
     None
 }
 
-/// Passes quoted text (qdtext of RFC 7230, 3.2.6), and gives the byte that ends it.
+/// Reads quoted text (qdtext of RFC 7230, 3.2.6), and returns the byte that ends it.
 #[inline(always)]
 fn quoted_text(reader: &mut ByteReader<'_>) -> Option<u8>
     ensures { Passes is_quoted_text reader.old reader.new result }
@@ -86,8 +91,8 @@ fn quoted_text(reader: &mut ByteReader<'_>) -> Option<u8>
     None
 }
 
-/// Passes a quoted value's content, and gives the byte that ends it: a quote closes it unless an unpaired
-/// backslash precedes it.
+/// Reads a quoted value's content, and returns the byte that ends it: the first quote that no unpaired backslash
+/// precedes, or a byte that may not stand there.
 #[inline(always)]
 fn content(reader: &mut ByteReader<'_>) -> Option<u8>
     ensures { PassesContent reader.old reader.new result }
@@ -103,8 +108,8 @@ fn content(reader: &mut ByteReader<'_>) -> Option<u8>
     stop
 }
 
-/// Passes what follows a subtype's first byte. Returns the position of its last plus, counted from
-/// `from`, the reader's count where the text began, and the byte that ends it.
+/// Reads what follows a subtype's first byte. Returns the position of its last plus, if there is one, and the
+/// byte that ends it. `from` is the reader's count at the start of the text.
 #[inline(always)]
 fn subtype(reader: &mut ByteReader<'_>, from: u128) -> (Option<usize>, Option<u8>)
     requires begun { from < reader.old.count }
@@ -121,10 +126,10 @@ fn subtype(reader: &mut ByteReader<'_>, from: u128) -> (Option<usize>, Option<u8
     (if plus == 0 { None } else { Some(plus) }, stop)
 }
 
-/// Reads a parameter list, after its semicolon, of a text that has these parts before it.
+/// Reads a parameter list, after its semicolon. `head` has the positions of the parts before it, and no pairs yet.
 #[inline(always)]
 fn parameters(reader: &mut ByteReader<'_>, head: Positions) -> Verdict
-    requires { head.pairs + length reader.old.left < 2 ^ 64 }
+    requires { head.pair_count + length reader.old.left < 2 ^ 64 }
     ensures { ScansList head reader.old reader.new result }
 {
     let mut positions = head;
@@ -155,7 +160,7 @@ fn parameters(reader: &mut ByteReader<'_>, head: Positions) -> Verdict
         } else {
             return Verdict::Stopped(first, None);
         };
-        positions.pairs += 1;
+        positions.pair_count += 1;
         match stop {
             None => return Verdict::Accepted(positions),
             Some(b';') => {}
@@ -164,7 +169,7 @@ fn parameters(reader: &mut ByteReader<'_>, head: Positions) -> Verdict
     }
 }
 
-/// Reads a text to its end, or to the first byte that no media type has there.
+/// Reads a text to its end, or up to and including the first byte that no media type has there.
 #[inline(always)]
 pub(crate) fn scan(reader: &mut ByteReader<'_>) -> Verdict
     ensures { Scans reader.old reader.new result }
@@ -193,7 +198,7 @@ pub(crate) fn scan(reader: &mut ByteReader<'_>) -> Verdict
         slash,
         plus,
         semicolon: None,
-        pairs: 0,
+        pair_count: 0,
     };
     match stop {
         None => return Verdict::Accepted(positions),

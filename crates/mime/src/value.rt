@@ -24,7 +24,7 @@ pub use crate::value::params::Params;
 use std::alloc::Global;
 use std::marker::Model;
 
-/// The text of a media type as it is kept.
+/// The kept text of a media type: static for `*/*` and the constants, else allocated.
 #[derive(Drop)]
 enum Text {
     Fixed(&'static str),
@@ -70,7 +70,7 @@ impl Model for Mime {
 impl Mime {
     /// Reads a media type from the whole of `s` (RFC 7231, 3.1.1.1, with the departures that
     /// docs/DIFFERENCES.md lists). It allocates once, for the kept text, if `s` is a media type other
-    /// than `*/*`, and else never.
+    /// than `*/*`; otherwise it doesn't allocate.
     ///
     /// `TEXT/PLAIN; CHARSET=UTF-8; FOO=BAR` is kept as `text/plain; charset=utf-8; foo=BAR`, and
     /// `text/plain; ` as `text/plain`.
@@ -102,7 +102,7 @@ impl Mime {
         }
     }
 
-    /// The media type of an accepted text.
+    /// The media type of an accepted text, whose parts have these positions. The only error is that memory ran out.
     #[inline(always)]
     pub(crate) fn of_accepted(
         alloc: Global,
@@ -171,7 +171,7 @@ impl Mime {
     }
 
     /// The suffix, after the subtype's last `+` that isn't its first byte, in lowercase:
-    /// `xml` in `image/svg+xml`, nothing in `a/b+`, and none in `a/+xml` (RFC 6838, 4.2.8).
+    /// `xml` in `image/svg+xml`, the empty text in `a/b+`, and none in `a/+xml` (RFC 6838, 4.2.8).
     pub fn suffix(&self) -> Option<Name<'_>>
         ensures text { option_map name_text result ≡ suffix_of self.now.media }
         ensures flag { IfSome result (λ name. name.ignores_case ≡ true) }
@@ -198,7 +198,7 @@ impl Mime {
 
     /// The kept text, which is what is printed. Where there is a parameter, it is the whole text that was
     /// read, with type, subtype, parameter names and charset in lowercase; else it is the essence.
-    /// `a/b;P=X; ` gives `a/b;p=X; `. Read again, it has the same value and the same text.
+    /// `a/b;P=X; ` gives `a/b;p=X; `. Reading it gives an equal value with the same kept text.
     pub fn as_str(&self) -> &str
         ensures text { result.now ≡ self.now.media.kept }
         ensures reads { Reads result.now self.now.media }
@@ -216,22 +216,22 @@ impl Mime {
         Params::new(self.pairs())
     }
 
-    /// The parameters as pairs of texts.
+    /// The parameters as pairs of a name and a value, both texts.
     #[inline(always)]
     pub(crate) fn pairs(&self) -> Pairs<'_>
         ensures pairs { result ≡ self.now.media.pairs }
         ensures low { AreLowPairs result }
     {
         let text = self.text.as_str();
-        Pairs::after(text, self.positions.semicolon, self.positions.pairs)
+        Pairs::after(text, self.positions.semicolon, self.positions.pair_count)
     }
 
-    /// How many parameters there are.
+    /// The number of parameters.
     #[inline(always)]
-    pub(crate) fn count(&self) -> usize
+    pub(crate) fn param_count(&self) -> usize
         ensures { result ≡ length self.now.media.pairs }
     {
-        self.positions.pairs
+        self.positions.pair_count
     }
 
     /// The value of the first parameter whose name the key accepts, or none if it accepts none:

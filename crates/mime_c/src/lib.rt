@@ -1,6 +1,6 @@
 //! Media types for programs that aren't in Rattle: the calls that include/mime.h declares.
 //!
-//! No call keeps a pointer or a state. Each answers with a number, and writes strings, with the byte 0 after each, into
+//! No call keeps a pointer or a state. Each returns a number, its answer, and writes strings, with the byte 0 after each, into
 //! the caller's buffer. The pages `Strings` and `Answers` of `Rattle.mime_c.specs` say which.
 #![tactic(auto)]
 
@@ -17,7 +17,7 @@ pub mod laws;
 use mime::{Bad, Mime, MimeIter, ParseError};
 use std::alloc::Global;
 
-/// The answers of all calls, by the names and numbers of include/mime.h, which says what they mean.
+// The answers of all calls, by the names and numbers of include/mime.h, which says what they mean.
 const MIME_OK: u32 = 0;
 
 const MIME_MISSING_SLASH: u32 = 1;
@@ -38,12 +38,12 @@ const MIME_NOT_UTF8: u32 = 8;
 
 const MIME_NO_ROOM: u32 = 9;
 
-/// The first byte of each string of `mime_list`.
+// The first byte of each string of `mime_list`: of a media type, and of a bad piece.
 const MIME_GOOD: u8 = b'+';
 
 const MIME_BAD: u8 = b'-';
 
-/// What `mime_read` finds beside the strings.
+/// What `mime_read` finds besides the strings: numbers of bytes, and positions in bytes from 0.
 #[repr(C)]
 #[derive(Clone, Copy)]
 pub struct MimeFound {
@@ -51,19 +51,19 @@ pub struct MimeFound {
     pub length: usize,
     /// How many parameters there are.
     pub params: usize,
-    /// Where the string begins that the media type is printed as.
+    /// The position in the buffer of the last string, which the media type is printed as.
     pub printed: usize,
-    /// Where the slash is in the essence.
+    /// The position of the slash in the essence.
     pub slash: usize,
-    /// Where the subtype ends in the essence: at the plus of a suffix, or at the 0 after the essence.
+    /// The position in the essence at which the subtype ends: that of the plus of a suffix, or of the 0 after the essence.
     pub subtype_end: usize,
-    /// Where the invalid byte is in the text.
+    /// The position of the invalid byte in the text.
     pub pos: usize,
     /// The invalid byte.
     pub byte: u8,
 }
 
-/// Where nothing is found.
+/// What is found where there is nothing to say.
 const NOTHING: MimeFound = MimeFound {
     length: 0,
     params: 0,
@@ -74,7 +74,7 @@ const NOTHING: MimeFound = MimeFound {
     byte: 0,
 };
 
-/// Why a text is read as no media type: the answer of a call, and what is found.
+/// Why a text isn't read as a media type: the answer of a call, and what is found.
 #[derive(Clone, Copy)]
 struct Failure {
     answer: u32,
@@ -134,7 +134,7 @@ fn read(alloc: Global, text: &[u8]) -> Result<Mime, Failure>
     }
 }
 
-/// Copies bytes to a position, and gives the position after them.
+/// Copies bytes to a position, and returns the position after them.
 fn copy(out: &mut [u8], at: usize, bytes: &[u8]) -> usize
     requires { at + length bytes.now ≤ length out.old }
     ensures end { result ≡ at + length bytes.now }
@@ -145,7 +145,7 @@ fn copy(out: &mut [u8], at: usize, bytes: &[u8]) -> usize
     end
 }
 
-/// Writes a text and a 0 at a position, and gives the position after them.
+/// Writes a text and a 0 at a position, and returns the position after them.
 #[tactic(auto, using(crate::proofs::Writing::both_written))]
 fn put(out: &mut [u8], at: usize, text: &str) -> usize
     requires { at + length text.now < length out.old }
@@ -155,7 +155,7 @@ fn put(out: &mut [u8], at: usize, text: &str) -> usize
     copy(out, end, b"\0")
 }
 
-/// Writes the strings of a media type, and says what is found.
+/// Writes the strings of a media type, and returns what is found.
 fn put_parts(out: &mut [u8], mime: &Mime) -> MimeFound
     requires read { IsRead mime.now.media }
     requires room { length (strings (texts_of mime.now.media)) ≤ length out.old }
@@ -180,8 +180,8 @@ fn put_parts(out: &mut [u8], mime: &Mime) -> MimeFound
     }
 }
 
-/// Reads a media type from the whole of `text`, and writes its parts and the text that it is printed as to `out`, whose
-/// first `2 * text.len() + 2` bytes are enough.
+/// Reads a media type from the whole of `text` (RFC 7231, 3.1.1.1), and writes its parts and the text that it is printed
+/// as to `out`, which needs `2 * text.len() + 2` bytes. It returns `MIME_OK`, or why it writes nothing: include/mime.h.
 #[unsafe(no_mangle)]
 #[tactic(auto, using(crate::specs::Answers::has_no_room, crate::specs::Answers::fails, crate::specs::Answers::is_read, crate::proofs::NoZero::texts_come_back, crate::proofs::Room::texts_fit))]
 pub extern "C" fn mime_read(
@@ -208,7 +208,7 @@ pub extern "C" fn mime_read(
     }
 }
 
-/// Writes an item of a list at a position, and gives the position after it.
+/// Writes an item of a list at a position, and returns the position after it. `mark` says whether it is a media type.
 #[tactic(auto, using(crate::proofs::Writing::both_written))]
 fn put_item(out: &mut [u8], at: usize, mark: u8, text: &str) -> usize
     requires { at + length (mark ∷ text.now) < length out.old }
@@ -218,8 +218,8 @@ fn put_item(out: &mut [u8], at: usize, mark: u8, text: &str) -> usize
     put(out, next, text)
 }
 
-/// Takes the media types one by one out of `text`, and writes a string for each, and for each bad piece, to `out`, whose
-/// first `2 * text.len()` bytes are enough.
+/// Takes the media types one by one out of `text` (RFC 7231, 5.3.2), and writes a string for each, and for each bad piece,
+/// to `out`, which needs `2 * text.len()` bytes. It returns `MIME_OK`, or why not: include/mime.h.
 #[unsafe(no_mangle)]
 #[tactic(auto, using(crate::specs::Answers::has_no_room, crate::specs::Answers::is_not_text))]
 pub extern "C" fn mime_list(alloc: Global, text: &[u8], out: &mut [u8], length: &mut usize) -> u32
@@ -244,7 +244,8 @@ pub extern "C" fn mime_list(alloc: Global, text: &[u8], out: &mut [u8], length: 
     MIME_OK
 }
 
-/// Sets `equal` to 1 if two texts are read as equal media types, else to 0.
+/// Sets `equal` to 1 if two texts are read as equal media types (RFC 7231, 3.1.1.1), else to 0. It returns `MIME_OK`, or why a text isn't
+/// read: include/mime.h.
 #[unsafe(no_mangle)]
 #[tactic(auto, using(crate::specs::Answers::first_fails, crate::specs::Answers::second_fails))]
 pub extern "C" fn mime_is(alloc: Global, one: &[u8], other: &[u8], equal: &mut u8) -> u32

@@ -18,8 +18,8 @@ pub trait Source {
     /// The flag "has failed".
     ghost has_failed: { Self → Bool };
 
-    /// Puts bytes at the start of a buffer, and gives their number: 3 for a buffer of 8 bytes means
-    /// that its first 3 are new. 0 for a buffer that isn't empty is the end.
+    /// Reads bytes into the start of a buffer, and returns their number: 3 for a buffer of 8 bytes means
+    /// that its first 3 are new, and 0 for a buffer that isn't empty means the end.
     fn read(&mut self, buf: &mut [u8]) -> Result<usize, Failed>
         ensures bound { ReadsAtMost result buf.new }
         ensures bytes { ReadConsumes (left self.old) (left self.new) result buf.new }
@@ -54,7 +54,7 @@ pub trait Sink {
         ensures unfailed { OnOk result (has_failed self.new ≡ has_failed self.old) };
 }
 
-/// A reader as a source, a writer as a sink. Each call is handed to the inner call of its name:
+/// A reader as a source, a writer as a sink. Each call is forwarded to the inner call of the same name:
 /// `Device { inner: rt.stdin(), failed: false }` reads standard input.
 #[derive(Drop)]
 pub struct Device<T> {
@@ -65,7 +65,7 @@ pub struct Device<T> {
 }
 
 impl<T> Device<T> {
-    /// The answer of an inner call. Its failure sets the flag.
+    /// What an inner call returned, without the cause of an error. An error sets the flag.
     fn flagged<V>(&mut self, answer: io::Result<V>) -> Result<V, Failed>
         ensures inner { self.new.inner ≡ self.old.inner }
         ensures answer { MatchResult answer (λ value. result ≡ Ok value) (λ _. IsErr result) }

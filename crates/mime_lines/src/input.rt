@@ -1,4 +1,4 @@
-//! What the program takes in: all bytes of a source up to a limit, and their lines.
+//! The input: all bytes of a source up to a limit, and their lines.
 
 ghost use Rattle.std.specs.Prelude.{◌≡◌, ◌≢◌, ℕ, List, ◌<◌, ◌≤◌, ◌∷◌, ◌==◌, ◌+◌, length, drop, true, OnOk, IfOk};
 ghost use Rattle.std.specs.List.{list_any, position_or_len};
@@ -10,13 +10,13 @@ use crate::device::Source;
 use crate::error::RunError;
 use std::alloc::Global;
 
-/// How many bytes of input are taken at most.
+/// The most bytes that an input may have.
 const LIMIT: usize = 1_048_576;
 
-/// How many bytes are asked for at a time.
+/// The most bytes that one read asks for.
 const BLOCK: usize = 8192;
 
-/// How many bytes are looked at together in the search for the end of a line.
+/// The number of bytes that are searched at once for the end of a line.
 const STEP: usize = 8;
 
 /// Reads a source to its end, and no further than one byte past the limit.
@@ -53,7 +53,7 @@ pub(crate) fn read_to_limit<S: Source>(alloc: Global, source: &mut S) -> Result<
     }
 }
 
-/// Whether a line ends among some bytes. The loop doesn't end early: over a known length it is a few
+/// Whether some bytes have a line feed. The loop doesn't end early: over a known length it is a few
 /// instructions.
 #[inline(always)]
 fn has_line_end(bytes: &[u8]) -> bool
@@ -66,7 +66,8 @@ fn has_line_end(bytes: &[u8]) -> bool
     found
 }
 
-/// Where the first line of an input ends: whole steps are passed first, and then single bytes.
+/// The position of an input's first line feed, or the input's length. Whole steps are searched first, and then single
+/// bytes.
 fn line_end(input: &[u8]) -> usize
     ensures line { result ≡ position_or_len (λ byte. byte == 10) input.now }
     ensures within { result ≤ length input.now }
@@ -93,7 +94,7 @@ pub(crate) fn first_line(input: &[u8]) -> (&[u8], &[u8])
 }
 
 /// The first line of a nonempty text, and the rest after its line feed. A line feed is an ASCII byte, so
-/// both are texts.
+/// both are valid UTF-8.
 pub(crate) fn first_text_line(text: &str) -> (&str, &str)
     requires { 0 < length text.now }
     ensures lines { lines_of text.now ≡ result.0.now ∷ lines_of result.1.now }

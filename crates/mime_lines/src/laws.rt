@@ -1,4 +1,4 @@
-//! The laws of what the program gives out, as calls that do nothing: a caller that calls one has its law in its proof.
+//! The laws of the program's public types, as calls that do nothing: a caller that calls one has its law in its proof.
 
 ghost use Rattle.std.specs.Prelude.{◌≡◌};
 

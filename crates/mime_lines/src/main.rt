@@ -43,7 +43,7 @@ fn asked_mode(mut arguments: Args) -> Option<Mode>
     }
 }
 
-/// The mode that an argument names.
+/// The mode that an argument names, or none.
 fn named_mode(word: &str) -> Option<Mode>
     ensures { result ≡ mode_named word.now }
 {
@@ -77,7 +77,7 @@ fn main(rt: HostRuntime) -> ExitCode {
     ended(&rt, outcome)
 }
 
-/// The status that a run ends with. Where it stopped, the reason is printed on standard error.
+/// The exit status of a run. An error is printed on standard error.
 fn ended(rt: &impl Eprint, outcome: Result<(), RunError>) -> ExitCode
     ensures done { OnOk outcome (exit_status result ≡ 0) }
     ensures stopped { OnErr outcome (exit_status result ≡ 1) }

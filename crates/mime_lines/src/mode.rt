@@ -6,6 +6,6 @@ pub enum Mode {
     /// The parts of the one media type that the line is: for `a/b` the rows `ok a/b`, `type a` and
     /// `subtype b`.
     Parts,
-    /// The media types and the bad pieces of the line, as [`mime::MimeIter`] gives them.
+    /// The media types and the bad pieces of the line, as [`mime::MimeIter`] yields them.
     List,
 }

@@ -9,7 +9,7 @@ use crate::mode::Mode;
 use mime::{Bad, Mime, MimeIter, ParseError};
 use std::alloc::{AllocError, Global};
 
-/// The report on an input. Where all of it is a text, its lines need no test of their own.
+/// The report on an input. Where all of it is valid UTF-8, its lines are, and needn't be validated one by one.
 pub(crate) fn report_of(alloc: Global, input: &[u8], mode: Mode) -> Result<String, AllocError>
     ensures { IfOk result (λ report. IsReportOf mode input.now (string_bytes report)) }
 {
@@ -19,7 +19,7 @@ pub(crate) fn report_of(alloc: Global, input: &[u8], mode: Mode) -> Result<Strin
     }
 }
 
-/// The report on an input that is a text.
+/// The report on an input that is valid UTF-8.
 fn report_of_text(alloc: Global, text: &str, mode: Mode) -> Result<String, AllocError>
     ensures { IfOk result (λ report. IsReportOf mode text.now (string_bytes report)) }
 {
@@ -33,7 +33,7 @@ fn report_of_text(alloc: Global, text: &str, mode: Mode) -> Result<String, Alloc
     Ok(report)
 }
 
-/// The report on any input.
+/// The report on any input, each line of which is validated by itself.
 fn report_of_bytes(alloc: Global, input: &[u8], mode: Mode) -> Result<String, AllocError>
     ensures { IfOk result (λ report. IsReportOf mode input.now (string_bytes report)) }
 {
@@ -57,7 +57,7 @@ fn push_line(alloc: Global, report: &mut String, line: &[u8], mode: Mode) -> Res
     }
 }
 
-/// Adds the report on a line that is a text.
+/// Adds the report on a line that is valid UTF-8.
 #[inline(always)]
 fn push_text(alloc: Global, report: &mut String, text: &str, mode: Mode) -> Result<(), AllocError>
     ensures { OnOk result ((rows : List ℕ) × ReportsLine mode text.now rows × (string_bytes report.new ≡ string_bytes report.old ++ rows)) }
@@ -68,7 +68,7 @@ fn push_text(alloc: Global, report: &mut String, text: &str, mode: Mode) -> Resu
     }
 }
 
-/// Adds the rows of the media type that a text is, or its fault.
+/// Adds the rows of the media type that a text is, or a row with its fault.
 #[inline(never)]
 fn push_reading(alloc: Global, report: &mut String, text: &str) -> Result<(), AllocError>
     ensures { OnOk result
@@ -131,7 +131,7 @@ fn push_params(report: &mut String, mime: &Mime) -> Result<(), AllocError>
     Ok(())
 }
 
-/// Adds a row.
+/// Adds a row: a label, a text and a line feed.
 #[inline(always)]
 fn push_row(report: &mut String, label: &str, text: &str) -> Result<(), AllocError>
     ensures { OnOk result (string_bytes report.new ≡ string_bytes report.old ++ row label.now text.now) }

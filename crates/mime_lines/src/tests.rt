@@ -1,4 +1,4 @@
-//! What runs over memory answer and write. The reports on ordinary inputs are data: vectors/ and tools/program.
+//! What runs over readers and writers in memory return and write. The reports on ordinary inputs are data: vectors/ and tools/program.
 
 ghost use Rattle.std.specs.Prelude.{◌≡◌, None, false};
 
@@ -12,8 +12,8 @@ use std::{fmt, io};
 /// More bytes than any run here reads or writes.
 const ENOUGH: usize = 1 << 22;
 
-/// Gives its bytes, at most so many a read, or the letter `a` without end. After so many reads it is
-/// interrupted, which is a failure like any other, once or for ever.
+/// Gives its bytes, at most `most` a read, or the letter `a` without end. After `reads` reads it is
+/// interrupted, once or for ever; that is a failure like any other.
 #[derive(Clone, Copy)]
 struct Reader<'a> {
     left: &'a [u8],
@@ -23,7 +23,7 @@ struct Reader<'a> {
     fails_once: bool,
 }
 
-/// Gives these bytes, at most so many a read.
+/// A reader that gives these bytes, at most `most` a read.
 fn giving(bytes: &[u8], most: usize) -> Reader<'_> {
     Reader {
         left: bytes,
@@ -50,8 +50,8 @@ impl Read for Reader<'_> {
     }
 }
 
-/// Takes its bytes, at most so many a write, and fails at any others, or at a flush. After a failure it takes
-/// anything, if it fails once.
+/// Takes its bytes, at most `most` a write, and fails at any others, or at a flush. If it fails only once, it takes
+/// anything after that.
 #[derive(Clone, Copy)]
 struct Writer<'a> {
     left: &'a [u8],
@@ -61,7 +61,7 @@ struct Writer<'a> {
     takes_all: bool,
 }
 
-/// Takes these bytes, at most so many a write, and fails at no flush.
+/// A writer that takes these bytes, at most `most` a write, and fails at no flush.
 fn taking(bytes: &[u8], most: usize) -> Writer<'_> {
     Writer {
         left: bytes,
@@ -114,7 +114,8 @@ struct Run<'a> {
     answer: Result<(), RunError>,
 }
 
-/// The run ends so, its writer has taken all its bytes, and just what the answer names has failed.
+/// Checks that the run returns this answer, that its writer has taken all its bytes, and that only what the answer names
+/// has failed.
 fn check(rt: &impl Abort, alloc: Global, case: Run<'_>) {
     let mut source = Device {
         inner: case.reader,
@@ -195,7 +196,7 @@ static CASES: &[Reported<'static>] = &[
     },
 ];
 
-/// A run of such a mode, which ends so.
+/// A run that returns this answer.
 fn ending<'a>(
     mode: Mode,
     reader: Reader<'a>,
@@ -221,7 +222,7 @@ fn reads_and_writes_a_byte_at_a_time(rt: HostRuntime) {
 #[test]
 fn stops_where_a_read_fails(rt: HostRuntime) {
     for &case in CASES {
-        // The last of these reads would have told the end.
+        // The last of these reads would have returned the end.
         for reads in 0..=case.input.len() {
             for fails_once in [false, true] {
                 let mut reader = giving(case.input, 1);
@@ -250,7 +251,7 @@ fn stops_where_a_write_fails(rt: HostRuntime) {
     }
 }
 
-/// A run writes this report, and stops where the flush after it fails.
+/// Checks that a run writes this report, and that it stops where the flush after it fails.
 fn check_flush(rt: &impl Abort, alloc: Global, case: Reported<'_>) {
     let reader = giving(case.input, ENOUGH);
     let mut writer = taking(case.report, ENOUGH);
@@ -271,7 +272,7 @@ fn stops_where_a_flush_fails(rt: HostRuntime) {
     }
 }
 
-/// A run over this input is too long.
+/// Checks that a run stops because this reader's input is too long.
 fn check_too_long(rt: &impl Abort, alloc: Global, mode: Mode, reader: Reader<'_>) {
     let writer = taking(b"", ENOUGH);
     check(
@@ -333,7 +334,7 @@ fn reads_many_bytes_at_a_time(rt: HostRuntime) -> Result<(), Fail> {
     Ok(())
 }
 
-/// Drops what it is given, and tells whether a flush is due.
+/// A sink that drops what it is given, and knows whether a flush is due.
 #[derive(Drop)]
 struct Pending {
     is_pending: bool,
@@ -370,7 +371,7 @@ fn passes_on_what_it_writes(rt: HostRuntime) {
     }
 }
 
-/// Whether an error prints this text, to a writer that takes it alone.
+/// Whether an error prints this text, and nothing else, to a writer that takes no other bytes.
 fn prints(error: RunError, text: &[u8]) -> bool {
     let mut writer = taking(text, ENOUGH);
     fmt::Write::write_fmt(&mut writer, format_args!("{error}")).is_ok() && writer.left.is_empty()

@@ -47,7 +47,7 @@ pub record Subtyped (top : List ℕ) (b : ℕ) (plus : Option ℕ) (old now : Re
 
 -- the positions of a text that ends in its subtype
 abbrev essence_positions : ℕ → Option ℕ → Positions
-essence_positions slash plus = record { slash = slash; plus = plus; semicolon = None; pairs = 0 }
+essence_positions slash plus = record { slash = slash; plus = plus; semicolon = None; pair_count = 0 }
 
 -- the positions of a text that ends in its subtype are those of its parts
 pub essence_is : (slash : ℕ) (plus : Option ℕ) (top others : List ℕ) → slash ≡ length top → plus ≡ last_plus (length top + 2) others
@@ -66,13 +66,13 @@ scans_list {old} {mid} {top = top} {sub = sub} r e scans =
 pub record Turn (head positions : Positions) (old now : Remaining) : Type 0 where
   pub closed : List (List ℕ × Parameter)
   pub walked : ListReaches old now None (record { closed = closed; position = in_spaces [] })
-  pub same_positions : positions ≡ record head { pairs = head.pairs + (length closed + 0) }
+  pub same_positions : positions ≡ record head { pair_count = head.pair_count + (length closed + 0) }
   pub room : length closed + length now.left ≤ length old.left
 
 -- one parameter more is counted
-pub one_pair_more : (head positions : Positions) (n : ℕ) → positions ≡ record head { pairs = head.pairs + (n + 0) }
-    → record positions { pairs = positions.pairs + 1 } ≡ record head { pairs = head.pairs + (n + 1) }
-one_pair_more head positions n e = rw e (ap (λ (count : ℕ). record head { pairs = count }) (omega arith))
+pub one_pair_more : (head positions : Positions) (n : ℕ) → positions ≡ record head { pair_count = head.pair_count + (n + 0) }
+    → record positions { pair_count = positions.pair_count + 1 } ≡ record head { pair_count = head.pair_count + (n + 1) }
+one_pair_more head positions n e = rw e (ap (λ (count : ℕ). record head { pair_count = count }) (omega arith))
 
 -- the spaces before a parameter were walked
 pub spaces_walked : {head positions : Positions} {old mid new : Remaining} {stop : Option ℕ}
@@ -113,7 +113,7 @@ pub record Valued (closed : List (List ℕ × Parameter)) (spaces : List ℕ) (o
   pub position : ListState
   pub walked : ListReaches old now stop (record { closed = closed; position = position })
   pub counted : (head : Positions) → positions_of_list head (record { closed = closed; position = position })
-      ≡ Some (record head { pairs = head.pairs + (length closed + 1) })
+      ≡ Some (record head { pair_count = head.pair_count + (length closed + 1) })
   pub closing : grow_state closed position semicolon_byte ≡ close closed spaces parameter
   pub stopped : MatchOption stop (now.left ≡ []) (λ b. b ≢ semicolon_byte → grow_state closed position b ≡ None)
   pub less : length now.left ≤ length mid.left

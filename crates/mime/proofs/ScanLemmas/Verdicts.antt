@@ -118,7 +118,7 @@ length-with_closed ((n, parameter) ∷ closed) rest = length-with_closed closed 
 -- the positions of a text that ends in a list, if it may end there, with those before the list
 abbrev pub positions_of_list : Positions → BegunList → Option Positions
 positions_of_list head list =
-    option_map (λ rest. record head { pairs = head.pairs + (length list.closed + length (pairs_of_list rest)) })
+    option_map (λ rest. record head { pair_count = head.pair_count + (length list.closed + length (pairs_of_list rest)) })
     (list_at_end list.position)
 
 -- the positions of a text that ends in a list are those of its tree
@@ -128,12 +128,12 @@ positions_of_list-tree top sub list = at_end (list_at_end list.position)
   where
     at_end : (end : Option Parameters)
         → option_map
-        (λ rest. record (positions_of (before_list top sub)) { pairs = 0 + (length list.closed + length (pairs_of_list rest)) }) end
+        (λ rest. record (positions_of (before_list top sub)) { pair_count = 0 + (length list.closed + length (pairs_of_list rest)) }) end
         ≡ option_map positions_of
         (option_map (λ rest. record { top = top; sub = sub; tail = listed rest }) (option_map (with_closed list.closed) end))
     at_end None = refl
     at_end (Some rest) =
-        ap (λ n. Some (record (positions_of (before_list top sub)) { pairs = n })) (omega (arith, length-with_closed list.closed rest))
+        ap (λ n. Some (record (positions_of (before_list top sub)) { pair_count = n })) (omega (arith, length-with_closed list.closed rest))
 
 -- a byte that leads nowhere in a list leads nowhere
 stopped_in_list : (top sub left : List ℕ) (list : BegunList) (stop : Option ℕ)

@@ -126,7 +126,7 @@ keeps_parts top sub (listed (more n p rest)) well =
 
 -- the same, by the positions that the tree gives
 pub keeps-tree : (tree : SyntaxTree) → IsWellFormed tree
-    → Keeps tree (kept_text_of (positions_of tree).pairs (positions_of tree).semicolon (text_of tree)) (kept_positions (positions_of tree))
+    → Keeps tree (kept_text_of (positions_of tree).pair_count (positions_of tree).semicolon (text_of tree)) (kept_positions (positions_of tree))
 keeps-tree tree well = keeps_parts tree.top tree.sub tree.tail well
 
 -- the pairs of a tree with a list, cut out of its text
@@ -181,19 +181,19 @@ at_tree P text positions has here = subst (λ x. P x positions) has.spelled (sub
 
 -- an accepted text keeps its tree
 keeps-accepted : (text : List ℕ) (positions : Positions) (has : HasPositions text positions)
-    → Keeps has.tree (kept_text_of positions.pairs positions.semicolon text) (kept_positions positions)
+    → Keeps has.tree (kept_text_of positions.pair_count positions.semicolon text) (kept_positions positions)
 keeps-accepted text positions has =
-    at_tree (λ t p. Keeps has.tree (kept_text_of p.pairs p.semicolon t) (kept_positions p)) text positions has
+    at_tree (λ t p. Keeps has.tree (kept_text_of p.pair_count p.semicolon t) (kept_positions p)) text positions has
     (keeps-tree has.tree has.well_formed)
 
 -- the kept text of an accepted text is kept
 pub kept-from_positions : (text : List ℕ) (positions : Positions) → HasPositions text positions
-    → IsKept (kept_text_of positions.pairs positions.semicolon text) (kept_positions positions)
+    → IsKept (kept_text_of positions.pair_count positions.semicolon text) (kept_positions positions)
 kept-from_positions text positions has = (keeps-accepted text positions has).is_kept
 
 -- an accepted text reads as the value that its kept text gives
 pub kept_reads : (text : List ℕ) (positions : Positions) → HasPositions text positions
-    → Reads text (media_of (kept_text_of positions.pairs positions.semicolon text) (kept_positions positions))
+    → Reads text (media_of (kept_text_of positions.pair_count positions.semicolon text) (kept_positions positions))
 kept_reads text positions has = reads_as has (kept_media has.tree _ _ (keeps-accepted text positions has))
 
 -- the kept text of a value that was read reads as the value

@@ -23,19 +23,20 @@ pub enum ParseError {
     /// The text ends in a quoted value: its closing `"` is missing, as in `a/b;p="x`. After an unpaired backslash, as
     /// in `a/b;p="\`, the byte after it is missing too.
     MissingQuote,
-    /// Some media type begins with the bytes before this one, and none with the bytes up to and including it, as the
-    /// space in `a b`.
+    /// A byte that no media type has there, as the space in `a b`: some media type begins with the bytes before it, and
+    /// none with the bytes up to and including it.
     InvalidToken {
         /// The position of the byte, in bytes from 0.
         pos: usize,
-        /// The byte, which begins a character.
+        /// The byte, which is the first of its character.
         byte: u8,
     },
     /// The text is a media type, such as `text/plain`, and memory ran out.
     NoMemory,
 }
 
-/// What the invalid byte prints, apart from a formatter, whose width would count for the numbers. It has 73 bytes at most.
+/// The text for an invalid byte. It is written without the caller's formatter, whose width would pad each number. It
+/// has at most 69 bytes.
 fn token_text(pos: usize, byte: u8) -> Result<InlineText<80>, fmt::Error>
     ensures { IfOk result (λ text. inline_text text ≡ printed_token pos byte) }
 {

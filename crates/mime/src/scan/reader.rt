@@ -1,15 +1,15 @@
-//! A reader of a text's bytes, which counts those it gave.
+//! A reader of a text's bytes that counts those it has returned.
 
 ghost use Rattle.std.specs.Prelude.{◌≡◌, ◌+◌, ◌-◌, ◌<◌, ◌≤◌, ◌^◌, length};
 ghost use Rattle.mime.specs.Scanning.{GivesFirst};
 
 use std::marker::Model;
 
-/// The unread bytes, and the count at the end of the text.
+/// The unread bytes of a text, and what the count will be at its end.
 #[derive(Drop)]
 pub(crate) struct ByteReader<'a> {
     left: &'a [u8],
-    full: u128,
+    end_count: u128,
 }
 
 impl<'a> Model for ByteReader<'a> {
@@ -18,13 +18,13 @@ impl<'a> Model for ByteReader<'a> {
 
     ghost Value = { Remaining };
 
-    ghost view = { λ r. record { left = r.left.now; count = r.full - length r.left.now } };
+    ghost view = { λ r. record { left = r.left.now; count = r.end_count - length r.left.now } };
 
-    ghost invariant = { λ r. length r.left.now ≤ r.full };
+    ghost invariant = { λ r. length r.left.now ≤ r.end_count };
 }
 
 impl<'a> ByteReader<'a> {
-    /// A reader of all bytes of `text`, which counts on from `count`.
+    /// A reader of all bytes of `text`, whose count begins at `count`.
     #[inline(always)]
     pub(crate) fn new(text: &'a str, count: u128) -> ByteReader<'a>
         requires { count + length text.now < 2 ^ 128 }
@@ -34,7 +34,7 @@ impl<'a> ByteReader<'a> {
         let left = text.as_bytes();
         ByteReader {
             left,
-            full: count + left.len() as u128,
+            end_count: count + left.len() as u128,
         }
     }
 
@@ -48,16 +48,16 @@ impl<'a> ByteReader<'a> {
         Some(*first)
     }
 
-    /// How many bytes were given, those counted before this reader included.
+    /// The number of bytes read so far, including those counted before this reader.
     #[inline(always)]
     pub(crate) fn count(&self) -> u128
         ensures count { result ≡ self.now.count }
         ensures fits { length self.now.left < 2 ^ 64 }
     {
-        self.full - self.left.len() as u128
+        self.end_count - self.left.len() as u128
     }
 
-    /// The position of the byte that was given last, from 0 where the text began: its reader had counted `from` then.
+    /// The position of the byte that was read last, in bytes from 0. `from` is what the count was at the start of the text.
     #[inline(always)]
     pub(crate) fn position(&self, from: u128) -> usize
         requires given { from < self.now.count }

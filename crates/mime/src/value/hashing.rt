@@ -7,22 +7,22 @@ ghost use Rattle.mime.specs.HashInput.{pair_run, pair_parts, pair_input, pair_en
 use crate::value::pairs::Pairs;
 use std::hash::Hasher;
 
-/// How many bytes are joined before they are fed to a hasher.
+/// The size of the buffer in which a short pair is joined, in bytes.
 const JOINED: usize = 64;
 
 /// The number of bytes in a word of a hasher.
 const WORD: usize = 8;
 
-/// The byte after a name and after a value that are fed. No text has it.
+/// The byte that is fed after a name and after a value. No UTF-8 text has it.
 const MARK: u8 = 0xff;
 
-/// What ends a pair that is fed: that byte, and zeros up to a whole word.
+/// What is fed at the end of a pair: `MARK`, and zeros up to a whole word.
 const END: [u8; WORD] = [MARK, 0, 0, 0, 0, 0, 0, 0];
 
-/// Feeds a short pair to a hasher in one piece.
+/// Feeds a short pair to a hasher in one call.
 #[inline]
 fn feed_joined<H: Hasher>(name: &[u8], value: &[u8], state: &mut H)
-    requires { length name.now + 1 + length value.now < 64 }
+    requires { length name.now + 1 + length value.now < JOINED }
     ensures { state.new ≡ H.write state.old (pair_run (name.now, value.now)) }
 {
     let mut run = [0u8; JOINED];
@@ -35,7 +35,7 @@ fn feed_joined<H: Hasher>(name: &[u8], value: &[u8], state: &mut H)
     state.write(&run[..end + WORD - end % WORD]);
 }
 
-/// What is fed after a pair of this many bytes.
+/// What is fed at the end of a pair, whose name, `MARK` and value have `count` bytes.
 #[inline(always)]
 fn end_after(count: usize) -> &'static [u8]
     ensures { result.now ≡ pair_end count }
@@ -43,9 +43,9 @@ fn end_after(count: usize) -> &'static [u8]
     &END[..WORD - count % WORD]
 }
 
-/// Feeds a long pair to a hasher, part by part.
+/// Feeds a long pair to a hasher, with a call for each part.
 #[inline(never)]
-fn feed_apart<H: Hasher>(name: &[u8], value: &[u8], state: &mut H)
+fn feed_in_parts<H: Hasher>(name: &[u8], value: &[u8], state: &mut H)
     ensures { state.new ≡ fold H.write state.old (pair_parts (name.now, value.now)) }
 {
     state.write(name);
@@ -62,7 +62,7 @@ fn feed_pair<H: Hasher>(name: &[u8], value: &[u8], state: &mut H)
     if name.len() + 1 + value.len() < JOINED {
         feed_joined(name, value, state);
     } else {
-        feed_apart(name, value, state);
+        feed_in_parts(name, value, state);
     }
 }
 

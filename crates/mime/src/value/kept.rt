@@ -26,7 +26,7 @@ fn has_capital(text: &str) -> bool
     found
 }
 
-/// Whether a parameter's name is `charset`, in any case.
+/// Whether a parameter's name is `charset`, ignoring ASCII case.
 #[inline]
 fn names_charset(name: &str) -> bool
     ensures { result ≡ is_charset name.now }
@@ -34,7 +34,7 @@ fn names_charset(name: &str) -> bool
     eq_ignoring_case(name.as_bytes(), b"charset")
 }
 
-/// Lowercases the bytes between two positions.
+/// Lowercases the bytes from one position up to another.
 #[inline]
 fn lower_range(bytes: &mut [u8], from: usize, to: usize)
     requires order { from ≤ to }
@@ -44,7 +44,8 @@ fn lower_range(bytes: &mut [u8], from: usize, to: usize)
     bytes[from..to].make_ascii_lowercase();
 }
 
-/// Lowercases the first pair of a list with these bytes, and returns the list after it.
+/// Lowercases what ignores case in the first pair of a list, and returns the list after it. `bytes` is a copy of the
+/// list's bytes.
 #[inline]
 fn lower_first<'a>(bytes: &mut [u8], list: &TextEnd<'a>) -> TextEnd<'a>
     requires { bytes.old ≡ list.now }
@@ -59,7 +60,7 @@ fn lower_first<'a>(bytes: &mut [u8], list: &TextEnd<'a>) -> TextEnd<'a>
     pair.rest
 }
 
-/// Lowercases the first `count` pairs of a list with these bytes.
+/// Lowercases what ignores case in the first `count` pairs of a list. `bytes` is a copy of the list's bytes.
 #[inline]
 fn lower_pairs(bytes: &mut [u8], list: TextEnd<'_>, count: usize)
     requires { bytes.old ≡ list }
@@ -72,39 +73,40 @@ fn lower_pairs(bytes: &mut [u8], list: TextEnd<'_>, count: usize)
     }
 }
 
-/// Lowercases a text with pairs and these bytes: all up to its semicolon, and then its pairs.
+/// Lowercases what ignores case in a text with `count` pairs: all up to the semicolon, and what does in the pairs. `bytes`
+/// is a copy of the text's bytes.
 #[inline]
-fn lower_text(bytes: &mut [u8], text: &str, semicolon: usize, pairs: usize)
+fn lower_text(bytes: &mut [u8], text: &str, semicolon: usize, count: usize)
     requires same { bytes.old ≡ text.now }
     requires parted { slice_get text.now semicolon ≡ Some semicolon_byte }
-    ensures { bytes.new ≡ with_pairs_lowered pairs semicolon text.now }
+    ensures { bytes.new ≡ with_pairs_lowered count semicolon text.now }
 {
-    let list = semicolon + 1;
-    lower_range(bytes, 0, list);
-    lower_pairs(&mut bytes[list..], TextEnd::of(text, list), pairs);
+    let start = semicolon + 1;
+    lower_range(bytes, 0, start);
+    lower_pairs(&mut bytes[start..], TextEnd::of(text, start), count);
 }
 
-/// A text with pairs as it is kept: only what ignores case is lowercased.
+/// The kept text of a text with `count` pairs: only what ignores case is lowercased.
 #[inline(always)]
 fn keep_pairs(
     alloc: Global,
     text: &str,
     semicolon: usize,
-    pairs: usize,
+    count: usize,
 ) -> Result<String, AllocError>
     requires { slice_get text.now semicolon ≡ Some semicolon_byte }
-    ensures { IfOk result (λ kept. string_bytes kept ≡ with_pairs_lowered pairs semicolon text.now) }
+    ensures { IfOk result (λ kept. string_bytes kept ≡ with_pairs_lowered count semicolon text.now) }
 {
     if !has_capital(text) {
         return String::from_str(alloc, text);
     }
     let mut bytes = Vec::from_slice(alloc, text.as_bytes())?;
-    lower_text(&mut bytes, text, semicolon, pairs);
+    lower_text(&mut bytes, text, semicolon, count);
     // SAFETY: these are the bytes of a text, of which only ASCII capitals were lowercased: so they are UTF-8.
     Ok(unsafe { String::from_utf8_unchecked(bytes) })
 }
 
-/// The kept text of an accepted text, and the positions in it. An empty list is cut off.
+/// The kept text of an accepted text, and the positions in it. An empty parameter list is dropped.
 #[inline(always)]
 pub(crate) fn keep(
     alloc: Global,
@@ -112,15 +114,15 @@ pub(crate) fn keep(
     positions: Positions,
 ) -> Result<(String, Positions), AllocError>
     requires { HasPositions text.now positions }
-    ensures text { IfOk result (λ kept. string_bytes kept.0 ≡ kept_text_of positions.pairs positions.semicolon text.now) }
+    ensures text { IfOk result (λ kept. string_bytes kept.0 ≡ kept_text_of positions.pair_count positions.semicolon text.now) }
     ensures positions { IfOk result (λ kept. kept.1 ≡ kept_positions positions) }
 {
     let Some(semicolon) = positions.semicolon else {
         return Ok((text.to_ascii_lowercase(alloc)?, positions));
     };
-    if positions.pairs != 0 {
+    if positions.pair_count != 0 {
         return Ok((
-            keep_pairs(alloc, text, semicolon, positions.pairs)?,
+            keep_pairs(alloc, text, semicolon, positions.pair_count)?,
             positions,
         ));
     }

@@ -1,4 +1,4 @@
-//! What media types do as keys and copies, and how they are printed.
+//! Media types compared, hashed, cloned and printed.
 
 ghost use Rattle.std.specs.Prelude.{◌≡◌, ◌↔◌, IsTrue, Some, true, refl};
 ghost use Rattle.std.specs.Cmp.{partial_equiv_from_equiv, partial_order_from_total, on_equiv, on_total, eq_by_cmp_equiv};
@@ -15,7 +15,7 @@ use std::cmp::Ordering;
 use std::fmt;
 use std::hash::{Hash, Hasher};
 
-/// Whether two values are equal, part by part: a list of parameters can be written in more than one way.
+/// Whether two values are equal, part by part. Their texts may differ and the values be equal: `a/b;p=x` and `a/b;p="x"`.
 #[inline(never)]
 fn same_parts(first: &Mime, second: &Mime) -> bool
     ensures { IsTrue result ↔ Same first.now.media second.now.media }
@@ -47,7 +47,7 @@ impl PartialEq for Mime {
         ensures computed { result ≡ eq_by_cmp media_cmp self.now.media other.now.media }
         ensures same { IsTrue result ↔ Same self.now.media other.now.media }
     {
-        if self.count() != other.count() {
+        if self.param_count() != other.param_count() {
             return false;
         }
         // Equal texts are equal values.
@@ -55,7 +55,7 @@ impl PartialEq for Mime {
             return true;
         }
         // Without parameters the text is the essence, and the essences differ.
-        if self.count() == 0 {
+        if self.param_count() == 0 {
             return false;
         }
         same_parts(self, other)
@@ -78,7 +78,7 @@ impl PartialOrd for Mime {
 }
 
 /// Values are ordered by the bytes of their essences, and then by their parameters, pair by pair,
-/// each by its name and then its value; a list that begins another comes first: `a/b`, `a/b;p=1`, `a/b;p=2`, `a/c`.
+/// each by its name and then its value; a list that is a prefix of another comes first: `a/b`, `a/b;p=1`, `a/b;p=2`, `a/c`.
 /// It doesn't allocate.
 impl Ord for Mime {
     ghost cmp = { on (λ mime. mime.media) media_cmp };
@@ -102,9 +102,9 @@ impl Ord for Mime {
     }
 }
 
-/// Feeds a hasher the parameters and the essence. Equal values feed it the same bytes: `a/b; p="x"` and `A/B;P=x`. Of
-/// two unequal values neither feeds bytes with which the other's begin, so a tuple of a value and a text is as good a
-/// key as the value alone. Which bytes are fed may change between versions. It doesn't allocate.
+/// Feeds a hasher the parameters and the essence. Equal values feed it the same bytes: `a/b; p="x"` and `A/B;P=x`. What
+/// a value feeds is never a prefix of what an unequal one feeds, so a tuple of a value and a text is as good a key as
+/// the value alone. Which bytes are fed may change between versions. It doesn't allocate.
 impl Hash for Mime {
     ghost hash_input = { λ mime. media_input mime.media };
 

@@ -11,29 +11,29 @@ returns-then-not-is_list_after c =
 pub returns-then-not-are_pairs : goal.returns-then-not-are_pairs
 returns-then-not-are_pairs c =
     let by_parts = text_is-by_parts _ _ c.args.mime.now.media c.requires.reads c.requires.some in
-    let told = rw (c.pairs.ensures.pairs, c.after.ensures, c.count.ensures, c.essence_str-essence.ensures) at c.are_pairs.ensures in
+    let told = rw (c.pairs.ensures.pairs, c.after.ensures, c.param_count.ensures, c.essence_str-essence.ensures) at c.are_pairs.ensures in
     (λ bad. absurd cc, λ is. absurd (let yes = told.1 (by_parts.0 is).pairs in cc))
 
-pub returns-then-is_equal : goal.returns-then-is_equal
-returns-then-is_equal c =
+pub returns-then-equal_ignoring_case : goal.returns-then-equal_ignoring_case
+returns-then-equal_ignoring_case c =
     let by_parts = text_is-by_parts _ _ c.args.mime.now.media c.requires.reads c.requires.some in
     let list = rw c.essence_str-essence.ensures at c.is_list_after.ensures in
-    let pairs = rw (c.pairs.ensures.pairs, c.after.ensures, c.count.ensures, c.essence_str-essence.ensures) at c.are_pairs.ensures in
+    let pairs = rw (c.pairs.ensures.pairs, c.after.ensures, c.param_count.ensures, c.essence_str-essence.ensures) at c.are_pairs.ensures in
     let accepted = accepted_at-case _ _ c.args.mime.now.media c.requires.reads c.requires.some in (
       λ yes. by_parts.1 (record {
         list = list.0 c.if-not-is_list_after.false;
         pairs = pairs.0 c.if-not-are_pairs.false;
         accepted = accepted (c.requires.equal yes);
       }),
-      λ _. c.if-is_equal.true,
+      λ _. c.if-equal_ignoring_case.true,
     )
 
-pub returns-else-is_equal : goal.returns-else-is_equal
-returns-else-is_equal c =
+pub returns-else-equal_ignoring_case : goal.returns-else-equal_ignoring_case
+returns-else-equal_ignoring_case c =
     let by_parts = text_is-by_parts _ _ c.args.mime.now.media c.requires.reads c.requires.some in
     let list = rw c.essence_str-essence.ensures at c.is_list_after.ensures in
-    let pairs = rw (c.pairs.ensures.pairs, c.after.ensures, c.count.ensures, c.essence_str-essence.ensures) at c.are_pairs.ensures in
-    let accepted = rw (c.essence_str-essence.ensures, c.count-else-is_equal.ensures) at c.is_accepted_at.ensures in (
+    let pairs = rw (c.pairs.ensures.pairs, c.after.ensures, c.param_count.ensures, c.essence_str-essence.ensures) at c.are_pairs.ensures in
+    let accepted = rw (c.essence_str-essence.ensures, c.param_count-else-equal_ignoring_case.ensures) at c.is_accepted_at.ensures in (
       λ yes. by_parts.1 (record {
         list = list.0 c.if-not-is_list_after.false;
         pairs = pairs.0 c.if-not-are_pairs.false;

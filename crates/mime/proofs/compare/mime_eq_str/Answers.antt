@@ -4,10 +4,10 @@ use Rattle.std.proofs.lemmas.List.{nil_from_length}
 use Rattle.mime.proofs.CompareLemmas.{text_is-kept_case}
 use Rattle.mime.proofs.compare.mime_eq_str.Goals as goal
 
-pub returns-then-count-eq0 : goal.returns-then-count-eq0
-returns-then-count-eq0 c =
+pub returns-then-param_count-eq0 : goal.returns-then-param_count-eq0
+returns-then-param_count-eq0 c =
     let value = c.args.mime.now.media in
-    let none = nil_from_length value.pairs (sym c.count.ensures ∙ c.if-count-eq0.true) in
+    let none = nil_from_length value.pairs (sym c.param_count.ensures ∙ c.if-param_count-eq0.true) in
     let told = text_is-kept_case _ c.args.s.now value c.as_str-kept.ensures.reads c.as_str-kept.ensures.text none in
     (λ is. told.1 (c.eq_str_ignoring_case.ensures.0 is), λ is. c.eq_str_ignoring_case.ensures.1 (told.0 is))
 

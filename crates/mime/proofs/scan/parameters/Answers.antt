@@ -102,7 +102,7 @@ loop-first-preserved c =
     record {
       closed = (c.in-Some.ensures.run, v.parameter) ∷ c.loop-first.invariant.closed;
       walked = list_byte v.walked (rw (rw c.in-Some-eq59.field-0-is at c.in-Some-eq59.field-0-test) v.closing);
-      same_positions = one_pair_more _ _ _ c.loop-first.invariant.same_positions ∙ ap (λ n. record c.args.head { pairs = n }) (omega arith);
+      same_positions = one_pair_more _ _ _ c.loop-first.invariant.same_positions ∙ ap (λ n. record c.args.head { pair_count = n }) (omega arith);
       room = omega (arith, v.less, given_less c.in-Some.ensures.given, given_less c.in-Some-eq61.ensures.given);
     }
 

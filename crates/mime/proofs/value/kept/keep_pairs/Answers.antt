@@ -9,7 +9,7 @@ use Rattle.mime.proofs.value.kept.keep_pairs.Goals as goal
 pub returns-then-not-has_capital : goal.returns-then-not-has_capital
 returns-then-not-has_capital c =
     let text = c.args.text.now in
-    let low = low-in_part text _ (kept-in_part c.args.pairs c.args.semicolon text) (c.has_capital.ensures.0 c.if-not-has_capital.true) in
+    let low = low-in_part text _ (kept-in_part c.args.count c.args.semicolon text) (c.has_capital.ensures.0 c.if-not-has_capital.true) in
     let P : List ℕ → Type 0 = λ t. IfOk c.from_str.result (λ kept. string_bytes kept ≡ t) in
     subst P (sym low) c.from_str.ensures.ok
 
@@ -18,5 +18,5 @@ from_utf8_unchecked-requires c =
     let bytes = c.lower_text.new.bytes in
     let size = c.lower_text.auto.bytes ∙ c.deref_mut.ensures.len in
     let all = take_at bytes (drop (length bytes) c.in_ok-bytes.bytes.items) c.in_ok-bytes.bytes.len size in
-    let parts = kept-in_part c.args.pairs c.args.semicolon c.args.text.now in
+    let parts = kept-in_part c.args.count c.args.semicolon c.args.text.now in
     subst IsUtf8 (sym (all ∙ c.lower_text.ensures)) (IsUtf8-in_part c.args.text.now _ parts c.utf8.text)

@@ -19,16 +19,16 @@ pub returns-then-eq-clause-computed : goal.returns-then-eq-clause-computed
 returns-then-eq-clause-computed c =
     eq_by_cmp-same c.args.self.now.media c.args.other.now.media true (returns-then-eq-clause-same c)
 
-pub returns-then-count-clause-same : goal.returns-then-count-clause-same
-returns-then-count-clause-same c = search rules
+pub returns-then-param_count-clause-same : goal.returns-then-param_count-clause-same
+returns-then-param_count-clause-same c = search rules
 
-pub returns-then-count-clause-computed : goal.returns-then-count-clause-computed
-returns-then-count-clause-computed c =
-    eq_by_cmp-same c.args.self.now.media c.args.other.now.media false (returns-then-count-clause-same c)
+pub returns-then-param_count-clause-computed : goal.returns-then-param_count-clause-computed
+returns-then-param_count-clause-computed c =
+    eq_by_cmp-same c.args.self.now.media c.args.other.now.media false (returns-then-param_count-clause-same c)
 
-pub returns-then-count-eq0-clause-same : goal.returns-then-count-eq0-clause-same
-returns-then-count-eq0-clause-same c = search rules
+pub returns-then-param_count-eq0-clause-same : goal.returns-then-param_count-eq0-clause-same
+returns-then-param_count-eq0-clause-same c = search rules
 
-pub returns-then-count-eq0-clause-computed : goal.returns-then-count-eq0-clause-computed
-returns-then-count-eq0-clause-computed c =
-    eq_by_cmp-same c.args.self.now.media c.args.other.now.media false (returns-then-count-eq0-clause-same c)
+pub returns-then-param_count-eq0-clause-computed : goal.returns-then-param_count-eq0-clause-computed
+returns-then-param_count-eq0-clause-computed c =
+    eq_by_cmp-same c.args.self.now.media c.args.other.now.media false (returns-then-param_count-eq0-clause-same c)
