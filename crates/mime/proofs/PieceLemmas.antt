@@ -2,8 +2,9 @@
 use Rattle.std.proofs.Common.{◌≡◌, ◌≢◌, ℕ, zero, suc, ◌+◌, ◌-◌, ◌<◌, ◌≤◌, false, List, [], ◌∷◌, ◌++◌, length, take, drop, Option, Some, None, MatchOption, refl, sym, ap, ◌∙◌, subst, arith, ⊎_elim, length-drop}
 use Rattle.std.proofs.lemmas.Bool.{cases_Bool}
 use Rattle.std.proofs.lemmas.Bool.Decides.{nat_tests}
-use Rattle.std.proofs.lemmas.List.{take-append-drop, length-take-le}
+use Rattle.std.proofs.lemmas.List.{take-append-drop, length-take-le, drop-drop, get_or-drop}
 use Rattle.std.proofs.lemmas.Option.{slice_get_within}
+use Rattle.std.proofs.lemmas.Str.{IsCharBoundary-from_rest}
 use Rattle.std.specs.Prelude.{IsTrue, IsFalse, ◌&&◌}
 use Rattle.std.specs.List.{list_all}
 use Rattle.std.specs.Str.{IsUtf8, IsCharBoundary}
@@ -144,22 +145,39 @@ passes-split text piece character left positions split is =
     first None is some = on (bad piece ∷ []) (is_refused is some)
     first (Some p) has some = (has, λ value reads. on (good piece value ∷ []) (is_read value reads))
 
+-- a text may be cut in what follows a position where it may be cut after that position
+border_in_rest : (text : List ℕ) (at n : ℕ) → IsCharBoundary text (at + n) → IsCharBoundary (drop at text) n
+border_in_rest text at n border =
+    let byte = get_or-drop at text n 0 in
+    let size = length-drop at text in
+    (omega (arith, border.0), λ within high. let lead = border.1 (omega arith) (omega arith) in omega arith)
+
+-- from the first position after another where a text may be cut on, it is what comes after the character there
+after_position : (text : List ℕ) (at end : ℕ) → at < length text → at + 1 ≤ end → IsCharBoundary text end
+    → ((i : ℕ) → at + 1 ≤ i → i < end → ¬ (IsCharBoundary text i)) → IsAfterCharacter (drop at text) (drop end text)
+after_position text at end there past border near =
+    let at_end : at + (end - at) ≡ end = omega (arith, past) in
+    subst (IsAfterCharacter (drop at text)) (drop-drop (end - at) at text ∙ ap (λ n. drop n text) at_end)
+    (after_character (drop at text) (end - at) (omega (arith, there, length-drop at text)) (omega (arith, past))
+    (border_in_rest text at (end - at) (subst (IsCharBoundary text) (sym at_end) border))
+    (λ i one before cut.
+    near (at + i) (omega (arith, one)) (omega (arith, before)) (IsCharBoundary-from_rest text at i (omega (arith, there)) cut)))
+
 -- a text is split where the scanner stops
-pub passes-stopped : (text piece rest left : List ℕ) (steps at end byte : ℕ) (positions : Option Positions)
-    → Judges text steps (Stopped byte positions) → at ≡ steps - 1 → piece ≡ take at text → rest ≡ drop at text → left ≡ drop end rest
-    → (1 ≤ length rest → 1 ≤ end) → IsCharBoundary rest end → ((i : ℕ) → 1 ≤ i → i < end → ¬ (IsCharBoundary rest i))
+pub passes-stopped : (text piece left : List ℕ) (steps at end byte : ℕ) (positions : Option Positions)
+    → Judges text steps (Stopped byte positions) → at ≡ steps - 1 → piece ≡ take at text → left ≡ drop end text
+    → (at + 1 ≤ length text → at + 1 ≤ end) → IsCharBoundary text end → ((i : ℕ) → at + 1 ≤ i → i < end → ¬ (IsCharBoundary text i))
     → PassesPiece text piece positions left steps
-passes-stopped text piece rest left steps at end byte positions (given, dead_at, refused) is_at is_piece is_rest is_left past border near =
+passes-stopped text piece left steps at end byte positions (given, dead_at, refused) is_at is_piece is_left past border near =
     let dead = subst (λ n. IsDeadAt text n byte) (sym is_at) dead_at in
     let size : length (take at text) ≡ at = length-take-le at text dead.prefix.within in
-    let some : 0 < length rest =
-    omega (arith, ap length is_rest, length-drop at text, slice_get_within text at byte dead.there) in
-    let after = after_character rest end some (past (omega (arith, some))) border near in
+    let there : at < length text = slice_get_within text at byte dead.there in
+    let after = after_position text at end there (past (omega (arith, there))) border near in
     subst (λ p. PassesPiece text p positions left steps) (sym is_piece)
     (subst (PassesPiece text (take at text) positions left) (omega (arith, given, is_at, size))
     (passes-split text (take at text) after.0 left positions
     (record {
-      spelled = sym (take-append-drop at text) ∙ ap (λ t. take at text ++ t) (sym is_rest ∙ after.1 ∙ ap (λ t. after.0 ++ t) (sym is_left));
+      spelled = sym (take-append-drop at text) ∙ ap (λ t. take at text ++ t) (after.1 ∙ ap (λ t. after.0 ++ t) (sym is_left));
       prefix = subst (IsLongestPrefix text) (sym size) dead.prefix;
       is_character = subst (IsCharacter after.0) (sym is_left) after.2;
     }) (rw is_at refused)))

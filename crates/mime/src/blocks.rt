@@ -10,7 +10,7 @@ use std::simd::prelude::*;
 /// The number of bytes that are compared at once.
 pub(crate) const BLOCK: usize = 16;
 
-/// The bit mask of a byte in the first block of a text: the lowest bit is for the first byte.
+/// The positions at which a byte occurs in the first block of a text, as a bit mask: the lowest bit is for position 0.
 #[inline(always)]
 pub(crate) fn mask(text: &[u8], byte: u8) -> u64
     requires { BLOCK ≤ length text.now }
@@ -21,8 +21,8 @@ pub(crate) fn mask(text: &[u8], byte: u8) -> u64
         .to_bitmask()
 }
 
-/// The first position of a byte in the end of a text, which is shorter than a block, or its length. Where the whole text
-/// has a block, its last one is searched at once.
+/// The first position of a byte in `text`, a suffix of `whole` shorter than a block, or the suffix's length. If `whole`
+/// has a block, its last block is searched at once.
 #[inline(always)]
 fn position_in_end(whole: &[u8], text: &[u8], byte: u8) -> usize
     requires end { IsEndOf text.now whole.now }
@@ -40,7 +40,7 @@ fn position_in_end(whole: &[u8], text: &[u8], byte: u8) -> usize
     }
 }
 
-/// The first position of a byte, or the text's length, byte by byte.
+/// The first position of a byte, or the text's length, searched byte by byte.
 #[inline(always)]
 fn position_by_one(text: &[u8], byte: u8) -> usize
     ensures { result ≡ first_position byte text.now }
@@ -55,7 +55,7 @@ fn position_by_one(text: &[u8], byte: u8) -> usize
     position
 }
 
-/// The first position of a byte, or the text's length, block by block.
+/// The first position of a byte, or the text's length, searched block by block.
 #[inline(never)]
 fn position_by_blocks(text: &[u8], byte: u8) -> usize
     requires { BLOCK ≤ length text.now }
@@ -72,8 +72,8 @@ fn position_by_blocks(text: &[u8], byte: u8) -> usize
     text.len() - left.len() + position_in_end(text, left, byte)
 }
 
-/// The end of a text: all of it, or what is left after some of its bytes. Where less than a block is left, the search
-/// takes the bytes before it in, and needs no loop.
+/// A suffix of a text, together with the text: where the suffix is shorter than a block, the text's last block is
+/// searched in its place, without a loop.
 #[derive(Drop)]
 pub(crate) struct TextEnd<'a> {
     whole: &'a str,
@@ -92,7 +92,7 @@ impl<'a> Model for TextEnd<'a> {
 }
 
 impl<'a> TextEnd<'a> {
-    /// The end of a text from this position on.
+    /// The suffix of a text from this position on.
     #[inline(always)]
     pub(crate) fn of(whole: &'a str, from: usize) -> TextEnd<'a>
         requires { IsCharBoundary whole.now from }
@@ -104,7 +104,7 @@ impl<'a> TextEnd<'a> {
         }
     }
 
-    /// Its bytes.
+    /// The suffix itself.
     #[inline(always)]
     pub(crate) fn text(&self) -> &'a str
         ensures { result.now ≡ self.now }
@@ -112,7 +112,7 @@ impl<'a> TextEnd<'a> {
         self.text
     }
 
-    /// What is left of it from this position on.
+    /// The suffix of it from this position on.
     #[inline(always)]
     pub(crate) fn after(&self, from: usize) -> TextEnd<'a>
         requires { IsCharBoundary self.now from }
@@ -124,7 +124,7 @@ impl<'a> TextEnd<'a> {
         }
     }
 
-    /// The first position of a byte, or the length.
+    /// The first position of a byte, counted from 0 in the suffix, or the suffix's length.
     #[inline(always)]
     pub(crate) fn position_of(&self, byte: u8) -> usize
         ensures { result ≡ first_position byte self.now }
@@ -140,23 +140,20 @@ impl<'a> TextEnd<'a> {
         found.trailing_zeros() as usize
     }
 
-    /// Splits at an ASCII byte, and drops it; at the end: all of the text, and an empty rest. With `#[inline]` alone short walks
-    /// took up to a tenth more.
+    /// Splits at the ASCII byte at `position`, which is dropped; at the end, returns all of the text and an empty rest.
     #[inline(always)]
     pub(crate) fn split_around(&self, position: usize) -> (&'a str, TextEnd<'a>)
-        requires { position < length self.now → slice_index self.now position < 128 }
+        requires within { position ≤ length self.now }
+        requires ascii { position < length self.now → slice_index self.now position < 128 }
         ensures before { result.0.now ≡ take position self.now }
         ensures after { result.1 ≡ drop (position + 1) self.now }
     {
         let text = self.text();
-        if position < text.len() {
-            (&text[..position], self.after(position + 1))
-        } else {
-            (text, self.after(text.len()))
-        }
+        let dropped = (position < text.len()) as usize;
+        (&text[..position], self.after(position + dropped))
     }
 
-    /// Splits at the first such ASCII byte, and drops it; without one: all of the text, and an empty rest.
+    /// Splits at the first such ASCII byte, which is dropped; without one, returns all of the text and an empty rest.
     #[inline(always)]
     pub(crate) fn split_at_first(&self, byte: u8) -> (&'a str, TextEnd<'a>)
         requires ascii { byte < 128 }

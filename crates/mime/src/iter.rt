@@ -21,7 +21,7 @@ pub enum Bad<'a> {
     NoMemory,
 }
 
-/// The first piece of a text, passed with the character after it.
+/// The first piece of a text, after which a character is skipped.
 #[derive(Clone, Copy)]
 struct Passed<'a> {
     /// The piece; empty where it isn't yielded.
@@ -30,11 +30,11 @@ struct Passed<'a> {
     positions: Option<Positions>,
     /// What is left of the text.
     left: &'a str,
-    /// How many bytes were read so far.
+    /// The number of bytes read so far, from the start of the iterator's text.
     steps: u128,
 }
 
-/// Passes the first piece of a text, and the character after it, by a reader that counts on from `from`.
+/// Reads the first piece of a text, and skips the character after it. `from` is the number of bytes read before.
 #[inline(always)]
 fn pass<'a>(text: &'a str, from: u128) -> Passed<'a>
     requires { from + length text.now < 2 ^ 128 }
@@ -58,11 +58,11 @@ fn pass<'a>(text: &'a str, from: u128) -> Passed<'a>
             steps,
         },
         Verdict::Stopped(_, positions) => {
-            let (piece, rest) = text.split_at(reader.position(from));
+            let end = reader.position(from);
             Passed {
-                piece,
+                piece: &text[..end],
                 positions,
-                left: &rest[rest.ceil_char_boundary(1)..],
+                left: &text[text.ceil_char_boundary(end + 1)..],
                 steps,
             }
         }
@@ -132,7 +132,7 @@ impl<'a> MimeIter<'a> {
         self.steps
     }
 
-    /// Passes pieces up to the first that is an item, and yields it, with the positions of its parts if it is a media
+    /// Skips empty pieces up to the first that isn't, and returns that, with the positions of its parts if it is a media
     /// type.
     #[inline(always)]
     fn next_piece(&mut self) -> Option<(&'a str, Option<Positions>)>

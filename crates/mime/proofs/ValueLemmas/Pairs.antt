@@ -45,6 +45,18 @@ quote_at_len awaiting (b ∷ text) within =
     go true quote n after within = quote refl
     go false quote n after within = after (omega (arith, within))
 
+-- it is no longer than its text
+len_from-le : (awaiting : Bool) (text : List ℕ) → len_from awaiting text ≤ length text
+len_from-le awaiting [] = omega arith
+len_from-le awaiting (b ∷ text) = either (not awaiting && b == quote_byte) (len_from-le (awaits_next awaiting b) text)
+  where
+    either : {n l : ℕ} (closes : Bool) → n ≤ l → cond closes 0 (suc n) ≤ suc l
+    either true le = omega arith
+    either false le = omega (arith, le)
+
+pub content_len-le : (text : List ℕ) (n : ℕ) → n ≡ content_len text → n ≤ length text
+content_len-le text n e = omega (arith, e, len_from-le false text)
+
 -- at the content's end there is a quote
 pub get_or-content_len : (text : List ℕ) (n : ℕ) → n ≡ content_len text → n < length text → get_or text n 0 ≡ quote_byte
 get_or-content_len text n e within = rw e (quote_at_len false text (omega (arith, e, within)))

@@ -18,14 +18,15 @@ use std::marker::Model;
 #[derive(Drop)]
 pub(crate) struct Pair<'a> {
     pub(crate) name: &'a str,
-    /// The number of bytes before the value.
+    /// The position of the value in the list, in bytes from 0: after the opening quote of a quoted one.
     pub(crate) head: usize,
     /// The value without its quotes; backslashes stay: `\"x` for `"\"x"`.
     pub(crate) value: &'a str,
     pub(crate) rest: TextEnd<'a>,
 }
 
-/// The content's length in bytes, up to its first unpaired quote or its end, from the position of its first quote.
+/// The length in bytes of a quoted value's content, up to its first unpaired quote or the end of the text. `quote` is the
+/// position of the first quote, or the text's length.
 #[inline(always)]
 fn content_len(text: &[u8], quote: usize) -> usize
     requires { quote ≡ first_position quote_byte text.now }
@@ -49,7 +50,7 @@ fn content_len(text: &[u8], quote: usize) -> usize
     position
 }
 
-/// How many spaces and tabs begin the list.
+/// The number of spaces and tabs with which the list begins.
 #[inline(always)]
 pub(crate) fn leading_spaces(list: &str) -> usize
     ensures count { result ≡ spaces list.now }
@@ -71,7 +72,7 @@ pub(crate) fn leading_spaces(list: &str) -> usize
     count
 }
 
-/// The text after the first semicolon, or nothing. Most texts begin with it, or are empty.
+/// The text after the first semicolon, or an empty one. Most texts begin with it, or are empty.
 #[inline(always)]
 fn after_semicolon<'a>(end: TextEnd<'a>) -> TextEnd<'a>
     ensures { result ≡ after_byte semicolon_byte end.entry }
@@ -134,7 +135,9 @@ pub(crate) fn cut<'a>(list: &TextEnd<'a>) -> Pair<'a>
 /// The pairs of a list that are still to come, each a name and a value.
 #[derive(Drop)]
 pub(crate) struct Pairs<'a> {
+    /// The list from the next pair on.
     list: TextEnd<'a>,
+    /// The number of pairs left.
     left: usize,
 }
 
@@ -166,7 +169,7 @@ impl<'a> Pairs<'a> {
         }
     }
 
-    /// Whether the only pair left is a charset, written as ` charset=utf-8` is.
+    /// Whether the only pair left is a charset, and the list begins with ` charset=`.
     #[inline(always)]
     pub(crate) fn is_lone_charset(&self) -> bool
         ensures { IsTrue result → IsLoneCharset self.now }

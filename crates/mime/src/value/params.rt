@@ -16,7 +16,7 @@ use std::marker::Model;
 /// pairs of a name and a value. A name ignores case; a value does exactly if its name is `charset`.
 /// Those of `a/b;P=X` give the name `p` with the value `X` (RFC 7231, 3.1.1.1). A value is without its quotes.
 /// Backslashes stay: the value of `a/b;p="\"x"` is `\"x`.
-/// The size hint is exact. It walks the kept text, and doesn't allocate.
+/// The size hint is exact. The iterator walks the kept text, and doesn't allocate.
 #[derive(Drop)]
 pub struct Params<'a> {
     pairs: Pairs<'a>,

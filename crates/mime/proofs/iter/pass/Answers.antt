@@ -1,13 +1,13 @@
 -- The scanner's verdict says how a text begins.
-use Rattle.std.proofs.Common.{arith}
+use Rattle.std.proofs.Common.{◌∙◌, take, ap, arith}
 use Rattle.mime.proofs.PieceLemmas.{judged-from_scan, stopped-boundary, passes-whole, passes-unfinished, passes-stopped}
 use Rattle.mime.proofs.iter.pass.Goals as goal
 
-pub split_at-requires : goal.split_at-requires
-split_at-requires c =
+pub range-requires-clause-end_boundary : goal.range-requires-clause-end_boundary
+range-requires-clause-end_boundary c =
     let judged =
     judged-from_scan _ _ _ _ _ _ c.in-Stopped.ensures c.new-reader.ensures.left c.new-reader.ensures.count c.count-steps.ensures.count in
-    (stopped-boundary _ _ _ _ _ c.utf8.text judged (omega (arith, c.position.ensures, c.count-steps.ensures.count))).0
+    (stopped-boundary _ _ _ _ _ c.utf8.text judged (omega (arith, c.position-end.ensures, c.count-steps.ensures.count))).0
 
 pub returns-in-Accepted-clause-passes : goal.returns-in-Accepted-clause-passes
 returns-in-Accepted-clause-passes c =
@@ -22,7 +22,7 @@ returns-in-Unfinished-clause-passes c =
 pub returns-in-Stopped-clause-passes : goal.returns-in-Stopped-clause-passes
 returns-in-Stopped-clause-passes c =
     let next = c.ceil_char_boundary.ensures in
-    passes-stopped _ _ _ _ _ _ _ _ _
+    passes-stopped _ _ _ _ _ _ _ _
     (judged-from_scan _ _ _ _ _ _ c.in-Stopped.ensures c.new-reader.ensures.left c.new-reader.ensures.count c.count-steps.ensures.count)
-    (omega (arith, c.position.ensures, c.count-steps.ensures.count))
-    c.split_at.ensures.front c.split_at.ensures.back c.range_from.ensures.value next.bound next.boundary next.nearest
+    (omega (arith, c.position-end.ensures, c.count-steps.ensures.count))
+    (c.range.ensures.value ∙ ap (λ n. take n c.args.text.now) (omega arith)) c.range_from.ensures.value next.bound next.boundary next.nearest

@@ -4,7 +4,7 @@ use Rattle.std.proofs.lemmas.Bool.Decides.{nat_tests}
 use Rattle.std.proofs.lemmas.Str.{IsCharBoundary-after_ascii}
 use Rattle.std.specs.Str.{IsCharBoundary}
 use Rattle.mime.specs.Bytes.{quote_byte}
-use Rattle.mime.proofs.ValueLemmas.Pairs.{get_or-content_len}
+use Rattle.mime.proofs.ValueLemmas.Pairs.{content_len-le, get_or-content_len}
 use Rattle.mime.proofs.value.pairs.cut_value.Goals as goal
 
 pub after-content-requires : goal.after-content-requires
@@ -17,6 +17,9 @@ after-content-requires c =
 pub returns-then-as_bytes-eq34-clause-value : goal.returns-then-as_bytes-eq34-clause-value
 returns-then-as_bytes-eq34-clause-value c = search rules
 
+pub split_around-others-requires-clause-within : goal.split_around-others-requires-clause-within
+split_around-others-requires-clause-within c = content_len-le _ _ (cc)
+
 -- the byte after the content is a quote, which is ASCII
-pub split_around-others-requires : goal.split_around-others-requires
-split_around-others-requires c = λ within. omega (arith, get_or-content_len _ _ (cc) within)
+pub split_around-others-requires-clause-ascii : goal.split_around-others-requires-clause-ascii
+split_around-others-requires-clause-ascii c = λ within. omega (arith, get_or-content_len _ _ (cc) within)
