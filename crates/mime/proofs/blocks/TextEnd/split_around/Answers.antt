@@ -1,5 +1,5 @@
 -- An ASCII byte is a character: the text may be cut before it and after it.
-use Rattle.std.proofs.Common.{◌≡◌, ◌<◌, ◌≤◌, ◌+◌, ◌∙◌, length, ap, sym, arith, subst, inl, inr}
+use Rattle.std.proofs.Common.{◌+◌, ◌∙◌, length, ap, sym, arith, subst, inl, inr}
 use Rattle.std.proofs.lemmas.Bool.{cases_lt, lt-ltb, le-ltb}
 use Rattle.std.proofs.lemmas.List.{drop_all}
 use Rattle.std.proofs.lemmas.Str.{IsCharBoundary-before_ascii, IsCharBoundary-after_ascii, IsCharBoundary-end}
