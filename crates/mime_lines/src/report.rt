@@ -138,5 +138,5 @@ fn push_row(report: &mut String, label: &str, text: &str) -> Result<(), AllocErr
 {
     report.push_str(label)?;
     report.push_str(text)?;
-    report.push_str("\n")
+    report.push('\n')
 }
