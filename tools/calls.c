@@ -3,15 +3,15 @@
  * tools/c_calls builds it with the sanitizers, and with --wrap=malloc. It ends with status 1 at the first call that is wrong. */
 #define _GNU_SOURCE
 #include "mime.h"
+#include <err.h>
 #include <stdio.h>
 #include <stdlib.h>
 #include <sys/mman.h>
-#include <sys/types.h>
 
 enum { ROOM = 1 << 20, PAGE = 1 << 12 };
 
 static size_t requests, refused_at;
-static char *text_end, *out_end;
+static char *text_end, *out_end, untouched[ROOM];
 
 void *__real_malloc(size_t size);
 
@@ -21,40 +21,30 @@ void *__wrap_malloc(size_t size)
 }
 
 #define CHECK(is) \
-    do { \
-        if (!(is)) { \
-            printf("%s:%d: not so: %s; the text is: %.*s\n", __FILE__, __LINE__, #is, (int)len, text); \
-            exit(1); \
-        } \
-    } while (0)
+    if (!(is)) \
+        errx(1, "line %d: not so: %s; the text is: %.*s", __LINE__, #is, (int)len, text)
 
 /* Checks a call with each of so many requests refused in turn. */
 #define CHECK_REFUSED(count, is) \
-    for (refused_at = 1; refused_at <= (count); refused_at++) { \
-        requests = 0; \
-        CHECK(is); \
-    } \
-    refused_at = 0
+    for (refused_at = (count); requests = 0, refused_at > 0; refused_at--) \
+        CHECK(is)
 
-/* A buffer of a size, filled with a byte, and eight more before it. */
+/* A buffer of a size. It and eight bytes before it are untouched. */
 static char *buffer(size_t size)
 {
-    memset(out_end - size - 8, 'U', size + 8);
+    memcpy(out_end - size - 8, untouched, size + 8);
     return size > 0 ? out_end - size : NULL;
 }
 
-/* Whether the last bytes before the end of the buffer are as they were. */
-static int is_untouched(size_t size)
+/* Whether a call has written so many bytes at most to the buffer of a size, from its start on. */
+static int has_written(size_t count, size_t size)
 {
-    for (size_t i = 1; i <= size; i++)
-        if (out_end[-(ptrdiff_t)i] != 'U')
-            return 0;
-    return 1;
+    return count <= size && memcmp(out_end - size - 8, untouched, 8) == 0 && memcmp(out_end - size + count, untouched, size - count) == 0;
 }
 
 static const char *skip(const char *string, size_t count)
 {
-    for (; count > 0; count--)
+    while (count-- > 0)
         string += strlen(string) + 1;
     return string;
 }
@@ -70,29 +60,25 @@ static void check_read(const char *text, size_t len)
 {
     struct mime_found found;
     size_t room = 2 * len + 2;
-    CHECK(mime_read(text, len, buffer(room - 1), room - 1, &found) == MIME_NO_ROOM && is_untouched(room + 7));
+    CHECK(mime_read(text, len, buffer(room - 1), room - 1, &found) == MIME_NO_ROOM && has_written(0, room - 1));
     char *out = buffer(room);
     requests = 0;
     uint32_t answer = mime_read(text, len, out, room, &found);
     size_t asked = requests;
     CHECK(answer <= MIME_NOT_UTF8 && answer != MIME_NO_MEMORY && asked <= (answer == MIME_OK));
-    CHECK(found.pos <= len && (answer != MIME_INVALID_BYTE || (uint8_t)text[found.pos] == found.byte));
+    CHECK(has_written(found.length, room) && found.pos <= len && (answer != MIME_INVALID_BYTE || (uint8_t)text[found.pos] == found.byte));
     if (answer == MIME_OK) {
         CHECK(skip(out, 2 * found.params + 1) == out + found.printed && skip(out + found.printed, 1) == out + found.length);
         CHECK(out[found.slash] == '/' && (out[found.subtype_end] == '+' || skip(out, 1) == out + found.subtype_end + 1));
-        CHECK(found.length <= room && is_untouched(room - found.length) && out[-1] == 'U');
-        for (const char *name = skip(out, 1); name < out + found.printed; name = skip(name, 2)) {
-            const char *value = mime_param(out, &found, name);
-            CHECK(value != NULL && value <= skip(name, 1));
-        }
+        for (const char *name = skip(out, 1); name < out + found.printed; name = skip(name, 2))
+            CHECK(mime_param(out, &found, name) != NULL && mime_param(out, &found, name) <= skip(name, 1));
         CHECK(mime_param(out, &found, "/") == NULL);
         CHECK(compares(text, len, out + found.printed, strlen(out + found.printed), MIME_OK, 1));
-        CHECK(compares("*/*", 3, text, len, MIME_OK, strcmp(out, "*/*") == 0 && found.params == 0));
     } else {
-        CHECK(is_untouched(room + 8) && found.length == 0 && found.params == 0 && mime_param(out, &found, "q") == NULL);
-        CHECK(compares(text, len, text, len, answer, 0) && compares("*/*", 3, text, len, answer, 0));
+        CHECK(found.length == 0 && found.params == 0 && mime_param(out, &found, "q") == NULL && compares(text, len, text, len, answer, 0));
     }
-    CHECK_REFUSED(asked, mime_read(text, len, buffer(room), room, &found) == MIME_NO_MEMORY && is_untouched(room + 8) && found.length == 0);
+    CHECK(compares("*/*", 3, text, len, answer, answer == MIME_OK && strcmp(out, "*/*") == 0 && found.params == 0));
+    CHECK_REFUSED(asked, mime_read(text, len, buffer(room), room, &found) == MIME_NO_MEMORY && has_written(0, room) && found.length == 0);
     CHECK_REFUSED(2 * asked, compares(text, len, text, len, MIME_NO_MEMORY, 0));
 }
 
@@ -100,13 +86,12 @@ static void check_list(const char *text, size_t len)
 {
     size_t length, room = 2 * len;
     if (len > 0)
-        CHECK(mime_list(text, len, buffer(room - 1), room - 1, &length) == MIME_NO_ROOM && length == 0 && is_untouched(room + 7));
+        CHECK(mime_list(text, len, buffer(room - 1), room - 1, &length) == MIME_NO_ROOM && length == 0 && has_written(0, room - 1));
     char *out = buffer(room);
     requests = 0;
     uint32_t answer = mime_list(text, len, out, room, &length);
     size_t asked = requests;
-    CHECK(answer == MIME_OK || (answer == MIME_NOT_UTF8 && length == 0 && is_untouched(room + 8)));
-    CHECK(length <= room && is_untouched(room - length) && out_end[-(ptrdiff_t)room - 1] == 'U');
+    CHECK(has_written(length, room) && (answer == MIME_OK || (answer == MIME_NOT_UTF8 && length == 0)));
     for (const char *item = out; item < out + length; item = skip(item, 1)) {
         struct mime_found found;
         static char more[ROOM];
@@ -118,52 +103,36 @@ static void check_list(const char *text, size_t len)
 
 static void check(const char *given, size_t len)
 {
-    char *text = text_end - len;
-    memcpy(text, given, len);
-    check_read(len > 0 ? text : NULL, len);
-    check_list(len > 0 ? text : NULL, len);
+    const char *text = len > 0 ? memcpy(text_end - len, given, len) : NULL;
+    check_read(text, len);
+    check_list(text, len);
 }
 
-/* The end of a block that a page follows which can't be touched. */
-static char *end_of_block(void)
-{
-    char *block = mmap(NULL, ROOM + PAGE, PROT_READ | PROT_WRITE, MAP_PRIVATE | MAP_ANONYMOUS, -1, 0);
-    if (block == MAP_FAILED || mprotect(block + ROOM, PAGE, PROT_NONE) != 0)
-        exit(2);
-    return block + ROOM;
-}
-
-/* A text of up to twelve pieces. */
-static size_t near_the_grammar(char *text)
-{
-    static const char *const pieces[] = {
-        "a", "text", "/", "/", ";", ";", "; ", "=", "=", "\"", "\"", "\\", "+", ",", "*/*", "a/b", "text/html;q=0.5", " ", "\t", "charset",
-        "UTF-8", "Q", "é", "\xff", "(", "\x7f", "p=\"x y\"", "image/SVG+xml"};
-    static uint32_t seed = 1;
-    size_t len = 0;
-    for (int left = seed >> 16 & 15; left > 3; left--) {
-        seed = seed * 1664525 + 1013904223;
-        const char *piece = pieces[(seed >> 12) % (sizeof pieces / sizeof *pieces)];
-        memcpy(text + len, piece, strlen(piece));
-        len += strlen(piece);
-    }
-    seed = seed * 1664525 + 1013904223;
-    return len;
-}
+/* What the texts near the grammar are made of. */
+static const char *const pieces[] = {
+    "a", "text", "/", "/", ";", ";", "; ", "=", "=", "\"", "\"", "\\", "+", ",", "*/*", "a/b", "text/html;q=0.5", " ", "\t", "charset",
+    "UTF-8", "Q", "é", "\xff", "(", "\x7f", "p=\"x y\"", "image/SVG+xml"};
 
 int main(int argc, char **argv)
 {
-    size_t count = argc > 1 ? strtoul(argv[1], NULL, 10) : 0, lines = 0;
-    char text[256];
-    text_end = end_of_block();
-    out_end = end_of_block();
-    char *given = NULL;
-    size_t size = 0;
-    for (ssize_t read; (read = getline(&given, &size, stdin)) > 0; lines++)
-        check(given, (size_t)read - (given[read - 1] == '\n'));
-    free(given);
-    for (size_t i = 0; i < count; i++)
-        check(text, near_the_grammar(text));
+    size_t count = argc > 1 ? strtoul(argv[1], NULL, 10) : 0, lines = 0, size = 0;
+    char *line = NULL;
+    char *blocks = mmap(NULL, 2 * (ROOM + PAGE), PROT_READ | PROT_WRITE, MAP_PRIVATE | MAP_ANONYMOUS, -1, 0);
+    text_end = blocks + ROOM;
+    out_end = text_end + PAGE + ROOM;
+    if (blocks == MAP_FAILED || mprotect(text_end, PAGE, PROT_NONE) != 0 || mprotect(out_end, PAGE, PROT_NONE) != 0)
+        return 2;
+    memset(untouched, 'U', sizeof untouched);
+    for (ssize_t read; (read = getline(&line, &size, stdin)) > 0; lines++)
+        check(line, (size_t)read - (line[read - 1] == '\n'));
+    free(line);
+    for (size_t i = 0; i < count; i++) {
+        /* Up to twelve pieces, the same in each run of this program, since nothing seeds rand. */
+        char text[256], *end = text;
+        for (int left = rand() % 13; left > 0; left--)
+            end = stpcpy(end, pieces[rand() % (sizeof pieces / sizeof *pieces)]);
+        check(text, (size_t)(end - text));
+    }
     printf("%zu lines and %zu texts near the grammar\n", lines, count);
     return 0;
 }
