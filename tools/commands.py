@@ -1,50 +1,48 @@
 """What the tools share: commands with time limits, none of which outlives its tool; copies of crates; programs; and what counts."""
 
-import contextlib
 import functools
 import os
 import re
-import shlex
 import shutil
 import signal
 import subprocess
 import tempfile
 import time
-from subprocess import PIPE, STDOUT
+from collections import namedtuple
+from pathlib import Path
+from subprocess import DEVNULL, PIPE, STDOUT
 
 TOP = os.path.dirname(os.path.dirname(os.path.realpath(__file__)))
-
 # Where the crates lie with what is kept of their proofs. `check` names a copy, since rt ci keeps none.
 PROVED = os.environ.get("PROVED") or TOP
-
 # How many seconds rt may take for one command, and a program for one input. Both take far less.
 RT_SECONDS, PROGRAM_SECONDS = 20 * 60, 60
 
-_running, _is_ended = set(), False
+# What a command wrote, and its status; and which commands run, and which signals told the tool to end.
+Outcome = namedtuple("Outcome", "stdout stderr returncode")
+_running, _signals = set(), []
 
 
 def run(words, seconds=RT_SECONDS, given=None, **how):
-    """Runs a command on these bytes, or on nothing, as subprocess.run does. What takes longer is ended, with all that it began, and is a
-    TimeoutError; and once the tool was told to end, nothing is begun any more."""
-    how = {"stdin": subprocess.DEVNULL if given is None else PIPE, **how}
+    """What a command does on these bytes, or on nothing; the rest is for subprocess.Popen. What takes longer is ended, with all that it
+    began, and is a TimeoutError; and once the tool was told to end, nothing is begun any more."""
+    how = {"stdin": DEVNULL if given is None else PIPE, "stdout": PIPE, "stderr": PIPE, **how}
     process = subprocess.Popen(["timeout", "-k", "5", str(seconds), *words], **how)
     _running.add(process)
-    try:
-        if _is_ended:
-            process.terminate()
-        output, errors = process.communicate(given)
-    finally:
-        _running.discard(process)
-    if _is_ended:
+    if _signals:
+        process.terminate()
+    outcome = Outcome(*process.communicate(given), process.returncode)
+    _running.discard(process)
+    if _signals:
         raise SystemExit("ended")
-    if process.returncode == 124:
-        raise TimeoutError(f"`{shlex.join(map(str, words))}` took longer than {seconds} s, and was ended")
-    return subprocess.CompletedProcess(words, process.returncode, output, errors)
+    if outcome.returncode == 124:
+        raise TimeoutError(f"`{' '.join(words)}` took longer than {seconds} s, and was ended")
+    return outcome
 
 
 def said(words, folder=TOP, given=None, **how):
     """What a command says on both its outputs, as a text, and its status."""
-    it = run(words, given=given, cwd=folder, **{"stdout": PIPE, "stderr": STDOUT, **how})
+    it = run(words, given=given, cwd=folder, **{"stderr": STDOUT, **how})
     return it.stdout.decode(errors="replace"), it.returncode
 
 
@@ -64,9 +62,8 @@ def is_right(tool, command, is_wanted, folder=TOP, **how):
     except TimeoutError as error:
         text, status = str(error), 1
     well = not status and bool(is_wanted(text))
-    print(f"{tool}: {command.splitlines()[-1][:60]}: {time.monotonic() - began:.0f} s", flush=True)
-    if not well:
-        print(f"{tool}: not as it is wanted: {command}\n{text[-3000:]}", flush=True)
+    wrong = "" if well else f", and not as it is wanted: {command}\n{text[-3000:]}"
+    print(f"{tool}: {command.splitlines()[-1][:60]}: {time.monotonic() - began:.0f} s{wrong}", flush=True)
     return well
 
 
@@ -88,8 +85,7 @@ def ended(tool, tries, least=1):
 
 
 def _end(number, _frame):
-    global _is_ended
-    _is_ended = True
+    _signals.append(number)
     for process in list(_running):
         process.terminate()
     raise SystemExit(128 + number)
@@ -98,21 +94,17 @@ def _end(number, _frame):
 def need(what, *packages):
     """Installs Debian's packages that have a command or a file, where it is missing. Where it still is then, that is an error."""
     is_there = lambda: shutil.which(what) or os.path.exists(what)
-    if is_there():
-        return
-    print(f"{what} is missing: apt-get installs {' '.join(packages)}", flush=True)
-    text = ""
-    for words in (["update", "-qq"], ["install", "-y", "-qq", "--no-install-recommends", *packages]):
-        with contextlib.suppress(OSError):
-            text, _ = said(["apt-get", *words])
     if not is_there():
-        raise OSError(f"{what} is needed, and could not be installed: install it (on Debian: {' '.join(packages)})\n{text[-600:]}")
+        names = " ".join(packages)
+        print(f"{what} is missing: apt-get installs {names}", flush=True)
+        text, _ = said(["sh", "-c", f"apt-get update -qq; apt-get install -y -qq --no-install-recommends {names}"])
+        if not is_there():
+            raise OSError(f"{what} is needed, and could not be installed: install it (on Debian: {names})\n{text[-600:]}")
 
 
 def instructions(words, given):
     """How many instructions a whole run takes, by valgrind."""
-    words = ["valgrind", "--tool=callgrind", "--callgrind-out-file=/dev/null", *words]
-    text = run(words, given=given, stdout=subprocess.DEVNULL, stderr=PIPE).stderr
+    text = run(["valgrind", "--tool=callgrind", "--callgrind-out-file=/dev/null", *words], given=given, stdout=DEVNULL).stderr
     found = re.search(rb"Collected : (\d+)", text)
     if not found:
         raise OSError(f"valgrind counted nothing:\n{text[-600:].decode(errors='replace')}")
@@ -132,7 +124,7 @@ def refuse(library, words, given, number, **how):
     with tempfile.TemporaryFile() as counts:
         how = {"LD_PRELOAD": library, "REFUSE": str(number), "REFUSE_COUNT": str(counts.fileno()), **how}
         words = ["env", "-i", *(f"{name}={value}" for name, value in how.items()), *words]
-        it = run(words, PROGRAM_SECONDS, given, stdout=PIPE, stderr=PIPE, pass_fds=[counts.fileno()])
+        it = run(words, PROGRAM_SECONDS, given, pass_fds=[counts.fileno()])
         counts.seek(0)
         return it, [(int(line.split()[0]), int(line.split()[1]), b"refused" in line) for line in counts.read().splitlines()]
 
@@ -140,14 +132,12 @@ def refuse(library, words, given, number, **how):
 @functools.cache
 def text_of(path):
     """The text of a file of the repository."""
-    with open(f"{TOP}/{path}", encoding="utf-8", newline="") as file:
-        return file.read()
+    return Path(TOP, path).read_bytes().decode()
 
 
 def write(path, text):
     os.makedirs(os.path.dirname(path), exist_ok=True)
-    with open(path, "w", encoding="utf-8") as file:
-        file.write(text)
+    Path(path).write_text(text, encoding="utf-8")
 
 
 def copied(crates, room, top=TOP, without=("out",)):
@@ -160,6 +150,7 @@ def copied(crates, room, top=TOP, without=("out",)):
     return room
 
 
+@functools.cache
 def program(crate, backend="llvm", room=None):
     """The program of a crate as a compiler builds it. Within `check` it is the one that rt ci proved; else rt proves and builds it, where
     it isn't up to date. Both compilers' programs have one path there, so the other's is built in a copy in the room."""
@@ -168,10 +159,8 @@ def program(crate, backend="llvm", room=None):
         return of_gate
     top = TOP if backend == "llvm" else copied(["mime", crate], f"{room}/{crate}", without=())
     made = f"{top}/crates/{crate}/out/{crate}"
-    with contextlib.suppress(FileNotFoundError):
-        os.remove(made)
     print(f"rt proves and builds {crate} by the compiler {backend}, as far as it isn't up to date", flush=True)
-    text, _ = said(["rt", "run", *(["--backend", backend] if backend == "rattle" else [])], f"{top}/crates/{crate}")
+    text, _ = said(["sh", "-c", f"rm -f out/{crate}; rt run --backend {backend}"], f"{top}/crates/{crate}")
     if not os.path.exists(made):
         raise OSError(f"{crate} could not be built:\n{text[-3000:]}")
     return made
