@@ -1,4 +1,5 @@
 -- A text is equal to the value where it has the value's essence and its pairs, and is accepted.
+use Rattle.std.proofs.Common.{true≢false, sym, ◌∙◌}
 use Rattle.mime.proofs.CompareLemmas.{text_is-by_parts, accepted_at-case}
 use Rattle.mime.proofs.compare.eq_by_parts.Goals as goal
 
@@ -6,13 +7,13 @@ pub returns-then-not-is_list_after : goal.returns-then-not-is_list_after
 returns-then-not-is_list_after c =
     let by_parts = text_is-by_parts _ _ c.args.mime.now.media c.requires.reads c.requires.some in
     let told = rw c.essence_str-essence.ensures at c.is_list_after.ensures in
-    (λ bad. absurd cc, λ is. absurd (let yes = told.1 (by_parts.0 is).list in cc))
+    (λ bad. absurd (true≢false (sym bad)), λ is. absurd (true≢false (sym (told.1 (by_parts.0 is).list) ∙ c.if-not-is_list_after.true)))
 
 pub returns-then-not-are_pairs : goal.returns-then-not-are_pairs
 returns-then-not-are_pairs c =
     let by_parts = text_is-by_parts _ _ c.args.mime.now.media c.requires.reads c.requires.some in
     let told = rw (c.pairs.ensures.pairs, c.after.ensures, c.param_count.ensures, c.essence_str-essence.ensures) at c.are_pairs.ensures in
-    (λ bad. absurd cc, λ is. absurd (let yes = told.1 (by_parts.0 is).pairs in cc))
+    (λ bad. absurd (true≢false (sym bad)), λ is. absurd (true≢false (sym (told.1 (by_parts.0 is).pairs) ∙ c.if-not-are_pairs.true)))
 
 pub returns-then-equal_ignoring_case : goal.returns-then-equal_ignoring_case
 returns-then-equal_ignoring_case c =
