@@ -1,10 +1,9 @@
 /* Refuses one request for memory of the program that it is loaded into, and counts them and their bytes.
  *
  * REFUSE=K refuses the K-th request after each line "now" that the program writes to its standard output, up to the line
- * "end", or, with REFUSE_FROM=start, the K-th after it began. Each call of malloc, calloc, realloc or aligned_alloc and
- * its like is a request; giving memory back isn't one. At each line "end", or when the program ends, the number of requests
- * and of bytes goes to the file descriptor REFUSE_COUNT, with the word "refused" if one was refused. */
-#define _GNU_SOURCE
+ * "end", or, with REFUSE_FROM=start, the K-th after it began; 0 refuses none. Each call of malloc, calloc, realloc or
+ * aligned_alloc and its like is a request; giving memory back isn't one. At each line "end", or when the program ends, the
+ * number of requests and of bytes goes to the file descriptor REFUSE_COUNT, with the word "refused" if one was refused. */
 #include <errno.h>
 #include <stdio.h>
 #include <stdlib.h>
@@ -13,30 +12,25 @@
 #include <sys/uio.h>
 #include <unistd.h>
 
-extern void *__libc_malloc(size_t);
-extern void *__libc_calloc(size_t, size_t);
-extern void *__libc_realloc(void *, size_t);
-extern void *__libc_memalign(size_t, size_t);
+extern void *__libc_malloc(size_t), *__libc_calloc(size_t, size_t);
+extern void *__libc_realloc(void *, size_t), *__libc_memalign(size_t, size_t);
 
-static long refused_at, requests;
-static size_t bytes;
-static int counting, refused, counts = -1;
+static size_t refused_at, requests, bytes;
+static int counting;
 
 __attribute__((constructor)) static void begin(void)
 {
-    const char *at = getenv("REFUSE"), *to = getenv("REFUSE_COUNT");
-    refused_at = at ? atol(at) : 0;
-    counts = to ? atoi(to) : -1;
+    refused_at = atol(getenv("REFUSE"));
     counting = getenv("REFUSE_FROM") != NULL;
 }
 
 __attribute__((destructor)) static void end_count(void)
 {
     char said[64];
-    int length = snprintf(said, sizeof said, "%ld %zu%s\n", requests, bytes, refused ? " refused" : "");
-    if (counting && counts >= 0 && length > 0)
-        syscall(SYS_write, counts, said, (size_t)length);
-    counting = 0;
+    const char *refused = refused_at > 0 && requests >= refused_at ? " refused" : "";
+    if (counting)
+        syscall(SYS_write, atoi(getenv("REFUSE_COUNT")), said, (size_t)sprintf(said, "%zu %zu%s\n", requests, bytes, refused));
+    counting = requests = bytes = 0;
 }
 
 static int refuses(size_t size)
@@ -44,11 +38,9 @@ static int refuses(size_t size)
     if (!counting)
         return 0;
     bytes += size;
-    if (++requests != refused_at)
-        return 0;
-    refused = 1;
-    errno = ENOMEM;
-    return 1;
+    if (++requests == refused_at)
+        errno = ENOMEM;
+    return requests == refused_at;
 }
 
 #define REQUEST(asked, call, ...) { return refuses(asked) ? NULL : call(__VA_ARGS__); }
@@ -58,33 +50,22 @@ void *calloc(size_t count, size_t size) REQUEST(count * size, __libc_calloc, cou
 void *realloc(void *block, size_t size) REQUEST(size, __libc_realloc, block, size)
 void *aligned_alloc(size_t align, size_t size) REQUEST(size, __libc_memalign, align, size)
 void *memalign(size_t align, size_t size) REQUEST(size, __libc_memalign, align, size)
-
-int posix_memalign(void **block, size_t align, size_t size)
-{
-    *block = memalign(align, size);
-    return *block ? 0 : ENOMEM;
-}
-
-static int is_line(const char *line, struct iovec part)
-{
-    return part.iov_len >= 3 && memcmp(part.iov_base, line, 3) == 0 && (part.iov_len == 3 || ((char *)part.iov_base)[3] == '\n');
-}
+int posix_memalign(void **block, size_t align, size_t size) { return (*block = memalign(align, size)) ? 0 : ENOMEM; }
 
 /* The line "now" begins a count, and the line "end" ends it. */
 ssize_t writev(int fd, const struct iovec *parts, int count)
 {
-    ssize_t done = syscall(SYS_writev, fd, parts, count);
-    if (fd == 1 && count > 0 && is_line("now", *parts)) {
-        requests = refused = bytes = 0;
-        counting = 1;
-    } else if (fd == 1 && count > 0 && is_line("end", *parts)) {
-        end_count();
+    const char *text = parts->iov_base;
+    if (fd == 1 && (parts->iov_len == 3 || (parts->iov_len > 3 && text[3] == '\n'))) {
+        if (memcmp(text, "now", 3) == 0)
+            counting = 1;
+        else if (memcmp(text, "end", 3) == 0)
+            end_count();
     }
-    return done;
+    return syscall(SYS_writev, fd, parts, count);
 }
 
 ssize_t write(int fd, const void *text, size_t length)
 {
-    struct iovec part = {(void *)text, length};
-    return writev(fd, &part, 1);
+    return writev(fd, &(struct iovec){(void *)text, length}, 1);
 }
