@@ -60,26 +60,19 @@ impl fmt::Display for ParseError {
     ghost styled_output = { λ fault spec. Some (fault_text fault) };
 
     fn fmt<W: fmt::Write>(&self, f: &mut fmt::Formatter<W>) -> fmt::Result {
-        match self {
-            ParseError::MissingSlash => f.write_str(
-                "a slash (/) was missing between the type and subtype",
-            ),
-            ParseError::MissingSubtype => f.write_str("a subtype was missing behind the slash (/)"),
+        f.write_str(match self {
+            ParseError::MissingSlash => "a slash (/) was missing between the type and subtype",
+            ParseError::MissingSubtype => "a subtype was missing behind the slash (/)",
             ParseError::MissingEqual => {
-                f.write_str("an equals sign (=) was missing between a parameter and its value")
+                "an equals sign (=) was missing between a parameter and its value"
             }
-            ParseError::MissingValue => f.write_str(
-                "a value was missing behind the equals sign (=)",
-            ),
-            ParseError::MissingQuote => f.write_str(
-                "a quote (\") was missing from a parameter value",
-            ),
+            ParseError::MissingValue => "a value was missing behind the equals sign (=)",
+            ParseError::MissingQuote => "a quote (\") was missing from a parameter value",
             ParseError::InvalidToken { pos, byte } => {
-                let token = token_text(*pos, *byte)?;
-                f.write_str(token.as_str())
+                return f.write_str(token_text(*pos, *byte)?.as_str());
             }
-            ParseError::NoMemory => f.write_str("memory ran out"),
-        }
+            ParseError::NoMemory => "memory ran out",
+        })
     }
 }
 
