@@ -23,7 +23,7 @@ pub(crate) fn difference(x: u8, y: u8) -> u8
     } else {
         0
     };
-    u8::from((x | case) != (y | case))
+    u8::from((x ^ y) & !case != 0)
 }
 
 /// For each position in the first block of two byte strings, 1 if their bytes differ ignoring ASCII case, else 0.
