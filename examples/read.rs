@@ -1,7 +1,7 @@
 //! Reads media types from an ordinary Rust program:
 //!     rustc -O examples/read.rs -L native=out -l static=mime -o read && ./read TEXT..
 
-use std::ffi::c_char;
+use std::os::raw::c_char;
 
 /// What `mime_read` finds beside the strings: `struct mime_found` of include/mime.h.
 #[repr(C)]
@@ -16,7 +16,7 @@ struct Found {
     byte: u8,
 }
 
-unsafe extern "C" {
+extern "C" {
     fn mime_read(text: *const c_char, text_len: usize, out: *mut c_char, out_len: usize, found: *mut Found) -> u32;
 }
 

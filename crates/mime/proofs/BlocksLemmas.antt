@@ -10,7 +10,7 @@ use Rattle.std.proofs.Math.Nat.{div-div-eq-div-mul, div-one, zero-div, pow-suc, 
 use Rattle.std.specs.List.{prefix_len}
 use Rattle.std.specs.Simd.Lanes.{mask_l}
 use lib.Count.{count_trailing_zeros}
-use Rattle.mime.specs.Blocks.{mask_of, IsEndOf, first_position}
+use Rattle.mime.specs.Inner.Blocks.{mask_of, IsEndOf, first_position}
 
 -- nothing is the end of any list
 end_nothing : (whole : List ℕ) → IsEndOf [] whole

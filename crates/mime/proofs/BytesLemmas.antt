@@ -13,7 +13,7 @@ use Rattle.mime.specs.Grammar.{is_space, AreSpaces, AreTokenBytes, IsToken}
 use Rattle.std.specs.Str.{IsUtf8, IsCharBoundary}
 use Rattle.std.proofs.lemmas.Option.{slice_get-get_or, slice_get_within, get_or_from_slice_get}
 use Rattle.std.proofs.lemmas.Str.{IsCharBoundary-before_ascii, IsCharBoundary-after_ascii}
-use Rattle.mime.specs.Blocks.{first_position}
+use Rattle.mime.specs.Inner.Blocks.{first_position}
 
 -- what a test of a table says of a byte is whether the byte is of the class, if it does byte by byte
 pub in_table : (class test : ℕ → Bool) (table : List ℕ) → map test table ≡ map class (range_with_len 0 256) → length table ≡ 256
@@ -116,3 +116,7 @@ slice_get-first_position byte text position is within =
     let inside : first_position byte text < length text = omega (arith, is, within) in
     let there = (Decides-eqb _ _).0 (passes_at_first (λ b. b == byte) text 0 inside) in
     rw is (slice_get-get_or text (first_position byte text) 0 inside ∙ ap Some there)
+
+-- equal lists have the same first and the same others
+pub cons_parts : {X : Type 0} {x y : X} {xs ys : List X} → x ∷ xs ≡ y ∷ ys → (x ≡ y) × (xs ≡ ys)
+cons_parts is = (cc, cc)

@@ -1,6 +1,6 @@
 -- Lemmas on the grammar: syntax trees, the texts that begin them, and what a refused text lacks.
-pub mod Begun
 pub mod Content
+pub mod Begun
 pub mod Spelling
 pub mod Readings
 pub mod Viability

@@ -7,17 +7,17 @@ use Rattle.std.proofs.lemmas.Option.{none-some}
 use Rattle.mime.specs.Values.{OwnedMedia, Reads}
 use Rattle.mime.specs.Cut.{TakesSteps, Cut, CutItem, good}
 use Rattle.mime.specs.Runs.{Iteration, GivesItem, IsNext}
-use Rattle.mime.specs.BetweenCalls.{IsUnderWay, PassesOn, IsFirstPiece, PassesPiece, IsFound}
+use Rattle.mime.specs.Inner.BetweenCalls.{IsUnderWay, PassesOn, IsFirstPiece, PassesPiece, IsFound}
 use Rattle.mime.specs.declared.iter.Bad.{Bad}
 use Rattle.mime.specs.declared.iter.Bad.TheVariants.{Piece, NoMemory}
 use Rattle.mime.specs.declared.iter.MimeIter.TheInside.{Inside}
 use Rattle.mime.specs.declared.scan.Positions.{Positions}
-use Rattle.mime.proofs.CutLemmas.{empty-cut, takes-viable, has_cut, cut_unique}
+use Rattle.mime.proofs.CutLemmas.Cuts.{empty-cut, takes-viable, has_cut, cut_unique}
 use Rattle.mime.proofs.ValueLemmas.Reading.{accepted-from_positions}
 use Rattle.mime.proofs.GrammarLemmas.Viability.{empty_is_viable}
 use Rattle.std.specs.Iterator.{Drains}
 use Rattle.mime.specs.CutLaws.{items_of_rest, kept_item, AreGiven, none_left, a_value, a_piece, no_memory, RunGivesCut, PrintedListComesBack, CommaContainsOnRuns}
-use Rattle.mime.proofs.Containment.{comma_contains, joined_comes_back}
+use Rattle.mime.proofs.CutLemmas.Containment.{comma_contains, joined_comes_back}
 
 -- ---- what is kept
 

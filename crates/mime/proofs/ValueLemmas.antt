@@ -1,5 +1,4 @@
 -- Lemmas for src/value.rt and its modules.
-pub mod Lowercase
 pub mod Utf8
 pub mod Pairs
 pub mod ListText

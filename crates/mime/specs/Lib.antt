@@ -16,13 +16,4 @@ pub mod Runs
 pub mod CutLaws
 pub mod HashLaws
 -- private
-pub mod ReaderState
-pub mod Quoted
-pub mod Scanning
-pub mod Blocks
-pub mod Pairs
-pub mod KeptText
-pub mod ComparedText
-pub mod HashInput
-pub mod StoredText
-pub mod BetweenCalls
+pub mod Inner

@@ -4,7 +4,7 @@ ghost use Rattle.std.specs.Fmt.{styled_text};
 ghost use Rattle.std.specs.Prelude.{◌≡◌, true, Some};
 ghost use Rattle.mime.specs.Values.{Reads};
 ghost use Rattle.mime.specs.Atoms.{atom_text};
-ghost use Rattle.mime.specs.KeptText.{positions_in};
+ghost use Rattle.mime.specs.Inner.KeptText.{positions_in};
 
 use crate::scan::Positions;
 use crate::value::Mime;

@@ -2,7 +2,7 @@
 
 ghost use Rattle.std.specs.Prelude.{◌≡◌, ◌+◌, ◌<◌, ◌≤◌, length, take, drop, slice_index};
 ghost use Rattle.std.specs.Str.{IsCharBoundary};
-ghost use Rattle.mime.specs.Blocks.{IsEndOf, first_position, before_byte, after_byte, mask_of};
+ghost use Rattle.mime.specs.Inner.Blocks.{IsEndOf, first_position, before_byte, after_byte, mask_of};
 
 use std::marker::Model;
 use std::simd::prelude::*;
@@ -82,7 +82,7 @@ pub(crate) struct TextEnd<'a> {
 
 impl<'a> Model for TextEnd<'a> {
     ghost use Rattle.std.specs.Prelude.{List, ℕ};
-    ghost use Rattle.mime.specs.Blocks.{IsEndOf};
+    ghost use Rattle.mime.specs.Inner.Blocks.{IsEndOf};
 
     ghost Value = { List ℕ };
 

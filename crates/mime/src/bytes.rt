@@ -1,10 +1,9 @@
 //! The classes of bytes (RFC 7231, 3.1.1.1; RFC 7230, 3.2.6).
 
 ghost use Rattle.std.specs.Prelude.{◌≡◌};
-ghost use Rattle.mime.specs.Bytes.{is_token_byte};
-ghost use Rattle.mime.specs.ReaderState.{is_token_except_plus as is_token_except};
-ghost use Rattle.mime.specs.Grammar.{is_space as is_space_byte};
-ghost use Rattle.mime.specs.Bytes.{is_quoted_byte as is_quoted, is_quoted_text_byte as is_quoted_text};
+ghost use Rattle.mime.specs.Inner.ReaderState.{is_token_except_plus};
+ghost use Rattle.mime.specs.Grammar.{is_space};
+ghost use Rattle.mime.specs.Bytes.{is_token_byte, is_quoted_byte, is_quoted_text_byte};
 
 /// A byte that may stand nowhere.
 const N: u8 = 0;
@@ -45,7 +44,7 @@ pub fn is_token(b: u8) -> bool
 /// Whether a byte other than the plus may occur in a token.
 #[inline(always)]
 pub(crate) fn is_token_except_plus(b: u8) -> bool
-    ensures { result ≡ is_token_except b }
+    ensures { result ≡ is_token_except_plus b }
 {
     KINDS[b as usize] == T
 }
@@ -53,7 +52,7 @@ pub(crate) fn is_token_except_plus(b: u8) -> bool
 /// Whether a byte is a space or a tab, which may precede a parameter and follow a quoted value.
 #[inline(always)]
 pub(crate) fn is_space(b: u8) -> bool
-    ensures { result ≡ is_space_byte b }
+    ensures { result ≡ is_space b }
 {
     b == b' ' || b == b'\t'
 }
@@ -62,7 +61,7 @@ pub(crate) fn is_space(b: u8) -> bool
 /// RFC 7230, 3.2.6): the tab, and any byte from 32 on except 127. `is_quoted_byte(b'"')` is true.
 #[inline(always)]
 pub fn is_quoted_byte(b: u8) -> bool
-    ensures { result ≡ is_quoted b }
+    ensures { result ≡ is_quoted_byte b }
 {
     KINDS[b as usize] >= B
 }
@@ -71,7 +70,7 @@ pub fn is_quoted_byte(b: u8) -> bool
 /// that may follow a backslash, except the quote and the backslash. `is_quoted_text_byte(b';')` is true.
 #[inline(always)]
 pub fn is_quoted_text_byte(b: u8) -> bool
-    ensures { result ≡ is_quoted_text b }
+    ensures { result ≡ is_quoted_text_byte b }
 {
     KINDS[b as usize] >= Q
 }

@@ -2,12 +2,15 @@
 
 ghost use Rattle.std.specs.Prelude.{◌≡◌, ◌≢◌, ◌↔◌, IsTrue, Some, [], map};
 ghost use Rattle.mime.specs.Comparison.{TextIs};
-ghost use Rattle.mime.specs.KeptText.{AreLowPairs, IsLowPair, lowered_pair};
-ghost use Rattle.mime.specs.ComparedText.{IsListAfter, IsAcceptedAt};
+ghost use Rattle.mime.specs.Difference.{reaches_value, DifferInValue};
+ghost use Rattle.mime.specs.Inner.KeptText.{AreLowPairs, IsLowPair, lowered_pair};
+ghost use Rattle.mime.specs.Inner.ComparedText.{IsListAfter, IsAcceptedAt};
 ghost use Rattle.mime.specs.Values.{Reads, lowered};
+ghost use Rattle.mime.specs.declared.compare.Compared.TheVariants.{Equal, Different};
 
-use crate::difference::{Compared, compare_texts};
-use crate::name::eq_ignoring_case;
+use crate::blocks::BLOCK;
+use crate::bytes::is_space;
+use crate::ignoring_case::{eq_ignoring_case, first_difference};
 use crate::scan::{ByteReader, Positions, Verdict, scan};
 use crate::value::Mime;
 use crate::value::pairs::Pairs;
@@ -106,6 +109,42 @@ fn eq_by_parts(mime: &Mime, s: &str, equal_ignoring_case: bool) -> bool
         return false;
     }
     equal_ignoring_case || is_accepted_at(s, end, mime.param_count())
+}
+
+/// Whether a difference at this byte means different values: all bytes but space, tab and quote reach the value.
+#[inline(always)]
+fn reaches_value(byte: u8) -> bool
+    ensures { result ≡ reaches_value byte }
+{
+    !(is_space(byte) || byte == b'"')
+}
+
+/// What a comparison of two texts shows.
+enum Compared {
+    /// They are equal ignoring ASCII case.
+    Equal,
+    /// They are read as different values: their first difference, ignoring ASCII case, reaches the value.
+    Different,
+    /// Neither is known: a text is shorter than a block, or they first differ at a space, tab or quote, or one ends first.
+    Undecided,
+}
+
+/// Compares two texts up to their first difference, ignoring ASCII case.
+#[inline(always)]
+fn compare_texts(kept: &str, text: &str) -> Compared
+    ensures equal { result ≡ Equal → lowered kept.now ≡ lowered text.now }
+    ensures different { result ≡ Different → DifferInValue kept.now text.now }
+{
+    let kept = kept.as_bytes();
+    let text = text.as_bytes();
+    if kept.len() < BLOCK || text.len() < BLOCK {
+        return Compared::Undecided;
+    }
+    match first_difference(kept, text) {
+        Some(at) if reaches_value(kept[at]) && reaches_value(text[at]) => Compared::Different,
+        None if kept.len() == text.len() => Compared::Equal,
+        _ => Compared::Undecided,
+    }
 }
 
 /// Whether a text other than the kept text is equal to a value with parameters. The first difference decides most texts;

@@ -4,7 +4,7 @@ ghost use Rattle.std.specs.Prelude.{◌≡◌, ◌+◌, ◌-◌, ◌<◌, ◌≤
 ghost use Rattle.std.specs.Iterator.{UpTo, at_most};
 ghost use Rattle.std.specs.Iterator.SizeHint.{IsWithinCount};
 ghost use Rattle.mime.specs.Runs.{IsNext};
-ghost use Rattle.mime.specs.BetweenCalls.{PassesPiece, IsFound};
+ghost use Rattle.mime.specs.Inner.BetweenCalls.{PassesPiece, IsFound};
 
 use crate::scan::{ByteReader, Positions, Verdict, scan};
 use crate::value::Mime;
@@ -95,7 +95,7 @@ pub struct MimeIter<'a> {
 
 impl<'a> Model for MimeIter<'a> {
     ghost use Rattle.mime.specs.Runs.{Iteration};
-    ghost use Rattle.mime.specs.BetweenCalls.{IsUnderWay};
+    ghost use Rattle.mime.specs.Inner.BetweenCalls.{IsUnderWay};
 
     ghost Value = { Iteration };
 
@@ -176,9 +176,7 @@ impl<'a> Iterator for MimeIter<'a> {
     ghost remaining = { λ i. at_most (length i.left) };
 
     fn next(&mut self) -> Option<Result<Mime, Bad<'a>>> {
-        let Some((piece, positions)) = self.next_piece() else {
-            return None;
-        };
+        let (piece, positions) = self.next_piece()?;
         let Some(positions) = positions else {
             return Some(Err(Bad::Piece(piece)));
         };

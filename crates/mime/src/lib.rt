@@ -47,7 +47,7 @@ mod atoms;
 mod blocks;
 mod bytes;
 mod compare;
-mod difference;
+mod ignoring_case;
 mod iter;
 pub mod laws;
 mod name;

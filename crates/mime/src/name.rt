@@ -1,14 +1,12 @@
 //! Names: the parts of media types, how they compare, and the keys that look parameters up.
 
-ghost use Rattle.std.specs.Prelude.{◌≡◌, ◌↔◌, ◌<◌, ◌≤◌, ◌+◌, length, IsTrue, List, ℕ, Bool, Some};
+ghost use Rattle.std.specs.Prelude.{◌≡◌, ◌↔◌, IsTrue, List, ℕ, Bool, Some};
 ghost use Rattle.std.specs.Fmt.{debug_str, styled_text};
 ghost use Rattle.mime.specs.Names.{NameIs};
-ghost use Rattle.mime.specs.Values.{lowered};
 
 pub(crate) mod constants;
 
-use crate::blocks::BLOCK;
-use crate::difference::{difference, first_difference};
+use crate::ignoring_case::eq_ignoring_case;
 use std::fmt;
 
 /// A part of a media type: a type, a subtype, a suffix, a parameter's name or its value (RFC 7231,
@@ -52,55 +50,6 @@ impl fmt::Debug for Name<'_> {
     fn fmt<W: fmt::Write>(&self, f: &mut fmt::Formatter<W>) -> fmt::Result {
         fmt::Debug::fmt(self.text, f)
     }
-}
-
-/// Whether two byte strings of one length are equal ignoring ASCII case. The loop doesn't end early: over
-/// a known length it is a few vector instructions.
-#[inline(always)]
-fn eq_byte_by_byte(a: &[u8], b: &[u8]) -> bool
-    requires same_length { length a.now ≡ length b.now }
-    ensures { IsTrue result ↔ (lowered a.now ≡ lowered b.now) }
-{
-    let mut differs = 0;
-    let mut at = 0;
-    while at < a.len() {
-        differs |= difference(a[at], b[at]);
-        at += 1;
-    }
-    differs == 0
-}
-
-/// Whether two byte strings of one length, from `block` to twice `block`, are equal ignoring ASCII case: by their last
-/// and first `block` bytes, which together are all of them. Two names differ more often in their last bytes than in their first.
-#[inline(always)]
-fn eq_at_both_ends(a: &[u8], b: &[u8], block: usize) -> bool
-    requires same_length { length a.now ≡ length b.now }
-    requires room { block ≤ length a.now }
-    requires reach { length a.now ≤ block + block }
-    ensures { IsTrue result ↔ (lowered a.now ≡ lowered b.now) }
-{
-    let last = a.len() - block;
-    eq_byte_by_byte(&a[last..], &b[last..]) && eq_byte_by_byte(&a[..block], &b[..block])
-}
-
-/// Whether two byte strings are equal ignoring ASCII case.
-#[inline(never)]
-pub(crate) fn eq_ignoring_case(a: &[u8], b: &[u8]) -> bool
-    ensures { IsTrue result ↔ (lowered a.now ≡ lowered b.now) }
-{
-    if a.len() != b.len() {
-        return false;
-    }
-    if a.len() >= BLOCK {
-        return first_difference(a, b).is_none();
-    }
-    if a.len() >= 8 {
-        return eq_at_both_ends(a, b, 8);
-    }
-    if a.len() >= 4 {
-        return eq_at_both_ends(a, b, 4);
-    }
-    eq_byte_by_byte(a, b)
 }
 
 /// Whether a name is equal to the text `s`: ignoring ASCII case where the name does, else

@@ -3,10 +3,10 @@
 //! A function that reads a part returns the byte that ends it, which is read too, or none at the end of the text.
 
 ghost use Rattle.std.specs.Prelude.{◌+◌, ◌-◌, ◌<◌, ◌^◌, length};
-ghost use Rattle.mime.specs.Bytes.{is_token_byte, is_quoted_text_byte as is_quoted_text};
-ghost use Rattle.mime.specs.Grammar.{is_space as is_space_byte};
-ghost use Rattle.mime.specs.ReaderState.{is_token_except_plus as is_token_except};
-ghost use Rattle.mime.specs.Scanning.{Passes, PassesContent, PassesSubtype, ScansList, Scans};
+ghost use Rattle.mime.specs.Bytes.{is_token_byte, is_quoted_text_byte};
+ghost use Rattle.mime.specs.Grammar.{is_space};
+ghost use Rattle.mime.specs.Inner.ReaderState.{is_token_except_plus};
+ghost use Rattle.mime.specs.Inner.Scanning.{Passes, PassesContent, PassesSubtype, ScansList, Scans};
 
 mod fault;
 mod reader;
@@ -55,7 +55,7 @@ fn token(reader: &mut ByteReader<'_>) -> Option<u8>
 /// Reads the bytes of a token up to a plus, and returns the byte that ends them.
 #[inline(always)]
 fn token_to_plus(reader: &mut ByteReader<'_>) -> Option<u8>
-    ensures { Passes is_token_except reader.old reader.new result }
+    ensures { Passes is_token_except_plus reader.old reader.new result }
 {
     while let Some(byte) = reader.next() {
         if !is_token_except_plus(byte) {
@@ -68,7 +68,7 @@ fn token_to_plus(reader: &mut ByteReader<'_>) -> Option<u8>
 /// Reads optional whitespace, spaces and tabs (OWS of RFC 7230, 3.2.3), and returns the byte that ends it.
 #[inline(always)]
 fn spaces(reader: &mut ByteReader<'_>) -> Option<u8>
-    ensures { Passes is_space_byte reader.old reader.new result }
+    ensures { Passes is_space reader.old reader.new result }
 {
     while let Some(byte) = reader.next() {
         if !is_space(byte) {
@@ -81,7 +81,7 @@ fn spaces(reader: &mut ByteReader<'_>) -> Option<u8>
 /// Reads quoted text (qdtext of RFC 7230, 3.2.6), and returns the byte that ends it.
 #[inline(always)]
 fn quoted_text(reader: &mut ByteReader<'_>) -> Option<u8>
-    ensures { Passes is_quoted_text reader.old reader.new result }
+    ensures { Passes is_quoted_text_byte reader.old reader.new result }
 {
     while let Some(byte) = reader.next() {
         if !is_quoted_text_byte(byte) {

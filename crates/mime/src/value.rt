@@ -4,11 +4,10 @@ ghost use Rattle.std.specs.Prelude.{◌≡◌, ◌≢◌, true, IfOk, IfErr, IsO
 ghost use Rattle.std.specs.List.{AllByRecursion};
 ghost use Rattle.mime.specs.Values.{Reads, IsAccepted, lowered, type_of, subtype_of, suffix_of};
 ghost use Rattle.mime.specs.Refusals.{Explains};
-ghost use Rattle.mime.specs.Items.{items_of, IsLowIf, IsLowItem, IsFirstAccepted};
-ghost use Rattle.mime.specs.Items.{name_seen, name_text};
-ghost use Rattle.mime.specs.Scanning.{HasPositions};
-ghost use Rattle.mime.specs.KeptText.{IsKept, media_of, AreLowPairs};
-ghost use Rattle.mime.specs.StoredText.{bytes_of};
+ghost use Rattle.mime.specs.Items.{items_of, name_seen, name_text, IsLowIf, IsLowItem, IsFirstAccepted};
+ghost use Rattle.mime.specs.Inner.Scanning.{HasPositions};
+ghost use Rattle.mime.specs.Inner.KeptText.{IsKept, media_of, AreLowPairs};
+ghost use Rattle.mime.specs.Inner.StoredText.{bytes_of};
 
 mod hashing;
 mod kept;
@@ -59,8 +58,8 @@ impl Model for Mime {
 
     ghost Value = { OwnedMedia };
 
-    ghost use Rattle.mime.specs.StoredText.{bytes_of, is_fixed};
-    ghost use Rattle.mime.specs.KeptText.{media_of, IsKept};
+    ghost use Rattle.mime.specs.Inner.StoredText.{bytes_of, is_fixed};
+    ghost use Rattle.mime.specs.Inner.KeptText.{media_of, IsKept};
 
     ghost view = { λ mime. record { media = media_of (bytes_of mime.text) mime.positions; fixed = is_fixed mime.text } };
 

@@ -14,9 +14,9 @@ use Rattle.mime.specs.Cut.{CutItem, good, bad, Cut}
 use Rattle.mime.specs.CutLaws.{IsItem}
 use Rattle.mime.proofs.BytesLemmas.{is_other, list_all-wider, are_other-token, AreTokenBytes-from_token}
 use Rattle.mime.proofs.GrammarLemmas.Viability.{accepted_is_viable, walk-from_viable}
-use Rattle.mime.proofs.HeaderLawsLemmas.{walked-safe, kept_is_safe}
+use Rattle.mime.proofs.LawsLemmas.Headers.{walked-safe, kept_is_safe}
 use Rattle.mime.proofs.ValueLemmas.KeptText.{kept_is_read}
-use Rattle.mime.proofs.LawsLemmas.{essence_is_read, cut_has_items}
+use Rattle.mime.proofs.LawsLemmas.Callers.{essence_is_read, cut_has_items}
 use Rattle.mime_c.specs.Strings.{string_of, strings, texts_in, ComeBack, pair_texts, texts_of, item_texts}
 
 -- a text without the byte 0

@@ -16,7 +16,7 @@ use Rattle.mime.proofs.ValueLemmas.Reading.{refused-from_fault, Explains-from_fa
 use Rattle.mime.proofs.GrammarLemmas.Readings.{one_reading}
 use Rattle.mime.proofs.ValueLemmas.Traits.{eq_by_cmp-tells, eq_by_cmp-same}
 use Rattle.mime.specs.Cut.{CutItem}
-use Rattle.mime.proofs.CutLemmas.{accepted_or_refused, has_cut, cut_unique}
+use Rattle.mime.proofs.CutLemmas.Cuts.{accepted_or_refused, has_cut, cut_unique}
 use Rattle.mime_c.specs.Strings.{strings, texts_of, item_texts, written}
 use Rattle.mime_c.specs.Answers.{number_of, nothing, found_of, found_of_fault, Fails, is_refused, is_not_text, ReadsTo, is_read, fails, has_no_room, ListsTo, is_listed, has_no_memory, Compares, are_read, first_fails, second_fails}
 use Rattle.mime_c.specs.Answers as answers

@@ -7,7 +7,7 @@ use Rattle.mime.specs.Refusals.{IsViable}
 use Rattle.mime.specs.Cut.{is_following_byte, BeginsCharacter, IsCharacter, IsSplit, CutItem, good, bad, ItemsOf, is_read, is_refused, is_empty, Cut, whole, unfinished, goes_on, Pieces, last, next, steps_of, TakesSteps}
 use Rattle.mime.specs.CutLaws.{IsItem, text_of_pieces, items_of_rest, joined, IsRead, kept_item}
 use Rattle.mime.proofs.GrammarLemmas.Begun.{in_type}
-use Rattle.mime.proofs.CutLemmas.{empty-refused, split-not_viable, split-from_dead, split_unique, items_of_unique, cut_unique, takes_unique}
+use Rattle.mime.proofs.CutLemmas.Cuts.{empty-refused, split-not_viable, split-from_dead, split_unique, items_of_unique, cut_unique, takes_unique}
 use Rattle.mime.proofs.ValueLemmas.KeptText.{kept_is_read}
 use Rattle.mime.proofs.GrammarLemmas.Readings.{refused-from_walk}
 use Rattle.mime_facts.proofs.ValueFacts.{differ, plain_value, reads_capitals, keeps_no_capitals}

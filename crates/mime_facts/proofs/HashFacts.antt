@@ -7,7 +7,7 @@ use Rattle.std.specs.List.{concat}
 use Rattle.mime.specs.Bytes.{is_token_byte}
 use Rattle.mime.specs.Grammar.{no_list}
 use Rattle.mime.specs.Values.{MediaType, OwnedMedia, Reads}
-use Rattle.mime.specs.HashInput.{media_input}
+use Rattle.mime.specs.Inner.HashInput.{media_input}
 use Rattle.mime.specs.HashLaws.{IsReadInUtf8, RespectsEquality, IsPrefixFree}
 use Rattle.mime.proofs.ValueLemmas.Hash.{fed-read}
 use Rattle.mime.proofs.ValueLemmas.KeptText.{kept_is_read}

@@ -11,8 +11,8 @@ use Rattle.mime.specs.Laws.{AcceptedOrRefused, suffix_text, EssenceIsParts, Have
 use Rattle.mime.specs.HeaderLaws.{AreHeaderBytes, IsSafePair, IsSafe, KeptIsSafe, text_with_parameter, with_parameter, ParameterIsRead}
 use Rattle.mime.specs.Cut.{good, Cut, whole}
 use Rattle.mime.specs.CutLaws.{is_separator, IsHttpList, no_element, separated, one_element, more_elements, HttpListIsCut}
-use Rattle.mime.proofs.Containment.{http_list_is_cut}
-use Rattle.mime.proofs.CutLemmas.{cut_unique}
+use Rattle.mime.proofs.CutLemmas.Containment.{http_list_is_cut}
+use Rattle.mime.proofs.CutLemmas.Cuts.{cut_unique}
 use Rattle.mime.proofs.GrammarLemmas.Content.{IsContent-taken, content-taken}
 use Rattle.mime_facts.proofs.ComparisonFacts.{quoted_x, reads_quoted}
 use Rattle.mime_facts.proofs.CutFacts.{no_item_left_out}

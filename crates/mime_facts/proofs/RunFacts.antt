@@ -11,7 +11,7 @@ use Rattle.mime.specs.CutLaws.{AreGiven, none_left, a_value, a_piece, no_memory}
 use Rattle.mime.specs.declared.iter.Bad.{Bad}
 use Rattle.mime.specs.declared.iter.Bad.TheVariants.{Piece, NoMemory}
 use Rattle.mime_facts.proofs.CutFacts.{split_at_comma, e_is_viable, item_of_e, cut_of_list, rest_of_text, no_item_left_out}
-use Rattle.mime.proofs.CutLemmas.{cut_unique, takes_unique, takes-viable, empty-cut}
+use Rattle.mime.proofs.CutLemmas.Cuts.{cut_unique, takes_unique, takes-viable, empty-cut}
 use Rattle.mime_facts.proofs.StandardFacts.{media, reads}
 use Rattle.mime_facts.proofs.ValueFacts.{differ, plain_value, reads_capitals}
 

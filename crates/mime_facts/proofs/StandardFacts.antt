@@ -9,7 +9,7 @@ use Rattle.mime.specs.declared.atoms.Atom.TheVariants.{TEXT_JAVASCRIPT}
 use Rattle.mime.specs.declared.atoms.TheConstants.{TEXT_JAVSCRIPT}
 use Rattle.mime.specs.declared.scan.fault.ParseError.TheVariants.{MissingSlash, MissingSubtype, MissingEqual, MissingValue, MissingQuote, InvalidToken}
 use Rattle.mime.proofs.GrammarLemmas.Begun.{Closed, in_type, in_subtype, in_list, in_name, in_value, list_at, walk}
-use Rattle.mime.proofs.FirstDifference.{different_values}
+use Rattle.mime.proofs.CompareLemmas.FirstDifference.{different_values}
 use Rattle.mime.proofs.GrammarLemmas.Content.{IsContent-taken}
 use Rattle.mime.proofs.GrammarLemmas.Viability.{lacks-from_walk, dead-from_walk}
 

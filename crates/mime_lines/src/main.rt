@@ -20,9 +20,9 @@ pub use crate::device::{Device, Failed, Sink, Source};
 pub use crate::error::RunError;
 pub use crate::lines::run;
 pub use crate::mode::Mode;
+use std::env;
 use std::env::Args;
 use std::process::ExitCode;
-use std::{env, io};
 
 /// The mode that the arguments ask for, or none where they ask for no mode. The first of them is the
 /// name of the program.
@@ -57,8 +57,6 @@ fn named_mode(word: &str) -> Option<Mode>
 fn main(rt: HostRuntime) -> ExitCode {
     let asked = match env::args(&rt) {
         Ok(arguments) => asked_mode(arguments),
-        // An argument isn't UTF-8.
-        Err(error) if error.kind() == io::ErrorKind::InvalidData => None,
         Err(_) => return ended(&rt, Err(RunError::NoMemory)),
     };
     let Some(mode) = asked else {

@@ -185,6 +185,16 @@ static CASES: &[Reported<'static>] = &[
         report: b"ok application/json\nbad invalid\nok text/html\nnot text\n",
     },
     Reported {
+        mode: Mode::List,
+        input: b"application/json, invalid, text/html\ninvalid\n",
+        report: b"ok application/json\nbad invalid\nok text/html\n",
+    },
+    Reported {
+        mode: Mode::Parts,
+        input: b"a/b;p=\"\\\"\xc3\xa9\"; q=\"\"",
+        report: b"ok a/b;p=\"\\\"\xc3\xa9\"; q=\"\"\ntype a\nsubtype b\nparam p=\\\"\xc3\xa9\nparam q=\n",
+    },
+    Reported {
         mode: Mode::Parts,
         input: b"",
         report: b"",

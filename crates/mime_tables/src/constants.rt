@@ -98,10 +98,11 @@ static NAMES: &[(&str, Name<'static>)] = &[
     ("UTF_8", UTF_8),
 ];
 
-/// The constant that equals a media type.
+/// The constant that equals a media type, by equality, order and hash.
 pub(crate) fn constant_of(mime: &Mime) -> Option<Atom> {
     for atom in ATOMS {
-        if atom.mime() == *mime {
+        let constant = atom.mime();
+        if constant == *mime && relation(&constant, mime) == '=' {
             return Some(*atom);
         }
     }

@@ -149,7 +149,11 @@ pub(crate) fn print(out: &mut String, mime: &Mime) -> Result<(), AllocError> {
         out,
         "{mime}|{mime:>12}|{mime:<12}|{mime:*^14}|{mime:4}|{mime:?}|{:?}",
         mime.params()
-    )
+    )?;
+    match constant_of(mime) {
+        Some(atom) => writeln!(out, "a constant {:>12}", atom.mime()),
+        None => Ok(()),
+    }
 }
 
 /// The key that accepts the one name `foo`.

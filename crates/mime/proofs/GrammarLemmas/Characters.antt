@@ -5,7 +5,7 @@ use Rattle.std.specs.Prelude.{IsFalse, MatchOption, if◌then◌else◌, ◌==�
 use Rattle.std.specs.Option.{option_map}
 use Rattle.mime.specs.Bytes.{is_token_byte, slash_byte, semicolon_byte, equals_byte, quote_byte}
 use Rattle.mime.specs.Grammar.{is_space}
-use Rattle.mime.specs.Quoted.{continues, awaits_after}
+use Rattle.mime.specs.Inner.Quoted.{continues, awaits_after}
 use Rattle.mime.proofs.GrammarLemmas.Begun.{Closed, Begun, in_type, in_subtype, in_list, ListState, in_spaces, in_name, in_value, in_quotes, after_quotes, list_at, grow, grow_state, grow_list, BegunList, walk, walk_from}
 use Rattle.std.proofs.lemmas.Bool.Decides.{nat_tests}
 use Rattle.std.proofs.lemmas.List.{drop_more}

@@ -9,7 +9,7 @@ use Rattle.std.specs.Prelude.{IsTrue, IsFalse, is_some, slice_get, ◌==◌}
 use Rattle.std.specs.List.{list_all}
 use Rattle.std.specs.Option.{option_and_then}
 use Rattle.mime.specs.Bytes.{is_token_byte, is_quoted_byte, slash_byte, equals_byte}
-use Rattle.mime.specs.Quoted.{takes_all, awaits_after}
+use Rattle.mime.specs.Inner.Quoted.{takes_all, awaits_after}
 use Rattle.mime.proofs.GrammarLemmas.Content.{takes_all-any}
 use Rattle.mime.specs.Values.{IsRefused}
 use Rattle.mime.specs.Refusals.{IsLongestPrefix, EndsIn, Lacks, IsDeadAt, IsFault}

@@ -6,7 +6,7 @@ use Rattle.std.specs.Option.{option_and_then, option_map}
 use Rattle.mime.specs.Bytes.{is_token_byte, slash_byte, semicolon_byte, equals_byte, quote_byte}
 use Rattle.mime.specs.Grammar.{Parameter, plain, quoted, Parameters, blank, final, more, Tail, no_list, listed, SyntaxTree, AreSpaces, text_of_parameter, text_of_list, text_of, IsToken, IsContent, IsParameter, AreParameters, IsTail, IsWellFormed}
 use Rattle.mime.specs.Values.{MediaType, value_of, Reads, IsAccepted, IsRefused}
-use Rattle.mime.specs.Quoted.{continues}
+use Rattle.mime.specs.Inner.Quoted.{continues}
 use Rattle.mime.proofs.GrammarLemmas.Content.{content-taken, content-closed}
 use Rattle.mime.proofs.GrammarLemmas.Begun.{Closed, Begun, in_type, in_subtype, in_list, BegunList, ListState, in_spaces, in_name, in_value, in_quotes, after_quotes, begun_list, list_at, at_state, close, grow, grow_list, grow_state, walk, walk_from, walk_list, with_closed, ended_list, tree_of, walk_by-step, walk_by-append_some, walk_from-in_list, walk-type, walk_from-subtype, walk_list-spaces, walk_list-name, walk_list-value, walk_list-open, walk_list-after_quotes}
 use Rattle.mime.proofs.GrammarLemmas.Spelling.{text_of_begun, walk_from-lengthens, tree_of-spelled}

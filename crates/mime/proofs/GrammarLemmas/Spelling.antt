@@ -8,7 +8,7 @@ use Rattle.std.specs.List.{list_all}
 use Rattle.std.specs.Option.{option_map}
 use Rattle.mime.specs.Bytes.{is_token_byte, slash_byte, semicolon_byte, equals_byte, quote_byte}
 use Rattle.mime.specs.Grammar.{quoted, Parameters, more, listed, is_space, AreSpaces, text_of_parameter, text_of_list, text_of, AreTokenBytes, IsToken, IsContent, IsParameter, AreParameters, IsWellFormed}
-use Rattle.mime.specs.Quoted.{IsOpenContent, continues}
+use Rattle.mime.specs.Inner.Quoted.{IsOpenContent, continues}
 use Rattle.mime.proofs.GrammarLemmas.Content.{IsOpenContent-push, IsContent-closed}
 use Rattle.mime.proofs.GrammarLemmas.Begun.{Closed, Begun, in_type, in_subtype, in_list, BegunList, ListState, in_spaces, in_name, in_value, in_quotes, after_quotes, list_at, grow, grow_state, grow_list, walk, walk_from, with_closed, list_at_end, tree_of}
 

@@ -13,7 +13,7 @@ use Rattle.mime.proofs.GrammarLemmas.Begun.{Closed, Begun, in_type, in_subtype, 
 use Rattle.mime.specs.Laws.{EmptyIsViable, PrefixOfViableIsViable, AcceptedIsViable}
 use Rattle.mime.specs.declared.scan.fault.ParseError.{ParseError}
 use Rattle.mime.specs.declared.scan.fault.ParseError.TheVariants.{InvalidToken}
-use Rattle.mime.specs.Quoted.{takes_all, awaits_after, continues}
+use Rattle.mime.specs.Inner.Quoted.{takes_all, awaits_after, continues}
 use Rattle.mime.proofs.GrammarLemmas.Content.{takes_all-any, closed-letter}
 use Rattle.mime.proofs.GrammarLemmas.Spelling.{before_equals, spelled-from_walk, text-in_value}
 use Rattle.mime.proofs.GrammarLemmas.Readings.{accepted-from_walk, walk-accepted, stopped-from_walk}

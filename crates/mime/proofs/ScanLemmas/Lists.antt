@@ -5,16 +5,16 @@ use Rattle.std.specs.Option.{option_to_list}
 use Rattle.std.proofs.lemmas.Bool.{and_from, cond-true, cond-false}
 use Rattle.mime.specs.Bytes.{is_token_byte, equals_byte, quote_byte, semicolon_byte}
 use Rattle.mime.specs.Values.{last_plus}
-use Rattle.mime.specs.ReaderState.{Remaining}
+use Rattle.mime.specs.Inner.ReaderState.{Remaining}
 use Rattle.mime.specs.declared.scan.Positions.{Positions}
 use Rattle.mime.specs.declared.scan.Verdict.{Verdict}
-use Rattle.mime.specs.Scanning.{Given, GivesFirst, Passes, positions_of, before_list, ScansList, Scans, PassesContent}
+use Rattle.mime.specs.Inner.Scanning.{Given, GivesFirst, Passes, positions_of, before_list, ScansList, Scans, PassesContent}
 use Rattle.mime.proofs.GrammarLemmas.Begun.{in_type, in_subtype, in_list, begun_list, walk-type, walk_from-subtype, ListState, in_spaces, in_name, in_value, in_quotes, after_quotes, BegunList, grow_state, grow_list, close, walk_by-step, walk_list-spaces, walk_list-name, walk_list-value, walk_list-open, walk_list-after_quotes}
 use Rattle.mime.proofs.ScanLemmas.Passing.{given_then, given_whole, given_sum}
 use Rattle.mime.proofs.GrammarLemmas.Spelling.{walk_from-lengthens}
 use Rattle.mime.proofs.ScanLemmas.Verdicts.{Reaches, reaches_run, positions_of_list, ListReaches, list_run, list_byte}
 use Rattle.mime.specs.Grammar.{is_space, Parameter, plain, quoted}
-use Rattle.mime.specs.Quoted.{continues}
+use Rattle.mime.specs.Inner.Quoted.{continues}
 use Rattle.mime.proofs.BytesLemmas.{quote_is_no_token, semicolon_is_no_token}
 
 -- nothing was walked yet

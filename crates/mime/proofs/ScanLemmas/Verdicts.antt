@@ -4,8 +4,8 @@ use Rattle.std.specs.Option.{option_map}
 use Rattle.std.proofs.lemmas.List.{take_at}
 use Rattle.mime.specs.Grammar.{Parameter, Parameters, more, listed, SyntaxTree, text_of}
 use Rattle.mime.specs.Values.{pairs_of_list, IsRefused}
-use Rattle.mime.specs.ReaderState.{Remaining}
-use Rattle.mime.specs.Scanning.{Given, positions_of, HasPositions, Judges, before_list, ScansList, Scans}
+use Rattle.mime.specs.Inner.ReaderState.{Remaining}
+use Rattle.mime.specs.Inner.Scanning.{Given, positions_of, HasPositions, Judges, before_list, ScansList, Scans}
 use Rattle.mime.specs.declared.scan.Positions.{Positions}
 use Rattle.mime.specs.declared.scan.fault.ParseError.{ParseError}
 use Rattle.mime.specs.declared.scan.Verdict.{Verdict}

@@ -3,7 +3,7 @@ use Rattle.std.proofs.Common.{◌≡◌, ℕ, suc, ◌+◌, ◌-◌, ◌%◌, �
 use Rattle.std.proofs.Math.ListN.{set}
 use Rattle.std.proofs.Math.Seq.{take-append-add}
 use Rattle.std.proofs.lemmas.List.{append_assoc, take_at, drop_at, set_at, drop-replicate, take-replicate, length-append, append_cancel_left}
-use Rattle.mime.specs.HashInput.{pair_count, pair_run, pair_end, pair_parts, pair_input, media_input}
+use Rattle.mime.specs.Inner.HashInput.{pair_count, pair_run, pair_end, pair_parts, pair_input, media_input}
 use Rattle.std.specs.Prelude.{IsUtf8, nat_lt}
 use Rattle.std.specs.List.{list_all, flat_map, concat, AllByRecursion}
 use Rattle.std.proofs.lemmas.Bool.{and_parts, and_from}
@@ -15,8 +15,8 @@ use Rattle.mime.specs.Grammar.{Parameter, plain, quoted, Parameters, blank, fina
 use Rattle.mime.specs.Values.{MediaType, lowered, lowered_parameter, lowered_list, lowered_tail, pair_of, pairs_of_list, pairs_of_tail}
 use Rattle.mime.specs.HashLaws.{IsReadInUtf8, IsPrefixFree}
 use Rattle.mime.proofs.BytesLemmas.{list_all-parts, list_all-wider, is_other, AreTokenBytes-from_token, are_other-token}
-use Rattle.mime.proofs.ValueLemmas.Lowercase.{IsToken-lowered, list_all-lowered, lowered_value-either}
-use Rattle.mime.specs.Blocks.{before_byte, after_byte}
+use Rattle.mime.proofs.LowercaseLemmas.{IsToken-lowered, list_all-lowered, lowered_value-either}
+use Rattle.mime.specs.Inner.Blocks.{before_byte, after_byte}
 use Rattle.mime.proofs.ValueLemmas.ListText.{flagged, before_to, after_to}
 use Rattle.std.proofs.lemmas.Bool.{cases_lt}
 use Rattle.std.proofs.lemmas.Str.{encode_ascii}

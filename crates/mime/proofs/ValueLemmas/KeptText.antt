@@ -5,12 +5,12 @@ use Rattle.std.proofs.lemmas.List.{take_at, drop_at, take_all, take-append-drop}
 use Rattle.mime.specs.Bytes.{slash_byte, semicolon_byte}
 use Rattle.mime.specs.Grammar.{Parameters, blank, final, more, Tail, no_list, listed, SyntaxTree, text_of, text_of_tail, text_of_list, AreParameters, IsTail, IsWellFormed}
 use Rattle.mime.specs.Values.{MediaType, Reads, value_of, essence_of, kept_text, lowered, lowered_tree, last_plus, pairs_of_list, pairs_of_tail}
-use Rattle.mime.specs.Pairs.{pairs_within, lowered_within}
-use Rattle.mime.specs.Scanning.{HasPositions, positions_of, semicolon_of, before_list}
-use Rattle.mime.specs.KeptText.{media_of, IsKept, with_pairs_lowered, kept_text_of, kept_positions}
+use Rattle.mime.specs.Inner.Pairs.{pairs_within, lowered_within}
+use Rattle.mime.specs.Inner.Scanning.{HasPositions, positions_of, semicolon_of, before_list}
+use Rattle.mime.specs.Inner.KeptText.{media_of, IsKept, with_pairs_lowered, kept_text_of, kept_positions}
 use Rattle.mime.specs.declared.scan.Positions.{Positions}
 use Rattle.mime.proofs.BytesLemmas.{slice_get-prefix}
-use Rattle.mime.proofs.ValueLemmas.Lowercase.{length-lowered, lowered-append, lowered_tree-lowered_tree, IsWellFormed-lowered_tree, positions_of-lowered_tree}
+use Rattle.mime.proofs.LowercaseLemmas.{length-lowered, lowered-append, lowered_tree-lowered_tree, IsWellFormed-lowered_tree, positions_of-lowered_tree}
 use Rattle.mime.proofs.ValueLemmas.Utf8.{IsLoweredInPart, lowercase, in_parts}
 use Rattle.mime.proofs.ValueLemmas.Pairs.{lowered_within-in_part}
 use Rattle.mime.proofs.ValueLemmas.ListText.{pairs_within-text_of_list, lowered_within-text_of_list}

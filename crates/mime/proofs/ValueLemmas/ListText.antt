@@ -9,12 +9,12 @@ use Rattle.std.proofs.lemmas.List.{take_at, drop_at, drop-drop, drop_all}
 use Rattle.mime.specs.Bytes.{is_token_byte, semicolon_byte, equals_byte, quote_byte}
 use Rattle.mime.specs.Grammar.{Parameter, plain, quoted, Parameters, blank, final, more, text_of_list, text_of_parameter, is_space, AreSpaces, AreTokenBytes, IsToken, IsContent, AreParameters, IsParameter}
 use Rattle.mime.specs.Values.{lowered, lowered_value, lowered_parameter, lowered_list, pair_of, pairs_of_list, is_charset}
-use Rattle.mime.specs.Quoted.{content_len, content_of, after_content}
-use Rattle.mime.specs.Blocks.{before_byte, after_byte}
-use Rattle.mime.specs.Pairs.{PairCut, cut_after_equals, leading_spaces, without_spaces, cut_of, pairs_within, lowered_within, lowered_first}
+use Rattle.mime.specs.Inner.Quoted.{content_len, content_of, after_content}
+use Rattle.mime.specs.Inner.Blocks.{before_byte, after_byte}
+use Rattle.mime.specs.Inner.Pairs.{PairCut, cut_after_equals, leading_spaces, without_spaces, cut_of, pairs_within, lowered_within, lowered_first}
 use Rattle.mime.proofs.ValueLemmas.Pairs.{content_len-content, lowered_within-first, LiesIn, cut_of-lies, first_lowered, lowered_first-joined}
 use Rattle.mime.proofs.BytesLemmas.{semicolon_is_no_token, equals_is_no_token, quote_is_no_token, token_byte-not, token_byte-not_space, is_other, are_other-token, are_other-spaces, AreTokenBytes-from_token}
-use Rattle.mime.proofs.ValueLemmas.Lowercase.{lowered-append, length-lowered}
+use Rattle.mime.proofs.LowercaseLemmas.{lowered-append, length-lowered}
 use borrow.Rule.Slice.PartMut.{put_mid}
 
 -- what may follow a run: nothing, or the byte and the rest

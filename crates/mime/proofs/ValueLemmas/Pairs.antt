@@ -6,13 +6,13 @@ use Rattle.std.proofs.lemmas.List.{drop_more, drop_all, take_at, drop_at, drop-d
 use Rattle.std.proofs.lemmas.Bool.{and_parts, cond-false, eqb-true, true≢false, cond_both}
 use Rattle.mime.specs.Bytes.{quote_byte, backslash_byte, equals_byte}
 use Rattle.mime.specs.Grammar.{IsContent}
-use Rattle.mime.specs.Blocks.{first_position, before_byte, after_byte, IsEndOf}
+use Rattle.mime.specs.Inner.Blocks.{first_position, before_byte, after_byte, IsEndOf}
 use Rattle.mime.proofs.BlocksLemmas.{end_all, end_drop}
-use Rattle.mime.specs.Quoted.{awaits_next, takes, takes_all, awaits_after, len_from, content_len}
+use Rattle.mime.specs.Inner.Quoted.{awaits_next, takes, takes_all, awaits_after, len_from, content_len}
 use Rattle.mime.proofs.GrammarLemmas.Content.{taken-closes_not, content-taken, content-awaits}
 use Rattle.mime.specs.Values.{lowered, lowered_value}
-use Rattle.mime.specs.Pairs.{PairCut, cut_after_equals, leading_spaces, without_spaces, cut_of, lowered_first, lowered_within}
-use Rattle.mime.proofs.ValueLemmas.Lowercase.{lowered_value-either}
+use Rattle.mime.specs.Inner.Pairs.{PairCut, cut_after_equals, leading_spaces, without_spaces, cut_of, lowered_first, lowered_within}
+use Rattle.mime.proofs.LowercaseLemmas.{lowered_value-either}
 use Rattle.mime.proofs.ValueLemmas.Utf8.{IsLoweredInPart, same, lowercase, in_parts, length-in_part}
 
 -- ---- the length of content

@@ -8,14 +8,14 @@ use Rattle.mime.specs.Bytes.{slash_byte, plus_byte}
 use Rattle.mime.specs.Values.{lowered, last_plus, MediaType, Reads, pairs_of_tail, lowered_tree, kept_text, essence_of}
 use Rattle.mime.specs.Laws.{HasNoPlusFrom, PlusIsLast}
 use Rattle.mime.proofs.BytesLemmas.{slice_get-after, slice_get-prefix, boundary_before, boundary_after}
-use Rattle.mime.proofs.ValueLemmas.Lowercase.{length-lowered, lowered-lowered, lowered-append, lowered-take, lowered-drop, lowered_value-lowered, low_pair-parts, length-tail_lowered, pairs_of_tail-lowered}
+use Rattle.mime.proofs.LowercaseLemmas.{length-lowered, lowered-lowered, lowered-append, lowered-take, lowered-drop, lowered_value-lowered, low_pair-parts, length-tail_lowered, pairs_of_tail-lowered}
 use Rattle.mime.proofs.ValueLemmas.KeptText.{media_of-kept}
 use Rattle.std.specs.List.{AllByRecursion}
 use Rattle.std.specs.Str.{IsCharBoundary, bytes_eq}
 use Rattle.std.proofs.lemmas.Str.{IsCharBoundary-end}
-use Rattle.mime.specs.Pairs.{cut_of, pairs_within}
+use Rattle.mime.specs.Inner.Pairs.{cut_of, pairs_within}
 use Rattle.mime.specs.Items.{items_of, IsLowItem}
-use Rattle.mime.specs.KeptText.{lowered_pair, AreLowPairs, media_of, IsKept}
+use Rattle.mime.specs.Inner.KeptText.{lowered_pair, AreLowPairs, media_of, IsKept}
 use Rattle.mime.specs.Comparison.{Same}
 use Rattle.mime.specs.declared.scan.Positions.{Positions}
 use Rattle.mime.proofs.GrammarLemmas.Readings.{one_reading}

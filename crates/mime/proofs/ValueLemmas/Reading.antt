@@ -5,8 +5,8 @@ use Rattle.mime.specs.Bytes.{is_token_byte, space_byte}
 use Rattle.mime.specs.Grammar.{SyntaxTree, no_list, plain, final, Tail, listed, text_of, IsToken, IsTail}
 use Rattle.mime.specs.Values.{value_of, IsAccepted, IsRefused, lowered_tree}
 use Rattle.mime.specs.Refusals.{IsFault, Explains}
-use Rattle.mime.specs.Scanning.{HasPositions, positions_of}
-use Rattle.mime.specs.KeptText.{IsKept, kept_positions, positions_in}
+use Rattle.mime.specs.Inner.Scanning.{HasPositions, positions_of}
+use Rattle.mime.specs.Inner.KeptText.{IsKept, kept_positions, positions_in}
 use Rattle.mime.specs.declared.scan.fault.ParseError.{ParseError}
 use Rattle.mime.specs.declared.scan.fault.ParseError.TheVariants.{InvalidToken, NoMemory}
 use Rattle.mime.specs.declared.scan.Positions.{Positions}

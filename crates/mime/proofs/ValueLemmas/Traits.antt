@@ -10,12 +10,12 @@ use Rattle.std.specs.Ordering.{MatchOrdering, nat_cmp, ordering_then, is_eq, is_
 use Rattle.mime.specs.Values.{MediaType}
 use Rattle.mime.specs.Comparison.{Same, IsListBefore, IsTextBefore, IsPairBefore, Before, pair_cmp, media_cmp}
 use Rattle.mime.specs.Laws.{OneOf}
-use Rattle.mime.specs.HashInput.{same_from_cmp, pair_cmp_total, media_cmp_total}
+use Rattle.mime.specs.Inner.HashInput.{same_from_cmp, pair_cmp_total, media_cmp_total}
 use Rattle.std.specs.Prelude.{MatchOption, IfSome}
 use Rattle.std.specs.Iterator.{YieldsFirstBy, YieldsThen, ComparesItemsByEq}
 use Rattle.std.specs.List.{AllZip}
 use Rattle.std.proofs.lemmas.Bool.{true≢false}
-use Rattle.mime.proofs.IgnoringCase.{cons_parts}
+use Rattle.mime.proofs.BytesLemmas.{cons_parts}
 
 -- an order finds one thing less than another exactly where that comes before, and finds them equal exactly where they are the same
 abbrev Finds : {X : Type 0} → (X → X → Ordering) → (X → X → Type 0) → Type 0

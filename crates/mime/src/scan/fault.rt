@@ -2,7 +2,7 @@
 
 ghost use Rattle.std.specs.Prelude.{◌≡◌, IfOk, Some};
 ghost use Rattle.std.specs.Fmt.InlineText.{inline_text};
-ghost use Rattle.mime.specs.Printed.{token_text as printed_token};
+ghost use Rattle.mime.specs.Printed.{token_text};
 
 use std::error::Error;
 use std::fmt;
@@ -38,7 +38,7 @@ pub enum ParseError {
 /// The text for an invalid byte. It is written without the caller's formatter, whose width would pad each number. It
 /// has at most 69 bytes.
 fn token_text(pos: usize, byte: u8) -> Result<InlineText<80>, fmt::Error>
-    ensures { IfOk result (λ text. inline_text text ≡ printed_token pos byte) }
+    ensures { IfOk result (λ text. inline_text text ≡ token_text pos byte) }
 {
     let mut text = InlineText::new();
     write!(

@@ -1,7 +1,7 @@
 //! A reader of a text's bytes that counts those it has returned.
 
 ghost use Rattle.std.specs.Prelude.{◌≡◌, ◌+◌, ◌-◌, ◌<◌, ◌≤◌, ◌^◌, length};
-ghost use Rattle.mime.specs.Scanning.{GivesFirst};
+ghost use Rattle.mime.specs.Inner.Scanning.{GivesFirst};
 
 use std::marker::Model;
 
@@ -14,7 +14,7 @@ pub(crate) struct ByteReader<'a> {
 
 impl<'a> Model for ByteReader<'a> {
     ghost use Rattle.std.specs.Prelude.{◌-◌, ◌≤◌, length};
-    ghost use Rattle.mime.specs.ReaderState.{Remaining};
+    ghost use Rattle.mime.specs.Inner.ReaderState.{Remaining};
 
     ghost Value = { Remaining };
 

@@ -2,7 +2,7 @@
 
 ghost use Rattle.std.specs.Prelude.{◌≡◌, ◌+◌, ◌<◌, length};
 ghost use Rattle.std.specs.List.{fold, flat_map};
-ghost use Rattle.mime.specs.HashInput.{pair_run, pair_parts, pair_input, pair_end};
+ghost use Rattle.mime.specs.Inner.HashInput.{pair_run, pair_parts, pair_input, pair_end};
 
 use crate::value::pairs::Pairs;
 use std::hash::Hasher;

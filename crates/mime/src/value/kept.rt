@@ -3,12 +3,12 @@
 ghost use Rattle.std.specs.Prelude.{◌≡◌, ◌+◌, ◌++◌, ◌≤◌, ◌↔◌, IsFalse, IfOk, take, drop, length, slice_get, slice_range, string_bytes};
 ghost use Rattle.mime.specs.Bytes.{semicolon_byte};
 ghost use Rattle.mime.specs.Values.{lowered, is_charset};
-ghost use Rattle.mime.specs.Pairs.{cut_of, lowered_first, lowered_within};
-ghost use Rattle.mime.specs.Scanning.{HasPositions};
-ghost use Rattle.mime.specs.KeptText.{with_pairs_lowered, kept_positions, kept_text_of};
+ghost use Rattle.mime.specs.Inner.Pairs.{cut_of, lowered_first, lowered_within};
+ghost use Rattle.mime.specs.Inner.Scanning.{HasPositions};
+ghost use Rattle.mime.specs.Inner.KeptText.{with_pairs_lowered, kept_positions, kept_text_of};
 
 use crate::blocks::TextEnd;
-use crate::name::eq_ignoring_case;
+use crate::ignoring_case::eq_ignoring_case;
 use crate::scan::Positions;
 use crate::value::pairs::cut;
 use std::alloc::{AllocError, Global};

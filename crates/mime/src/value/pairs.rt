@@ -4,11 +4,11 @@ ghost use Rattle.std.specs.Iterator.{YieldsFirstBy, item_count, UpTo, at_most};
 ghost use Rattle.std.specs.Iterator.SizeHint.{IsWithinCount};
 ghost use Rattle.std.specs.Prelude.{◌≡◌, ◌≤◌, IsTrue, length, slice_get, IfSome, Some};
 ghost use Rattle.std.specs.Str.{IsCharBoundary};
-ghost use Rattle.mime.specs.Blocks.{after_byte, first_position};
-ghost use Rattle.mime.specs.Pairs.{cut_of, leading_spaces as spaces, cut_after_equals, pairs_after, pair_seen};
+ghost use Rattle.mime.specs.Inner.Blocks.{after_byte, first_position};
+ghost use Rattle.mime.specs.Inner.Pairs.{cut_of, leading_spaces, cut_after_equals, pairs_after, pair_seen};
 ghost use Rattle.mime.specs.Bytes.{quote_byte, semicolon_byte};
-ghost use Rattle.mime.specs.ComparedText.{IsLoneCharset};
-ghost use Rattle.mime.specs.Quoted.{content_len as len_of};
+ghost use Rattle.mime.specs.Inner.ComparedText.{IsLoneCharset};
+ghost use Rattle.mime.specs.Inner.Quoted.{content_len};
 
 use crate::blocks::TextEnd;
 use crate::bytes::is_space;
@@ -30,7 +30,7 @@ pub(crate) struct Pair<'a> {
 #[inline(always)]
 fn content_len(text: &[u8], quote: usize) -> usize
     requires { quote ≡ first_position quote_byte text.now }
-    ensures { result ≡ len_of text.now }
+    ensures { result ≡ content_len text.now }
 {
     if quote == 0 || text[quote - 1] != b'\\' {
         // No backslash precedes it, so nothing pairs it.
@@ -52,8 +52,8 @@ fn content_len(text: &[u8], quote: usize) -> usize
 
 /// The number of spaces and tabs with which the list begins.
 #[inline(always)]
-pub(crate) fn leading_spaces(list: &str) -> usize
-    ensures count { result ≡ spaces list.now }
+fn leading_spaces(list: &str) -> usize
+    ensures count { result ≡ leading_spaces list.now }
     ensures border { IsCharBoundary list.now result }
 {
     let bytes = list.as_bytes();
@@ -119,7 +119,7 @@ fn cut_value<'a>(list: usize, name: &'a str, end: &TextEnd<'a>) -> Pair<'a>
 }
 
 /// Cuts the first pair off a list.
-#[tactic(auto, unfolding(crate::specs::Pairs::cut_of))]
+#[tactic(auto, unfolding(crate::specs::Inner::Pairs::cut_of))]
 #[inline(always)]
 pub(crate) fn cut<'a>(list: &TextEnd<'a>) -> Pair<'a>
     ensures name { result.name.now ≡ (cut_of list.now).name }
@@ -143,7 +143,7 @@ pub(crate) struct Pairs<'a> {
 
 impl<'a> Model for Pairs<'a> {
     ghost use Rattle.std.specs.Prelude.{List, ℕ};
-    ghost use Rattle.mime.specs.Pairs.{pairs_within};
+    ghost use Rattle.mime.specs.Inner.Pairs.{pairs_within};
 
     ghost Value = { List (List ℕ × List ℕ) };
 

@@ -5,8 +5,7 @@ ghost use Rattle.std.specs.Cmp.{partial_equiv_from_equiv, partial_order_from_tot
 ghost use Rattle.std.specs.Fmt.{debug_str, styled_text};
 ghost use Rattle.std.specs.Ordering.{eq_by_cmp, on, as_partial_cmp};
 ghost use Rattle.mime.specs.Comparison.{Same, IsOrderOf, media_cmp};
-ghost use Rattle.mime.specs.HashInput.{media_input};
-ghost use Rattle.mime.specs.HashInput.{media_cmp_total, same_from_cmp, media_input-same};
+ghost use Rattle.mime.specs.Inner.HashInput.{media_input, media_cmp_total, same_from_cmp, media_input-same};
 
 use crate::value::hashing::feed_pairs;
 use crate::value::{Mime, Text};

@@ -1,6 +1,6 @@
 -- What was passed is not the byte, and what is left is an end of the text.
 use Rattle.std.proofs.Common.{◌≡◌, ◌+◌, ◌-◌, length}
-use Rattle.mime.specs.Blocks.{IsEndOf, first_position}
+use Rattle.mime.specs.Inner.Blocks.{IsEndOf, first_position}
 use Rattle.mime.proofs.blocks.position_by_blocks.Given as goal
 
 abbrev pub invariant-loop-left : goal.invariant-loop-left

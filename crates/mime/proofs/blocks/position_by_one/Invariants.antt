@@ -1,6 +1,6 @@
 -- What is left has the first position where the whole does.
 use Rattle.std.proofs.Common.{◌≡◌, ◌+◌, ◌-◌, length, drop}
-use Rattle.mime.specs.Blocks.{first_position}
+use Rattle.mime.specs.Inner.Blocks.{first_position}
 use Rattle.mime.proofs.blocks.position_by_one.Given as goal
 
 abbrev pub invariant-loop-position : goal.invariant-loop-position

@@ -1,6 +1,6 @@
 -- A text is equal to the value where it has the value's essence and its pairs, and is accepted.
 use Rattle.std.proofs.Common.{true≢false, sym, ◌∙◌}
-use Rattle.mime.proofs.CompareLemmas.{text_is-by_parts, accepted_at-case}
+use Rattle.mime.proofs.CompareLemmas.Parts.{text_is-by_parts, accepted_at-case}
 use Rattle.mime.proofs.compare.eq_by_parts.Goals as goal
 
 pub returns-then-not-is_list_after : goal.returns-then-not-is_list_after

@@ -1,9 +1,9 @@
 -- A text that differs in the value isn't the value; one that is equal ignoring ASCII case is, where all of it ignores case.
 use Rattle.std.proofs.Common.{◌∙◌, sym, ap, refl, subst}
 use Rattle.mime.specs.Values.{lowered}
-use Rattle.mime.specs.ComparedText.{IsLoneCharset}
-use Rattle.mime.proofs.FirstDifference.{text_is-different_values}
-use Rattle.mime.proofs.CompareLemmas.{text_is-lone_charset}
+use Rattle.mime.specs.Inner.ComparedText.{IsLoneCharset}
+use Rattle.mime.proofs.CompareLemmas.FirstDifference.{text_is-different_values}
+use Rattle.mime.proofs.CompareLemmas.Parts.{text_is-lone_charset}
 use Rattle.mime.proofs.compare.eq_otherwise.Goals as goal
 
 pub returns-in-Different : goal.returns-in-Different

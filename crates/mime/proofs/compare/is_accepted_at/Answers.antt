@@ -1,7 +1,7 @@
 -- The scanner finds the positions of an accepted text, and a text has one of each.
 use Rattle.std.proofs.Common.{◌≢◌, ℕ, List, ◌∙◌, refl, ap, subst}
 use Rattle.mime.specs.Values.{IsRefused}
-use Rattle.mime.specs.Scanning.{HasPositions, Judges}
+use Rattle.mime.specs.Inner.Scanning.{HasPositions, Judges}
 use Rattle.mime.specs.declared.scan.Positions.{Positions}
 use Rattle.mime.specs.declared.scan.Verdict.{Verdict}
 use Rattle.mime.specs.declared.scan.Verdict.TheVariants.{Accepted, Unfinished, Stopped}

@@ -1,7 +1,7 @@
 -- Without parameters case alone may differ; the kept text is the value.
 use Rattle.std.proofs.Common.{◌∙◌, sym, rules}
 use Rattle.std.proofs.lemmas.List.{nil_from_length}
-use Rattle.mime.proofs.CompareLemmas.{text_is-kept_case}
+use Rattle.mime.proofs.CompareLemmas.Parts.{text_is-kept_case}
 use Rattle.mime.proofs.compare.mime_eq_str.Goals as goal
 
 pub returns-then-param_count-eq0 : goal.returns-then-param_count-eq0

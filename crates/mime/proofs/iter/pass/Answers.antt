@@ -1,6 +1,6 @@
 -- The scanner's verdict says how a text begins.
 use Rattle.std.proofs.Common.{◌∙◌, take, ap, arith}
-use Rattle.mime.proofs.PieceLemmas.{judged-from_scan, stopped-boundary, passes-whole, passes-unfinished, passes-stopped}
+use Rattle.mime.proofs.CutLemmas.Pieces.{judged-from_scan, stopped-boundary, passes-whole, passes-unfinished, passes-stopped}
 use Rattle.mime.proofs.iter.pass.Goals as goal
 
 pub range-requires-clause-end_boundary : goal.range-requires-clause-end_boundary

@@ -1,4 +1,4 @@
-use Rattle.mime.proofs.Containment.{cut_writes_text}
+use Rattle.mime.proofs.CutLemmas.Containment.{cut_writes_text}
 use Rattle.mime.proofs.laws.cut_writes_text.Goals as goal
 
 pub returns : goal.returns

@@ -1,5 +1,5 @@
 -- The first difference that reaches the value decides.
-use Rattle.mime.proofs.FirstDifference.{different_values}
+use Rattle.mime.proofs.CompareLemmas.FirstDifference.{different_values}
 use Rattle.mime.proofs.laws.first_difference_decides.Goals as goal
 
 pub returns : goal.returns

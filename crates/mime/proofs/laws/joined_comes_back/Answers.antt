@@ -1,4 +1,4 @@
-use Rattle.mime.proofs.Containment.{joined_comes_back}
+use Rattle.mime.proofs.CutLemmas.Containment.{joined_comes_back}
 use Rattle.mime.proofs.laws.joined_comes_back.Goals as goal
 
 pub returns : goal.returns

@@ -1,4 +1,4 @@
-use Rattle.mime.proofs.Containment.{one_cut}
+use Rattle.mime.proofs.CutLemmas.Containment.{one_cut}
 use Rattle.mime.proofs.laws.one_cut.Goals as goal
 
 pub returns : goal.returns

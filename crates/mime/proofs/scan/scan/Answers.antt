@@ -4,7 +4,7 @@ use Rattle.std.proofs.lemmas.Bool.{cond-true, cond-false}
 use Rattle.mime.specs.Bytes.{slash_byte, semicolon_byte}
 use Rattle.mime.specs.Values.{last_plus}
 use Rattle.mime.specs.declared.scan.Positions.{Positions}
-use Rattle.mime.specs.Scanning.{positions_of, before_list}
+use Rattle.mime.specs.Inner.Scanning.{positions_of, before_list}
 use Rattle.mime.proofs.GrammarLemmas.Begun.{in_type, in_subtype}
 use Rattle.mime.proofs.ScanLemmas.Passing.{given_sum}
 use Rattle.mime.proofs.ScanLemmas.Verdicts.{Reaches, reaches_run, reaches_byte, scans_at}

@@ -1,6 +1,6 @@
 -- The lowest bit is the first position.
 use Rattle.std.proofs.Common.{◌∙◌, ap, sym, arith}
-use Rattle.mime.specs.Blocks.{first_position}
+use Rattle.mime.specs.Inner.Blocks.{first_position}
 use Rattle.mime.proofs.BlocksLemmas.{position-flagged}
 use lib.Count.{count_trailing_zeros}
 use Rattle.mime.proofs.blocks.TextEnd.position_of.Goals as goal

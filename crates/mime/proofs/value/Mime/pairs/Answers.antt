@@ -1,8 +1,8 @@
 -- The list begins after the semicolon, and its pairs are low.
 use Rattle.std.proofs.Common.{ap, ◌∙◌, subst}
 use Rattle.mime.specs.Values.{OwnedMedia}
-use Rattle.mime.specs.KeptText.{AreLowPairs}
-use Rattle.mime.specs.Pairs.{pairs_after}
+use Rattle.mime.specs.Inner.KeptText.{AreLowPairs}
+use Rattle.mime.specs.Inner.Pairs.{pairs_after}
 use Rattle.mime.proofs.ValueLemmas.KeptText.{reads-from_kept}
 use Rattle.mime.proofs.ValueLemmas.Parts.{read-low_pairs}
 use Rattle.mime.proofs.value.Mime.pairs.Goals as goal

@@ -1,7 +1,7 @@
 -- What the pairs that are left feed makes the whole.
 use Rattle.std.proofs.Common.{◌≡◌}
 use Rattle.std.specs.List.{fold, flat_map}
-use Rattle.mime.specs.HashInput.{pair_input}
+use Rattle.mime.specs.Inner.HashInput.{pair_input}
 use Rattle.mime.proofs.value.hashing.feed_pairs.Given as goal
 
 abbrev pub invariant-loop-name : goal.invariant-loop-name

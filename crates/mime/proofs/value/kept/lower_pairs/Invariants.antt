@@ -1,6 +1,6 @@
 -- The pairs so far are lowercased, and the remaining list follows them.
 use Rattle.std.proofs.Common.{◌-◌}
-use Rattle.mime.specs.Pairs.{lowered_within}
+use Rattle.mime.specs.Inner.Pairs.{lowered_within}
 use Rattle.mime.proofs.ValueLemmas.ListText.{IsLoweredTo}
 use Rattle.mime.proofs.value.kept.lower_pairs.Given as goal
 

@@ -1,6 +1,6 @@
 -- What is left ends where the whole does.
 use Rattle.std.proofs.Common.{◌≡◌, ◌+◌, ◌-◌, false, length, drop}
-use Rattle.mime.specs.Quoted.{content_len as len_of, len_from}
+use Rattle.mime.specs.Inner.Quoted.{content_len as len_of, len_from}
 use Rattle.mime.proofs.value.pairs.content_len.Given as goal
 
 abbrev pub invariant-loop-position : goal.invariant-loop-position

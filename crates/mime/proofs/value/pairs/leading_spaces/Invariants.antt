@@ -1,7 +1,7 @@
 -- The bytes so far are spaces, and the list may be cut after them.
 use Rattle.std.proofs.Common.{◌≡◌, ◌+◌, ◌-◌, length, drop}
 use Rattle.std.specs.Str.{IsCharBoundary}
-use Rattle.mime.specs.Pairs.{leading_spaces}
+use Rattle.mime.specs.Inner.Pairs.{leading_spaces}
 use Rattle.mime.proofs.value.pairs.leading_spaces.Given as goal
 
 abbrev pub invariant-loop-count : goal.invariant-loop-count

@@ -6,7 +6,7 @@ use Rattle.std.specs.Prelude.{◌&&◌}
 use Rattle.std.specs.Str.{bytes_eq}
 use Rattle.std.proofs.lemmas.Bool.Decides.{Decides-and}
 use Rattle.std.proofs.lemmas.Slice.Eq.{bytes_eq-Decides}
-use Rattle.mime.specs.Pairs.{pair_seen}
+use Rattle.mime.specs.Inner.Pairs.{pair_seen}
 use Rattle.mime.proofs.ValueLemmas.Traits.{same_items}
 use Rattle.mime.proofs.value.traits.same_parts.Goals as goal
 

@@ -1,0 +1,228 @@
+-- A text against a value: what a text has that is equal to the value, and what suffices.
+use Rattle.std.proofs.Common.{◌≡◌, ℕ, ◌+◌, true, arith, List, [], ◌∷◌, ◌++◌, length, take, drop, Some, map, refl, sym, ap, ◌∙◌, subst, ◌↔◌, append-nil}
+use Rattle.std.specs.Prelude.{◌≢◌, ◌==◌, not, codes}
+use Rattle.std.proofs.lemmas.Bool.{cond_both}
+use Rattle.std.proofs.lemmas.Bool.Decides.{nat_tests}
+use Rattle.std.proofs.lemmas.List.{nil_from_length, take-append-drop}
+use Rattle.std.proofs.lemmas.Option.{same_Some}
+use Rattle.std.specs.List.{list_all}
+use Rattle.std.proofs.lemmas.List.Folds.{list_all-append}
+use Rattle.mime.specs.Bytes.{slash_byte, semicolon_byte, quote_byte}
+use Rattle.mime.specs.Grammar.{Tail, no_list, listed, SyntaxTree, text_of, text_of_tail, text_of_list, IsToken, IsWellFormed}
+use Rattle.mime.specs.Values.{MediaType, Reads, value_of, essence_of, lowered, lowered_tail, pairs_of_list, pairs_of_tail, is_charset}
+use Rattle.mime.specs.Comparison.{TextIs, HasNoSemicolon}
+use Rattle.mime.specs.Inner.Pairs.{PairCut, cut_after_equals, cut_of, pairs_within}
+use Rattle.mime.specs.Inner.Scanning.{positions_of, semicolon_of}
+use Rattle.mime.specs.Inner.KeptText.{lowered_pair}
+use Rattle.mime.specs.Inner.ComparedText.{IsListAfter, IsAcceptedAt, IsLoneCharset}
+use Rattle.mime.specs.declared.scan.Positions.{Positions}
+use Rattle.mime.proofs.BytesLemmas.{list_all-parts, AreTokenBytes-from_token, are_other-token, semicolon_is_no_token}
+use Rattle.mime.proofs.ValueLemmas.Parts.{kept-essence, read-low_essence}
+use Rattle.mime.proofs.ValueLemmas.KeptText.{text_of-essence, take-essence, length-essence_of, slice_get-semicolon, kept_is_read, pairs_within-text_of}
+use Rattle.mime.proofs.LowercaseLemmas.{lowered-append, length-lowered, length-tail_lowered, pairs_of_tail-lowered, list_all-lowered}
+use Rattle.mime.proofs.GrammarLemmas.Readings.{one_reading}
+use Rattle.mime.proofs.CompareLemmas.OtherCase.{case_read, case_read-count, case_read-lone_charset}
+
+-- ---- what an accepted text with parameters is read as
+
+-- a value's essence is its tree's, lowercased
+pub essence-lowered : (tree : SyntaxTree) → (value_of tree).essence ≡ lowered (essence_of tree)
+essence-lowered tree = sym (lowered-append tree.top (slash_byte ∷ tree.sub))
+
+-- a value's essence is as long as its tree's
+length-value_essence : (tree : SyntaxTree) → length (value_of tree).essence ≡ length tree.top + 1 + length tree.sub
+length-value_essence tree = ap length (essence-lowered tree) ∙ length-lowered (essence_of tree) ∙ length-essence_of tree
+
+-- the value of an accepted text that has a semicolon, by its positions
+record ReadAt (text : List ℕ) (end count : ℕ) : Type 0 where
+  value : MediaType
+  reads : Reads text value
+  essence : value.essence ≡ lowered (take end text)
+  pairs : value.pairs ≡ map lowered_pair (pairs_within count (drop (end + 1) text))
+
+-- of the text of a tree
+read_at-tree : (top sub : List ℕ) (tail : Tail) → let tree : SyntaxTree = record { top = top; sub = sub; tail = tail } in IsWellFormed tree
+    → (end : ℕ) → semicolon_of (length top + 1 + length sub) tail ≡ Some end → ReadAt (text_of tree) end (length (pairs_of_tail tail))
+read_at-tree top sub no_list well end at = absurd cc
+read_at-tree top sub (listed list) well end at =
+    let tree : SyntaxTree = record { top = top; sub = sub; tail = listed list } in
+    subst (λ n. ReadAt (text_of tree) n (length (pairs_of_list list))) (same_Some (length top + 1 + length sub) end at) (record {
+      value = value_of tree;
+      reads = record { tree = tree; well_formed = well; spelled = refl; valued = refl };
+      essence = essence-lowered tree ∙ ap lowered (sym (take-essence tree));
+      pairs = pairs_of_tail-lowered (listed list) ∙ ap (map lowered_pair) (sym (pairs_within-text_of top sub list well.2));
+    })
+
+-- of every such text
+read_at : (text : List ℕ) (end count : ℕ) → IsAcceptedAt text end count → ReadAt text end count
+read_at text end count is =
+    let tree = is.has.tree in
+    let counted = ap (λ (p : Positions). p.pair_count) is.has.same_positions ∙ is.counted in
+    subst (λ t. ReadAt t end count) is.has.spelled (subst (ReadAt (text_of tree) end) counted
+    (read_at-tree tree.top tree.sub tree.tail is.has.well_formed end (ap (λ (p : Positions). p.semicolon) is.has.same_positions ∙ is.at)))
+
+-- a text that is read as a value with pairs is accepted so
+accepted_at : (text : List ℕ) (value : MediaType) → Reads text value → value.pairs ≢ []
+    → IsAcceptedAt text (length value.essence) (length value.pairs)
+accepted_at text value reads some =
+    let tree = reads.tree in
+    record {
+      positions = positions_of tree;
+      has = record { tree = tree; well_formed = reads.well_formed; spelled = reads.spelled; same_positions = refl };
+      at = listed_at _ tree.tail (ap (λ (v : MediaType). v.pairs) reads.valued)
+          ∙ ap Some (sym (length-value_essence tree) ∙ ap (λ (v : MediaType). length v.essence) reads.valued);
+      counted = sym (length-tail_lowered tree.tail) ∙ ap (λ (v : MediaType). length v.pairs) reads.valued;
+    }
+  where
+    listed_at : (n : ℕ) (tail : Tail) → pairs_of_tail (lowered_tail tail) ≡ value.pairs → semicolon_of n tail ≡ Some n
+    listed_at n no_list is = absurd (some (sym is))
+    listed_at n (listed list) is = refl
+
+-- the same position and the same number, written in another way
+IsAcceptedAt-same : (text : List ℕ) {end also count number : ℕ} → end ≡ also → count ≡ number → IsAcceptedAt text end count
+    → IsAcceptedAt text also number
+IsAcceptedAt-same text {end} {also} {count} {number} ends counts is =
+    subst (λ n. IsAcceptedAt text n number) ends (subst (IsAcceptedAt text end) counts is)
+
+-- ---- a text against a value with pairs
+
+-- what a text has that is equal to a value with pairs
+pub record TextParts (value : MediaType) (text : List ℕ) : Type 0 where
+  pub list : IsListAfter value.essence text
+  pub pairs : value.pairs ≡ map lowered_pair (pairs_within (length value.pairs) (drop (length value.essence + 1) text))
+  pub accepted : IsAcceptedAt text (length value.essence) (length value.pairs)
+
+-- a text is equal to a value with pairs exactly where it has these parts
+pub text_is-by_parts : (kept text : List ℕ) (value : MediaType) → Reads kept value → value.pairs ≢ []
+    → TextIs value text ↔ TextParts value text
+text_is-by_parts kept text value reads some =
+    let low = read-low_essence kept value reads in (
+      λ is.
+          let at : IsAcceptedAt text (length value.essence) (length value.pairs) =
+          IsAcceptedAt-same text (ap length (sym is.same.0)) (ap length (sym is.same.1))
+          (accepted_at text is.read is.reads (λ none. some (is.same.1 ∙ none))) in
+          let read = read_at text (length value.essence) (length value.pairs) at in
+          let one : is.read ≡ read.value = one_reading text is.read read.value is.reads read.reads in
+          record {
+            list = (
+              slice_get-semicolon text at.positions (length value.essence) at.has at.at,
+              low ∙ is.same.0 ∙ ap (λ (v : MediaType). v.essence) one ∙ read.essence,
+            );
+            pairs = is.same.1 ∙ ap (λ (v : MediaType). v.pairs) one ∙ read.pairs;
+            accepted = at;
+          },
+      λ parts.
+          let read = read_at text (length value.essence) (length value.pairs) parts.accepted in
+          record {
+            read = read.value;
+            reads = read.reads;
+            same = (sym low ∙ parts.list.1 ∙ sym read.essence, parts.pairs ∙ sym read.pairs);
+            bare = λ none. absurd (some none);
+          },
+    )
+
+-- the kept text in another case is accepted as it is
+pub accepted_at-case : (kept text : List ℕ) (value : MediaType) → Reads kept value → value.pairs ≢ [] → lowered kept ≡ lowered text
+    → IsAcceptedAt text (length value.essence) (length value.pairs)
+accepted_at-case kept text value reads some is =
+    let found = case_read text kept value reads (sym is) in
+    let counted = case_read-count text value found in
+    IsAcceptedAt-same text (ap length (sym found.essence)) (sym counted)
+    (accepted_at text found.read found.reads (λ none. some (nil_from_length value.pairs (counted ∙ ap length none))))
+
+-- a kept text in another case is equal to the value, where the only parameter is a charset
+pub text_is-lone_charset : (kept text : List ℕ) (value : MediaType) → Reads kept value → value.pairs ≢ [] → lowered kept ≡ lowered text
+    → IsLoneCharset value.pairs → TextIs value text
+text_is-lone_charset kept text value reads some is lone =
+    let found = case_read text kept value reads (sym is) in
+    record {
+      read = found.read;
+      reads = found.reads;
+      same = case_read-lone_charset text kept value found reads lone;
+      bare = λ none. absurd (some none);
+    }
+
+-- ---- a lone charset
+
+-- the name of a pair that is cut out
+cut_value-name : (whole : ℕ) (name bytes : List ℕ) → (cut_after_equals whole name bytes).name ≡ name
+cut_value-name whole name [] = refl
+cut_value-name whole name (b ∷ bytes) =
+    cond_both (b == quote_byte) _ _ (λ (cut : PairCut). cut.name ≡ name) (λ _. refl) (λ _. refl)
+
+-- the first name of a list that begins with ` charset=`
+cut_of-charset : (after : List ℕ) → (cut_of (codes " charset=" ++ after)).name ≡ codes "charset"
+unfolding cut_of
+cut_of-charset after = cut_value-name (length (codes " charset=" ++ after)) (codes "charset") after
+
+-- the only pair of such a list is a charset
+pub lone_charset : (list : List ℕ) → take 9 list ≡ codes " charset=" → IsLoneCharset (pairs_within 1 list)
+lone_charset list is =
+    let whole : list ≡ codes " charset=" ++ drop 9 list = sym (take-append-drop 9 list) ∙ ap (λ prefix. prefix ++ drop 9 list) is in
+    let name = ap (λ l. (cut_of l).name) whole ∙ cut_of-charset (drop 9 list) in
+    ((cut_of list).name, (cut_of list).value, refl, subst (λ n. is_charset n ≡ true) (sym name) refl)
+
+-- ---- a text against a value without pairs
+
+-- the essence of a tree has no semicolon
+bare_essence : (top sub : List ℕ) → IsToken top → IsToken sub → HasNoSemicolon (top ++ (slash_byte ∷ sub))
+bare_essence top sub token sub_token =
+    list_all-append (λ b. not (b == semicolon_byte)) top (slash_byte ∷ sub)
+    ∙ cc (
+      are_other-token semicolon_byte semicolon_is_no_token top (AreTokenBytes-from_token top token),
+      are_other-token semicolon_byte semicolon_is_no_token sub (AreTokenBytes-from_token sub sub_token),
+    )
+
+-- lowercasing keeps semicolons
+HasNoSemicolon-lowered : (text : List ℕ)
+    → list_all (λ b. not (b == semicolon_byte)) (lowered text) ≡ list_all (λ b. not (b == semicolon_byte)) text
+HasNoSemicolon-lowered = list_all-lowered (λ b. not (b == semicolon_byte)) (λ b. grind (arith, nat_tests))
+
+-- an accepted text without a semicolon is an essence
+text_of-bare : (tree : SyntaxTree) → HasNoSemicolon (text_of tree) → text_of tree ≡ essence_of tree
+text_of-bare tree bare = go tree.tail (subst HasNoSemicolon (text_of-essence tree) bare)
+  where
+    go : (tail : Tail) → HasNoSemicolon (essence_of tree ++ text_of_tail tail)
+        → tree.top ++ (slash_byte ∷ (tree.sub ++ text_of_tail tail)) ≡ essence_of tree
+    go no_list none = ap (λ x. tree.top ++ (slash_byte ∷ x)) (append-nil tree.sub)
+    go (listed list) none =
+        absurd (let parts = list_all-parts _ (essence_of tree) (semicolon_byte ∷ text_of_list list) none in cc)
+
+-- a text that, lowercased, is the essence of a value without pairs is equal to the value
+pub text_is-from_lowered : (text kept : List ℕ) (value : MediaType) → Reads kept value → value.pairs ≡ [] → lowered text ≡ value.essence
+    → TextIs value text
+text_is-from_lowered text kept value reads none is =
+    let low = read-low_essence kept value reads in
+    let same = sym (kept-essence value kept reads (ap length none)) in
+    let found = case_read text value.kept value (kept_is_read kept value reads) (is ∙ sym low ∙ ap lowered same) in
+    let tree = reads.tree in
+    let essence : lowered (essence_of tree) ≡ value.essence = sym (essence-lowered tree) ∙ ap (λ (v : MediaType). v.essence) reads.valued in
+    let bare = bare_essence tree.top tree.sub reads.well_formed.0 reads.well_formed.1 in
+    record {
+      read = found.read;
+      reads = found.reads;
+      same = (found.essence, none ∙ sym (nil_from_length found.read.pairs (sym (case_read-count text value found) ∙ ap length none)));
+      bare = λ _. sym (HasNoSemicolon-lowered text) ∙ ap (list_all _) (is ∙ sym essence) ∙ HasNoSemicolon-lowered (essence_of tree) ∙ bare;
+    }
+
+-- a text is equal to a value without pairs exactly where, lowercased, it is the kept text
+pub text_is-bare : (kept : List ℕ) (value : MediaType) → Reads kept value → value.pairs ≡ []
+    → (text : List ℕ) → TextIs value text ↔ (lowered text ≡ value.kept)
+text_is-bare kept value reads none text =
+    subst (λ whole. TextIs value text ↔ (lowered text ≡ whole)) (sym (kept-essence value kept reads (ap length none))) (
+      λ is.
+          let tree = is.reads.tree in
+          let spelled = is.reads.spelled in
+          ap lowered (sym spelled ∙ text_of-bare tree (subst HasNoSemicolon (sym spelled) (is.bare none)))
+          ∙ sym (essence-lowered tree) ∙ ap (λ (v : MediaType). v.essence) is.reads.valued ∙ sym is.same.0,
+      λ low. text_is-from_lowered text kept value reads none low,
+    )
+
+-- a text is a value without parameters exactly where it is the kept text ignoring ASCII case
+pub text_is-kept_case : (kept text : List ℕ) (value : MediaType) → Reads kept value → kept ≡ value.kept → value.pairs ≡ []
+    → TextIs value text ↔ (lowered kept ≡ lowered text)
+text_is-kept_case kept text value reads is none =
+    let told = text_is-bare kept value reads none text in
+    let essence = is ∙ kept-essence value kept reads (ap length none) in
+    let low : lowered kept ≡ value.kept = ap lowered essence ∙ read-low_essence kept value reads ∙ sym essence ∙ is in
+    (λ at. low ∙ sym (told.0 at), λ at. told.1 (sym at ∙ low))

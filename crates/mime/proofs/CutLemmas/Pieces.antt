@@ -1,0 +1,183 @@
+-- How a text begins: its first character, and its first piece.
+use Rattle.std.proofs.Common.{◌≡◌, ◌≢◌, ℕ, zero, suc, ◌+◌, ◌-◌, ◌<◌, ◌≤◌, false, List, [], ◌∷◌, ◌++◌, length, take, drop, Option, Some, None, MatchOption, refl, sym, ap, ◌∙◌, subst, arith, ⊎_elim, length-drop}
+use Rattle.std.proofs.lemmas.Bool.{cases_Bool}
+use Rattle.std.proofs.lemmas.Bool.Decides.{nat_tests}
+use Rattle.std.proofs.lemmas.List.{take-append-drop, length-take-le, drop-drop, get_or-drop}
+use Rattle.std.proofs.lemmas.Option.{slice_get_within}
+use Rattle.std.proofs.lemmas.Str.{IsCharBoundary-from_rest}
+use Rattle.std.specs.Prelude.{IsTrue, IsFalse, ◌&&◌}
+use Rattle.std.specs.List.{list_all}
+use Rattle.std.specs.Str.{IsUtf8, IsCharBoundary}
+use Rattle.mime.specs.Values.{IsAccepted, IsRefused}
+use Rattle.mime.specs.Refusals.{IsViable, IsLongestPrefix, IsDeadAt}
+use Rattle.mime.specs.Cut.{is_following_byte, BeginsCharacter, IsCharacter, IsSplit, CutItem, good, bad, ItemsOf, is_read, is_refused, is_empty, Cut, whole, unfinished, goes_on, TakesSteps}
+use Rattle.mime.specs.Inner.ReaderState.{Remaining}
+use Rattle.mime.specs.Inner.Scanning.{HasPositions, Judges, Scans}
+use Rattle.mime.specs.Inner.BetweenCalls.{IsUnderWay, IsFirstPiece, PassesPiece}
+use Rattle.mime.specs.declared.scan.fault.ParseError.{ParseError}
+use Rattle.mime.specs.declared.scan.Positions.{Positions}
+use Rattle.mime.specs.declared.scan.Verdict.{Verdict}
+use Rattle.mime.specs.declared.scan.Verdict.TheVariants.{Accepted, Unfinished, Stopped}
+use Rattle.mime.proofs.GrammarLemmas.Characters.{following-low, prefix_ends_between_characters}
+use Rattle.mime.proofs.CutLemmas.Cuts.{empty-refused, empty-cut, split-size, cut_unique, takes-split, takes-viable, takes-empty}
+use Rattle.mime.proofs.ValueLemmas.Reading.{accepted-from_positions, refused-from_fault}
+use Rattle.mime.proofs.GrammarLemmas.Viability.{accepted_is_viable}
+
+-- ---- the first character of a text
+
+-- what comes after the first character of a text
+abbrev IsAfterCharacter : List ℕ → List ℕ → Type 0
+IsAfterCharacter text left = (character : List ℕ) × (text ≡ character ++ left) × IsCharacter character left
+
+-- a byte that follows is none before which a text may be cut
+not_following : (b : ℕ) (bytes : List ℕ) → IsCharBoundary (b ∷ bytes) 0 → IsFalse (is_following_byte b)
+not_following b bytes border =
+    ⊎_elim (λ follows. let low = following-low b follows in absurd (omega (arith, border.1 (omega arith) low.0, low.1))) (λ is. is)
+    (cases_Bool (is_following_byte b))
+
+-- up to the first position where a text may be cut all bytes follow
+follow_to : (bytes : List ℕ) (n : ℕ) → IsCharBoundary bytes n → ((j : ℕ) → j < n → ¬ (IsCharBoundary bytes j))
+    → IsTrue (list_all is_following_byte (take n bytes)) × BeginsCharacter (drop n bytes)
+follow_to [] zero border none = (refl, tt)
+follow_to [] (suc n) border none = (refl, tt)
+follow_to (b ∷ bytes) zero border none = (refl, not_following b bytes border)
+follow_to (b ∷ bytes) (suc n) border none =
+    let rest = follow_to bytes n (omega (arith, border.0), λ within high. border.1 (omega (arith, within)) high)
+    (λ j before cut. none (suc j) (omega (arith, before)) (omega (arith, cut.0), λ within high. cut.1 (omega (arith, within)) high)) in
+    (ap (λ x. x && list_all is_following_byte (take n bytes)) (follows b bytes (none 0 (omega arith))) ∙ rest.0, rest.1)
+  where
+    follows : (b : ℕ) (bytes : List ℕ) → ¬ (IsCharBoundary (b ∷ bytes) 0) → IsTrue (is_following_byte b)
+    follows b bytes none =
+        ⊎_elim (λ is. is) (λ isnt. absurd (none (omega arith, λ within high. grind (arith, nat_tests, isnt, high))))
+        (cases_Bool (is_following_byte b))
+
+-- from the first position after a text's first byte where it may be cut on, it is what comes after its first character
+after_character : (text : List ℕ) (at : ℕ) → 0 < length text → 1 ≤ at → IsCharBoundary text at
+    → ((i : ℕ) → 1 ≤ i → i < at → ¬ (IsCharBoundary text i)) → IsAfterCharacter text (drop at text)
+after_character [] at some past border none = absurd (omega arith)
+after_character (b ∷ bytes) zero some past border none = absurd (omega arith)
+after_character (b ∷ bytes) (suc n) some past border none = (
+  b ∷ take n bytes,
+  ap (λ t. b ∷ t) (sym (take-append-drop n bytes)),
+  follow_to bytes n (omega (arith, border.0), λ within high. border.1 (omega (arith, within)) high)
+      (λ j before cut. none (suc j) (omega arith) (omega (arith, before)) (omega (arith, cut.0), λ within high. cut.1 (omega (arith, within)) high)),
+)
+
+-- ---- the first piece of a text
+
+-- what the scanner found in a text that a reader counted on from somewhere
+pub judged-from_scan : (old new : Remaining) (text : List ℕ) (from steps : ℕ) (verdict : Verdict) → Scans old new verdict
+    → old.left ≡ text → old.count ≡ from → steps ≡ new.count → Judges text (steps - from) verdict
+judged-from_scan old new text from steps verdict scans left begin end = rw (left, begin, sym end) at scans.judged
+
+-- where it stopped the text may be cut, and isn't at its end
+pub stopped-boundary : (text : List ℕ) (steps at byte : ℕ) (positions : Option Positions) → IsUtf8 text
+    → Judges text steps (Stopped byte positions) → at ≡ steps - 1 → IsCharBoundary text at × (0 < length (drop at text))
+stopped-boundary text steps at byte positions utf8 (some, dead, before) is_at = (
+  rw is_at (prefix_ends_between_characters text (steps - 1) utf8 dead.prefix),
+  omega (arith, length-drop at text, is_at, slice_get_within text (steps - 1) byte dead.there),
+)
+
+-- a text that was read to its end
+under_way-viable : (text : List ℕ) → IsViable text → IsUnderWay text [] false (length text)
+under_way-viable text viable = record {
+  few = omega arith;
+  exact = λ fed n takes.
+      let none : n ≡ 0 = takes-empty n takes in
+      subst (TakesSteps text) (omega (arith, none)) (takes-viable text viable);
+}
+
+-- an accepted text is its first piece
+pub passes-whole : (text : List ℕ) (positions : Positions) (steps : ℕ) → Judges text steps (Accepted positions)
+    → PassesPiece text text (Some positions) [] steps
+passes-whole text positions steps (is, has) =
+    let accepted = accepted-from_positions text positions has in
+    record {
+      empty = λ none. absurd (empty-refused (subst IsAccepted none accepted));
+      item = λ some. (
+        has,
+        λ value reads items rest cut.
+            let same = cut_unique [] [] [] empty-cut items rest cut in
+            subst (Cut text (good text value ∷ items)) (sym same.1)
+            (subst (λ i. Cut text (good text value ∷ i) []) (sym same.0) (whole text value reads)),
+      );
+      less = λ some. some;
+      under_way = subst (IsUnderWay text [] false) (sym is) (under_way-viable text (accepted_is_viable text accepted));
+    }
+
+-- an unfinished text has no piece
+pub passes-unfinished : (text : List ℕ) (fault : ParseError) (steps : ℕ) → Judges text steps (Unfinished fault)
+    → PassesPiece text [] None [] steps
+passes-unfinished text fault steps (is, fault_is, viable) = record {
+  empty = λ e. record {
+    carries = λ some. absurd (some refl);
+    ends = λ end. (text, unfinished text viable (refused-from_fault text fault fault_is));
+  };
+  item = λ some. absurd (some refl);
+  less = λ some. some;
+  under_way = subst (IsUnderWay text [] false) (sym is) (under_way-viable text viable);
+}
+
+-- a character that can't follow ends the piece
+passes-split : (text piece character left : List ℕ) (positions : Option Positions) → IsSplit text piece character left
+    → MatchOption positions (IsRefused piece) (λ p. HasPositions piece p) → PassesPiece text piece positions left (length piece + 1)
+passes-split text piece character left positions split is =
+    let size = split-size text piece character left split in
+    record {
+      empty = λ none. record {
+        carries = λ some items rest cut. on [] (is_empty none) items rest cut;
+        ends = λ end. ([], on [] (is_empty none) [] [] (subst (λ t. Cut t [] []) (sym end) empty-cut));
+      };
+      item = first positions is;
+      less = λ some. omega (arith, size.0, size.1);
+      under_way = record {
+        few = omega (arith, size.0, size.1);
+        exact = λ fed n takes. takes-split text piece character left n split takes;
+      };
+    }
+  where
+    on : (first : List CutItem) → ItemsOf piece first → (items : List CutItem) (rest : List ℕ) → Cut left items rest
+        → Cut text (first ++ items) rest
+    on first of_piece items rest cut = goes_on text piece character left first items rest split of_piece cut
+
+    first : (positions : Option Positions) → MatchOption positions (IsRefused piece) (λ p. HasPositions piece p) → piece ≢ []
+        → IsFirstPiece text piece positions left
+    first None is some = on (bad piece ∷ []) (is_refused is some)
+    first (Some p) has some = (has, λ value reads. on (good piece value ∷ []) (is_read value reads))
+
+-- a text may be cut in what follows a position where it may be cut after that position
+border_in_rest : (text : List ℕ) (at n : ℕ) → IsCharBoundary text (at + n) → IsCharBoundary (drop at text) n
+border_in_rest text at n border =
+    let byte = get_or-drop at text n 0 in
+    let size = length-drop at text in
+    (omega (arith, border.0), λ within high. let lead = border.1 (omega arith) (omega arith) in omega arith)
+
+-- from the first position after another where a text may be cut on, it is what comes after the character there
+after_position : (text : List ℕ) (at end : ℕ) → at < length text → at + 1 ≤ end → IsCharBoundary text end
+    → ((i : ℕ) → at + 1 ≤ i → i < end → ¬ (IsCharBoundary text i)) → IsAfterCharacter (drop at text) (drop end text)
+after_position text at end there past border near =
+    let at_end : at + (end - at) ≡ end = omega (arith, past) in
+    subst (IsAfterCharacter (drop at text)) (drop-drop (end - at) at text ∙ ap (λ n. drop n text) at_end)
+    (after_character (drop at text) (end - at) (omega (arith, there, length-drop at text)) (omega (arith, past))
+    (border_in_rest text at (end - at) (subst (IsCharBoundary text) (sym at_end) border))
+    (λ i one before cut.
+    near (at + i) (omega (arith, one)) (omega (arith, before)) (IsCharBoundary-from_rest text at i (omega (arith, there)) cut)))
+
+-- a text is split where the scanner stops
+pub passes-stopped : (text piece left : List ℕ) (steps at end byte : ℕ) (positions : Option Positions)
+    → Judges text steps (Stopped byte positions) → at ≡ steps - 1 → piece ≡ take at text → left ≡ drop end text
+    → (at + 1 ≤ length text → at + 1 ≤ end) → IsCharBoundary text end → ((i : ℕ) → at + 1 ≤ i → i < end → ¬ (IsCharBoundary text i))
+    → PassesPiece text piece positions left steps
+passes-stopped text piece left steps at end byte positions (given, dead_at, refused) is_at is_piece is_left past border near =
+    let dead = subst (λ n. IsDeadAt text n byte) (sym is_at) dead_at in
+    let size : length (take at text) ≡ at = length-take-le at text dead.prefix.within in
+    let there : at < length text = slice_get_within text at byte dead.there in
+    let after = after_position text at end there (past (omega (arith, there))) border near in
+    subst (λ p. PassesPiece text p positions left steps) (sym is_piece)
+    (subst (PassesPiece text (take at text) positions left) (omega (arith, given, is_at, size))
+    (passes-split text (take at text) after.0 left positions
+    (record {
+      spelled = sym (take-append-drop at text) ∙ ap (λ t. take at text ++ t) (after.1 ∙ ap (λ t. after.0 ++ t) (sym is_left));
+      prefix = subst (IsLongestPrefix text) (sym size) dead.prefix;
+      is_character = subst (IsCharacter after.0) (sym is_left) after.2;
+    }) (rw is_at refused)))

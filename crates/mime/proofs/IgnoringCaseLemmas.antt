@@ -1,0 +1,172 @@
+-- Texts that are compared block by block: bits taken together, and blocks that overlap.
+use Rattle.std.proofs.Common.{◌≡◌, ◌↔◌, ℕ, ◌-◌, ◌≤◌, List, ◌++◌, length, take, drop, bit_or, sym, ap, ◌∙◌, arith, ◌≢◌, suc, ◌+◌, ◌<◌, Bool, true, false, cond, [], ◌∷◌, set, get_or, refl, subst, inl, inr, length-drop}
+use Rattle.std.proofs.lemmas.List.{take-append-drop, take_rest, take-take, take_more, take_more_set, take_all, length-take-le, get_or-take, get_or-drop, get_or-map}
+use Rattle.std.proofs.lemmas.Nat.{le_or_l, le_or_r}
+use Rattle.mime.specs.Values.{lowered}
+use Rattle.mime.proofs.LowercaseLemmas.{lowered-take, lowered-drop}
+use Rattle.std.specs.Prelude.{◌==◌, not, Option, None, Some, IfSome, IsTrue}
+use Rattle.std.specs.Option.{is_some}
+use Rattle.std.specs.Char.{to_ascii_lowercase}
+use Rattle.std.specs.Simd.Lanes.{zip2}
+use Rattle.std.proofs.Math.Seq.{take-add}
+use Rattle.std.proofs.lemmas.Bool.{eqb-true, eq-eqb, cases_lt}
+use Rattle.std.proofs.lemmas.Bool.Decides.{nat_tests}
+use Rattle.std.proofs.lemmas.List.Sums.{prefix_len-le-length, prefix_len_stops}
+use Rattle.std.proofs.lemmas.Simd.{length-zip2, get_or-zip2, leading_from_mask_l}
+use lib.Count.{count_trailing_zeros}
+use Rattle.mime.specs.Difference.{FirstDifference}
+use Rattle.mime.specs.Inner.Blocks.{difference_bit, mask_of, first_position}
+use Rattle.mime.proofs.BlocksLemmas.{position-flagged, all_pass}
+
+-- two numbers have no bit together exactly where neither has one
+pub together : (n m : ℕ) (P Q Whole : Type 0) → (n ≡ 0) ↔ P → (m ≡ 0) ↔ Q → (P → Q → Whole) → (Whole → P × Q) → (bit_or n m ≡ 0) ↔ Whole
+together n m P Q Whole first second whole parts = (
+  λ none. whole (first.0 (omega (arith, le_or_l n m))) (second.0 (omega (arith, le_or_r n m))),
+  λ all. let both = parts all in cc (first.1 both.0, second.1 both.1),
+)
+
+-- the lowercased form of a text's last bytes
+pub lowered_rest : (text : List ℕ) (from : ℕ) → lowered (take (length text - from) (drop from text)) ≡ drop from (lowered text)
+lowered_rest text from = ap lowered (take_rest text from) ∙ lowered-drop from text
+
+-- prefixes that are the same have the same shorter prefixes
+pub shorter : (a b : List ℕ) (n m : ℕ) → n ≤ m → take m a ≡ take m b → take n a ≡ take n b
+shorter a b n m less same = sym (take-take n m a less) ∙ ap (take n) same ∙ take-take n m b less
+
+-- texts that are the same up to a position, and from there or before on, are the same
+pub lapped : (a b : List ℕ) (n last : ℕ) → last ≤ n → take n a ≡ take n b → drop last a ≡ drop last b → a ≡ b
+lapped a b n last after prefix back =
+    sym (take-append-drop last a) ∙ (λ i. shorter a b last n after prefix i ++ back i) ∙ take-append-drop last b
+
+-- one more flag
+zip2_push : (f : ℕ → ℕ → ℕ) (xs ys : List ℕ) (x y : ℕ) → length xs ≡ length ys
+    → zip2 f (xs ++ (x ∷ [])) (ys ++ (y ∷ [])) ≡ zip2 f xs ys ++ (f x y ∷ [])
+zip2_push f [] [] x y long = refl
+zip2_push f [] (b ∷ ys) x y long = absurd (omega (arith, long))
+zip2_push f (a ∷ xs) [] x y long = absurd (omega (arith, long))
+zip2_push f (a ∷ xs) (b ∷ ys) x y long = ap (λ rest. f a b ∷ rest) (zip2_push f xs ys x y (omega (arith, long)))
+
+pub one_more : (f : ℕ → ℕ → ℕ) (a b flags : List ℕ) (n : ℕ) → n < length a → n < length b → n < length flags
+    → take n flags ≡ zip2 f (take n a) (take n b)
+    → take (n + 1) (set flags n (f (get_or a n 0) (get_or b n 0))) ≡ zip2 f (take (n + 1) a) (take (n + 1) b)
+one_more f a b flags n room other_room within so_far =
+    take_more_set flags n (f (get_or a n 0) (get_or b n 0)) within
+    ∙ ap (λ t. t ++ (f (get_or a n 0) (get_or b n 0) ∷ [])) so_far
+    ∙ sym (ap (λ t. zip2 f t (take (n + 1) b)) (take_more a n 0 room) ∙ ap (zip2 f _) (take_more b n 0 other_room)
+    ∙ zip2_push f (take n a) (take n b) (get_or a n 0) (get_or b n 0)
+    (omega (arith, length-take-le n a, length-take-le n b, room, other_room)))
+
+-- up to the first flag
+equal_to_flag : (xs ys : List ℕ)
+    → take (first_position 1 (zip2 difference_bit xs ys)) (lowered xs) ≡ take (first_position 1 (zip2 difference_bit xs ys)) (lowered ys)
+equal_to_flag [] ys = refl
+equal_to_flag (x ∷ xs) [] = refl
+equal_to_flag (x ∷ xs) (y ∷ ys) = go (to_ascii_lowercase x == to_ascii_lowercase y) refl (equal_to_flag xs ys)
+  where
+    go : (same : Bool) → (to_ascii_lowercase x == to_ascii_lowercase y) ≡ same
+        → take (first_position 1 (zip2 difference_bit xs ys)) (lowered xs) ≡ take (first_position 1 (zip2 difference_bit xs ys)) (lowered ys)
+        → take (first_position 1 (cond same 0 1 ∷ zip2 difference_bit xs ys)) (lowered (x ∷ xs))
+        ≡ take (first_position 1 (cond same 0 1 ∷ zip2 difference_bit xs ys)) (lowered (y ∷ ys))
+    go true is rest =
+        let n = first_position 1 (zip2 difference_bit xs ys) in
+        let next : 1 + n ≡ suc n = omega arith in
+        let byte = eqb-true (to_ascii_lowercase x) (to_ascii_lowercase y) is in
+        rw next (λ i. byte i ∷ rest i)
+    go false is rest = refl
+
+-- bytes are not flagged exactly where they are the same ignoring ASCII case
+pub no_flag_at : (x y found : ℕ) → found ≡ difference_bit x y → (found ≡ 0) ↔ (to_ascii_lowercase x ≡ to_ascii_lowercase y)
+no_flag_at x y found is = (λ none. grind (arith, nat_tests), λ same. is ∙ ap (λ b. cond b 0 1) (eq-eqb _ _ same))
+
+-- at a flag they differ
+differ_at_flag : (x y : ℕ) → difference_bit x y ≡ 1 → to_ascii_lowercase x ≢ to_ascii_lowercase y
+differ_at_flag x y is same = absurd (omega (arith, sym is ∙ ap (λ b. cond b 0 1) (eq-eqb _ _ same)))
+
+-- in the first 16 bytes, as the flags show it
+module _ (a b flags : List ℕ) (found : ℕ) (room : 16 ≤ length a) (other_room : 16 ≤ length b)
+    (is : flags ≡ zip2 difference_bit (take 16 a) (take 16 b)) (found_is : found ≡ mask_of 1 (take 16 flags)) where
+  long : length flags ≡ 16
+  long =
+      ap length is ∙ length-zip2 difference_bit (take 16 a) (take 16 b) (length-take-le 16 a room ∙ sym (length-take-le 16 b other_room))
+      ∙ length-take-le 16 a room
+
+  whole : mask_of 1 (take 16 flags) ≡ mask_of 1 flags
+  whole = ap (mask_of 1) (take_all 16 flags (omega (arith, long)))
+
+  equal_before : (n : ℕ) → n ≤ 16 → n ≡ first_position 1 flags → take n (lowered a) ≡ take n (lowered b)
+  equal_before n few first =
+      sym (shorter a) ∙ ap (λ m. take m (lowered (take 16 a))) (first ∙ ap (first_position 1) is) ∙ equal_to_flag (take 16 a) (take 16 b)
+      ∙ ap (λ m. take m (lowered (take 16 b))) (sym (first ∙ ap (first_position 1) is)) ∙ shorter b
+    where
+      shorter : (t : List ℕ) → take n (lowered (take 16 t)) ≡ take n (lowered t)
+      shorter t = ap (take n) (lowered-take 16 t) ∙ take-take n 16 (lowered t) few
+
+  pub no_flag : found ≡ 0 → take 16 (lowered a) ≡ take 16 (lowered b)
+  no_flag none =
+      equal_before 16 (omega arith)
+      (sym (leading_from_mask_l (λ b. b == 1) flags (sym whole ∙ sym found_is ∙ none) ∙ long))
+
+  pub first_flag : 0 < found → FirstDifference a b (count_trailing_zeros 64 found)
+  first_flag some =
+      let at : count_trailing_zeros 64 found ≡ first_position 1 flags =
+      ap (count_trailing_zeros 64) found_is
+      ∙ sym (position-flagged 1 flags 16 (omega (arith, long)) (omega arith) (omega (arith, some, found_is))) in
+      let n = first_position 1 flags in
+      let near : n < length flags =
+      elim (cases_lt n (length flags)) [
+        | inl near ↦ near
+        | inr far ↦
+            let all = all_pass (λ b. b == 1) flags (omega (arith, far, prefix_len-le-length (λ b. not (b == 1)) flags)) in
+            absurd (omega (arith, some, found_is, whole, all))
+      ] in
+      let stop : get_or flags n 0 ≡ 1 =
+      (let stops = prefix_len_stops (λ b. not (b == 1)) flags 0 near in grind (arith, nat_tests)) in
+      let differ : difference_bit (get_or a n 0) (get_or b n 0) ≡ 1 =
+      cc (
+        stop,
+        ap (λ m. get_or m n 0) is,
+        get_or-zip2 difference_bit (take 16 a) (take 16 b) n 0 0 0 (omega (arith, near, long, length-take-le 16 a room))
+            (omega (arith, near, long, length-take-le 16 b other_room)),
+        get_or-take 16 a n 0 (omega (arith, near, long)),
+        get_or-take 16 b n 0 (omega (arith, near, long)),
+      ) in
+      subst (FirstDifference a b) (sym at) (record {
+        within = omega (arith, near, long, room);
+        within_other = omega (arith, near, long, other_room);
+        equal_before = equal_before n (omega (arith, near, long)) refl;
+        differ = differ_at_flag (get_or a n 0) (get_or b n 0) differ;
+      })
+
+-- after equal bytes: more of them, or a difference
+module _ (a b : List ℕ) (from : ℕ) (before : take from (lowered a) ≡ take from (lowered b)) where
+  pub equal_onward : (n : ℕ) → take n (lowered (take (length a - from) (drop from a)))
+      ≡ take n (lowered (take (length b - from) (drop from b)))
+      → take (from + n) (lowered a) ≡ take (from + n) (lowered b)
+  equal_onward n block =
+      let rest = ap (take n) (sym (lowered_rest a from)) ∙ block ∙ ap (take n) (lowered_rest b from) in
+      take-add from n (lowered a) ∙ (λ i. before i ++ rest i) ∙ sym (take-add from n (lowered b))
+
+  pub difference_onward : (n : ℕ) → FirstDifference (take (length a - from) (drop from a)) (take (length b - from) (drop from b)) n
+      → FirstDifference a b (from + n)
+  difference_onward n d = record {
+    within = omega (arith, d.within, ap length (take_rest a from), length-drop from a);
+    within_other = omega (arith, d.within_other, ap length (take_rest b from), length-drop from b);
+    equal_before = equal_onward n d.equal_before;
+    differ = λ same. d.differ (ap to_ascii_lowercase (at a) ∙ same ∙ ap to_ascii_lowercase (sym (at b)));
+  }
+    where
+      at : (text : List ℕ) → get_or (take (length text - from) (drop from text)) n 0 ≡ get_or text (from + n) 0
+      at text = ap (λ t. get_or t n 0) (take_rest text from) ∙ get_or-drop from text n 0
+
+-- texts of one length are the same ignoring ASCII case exactly where none is found
+pub none_found : (a b : List ℕ) (found : Option ℕ) (none : Bool) → is_some found ≡ not none → length a ≡ length b
+    → IfSome found (FirstDifference a b) → (found ≡ None → length a ≡ length b → lowered a ≡ lowered b)
+    → IsTrue none ↔ (lowered a ≡ lowered b)
+none_found a b None true is long d all = (λ _. all refl long, λ _. refl)
+none_found a b None false is long d all = absurd cc
+none_found a b (Some at) true is long d all = absurd cc
+none_found a b (Some at) false is long d all = (
+  λ bad. absurd cc,
+  λ same. absurd (d.differ (sym (get_or-map to_ascii_lowercase a at 0 0 d.within) ∙ ap (λ t. get_or t at 0) same
+      ∙ get_or-map to_ascii_lowercase b at 0 0 d.within_other)),
+)

@@ -1,0 +1,11 @@
+-- the private pages: what the code and its proofs say on the way; no public contract names them
+pub mod ReaderState
+pub mod Quoted
+pub mod Scanning
+pub mod Blocks
+pub mod Pairs
+pub mod KeptText
+pub mod ComparedText
+pub mod HashInput
+pub mod StoredText
+pub mod BetweenCalls

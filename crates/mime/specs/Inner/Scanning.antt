@@ -1,0 +1,83 @@
+-- What the reader has left, what a pass over it leaves, and what the scanner finds.
+use Rattle.std.specs.Prelude.{◌≡◌, ℕ, ◌+◌, ◌-◌, ◌<◌, ◌≤◌, Bool, IsTrue, IsFalse, List, [], ◌++◌, length, take, drop, Option, Some, None, MatchOption, ⊤}
+use Rattle.std.specs.Option.{option_to_list}
+use Rattle.std.specs.List.{list_all}
+use Rattle.mime.specs.Bytes.{is_token_byte}
+use Rattle.mime.specs.Grammar.{blank, Tail, no_list, listed, SyntaxTree, text_of, IsToken, IsWellFormed}
+use Rattle.mime.specs.Values.{last_plus, pairs_of_tail, IsRefused}
+use Rattle.mime.specs.Refusals.{IsViable, IsDeadAt, IsFault}
+use Rattle.mime.specs.declared.scan.Positions.{Positions}
+use Rattle.mime.specs.declared.scan.Verdict.{Verdict}
+use Rattle.mime.specs.declared.scan.Verdict.TheVariants.{Accepted, Unfinished, Stopped}
+use Rattle.mime.specs.Inner.ReaderState.{Remaining}
+use Rattle.mime.specs.Inner.Quoted.{IsOpenContent, continues}
+
+-- the bytes of a run and the one after it, if any, were given
+pub record Given (old new : Remaining) (run : List ℕ) (stop : Option ℕ) : Type 0 where
+  pub bytes : old.left ≡ run ++ (option_to_list stop ++ new.left)
+  pub counted : new.count ≡ old.count + (length run + length (option_to_list stop))
+
+-- the next byte was given, or there was none
+abbrev pub GivesFirst : Remaining → Remaining → Option ℕ → Type 0
+GivesFirst old new first = Given old new [] first × MatchOption first (new.left ≡ []) (λ b. ⊤)
+
+-- the longest run of a class was passed; the byte after it isn't of the class
+pub record Passes (class : ℕ → Bool) (old new : Remaining) (stop : Option ℕ) : Type 0 where
+  pub run : List ℕ
+  pub of_class : IsTrue (list_all class run)
+  pub given : Given old new run stop
+  pub stopped : MatchOption stop (new.left ≡ []) (λ b. IsFalse (class b))
+
+-- the positions of a tree's parts in its text
+abbrev pub semicolon_of : ℕ → Tail → Option ℕ
+semicolon_of at no_list = None
+semicolon_of at (listed parameters) = Some at
+
+abbrev pub positions_of : SyntaxTree → Positions
+positions_of tree = record {
+  slash = length tree.top;
+  plus = last_plus (length tree.top + 2) (drop 1 tree.sub);
+  semicolon = semicolon_of (length tree.top + 1 + length tree.sub) tree.tail;
+  pair_count = length (pairs_of_tail tree.tail);
+}
+
+-- the text is accepted, with its parts at these positions
+pub record HasPositions (text : List ℕ) (positions : Positions) : Type 0 where
+  pub tree : SyntaxTree
+  pub well_formed : IsWellFormed tree
+  pub spelled : text_of tree ≡ text
+  pub same_positions : positions_of tree ≡ positions
+
+-- what the scanner finds in a text, after it was given `count` bytes; where it stops, the last of them is at fault
+abbrev pub Judges : List ℕ → ℕ → Verdict → Type 0
+Judges text count (Accepted positions) = (count ≡ length text) × HasPositions text positions
+Judges text count (Unfinished fault) = (count ≡ length text) × IsFault text fault × IsViable text
+Judges text count (Stopped byte positions) = (0 < count) × IsDeadAt text (count - 1) byte
+    × MatchOption positions (IsRefused (take (count - 1) text)) (λ p. HasPositions (take (count - 1) text) p)
+
+-- the scanner's answer, with the bytes that it took
+pub record Scans (old new : Remaining) (verdict : Verdict) : Type 0 where
+  pub counted : old.count ≤ new.count
+  pub judged : Judges old.left (new.count - old.count) verdict
+
+-- quoted content was passed, and the byte that ends it
+pub record PassesContent (old new : Remaining) (stop : Option ℕ) : Type 0 where
+  pub run : List ℕ
+  pub of_class : IsOpenContent run
+  pub given : Given old new run stop
+  pub stopped : MatchOption stop (new.left ≡ []) (λ b. IsFalse (continues run b))
+
+-- the rest of a subtype was passed, whose first byte is at a position; its last plus
+pub record PassesSubtype (at : ℕ) (old new : Remaining) (answer : Option ℕ × Option ℕ) : Type 0 where
+  pub passes : Passes is_token_byte old new answer.1
+  pub plus : answer.0 ≡ last_plus at passes.run
+
+-- the tree of the text before a list: a type, a subtype and a semicolon
+abbrev pub before_list : List ℕ → List ℕ → SyntaxTree
+before_list top sub = record { top = top; sub = sub; tail = listed (blank []) }
+
+-- the scanner's answer on a parameter list is its answer on each text that the list ends
+abbrev pub ScansList : Positions → Remaining → Remaining → Verdict → Type 0
+ScansList head old new verdict =
+    (start : Remaining) (top sub : List ℕ) → IsToken top → IsToken sub → head ≡ positions_of (before_list top sub)
+    → Given start old (text_of (before_list top sub)) None → Scans start new verdict

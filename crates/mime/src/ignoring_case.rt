@@ -1,0 +1,129 @@
+//! Byte strings compared ignoring ASCII case: whether they are equal, and where they first differ.
+
+ghost use Rattle.std.specs.Prelude.{◌≡◌, ◌↔◌, ◌≤◌, ◌+◌, IsTrue, IfSome, None, length, take};
+ghost use Rattle.std.specs.Simd.Lanes.{zip2};
+ghost use Rattle.mime.specs.Difference.{FirstDifference};
+ghost use Rattle.mime.specs.Inner.Blocks.{difference_bit};
+ghost use Rattle.mime.specs.Values.{lowered};
+
+use crate::blocks::{BLOCK, mask};
+
+/// The bit in which a lowercase ASCII letter and its capital differ.
+const CASE_BIT: u8 = 0x20;
+
+/// 1 if two bytes differ ignoring ASCII case, else 0.
+#[inline(always)]
+fn difference(x: u8, y: u8) -> u8
+    ensures { result ≡ difference_bit x y }
+{
+    let case = if (x | CASE_BIT).is_ascii_lowercase() {
+        CASE_BIT
+    } else {
+        0
+    };
+    u8::from((x ^ y) & !case != 0)
+}
+
+/// For each position in the first block of two byte strings, 1 if their bytes differ ignoring ASCII case, else 0.
+#[inline(always)]
+fn differences(a: &[u8], b: &[u8]) -> [u8; BLOCK]
+    requires room { BLOCK ≤ length a.now }
+    requires other_room { BLOCK ≤ length b.now }
+    ensures { result ≡ zip2 difference_bit (take BLOCK a.now) (take BLOCK b.now) }
+{
+    let mut found = [0; BLOCK];
+    let mut at = 0;
+    while at < BLOCK {
+        found[at] = difference(a[at], b[at]);
+        at += 1;
+    }
+    found
+}
+
+/// The first position in the first block at which two byte strings differ ignoring ASCII case, if they do.
+#[inline(always)]
+fn difference_in_block(a: &[u8], b: &[u8]) -> Option<usize>
+    requires room { BLOCK ≤ length a.now }
+    requires other_room { BLOCK ≤ length b.now }
+    ensures some { IfSome result (FirstDifference a.now b.now) }
+    ensures none { result ≡ None → take BLOCK (lowered a.now) ≡ take BLOCK (lowered b.now) }
+{
+    let found = mask(&differences(a, b), 1);
+    if found == 0 {
+        None
+    } else {
+        Some(found.trailing_zeros() as usize)
+    }
+}
+
+/// The first position at which two texts of at least a block differ ignoring ASCII case, if they do before one of them
+/// ends. The last block may overlap the one before.
+#[inline(always)]
+pub(crate) fn first_difference(a: &[u8], b: &[u8]) -> Option<usize>
+    requires room { BLOCK ≤ length a.now }
+    requires other_room { BLOCK ≤ length b.now }
+    ensures some { IfSome result (FirstDifference a.now b.now) }
+    ensures none { result ≡ None → length a.now ≡ length b.now → lowered a.now ≡ lowered b.now }
+{
+    let last = a.len().min(b.len()) - BLOCK;
+    let mut from = 0;
+    while from < last {
+        match difference_in_block(&a[from..], &b[from..]) {
+            Some(at) => return Some(from + at),
+            None => from += BLOCK,
+        }
+    }
+    match difference_in_block(&a[last..], &b[last..]) {
+        Some(at) => Some(last + at),
+        None => None,
+    }
+}
+
+/// Whether two byte strings of one length are equal ignoring ASCII case. The loop doesn't end early: over
+/// a known length it is a few vector instructions.
+#[inline(always)]
+fn eq_byte_by_byte(a: &[u8], b: &[u8]) -> bool
+    requires same_length { length a.now ≡ length b.now }
+    ensures { IsTrue result ↔ (lowered a.now ≡ lowered b.now) }
+{
+    let mut differs = 0;
+    let mut at = 0;
+    while at < a.len() {
+        differs |= difference(a[at], b[at]);
+        at += 1;
+    }
+    differs == 0
+}
+
+/// Whether two byte strings of one length, from `block` to twice `block`, are equal ignoring ASCII case: by their last
+/// and first `block` bytes, which together are all of them. Two names differ more often in their last bytes than in their first.
+#[inline(always)]
+fn eq_at_both_ends(a: &[u8], b: &[u8], block: usize) -> bool
+    requires same_length { length a.now ≡ length b.now }
+    requires room { block ≤ length a.now }
+    requires reach { length a.now ≤ block + block }
+    ensures { IsTrue result ↔ (lowered a.now ≡ lowered b.now) }
+{
+    let last = a.len() - block;
+    eq_byte_by_byte(&a[last..], &b[last..]) && eq_byte_by_byte(&a[..block], &b[..block])
+}
+
+/// Whether two byte strings are equal ignoring ASCII case.
+#[inline(never)]
+pub(crate) fn eq_ignoring_case(a: &[u8], b: &[u8]) -> bool
+    ensures { IsTrue result ↔ (lowered a.now ≡ lowered b.now) }
+{
+    if a.len() != b.len() {
+        return false;
+    }
+    if a.len() >= BLOCK {
+        return first_difference(a, b).is_none();
+    }
+    if a.len() >= 8 {
+        return eq_at_both_ends(a, b, 8);
+    }
+    if a.len() >= 4 {
+        return eq_at_both_ends(a, b, 4);
+    }
+    eq_byte_by_byte(a, b)
+}
