@@ -1,6 +1,9 @@
-"""What the tools share: commands with time limits, none of which outlives its tool; copies of crates; programs; and what counts."""
+"""What the tools share: commands with time limits, none of which outlives its tool; what passed in earlier runs; copies of crates;
+programs; and what counts."""
 
+import contextlib
 import functools
+import hashlib
 import os
 import re
 import shutil
@@ -15,6 +18,8 @@ from subprocess import DEVNULL, PIPE, STDOUT
 TOP = os.path.dirname(os.path.dirname(os.path.realpath(__file__)))
 # Where the crates lie with what is kept of their proofs. `check` names a copy, since rt ci keeps none.
 PROVED = os.environ.get("PROVED") or TOP
+# What passed in earlier runs, a file each, with the checksum of all that it rests on. A fresh clone has none, and without it all is tried.
+KEPT = f"{TOP}/out/kept"
 # How many seconds rt may take for one command, and a program for one input. Both take far less.
 RT_SECONDS, PROGRAM_SECONDS = 20 * 60, 60
 
@@ -85,10 +90,47 @@ def ended(tool, tries, least=1):
 
 
 def _end(number, _frame):
+    for it in (signal.SIGTERM, signal.SIGINT):
+        signal.signal(it, signal.SIG_IGN)
     _signals.append(number)
     for process in list(_running):
         process.terminate()
     raise SystemExit(128 + number)
+
+
+@functools.cache
+def checksum(*paths):
+    """A checksum of the kit, of these files of the repository, and of all in these folders but documents, edits and what was built."""
+    found = hashlib.sha256(done("rt", "version").encode())
+    for path in sorted({*paths}):
+        files = [f"{TOP}/{path}"] if os.path.isfile(f"{TOP}/{path}") else sorted(files_in(f"{TOP}/{path}"))
+        if not files:
+            raise OSError(f"there is no {path}")
+        for it in files:
+            found.update(f"{os.path.relpath(it, TOP)} {hashlib.sha256(Path(it).read_bytes()).hexdigest()}\n".encode())
+    return found.hexdigest()
+
+
+def files_in(folder):
+    for at, folders, files in os.walk(folder):
+        folders[:] = {*folders} - {"out", "__pycache__"}
+        yield from (f"{at}/{it}" for it in files if not it.endswith((".md", ".edit")))
+
+
+def kept(name, paths, more=""):
+    """What was said of a thing when it last passed, if nothing has changed since of what it rests on: these files and folders, and more."""
+    wanted = f"{checksum(*paths)} {hashlib.sha256(more.encode()).hexdigest()}"
+    with contextlib.suppress(OSError):
+        found, _, text = Path(KEPT, name).read_text(encoding="utf-8").partition("\n")
+        return text if found == wanted else None
+
+
+def keep(name, text, paths, more=""):
+    """Keeps what was said of a thing that passed, unless a file that it rests on has changed meanwhile."""
+    with contextlib.suppress(OSError):
+        if checksum.__wrapped__(*paths) == checksum(*paths):
+            write(f"{KEPT}/{name}.new", f"{checksum(*paths)} {hashlib.sha256(more.encode()).hexdigest()}\n{text}")
+            os.replace(f"{KEPT}/{name}.new", f"{KEPT}/{name}")
 
 
 def need(what, *packages):
