@@ -2,6 +2,7 @@
 programs; and what counts."""
 
 import contextlib
+import fcntl
 import functools
 import hashlib
 import os
@@ -134,14 +135,27 @@ def keep(name, text, paths, more=""):
 
 
 def need(what, *packages):
-    """Installs Debian's packages that have a command or a file, where it is missing. Where it still is then, that is an error."""
-    is_there = lambda: shutil.which(what) or os.path.exists(what)
-    if not is_there():
-        names = " ".join(packages)
-        print(f"{what} is missing: apt-get installs {names}", flush=True)
-        text, _ = said(["sh", "-c", f"apt-get update -qq; apt-get install -y -qq --no-install-recommends {names}"])
+    """Installs Debian's packages that have a command or a file, if it is missing. If it still is then, that is an error."""
+    is_there, names = lambda: shutil.which(what) or os.path.exists(what), " ".join(packages)
+    if is_there():
+        return
+    with _alone():
+        if not is_there():
+            print(f"{what} is missing: apt-get installs {names}", flush=True)
+            text, _ = said(["sh", "-c", f"apt-get update -qq; apt-get install -y -qq --no-install-recommends {names}"])
         if not is_there():
             raise OSError(f"{what} is needed, and could not be installed: install it (on Debian: {names})\n{text[-600:]}")
+
+
+@contextlib.contextmanager
+def _alone():
+    """Waits until no other tool installs anything."""
+    folder = os.open(tempfile.gettempdir(), os.O_RDONLY)
+    fcntl.flock(folder, fcntl.LOCK_EX)
+    try:
+        yield
+    finally:
+        os.close(folder)
 
 
 def instructions(words, given):
