@@ -60,12 +60,12 @@ parts_unique xs ys us vs e size = (
 -- ---- a split
 
 -- a text is split in one way
-record SameSplit (p c l q d m : List ℕ) : Type 0 where
+pub record SameSplit (p c l q d m : List ℕ) : Type 0 where
   pub piece : p ≡ q
   pub character : c ≡ d
   pub left : l ≡ m
 
-split_unique : (text p c l q d m : List ℕ) → IsSplit text p c l → IsSplit text q d m → SameSplit p c l q d m
+pub split_unique : (text p c l q d m : List ℕ) → IsSplit text p c l → IsSplit text q d m → SameSplit p c l q d m
 split_unique text p c l q d m one two =
     let size : length p ≡ length q = prefix_unique text (length p) (length q) one.prefix two.prefix in
     let parts = parts_unique p (c ++ l) q (d ++ m) (sym one.spelled ∙ two.spelled) size in
@@ -87,7 +87,7 @@ pub split-piece : (text p c l : List ℕ) → IsSplit text p c l → take (lengt
 split-piece text p c l split = ap (take (length p)) split.spelled ∙ take-append_seam p (c ++ l)
 
 -- what is split isn't viable
-split-not_viable : (text p c l : List ℕ) → IsSplit text p c l → IsViable text → ⊥
+pub split-not_viable : (text p c l : List ℕ) → IsSplit text p c l → IsViable text → ⊥
 split-not_viable text p c l split viable =
     let size = split-size text p c l split in
     split.prefix.longest (length text) (omega (arith, size.0, size.1)) (omega arith)
@@ -170,7 +170,7 @@ has_cut text = cut_within (suc (length text)) text (omega arith)
 -- ---- and only one
 
 -- a piece has one list of items
-items_of_unique : (piece : List ℕ) (one two : List CutItem) → ItemsOf piece one → ItemsOf piece two → one ≡ two
+pub items_of_unique : (piece : List ℕ) (one two : List CutItem) → ItemsOf piece one → ItemsOf piece two → one ≡ two
 items_of_unique piece one two (is_read v reads) (is_read w again) = ap (λ x. good piece x ∷ []) (one_reading piece v w reads again)
 items_of_unique piece one two (is_read v reads) (is_refused is some) = absurd (is (v, reads))
 items_of_unique piece one two (is_read v reads) (is_empty e) = absurd (empty-refused (subst IsAccepted e (v, reads)))

@@ -56,7 +56,7 @@ characters_bytes (c ∷ characters) are =
     let parts = and_parts (scalar c) (scalars characters) are in
     text_join (encode c) (encodes characters) (character_bytes c parts.0) (characters_bytes characters parts.1)
 
-utf8_bytes : (text : List ℕ) → IsUtf8 text → AreTextBytes text
+pub utf8_bytes : (text : List ℕ) → IsUtf8 text → AreTextBytes text
 utf8_bytes text utf8 = subst AreTextBytes utf8.1.1 (characters_bytes utf8.0 utf8.1.0)
 
 -- lowercasing adds none
@@ -103,12 +103,12 @@ unfolding is_token_byte
 slash_is_no_token prefix back all = let parts = list_all-parts is_token_byte prefix (slash_byte ∷ back) all in absurd cc
 
 -- what is known of a value that was read
-record IsFed (value : MediaType) : Type 0 where
+pub record IsFed (value : MediaType) : Type 0 where
   pub pairs : AllByRecursion IsFedPair value.pairs
   pub essence : AreTextBytes value.essence
   pub slash : ¬ (AreTokenBytes value.essence)
 
-fed-read : (value : MediaType) → IsReadInUtf8 value → IsFed value
+pub fed-read : (value : MediaType) → IsReadInUtf8 value → IsFed value
 fed-read value (text, utf8, reads) =
     let tree = reads.tree in
     let well = reads.well_formed in
