@@ -205,11 +205,19 @@ def write(path, text):
 def copied(crates, room, top=TOP, without=("out",)):
     """Copies crates of a repository, without their folders of these names, and the files that tell rt of them."""
     for it in crates:
-        shutil.copytree(f"{top}/crates/{it}", f"{room}/crates/{it}", ignore=shutil.ignore_patterns(*without))
+        shutil.copytree(f"{top}/crates/{it}", f"{room}/crates/{it}", ignore=shutil.ignore_patterns(*without), copy_function=_linked)
     shutil.copy(f"{TOP}/HANDLES", room)
     there = os.listdir(f"{room}/crates")
     write(f"{room}/crates.txt", "".join(f"{it}\n" for it in text_of("crates.txt").split("\n") if re.split("[ :]", it)[0] in there))
     return room
+
+
+def _linked(file, to):
+    """Copies a file, or gives a proof a second name, since rt replaces such a file and writes into none."""
+    with contextlib.suppress(OSError):
+        if file.endswith(".oantt"):
+            return os.link(file, to)
+    return shutil.copy2(file, to)
 
 
 @functools.cache
