@@ -41,6 +41,8 @@
 //! What a media type means: ranges, weights, choosing by `Accept`, escapes in quoted values, extensions of
 //! files. docs/DIFFERENCES.md lists what differs from the Rust crate and from RFC 7231, crates/mime/CALLING.md
 //! every contract, docs/RECIPES.md what callers do.
+//!
+//! This is version 1.0.0; README.md says what may change within 1.
 #![tactic(auto)]
 
 mod atoms;
