@@ -49,11 +49,11 @@ static const char *skip(const char *string, size_t count)
     return string;
 }
 
-/* Whether mime_is answers so. */
+/* Whether mime_equal answers so. */
 static int compares(const char *one, size_t one_len, const char *other, size_t other_len, uint32_t answer, int is_equal)
 {
     uint8_t equal = 2;
-    return mime_is(one, one_len, other, other_len, &equal) == answer && equal == is_equal;
+    return mime_equal(one, one_len, other, other_len, &equal) == answer && equal == is_equal;
 }
 
 static void check_read(const char *text, size_t len)

@@ -78,7 +78,7 @@ pub data ListsTo (text old : List ℕ) : ℕ → List ℕ → ℕ → Type 0 whe
   is_not_text : 2 * length text ≤ length old → ¬ (IsUtf8 text) → ListsTo text old MIME_NOT_UTF8 old 0
   has_no_room : length old < 2 * length text → ListsTo text old MIME_NO_ROOM old 0
 
--- `mime_is` of two texts: the answer, and 1 if both are read as equal media types, else 0
+-- `mime_equal` of two texts: the answer, and 1 if both are read as equal media types, else 0
 pub data Compares (one other : List ℕ) : ℕ → ℕ → Type 0 where
   are_read : (first second : MediaType) (equal : Bool) → IsUtf8 one → IsUtf8 other → Reads one first → Reads other second
       → IsTrue equal ↔ Same first second

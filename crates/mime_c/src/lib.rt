@@ -248,7 +248,7 @@ pub extern "C" fn mime_list(alloc: Global, text: &[u8], out: &mut [u8], length: 
 /// read: include/mime.h.
 #[unsafe(no_mangle)]
 #[tactic(auto, using(crate::specs::Answers::first_fails, crate::specs::Answers::second_fails))]
-pub extern "C" fn mime_is(alloc: Global, one: &[u8], other: &[u8], equal: &mut u8) -> u32
+pub extern "C" fn mime_equal(alloc: Global, one: &[u8], other: &[u8], equal: &mut u8) -> u32
     ensures { Compares one.now other.now result equal.new }
 {
     *equal = 0;
