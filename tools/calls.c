@@ -1,6 +1,6 @@
 /* Makes the calls of include/mime.h on the lines of standard input, and on as many texts near the grammar as the argument says.
  * Each text and each buffer ends where a page begins that can't be touched, and each request for memory is refused in turn.
- * tools/c_calls builds it with the sanitizers, and with --wrap=malloc. It ends with status 1 at the first call that is wrong. */
+ * tools/c_calls builds it with the sanitizers, and with --wrap for malloc and free. It ends with status 1 at the first call that is wrong. */
 #define _GNU_SOURCE
 #include "mime.h"
 #include <ctype.h>
@@ -12,8 +12,8 @@
 
 enum { ROOM = 1 << 20, PAGE = 1 << 12 };
 
-/* The requests for memory since they were counted anew: how many, the largest, which is refused (the first is 1), and how many blocks
- * were held at once. */
+/* The requests for memory since they were counted anew: their number, the largest, the one that is refused (from 1 on), and how many
+ * blocks are held, and were at most. */
 static size_t requests, largest, refused_at, held, most_held;
 static char *text_end, *out_end, untouched[ROOM];
 
@@ -44,7 +44,7 @@ static void count_anew(void)
     if (!(is)) \
         errx(1, "line %d: not so: %s; the text is: %.*s", __LINE__, #is, (int)len, text)
 
-/* Checks a call with each of so many requests refused in turn. It asks no more after that. */
+/* Checks a call with each of so many requests refused in turn. No other is made after it. */
 #define CHECK_REFUSED(count, is) \
     for (refused_at = (count); count_anew(), refused_at > 0; refused_at--) \
         CHECK((is) && requests == refused_at && held == 0)
@@ -86,7 +86,7 @@ static int finds(const char *out, const struct mime_found *found, const char *na
     return mime_param(out, found, name) == (it < end ? skip(it, 1) : NULL);
 }
 
-/* Whether mime_param finds a parameter by its name in capitals, and all others by names that begin as it does, or by one byte more. */
+/* Whether mime_param finds what it has to by a name, by that name in capitals, with a byte more, and by each beginning of it. */
 static int finds_all(const char *out, const struct mime_found *found, const char *name)
 {
     static char other[ROOM];
@@ -135,7 +135,8 @@ static void check_read(const char *text, size_t len)
         CHECK(found.length == 0 && found.params == 0 && mime_param(out, &found, "q") == NULL && compares(text, len, text, len, answer, 0, 0));
     }
     CHECK(compares("*/*", 3, text, len, answer, is_read && strcmp(out, "*/*") == 0 && found.params == 0, asked));
-    CHECK(compares(text, len, "a/", 2, is_read ? MIME_MISSING_SUBTYPE : answer, 0, asked) && compares("a/", 2, text, len, MIME_MISSING_SUBTYPE, 0, 0));
+    CHECK(compares(text, len, "a/", 2, is_read ? MIME_MISSING_SUBTYPE : answer, 0, asked));
+    CHECK(compares("a/", 2, text, len, MIME_MISSING_SUBTYPE, 0, 0));
     CHECK_REFUSED(asked, mime_read(text, len, buffer(room), room, &found) == MIME_NO_MEMORY && has_written(0, room) && found.length == 0);
     CHECK_REFUSED(2 * asked, compares(text, len, text, len, MIME_NO_MEMORY, 0, refused_at));
 }
@@ -164,6 +165,16 @@ static void check_list(const char *text, size_t len)
     CHECK_REFUSED(asked, mime_list(text, len, buffer(room), room, &length) == MIME_NO_MEMORY && length == 0);
 }
 
+/* Whether no two answers have the same text, one that isn't among them included. */
+static int has_texts(void)
+{
+    for (uint32_t one = MIME_OK; one <= MIME_NO_ROOM + 1; one++)
+        for (uint32_t other = MIME_OK; other < one; other++)
+            if (strcmp(mime_answer_text(one), mime_answer_text(other)) == 0)
+                return 0;
+    return 1;
+}
+
 static void check(const char *given, size_t len)
 {
     const char *text = len > 0 ? memcpy(text_end - len, given, len) : NULL;
@@ -185,6 +196,8 @@ int main(int argc, char **argv)
     out_end = text_end + PAGE + ROOM;
     if (blocks == MAP_FAILED || mprotect(text_end, PAGE, PROT_NONE) != 0 || mprotect(out_end, PAGE, PROT_NONE) != 0)
         return 2;
+    if (!has_texts())
+        errx(1, "two answers have the same text");
     memset(untouched, 'U', sizeof untouched);
     for (ssize_t read; (read = getline(&line, &size, stdin)) > 0; lines++)
         check(line, (size_t)read - (line[read - 1] == '\n'));
