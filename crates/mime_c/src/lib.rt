@@ -43,8 +43,7 @@ const MIME_GOOD: u8 = b'+';
 
 const MIME_BAD: u8 = b'-';
 
-/// What `mime_read` finds besides the strings. Lengths and positions are in bytes, positions from 0. A field that the
-/// answer doesn't set is 0.
+/// What `mime_read` finds besides the strings, in bytes, positions from 0. What its answer doesn't set is 0.
 #[repr(C)]
 #[derive(Clone, Copy)]
 pub struct MimeFound {
@@ -75,7 +74,7 @@ const NOTHING: MimeFound = MimeFound {
     byte: 0,
 };
 
-/// Why a text isn't read as a media type: the answer of a call, and what is found.
+/// Why a text isn't read: the answer of a call, and what is found.
 #[derive(Clone, Copy)]
 struct Failure {
     answer: u32,
@@ -182,8 +181,7 @@ fn put_parts(out: &mut [u8], mime: &Mime) -> MimeFound
 }
 
 /// Reads the whole of `text` as one media type (RFC 7231, 3.1.1.1), and writes its parts and how it is printed to
-/// `out`, which needs `2 * text.len() + 2` bytes. It returns `MIME_OK`, or why it writes nothing. include/mime.h has an
-/// example.
+/// `out`, of at least `2 * text.len() + 2` bytes. It returns `MIME_OK`, or why it wrote nothing: mime.h.
 #[unsafe(no_mangle)]
 #[tactic(auto, using(crate::proofs::Room::texts_fit))]
 pub extern "C" fn mime_read(
@@ -220,9 +218,8 @@ fn put_item(out: &mut [u8], at: usize, mark: u8, text: &str) -> usize
     put(out, next, text)
 }
 
-/// Takes the media types out of `text`, such as an Accept header (RFC 7231, 5.3.2), and writes a string for each, and
-/// for each bad piece, to `out`, which needs `2 * text.len()` bytes. `length` is the number of bytes written. It returns
-/// `MIME_OK`, or why it writes no list. include/mime.h has an example.
+/// Takes the media types out of `text`, such as an Accept header (RFC 7231, 5.3.2). It writes a string for each, and for
+/// each bad piece, to `out`, of at least `2 * text.len()` bytes, and returns `MIME_OK`, or why it wrote no list: mime.h.
 #[unsafe(no_mangle)]
 #[tactic(auto, using(crate::specs::Answers::has_no_room, crate::specs::Answers::is_not_text))]
 pub extern "C" fn mime_list(alloc: Global, text: &[u8], out: &mut [u8], length: &mut usize) -> u32
