@@ -24,7 +24,7 @@ svg_written : written (strings (texts_of svg)) (codes "-------------------------
 unfolding svg
 svg_written = refl
 
--- what is found beside them, by each field, and of an invalid byte
+-- what is found besides them, by each field, and of an invalid byte
 svg_found : found_of svg ≡ record { length = 36; params = 1; printed = 17; slash = 5; subtype_end = 9; pos = 0; byte = 0 }
 unfolding svg
 svg_found = refl
