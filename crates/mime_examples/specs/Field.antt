@@ -1,8 +1,9 @@
 -- What HTTP allows in a header's value and the library rejects is left out, and a list is split into its entries
 -- (RFC 9110, 5.6.1, 5.6.6).
-use Rattle.std.specs.Prelude.{ℕ, Bool, false, List, [], ◌∷◌, ◌++◌, if◌then◌else◌, ◌==◌}
+use Rattle.std.specs.Prelude.{◌≡◌, ℕ, Bool, false, List, [], ◌∷◌, ◌++◌, if◌then◌else◌, ◌==◌}
 use Rattle.mime.specs.Bytes.{semicolon_byte, equals_byte, quote_byte, backslash_byte, space_byte, comma_byte}
 use Rattle.mime.specs.Grammar.{is_space}
+use Rattle.mime.specs.Cut.{CutItem, good, bad}
 use Rattle.mime_examples.specs.declared.field.Place.{Place}
 use Rattle.mime_examples.specs.declared.field.Place.TheVariants.{Start, Plain, Spaced, Equals, Quoted, Paired, Closed, Semicolon}
 
@@ -81,3 +82,12 @@ entries_from place entry (b ∷ bytes) =
 
 abbrev pub entries_in : List ℕ → List (List ℕ)
 entries_in value = entries_from Start [] value
+
+-- the text of an element
+abbrev pub piece_of : CutItem → List ℕ
+piece_of (good piece value) = piece
+piece_of (bad piece) = piece
+
+-- an entry is a list of itself alone
+abbrev pub IsOneEntry : List ℕ → Type 0
+IsOneEntry entry = entries_in entry ≡ entry ∷ []

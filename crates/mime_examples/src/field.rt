@@ -1,8 +1,12 @@
 //! A header's value without what HTTP allows there and the library rejects.
 
-ghost use Rattle.std.specs.Prelude.{◌≡◌, ◌++◌, [], map, OnOk, IfOk};
+ghost use Rattle.std.specs.List.{AllByRecursion};
+ghost use Rattle.std.specs.Prelude.{◌≡◌, ◌++◌, List, [], map, OnOk, IfOk};
 ghost use Rattle.std.specs.Vec.{vec_items};
-ghost use Rattle.mime_examples.specs.Field.{after_space, after_outside, place_after, is_left_out, added, tight, ends_entry, with_entry, entries_in};
+ghost use Rattle.mime.specs.Cut.{CutItem};
+ghost use Rattle.mime.specs.CutLaws.{IsHttpList};
+ghost use Rattle.mime.specs.Values.{IsAccepted};
+ghost use Rattle.mime_examples.specs.Field.{after_space, after_outside, place_after, is_left_out, added, tight, ends_entry, with_entry, entries_in, piece_of, IsOneEntry};
 
 use std::alloc::{AllocError, Global};
 
@@ -96,7 +100,10 @@ fn push_byte(entry: &mut Vec<u8>, place: Place, byte: u8) -> Result<(), AllocErr
 /// # Errors
 /// `AllocError` if memory runs out.
 pub fn tightened(alloc: Global, value: &[u8]) -> Result<Vec<u8>, AllocError>
-    ensures { IfOk result (λ entry. vec_items entry ≡ tight value.now) }
+    ensures exact { IfOk result (λ entry. vec_items entry ≡ tight value.now) }
+    // What the library reads is left as it is, and what comes out comes out of itself.
+    ensures read { IsAccepted value.now → IfOk result (λ entry. vec_items entry ≡ value.now) }
+    ensures again { IfOk result (λ entry. tight (vec_items entry) ≡ vec_items entry) }
 {
     let mut entry = Vec::new(alloc);
     let mut place = Place::Start;
@@ -134,7 +141,11 @@ fn push_entry(entries: &mut Vec<Vec<u8>>, entry: Vec<u8>) -> Result<(), AllocErr
 /// # Errors
 /// `AllocError` if memory runs out.
 pub fn entries(alloc: Global, value: &[u8]) -> Result<Vec<Vec<u8>>, AllocError>
-    ensures { IfOk result (λ entries. map vec_items (vec_items entries) ≡ entries_in value.now) }
+    ensures exact { IfOk result (λ entries. map vec_items (vec_items entries) ≡ entries_in value.now) }
+    // A list as HTTP writes it has exactly its elements as entries, and each entry that comes out is a list of itself alone.
+    ensures elements { (elements : List CutItem) → IsHttpList value.now elements
+        → IfOk result (λ entries. map vec_items (vec_items entries) ≡ map piece_of elements) }
+    ensures again { IfOk result (λ entries. AllByRecursion IsOneEntry (map vec_items (vec_items entries))) }
 {
     let mut entries = Vec::new(alloc);
     let mut entry = Vec::new(alloc);

@@ -1,7 +1,7 @@
 //! What callers do with media types: a module for each task, which docs/RECIPES.md lists. README.md and crates/mime/CALLING.md quote
 //! some of them whole.
-//! The program tries them: each row of standard input names an example and has its texts, each with a bar behind it, and is
-//! printed with what the example answers, again with a bar behind each answer.
+//! The program tries them: each row of standard input names an example and has its texts, each with a bar after it, and is
+//! printed with what the example answers, again with a bar after each answer.
 #![tactic(auto)]
 
 mod accept;
@@ -55,7 +55,7 @@ fn main(rt: HostRuntime) -> io::Result<()> {
     Ok(())
 }
 
-/// Prints an answer with a bar behind it, or what stands for none.
+/// Prints an answer, or what stands for `None`, with a bar after it.
 fn say<D: Display + Drop>(
     out: &mut String,
     answer: Option<D>,
@@ -164,7 +164,7 @@ fn try_with_memory(
     }
 }
 
-/// Prints a media type as a header holds it, or that none was made.
+/// Prints a media type as a header holds it, or that there is none.
 fn say_made(out: &mut String, made: Option<Mime>) -> Result<(), AllocError> {
     match made {
         Some(mime) => write!(out, "{}|", parameter::header_text(&mime)),
