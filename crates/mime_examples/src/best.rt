@@ -63,7 +63,11 @@ pub fn highest(weights: &[u16]) -> Option<usize>
 ///
 /// # Errors
 /// `AllocError` if memory runs out.
-pub fn best(alloc: Global, accept: Option<&[u8]>, offers: &[Mime]) -> Result<Option<usize>, AllocError>
+pub fn best(
+    alloc: Global,
+    accept: Option<&[u8]>,
+    offers: &[Mime],
+) -> Result<Option<usize>, AllocError>
     ensures { IfOk result (λ best. IfSome best (λ at. at < length offers.now)) }
 {
     let ranges = entries_of(alloc, accept.unwrap_or(b"*/*"))?.good;

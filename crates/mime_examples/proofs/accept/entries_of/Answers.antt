@@ -1,5 +1,5 @@
 -- An entry that was read or pushed comes after those so far.
-use Rattle.std.proofs.Common.{rules, arith, ◌≡◌, map, subst, sym, refl, ℕ, List, [], ◌∷◌, ◌++◌}
+use Rattle.std.proofs.Common.{rules, arith, ◌≡◌, map, subst, sym, refl, List, [], ◌∷◌, ◌++◌}
 use Rattle.std.specs.Str.{IsUtf8}
 use Rattle.std.specs.Vec.{vec_items}
 use Rattle.std.proofs.lemmas.List.{append-nil, append_assoc, map-append, nil_from_length}

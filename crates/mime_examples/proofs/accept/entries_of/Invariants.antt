@@ -1,5 +1,5 @@
 -- The entries so far, with those of what is left, are all.
-use Rattle.std.proofs.Common.{ℕ, List, ◌++◌, drop, map}
+use Rattle.std.proofs.Common.{ℕ, List, ◌++◌, map}
 use Rattle.std.specs.Vec.{vec_items}
 use Rattle.mime.specs.Values.{MediaType}
 use Rattle.mime_examples.specs.Entries.{AreEntries}
