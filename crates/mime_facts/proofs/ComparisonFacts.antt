@@ -97,7 +97,7 @@ bare_first (inl (inr (a, inr (slash, inl less)))) = absurd (omega (arith, less))
 bare_first (inl (inr (a, inr (slash, inr rest)))) = rest.1
 bare_first (inr rest) = rest.1
 
--- an answer is the order of two values exactly where it names the one of the three that holds
+-- an answer is the order of two values exactly if it names the one of the three that holds
 orders : IsOrderOf plain_x plain_y Less × IsOrderOf quoted_x plain_x Equal × IsOrderOf plain_y plain_x Greater
 orders = (values_before.2, (refl, refl), values_before.2)
 
