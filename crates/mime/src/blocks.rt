@@ -2,7 +2,7 @@
 
 ghost use Rattle.std.specs.Prelude.{◌≡◌, ◌+◌, ◌<◌, ◌≤◌, length, take, drop, slice_index};
 ghost use Rattle.std.specs.Str.{IsCharBoundary};
-ghost use Rattle.mime.specs.Inner.Blocks.{IsEndOf, first_position, before_byte, after_byte, mask_of};
+ghost use Rattle.mime.specs.Inner.Blocks.{IsSuffixOf, first_position, before_byte, after_byte, mask_of};
 
 use std::marker::Model;
 use std::simd::prelude::*;
@@ -24,8 +24,8 @@ pub(crate) fn mask(text: &[u8], byte: u8) -> u64
 /// The first position of a byte in `text`, a suffix of `whole` shorter than a block, or the suffix's length. If `whole`
 /// has a block, its last block is searched at once.
 #[inline(always)]
-fn position_in_end(whole: &[u8], text: &[u8], byte: u8) -> usize
-    requires end { IsEndOf text.now whole.now }
+fn position_in_last_block(whole: &[u8], text: &[u8], byte: u8) -> usize
+    requires end { IsSuffixOf text.now whole.now }
     requires short { length text.now < BLOCK }
     ensures { result ≡ first_position byte text.now }
 {
@@ -69,36 +69,36 @@ fn position_by_blocks(text: &[u8], byte: u8) -> usize
         }
         left = &left[BLOCK..];
     }
-    text.len() - left.len() + position_in_end(text, left, byte)
+    text.len() - left.len() + position_in_last_block(text, left, byte)
 }
 
 /// A suffix of a text, together with the text: where the suffix is shorter than a block, the text's last block is
 /// searched in its place, without a loop.
 #[derive(Drop)]
-pub(crate) struct TextEnd<'a> {
+pub(crate) struct Suffix<'a> {
     whole: &'a str,
     text: &'a str,
 }
 
-impl<'a> Model for TextEnd<'a> {
+impl<'a> Model for Suffix<'a> {
     ghost use Rattle.std.specs.Prelude.{List, ℕ};
-    ghost use Rattle.mime.specs.Inner.Blocks.{IsEndOf};
+    ghost use Rattle.mime.specs.Inner.Blocks.{IsSuffixOf};
 
     ghost Value = { List ℕ };
 
     ghost view = { λ end. end.text.now };
 
-    ghost invariant = { λ end. IsEndOf end.text.now end.whole.now };
+    ghost invariant = { λ end. IsSuffixOf end.text.now end.whole.now };
 }
 
-impl<'a> TextEnd<'a> {
+impl<'a> Suffix<'a> {
     /// The suffix of a text from this position on.
     #[inline(always)]
-    pub(crate) fn of(whole: &'a str, from: usize) -> TextEnd<'a>
+    pub(crate) fn of(whole: &'a str, from: usize) -> Suffix<'a>
         requires { IsCharBoundary whole.now from }
         ensures { result ≡ drop from whole.entry.now }
     {
-        TextEnd {
+        Suffix {
             whole,
             text: &whole[from..],
         }
@@ -114,11 +114,11 @@ impl<'a> TextEnd<'a> {
 
     /// The suffix of it from this position on.
     #[inline(always)]
-    pub(crate) fn after(&self, from: usize) -> TextEnd<'a>
+    pub(crate) fn after(&self, from: usize) -> Suffix<'a>
         requires { IsCharBoundary self.now from }
         ensures { result ≡ drop from self.now }
     {
-        TextEnd {
+        Suffix {
             whole: self.whole,
             text: &self.text[from..],
         }
@@ -131,7 +131,7 @@ impl<'a> TextEnd<'a> {
     {
         let text = self.text.as_bytes();
         if text.len() < BLOCK {
-            return position_in_end(self.whole.as_bytes(), text, byte);
+            return position_in_last_block(self.whole.as_bytes(), text, byte);
         }
         let found = mask(text, byte);
         if found == 0 {
@@ -142,7 +142,7 @@ impl<'a> TextEnd<'a> {
 
     /// Splits at the ASCII byte at `position`, which is dropped; at the end, returns all of the text and an empty rest.
     #[inline(always)]
-    pub(crate) fn split_around(&self, position: usize) -> (&'a str, TextEnd<'a>)
+    pub(crate) fn split_around(&self, position: usize) -> (&'a str, Suffix<'a>)
         requires within { position ≤ length self.now }
         requires ascii { position < length self.now → slice_index self.now position < 128 }
         ensures before { result.0.now ≡ take position self.now }
@@ -155,7 +155,7 @@ impl<'a> TextEnd<'a> {
 
     /// Splits at the first such ASCII byte, which is dropped; without one, returns all of the text and an empty rest.
     #[inline(always)]
-    pub(crate) fn split_at_first(&self, byte: u8) -> (&'a str, TextEnd<'a>)
+    pub(crate) fn split_at_first(&self, byte: u8) -> (&'a str, Suffix<'a>)
         requires ascii { byte < 128 }
         ensures before { result.0.now ≡ before_byte byte self.now }
         ensures after { result.1 ≡ after_byte byte self.now }

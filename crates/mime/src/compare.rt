@@ -4,36 +4,36 @@ ghost use Rattle.std.specs.Prelude.{◌≡◌, ◌≢◌, ◌↔◌, IsTrue, Som
 ghost use Rattle.mime.specs.Comparison.{TextIs};
 ghost use Rattle.mime.specs.Difference.{reaches_value, DifferInValue};
 ghost use Rattle.mime.specs.Inner.KeptText.{AreLowPairs, IsLowPair, lowered_pair};
-ghost use Rattle.mime.specs.Inner.ComparedText.{IsListAfter, IsAcceptedAt};
+ghost use Rattle.mime.specs.Inner.ComparedText.{StartsWithEssence, IsAcceptedAt};
 ghost use Rattle.mime.specs.Values.{Reads, lowered};
 ghost use Rattle.mime.specs.declared.compare.Compared.TheVariants.{Equal, Different};
 
 use crate::blocks::BLOCK;
 use crate::bytes::is_space;
-use crate::ignoring_case::{eq_ignoring_case, first_difference};
+use crate::ignoring_case::{eq_ignore_ascii_case, first_difference};
 use crate::scan::{ByteReader, Positions, Verdict, scan};
 use crate::value::Mime;
 use crate::value::pairs::Pairs;
 
 /// Whether two texts are equal ignoring ASCII case.
 #[inline(always)]
-fn eq_str_ignoring_case(one: &str, other: &str) -> bool
+fn eq_str_ignore_ascii_case(one: &str, other: &str) -> bool
     ensures { IsTrue result ↔ (lowered one.now ≡ lowered other.now) }
 {
-    eq_ignoring_case(one.as_bytes(), other.as_bytes())
+    eq_ignore_ascii_case(one.as_bytes(), other.as_bytes())
 }
 
 /// Whether a text begins with this essence, ignoring ASCII case, and a semicolon after it.
 #[inline]
-fn is_list_after(essence: &str, text: &str) -> bool
-    ensures { IsTrue result ↔ IsListAfter essence.now text.now }
+fn starts_with_essence(essence: &str, text: &str) -> bool
+    ensures { IsTrue result ↔ StartsWithEssence essence.now text.now }
 {
     let end = essence.len();
     let text = text.as_bytes();
     if end >= text.len() || text[end] != b';' {
         return false;
     }
-    eq_ignoring_case(essence.as_bytes(), &text[..end])
+    eq_ignore_ascii_case(essence.as_bytes(), &text[..end])
 }
 
 /// Whether a text's name and value are those of a kept parameter: ignoring ASCII case in the name, and in the value if the
@@ -43,11 +43,11 @@ fn is_pair(name: &str, value: &str, other_name: &str, other_value: &str) -> bool
     requires { IsLowPair (name.now, value.now) }
     ensures { IsTrue result ↔ ((name.now, value.now) ≡ lowered_pair (other_name.now, other_value.now)) }
 {
-    if !eq_str_ignoring_case(name, other_name) {
+    if !eq_str_ignore_ascii_case(name, other_name) {
         return false;
     }
     if name == "charset" {
-        eq_str_ignoring_case(value, other_value)
+        eq_str_ignore_ascii_case(value, other_value)
     } else {
         value == other_value
     }
@@ -73,7 +73,7 @@ fn are_pairs(kept: Pairs<'_>, pairs: Pairs<'_>) -> bool
 
 /// Whether the first semicolon is at this position, and `count` parameters follow it.
 #[inline(always)]
-fn is_list_at(positions: Positions, semicolon: usize, count: usize) -> bool
+fn has_shape(positions: Positions, semicolon: usize, count: usize) -> bool
     ensures { IsTrue result ↔ ((positions.semicolon ≡ Some semicolon) × (positions.pair_count ≡ count)) }
 {
     positions.semicolon == Some(semicolon) && positions.pair_count == count
@@ -86,7 +86,7 @@ fn is_accepted_at(text: &str, semicolon: usize, count: usize) -> bool
 {
     let mut reader = ByteReader::new(text, 0);
     match scan(&mut reader) {
-        Verdict::Accepted(positions) => is_list_at(positions, semicolon, count),
+        Verdict::Accepted(positions) => has_shape(positions, semicolon, count),
         _ => false,
     }
 }
@@ -101,11 +101,14 @@ fn eq_by_parts(mime: &Mime, s: &str, equal_ignoring_case: bool) -> bool
     ensures { IsTrue result ↔ TextIs mime.now.media s.now }
 {
     let essence = mime.essence_str();
-    if !is_list_after(essence, s) {
+    if !starts_with_essence(essence, s) {
         return false;
     }
     let end = essence.len();
-    if !are_pairs(mime.pairs(), Pairs::after(s, Some(end), mime.param_count())) {
+    if !are_pairs(
+        mime.pairs(),
+        Pairs::of_text(s, Some(end), mime.param_count()),
+    ) {
         return false;
     }
     equal_ignoring_case || is_accepted_at(s, end, mime.param_count())
@@ -150,7 +153,7 @@ fn compare_texts(kept: &str, text: &str) -> Compared
 /// Whether a text other than the kept text is equal to a value with parameters. The first difference decides most texts;
 /// a lone charset in another case is equal; otherwise the parts are compared.
 #[inline(never)]
-fn eq_otherwise(mime: &Mime, s: &str) -> bool
+fn eq_other_text(mime: &Mime, s: &str) -> bool
     requires { mime.now.media.pairs ≢ [] }
     ensures { IsTrue result ↔ TextIs mime.now.media s.now }
 {
@@ -173,7 +176,7 @@ pub fn mime_eq_str(mime: &Mime, s: &str) -> bool
 {
     let kept = mime.as_str();
     if mime.param_count() == 0 {
-        return eq_str_ignoring_case(kept, s);
+        return eq_str_ignore_ascii_case(kept, s);
     }
-    kept == s || eq_otherwise(mime, s)
+    kept == s || eq_other_text(mime, s)
 }

@@ -110,7 +110,7 @@ fn eq_at_both_ends(a: &[u8], b: &[u8], block: usize) -> bool
 
 /// Whether two byte strings are equal ignoring ASCII case.
 #[inline(never)]
-pub(crate) fn eq_ignoring_case(a: &[u8], b: &[u8]) -> bool
+pub(crate) fn eq_ignore_ascii_case(a: &[u8], b: &[u8]) -> bool
     ensures { IsTrue result ↔ (lowered a.now ≡ lowered b.now) }
 {
     if a.len() != b.len() {

@@ -4,7 +4,7 @@ ghost use Rattle.std.specs.Prelude.{◌≡◌, ◌+◌, ◌-◌, ◌<◌, ◌≤
 ghost use Rattle.std.specs.Iterator.{UpTo, at_most};
 ghost use Rattle.std.specs.Iterator.SizeHint.{IsWithinCount};
 ghost use Rattle.mime.specs.Runs.{IsNext};
-ghost use Rattle.mime.specs.Inner.BetweenCalls.{PassesPiece, IsFound};
+ghost use Rattle.mime.specs.Inner.BetweenCalls.{ReadsPiece, IsFound};
 
 use crate::scan::{ByteReader, Positions, Verdict, scan};
 use crate::value::Mime;
@@ -23,7 +23,7 @@ pub enum Bad<'a> {
 
 /// The first piece of a text, after which a character is skipped.
 #[derive(Clone, Copy)]
-struct Passed<'a> {
+struct ReadPiece<'a> {
     /// The piece; empty where it isn't yielded.
     piece: &'a str,
     /// The positions of its parts, if it is a media type.
@@ -36,22 +36,22 @@ struct Passed<'a> {
 
 /// Reads the first piece of a text, and skips the character after it. `from` is the number of bytes read before.
 #[inline(always)]
-fn pass<'a>(text: &'a str, from: u128) -> Passed<'a>
+fn read_piece<'a>(text: &'a str, from: u128) -> ReadPiece<'a>
     requires { from + length text.now < 2 ^ 128 }
-    ensures passes { PassesPiece text.now result.piece.now result.positions result.left.now (result.steps - from) }
+    ensures reads { ReadsPiece text.now result.piece.now result.positions result.left.now (result.steps - from) }
     ensures counted { from ≤ result.steps }
 {
     let mut reader = ByteReader::new(text, from);
     let verdict = scan(&mut reader);
     let steps = reader.count();
     match verdict {
-        Verdict::Accepted(positions) => Passed {
+        Verdict::Accepted(positions) => ReadPiece {
             piece: text,
             positions: Some(positions),
             left: "",
             steps,
         },
-        Verdict::Unfinished(_) => Passed {
+        Verdict::Unfinished(_) => ReadPiece {
             piece: "",
             positions: None,
             left: "",
@@ -59,7 +59,7 @@ fn pass<'a>(text: &'a str, from: u128) -> Passed<'a>
         },
         Verdict::Stopped(_, positions) => {
             let end = reader.position(from);
-            Passed {
+            ReadPiece {
                 piece: &text[..end],
                 positions,
                 left: &text[text.ceil_char_boundary(end + 1)..],
@@ -139,11 +139,11 @@ impl<'a> MimeIter<'a> {
         ensures { IsFound self.old result self.new }
     {
         while !self.left.is_empty() {
-            let passed = pass(self.left, self.steps);
-            self.left = passed.left;
-            self.steps = passed.steps;
-            if !passed.piece.is_empty() {
-                return Some((passed.piece, passed.positions));
+            let read = read_piece(self.left, self.steps);
+            self.left = read.left;
+            self.steps = read.steps;
+            if !read.piece.is_empty() {
+                return Some((read.piece, read.positions));
             }
         }
         None

@@ -6,7 +6,7 @@ ghost use Rattle.mime.specs.Names.{NameIs};
 
 pub(crate) mod constants;
 
-use crate::ignoring_case::eq_ignoring_case;
+use crate::ignoring_case::eq_ignore_ascii_case;
 use std::fmt;
 
 /// A part of a media type: a type, a subtype, a suffix, a parameter's name or its value (RFC 7231,
@@ -59,7 +59,7 @@ impl fmt::Debug for Name<'_> {
 pub fn name_eq_str(name: &Name<'_>, s: &str) -> bool
     ensures { IsTrue result ↔ NameIs name.now.text.now name.now.ignores_case s.now }
 {
-    name.text == s || name.ignores_case && eq_ignoring_case(name.text.as_bytes(), s.as_bytes())
+    name.text == s || name.ignores_case && eq_ignore_ascii_case(name.text.as_bytes(), s.as_bytes())
 }
 
 /// A key that looks a parameter up by its name, with [`Mime::get_param`](crate::Mime::get_param): a `&str`, a

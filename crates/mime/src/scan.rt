@@ -126,13 +126,13 @@ fn subtype(reader: &mut ByteReader<'_>, from: u128) -> (Option<usize>, Option<u8
     (if plus == 0 { None } else { Some(plus) }, stop)
 }
 
-/// Reads a parameter list, after its semicolon. `head` has the positions of the parts before it, and no pairs yet.
+/// Reads a parameter list, after its semicolon. `before` has the positions of the parts before it, and no pairs yet.
 #[inline(always)]
-fn parameters(reader: &mut ByteReader<'_>, head: Positions) -> Verdict
-    requires { head.pair_count + length reader.old.left < 2 ^ 64 }
-    ensures { ScansList head reader.old reader.new result }
+fn parameters(reader: &mut ByteReader<'_>, before: Positions) -> Verdict
+    requires { before.pair_count + length reader.old.left < 2 ^ 64 }
+    ensures { ScansList before reader.old reader.new result }
 {
-    let mut positions = head;
+    let mut positions = before;
     loop {
         let Some(first) = spaces(reader) else {
             return Verdict::Accepted(positions);

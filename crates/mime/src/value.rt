@@ -7,7 +7,7 @@ ghost use Rattle.mime.specs.Refusals.{Explains};
 ghost use Rattle.mime.specs.Items.{items_of, name_seen, name_text, IsLowIf, IsLowItem, IsFirstAccepted};
 ghost use Rattle.mime.specs.Inner.Scanning.{HasPositions};
 ghost use Rattle.mime.specs.Inner.KeptText.{IsKept, media_of, AreLowPairs};
-ghost use Rattle.mime.specs.Inner.StoredText.{bytes_of};
+ghost use Rattle.mime.specs.Inner.KeptBytes.{bytes_of};
 
 mod hashing;
 mod kept;
@@ -58,7 +58,7 @@ impl Model for Mime {
 
     ghost Value = { OwnedMedia };
 
-    ghost use Rattle.mime.specs.Inner.StoredText.{bytes_of, is_fixed};
+    ghost use Rattle.mime.specs.Inner.KeptBytes.{bytes_of, is_fixed};
     ghost use Rattle.mime.specs.Inner.KeptText.{media_of, IsKept};
 
     ghost view = { λ mime. record { media = media_of (bytes_of mime.text) mime.positions; fixed = is_fixed mime.text } };
@@ -222,7 +222,7 @@ impl Mime {
         ensures low { AreLowPairs result }
     {
         let text = self.text.as_str();
-        Pairs::after(text, self.positions.semicolon, self.positions.pair_count)
+        Pairs::of_text(text, self.positions.semicolon, self.positions.pair_count)
     }
 
     /// The number of parameters.

@@ -5,9 +5,10 @@ ghost use Rattle.std.specs.Cmp.{partial_equiv_from_equiv, partial_order_from_tot
 ghost use Rattle.std.specs.Fmt.{debug_str, styled_text};
 ghost use Rattle.std.specs.Ordering.{eq_by_cmp, on, as_partial_cmp};
 ghost use Rattle.mime.specs.Comparison.{Same, IsOrderOf, media_cmp};
-ghost use Rattle.mime.specs.Inner.HashInput.{media_input, media_cmp_total, same_from_cmp, media_input-same};
+ghost use Rattle.mime.specs.Inner.HashInput.{media_input, media_input-same};
+ghost use Rattle.mime.specs.Inner.OrderLaws.{media_cmp_total, same_from_cmp};
 
-use crate::value::hashing::feed_pairs;
+use crate::value::hashing::{feed_pairs, feed_part};
 use crate::value::{Mime, Text};
 use std::alloc::AllocError;
 use std::cmp::Ordering;
@@ -91,7 +92,7 @@ impl Ord for Mime {
     #[inline]
     fn cmp(&self, other: &Mime) -> Ordering
         ensures computed { result ≡ media_cmp self.now.media other.now.media }
-        ensures told { IsOrderOf self.now.media other.now.media result }
+        ensures order { IsOrderOf self.now.media other.now.media result }
     {
         // Equal texts are equal values.
         if self.as_str() == other.as_str() {
@@ -111,7 +112,7 @@ impl Hash for Mime {
 
     fn hash<H: Hasher>(&self, state: &mut H) {
         feed_pairs(self.pairs(), state);
-        self.essence_str().hash(state);
+        feed_part(self.essence_str().as_bytes(), state);
     }
 }
 

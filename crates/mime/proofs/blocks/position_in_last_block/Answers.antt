@@ -1,6 +1,6 @@
 -- The bit mask of the whole's last bytes, without the bits before the text, shows the position.
 use Rattle.mime.proofs.BlocksLemmas.{position-end_none, position-end_some}
-use Rattle.mime.proofs.blocks.position_in_end.Goals as goal
+use Rattle.mime.proofs.blocks.position_in_last_block.Goals as goal
 
 pub returns-then-found-eq0 : goal.returns-then-found-eq0
 returns-then-found-eq0 c =

@@ -4,7 +4,7 @@ use Rattle.mime.specs.Values.{lowered}
 use Rattle.mime.specs.Inner.ComparedText.{IsLoneCharset}
 use Rattle.mime.proofs.CompareLemmas.FirstDifference.{text_is-different_values}
 use Rattle.mime.proofs.CompareLemmas.Parts.{text_is-lone_charset}
-use Rattle.mime.proofs.compare.eq_otherwise.Goals as goal
+use Rattle.mime.proofs.compare.eq_other_text.Goals as goal
 
 pub returns-in-Different : goal.returns-in-Different
 returns-in-Different c = (

@@ -1,6 +1,6 @@
 -- Texts are equal ignoring ASCII case exactly where no first difference is found.
 use Rattle.mime.proofs.IgnoringCaseLemmas.{none_found}
-use Rattle.mime.proofs.ignoring_case.eq_ignoring_case.Goals as goal
+use Rattle.mime.proofs.ignoring_case.eq_ignore_ascii_case.Goals as goal
 
 pub returns-then-a-ge-BLOCK : goal.returns-then-a-ge-BLOCK
 returns-then-a-ge-BLOCK c =
