@@ -118,7 +118,7 @@ unsafe-dead begun b unsafe =
         ∙ cond-false (b == quote_byte) _ None foreign.quote)
 
 -- a text that is walked has no such byte
-walked-safe : (start last : Begun) (text : List ℕ) → walk_from start text ≡ Some last → AreHeaderBytes text
+pub walked-safe : (start last : Begun) (text : List ℕ) → walk_from start text ≡ Some last → AreHeaderBytes text
 walked-safe start last [] walked = refl
 walked-safe start last (b ∷ text) walked =
     option_and_then_some (λ next. walk_from next text) (grow start b) last walked

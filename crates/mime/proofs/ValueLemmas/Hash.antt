@@ -150,12 +150,11 @@ fed_pairs_bytes (pair ∷ pairs) =
     ap concat (flat_map-cons pair_input pair pairs) ∙ concat-append (pair_input pair) (flat_map pair_input pairs)
     ∙ (λ i. fed_pair_bytes pair i ++ fed_pairs_bytes pairs i) ∙ sym (flat_map-cons pair_bytes pair pairs)
 
--- a value feeds the bytes of its pairs, and of its essence
+-- a value feeds the bytes of its pairs, its essence, and the byte 255
 media_bytes : (media : MediaType) (after : List ℕ)
-    → concat (media_input media) ++ after ≡ flat_map pair_bytes media.pairs ++ (media.essence ++ (255 ∷ (zeros_after media.essence ++ after)))
+    → concat (media_input media) ++ after ≡ flat_map pair_bytes media.pairs ++ (media.essence ++ (255 ∷ after))
 media_bytes media after =
-    rw (concat-append (flat_map pair_input media.pairs) (part_input media.essence), fed_pairs_bytes media.pairs, fed_part_bytes media.essence)
-    (simp append_assoc)
+    rw (concat-append (flat_map pair_input media.pairs) (media.essence ∷ (255 ∷ []) ∷ []), fed_pairs_bytes media.pairs) (simp append_assoc)
 
 -- the bytes of pairs, and what follows them
 more_bytes : (pair : List ℕ × List ℕ) (pairs : List (List ℕ × List ℕ)) (after : List ℕ)
@@ -200,5 +199,5 @@ hash_is_prefix_free first second after one other same =
     let y = second.media in
     let fed = fed-read x one in
     let also = fed-read y other in
-    pairs_same x.pairs y.pairs x.essence y.essence _ _ fed.pairs also.pairs fed.essence also.essence fed.slash also.slash
+    pairs_same x.pairs y.pairs x.essence y.essence after [] fed.pairs also.pairs fed.essence also.essence fed.slash also.slash
     (sym (media_bytes x after) ∙ same ∙ sym (append-nil (concat (media_input y))) ∙ media_bytes y [])

@@ -68,7 +68,7 @@ pub value_of-lowering : (tree : SyntaxTree) → value_of tree ≡ value_of_low (
 value_of-lowering tree = rw (length-lowered tree.top)
 
 -- a text is kept, with the value of a tree
-record Keeps (tree : SyntaxTree) (text : List ℕ) (positions : Positions) : Type 0 where
+pub record Keeps (tree : SyntaxTree) (text : List ℕ) (positions : Positions) : Type 0 where
   pub is_kept : IsKept text positions
   pub valued : value_of tree ≡ value_of is_kept.has.tree
 
@@ -125,7 +125,7 @@ keeps_parts top sub (listed (more n p rest)) well =
     keeps_as _ (tree_with top sub (listed (more n p rest))) _ well refl (whole_text top sub (more n p rest) well.2) refl
 
 -- the same, by the positions that the tree gives
-keeps-tree : (tree : SyntaxTree) → IsWellFormed tree
+pub keeps-tree : (tree : SyntaxTree) → IsWellFormed tree
     → Keeps tree (kept_text_of (positions_of tree).pair_count (positions_of tree).semicolon (text_of tree)) (kept_positions (positions_of tree))
 keeps-tree tree well = keeps_parts tree.top tree.sub tree.tail well
 

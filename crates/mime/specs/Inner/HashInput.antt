@@ -21,10 +21,11 @@ part_input part = take (words_len part) part ∷ end_word (drop (words_len part)
 abbrev pub pair_input : List ℕ × List ℕ → fed.HashWrites
 pair_input pair = part_input pair.0 ++ part_input pair.1
 
--- what a value feeds: its pairs, and then its essence. No name is an essence, which has a slash, so the bytes say where the pairs end
+-- what a value feeds: its pairs, and then its essence as a `str`, so with the byte 255 after it. No name is an essence, which has
+-- a slash, so the bytes say where the pairs end
 abbrev pub media_input : MediaType → fed.HashWrites
-media_input media = flat_map pair_input media.pairs ++ part_input media.essence
+media_input media = flat_map pair_input media.pairs ++ fed.str media.essence
 
 -- equal values feed a hasher the same
 pub media_input-same : (x y : MediaType) → Same x y → media_input x ≡ media_input y
-media_input-same x y same i = flat_map pair_input (same.1 i) ++ part_input (same.0 i)
+media_input-same x y same i = flat_map pair_input (same.1 i) ++ fed.str (same.0 i)

@@ -1,4 +1,4 @@
-//! What the parts of a media type feed a hasher.
+//! What the parameters of a media type feed a hasher.
 
 ghost use Rattle.std.specs.Prelude.{◌≡◌, ◌<◌, length};
 ghost use Rattle.std.specs.List.{fold, flat_map};
@@ -27,7 +27,7 @@ fn end_word(rest: &[u8]) -> [u8; WORD]
 
 /// Feeds a part to a hasher in whole words, since std's hasher takes eight bytes at once nearly as fast as one.
 #[inline]
-pub(crate) fn feed_part<H: Hasher>(part: &[u8], state: &mut H)
+fn feed_part<H: Hasher>(part: &[u8], state: &mut H)
     ensures { state.new ≡ fold H.write state.old (part_input part.now) }
 {
     let (words, rest) = part.split_at(part.len() - part.len() % WORD);

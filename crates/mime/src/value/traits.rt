@@ -8,7 +8,7 @@ ghost use Rattle.mime.specs.Comparison.{Same, IsOrderOf, media_cmp};
 ghost use Rattle.mime.specs.Inner.HashInput.{media_input, media_input-same};
 ghost use Rattle.mime.specs.Inner.OrderLaws.{media_cmp_total, same_from_cmp};
 
-use crate::value::hashing::{feed_pairs, feed_part};
+use crate::value::hashing::feed_pairs;
 use crate::value::{Mime, Text};
 use std::alloc::AllocError;
 use std::cmp::Ordering;
@@ -112,7 +112,7 @@ impl Hash for Mime {
 
     fn hash<H: Hasher>(&self, state: &mut H) {
         feed_pairs(self.pairs(), state);
-        feed_part(self.essence_str().as_bytes(), state);
+        self.essence_str().hash(state);
     }
 }
 
