@@ -15,7 +15,7 @@ use Rattle.mime.proofs.CutLemmas.Cuts.{cut_unique, takes_unique, takes-viable, e
 use Rattle.mime_facts.proofs.StandardFacts.{media, reads}
 use Rattle.mime_facts.proofs.ValueFacts.{differ, plain_value, reads_capitals}
 
--- an iterator over a text, at its begin and at its end
+-- an iterator over a text, at its start and at its end
 abbrev begun : List ℕ → Iteration
 begun text = record { text = text; left = text; out_of_memory = false; steps = 0 }
 

@@ -1,4 +1,4 @@
--- Where no line ends among the next bytes, the search goes on after them.
+-- If no line ends among the next bytes, the search goes on after them.
 use Rattle.std.proofs.Common.{◌+◌, ◌-◌, ◌∙◌, nat_eq, sym, arith}
 use Rattle.mime_lines.proofs.LineCuts.{passed_onward}
 use Rattle.mime_lines.proofs.input.whole_steps.Goals as goal
