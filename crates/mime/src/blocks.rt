@@ -1,4 +1,4 @@
-//! The search for a byte in a text, a block of bytes at a time.
+//! The search for a byte in a string, a block of bytes at a time.
 
 ghost use Rattle.std.specs.Prelude.{◌≡◌, ◌+◌, ◌<◌, ◌≤◌, length, take, drop, slice_index};
 ghost use Rattle.std.specs.Str.{IsCharBoundary};
@@ -10,7 +10,8 @@ use std::simd::prelude::*;
 /// The number of bytes that are compared at once.
 pub(crate) const BLOCK: usize = 16;
 
-/// The positions at which a byte occurs in the first block of a text, as a bit mask: the lowest bit is for position 0.
+/// The positions at which a byte occurs in the first block of a string, as a bit mask. The lowest bit is for position
+/// 0.
 #[inline(always)]
 pub(crate) fn mask(text: &[u8], byte: u8) -> u64
     requires { BLOCK ≤ length text.now }
@@ -21,8 +22,8 @@ pub(crate) fn mask(text: &[u8], byte: u8) -> u64
         .to_bitmask()
 }
 
-/// The first position of a byte in `text`, a suffix of `whole` shorter than a block, or the suffix's length. If `whole`
-/// has a block, its last block is searched at once.
+/// The first position of a byte in `text`, or its length if it doesn't occur. `text` is a suffix of `whole` shorter
+/// than a block. If `whole` has a block, its last block is searched at once.
 #[inline(always)]
 fn position_in_last_block(whole: &[u8], text: &[u8], byte: u8) -> usize
     requires end { IsSuffixOf text.now whole.now }
@@ -40,7 +41,7 @@ fn position_in_last_block(whole: &[u8], text: &[u8], byte: u8) -> usize
     }
 }
 
-/// The first position of a byte, or the text's length, searched byte by byte.
+/// The first position of a byte, or the length if it doesn't occur, searched byte by byte.
 #[inline(always)]
 fn position_by_one(text: &[u8], byte: u8) -> usize
     ensures { result ≡ first_position byte text.now }
@@ -55,7 +56,8 @@ fn position_by_one(text: &[u8], byte: u8) -> usize
     position
 }
 
-/// The first position of a byte, or the text's length, searched block by block.
+/// The first position of a byte, or the length if it doesn't occur, searched block by block. It isn't inlined: most
+/// searches end in their first block.
 #[inline(never)]
 fn position_by_blocks(text: &[u8], byte: u8) -> usize
     requires { BLOCK ≤ length text.now }
@@ -72,8 +74,8 @@ fn position_by_blocks(text: &[u8], byte: u8) -> usize
     text.len() - left.len() + position_in_last_block(text, left, byte)
 }
 
-/// A suffix of a text, together with the text: where the suffix is shorter than a block, the text's last block is
-/// searched in its place, without a loop.
+/// A suffix of a string, together with the string: if the suffix is shorter than a block, the string's last block is
+/// searched instead, without a loop.
 #[derive(Drop)]
 pub(crate) struct Suffix<'a> {
     whole: &'a str,
@@ -92,7 +94,7 @@ impl<'a> Model for Suffix<'a> {
 }
 
 impl<'a> Suffix<'a> {
-    /// The suffix of a text from this position on.
+    /// The suffix of a string from this position on.
     #[inline(always)]
     pub(crate) fn of(whole: &'a str, from: usize) -> Suffix<'a>
         requires { IsCharBoundary whole.now from }
@@ -112,7 +114,7 @@ impl<'a> Suffix<'a> {
         self.text
     }
 
-    /// The suffix of it from this position on.
+    /// Its own suffix from this position on.
     #[inline(always)]
     pub(crate) fn after(&self, from: usize) -> Suffix<'a>
         requires { IsCharBoundary self.now from }
@@ -124,7 +126,7 @@ impl<'a> Suffix<'a> {
         }
     }
 
-    /// The first position of a byte, counted from 0 in the suffix, or the suffix's length.
+    /// The first position of a byte, counted from 0 in the suffix, or the suffix's length if it doesn't occur.
     #[inline(always)]
     pub(crate) fn position_of(&self, byte: u8) -> usize
         ensures { result ≡ first_position byte self.now }
@@ -140,7 +142,7 @@ impl<'a> Suffix<'a> {
         found.trailing_zeros() as usize
     }
 
-    /// Splits at the ASCII byte at `position`, which is dropped; at the end, returns all of the text and an empty rest.
+    /// Splits at the ASCII byte at `position`, which is dropped. At the end, returns the whole suffix and an empty one.
     #[inline(always)]
     pub(crate) fn split_around(&self, position: usize) -> (&'a str, Suffix<'a>)
         requires within { position ≤ length self.now }
@@ -153,7 +155,8 @@ impl<'a> Suffix<'a> {
         (&text[..position], self.after(position + dropped))
     }
 
-    /// Splits at the first such ASCII byte, which is dropped; without one, returns all of the text and an empty rest.
+    /// Splits at the first `byte`, which must be ASCII and is dropped. If it doesn't occur, returns the whole suffix
+    /// and an empty one.
     #[inline(always)]
     pub(crate) fn split_at_first(&self, byte: u8) -> (&'a str, Suffix<'a>)
         requires ascii { byte < 128 }

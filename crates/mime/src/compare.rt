@@ -1,4 +1,4 @@
-//! Comparing a media type with a text, without allocating.
+//! Comparing a media type with a string, without allocating.
 
 ghost use Rattle.std.specs.Prelude.{◌≡◌, ◌≢◌, ◌↔◌, IsTrue, Some, [], map};
 ghost use Rattle.mime.specs.Comparison.{TextIs};
@@ -15,7 +15,7 @@ use crate::scan::{ByteReader, Positions, Verdict, scan};
 use crate::value::Mime;
 use crate::value::pairs::Pairs;
 
-/// Whether two texts are equal ignoring ASCII case.
+/// Whether two strings are equal ignoring ASCII case.
 #[inline(always)]
 fn eq_str_ignore_ascii_case(one: &str, other: &str) -> bool
     ensures { IsTrue result ↔ (lowered one.now ≡ lowered other.now) }
@@ -23,7 +23,7 @@ fn eq_str_ignore_ascii_case(one: &str, other: &str) -> bool
     eq_ignore_ascii_case(one.as_bytes(), other.as_bytes())
 }
 
-/// Whether a text begins with this essence, ignoring ASCII case, and a semicolon after it.
+/// Whether a string starts with this essence, ignoring ASCII case, and a semicolon right after it.
 #[inline]
 fn starts_with_essence(essence: &str, text: &str) -> bool
     ensures { IsTrue result ↔ StartsWithEssence essence.now text.now }
@@ -36,8 +36,8 @@ fn starts_with_essence(essence: &str, text: &str) -> bool
     eq_ignore_ascii_case(essence.as_bytes(), &text[..end])
 }
 
-/// Whether a text's name and value are those of a kept parameter: ignoring ASCII case in the name, and in the value if the
-/// name is `charset`. The kept ones are `name` and `value`.
+/// Whether a string's parameter is the kept one, `name` with `value`: ignoring ASCII case in the name, and in the
+/// value if the name is `charset`.
 #[inline]
 fn is_pair(name: &str, value: &str, other_name: &str, other_value: &str) -> bool
     requires { IsLowPair (name.now, value.now) }
@@ -53,7 +53,7 @@ fn is_pair(name: &str, value: &str, other_name: &str, other_value: &str) -> bool
     }
 }
 
-/// Whether the pairs of a text are read as the kept ones.
+/// Whether a string's parameters are read as the kept ones.
 #[inline]
 fn are_pairs(kept: Pairs<'_>, pairs: Pairs<'_>) -> bool
     requires { AreLowPairs kept }
@@ -79,7 +79,8 @@ fn has_shape(positions: Positions, semicolon: usize, count: usize) -> bool
     positions.semicolon == Some(semicolon) && positions.pair_count == count
 }
 
-/// Whether a text is accepted, with its first semicolon at this position and `count` parameters.
+/// Whether a string is accepted, with its first semicolon at this position and `count` parameters. It isn't inlined:
+/// the scan needs its registers.
 #[inline(never)]
 fn is_accepted_at(text: &str, semicolon: usize, count: usize) -> bool
     ensures { IsTrue result ↔ IsAcceptedAt text.now semicolon count }
@@ -91,8 +92,9 @@ fn is_accepted_at(text: &str, semicolon: usize, count: usize) -> bool
     }
 }
 
-/// Whether a text is equal to a value with parameters, part by part: it has the essence, and then the parameters. If
-/// `equal_ignoring_case`, it is the kept text ignoring ASCII case, and so accepted; otherwise it is scanned.
+/// Whether a string is equal to a value with parameters, part by part: it has the essence, and then the parameters. If
+/// `equal_ignoring_case`, it is the kept text ignoring ASCII case, and so accepted; otherwise it is scanned. It isn't
+/// inlined: few strings need it.
 #[inline(never)]
 fn eq_by_parts(mime: &Mime, s: &str, equal_ignoring_case: bool) -> bool
     requires reads { Reads mime.now.media.kept mime.now.media }
@@ -122,17 +124,17 @@ fn reaches_value(byte: u8) -> bool
     !(is_space(byte) || byte == b'"')
 }
 
-/// What a comparison of two texts shows.
+/// What a comparison of two strings shows.
 enum Compared {
     /// They are equal ignoring ASCII case.
     Equal,
     /// They are read as different values: their first difference, ignoring ASCII case, reaches the value.
     Different,
-    /// Neither is known: a text is shorter than a block, or they first differ at a space, tab or quote, or one ends first.
+    /// Neither is known: one is shorter than a block, or they first differ at a space, tab or quote, or one ends first.
     Undecided,
 }
 
-/// Compares two texts up to their first difference, ignoring ASCII case.
+/// Compares two strings up to their first difference, ignoring ASCII case.
 #[inline(always)]
 fn compare_texts(kept: &str, text: &str) -> Compared
     ensures equal { result ≡ Equal → lowered kept.now ≡ lowered text.now }
@@ -150,8 +152,9 @@ fn compare_texts(kept: &str, text: &str) -> Compared
     }
 }
 
-/// Whether a text other than the kept text is equal to a value with parameters. The first difference decides most texts;
-/// a lone charset in another case is equal; otherwise the parts are compared.
+/// Whether a string other than the kept text is equal to a value with parameters. The first difference decides most; a
+/// lone charset in another case is equal; otherwise the parts are compared. It isn't inlined: most calls end with the
+/// kept text.
 #[inline(never)]
 fn eq_other_text(mime: &Mime, s: &str) -> bool
     requires { mime.now.media.pairs ≢ [] }
@@ -164,12 +167,11 @@ fn eq_other_text(mime: &Mime, s: &str) -> bool
     }
 }
 
-/// Whether a text is read as a value equal to this one and, where this one has no parameter, has no
-/// semicolon (RFC 7231, 3.1.1.1). It doesn't allocate.
+/// Whether a string is read as a value equal to `mime` and, if `mime` has no parameter, has no semicolon (RFC 7231,
+/// 3.1.1.1). It doesn't allocate.
 ///
-/// `TEXT/PLAIN;charset="UTF-8"; ` is `TEXT_PLAIN_UTF_8.mime()`. But `text/plain;` isn't
-/// `TEXT_PLAIN.mime()`, though reading it gives an equal value: a media type without parameters is
-/// not equal to a text with a semicolon.
+/// `TEXT/PLAIN;charset="UTF-8"; ` is `TEXT_PLAIN_UTF_8.mime()`. But `text/plain;` isn't `TEXT_PLAIN.mime()`, though
+/// it is read as an equal value: a media type without parameters isn't equal to a string with a semicolon.
 #[inline]
 pub fn mime_eq_str(mime: &Mime, s: &str) -> bool
     ensures { IsTrue result ↔ TextIs mime.now.media s.now }

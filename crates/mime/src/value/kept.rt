@@ -1,4 +1,4 @@
-//! The kept text of an accepted text, in one allocation.
+//! The kept text of an accepted string, in one allocation.
 
 ghost use Rattle.std.specs.Prelude.{◌≡◌, ◌+◌, ◌++◌, ◌≤◌, ◌↔◌, IsFalse, IfOk, take, drop, length, slice_get, slice_range, string_bytes};
 ghost use Rattle.mime.specs.Bytes.{semicolon_byte};
@@ -13,7 +13,7 @@ use crate::scan::Positions;
 use crate::value::pairs::cut;
 use std::alloc::{AllocError, Global};
 
-/// Whether a text has an ASCII capital.
+/// Whether a string has an ASCII capital.
 #[inline]
 fn has_capital(text: &str) -> bool
     ensures { IsFalse result ↔ (lowered text.now ≡ text.now) }
@@ -44,8 +44,8 @@ fn lowercase_range(bytes: &mut [u8], from: usize, to: usize)
     bytes[from..to].make_ascii_lowercase();
 }
 
-/// Lowercases what ignores case in the first pair of a list, and returns the list after it. `bytes` is a copy of the
-/// list's bytes.
+/// Lowercases the first pair's name, and its value if the name is `charset`. Returns the list after the pair. `bytes`
+/// is a copy of the list's bytes.
 #[inline]
 fn lowercase_first<'a>(bytes: &mut [u8], list: &Suffix<'a>) -> Suffix<'a>
     requires { bytes.old ≡ list.now }
@@ -60,7 +60,8 @@ fn lowercase_first<'a>(bytes: &mut [u8], list: &Suffix<'a>) -> Suffix<'a>
     pair.rest
 }
 
-/// Lowercases what ignores case in the first `count` pairs of a list. `bytes` is a copy of the list's bytes.
+/// Lowercases the names of the first `count` pairs of a list, and the values of `charset`. `bytes` is a copy of the
+/// list's bytes.
 #[inline]
 fn lowercase_pairs(bytes: &mut [u8], list: Suffix<'_>, count: usize)
     requires { bytes.old ≡ list }
@@ -73,8 +74,8 @@ fn lowercase_pairs(bytes: &mut [u8], list: Suffix<'_>, count: usize)
     }
 }
 
-/// Lowercases what ignores case in a text with `count` pairs: all up to the semicolon, and what does in the pairs. `bytes`
-/// is a copy of the text's bytes.
+/// Lowercases, in a string with `count` pairs, everything up to the semicolon, the names, and the values of `charset`.
+/// `bytes` is a copy of the string's bytes.
 #[inline]
 fn lowercase_text(bytes: &mut [u8], text: &str, semicolon: usize, count: usize)
     requires same { bytes.old ≡ text.now }
@@ -86,7 +87,7 @@ fn lowercase_text(bytes: &mut [u8], text: &str, semicolon: usize, count: usize)
     lowercase_pairs(&mut bytes[start..], Suffix::of(text, start), count);
 }
 
-/// The kept text of a text with `count` pairs: only what ignores case is lowercased.
+/// The kept text of a string with `count` pairs: only what ignores case is lowercased.
 #[inline(always)]
 fn keep_pairs(
     alloc: Global,
@@ -102,11 +103,11 @@ fn keep_pairs(
     }
     let mut bytes = Vec::from_slice(alloc, text.as_bytes())?;
     lowercase_text(&mut bytes, text, semicolon, count);
-    // SAFETY: these are the bytes of a text, of which only ASCII capitals were lowercased: so they are UTF-8.
+    // SAFETY: these are the bytes of a `str`, in which only ASCII capitals were lowercased: so they are UTF-8.
     Ok(unsafe { String::from_utf8_unchecked(bytes) })
 }
 
-/// The kept text of an accepted text, and the positions in it. An empty parameter list is dropped.
+/// The kept text of an accepted string, and the positions in it. An empty parameter list is dropped.
 #[inline(always)]
 pub(crate) fn keep(
     alloc: Global,

@@ -25,8 +25,8 @@ pub(crate) struct Pair<'a> {
     pub(crate) rest: Suffix<'a>,
 }
 
-/// The length in bytes of a quoted value's content, up to its first unpaired quote or the end of the text. `quote` is the
-/// position of the first quote, or the text's length.
+/// The length in bytes of a quoted value's content, up to its first unpaired quote or the end. `quote` is the
+/// position of the first quote, or the length if there is none.
 #[inline(always)]
 fn content_len(text: &[u8], quote: usize) -> usize
     requires { quote ≡ first_position quote_byte text.now }
@@ -72,7 +72,7 @@ fn leading_spaces(list: &str) -> usize
     count
 }
 
-/// The text after the first semicolon, or an empty one. Most texts begin with it, or are empty.
+/// What follows the first semicolon, or an empty suffix. Most suffixes begin with it, or are empty.
 #[inline(always)]
 fn after_semicolon<'a>(end: Suffix<'a>) -> Suffix<'a>
     ensures { result ≡ after_byte semicolon_byte end.entry }
@@ -87,8 +87,8 @@ fn after_semicolon<'a>(end: Suffix<'a>) -> Suffix<'a>
     end.split_at_first(b';').1
 }
 
-/// The pair of a name, cut from the text after its equals sign, with a quoted value or a plain one. `list` is the
-/// list's length in bytes.
+/// The pair of a name, with the quoted or plain value that follows its equals sign. `list` is the list's length in
+/// bytes.
 #[inline(always)]
 fn cut_value<'a>(list: usize, name: &'a str, end: &Suffix<'a>) -> Pair<'a>
     requires { length end.now ≤ list }
@@ -132,7 +132,7 @@ pub(crate) fn cut<'a>(list: &Suffix<'a>) -> Pair<'a>
     cut_value(text.len(), name, &rest)
 }
 
-/// The pairs of a list that are still to come, each a name and a value.
+/// The pairs of a list that are left, each a name and a value.
 #[derive(Drop)]
 pub(crate) struct Pairs<'a> {
     /// The list from the next pair on.
@@ -151,7 +151,7 @@ impl<'a> Model for Pairs<'a> {
 }
 
 impl<'a> Pairs<'a> {
-    /// The first `count` pairs after a text's semicolon, or none where it has no list.
+    /// The first `count` pairs after a string's semicolon, or no pair if it has no semicolon.
     #[inline(always)]
     pub(crate) fn of_text(text: &'a str, semicolon: Option<usize>, count: usize) -> Pairs<'a>
         requires { IfSome semicolon (λ at. slice_get text.now at ≡ Some semicolon_byte) }
