@@ -1,6 +1,6 @@
 -- The byte says whether both are read as equal.
 use Rattle.mime_c.proofs.OneOutcome.{compared}
-use Rattle.mime_c.proofs.mime_is.Goals as goal
+use Rattle.mime_c.proofs.mime_equal.Goals as goal
 
 pub returns : goal.returns
 returns c =
