@@ -14,14 +14,15 @@ fn print_item(out: &mut String, item: Result<Mime, Bad<'_>>) -> Result<(), Alloc
     }
 }
 
-/// Prints the items that are left, as long as the size hint after each is `(0, None)`, and the steps.
+/// Prints the items that are left, as long as the size hint after each is `(0, None)`; then the steps, the size hint before the items,
+/// and whether there is none after the last.
 fn print_rest(out: &mut String, iter: &mut MimeIter<'_>) -> Result<(), AllocError> {
     let hint = iter.size_hint();
     while let (Some(item), (0, None)) = (iter.next(), iter.size_hint()) {
         print_item(out, item)?;
     }
-    let (is_end, steps) = (iter.next().is_none(), iter.steps());
-    writeln!(out, "steps {steps}, size hint {hint:?}, an end {is_end}")
+    let is_end = iter.next().is_none();
+    writeln!(out, "steps {:?}", (iter.steps(), hint, is_end))
 }
 
 /// Prints the items of a string.
@@ -42,11 +43,9 @@ pub(crate) fn again(alloc: Global, out: &mut String, text: &str) -> Result<(), A
 /// Prints which items (`=`) of the first string, which isn't a media type, are equal to what the others are read as.
 pub(crate) fn list(alloc: Global, out: &mut String, strings: &[String]) -> Result<(), AllocError> {
     let values = values_of(alloc, strings)?;
-    for (mime, item) in values
-        .iter()
-        .zip(MimeIter::new(alloc, string_at(strings, 0)))
-    {
-        let is_equal = item.ok().as_ref() == Some(mime);
+    let mut iter = MimeIter::new(alloc, string_at(strings, 0));
+    for mime in &values {
+        let is_equal = matches!(iter.next(), Some(Ok(item)) if item == *mime);
         out.push(if is_equal { '=' } else { ' ' })?;
     }
     out.push_str(".\n")

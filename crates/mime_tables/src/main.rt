@@ -63,7 +63,8 @@ fn row(rt: &HostRuntime, out: &mut String, line: &str) -> io::Result<()> {
         Ok(()) => "end",
         Err(_) => "end\nout of memory",
     };
-    print!(rt; "{end}\n{out}")
+    println!(rt; "{end}")?;
+    print!(rt; "{out}")
 }
 
 // A function for a few words each, since the time of a proof grows with the square of a `match`.

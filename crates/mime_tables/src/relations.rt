@@ -14,9 +14,9 @@ use std::hash::{Hash, Hasher};
 struct Fed(u128);
 
 impl Hasher for Fed {
-    ghost use Rattle.mime_tables.specs.Fed.{feed};
+    ghost use Rattle.std.specs.Prelude.{◌+◌, ◌*◌, ◌%◌, ◌^◌, fold};
 
-    ghost write = { feed };
+    ghost write = { λ fed bytes. record fed { 0 = fold (λ number byte. ((number * 257) % 2 ^ 128 + byte) % 2 ^ 128) fed.0 bytes } };
 
     ghost finish = { λ fed. 0 };
 
@@ -94,11 +94,12 @@ fn name_of(field: &str) -> Name<'_> {
     }
 }
 
-/// Prints two names quoted, how they compare, and whether the first is equal to the second's text.
+/// Prints a name; and then it and another quoted, how they compare, and whether the first is equal to the second's text.
 pub(crate) fn names(out: &mut String, one: &str, other: &str) -> Result<(), AllocError> {
     let (one, other) = (name_of(one), name_of(other));
     let (sign, is_text) = (relation(&one, &other), name_eq_str(&one, other.text));
-    writeln!(out, "{one}|{one:?}|{other:?}|{sign}, by text {is_text}")
+    writeln!(out, "{one}")?;
+    writeln!(out, "{:?}", (one, sign, other, is_text))
 }
 
 /// Prints whether two values are equal, in order and by what they feed a hasher, and whether the first equals the second's string.
@@ -117,7 +118,7 @@ pub(crate) fn pair(
     )
 }
 
-/// Prints whether a value is found in sets that have another.
+/// Prints whether a value is found in a `HashSet` and a `BTreeSet` that have another.
 pub(crate) fn sets(
     alloc: Global,
     out: &mut String,
@@ -128,8 +129,8 @@ pub(crate) fn sets(
     hashed.insert(one.clone()?)?;
     let mut ordered = BTreeSet::new(alloc);
     ordered.insert(one.clone()?)?;
-    let (by_hash, by_order) = (hashed.contains(other), ordered.contains(other));
-    writeln!(out, "found {by_hash}, {by_order}")
+    let found = (hashed.contains(other), ordered.contains(other));
+    writeln!(out, "{found:?}")
 }
 
 /// Prints whether a value equals a string.

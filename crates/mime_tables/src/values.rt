@@ -21,33 +21,27 @@ pub(crate) fn clone(out: &mut String, original: &Mime) -> Result<(), AllocError>
     writeln!(out, "original {original}")
 }
 
-/// Prints the parts of a media type: its string; type, subtype, suffix and essence; and each parameter, with the size hints before it
-/// and after the last.
+/// Prints the parts of a media type: its string; type, subtype, suffix and essence; and each parameter; with the size hints before these
+/// and after each.
 pub(crate) fn parts(out: &mut String, mime: &Mime) -> Result<(), AllocError> {
-    let (top, sub) = (Shown(mime.type_()), Shown(mime.subtype()));
+    writeln!(out, "ok {mime}")?;
     let suffix = mime.suffix().map(Shown);
+    let (top, sub) = (Shown(mime.type_()), Shown(mime.subtype()));
     let mut params = mime.params();
-    let (essence, hint) = (mime.essence_str(), params.size_hint());
-    writeln!(
-        out,
-        "ok {mime}\n{:?}\n{hint:?}",
-        (top, sub, suffix, essence)
-    )?;
+    let parts = (top, sub, suffix, mime.essence_str());
+    writeln!(out, "{:?}", (parts, params.size_hint()))?;
     while let Some((name, value)) = params.next() {
         writeln!(out, "{:?}", (Shown(name), Shown(value), params.size_hint()))?;
     }
     Ok(())
 }
 
-/// Prints the numbers of a value with many parameters, and whether its string and that of its copy are as they must be.
+/// Prints the size hint and the number of the parameters, and whether the value's string and that of its copy are as they must be.
 pub(crate) fn long(out: &mut String, mime: &Mime, kept: &str) -> Result<(), AllocError> {
     let copy = mime.clone()?;
     let (hint, count) = (mime.params().size_hint(), mime.params().count());
     let (is_kept, is_copied) = (mime.as_str() == kept, copy.as_str() == kept);
-    writeln!(
-        out,
-        "{hint:?}, {count} parameters, kept {is_kept}, copied {is_copied}"
-    )
+    writeln!(out, "{:?}", (hint, count, is_kept, is_copied))
 }
 
 /// Prints a value in 12 places and quoted, and its parameters by Debug.
@@ -75,16 +69,16 @@ fn found<'a>(mime: &'a Mime, key: &str) -> Option<Name<'a>> {
     }
 }
 
-/// Prints the values that a key and the key `Foo` find; and what the first is against another string, and finds itself as a key.
+/// Prints the value that a key finds, whether it is equal to another string, what it finds itself as a key, and what the key `Foo` finds.
 pub(crate) fn key(out: &mut String, mime: &Mime, key: &str, other: &str) -> Result<(), AllocError> {
-    let (value, foo) = (found(mime, key), mime.get_param(Foo));
+    let value = found(mime, key);
     let (is_other, own) = match value {
         Some(value) => (name_eq_str(&value, other), mime.get_param(value)),
         None => (false, None),
     };
-    let shown = value.map(Shown);
     writeln!(
         out,
-        "{shown:?}, as {other}: {is_other}, finds {own:?}, foo {foo:?}"
+        "{:?}",
+        (value.map(Shown), is_other, own, mime.get_param(Foo))
     )
 }
