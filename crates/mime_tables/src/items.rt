@@ -1,7 +1,6 @@
 //! The media types in a string.
 
 use crate::fields::string_at;
-use crate::relations::values_of;
 use mime::{Bad, Mime, MimeIter};
 use std::alloc::{AllocError, Global};
 use std::fmt::Write;
@@ -40,12 +39,14 @@ pub(crate) fn again(alloc: Global, out: &mut String, text: &str) -> Result<(), A
     print_rest(out, &mut iter)
 }
 
-/// Prints which items (`=`) of the first string, which isn't a media type, are equal to what the others are read as.
+/// Prints which items (`=`) of the first string are equal to what the others are read as.
 pub(crate) fn list(alloc: Global, out: &mut String, strings: &[String]) -> Result<(), AllocError> {
-    let values = values_of(alloc, strings)?;
     let mut iter = MimeIter::new(alloc, string_at(strings, 0));
-    for mime in &values {
-        let is_equal = matches!(iter.next(), Some(Ok(item)) if item == *mime);
+    for text in strings.iter().skip(1) {
+        let is_equal = match (iter.next(), Mime::from_str(alloc, text.as_str())) {
+            (Some(Ok(item)), Ok(mime)) => item == mime,
+            _ => false,
+        };
         out.push(if is_equal { '=' } else { ' ' })?;
     }
     out.push_str(".\n")

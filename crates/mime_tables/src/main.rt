@@ -1,17 +1,18 @@
-//! Prints what the library says of each row of a table, which is standard input. A row is a word and fields, divided by tabs. A field is
-//! a string, or the identifier of a constant:
+//! Prints what the library says of each row of a table, which is standard input. A row is a word and fields, divided by tabs. A `VALUE` is
+//! a string that is read, or the identifier of a constant:
 //!
-//! - `read STRING`, `clone STRING`, `items STRING`: reads the string, clones what was read, or takes the media types in it;
+//! - `read VALUE`, `clone VALUE`, `items STRING`: reads the string, clones what was read, or takes the media types in it;
 //! - `again STRING`: takes those that are left after the first, twice, by a clone of the iterator and by itself;
 //! - `list STRING STRINGS`: takes the media types in the first string, and compares each with what the next of the others is read as;
 //! - `parts VALUE`: the parts of a value, or why it is rejected;
-//! - `long STRING KEPT`: the numbers of a value, and whether its string is `KEPT`;
+//! - `long VALUE KEPT`: the numbers of a value, and whether its string is `KEPT`;
 //! - `print VALUE`: a value in 12 places, and by Debug;
-//! - `key STRING KEY OTHER`: the value that a key finds, and whether it equals the other string;
-//! - `compare STRINGS`: the values against each other and against the strings;
-//! - `pair VALUE VALUE`, `sets VALUE VALUE`: two values, and whether each is found in sets that have the other;
-//! - `against STRING OTHER`: a value against a string;
-//! - `names NAME NAME`: two names, each with `~` before it if it ignores case, or else with `=`;
+//! - `key VALUE KEY OTHER`: the value that a key finds, which is a string or a constant, and whether it equals the other string;
+//! - `compare VALUE VALUE`, `pair VALUE VALUE`: two values, how they compare, or whether they are equal by each trait; and the first
+//!   against the second's string;
+//! - `sets VALUE VALUE`: whether the first is found in sets that have the second;
+//! - `against VALUE STRING`: a value against a string;
+//! - `names NAME NAME`: two names, each a constant, or a string with `~` before it if it ignores case, or else with `=`;
 //! - `bytes`, `copies`: the classes of bytes, and the copies of the constants;
 //! - `short_verdicts`: all short strings, by a rule that needs no table.
 //!
@@ -81,7 +82,6 @@ fn answer(
         "copies" => copies(out),
         "short_verdicts" => short_verdicts(alloc, out),
         "names" => names(out, string_at(strings, 0), string_at(strings, 1)),
-        "compare" => compare(alloc, out, strings),
         "list" => list(alloc, out, strings),
         _ => answer_of_one(alloc, out, word, strings),
     }
@@ -136,7 +136,8 @@ fn tell_of_two(
     text: &str,
 ) -> Result<(), AllocError> {
     match value_of(alloc, text) {
-        Ok(other) if word == "sets" => sets(alloc, out, one, &other),
+        Ok(other) if word == "sets" => sets(alloc, out, one, other),
+        Ok(other) if word == "compare" => compare(out, one, &other, text),
         Ok(other) => pair(out, one, &other, text),
         Err(error) => writeln!(out, "bad {error}"),
     }

@@ -54,33 +54,15 @@ fn relation<T: Ord + Hash>(one: &T, other: &T) -> char {
     }
 }
 
-/// Reads strings that are media types.
-pub(crate) fn values_of(alloc: Global, strings: &[String]) -> Result<Vec<Mime>, AllocError> {
-    let mut values = Vec::with_capacity(alloc, strings.len())?;
-    for text in strings {
-        if let Ok(mime) = Mime::from_str(alloc, text.as_str()) {
-            values.push(mime)?;
-        }
-    }
-    Ok(values)
-}
-
-/// Prints a line for each value, with its relation to each, and whether that one's string is it (`t`).
+/// Prints how two values compare, and whether the first is equal to the second's string.
 pub(crate) fn compare(
-    alloc: Global,
     out: &mut String,
-    strings: &[String],
+    one: &Mime,
+    other: &Mime,
+    text: &str,
 ) -> Result<(), AllocError> {
-    let values = values_of(alloc, strings)?;
-    for one in &values {
-        for (other, text) in values.iter().zip(strings) {
-            let is_text = mime_eq_str(one, text.as_str());
-            out.push(relation(one, other))?;
-            out.push(if is_text { 't' } else { ' ' })?;
-        }
-        out.push_str(".\n")?;
-    }
-    Ok(())
+    let said = (relation(one, other), mime_eq_str(one, text));
+    writeln!(out, "{said:?}")
 }
 
 /// A name that a field stands for: a constant, or a text, with `~` before it if it ignores case, and with `=` if not.
@@ -123,13 +105,13 @@ pub(crate) fn sets(
     alloc: Global,
     out: &mut String,
     one: &Mime,
-    other: &Mime,
+    other: Mime,
 ) -> Result<(), AllocError> {
     let mut hashed = HashSet::new(alloc);
-    hashed.insert(one.clone()?)?;
+    hashed.insert(other.clone()?)?;
     let mut ordered = BTreeSet::new(alloc);
-    ordered.insert(one.clone()?)?;
-    let found = (hashed.contains(other), ordered.contains(other));
+    ordered.insert(other)?;
+    let found = (hashed.contains(one), ordered.contains(one));
     writeln!(out, "{found:?}")
 }
 

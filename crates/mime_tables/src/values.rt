@@ -36,12 +36,10 @@ pub(crate) fn parts(out: &mut String, mime: &Mime) -> Result<(), AllocError> {
     Ok(())
 }
 
-/// Prints the size hint and the number of the parameters, and whether the value's string and that of its copy are as they must be.
+/// Prints the size hint and the number of the parameters, and whether the value's string is as it must be.
 pub(crate) fn long(out: &mut String, mime: &Mime, kept: &str) -> Result<(), AllocError> {
-    let copy = mime.clone()?;
     let (hint, count) = (mime.params().size_hint(), mime.params().count());
-    let (is_kept, is_copied) = (mime.as_str() == kept, copy.as_str() == kept);
-    writeln!(out, "{:?}", (hint, count, is_kept, is_copied))
+    writeln!(out, "{:?}", (hint, count, mime.as_str() == kept))
 }
 
 /// Prints a value in 12 places and quoted, and its parameters by Debug.
@@ -61,17 +59,12 @@ impl ParamKey for Foo {
     }
 }
 
-/// What a key finds: a constant, or a text.
-fn found<'a>(mime: &'a Mime, key: &str) -> Option<Name<'a>> {
-    match constant_name(key) {
-        Some(name) => mime.get_param(name),
-        None => mime.get_param(TextKey(key)),
-    }
-}
-
 /// Prints the value that a key finds, whether it is equal to another string, what it finds itself as a key, and what the key `Foo` finds.
 pub(crate) fn key(out: &mut String, mime: &Mime, key: &str, other: &str) -> Result<(), AllocError> {
-    let value = found(mime, key);
+    let value = match constant_name(key) {
+        Some(name) => mime.get_param(name),
+        None => mime.get_param(TextKey(key)),
+    };
     let (is_other, own) = match value {
         Some(value) => (name_eq_str(&value, other), mime.get_param(value)),
         None => (false, None),
