@@ -6,7 +6,7 @@ use std::alloc::{AllocError, Global};
 use std::cmp::Ordering;
 use std::collections::{BTreeSet, HashSet};
 use std::fmt::Write;
-use std::hash::{Hash, Hasher};
+use std::hash::{DefaultHasher, Hash, Hasher};
 
 /// A hasher that keeps what it is fed, as a number whose digits to the base 257 are a 1 and the bytes, modulo 2 ^ 128. So two runs of
 /// at most 15 bytes are the same run if their numbers are equal. It has no hash of its own.
@@ -84,7 +84,13 @@ pub(crate) fn names(out: &mut String, one: &str, other: &str) -> Result<(), Allo
     writeln!(out, "{:?}", (one, sign, other, is_text))
 }
 
-/// Prints whether two values are equal, in order and by what they feed a hasher, and whether the first equals the second's string.
+fn hash_of(mime: &Mime) -> u64 {
+    let mut hasher = DefaultHasher::new();
+    mime.hash(&mut hasher);
+    hasher.finish()
+}
+
+/// Prints whether two values are equal, in order and by their hashes, and whether the first equals the second's string.
 pub(crate) fn pair(
     out: &mut String,
     one: &Mime,
@@ -92,7 +98,7 @@ pub(crate) fn pair(
     text: &str,
 ) -> Result<(), AllocError> {
     let is_equal = *one == *other && one.cmp(other).is_eq();
-    let by_hash = fed_by(one) == fed_by(other);
+    let by_hash = hash_of(one) == hash_of(other);
     let by_text = mime_eq_str(one, text);
     writeln!(
         out,
