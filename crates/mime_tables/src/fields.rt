@@ -5,6 +5,9 @@ use std::alloc::{AllocError, Global};
 /// The string that a field stands for: the signs from U+2400 on stand for the controls, U+2421 for the byte 127, and `⟨part×count⟩` for
 /// so many parts.
 fn string_of(alloc: Global, field: &str) -> Result<String, AllocError> {
+    if field.is_ascii() {
+        return String::from_str(alloc, field);
+    }
     let mut text = String::new(alloc);
     for piece in field.split(['⟨', '⟩']) {
         let (part, count) = piece.split_once('×').unwrap_or((piece, "1"));
