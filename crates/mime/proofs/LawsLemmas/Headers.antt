@@ -21,7 +21,7 @@ use Rattle.mime.specs.HeaderLaws.{AreHeaderBytes, IsSafePair, KeptIsSafe, text_w
 use Rattle.mime.specs.Inner.Quoted.{takes, awaits_after, continues}
 use Rattle.mime.proofs.GrammarLemmas.Begun.{Begun, in_type, in_list, in_quotes, list_at, grow, walk_from}
 use Rattle.mime.proofs.BytesLemmas.{list_all-wider, list_all-parts, AreTokenBytes-from_token}
-use Rattle.mime.proofs.GrammarLemmas.Characters.{IsForeign, IsOpen, grow-foreign}
+use Rattle.mime.proofs.GrammarLemmas.Characters.{IsForeign, IsForeign-outside, IsOpen, grow-foreign}
 use Rattle.mime.proofs.ValueLemmas.KeptText.{kept_is_read}
 use Rattle.mime.proofs.GrammarLemmas.Content.{IsContent-taken, takes_all-text, awaits_after-text}
 
@@ -84,15 +84,8 @@ same_essence one other first second reads again = (
 
 -- a byte that a header doesn't have is foreign to the grammar
 unsafe-foreign : (b : ℕ) → IsFalse (is_quoted_byte b) → IsForeign b
-unfolding is_token_byte is_quoted_byte
-unsafe-foreign b unsafe = record {
-  token = grind (arith, nat_tests);
-  space = grind (arith, nat_tests);
-  slash = grind (arith, nat_tests);
-  semicolon = grind (arith, nat_tests);
-  equals = grind (arith, nat_tests);
-  quote = grind (arith, nat_tests);
-}
+unfolding is_quoted_byte
+unsafe-foreign b unsafe = IsForeign-outside b (grind (arith, nat_tests))
 
 -- no quoted value takes it
 unsafe-untaken : (awaiting : Bool) (b : ℕ) → IsFalse (is_quoted_byte b) → IsFalse (takes awaiting b)
