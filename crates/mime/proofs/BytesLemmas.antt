@@ -9,7 +9,7 @@ use Rattle.std.specs.Prelude.{IsTrue, IsFalse, ◌==◌, not}
 use Rattle.std.proofs.lemmas.Bool.{and_parts, and_from}
 use Rattle.std.proofs.lemmas.Bool.Decides.{nat_tests, Decides-eqb}
 use Rattle.mime.specs.Bytes.{is_token_byte, semicolon_byte, equals_byte, quote_byte}
-use Rattle.mime.specs.Grammar.{is_space, AreSpaces, AreTokenBytes, IsToken}
+use Rattle.mime.specs.Grammar.{is_space, AreTokenBytes, IsToken}
 use Rattle.std.specs.Str.{IsUtf8, IsCharBoundary}
 use Rattle.std.proofs.lemmas.Option.{slice_get-get_or, slice_get_within, get_or_from_slice_get}
 use Rattle.std.proofs.lemmas.Str.{IsCharBoundary-before_ascii, IsCharBoundary-after_ascii}

@@ -1,6 +1,6 @@
 -- Characters: the longest viable prefix ends between two, and what is passed after it is one.
 use Rattle.std.proofs.Common.{◌≡◌, ℕ, Bool, false, List, [], ◌∷◌, ◌++◌, Option, Some, None, refl, sym, ◌∙◌, subst, ◌+◌, ◌<◌, ◌≤◌, true, length, get_or, drop, ap, arith, ◌⊎◌, inl, inr, ⊎_elim, length-drop, zero, suc, take, append-nil, length-append}
-use Rattle.std.proofs.lemmas.Bool.{cond_both, cond-false, cases_lt, and_parts, both_ways, cases_Bool}
+use Rattle.std.proofs.lemmas.Bool.{cond_both, cond-false, cases_lt, and_parts}
 use Rattle.std.specs.Prelude.{IsFalse, MatchOption, if◌then◌else◌, ◌==◌, IsTrue, ◌&&◌, ◌||◌, nat_le}
 use Rattle.std.specs.Option.{option_map}
 use Rattle.mime.specs.Bytes.{is_token_byte, slash_byte, semicolon_byte, equals_byte, quote_byte, space_byte, tab_byte}

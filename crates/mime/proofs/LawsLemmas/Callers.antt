@@ -1,6 +1,5 @@
 -- Laws on which no code rests: what a caller may conclude of an essence, a kept text, a key, a cut's items and a prefix.
 use Rattle.std.proofs.Common.{◌≡◌, ◌≢◌, true, false, ℕ, ◌⊎◌, inl, inr, Bool, List, [], ◌∷◌, ◌++◌, length, take, Option, Some, None, refl, sym, ap, ◌∙◌, subst, append-nil, ⊎_elim, codes, ◌<◌, arith}
-use Rattle.std.proofs.lemmas.Bool.{cases_order}
 use Rattle.std.proofs.lemmas.Bool.Decides.{not_from_Decides, Decides-and}
 use Rattle.std.proofs.lemmas.Option.{none-some, same_Some}
 use Rattle.std.proofs.lemmas.Slice.Eq.{bytes_eq-Decides}
@@ -20,7 +19,7 @@ use Rattle.mime.specs.Cut.{CutItem, ItemsOf, is_read, is_refused, is_empty, whol
 use Rattle.mime.specs.Laws.{IsViableInUtf8, IsLongestPrefixInUtf8, PrefixIsInUtf8, without_parameters, EssenceIsRead, KeptTextIs, IsDecided, OneAnswer, HasAnswer}
 use Rattle.mime.specs.CutLaws.{IsItem, CutHasItems}
 use Rattle.mime.specs.declared.scan.fault.ParseError.{ParseError}
-use Rattle.mime.specs.declared.scan.fault.ParseError.TheVariants.{MissingSlash, MissingSubtype, MissingEqual, MissingValue, MissingQuote, InvalidToken, NoMemory}
+use Rattle.mime.specs.declared.scan.fault.ParseError.TheVariants.{MissingSlash, MissingSubtype, MissingEqual, MissingValue, MissingQuote}
 use Rattle.mime.proofs.GrammarLemmas.Characters.{prefix_ends_between_characters}
 use Rattle.mime.proofs.ValueLemmas.Parts.{kept-essence, read-low_essence}
 use Rattle.mime.proofs.CutLemmas.Cuts.{empty-refused, accepted_or_refused, split-piece}
