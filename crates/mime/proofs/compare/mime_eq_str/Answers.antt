@@ -1,4 +1,4 @@
--- Without parameters case alone may differ; the kept text is the value.
+-- Without parameters case alone may differ.
 use Rattle.std.proofs.Common.{◌∙◌, sym}
 use Rattle.std.proofs.lemmas.List.{nil_from_length}
 use Rattle.mime.proofs.CompareLemmas.Parts.{text_is-kept_case}

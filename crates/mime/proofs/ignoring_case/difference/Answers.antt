@@ -35,17 +35,20 @@ no_letter b fits is =
     not-true _
     (ap (λ t. t || not (is_ascii_alphabetic b)) (sym is) ∙ at_byte (λ x. letter x || not (is_ascii_alphabetic x)) b fits refl)
 
--- so it is the same as what is the same ignoring case
+-- a byte that is no letter is equal to each byte that it equals ignoring ASCII case
 same_from_lower : (x y : ℕ) → IsFalse (is_ascii_alphabetic x) → to_ascii_lowercase x ≡ to_ascii_lowercase y → x ≡ y
 same_from_lower x y none same = grind (arith, nat_tests)
 
+-- bytes that differ in no bit are equal
 same_from_xor : (x y : ℕ) → bit_xor x y ≡ 0 → x ≡ y
 same_from_xor x y none = cc (xor_zero_r x, xor_self y, xor_assoc x y y, xor_zero_l y)
 
+-- a test that fails, as a bit
 as_bit : (same : Bool) → bool_byte (not same) ≡ cond same 0 1
 as_bit true = refl
 as_bit false = refl
 
+-- of a byte that is no letter and any byte
 of_no_letter : (x y : ℕ) → x < 256 → y < 256 → letter x ≡ false → found 0 x y ≡ difference_bit x y
 of_no_letter x y fits fits_too is =
     let all : bit_and (bit_xor x y) 255 ≡ bit_xor x y =

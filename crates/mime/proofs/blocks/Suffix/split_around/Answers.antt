@@ -1,4 +1,4 @@
--- An ASCII byte is a character: the text may be cut before it and after it.
+-- An ASCII byte is a character: the text may be cut after it.
 use Rattle.std.proofs.Common.{length, ap, arith, subst, inl, inr}
 use Rattle.std.proofs.lemmas.Bool.{cases_lt, lt-ltb, le-ltb}
 use Rattle.std.proofs.lemmas.Str.{IsCharBoundary-after_ascii, IsCharBoundary-end}

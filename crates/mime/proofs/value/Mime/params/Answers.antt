@@ -1,4 +1,4 @@
--- The items are those of the pairs, which are low.
+-- The items' pairs are in lowercase, so the items are.
 use Rattle.mime.proofs.ValueLemmas.Parts.{items_of-low}
 use Rattle.mime.proofs.value.Mime.params.Goals as goal
 
