@@ -1,5 +1,6 @@
 -- A text that differs in the value isn't the value; one that is equal ignoring ASCII case is, where all of it ignores case.
-use Rattle.std.proofs.Common.{refl, subst}
+use Rattle.std.proofs.Common.{◌∙◌, sym, ap, refl, subst}
+use Rattle.mime.specs.Values.{lowered}
 use Rattle.mime.specs.Inner.ComparedText.{IsLoneCharset}
 use Rattle.mime.proofs.CompareLemmas.FirstDifference.{text_is-different_values}
 use Rattle.mime.proofs.CompareLemmas.Parts.{text_is-lone_charset}
@@ -17,3 +18,6 @@ returns-then-is_lone_charset c = (
       (subst IsLoneCharset c.pairs.ensures.pairs (c.is_lone_charset.ensures c.if-is_lone_charset.true)),
   λ _. c.if-is_lone_charset.true,
 )
+
+pub eq_by_parts-requires-clause-equal : goal.eq_by_parts-requires-clause-equal
+eq_by_parts-requires-clause-equal c = λ _. ap lowered (sym c.as_str.ensures.text) ∙ c.in-Equal.ensures.equal refl

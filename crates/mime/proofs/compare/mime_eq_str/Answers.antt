@@ -1,5 +1,5 @@
--- Without parameters case alone may differ.
-use Rattle.std.proofs.Common.{◌∙◌, sym}
+-- Without parameters case alone may differ; the kept text is the value.
+use Rattle.std.proofs.Common.{◌∙◌, sym, rules}
 use Rattle.std.proofs.lemmas.List.{nil_from_length}
 use Rattle.mime.proofs.CompareLemmas.Parts.{text_is-kept_case}
 use Rattle.mime.proofs.compare.mime_eq_str.Goals as goal
@@ -10,3 +10,6 @@ returns-then-param_count-eq0 c =
     let none = nil_from_length value.pairs (sym c.param_count.ensures ∙ c.if-param_count-eq0.true) in
     let told = text_is-kept_case _ c.args.s.now value c.as_str-kept.ensures.reads c.as_str-kept.ensures.text none in
     (λ is. told.1 (c.eq_str_ignore_ascii_case.ensures.0 is), λ is. c.eq_str_ignore_ascii_case.ensures.1 (told.0 is))
+
+pub returns-else-eq : goal.returns-else-eq
+returns-else-eq c = search rules

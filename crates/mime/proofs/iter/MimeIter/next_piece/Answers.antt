@@ -11,6 +11,9 @@ loop-self-preserved c =
     looking-more _ _ _ _ _ _ c.loop-self.invariant (search (rules, c.is_empty.ensures, c.loop-self-test.true)) c.read_piece-read.ensures.reads
     c.read_piece-read.ensures.counted (search (rules, c.is_empty-in-loop-self.ensures, c.if-not-is_empty.false))
 
+pub loop-self-smaller : goal.loop-self-smaller
+loop-self-smaller c = search rules
+
 pub returns : goal.returns
 returns c = found-none _ _ c.loop-self.invariant (search (rules, c.is_empty.ensures, c.loop-self-test.false))
 
@@ -18,3 +21,6 @@ pub returns-then-not-is_empty : goal.returns-then-not-is_empty
 returns-then-not-is_empty c =
     found-some _ _ _ _ _ _ c.loop-self.invariant (search (rules, c.is_empty.ensures, c.loop-self-test.true)) c.read_piece-read.ensures.reads
     c.read_piece-read.ensures.counted (search (rules, c.is_empty-in-loop-self.ensures))
+
+pub invariant_of-self-then-not-is_empty : goal.invariant_of-self-then-not-is_empty
+invariant_of-self-then-not-is_empty c = search rules

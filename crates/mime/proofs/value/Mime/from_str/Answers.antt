@@ -1,4 +1,5 @@
 -- The scanner's verdict is what the call answers.
+use Rattle.std.proofs.Common.{sym, rules}
 use Rattle.mime.proofs.ValueLemmas.Reading.{accepted-from_positions, Explains-from_fault, Explains-no_memory, refused-from_fault, star-accepted}
 use Rattle.mime.proofs.GrammarLemmas.Viability.{refused-at_dead}
 use Rattle.mime.proofs.value.Mime.from_str.Goals as goal
@@ -27,3 +28,23 @@ returns-in-Stopped-clause-star c = λ star.
 pub returns-in-Unfinished-clause-explained : goal.returns-in-Unfinished-clause-explained
 returns-in-Unfinished-clause-explained c =
     rw c.new.ensures (Explains-from_fault _ _ (rw c.new-reader.ensures.left at c.in-Unfinished.ensures.judged.1))
+
+pub returns-in-Stopped-clause-explained : goal.returns-in-Stopped-clause-explained
+returns-in-Stopped-clause-explained c =
+    rw (c.new-in-Stopped.ensures, c.position-pos.ensures, sym c.new-reader.ensures.count)
+    (rw c.new-reader.ensures.left at c.in-Stopped.ensures.judged.1)
+
+pub returns-in-Accepted-clause-read : goal.returns-in-Accepted-clause-read
+returns-in-Accepted-clause-read c = c.of_accepted.ensures.read
+
+pub returns-in-Accepted-clause-accepted : goal.returns-in-Accepted-clause-accepted
+returns-in-Accepted-clause-accepted c = search rules
+
+pub returns-in-Accepted-clause-star : goal.returns-in-Accepted-clause-star
+returns-in-Accepted-clause-star c = search rules
+
+pub returns-in-Unfinished-clause-read : goal.returns-in-Unfinished-clause-read
+returns-in-Unfinished-clause-read c = tt
+
+pub returns-in-Stopped-clause-read : goal.returns-in-Stopped-clause-read
+returns-in-Stopped-clause-read c = tt
