@@ -56,29 +56,29 @@ empty_list_needs_none old new size lists = empty_needs_none (lists_for_memory re
 star : MediaType
 star = record { essence = codes "*/*"; slash = 1; plus = None; pairs = []; kept = codes "*/*" }
 
-reads_star : Reads (codes "*/*") star
+star_is_read : Reads (codes "*/*") star
 unfolding star is_token_byte
-reads_star = record { tree = record { top = codes "*"; sub = codes "*"; tail = no_list }; well_formed = (refl, refl, tt); spelled = refl; valued = refl }
+star_is_read = record { tree = record { top = codes "*"; sub = codes "*"; tail = no_list }; well_formed = (refl, refl, tt); spelled = refl; valued = refl }
 
 -- the piece of a media type that is the only item
-abbrev piece_of : List CutItem → List ℕ
-piece_of (good piece media ∷ items) = piece
-piece_of items = []
+abbrev first_piece : List CutItem → List ℕ
+first_piece (good piece media ∷ items) = piece
+first_piece items = []
 
 only_piece : (before after : List CutItem) (piece other : List ℕ) (media value : MediaType)
     → before ++ good piece media ∷ after ≡ good other value ∷ [] → piece ≡ other
-only_piece [] after piece other media value is = ap (λ items. piece_of items) is
+only_piece [] after piece other media value is = ap (λ items. first_piece items) is
 only_piece (item ∷ before) after piece other media value is =
     absurd (omega (arith, ap length is, length-append before (good piece media ∷ after)))
 
 star_list_needs_none : (old new : List ℕ) (size : ℕ) → ¬ (ListsTo (codes "*/*") old MIME_NO_MEMORY new size)
 star_list_needs_none old new size lists =
     let needs = (lists_for_memory refl lists).3 in
-    let only = cut_unique (codes "*/*") _ [] (whole (codes "*/*") star reads_star) _ needs.rest needs.cut in
+    let only = cut_unique (codes "*/*") _ [] (whole (codes "*/*") star star_is_read) _ needs.rest needs.cut in
     needs.not_star (only_piece needs.before needs.after needs.piece (codes "*/*") needs.media star only.0)
 
-star_needs_none : (old new : List ℕ) (found : MimeFound) → ¬ (ReadsTo (codes "*/*") old MIME_NO_MEMORY new found)
-star_needs_none old new found reads = (reads_for_memory refl reads).3.1 refl
+no_memory_for_star : (old new : List ℕ) (found : MimeFound) → ¬ (ReadsTo (codes "*/*") old MIME_NO_MEMORY new found)
+no_memory_for_star old new found reads = (reads_for_memory refl reads).3.1 refl
 
 e_needs_none : (old new : List ℕ) (found : MimeFound) → ¬ (ReadsTo (codes "e") old MIME_NO_MEMORY new found)
 unfolding is_token_byte

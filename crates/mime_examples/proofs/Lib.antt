@@ -1,3 +1,4 @@
 -- What the proofs of several functions cite.
 pub mod Contents
 pub mod Places
+pub mod PlacesAgain

@@ -3,7 +3,8 @@ use Rattle.std.proofs.Common.{arith, ◌∙◌, sym, subst}
 use Rattle.std.specs.List.{AllByRecursion}
 use Rattle.std.proofs.lemmas.Grind.{common_steps}
 use Rattle.mime_examples.specs.Field.{IsOneEntry}
-use Rattle.mime_examples.proofs.Places.{list_is_split, entries_again}
+use Rattle.mime_examples.proofs.Places.{list_is_split}
+use Rattle.mime_examples.proofs.PlacesAgain.{entries_again}
 use Rattle.mime_examples.proofs.field.entries.Goals as goal
 
 pub returns-clause-exact : goal.returns-clause-exact

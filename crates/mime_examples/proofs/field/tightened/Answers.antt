@@ -2,7 +2,8 @@
 use Rattle.std.proofs.Common.{arith, ◌≡◌, ◌∙◌, sym, subst}
 use Rattle.std.proofs.lemmas.Grind.{common_steps}
 use Rattle.mime_examples.specs.Field.{tight}
-use Rattle.mime_examples.proofs.Places.{accepted_stays, tight_again}
+use Rattle.mime_examples.proofs.Places.{accepted_stays}
+use Rattle.mime_examples.proofs.PlacesAgain.{tight_again}
 use Rattle.mime_examples.proofs.field.tightened.Goals as goal
 
 pub returns-clause-exact : goal.returns-clause-exact
