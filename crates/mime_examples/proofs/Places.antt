@@ -142,20 +142,20 @@ parameter (quoted name content n) is = record {
   ends = in_quotes;
 }
 
-walk_list : {Goes : Type 0} (list : Parameters) → AreParameters list → Walk Goes EndsText Semicolon (text_of_list list)
-walk_list (blank n) is = record { to = Semicolon; leads = walk_spaces before_name n is; ends = in_list }
-walk_list (final n it) is =
+list_walk : {Goes : Type 0} (list : Parameters) → AreParameters list → Walk Goes EndsText Semicolon (text_of_list list)
+list_walk (blank n) is = record { to = Semicolon; leads = walk_spaces before_name n is; ends = in_list }
+list_walk (final n it) is =
     let read = parameter it is.1 in
     record { to = read.to; leads = both (walk_spaces before_name n is.0) read.leads; ends = in_value read.ends }
-walk_list (more n it list) is =
+list_walk (more n it list) is =
     let read = parameter it is.1 in
-    let rest = walk_list list is.2 in
+    let rest = list_walk list is.2 in
     record { to = rest.to; leads = both (walk_spaces before_name n is.0) (both read.leads (both (semicolon read.ends) rest.leads)); ends = rest.ends }
 
 tail : {Goes : Type 0} (it : Tail) → IsTail it → Walk Goes EndsText Plain (text_of_tail it)
 tail no_list is = record { to = Plain; leads = no_bytes Plain; ends = in_value in_token }
 tail (listed list) is =
-    let rest = walk_list list is in
+    let rest = list_walk list is in
     record { to = rest.to; leads = both (one Plain 59 (λ goes. refl)) rest.leads; ends = rest.ends }
 
 tree : {Goes : Type 0} (it : SyntaxTree) → IsWellFormed it → Walk Goes EndsText Start (text_of it)
