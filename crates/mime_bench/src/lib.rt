@@ -1,7 +1,7 @@
 //! A call over byte slices for the operations that bench/ measures.
 //!
-//! It repeats an operation, so that the difference of two calls is the operation alone. No clause says what it answers:
-//! the driver compares that with the Rust crate's answers.
+//! It makes an operation on each line of a text, and does so again and again: the difference of two calls is the operations
+//! alone. No clause says what it answers: the driver compares that with the Rust crate's answers.
 #![tactic(auto)]
 
 use mime::{
@@ -10,48 +10,22 @@ use mime::{
 };
 use std::alloc::Global;
 use std::fmt::Write;
-use std::hash::{DefaultHasher, Hash, Hasher};
+use std::hash::{DefaultHasher, FoldHasher, Hash, Hasher};
 
-/// The value of a text; without one the operation answers 0.
-macro_rules! value {
-    ($alloc:ident, $text:ident) => {
-        match Mime::from_str($alloc, $text) {
-            Ok(mime) => mime,
-            Err(_) => return 0,
-        }
-    };
-}
-
-/// The answer of the last of so many turns.
-macro_rules! repeat {
-    ($times:ident => $turn:expr) => {{
-        let mut answer = 0usize;
+/// The sum of what an expression answers for each thing of a list, in so many turns.
+macro_rules! sum {
+    ($times:ident, $it:pat in $all:expr => $answer:expr) => {{
+        let mut sum = 0usize;
         for _ in 0..$times {
-            answer = $turn;
-        }
-        answer
-    }};
-}
-
-/// How many of so many turns say yes. Each takes one of two equal things, by the answer before: so the compiler leaves none
-/// out.
-macro_rules! count {
-    ($times:ident, $it:ident = $one:expr, $other:expr => $turn:expr) => {{
-        let mut count = 0usize;
-        let mut $it = $one;
-        for _ in 0..$times {
-            if $turn {
-                count = count.wrapping_add(1);
-                $it = $one;
-            } else {
-                $it = $other;
+            for $it in $all {
+                sum = sum.wrapping_add($answer);
             }
         }
-        count
+        sum
     }};
 }
 
-/// Makes an operation `times` times.
+/// Makes an operation on each line `times` times: on the line as a text or as a value, and on the line of the other text beside it.
 #[unsafe(no_mangle)]
 pub extern "C" fn mime_bench(
     alloc: Global,
@@ -63,37 +37,102 @@ pub extern "C" fn mime_bench(
     let (Ok(text), Ok(other)) = (std::str::from_utf8(text), std::str::from_utf8(other)) else {
         return 0;
     };
+    let (Some(texts), Some(others)) = (lines(alloc, text), lines(alloc, other)) else {
+        return 0;
+    };
     match operation {
-        b"read" => read(alloc, text, times),
-        b"walk" => walk(alloc, text, times),
-        b"look_up" => look_up(alloc, text, other, times),
-        b"name_eq" => name_eq(text, other, times),
-        b"eq" => eq(alloc, text, other, times),
-        b"cmp" => cmp(alloc, text, other, times),
-        b"hash" => hash(alloc, text, times),
-        b"clone" => clone(alloc, text, times),
-        b"print" => print(alloc, text, times),
-        b"eq_str" => eq_str(alloc, text, other, times),
-        b"atom" => atom(times),
-        b"items" => items(alloc, text, times),
+        b"read" => return read(alloc, &texts, times),
+        b"items" => return items(alloc, &texts, times),
+        b"name_eq" => return name_eq(&texts, &others, times),
+        b"atom" => return atom(times),
+        _ => (),
+    }
+    let Some(values) = values_of(alloc, &texts) else {
+        return 0;
+    };
+    match operation {
+        b"walk" => walk(&values, times),
+        b"look_up" => look_up(&values, other, times),
+        b"hash" => hash(&values, times),
+        b"fold" => fold(&values, times),
+        b"clone" => clone(&values, times),
+        b"print" => print(alloc, &values, times),
+        b"eq_str" => eq_str(&values, &others, times),
+        _ => match values_of(alloc, &others) {
+            Some(others) => compare(operation, &values, &others, times),
+            None => 0,
+        },
+    }
+}
+
+/// The operations on two values.
+fn compare(operation: &[u8], values: &[Mime], others: &[Mime], times: usize) -> usize {
+    match operation {
+        b"eq" => eq(values, others, times),
+        b"cmp" => cmp(values, others, times),
         _ => 0,
     }
 }
 
-/// Reads a media type and drops it: the length of its kept text, or 0 where it is refused.
+fn lines<'a>(alloc: Global, text: &'a str) -> Option<Vec<&'a str>> {
+    let mut lines = Vec::new(alloc);
+    for line in text.split('\n') {
+        lines.push(line).ok()?;
+    }
+    Some(lines)
+}
+
+fn values_of(alloc: Global, texts: &[&str]) -> Option<Vec<Mime>> {
+    let mut values = Vec::new(alloc);
+    for text in texts {
+        values.push(Mime::from_str(alloc, text).ok()?).ok()?;
+    }
+    Some(values)
+}
+
+/// Reads and drops each media type: the lengths of the kept texts, or 0 where a text is refused.
 #[inline(never)]
-fn read(alloc: Global, text: &str, times: usize) -> usize {
-    repeat!(times => match Mime::from_str(alloc, text) {
+fn read(alloc: Global, texts: &[&str], times: usize) -> usize {
+    sum!(times, text in texts => match Mime::from_str(alloc, text) {
         Ok(mime) => mime.as_str().len(),
         Err(_) => 0,
     })
 }
 
-/// Walks all parameters: the bytes of their names and values.
+/// Goes over the media types of each list: the lengths of their kept texts.
 #[inline(never)]
-fn walk(alloc: Global, text: &str, times: usize) -> usize {
-    let mime = value!(alloc, text);
-    repeat!(times => {
+fn items(alloc: Global, texts: &[&str], times: usize) -> usize {
+    sum!(times, text in texts => {
+        let mut length = 0usize;
+        for item in MimeIter::new(alloc, text) {
+            if let Ok(mime) = item {
+                length = length.wrapping_add(mime.as_str().len());
+            }
+        }
+        length
+    })
+}
+
+/// Compares names that ignore case with texts: how many are equal.
+#[inline(never)]
+fn name_eq(names: &[&str], texts: &[&str], times: usize) -> usize {
+    sum!(times, (text, other) in names.iter().zip(texts) => {
+        let name = Name { text, ignores_case: true };
+        name_eq_str(&name, other) as usize
+    })
+}
+
+/// Makes one of four constants: the lengths of their texts.
+#[inline(never)]
+fn atom(times: usize) -> usize {
+    let atoms = [TEXT_HTML, APPLICATION_JSON, TEXT_PLAIN_UTF_8, IMAGE_SVG];
+    sum!(times, atom in &atoms => atom.mime().as_str().len())
+}
+
+/// Walks all parameters: the lengths of their names and values.
+#[inline(never)]
+fn walk(values: &[Mime], times: usize) -> usize {
+    sum!(times, mime in values => {
         let mut length = 0usize;
         for (name, value) in mime.params() {
             length = length
@@ -104,106 +143,69 @@ fn walk(alloc: Global, text: &str, times: usize) -> usize {
     })
 }
 
-/// Looks a parameter up by its name: the length of its value, or 0 without one.
+/// Looks a parameter up by its name: the lengths of its values, or 0 without one.
 #[inline(never)]
-fn look_up(alloc: Global, text: &str, name: &str, times: usize) -> usize {
-    let mime = value!(alloc, text);
-    repeat!(times => match mime.get_param(TextKey(name)) {
+fn look_up(values: &[Mime], name: &str, times: usize) -> usize {
+    sum!(times, mime in values => match mime.get_param(TextKey(name)) {
         Some(value) => value.text.len(),
         None => 0,
     })
 }
 
-/// Compares a name that ignores case with a text.
+/// Hashes with SipHash: 1 for each, since which bytes are fed is open.
 #[inline(never)]
-fn name_eq(name: &str, text: &str, times: usize) -> usize {
-    let name = Name {
-        text: name,
-        ignores_case: true,
-    };
-    count!(times, against = text, name.text => name_eq_str(&name, against))
-}
-
-/// Compares two values.
-#[inline(never)]
-fn eq(alloc: Global, one: &str, other: &str, times: usize) -> usize {
-    let first = value!(alloc, one);
-    let (second, third) = (value!(alloc, other), value!(alloc, other));
-    count!(times, against = &second, &third => first == *against)
-}
-
-/// Orders two values: how often the first was less.
-#[inline(never)]
-fn cmp(alloc: Global, one: &str, other: &str, times: usize) -> usize {
-    let first = value!(alloc, one);
-    let (second, third) = (value!(alloc, other), value!(alloc, other));
-    count!(times, against = &second, &third => first.cmp(against).is_lt())
-}
-
-/// Hashes a value: 1, since which bytes are fed is open.
-#[inline(never)]
-fn hash(alloc: Global, text: &str, times: usize) -> usize {
-    let (first, second) = (value!(alloc, text), value!(alloc, text));
-    let even = count!(times, next = &second, &first => {
+fn hash(values: &[Mime], times: usize) -> usize {
+    sum!(times, mime in values => {
         let mut hasher = DefaultHasher::new();
-        next.hash(&mut hasher);
-        hasher.finish() % 2 == 0
-    });
-    (even <= times) as usize
-}
-
-/// Copies a value and drops the copy: how often its text isn't empty.
-#[inline(never)]
-fn clone(alloc: Global, text: &str, times: usize) -> usize {
-    let (first, second) = (value!(alloc, text), value!(alloc, text));
-    count!(times, next = &second, &first => match next.clone() {
-        Ok(copy) => !copy.as_str().is_empty(),
-        Err(_) => false,
+        mime.hash(&mut hasher);
+        (hasher.finish() != 1) as usize
     })
 }
 
-/// Prints a value into a text that has room for it: the length of what was printed.
+/// Hashes with the hasher that a map takes.
 #[inline(never)]
-fn print(alloc: Global, text: &str, times: usize) -> usize {
-    let mime = value!(alloc, text);
-    let Ok(mut printed) = String::with_capacity(alloc, text.len()) else {
-        return 0;
-    };
-    repeat!(times => {
+fn fold(values: &[Mime], times: usize) -> usize {
+    sum!(times, mime in values => {
+        let mut hasher = FoldHasher::default();
+        mime.hash(&mut hasher);
+        (hasher.finish() != 1) as usize
+    })
+}
+
+/// Copies and drops each value: how many copies aren't empty.
+#[inline(never)]
+fn clone(values: &[Mime], times: usize) -> usize {
+    sum!(times, mime in values => match mime.clone() {
+        Ok(copy) => !copy.as_str().is_empty() as usize,
+        Err(_) => 0,
+    })
+}
+
+/// Prints each value into a string that has room for it: the lengths of what was printed.
+#[inline(never)]
+fn print(alloc: Global, values: &[Mime], times: usize) -> usize {
+    let mut printed = String::new(alloc);
+    sum!(times, mime in values => {
         printed.clear();
         let _ = write!(printed, "{mime}");
         printed.len()
     })
 }
 
-/// Compares a value with a text.
+/// Compares values with texts: how many are equal.
 #[inline(never)]
-fn eq_str(alloc: Global, one: &str, other: &str, times: usize) -> usize {
-    let (first, second) = (value!(alloc, one), value!(alloc, one));
-    count!(times, against = &second, &first => mime_eq_str(against, other))
+fn eq_str(values: &[Mime], texts: &[&str], times: usize) -> usize {
+    sum!(times, (mime, text) in values.iter().zip(texts) => mime_eq_str(mime, text) as usize)
 }
 
-/// Makes one of four constants: the sum of the lengths of their texts.
+/// Compares values with values: how many are equal.
 #[inline(never)]
-fn atom(times: usize) -> usize {
-    let atoms = [TEXT_HTML, APPLICATION_JSON, TEXT_PLAIN_UTF_8, IMAGE_SVG];
-    let mut length = 0usize;
-    for _ in 0..times {
-        length = length.wrapping_add(atoms[length % 4].mime().as_str().len());
-    }
-    length
+fn eq(values: &[Mime], others: &[Mime], times: usize) -> usize {
+    sum!(times, (one, other) in values.iter().zip(others) => (*one == *other) as usize)
 }
 
-/// Goes over the media types of a list: how many bytes their kept texts have.
+/// Orders values: how many are less than the other.
 #[inline(never)]
-fn items(alloc: Global, text: &str, times: usize) -> usize {
-    repeat!(times => {
-        let mut length = 0usize;
-        for item in MimeIter::new(alloc, text) {
-            if let Ok(mime) = item {
-                length = length.wrapping_add(mime.as_str().len());
-            }
-        }
-        length
-    })
+fn cmp(values: &[Mime], others: &[Mime], times: usize) -> usize {
+    sum!(times, (one, other) in values.iter().zip(others) => one.cmp(other).is_lt() as usize)
 }
