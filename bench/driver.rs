@@ -1,8 +1,9 @@
 //! Makes operations on media types here and in the Rust crate `mime`, as bench/run asks for them.
 //!
-//! `driver OPERATION here TIMES` and `driver OPERATION there TIMES` make an operation so many times, and print its answer: the
-//! difference of two runs is what the operation costs. Standard input has the text, and after a line feed the text or name that an
-//! operation on two takes. An operation `call_NAME` is here the call from C, and there the twin of that name. Without words it is
+//! Standard input has a text, a zero byte and another text. An operation goes over the lines of the text, and takes the line of the
+//! other text beside it if it works on two. `driver OPERATION here TIMES` and `driver OPERATION there TIMES` go over them so many
+//! times: the difference of two runs is what the operation costs. `driver OPERATION` prints the least nanoseconds that once over
+//! them takes here, and there, and what it answers here, and there. An operation `call_NAME` is here the call from C, and there the operation NAME. Without words it is
 //! the program `mime_lines` over the Rust crate, written the same way: labels and texts are pushed, and a fault by its `Display`.
 
 use mime::{Mime, APPLICATION_JSON, IMAGE_SVG, TEXT_HTML, TEXT_PLAIN_UTF_8};
@@ -11,6 +12,7 @@ use std::fmt::Write as _;
 use std::hash::{BuildHasherDefault, DefaultHasher, Hash, Hasher};
 use std::hint::black_box;
 use std::io::{self, Read, Write as _};
+use std::time::{Duration, Instant};
 
 /// A text on its way into a call, or the room for what it writes. A Global crosses as nothing.
 #[repr(C)]
@@ -28,20 +30,22 @@ fn slice(text: &str) -> Slice {
     Slice(text.as_ptr(), text.len())
 }
 
-/// For each operation the twin of what `mime_bench` does, over the Rust crate: after a comma what is made before, and then what each
-/// turn answers, or adds to the answer. What LLVM makes of it turns on what is compiled with it, and on the order: after a change of
-/// this file look at the counts of the Rust crate, too.
+/// For each operation the twin of what `mime_bench` does, over the Rust crate: after a comma what is made before, then what it goes over,
+/// and what it answers for each. What LLVM makes of it turns on what is compiled with it, and on the order: after a change of this file
+/// look at the counts of the Rust crate, too.
 macro_rules! operations {
-    ($($name:ident($text:ident, $other:ident) $(, $kept:pat = $value:expr)* => $answer:ident $sets:tt $turn:expr;)*) => {
+    ($($name:ident($text:ident, $other:ident) $(, $kept:pat = $value:expr)* => $it:pat in $all:expr => $answer:expr;)*) => {
         $(
             #[inline(never)]
             fn $name($text: &str, $other: &str, times: usize) -> usize {
                 $(let $kept = $value;)*
-                let mut $answer = 0;
+                let mut sum = 0;
                 for _ in 0..times {
-                    $answer $sets $turn;
+                    for $it in $all {
+                        sum += $answer;
+                    }
                 }
-                $answer
+                sum
             }
         )*
 
@@ -52,65 +56,76 @@ macro_rules! operations {
     };
 }
 
-// What `black_box` gives may be another value at each turn, as far as the compiler can tell.
 operations! {
-    read(text, _other) => length = match black_box(text).parse::<Mime>() {
+    read(text, _other), texts = lines(text) => text in &texts => match text.parse::<Mime>() {
         Ok(mime) => mime.as_ref().len(),
         Err(_) => 0,
     };
-    look_up(text, other), mime = value_of(text) => length = black_box(&mime).get_param(other).map_or(length, |value| value.as_str().len());
-    walk(text, _other), mime = value_of(text) => length = {
+    // The release has no iterator, so this is what its user writes.
+    items(text, _other), texts = lines(text) => text in &texts =>
+        text.split(',').filter_map(|entry| entry.trim().parse::<Mime>().ok()).map(|mime| mime.as_ref().len()).sum::<usize>();
+    name_eq(text, other), texts = lines(text), others = lines(other) => (text, other) in texts.iter().zip(&others) =>
+        text.eq_ignore_ascii_case(other) as usize;
+    // Four constants as values, whatever the text is.
+    atom(_text, _other), constants = [TEXT_HTML, APPLICATION_JSON, TEXT_PLAIN_UTF_8, IMAGE_SVG] => it in &constants =>
+        black_box(it).clone().as_ref().len();
+    walk(text, _other), values = values(text) => mime in &values => {
         let mut length = 0;
-        for (name, value) in black_box(&mime).params() {
+        for (name, value) in mime.params() {
             length += name.as_str().len() + value.as_str().len();
         }
         length
     };
-    name_eq(text, other) => same += black_box(text).eq_ignore_ascii_case(other) as usize;
-    // The release has no iterator, so this is what its user writes.
-    items(text, _other) => length =
-        black_box(text).split(',').filter_map(|entry| entry.trim().parse::<Mime>().ok()).map(|mime| mime.as_ref().len()).sum();
-    eq(text, other), one = value_of(text), other = value_of(other) => same += (*black_box(&one) == *black_box(&other)) as usize;
-    is(text, other) => same += (value_of(black_box(text)) == value_of(other)) as usize;
-    cmp(text, other), one = value_of(text), other = value_of(other) => less += black_box(&one).cmp(black_box(&other)).is_lt() as usize;
-    eq_str(text, other), one = value_of(text) => same += (*black_box(&one) == black_box(other)) as usize;
+    look_up(text, other), values = values(text) => mime in &values => mime.get_param(other).map_or(0, |value| value.as_str().len());
     // Which bytes are fed is open, so the hashes of the two sides differ, and the answer is 1.
-    hash(text, _other), mime = value_of(text), mut even = 0 => answer = {
+    hash(text, _other), values = values(text) => mime in &values => {
         let mut hasher = DefaultHasher::new();
-        black_box(&mime).hash(&mut hasher);
-        even += (hasher.finish() % 2 == 0) as usize;
-        usize::from(even < usize::MAX)
+        mime.hash(&mut hasher);
+        (hasher.finish() != 1) as usize
     };
-    clone(text, _other), mime = value_of(text) => copied += !black_box(&black_box(&mime).clone()).as_ref().is_empty() as usize;
-    print(text, _other), mime = value_of(text), mut printed = String::with_capacity(text.len()) => length = {
+    clone(text, _other), values = values(text) => mime in &values => !black_box(&mime.clone()).as_ref().is_empty() as usize;
+    print(text, _other), values = values(text), mut printed = String::new() => mime in &values => {
         printed.clear();
-        write!(printed, "{}", black_box(&mime)).unwrap();
+        write!(printed, "{}", mime).unwrap();
         printed.len()
     };
-    // One of four constants as a value, whatever the text is.
-    atom(_text, _other), constants = [TEXT_HTML, APPLICATION_JSON, TEXT_PLAIN_UTF_8, IMAGE_SVG] =>
-        length += black_box(&constants)[length % 4].clone().as_ref().len();
+    eq_str(text, other), values = values(text), others = lines(other) => (mime, text) in values.iter().zip(&others) =>
+        (*mime == *text) as usize;
+    eq(text, other), values = values(text), others = self::values(other) => (one, other) in values.iter().zip(&others) =>
+        (one == other) as usize;
+    cmp(text, other), values = values(text), others = self::values(other) => (one, other) in values.iter().zip(&others) =>
+        one.cmp(other).is_lt() as usize;
+    is(text, other), texts = lines(text), others = lines(other) => (text, other) in texts.iter().zip(&others) =>
+        (value_of(text) == value_of(other)) as usize;
 
     // The calls from C, which answer as their twins do. What is found is first the length, and third where the printed text begins, or 0
-    // where the text is refused.
-    call_read(text, _other), mut out = vec![0u8; 2 * text.len() + 2] => length = {
+    // if the text is refused.
+    call_read(text, _other), texts = lines(text), mut out = vec![0u8; 2 * text.len() + 2] => text in &texts => {
         let mut found = [0; 7];
-        unsafe { mime_read(slice(black_box(text)), Slice(out.as_mut_ptr(), out.len()), &mut found) };
+        unsafe { mime_read(slice(text), Slice(out.as_mut_ptr(), out.len()), &mut found) };
         (found[0] - found[2]).saturating_sub(1)
     };
-    call_items(text, _other), mut out = vec![0u8; 2 * text.len()], mut length = 0 => answer = {
-        unsafe { mime_list(slice(black_box(text)), Slice(out.as_mut_ptr(), out.len()), &mut length) };
-        out[..length].split(|byte| *byte == 0).filter(|item| item.first() == Some(&b'+')).map(|item| item.len() - 1).sum()
+    call_items(text, _other), texts = lines(text), mut out = vec![0u8; 2 * text.len()], mut length = 0 => text in &texts => {
+        unsafe { mime_list(slice(text), Slice(out.as_mut_ptr(), out.len()), &mut length) };
+        out[..length].split(|byte| *byte == 0).filter(|item| item.first() == Some(&b'+')).map(|item| item.len() - 1).sum::<usize>()
     };
-    call_is(text, other), mut equal = 0 => same += {
-        unsafe { mime_is(slice(black_box(text)), slice(other), &mut equal) };
+    call_is(text, other), texts = lines(text), others = lines(other), mut equal = 0 => (text, other) in texts.iter().zip(&others) => {
+        unsafe { mime_is(slice(text), slice(other), &mut equal) };
         usize::from(equal)
     };
+}
+
+fn lines(text: &str) -> Vec<&str> {
+    text.split('\n').collect()
 }
 
 /// The value of a text that is a media type.
 fn value_of(text: &str) -> Mime {
     text.parse().unwrap()
+}
+
+fn values(text: &str) -> Vec<Mime> {
+    lines(text).into_iter().map(value_of).collect()
 }
 
 /// Adds the report on a line.
@@ -150,26 +165,59 @@ fn write_report(input: &[u8]) -> io::Result<()> {
     io::stdout().write_all(report.as_bytes())
 }
 
+/// The least nanoseconds that once over the lines takes on each side, of many turns, in which the sides take turns.
+fn least(sides: [&dyn Fn(usize) -> usize; 2]) -> [f64; 2] {
+    let nanoseconds = |side: usize, times| {
+        let begun = Instant::now();
+        black_box(sides[side](times));
+        begun.elapsed().as_nanos() as f64
+    };
+    // So often that it takes a while.
+    let mut times = 1;
+    while nanoseconds(0, times) + nanoseconds(1, times) < 60_000.0 {
+        times *= 2;
+    }
+    let (mut once, mut twice, begun) = ([f64::MAX; 2], [f64::MAX; 2], Instant::now());
+    for turn in 0.. {
+        if turn > 20 && begun.elapsed() > Duration::from_millis(200) {
+            break;
+        }
+        for side in 0..2 {
+            once[side] = nanoseconds(side, times).min(once[side]);
+            twice[side] = nanoseconds(side, 2 * times).min(twice[side]);
+        }
+    }
+    [0, 1].map(|side| (twice[side] - once[side]) / times as f64)
+}
+
 fn main() -> io::Result<()> {
     let (words, mut input): (Vec<String>, _) = (std::env::args().collect(), Vec::new());
     io::stdin().read_to_end(&mut input)?;
-    let [_, name, side, times] = &words[..] else {
+    if words.len() == 1 {
         return write_report(&input);
-    };
-    let given = String::from_utf8(input).unwrap();
-    let (text, other) = given.split_once('\n').unwrap();
+    }
+    let (name, given) = (words[1].as_str(), String::from_utf8(input).unwrap());
+    let (text, other) = given.split_once('\0').unwrap();
     let operations = operations();
-    let run = |times| match (side.as_str(), name.strip_prefix("call_")) {
-        ("here", None) => unsafe { mime_bench(slice(name), slice(text), slice(other), times) },
-        ("there", Some(twin)) => operations[twin](text, other, times),
-        _ => operations[name.as_str()](text, other, times),
+    // A map here takes another hasher, there the same one.
+    let twin = operations[if name == "fold" { "hash" } else { name.trim_start_matches("call_") }];
+    let here = |times| match name.starts_with("call_") {
+        true => operations[name](text, other, times),
+        false => unsafe { mime_bench(slice(name), slice(text), slice(other), times) },
     };
+    let there = |times| twin(text, other, times);
     // Memory was used before, as in a program that has run for a while: else a block can grow where it is.
     drop(black_box((20..80).map(|length| "x".repeat(length)).collect::<Vec<_>>()).clone());
+    let [_, _, side, times] = &words[..] else {
+        let [time, time_there] = least([&here, &there]);
+        println!("{time} {time_there} {} {}", here(1), there(1));
+        return Ok(());
+    };
+    let side: &dyn Fn(usize) -> usize = if side == "here" { &here } else { &there };
     // Until malloc's own lists are filled, the same request costs more or less.
     for _ in 0..(20_000 / text.len()).clamp(1, 32) {
-        run(1);
+        side(1);
     }
-    println!("{}", run(times.parse().unwrap()));
+    side(times.parse().unwrap());
     Ok(())
 }

@@ -1,0 +1,47 @@
+"""Plain SVG: pictures on a white ground, so that they are legible in dark mode, too."""
+
+from html import escape
+
+
+def element(kind, text="", **how):
+    """An element with its attributes, whose names have _ for -."""
+    number = lambda it: f"{it:.1f}".removesuffix(".0")
+    said = "".join(f' {name.replace("_", "-")}="{escape(it) if isinstance(it, str) else number(it)}"' for name, it in how.items())
+    return f"<{kind}{said}>{escape(text, quote=False)}</{kind}>" if text else f"<{kind}{said}/>"
+
+
+def words(x, y, text, size=13, **how):
+    return element("text", text, x=x, y=y, font_size=size, **how)
+
+
+def box(x, y, width, height, **how):
+    return element("rect", x=x, y=y, width=width, height=height, **{"fill": "#fff", "stroke": "#000", "stroke_width": 1.5, **how})
+
+
+def path(at, **how):
+    return element("path", d=at, **{"fill": "none", "stroke": "#000", "stroke_width": 1.5, **how})
+
+
+def picture(width, height, title, *parts):
+    head = (f'<svg xmlns="http://www.w3.org/2000/svg" width="{width:.0f}" height="{height:.0f}" viewBox="0 0 {width:.0f} {height:.0f}" '
+            'font-family="DejaVu Sans, Verdana, sans-serif">')
+    return "\n".join((head, element("title", title), element("rect", width=width, height=height, fill="#fff"), *parts, "</svg>\n"))
+
+
+def bars(title, kinds, rows, top):
+    """For each row a bar of each kind, and its number, up to the top of the scale; and a line at 1."""
+    left, wide, parts = 230, 480, [words(14, 26, title, 15, font_weight="bold")]
+    across = lambda it: left + wide * min(it, top) / top
+    bottom = 76 + 34 * len(rows)
+    for at, (kind, fill) in enumerate(kinds):
+        parts += box(left + 150 * at, 38, 14, 14, fill=fill, stroke="none"), words(left + 150 * at + 20, 50, kind)
+    for at in range(int(top * 2) + 1):
+        strong = {"stroke_width": 2} if at == 2 else {"stroke": "#ccc", "stroke_width": 1}
+        parts += path(f"M{across(at / 2):.1f} 62V{bottom}", **strong), words(across(at / 2), bottom + 18, f"{at / 2:g}", text_anchor="middle")
+    for at, (label, *numbers) in enumerate(rows):
+        y = 70 + 34 * at
+        parts.append(words(left - 10, y + 17, label, text_anchor="end"))
+        for (_, fill), number, down in zip(kinds, numbers, (0, 13)):
+            parts.append(box(left, y + down, across(number) - left, 12, fill=fill, stroke="none"))
+            parts.append(words(across(number) + 5, y + down + 10, f"{number:.2f}", 11))
+    return picture(left + wide + 60, bottom + 28, title, *parts)
