@@ -1,10 +1,11 @@
 //! Makes operations on media types here and in the Rust crate `mime`, as bench/run asks for them.
 //!
 //! Standard input has a text, a zero byte and another text. An operation goes over the lines of the text, and takes the line of the
-//! other text beside it if it works on two. `driver OPERATION here TIMES` and `driver OPERATION there TIMES` go over them so many
-//! times: the difference of two runs is what the operation costs. `driver OPERATION` prints the least nanoseconds that once over
-//! them takes here, and there, and what it answers here, and there. An operation `call_NAME` is here the call from C, and there the operation NAME. Without words it is
-//! the program `mime_lines` over the Rust crate, written the same way: labels and texts are pushed, and a fault by its `Display`.
+//! other text beside it if it works on two: so many rounds, in which it is made so many times on each line.
+//! `driver OPERATION here ROUNDS TIMES` and `driver OPERATION there ROUNDS TIMES` do that once: the difference of two runs is what the
+//! operation costs. `driver OPERATION` prints the nanoseconds that the operation takes here, and there, and what it answers here, and
+//! there. An operation `call_NAME` is here the call from C, and there the operation NAME. Without words it is the program `mime_lines`
+//! over the Rust crate, written the same way: labels and texts are pushed, and a fault by its `Display`.
 
 use mime::{Mime, APPLICATION_JSON, IMAGE_SVG, TEXT_HTML, TEXT_PLAIN_UTF_8};
 use std::collections::HashMap;
@@ -19,7 +20,7 @@ use std::time::{Duration, Instant};
 struct Slice(*const u8, usize);
 
 extern "C" {
-    fn mime_bench(operation: Slice, text: Slice, other: Slice, times: usize) -> usize;
+    fn mime_bench(operation: Slice, text: Slice, other: Slice, rounds: usize, times: usize) -> usize;
     // The calls of include/mime.h.
     fn mime_read(text: Slice, out: Slice, found: *mut [usize; 7]) -> u32;
     fn mime_list(text: Slice, out: Slice, length: *mut usize) -> u32;
@@ -30,18 +31,25 @@ fn slice(text: &str) -> Slice {
     Slice(text.as_ptr(), text.len())
 }
 
-/// For each operation the twin of what `mime_bench` does, over the Rust crate: after a comma what is made before, then what it goes over,
-/// and what it answers for each. What LLVM makes of it turns on what is compiled with it, and on the order: after a change of this file
-/// look at the counts of the Rust crate, too.
+type Operation = fn(&[&str], &[&str], usize, usize) -> usize;
+
+/// For each operation the twin of what `mime_bench` does, over the Rust crate: after a comma what is made before, and then what each
+/// turn answers, or adds to the answer. What LLVM makes of it turns on what is compiled with it, and on the order: after a change of
+/// this file look at the counts of the Rust crate, too.
 macro_rules! operations {
-    ($($name:ident($text:ident, $other:ident) $(, $kept:pat = $value:expr)* => $it:pat in $all:expr => $answer:expr;)*) => {
+    ($($name:ident($text:ident, $other:ident) $(, $kept:ident = $value:expr)* => $answer:ident $sets:tt $turn:expr;)*) => {
         $(
             #[inline(never)]
-            fn $name($text: &str, $other: &str, times: usize) -> usize {
-                $(let $kept = $value;)*
+            fn $name(texts: &[&str], others: &[&str], rounds: usize, times: usize) -> usize {
+                let pairs = texts.iter().zip(others);
+                let mut made: Vec<_> = pairs.map(|(&$text, &$other)| ($text, $other, $($value,)*)).collect();
                 let mut sum = 0;
-                for _ in 0..times {
-                    for $it in $all {
+                for _ in 0..rounds {
+                    for ($text, $other, $($kept,)*) in &mut made {
+                        let (_, _, mut $answer) = (&$text, &$other, 0);
+                        for _ in 0..times {
+                            $answer $sets $turn;
+                        }
                         sum += $answer;
                     }
                 }
@@ -50,82 +58,69 @@ macro_rules! operations {
         )*
 
         /// The operations by name. A program that hashes has maps, too: so the hasher isn't made part of the one place that calls it.
-        fn operations() -> HashMap<&'static str, fn(&str, &str, usize) -> usize, BuildHasherDefault<DefaultHasher>> {
-            [$((stringify!($name), $name as fn(&str, &str, usize) -> usize)),*].into_iter().collect()
+        fn operations() -> HashMap<&'static str, Operation, BuildHasherDefault<DefaultHasher>> {
+            [$((stringify!($name), $name as Operation)),*].into_iter().collect()
         }
     };
 }
 
+// What `black_box` gives may be another value at each turn, as far as the compiler can tell.
 operations! {
-    read(text, _other), texts = lines(text) => text in &texts => match text.parse::<Mime>() {
+    read(text, _other) => length = match black_box(*text).parse::<Mime>() {
         Ok(mime) => mime.as_ref().len(),
         Err(_) => 0,
     };
-    // The release has no iterator, so this is what its user writes.
-    items(text, _other), texts = lines(text) => text in &texts =>
-        text.split(',').filter_map(|entry| entry.trim().parse::<Mime>().ok()).map(|mime| mime.as_ref().len()).sum::<usize>();
-    name_eq(text, other), texts = lines(text), others = lines(other) => (text, other) in texts.iter().zip(&others) =>
-        text.eq_ignore_ascii_case(other) as usize;
-    // Four constants as values, whatever the text is.
-    atom(_text, _other), constants = [TEXT_HTML, APPLICATION_JSON, TEXT_PLAIN_UTF_8, IMAGE_SVG] => it in &constants =>
-        black_box(it).clone().as_ref().len();
-    walk(text, _other), values = values(text) => mime in &values => {
+    look_up(text, other), mime = value_of(text) => length = black_box(&*mime).get_param(*other).map_or(0, |value| value.as_str().len());
+    walk(text, _other), mime = value_of(text) => length = {
         let mut length = 0;
-        for (name, value) in mime.params() {
+        for (name, value) in black_box(&*mime).params() {
             length += name.as_str().len() + value.as_str().len();
         }
         length
     };
-    look_up(text, other), values = values(text) => mime in &values => mime.get_param(other).map_or(0, |value| value.as_str().len());
+    // The release has no iterator, so this is what its user writes.
+    items(text, _other) => length =
+        black_box(*text).split(',').filter_map(|entry| entry.trim().parse::<Mime>().ok()).map(|mime| mime.as_ref().len()).sum();
+    eq(text, other), one = value_of(text), second = value_of(other) => same += (*black_box(&*one) == *black_box(&*second)) as usize;
+    is(text, other) => same += (value_of(black_box(*text)) == value_of(*other)) as usize;
+    cmp(text, other), one = value_of(text), second = value_of(other) => less += black_box(&*one).cmp(black_box(&*second)).is_lt() as usize;
+    eq_str(text, other), one = value_of(text) => same += (*black_box(&*one) == black_box(*other)) as usize;
     // Which bytes are fed is open, so the hashes of the two sides differ, and the answer is 1.
-    hash(text, _other), values = values(text) => mime in &values => {
+    hash(text, _other), mime = value_of(text) => answer += {
         let mut hasher = DefaultHasher::new();
-        mime.hash(&mut hasher);
+        black_box(&*mime).hash(&mut hasher);
         (hasher.finish() != 1) as usize
     };
-    clone(text, _other), values = values(text) => mime in &values => !black_box(&mime.clone()).as_ref().is_empty() as usize;
-    print(text, _other), values = values(text), mut printed = String::new() => mime in &values => {
+    clone(text, _other), mime = value_of(text) => copied += !black_box(&black_box(&*mime).clone()).as_ref().is_empty() as usize;
+    print(text, _other), mime = value_of(text), printed = String::with_capacity(text.len()) => length = {
         printed.clear();
-        write!(printed, "{}", mime).unwrap();
+        write!(printed, "{}", black_box(&*mime)).unwrap();
         printed.len()
     };
-    eq_str(text, other), values = values(text), others = lines(other) => (mime, text) in values.iter().zip(&others) =>
-        (*mime == *text) as usize;
-    eq(text, other), values = values(text), others = self::values(other) => (one, other) in values.iter().zip(&others) =>
-        (one == other) as usize;
-    cmp(text, other), values = values(text), others = self::values(other) => (one, other) in values.iter().zip(&others) =>
-        one.cmp(other).is_lt() as usize;
-    is(text, other), texts = lines(text), others = lines(other) => (text, other) in texts.iter().zip(&others) =>
-        (value_of(text) == value_of(other)) as usize;
+    // One of four constants as a value, whatever the text is.
+    atom(_text, _other), constants = [TEXT_HTML, APPLICATION_JSON, TEXT_PLAIN_UTF_8, IMAGE_SVG] =>
+        length += black_box(&*constants)[length % 4].clone().as_ref().len();
 
     // The calls from C, which answer as their twins do. What is found is first the length, and third where the printed text begins, or 0
-    // if the text is refused.
-    call_read(text, _other), texts = lines(text), mut out = vec![0u8; 2 * text.len() + 2] => text in &texts => {
+    // if the text is rejected.
+    call_read(text, _other), out = vec![0u8; 2 * text.len() + 2] => length = {
         let mut found = [0; 7];
-        unsafe { mime_read(slice(text), Slice(out.as_mut_ptr(), out.len()), &mut found) };
+        unsafe { mime_read(slice(black_box(*text)), Slice(out.as_mut_ptr(), out.len()), &mut found) };
         (found[0] - found[2]).saturating_sub(1)
     };
-    call_items(text, _other), texts = lines(text), mut out = vec![0u8; 2 * text.len()], mut length = 0 => text in &texts => {
-        unsafe { mime_list(slice(text), Slice(out.as_mut_ptr(), out.len()), &mut length) };
-        out[..length].split(|byte| *byte == 0).filter(|item| item.first() == Some(&b'+')).map(|item| item.len() - 1).sum::<usize>()
+    call_items(text, _other), out = vec![0u8; 2 * text.len()], length = 0 => answer = {
+        unsafe { mime_list(slice(black_box(*text)), Slice(out.as_mut_ptr(), out.len()), length) };
+        out[..*length].split(|byte| *byte == 0).filter(|item| item.first() == Some(&b'+')).map(|item| item.len() - 1).sum()
     };
-    call_is(text, other), texts = lines(text), others = lines(other), mut equal = 0 => (text, other) in texts.iter().zip(&others) => {
-        unsafe { mime_is(slice(text), slice(other), &mut equal) };
-        usize::from(equal)
+    call_is(text, other), equal = 0 => same += {
+        unsafe { mime_is(slice(black_box(*text)), slice(*other), equal) };
+        usize::from(*equal)
     };
-}
-
-fn lines(text: &str) -> Vec<&str> {
-    text.split('\n').collect()
 }
 
 /// The value of a text that is a media type.
 fn value_of(text: &str) -> Mime {
     text.parse().unwrap()
-}
-
-fn values(text: &str) -> Vec<Mime> {
-    lines(text).into_iter().map(value_of).collect()
 }
 
 /// Adds the report on a line.
@@ -165,16 +160,19 @@ fn write_report(input: &[u8]) -> io::Result<()> {
     io::stdout().write_all(report.as_bytes())
 }
 
-/// The least nanoseconds that once over the lines takes on each side, of many turns, in which the sides take turns.
-fn least(sides: [&dyn Fn(usize) -> usize; 2]) -> [f64; 2] {
+/// What of one side's operation is repeated, and so often.
+type Side<'a> = &'a dyn Fn(usize) -> usize;
+
+/// The nanoseconds that one repetition takes on each side: the least of many turns, in which the sides take turns.
+fn least(sides: [Side; 2]) -> [f64; 2] {
     let nanoseconds = |side: usize, times| {
         let begun = Instant::now();
         black_box(sides[side](times));
         begun.elapsed().as_nanos() as f64
     };
-    // So often that it takes a while.
+    // So often that what is repeated takes a while, beside what is done before.
     let mut times = 1;
-    while nanoseconds(0, times) + nanoseconds(1, times) < 60_000.0 {
+    while [0, 1].map(|side| nanoseconds(side, 2 * times) - nanoseconds(side, times)).iter().sum::<f64>() < 100_000.0 {
         times *= 2;
     }
     let (mut once, mut twice, begun) = ([f64::MAX; 2], [f64::MAX; 2], Instant::now());
@@ -198,26 +196,31 @@ fn main() -> io::Result<()> {
     }
     let (name, given) = (words[1].as_str(), String::from_utf8(input).unwrap());
     let (text, other) = given.split_once('\0').unwrap();
+    let (texts, others): (Vec<_>, Vec<_>) = (text.split('\n').collect(), other.split('\n').collect());
     let operations = operations();
     // A map here takes another hasher, there the same one.
     let twin = operations[if name == "fold" { "hash" } else { name.trim_start_matches("call_") }];
-    let here = |times| match name.starts_with("call_") {
-        true => operations[name](text, other, times),
-        false => unsafe { mime_bench(slice(name), slice(text), slice(other), times) },
+    let here = |rounds, times| match name.starts_with("call_") {
+        true => operations[name](&texts, &others, rounds, times),
+        false => unsafe { mime_bench(slice(name), slice(text), slice(other), rounds, times) },
     };
-    let there = |times| twin(text, other, times);
+    let there = |rounds, times| twin(&texts, &others, rounds, times);
     // Memory was used before, as in a program that has run for a while: else a block can grow where it is.
     drop(black_box((20..80).map(|length| "x".repeat(length)).collect::<Vec<_>>()).clone());
-    let [_, _, side, times] = &words[..] else {
-        let [time, time_there] = least([&here, &there]);
-        println!("{time} {time_there} {} {}", here(1), there(1));
+    let [_, _, side, rounds, times] = &words[..] else {
+        // On one line the times are repeated, on several the rounds.
+        let [time, time_there] = match texts.len() {
+            1 => least([&|times| here(1, times), &|times| there(1, times)]),
+            _ => least([&|rounds| here(rounds, 1), &|rounds| there(rounds, 1)]).map(|time| time / texts.len() as f64),
+        };
+        println!("{time} {time_there} {} {}", here(1, 1), there(1, 1));
         return Ok(());
     };
-    let side: &dyn Fn(usize) -> usize = if side == "here" { &here } else { &there };
+    let run: &dyn Fn(usize, usize) -> usize = if side == "here" { &here } else { &there };
     // Until malloc's own lists are filled, the same request costs more or less.
     for _ in 0..(20_000 / text.len()).clamp(1, 32) {
-        side(1);
+        run(1, 1);
     }
-    side(times.parse().unwrap());
+    run(rounds.parse().unwrap(), times.parse().unwrap());
     Ok(())
 }

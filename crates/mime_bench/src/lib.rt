@@ -1,37 +1,62 @@
 //! A call over byte slices for the operations that bench/ measures.
 //!
-//! It makes an operation on each line of a text, and does so again and again: the difference of two calls is the operations
-//! alone. No clause says what it answers: the driver compares that with the Rust crate's answers.
+//! An operation goes over the lines of a text in some rounds, and is made some times on each line: the difference of two calls is
+//! the operation alone. No clause says what it answers: the driver compares that with the Rust crate's answers.
 #![tactic(auto)]
 
 use mime::{
-    APPLICATION_JSON, IMAGE_SVG, Mime, MimeIter, Name, TEXT_HTML, TEXT_PLAIN_UTF_8, TextKey,
-    mime_eq_str, name_eq_str,
+    APPLICATION_JSON, IMAGE_SVG, Mime, MimeIter, TEXT_HTML, TEXT_PLAIN_UTF_8, TextKey, mime_eq_str,
 };
 use std::alloc::Global;
 use std::fmt::Write;
 use std::hash::{DefaultHasher, FoldHasher, Hash, Hasher};
 
-/// The sum of what an expression answers for each thing of a list, in so many turns.
-macro_rules! sum {
-    ($times:ident, $it:pat in $all:expr => $answer:expr) => {{
+/// The sum of the last answers: of so many rounds over a list, in which each turn is taken so many times.
+macro_rules! repeat {
+    ($rounds:ident, $times:ident, $it:pat in $all:expr => $turn:expr) => {{
         let mut sum = 0usize;
-        for _ in 0..$times {
+        for _ in 0..$rounds {
             for $it in $all {
-                sum = sum.wrapping_add($answer);
+                let mut answer = 0usize;
+                for _ in 0..$times {
+                    answer = $turn;
+                }
+                sum = sum.wrapping_add(answer);
             }
         }
         sum
     }};
 }
 
-/// Makes an operation on each line `times` times: on the line as a text or as a value, and on the line of the other text beside it.
+/// How many of these turns say yes. Each takes one of two equal things, by the answer before: so the compiler leaves none out.
+macro_rules! count {
+    ($rounds:ident, $times:ident, $each:pat in $all:expr, $it:ident = $one:expr, $other:expr => $turn:expr) => {{
+        let mut count = 0usize;
+        for _ in 0..$rounds {
+            for $each in $all {
+                let mut $it = $one;
+                for _ in 0..$times {
+                    if $turn {
+                        count = count.wrapping_add(1);
+                        $it = $one;
+                    } else {
+                        $it = $other;
+                    }
+                }
+            }
+        }
+        count
+    }};
+}
+
+/// Makes an operation on each line of a text, and if it takes two on the line of the other text beside it.
 #[unsafe(no_mangle)]
 pub extern "C" fn mime_bench(
     alloc: Global,
     operation: &[u8],
     text: &[u8],
     other: &[u8],
+    rounds: usize,
     times: usize,
 ) -> usize {
     let (Ok(text), Ok(other)) = (std::str::from_utf8(text), std::str::from_utf8(other)) else {
@@ -41,35 +66,57 @@ pub extern "C" fn mime_bench(
         return 0;
     };
     match operation {
-        b"read" => return read(alloc, &texts, times),
-        b"items" => return items(alloc, &texts, times),
-        b"name_eq" => return name_eq(&texts, &others, times),
-        b"atom" => return atom(times),
-        _ => (),
+        b"read" => read(alloc, &texts, rounds, times),
+        b"items" => items(alloc, &texts, rounds, times),
+        b"atom" => atom(times),
+        _ => match (values_of(alloc, &texts), values_of(alloc, &texts)) {
+            (Some(values), Some(again)) => {
+                on_values(alloc, operation, &values, &again, &others, rounds, times)
+            }
+            _ => 0,
+        },
     }
-    let Some(values) = values_of(alloc, &texts) else {
-        return 0;
-    };
+}
+
+/// The operations on values. A second list has the same values again.
+fn on_values(
+    alloc: Global,
+    operation: &[u8],
+    values: &[Mime],
+    again: &[Mime],
+    others: &[&str],
+    rounds: usize,
+    times: usize,
+) -> usize {
     match operation {
-        b"walk" => walk(&values, times),
-        b"look_up" => look_up(&values, other, times),
-        b"hash" => hash(&values, times),
-        b"fold" => fold(&values, times),
-        b"clone" => clone(&values, times),
-        b"print" => print(alloc, &values, times),
-        b"eq_str" => eq_str(&values, &others, times),
-        _ => match values_of(alloc, &others) {
-            Some(others) => compare(operation, &values, &others, times),
-            None => 0,
+        b"walk" => walk(values, rounds, times),
+        b"look_up" => look_up(values, others, rounds, times),
+        b"hash" => hash(values, again, rounds, times),
+        b"fold" => fold(values, again, rounds, times),
+        b"clone" => clone(values, again, rounds, times),
+        b"print" => print(alloc, values, rounds, times),
+        b"eq_str" => eq_str(values, again, others, rounds, times),
+        _ => match (values_of(alloc, others), values_of(alloc, others)) {
+            (Some(others), Some(again)) => on_two(
+                operation, values, &others, &again, rounds, times,
+            ),
+            _ => 0,
         },
     }
 }
 
 /// The operations on two values.
-fn compare(operation: &[u8], values: &[Mime], others: &[Mime], times: usize) -> usize {
+fn on_two(
+    operation: &[u8],
+    values: &[Mime],
+    others: &[Mime],
+    again: &[Mime],
+    rounds: usize,
+    times: usize,
+) -> usize {
     match operation {
-        b"eq" => eq(values, others, times),
-        b"cmp" => cmp(values, others, times),
+        b"eq" => eq(values, others, again, rounds, times),
+        b"cmp" => cmp(values, others, again, rounds, times),
         _ => 0,
     }
 }
@@ -90,19 +137,19 @@ fn values_of(alloc: Global, texts: &[&str]) -> Option<Vec<Mime>> {
     Some(values)
 }
 
-/// Reads and drops each media type: the lengths of the kept texts, or 0 where a text is refused.
+/// Reads a media type and drops it: the length of its kept text, or 0 if it is rejected.
 #[inline(never)]
-fn read(alloc: Global, texts: &[&str], times: usize) -> usize {
-    sum!(times, text in texts => match Mime::from_str(alloc, text) {
+fn read(alloc: Global, texts: &[&str], rounds: usize, times: usize) -> usize {
+    repeat!(rounds, times, text in texts => match Mime::from_str(alloc, text) {
         Ok(mime) => mime.as_str().len(),
         Err(_) => 0,
     })
 }
 
-/// Goes over the media types of each list: the lengths of their kept texts.
+/// Goes over the media types of a list: how many bytes their kept texts have.
 #[inline(never)]
-fn items(alloc: Global, texts: &[&str], times: usize) -> usize {
-    sum!(times, text in texts => {
+fn items(alloc: Global, texts: &[&str], rounds: usize, times: usize) -> usize {
+    repeat!(rounds, times, text in texts => {
         let mut length = 0usize;
         for item in MimeIter::new(alloc, text) {
             if let Ok(mime) = item {
@@ -113,26 +160,21 @@ fn items(alloc: Global, texts: &[&str], times: usize) -> usize {
     })
 }
 
-/// Compares names that ignore case with texts: how many are equal.
-#[inline(never)]
-fn name_eq(names: &[&str], texts: &[&str], times: usize) -> usize {
-    sum!(times, (text, other) in names.iter().zip(texts) => {
-        let name = Name { text, ignores_case: true };
-        name_eq_str(&name, other) as usize
-    })
-}
-
-/// Makes one of four constants: the lengths of their texts.
+/// Makes one of four constants: the sum of the lengths of their texts.
 #[inline(never)]
 fn atom(times: usize) -> usize {
     let atoms = [TEXT_HTML, APPLICATION_JSON, TEXT_PLAIN_UTF_8, IMAGE_SVG];
-    sum!(times, atom in &atoms => atom.mime().as_str().len())
+    let mut length = 0usize;
+    for _ in 0..times {
+        length = length.wrapping_add(atoms[length % 4].mime().as_str().len());
+    }
+    length
 }
 
-/// Walks all parameters: the lengths of their names and values.
+/// Walks all parameters: the bytes of their names and values.
 #[inline(never)]
-fn walk(values: &[Mime], times: usize) -> usize {
-    sum!(times, mime in values => {
+fn walk(values: &[Mime], rounds: usize, times: usize) -> usize {
+    repeat!(rounds, times, mime in values => {
         let mut length = 0usize;
         for (name, value) in mime.params() {
             length = length
@@ -143,69 +185,75 @@ fn walk(values: &[Mime], times: usize) -> usize {
     })
 }
 
-/// Looks a parameter up by its name: the lengths of its values, or 0 without one.
+/// Looks a parameter up by its name: the length of its value, or 0 without one.
 #[inline(never)]
-fn look_up(values: &[Mime], name: &str, times: usize) -> usize {
-    sum!(times, mime in values => match mime.get_param(TextKey(name)) {
+fn look_up(values: &[Mime], names: &[&str], rounds: usize, times: usize) -> usize {
+    repeat!(rounds, times, (mime, name) in values.iter().zip(names) => match mime.get_param(TextKey(name)) {
         Some(value) => value.text.len(),
         None => 0,
     })
 }
 
-/// Hashes with SipHash: 1 for each, since which bytes are fed is open.
+/// Hashes a value by SipHash: 1 for each, since which bytes are fed is open.
 #[inline(never)]
-fn hash(values: &[Mime], times: usize) -> usize {
-    sum!(times, mime in values => {
+fn hash(values: &[Mime], again: &[Mime], rounds: usize, times: usize) -> usize {
+    count!(rounds, times, (first, second) in values.iter().zip(again), next = second, first => {
         let mut hasher = DefaultHasher::new();
-        mime.hash(&mut hasher);
-        (hasher.finish() != 1) as usize
+        next.hash(&mut hasher);
+        hasher.finish() != 1
     })
 }
 
-/// Hashes with the hasher that a map takes.
+/// Hashes a value by the hasher that maps take by default.
 #[inline(never)]
-fn fold(values: &[Mime], times: usize) -> usize {
-    sum!(times, mime in values => {
+fn fold(values: &[Mime], again: &[Mime], rounds: usize, times: usize) -> usize {
+    count!(rounds, times, (first, second) in values.iter().zip(again), next = second, first => {
         let mut hasher = FoldHasher::default();
-        mime.hash(&mut hasher);
-        (hasher.finish() != 1) as usize
+        next.hash(&mut hasher);
+        hasher.finish() != 1
     })
 }
 
-/// Copies and drops each value: how many copies aren't empty.
+/// Clones a value and drops the clone: how often its text isn't empty.
 #[inline(never)]
-fn clone(values: &[Mime], times: usize) -> usize {
-    sum!(times, mime in values => match mime.clone() {
-        Ok(copy) => !copy.as_str().is_empty() as usize,
-        Err(_) => 0,
+fn clone(values: &[Mime], again: &[Mime], rounds: usize, times: usize) -> usize {
+    count!(rounds, times, (first, second) in values.iter().zip(again), next = second, first => match next.clone() {
+        Ok(copy) => !copy.as_str().is_empty(),
+        Err(_) => false,
     })
 }
 
-/// Prints each value into a string that has room for it: the lengths of what was printed.
+/// Prints a value: the length of what was printed.
 #[inline(never)]
-fn print(alloc: Global, values: &[Mime], times: usize) -> usize {
+fn print(alloc: Global, values: &[Mime], rounds: usize, times: usize) -> usize {
     let mut printed = String::new(alloc);
-    sum!(times, mime in values => {
+    repeat!(rounds, times, mime in values => {
         printed.clear();
         let _ = write!(printed, "{mime}");
         printed.len()
     })
 }
 
-/// Compares values with texts: how many are equal.
+/// Compares a value with a text.
 #[inline(never)]
-fn eq_str(values: &[Mime], texts: &[&str], times: usize) -> usize {
-    sum!(times, (mime, text) in values.iter().zip(texts) => mime_eq_str(mime, text) as usize)
+fn eq_str(values: &[Mime], again: &[Mime], texts: &[&str], rounds: usize, times: usize) -> usize {
+    count!(rounds, times, ((first, second), text) in values.iter().zip(again).zip(texts), against = second, first => {
+        mime_eq_str(against, text)
+    })
 }
 
-/// Compares values with values: how many are equal.
+/// Compares two values.
 #[inline(never)]
-fn eq(values: &[Mime], others: &[Mime], times: usize) -> usize {
-    sum!(times, (one, other) in values.iter().zip(others) => (*one == *other) as usize)
+fn eq(values: &[Mime], others: &[Mime], again: &[Mime], rounds: usize, times: usize) -> usize {
+    count!(rounds, times, ((first, second), third) in values.iter().zip(others).zip(again), against = second, third => {
+        *first == *against
+    })
 }
 
-/// Orders values: how many are less than the other.
+/// Orders two values: how often the first was less.
 #[inline(never)]
-fn cmp(values: &[Mime], others: &[Mime], times: usize) -> usize {
-    sum!(times, (one, other) in values.iter().zip(others) => one.cmp(other).is_lt() as usize)
+fn cmp(values: &[Mime], others: &[Mime], again: &[Mime], rounds: usize, times: usize) -> usize {
+    count!(rounds, times, ((first, second), third) in values.iter().zip(others).zip(again), against = second, third => {
+        first.cmp(against).is_lt()
+    })
 }
