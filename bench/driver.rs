@@ -163,29 +163,30 @@ fn write_report(input: &[u8]) -> io::Result<()> {
 /// What of one side's operation is repeated, and so often.
 type Side<'a> = &'a dyn Fn(usize) -> usize;
 
-/// The nanoseconds that one repetition takes on each side: the least of many turns, in which the sides take turns.
-fn least(sides: [Side; 2]) -> [f64; 2] {
-    let nanoseconds = |side: usize, times| {
-        let begun = Instant::now();
-        black_box(sides[side](times));
-        begun.elapsed().as_nanos() as f64
-    };
-    // So often that what is repeated takes a while, beside what is done before.
+/// The least nanoseconds of each side, of many turns, in which the sides take turns: for so long, and at least five times.
+fn least(sides: [Side; 2], times: usize, long: Duration) -> [f64; 2] {
+    let (mut least, begun, mut turns) = ([f64::MAX; 2], Instant::now(), 0);
+    while turns < 5 || begun.elapsed() < long {
+        for (run, least) in sides.iter().zip(&mut least) {
+            let begun = Instant::now();
+            black_box(run(times));
+            *least = least.min(begun.elapsed().as_nanos() as f64);
+        }
+        turns += 1;
+    }
+    least
+}
+
+/// The nanoseconds that one repetition takes on each side: what is made before is taken off.
+fn time(sides: [Side; 2]) -> [f64; 2] {
+    let before = least(sides, 0, Duration::from_millis(50));
+    // So often that it takes a while on both sides.
     let mut times = 1;
-    while [0, 1].map(|side| nanoseconds(side, 2 * times) - nanoseconds(side, times)).iter().sum::<f64>() < 100_000.0 {
+    while least(sides, times, Duration::ZERO).iter().zip(before).any(|(all, before)| all - before < 50_000.0 + before) {
         times *= 2;
     }
-    let (mut once, mut twice, begun) = ([f64::MAX; 2], [f64::MAX; 2], Instant::now());
-    for turn in 0.. {
-        if turn > 20 && begun.elapsed() > Duration::from_millis(200) {
-            break;
-        }
-        for side in 0..2 {
-            once[side] = nanoseconds(side, times).min(once[side]);
-            twice[side] = nanoseconds(side, 2 * times).min(twice[side]);
-        }
-    }
-    [0, 1].map(|side| (twice[side] - once[side]) / times as f64)
+    let all = least(sides, times, Duration::from_millis(250));
+    [0, 1].map(|side| (all[side] - before[side]) / times as f64)
 }
 
 fn main() -> io::Result<()> {
@@ -209,11 +210,11 @@ fn main() -> io::Result<()> {
     drop(black_box((20..80).map(|length| "x".repeat(length)).collect::<Vec<_>>()).clone());
     let [_, _, side, rounds, times] = &words[..] else {
         // On one line the times are repeated, on several the rounds.
-        let [time, time_there] = match texts.len() {
-            1 => least([&|times| here(1, times), &|times| there(1, times)]),
-            _ => least([&|rounds| here(rounds, 1), &|rounds| there(rounds, 1)]).map(|time| time / texts.len() as f64),
+        let [here_ns, there_ns] = match texts.len() {
+            1 => time([&|times| here(1, times), &|times| there(1, times)]),
+            _ => time([&|rounds| here(rounds, 1), &|rounds| there(rounds, 1)]).map(|time| time / texts.len() as f64),
         };
-        println!("{time} {time_there} {} {}", here(1, 1), there(1, 1));
+        println!("{here_ns} {there_ns} {} {}", here(1, 1), there(1, 1));
         return Ok(());
     };
     let run: &dyn Fn(usize, usize) -> usize = if side == "here" { &here } else { &there };

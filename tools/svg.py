@@ -37,11 +37,12 @@ def bars(title, kinds, rows, top):
         parts += box(left + 150 * at, 38, 14, 14, fill=fill, stroke="none"), words(left + 150 * at + 20, 50, kind)
     for at in range(int(top * 2) + 1):
         strong = {"stroke_width": 2} if at == 2 else {"stroke": "#ccc", "stroke_width": 1}
-        parts += path(f"M{across(at / 2):.1f} 62V{bottom}", **strong), words(across(at / 2), bottom + 18, f"{at / 2:g}", text_anchor="middle")
+        parts.append(path(f"M{across(at / 2):.1f} 62V{bottom}", **strong))
+        parts.append(words(across(at / 2), bottom + 18, f"{at / 2:g}", text_anchor="middle"))
     for at, (label, *numbers) in enumerate(rows):
         y = 70 + 34 * at
         parts.append(words(left - 10, y + 17, label, text_anchor="end"))
         for (_, fill), number, down in zip(kinds, numbers, (0, 13)):
             parts.append(box(left, y + down, across(number) - left, 12, fill=fill, stroke="none"))
-            parts.append(words(across(number) + 5, y + down + 10, f"{number:.2f}", 11))
+            parts.append(words(across(number) + 5, y + down + 10, f"{number:.2f}", 11, stroke="#fff", stroke_width=3, paint_order="stroke"))
     return picture(left + wide + 60, bottom + 28, title, *parts)
