@@ -24,7 +24,7 @@ extern "C" {
     // The calls of include/mime.h.
     fn mime_read(text: Slice, out: Slice, found: *mut [usize; 7]) -> u32;
     fn mime_list(text: Slice, out: Slice, length: *mut usize) -> u32;
-    fn mime_is(one: Slice, other: Slice, equal: *mut u8) -> u32;
+    fn mime_equal(one: Slice, other: Slice, equal: *mut u8) -> u32;
 }
 
 fn slice(text: &str) -> Slice {
@@ -113,7 +113,7 @@ operations! {
         out[..*length].split(|byte| *byte == 0).filter(|item| item.first() == Some(&b'+')).map(|item| item.len() - 1).sum()
     };
     call_is(text, other), equal = 0 => same += {
-        unsafe { mime_is(slice(black_box(*text)), slice(*other), equal) };
+        unsafe { mime_equal(slice(black_box(*text)), slice(*other), equal) };
         usize::from(*equal)
     };
 }

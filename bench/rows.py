@@ -116,7 +116,7 @@ def calls():
         yield row("mime_read: {}", "call_read", text, goal)
     yield row("mime_list: an Accept header of five entries", "call_items", accept(5))
     for text in (PLAIN, CHARSET, TWO):
-        yield row("mime_is, without spaces: {}", "call_is", text, None, text.replace("; ", ";"))
+        yield row("mime_equal, without spaces: {}", "call_is", text, None, text.replace("; ", ";"))
 
 
 MIXED = "256 real media types in random order"

@@ -6,15 +6,7 @@
 #include <stdlib.h>
 #include <sys/types.h>
 
-static const char *const faults[] = {
-    [MIME_MISSING_SLASH] = "a slash (/) was missing between the type and subtype",
-    [MIME_MISSING_SUBTYPE] = "a subtype was missing behind the slash (/)",
-    [MIME_MISSING_EQUAL] = "an equals sign (=) was missing between a parameter and its value",
-    [MIME_MISSING_VALUE] = "a value was missing behind the equals sign (=)",
-    [MIME_MISSING_QUOTE] = "a quote (\") was missing from a parameter value",
-};
-
-/* A row for each item of a text. */
+/* Prints a row for each item of a list. */
 static uint32_t print_items(const char *text, size_t len, char *out)
 {
     size_t length;
@@ -24,15 +16,18 @@ static uint32_t print_items(const char *text, size_t len, char *out)
     return answer;
 }
 
-/* Rows for the parts of a media type, or its fault. */
+/* Prints rows for the parts of a media type, or a row for its fault. */
 static uint32_t print_parts(const char *text, size_t len, char *out)
 {
     struct mime_found found;
     uint32_t answer = mime_read(text, len, out, 2 * len + 2, &found);
-    if (answer == MIME_INVALID_BYTE)
-        return printf("bad mime parse error: an invalid token was encountered, %X at position %zu\n", found.byte, found.pos), MIME_OK;
-    if (answer >= MIME_MISSING_SLASH && answer <= MIME_MISSING_QUOTE)
-        return printf("bad mime parse error: %s\n", faults[answer]), MIME_OK;
+    if (answer >= MIME_MISSING_SLASH && answer <= MIME_INVALID_BYTE) {
+        printf("bad mime parse error: %s", mime_answer_text(answer));
+        if (answer == MIME_INVALID_BYTE)
+            printf(", %X at position %zu", found.byte, found.pos);
+        putchar('\n');
+        return MIME_OK;
+    }
     if (answer != MIME_OK)
         return answer;
     printf("ok %s\n", out + found.printed);

@@ -3,7 +3,7 @@
 
 use std::os::raw::c_char;
 
-/// What `mime_read` finds beside the strings: `struct mime_found` of include/mime.h.
+/// What `mime_read` finds besides the strings: `struct mime_found` of include/mime.h.
 #[repr(C)]
 #[derive(Default)]
 struct Found {
@@ -20,7 +20,7 @@ extern "C" {
     fn mime_read(text: *const c_char, text_len: usize, out: *mut c_char, out_len: usize, found: *mut Found) -> u32;
 }
 
-/// A media type: its essence, its parameters, and the text that it is printed as.
+/// A media type: its essence, its parameters, and how it is printed.
 #[derive(Debug)]
 pub struct Media {
     pub essence: String,
@@ -28,11 +28,11 @@ pub struct Media {
     pub printed: String,
 }
 
-/// Reads a media type, or gives the answer that include/mime.h explains, and the position of an invalid byte.
+/// Reads a media type. An error is the answer of `mime_read`, which include/mime.h explains, and the position of an invalid byte.
 pub fn read(text: &str) -> Result<Media, (u32, usize)> {
     let mut out = vec![0u8; 2 * text.len() + 2];
     let mut found = Found::default();
-    // SAFETY: each pointer is to a block of its own of that length, and none is null.
+    // SAFETY: each pointer is to a block of its own of the length given, and none is null.
     let answer = unsafe { mime_read(text.as_ptr().cast(), text.len(), out.as_mut_ptr().cast(), out.len(), &mut found) };
     if answer != 0 {
         return Err((answer, found.pos));

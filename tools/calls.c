@@ -1,33 +1,53 @@
-/* Makes the calls of include/mime.h on the lines of standard input, and on as many texts near the grammar as the argument says.
- * Each text and each buffer ends where a page begins that can't be touched, and each request for memory is refused in turn.
- * tools/c_calls builds it with the sanitizers, and with --wrap=malloc. It ends with status 1 at the first call that is wrong. */
+/* Makes the calls of include/mime.h on the lines of standard input, and on as many texts near the grammar as the argument says. Each
+ * text and each buffer ends where a page begins that can't be touched; requests for memory are counted, and each is refused in turn.
+ * tools/c_calls builds it with the sanitizers, and with --wrap for malloc and free. Its status is 1 after the first wrong answer. */
 #define _GNU_SOURCE
 #include "mime.h"
+#include <ctype.h>
 #include <err.h>
 #include <stdio.h>
 #include <stdlib.h>
+#include <strings.h>
 #include <sys/mman.h>
 
 enum { ROOM = 1 << 20, PAGE = 1 << 12 };
 
-static size_t requests, refused_at;
+/* The requests for memory since they were counted anew: their number, the largest, the one that is refused (from 1 on), and how many
+ * blocks are held, and were at most. */
+static size_t requests, largest, refused_at, held, most_held;
 static char *text_end, *out_end, untouched[ROOM];
 
 void *__real_malloc(size_t size);
+void __real_free(void *block);
 
 void *__wrap_malloc(size_t size)
 {
-    return ++requests == refused_at ? NULL : __real_malloc(size);
+    if (++requests == refused_at)
+        return NULL;
+    largest = size > largest ? size : largest;
+    most_held = ++held > most_held ? held : most_held;
+    return __real_malloc(size);
+}
+
+void __wrap_free(void *block)
+{
+    held -= block != NULL;
+    __real_free(block);
+}
+
+static void count_anew(void)
+{
+    requests = largest = held = most_held = 0;
 }
 
 #define CHECK(is) \
     if (!(is)) \
         errx(1, "line %d: not so: %s; the text is: %.*s", __LINE__, #is, (int)len, text)
 
-/* Checks a call with each of so many requests refused in turn. */
+/* Checks a call with each of so many requests refused in turn. No other is made after it. */
 #define CHECK_REFUSED(count, is) \
-    for (refused_at = (count); requests = 0, refused_at > 0; refused_at--) \
-        CHECK(is)
+    for (refused_at = (count); count_anew(), refused_at > 0; refused_at--) \
+        CHECK((is) && requests == refused_at && held == 0)
 
 /* A buffer of a size. It and eight bytes before it are untouched. */
 static char *buffer(size_t size)
@@ -49,56 +69,111 @@ static const char *skip(const char *string, size_t count)
     return string;
 }
 
-/* Whether mime_is answers so. */
-static int compares(const char *one, size_t one_len, const char *other, size_t other_len, uint32_t answer, int is_equal)
+/* Whether mime_equal answers so, and asks for memory so many times. */
+static int compares(const char *one, size_t one_len, const char *other, size_t other_len, uint32_t answer, int is_equal, size_t asked)
 {
     uint8_t equal = 2;
-    return mime_is(one, one_len, other, other_len, &equal) == answer && equal == is_equal;
+    count_anew();
+    return mime_equal(one, one_len, other, other_len, &equal) == answer && equal == is_equal && requests == asked && held == 0;
+}
+
+/* Whether mime_param finds the value that the C library's comparison finds. */
+static int finds(const char *out, const struct mime_found *found, const char *name)
+{
+    const char *it = skip(out, 1), *end = out + found->printed;
+    while (it < end && strcasecmp(it, name) != 0)
+        it = skip(it, 2);
+    return mime_param(out, found, name) == (it < end ? skip(it, 1) : NULL);
+}
+
+/* Whether mime_param finds what it has to by a name, by that name in capitals, with a byte more, and by each beginning of it. */
+static int finds_all(const char *out, const struct mime_found *found, const char *name)
+{
+    static char other[ROOM];
+    size_t len = strlen(name);
+    for (size_t i = 0; i < len; i++)
+        other[i] = (char)toupper((unsigned char)name[i]);
+    memcpy(other + len, "x", 2);
+    int well = finds(out, found, name) && finds(out, found, other);
+    for (size_t left = len + 1; left-- > 0;) {
+        other[left] = 0;
+        well = well && finds(out, found, other);
+    }
+    return well;
+}
+
+static void check_strings(const char *text, size_t len, const char *out, struct mime_found found)
+{
+    const char *printed = out + found.printed;
+    CHECK(skip(out, 2 * found.params + 1) == printed && skip(printed, 1) == out + found.length);
+    CHECK(out[found.slash] == '/' && (out[found.subtype_end] == '+' || skip(out, 1) == out + found.subtype_end + 1));
+    for (const char *name = skip(out, 1); name < printed; name = skip(name, 2))
+        CHECK(finds_all(out, &found, name));
+    CHECK(mime_param(out, &found, "/") == NULL);
+    for (const char *byte = out; byte < out + found.length; byte++)
+        CHECK(*byte == 0 || *byte == '\t' || !iscntrl((unsigned char)*byte));
 }
 
 static void check_read(const char *text, size_t len)
 {
     struct mime_found found;
     size_t room = 2 * len + 2;
-    CHECK(mime_read(text, len, buffer(room - 1), room - 1, &found) == MIME_NO_ROOM && has_written(0, room - 1));
+    count_anew();
+    CHECK(mime_read(text, len, buffer(room - 1), room - 1, &found) == MIME_NO_ROOM && has_written(0, room - 1) && requests == 0);
     char *out = buffer(room);
-    requests = 0;
     uint32_t answer = mime_read(text, len, out, room, &found);
-    size_t asked = requests;
-    CHECK(answer <= MIME_NOT_UTF8 && answer != MIME_NO_MEMORY && asked <= (answer == MIME_OK));
+    int is_read = answer == MIME_OK, is_star = len == 3 && memcmp(text, "*/*", 3) == 0;
+    size_t asked = is_read && !is_star;
+    CHECK(answer <= MIME_NOT_UTF8 && answer != MIME_NO_MEMORY && requests == asked && held == 0 && largest <= len);
     CHECK(has_written(found.length, room) && found.pos <= len && (answer != MIME_INVALID_BYTE || (uint8_t)text[found.pos] == found.byte));
-    if (answer == MIME_OK) {
-        CHECK(skip(out, 2 * found.params + 1) == out + found.printed && skip(out + found.printed, 1) == out + found.length);
-        CHECK(out[found.slash] == '/' && (out[found.subtype_end] == '+' || skip(out, 1) == out + found.subtype_end + 1));
-        for (const char *name = skip(out, 1); name < out + found.printed; name = skip(name, 2))
-            CHECK(mime_param(out, &found, name) != NULL && mime_param(out, &found, name) <= skip(name, 1));
-        CHECK(mime_param(out, &found, "/") == NULL);
-        CHECK(compares(text, len, out + found.printed, strlen(out + found.printed), MIME_OK, 1));
+    if (is_read) {
+        check_strings(text, len, out, found);
+        const char *printed = out + found.printed;
+        CHECK(compares(text, len, printed, strlen(printed), MIME_OK, 1, asked + (strcmp(printed, "*/*") != 0)));
+        CHECK(most_held <= 2 && largest <= len);
     } else {
-        CHECK(found.length == 0 && found.params == 0 && mime_param(out, &found, "q") == NULL && compares(text, len, text, len, answer, 0));
+        CHECK(found.length == 0 && found.params == 0 && mime_param(out, &found, "q") == NULL);
+        CHECK(compares(text, len, text, len, answer, 0, 0));
     }
-    CHECK(compares("*/*", 3, text, len, answer, answer == MIME_OK && strcmp(out, "*/*") == 0 && found.params == 0));
+    CHECK(compares("*/*", 3, text, len, answer, is_read && strcmp(out, "*/*") == 0 && found.params == 0, asked));
+    CHECK(compares(text, len, "a/", 2, is_read ? MIME_MISSING_SUBTYPE : answer, 0, asked));
+    CHECK(compares("a/", 2, text, len, MIME_MISSING_SUBTYPE, 0, 0));
     CHECK_REFUSED(asked, mime_read(text, len, buffer(room), room, &found) == MIME_NO_MEMORY && has_written(0, room) && found.length == 0);
-    CHECK_REFUSED(2 * asked, compares(text, len, text, len, MIME_NO_MEMORY, 0));
+    CHECK_REFUSED(2 * asked, compares(text, len, text, len, MIME_NO_MEMORY, 0, refused_at));
 }
 
 static void check_list(const char *text, size_t len)
 {
-    size_t length, room = 2 * len;
+    size_t length, room = 2 * len, good = 0, stars = 0;
+    count_anew();
     if (len > 0)
         CHECK(mime_list(text, len, buffer(room - 1), room - 1, &length) == MIME_NO_ROOM && length == 0 && has_written(0, room - 1));
+    CHECK(requests == 0);
     char *out = buffer(room);
-    requests = 0;
     uint32_t answer = mime_list(text, len, out, room, &length);
     size_t asked = requests;
     CHECK(has_written(length, room) && (answer == MIME_OK || (answer == MIME_NOT_UTF8 && length == 0)));
+    CHECK(most_held <= 1 && held == 0 && largest <= len);
     for (const char *item = out; item < out + length; item = skip(item, 1)) {
         struct mime_found found;
         static char more[ROOM];
         uint32_t is = mime_read(item + 1, strlen(item + 1), more, sizeof more, &found);
         CHECK(*item == MIME_GOOD ? is == MIME_OK && strcmp(more + found.printed, item + 1) == 0 : *item == MIME_BAD && is != MIME_OK);
+        good += *item == MIME_GOOD;
+        stars += strcmp(item, "+*/*") == 0;
     }
+    CHECK(asked <= good && asked >= good - stars);
     CHECK_REFUSED(asked, mime_list(text, len, buffer(room), room, &length) == MIME_NO_MEMORY && length == 0);
+}
+
+/* Whether no two answers have the same text, one that isn't among them included. */
+static int has_texts(void)
+{
+    for (uint32_t one = MIME_OK; one <= MIME_NO_ROOM + 1; one++)
+        for (uint32_t other = MIME_OK; other < one; other++)
+            if (strcmp(mime_answer_text(one), mime_answer_text(other)) == 0)
+                return 0;
+    return 1;
 }
 
 static void check(const char *given, size_t len)
@@ -122,6 +197,8 @@ int main(int argc, char **argv)
     out_end = text_end + PAGE + ROOM;
     if (blocks == MAP_FAILED || mprotect(text_end, PAGE, PROT_NONE) != 0 || mprotect(out_end, PAGE, PROT_NONE) != 0)
         return 2;
+    if (!has_texts())
+        errx(1, "two answers have the same text");
     memset(untouched, 'U', sizeof untouched);
     for (ssize_t read; (read = getline(&line, &size, stdin)) > 0; lines++)
         check(line, (size_t)read - (line[read - 1] == '\n'));
@@ -130,7 +207,7 @@ int main(int argc, char **argv)
         /* Up to twelve pieces, the same in each run of this program, since nothing seeds rand. */
         char text[256], *end = text;
         for (int left = rand() % 13; left > 0; left--)
-            end = stpcpy(end, pieces[rand() % (sizeof pieces / sizeof *pieces)]);
+            end = stpcpy(end, pieces[(size_t)rand() % (sizeof pieces / sizeof *pieces)]);
         check(text, (size_t)(end - text));
     }
     printf("%zu lines and %zu texts near the grammar\n", lines, count);

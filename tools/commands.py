@@ -1,6 +1,10 @@
-"""What the tools share: commands with time limits, none of which outlives its tool; copies of crates; programs; and what counts."""
+"""What the tools share: commands with time limits, none of which outlives its tool; what passed in earlier runs; copies of crates;
+programs; and what counts."""
 
+import contextlib
+import fcntl
 import functools
+import hashlib
 import os
 import re
 import shutil
@@ -13,19 +17,21 @@ from pathlib import Path
 from subprocess import DEVNULL, PIPE, STDOUT
 
 TOP = os.path.dirname(os.path.dirname(os.path.realpath(__file__)))
-# Where the crates lie with what is kept of their proofs. `check` names a copy, since rt ci keeps none.
+# Where the crates lie with the proofs that `rt check` keeps. `check` names a copy, since rt ci keeps none.
 PROVED = os.environ.get("PROVED") or TOP
-# How many seconds rt may take for one command, and a program for one input. Both take far less.
+# What passed in earlier runs: a file each, with a checksum of all that it rests on. A fresh clone has none.
+KEPT = f"{TOP}/out/kept"
+# The seconds that rt may take for one command, and a program for one input. Both take far less.
 RT_SECONDS, PROGRAM_SECONDS = 20 * 60, 60
 
-# What a command wrote, and its status; and which commands run, and which signals told the tool to end.
+# What a command wrote, and its status; the commands that are running, and the signals that told the tool to end.
 Outcome = namedtuple("Outcome", "stdout stderr returncode")
 _running, _signals = set(), []
 
 
 def run(words, seconds=RT_SECONDS, given=None, **how):
-    """What a command does on these bytes, or on nothing; the rest is for subprocess.Popen. What takes longer is ended, with all that it
-    began, and is a TimeoutError; and once the tool was told to end, nothing is begun any more."""
+    """Runs a command on these bytes, or on nothing; the rest is for subprocess.Popen. A command that takes longer is ended with all that
+    it started, and is a TimeoutError. Once the tool has been told to end, nothing more is started."""
     how = {"stdin": DEVNULL if given is None else PIPE, "stdout": PIPE, "stderr": PIPE, **how}
     process = subprocess.Popen(["timeout", "-k", "5", str(seconds), *words], **how)
     _running.add(process)
@@ -41,13 +47,13 @@ def run(words, seconds=RT_SECONDS, given=None, **how):
 
 
 def said(words, folder=TOP, given=None, **how):
-    """What a command says on both its outputs, as a text, and its status."""
+    """What a command writes to standard output and standard error, as a string, and its status."""
     it = run(words, given=given, cwd=folder, **{"stderr": STDOUT, **how})
     return it.stdout.decode(errors="replace"), it.returncode
 
 
 def done(*words, folder=TOP, given=None):
-    """What a command says. Its failure is an error."""
+    """What a command writes. Its failure is an error."""
     text, status = said(words, folder, given)
     if status:
         raise OSError(f"{' '.join(words[:6])} ended with status {status}:\n{text[-3000:]}")
@@ -55,21 +61,21 @@ def done(*words, folder=TOP, given=None):
 
 
 def is_right(tool, command, is_wanted, folder=TOP, **how):
-    """Whether a command of the shell succeeds and says what is wanted."""
+    """Whether a shell command succeeds and writes what is wanted."""
     began = time.monotonic()
     try:
         text, status = said(["bash", "-euo", "pipefail", "-c", command], folder, **how)
     except TimeoutError as error:
         text, status = str(error), 1
     well = not status and bool(is_wanted(text))
-    wrong = "" if well else f", and not as it is wanted: {command}\n{text[-3000:]}"
+    wrong = "" if well else f", and not as wanted: {command}\n{text[-3000:]}"
     print(f"{tool}: {command.splitlines()[-1][:60]}: {time.monotonic() - began:.0f} s{wrong}", flush=True)
     return well
 
 
 def ended(tool, tries, least=1):
-    """The status of a tool, with its last line. Each of its tries gives whether it came as it must; an error ends them; and fewer than the
-    least say that some are lost. SIGTERM and SIGINT end it as an error does, so that its folders are removed, and with it what it runs."""
+    """The exit status of a tool, after its last line. Each of its tries says whether it passed; an error ends them; if there are fewer than
+    the least, some are lost. SIGTERM and SIGINT end the tool as an error does, so its folders are removed, and what it runs ends too."""
     for number in (signal.SIGTERM, signal.SIGINT):
         signal.signal(number, _end)
     results = []
@@ -85,25 +91,81 @@ def ended(tool, tries, least=1):
 
 
 def _end(number, _frame):
+    for it in (signal.SIGTERM, signal.SIGINT):
+        signal.signal(it, signal.SIG_IGN)
     _signals.append(number)
     for process in list(_running):
         process.terminate()
     raise SystemExit(128 + number)
 
 
+@functools.cache
+def kit():
+    return done("rt", "version")
+
+
+@functools.cache
+def checksum(*paths):
+    """A checksum of the kit, of these files of the repository, and of all in these folders except documents, edits and what was built."""
+    found = hashlib.sha256(kit().encode())
+    for path in sorted({*paths}):
+        files = [f"{TOP}/{path}"] if os.path.isfile(f"{TOP}/{path}") else sorted(files_in(f"{TOP}/{path}"))
+        if not files:
+            raise OSError(f"there is no {path}")
+        for it in files:
+            found.update(f"{os.path.relpath(it, TOP)} {hashlib.sha256(Path(it).read_bytes()).hexdigest()}\n".encode())
+    return found.hexdigest()
+
+
+def files_in(folder):
+    for at, folders, files in os.walk(folder):
+        folders[:] = {*folders} - {"out", "__pycache__"}
+        yield from (f"{at}/{it}" for it in files if not it.endswith((".md", ".edit")))
+
+
+def kept(name, paths, more=""):
+    """What was said of a thing when it last passed, if nothing that it rests on has changed since: these files and folders, and more."""
+    rests_on = f"{checksum(*paths)} {hashlib.sha256(more.encode()).hexdigest()}"
+    with contextlib.suppress(OSError):
+        found, _, text = Path(KEPT, name).read_text(encoding="utf-8").partition("\n")
+        return text if found == rests_on else None
+
+
+def keep(name, text, paths, more=""):
+    """Keeps what was said of a thing that passed, unless a file that it rests on has changed meanwhile."""
+    rests_on = f"{checksum(*paths)} {hashlib.sha256(more.encode()).hexdigest()}"
+    with contextlib.suppress(OSError):
+        if checksum.__wrapped__(*paths) == checksum(*paths):
+            write(f"{KEPT}/{name}.new", f"{rests_on}\n{text}")
+            os.replace(f"{KEPT}/{name}.new", f"{KEPT}/{name}")
+
+
 def need(what, *packages):
-    """Installs Debian's packages that have a command or a file, where it is missing. Where it still is then, that is an error."""
-    is_there = lambda: shutil.which(what) or os.path.exists(what)
-    if not is_there():
-        names = " ".join(packages)
-        print(f"{what} is missing: apt-get installs {names}", flush=True)
-        text, _ = said(["sh", "-c", f"apt-get update -qq; apt-get install -y -qq --no-install-recommends {names}"])
+    """Installs Debian's packages that have a command or a file, if it is missing. If it still is then, that is an error."""
+    is_there, names = lambda: shutil.which(what) or os.path.exists(what), " ".join(packages)
+    if is_there():
+        return
+    with _alone():
+        if not is_there():
+            print(f"{what} is missing: apt-get installs {names}", flush=True)
+            text, _ = said(["sh", "-c", f"apt-get update -qq; apt-get install -y -qq --no-install-recommends {names}"])
         if not is_there():
             raise OSError(f"{what} is needed, and could not be installed: install it (on Debian: {names})\n{text[-600:]}")
 
 
+@contextlib.contextmanager
+def _alone():
+    """Waits until no other tool installs anything."""
+    folder = os.open(tempfile.gettempdir(), os.O_RDONLY)
+    fcntl.flock(folder, fcntl.LOCK_EX)
+    try:
+        yield
+    finally:
+        os.close(folder)
+
+
 def instructions(words, given):
-    """How many instructions a whole run takes, by valgrind."""
+    """How many instructions a whole run takes, as valgrind counts them."""
     text = run(["valgrind", "--tool=callgrind", "--callgrind-out-file=/dev/null", *words], given=given, stdout=DEVNULL).stderr
     found = re.search(rb"Collected : (\d+)", text)
     if not found:
@@ -119,8 +181,8 @@ def refusing_library(room):
 
 
 def refuse(library, words, given, number, **how):
-    """Runs a program with one request for memory refused, or none if the number is 0: what it did, and how many requests and bytes each
-    count had, with whether one was refused. REFUSE_FROM="start" makes the whole run one count."""
+    """Runs a program with one request for memory refused, or none if the number is 0. Returns its outcome, and for each count its requests,
+    its bytes and whether one was refused. REFUSE_FROM="start" makes the whole run one count."""
     with tempfile.TemporaryFile() as counts:
         how = {"LD_PRELOAD": library, "REFUSE": str(number), "REFUSE_COUNT": str(counts.fileno()), **how}
         words = ["env", "-i", *(f"{name}={value}" for name, value in how.items()), *words]
@@ -141,19 +203,27 @@ def write(path, text):
 
 
 def copied(crates, room, top=TOP, without=("out",)):
-    """Copies crates of a repository, each without the folders of these names, and what tells rt of them."""
+    """Copies crates of a repository, without their folders of these names, and the files that tell rt of them."""
     for it in crates:
-        shutil.copytree(f"{top}/crates/{it}", f"{room}/crates/{it}", ignore=shutil.ignore_patterns(*without))
+        shutil.copytree(f"{top}/crates/{it}", f"{room}/crates/{it}", ignore=shutil.ignore_patterns(*without), copy_function=_linked)
     shutil.copy(f"{TOP}/HANDLES", room)
     there = os.listdir(f"{room}/crates")
     write(f"{room}/crates.txt", "".join(f"{it}\n" for it in text_of("crates.txt").split("\n") if re.split("[ :]", it)[0] in there))
     return room
 
 
+def _linked(file, to):
+    """Copies a file, or gives a proof a second name, since rt replaces such a file and writes into none."""
+    with contextlib.suppress(OSError):
+        if file.endswith(".oantt"):
+            return os.link(file, to)
+    return shutil.copy2(file, to)
+
+
 @functools.cache
 def program(crate, backend="llvm", room=None):
-    """The program of a crate as a compiler builds it. Within `check` it is the one that rt ci proved; else rt proves and builds it, where
-    it isn't up to date. Both compilers' programs have one path there, so the other's is built in a copy in the room."""
+    """The program of a crate as a compiler builds it. Within `check` it is the one that rt ci proved; otherwise rt proves and builds it,
+    unless it is up to date. There both compilers' programs have the same path, so the other one's is built in a copy in the room."""
     of_gate = f"{TOP}/crates/{crate}/out/{crate}{'.by-rattle' if backend == 'rattle' else ''}"
     if PROVED != TOP and os.path.exists(of_gate):
         return of_gate
@@ -162,5 +232,5 @@ def program(crate, backend="llvm", room=None):
     print(f"rt proves and builds {crate} by the compiler {backend}, as far as it isn't up to date", flush=True)
     text, _ = said(["sh", "-c", f"rm -f out/{crate}; rt run --backend {backend}"], f"{top}/crates/{crate}")
     if not os.path.exists(made):
-        raise OSError(f"{crate} could not be built:\n{text[-3000:]}")
+        raise OSError(f"{crate} can't be built:\n{text[-3000:]}")
     return made

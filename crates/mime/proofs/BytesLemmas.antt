@@ -60,8 +60,8 @@ unfolding is_token_byte
 token_byte-not_space b token = grind (arith, nat_tests)
 
 -- a token byte differs from a byte that is no token byte
-pub token_byte-not : (b flag : ℕ) → IsFalse (is_token_byte flag) → IsTrue (is_token_byte b) → IsFalse (b == flag)
-token_byte-not b flag none token = grind (arith, nat_tests, ap is_token_byte {x = b} {y = flag})
+pub token_byte-not : (b other : ℕ) → IsFalse (is_token_byte other) → IsTrue (is_token_byte b) → IsFalse (b == other)
+token_byte-not b other none token = grind (arith, nat_tests, ap is_token_byte {x = b} {y = other})
 
 -- a list of a class is one of a wider class
 pub list_all-wider : (class wider : ℕ → Bool) → ((b : ℕ) → class b ≡ true → wider b ≡ true)
@@ -101,12 +101,12 @@ AreTokenBytes-from_token (b ∷ bytes) token = token
 
 -- a text may be cut before an ASCII byte
 pub boundary_before : (text : List ℕ) (at b : ℕ) → slice_get text at ≡ Some b → b < 128 → IsCharBoundary text at
-boundary_before text at b there lowercase =
+boundary_before text at b there ascii =
     IsCharBoundary-before_ascii text at (slice_get_within text at b there) (omega (arith, get_or_from_slice_get text at b 0 there))
 
 -- a text may be cut after an ASCII byte
 pub boundary_after : (text : List ℕ) (at b : ℕ) → IsUtf8 text → slice_get text at ≡ Some b → b < 128 → IsCharBoundary text (at + 1)
-boundary_after text at b utf8 there lowercase =
+boundary_after text at b utf8 there ascii =
     IsCharBoundary-after_ascii text at utf8 (slice_get_within text at b there) (omega (arith, get_or_from_slice_get text at b 0 there))
 
 -- the byte that was looked for is at the position found

@@ -16,7 +16,7 @@ use Rattle.std.proofs.lemmas.Simd.{length-zip2, get_or-zip2, leading_from_mask_l
 use lib.Count.{count_trailing_zeros}
 use Rattle.mime.specs.Difference.{FirstDifference}
 use Rattle.mime.specs.Inner.Blocks.{difference_bit, mask_of, first_position}
-use Rattle.mime.proofs.BlocksLemmas.{position-flagged, all_pass}
+use Rattle.mime.proofs.BlocksLemmas.{position-found, all_pass}
 
 -- two numbers have no bit together exactly where neither has one
 pub together : (n m : ℕ) (P Q Whole : Type 0) → (n ≡ 0) ↔ P → (m ≡ 0) ↔ Q → (P → Q → Whole) → (Whole → P × Q) → (bit_or n m ≡ 0) ↔ Whole
@@ -38,7 +38,7 @@ pub lapped : (a b : List ℕ) (n last : ℕ) → last ≤ n → take n a ≡ tak
 lapped a b n last after prefix back =
     sym (take-append-drop last a) ∙ (λ i. shorter a b last n after prefix i ++ back i) ∙ take-append-drop last b
 
--- one more flag
+-- one more bit
 zip2_push : (f : ℕ → ℕ → ℕ) (xs ys : List ℕ) (x y : ℕ) → length xs ≡ length ys
     → zip2 f (xs ++ (x ∷ [])) (ys ++ (y ∷ [])) ≡ zip2 f xs ys ++ (f x y ∷ [])
 zip2_push f [] [] x y long = refl
@@ -46,22 +46,22 @@ zip2_push f [] (b ∷ ys) x y long = absurd (omega (arith, long))
 zip2_push f (a ∷ xs) [] x y long = absurd (omega (arith, long))
 zip2_push f (a ∷ xs) (b ∷ ys) x y long = ap (λ rest. f a b ∷ rest) (zip2_push f xs ys x y (omega (arith, long)))
 
-pub one_more : (f : ℕ → ℕ → ℕ) (a b flags : List ℕ) (n : ℕ) → n < length a → n < length b → n < length flags
-    → take n flags ≡ zip2 f (take n a) (take n b)
-    → take (n + 1) (set flags n (f (get_or a n 0) (get_or b n 0))) ≡ zip2 f (take (n + 1) a) (take (n + 1) b)
-one_more f a b flags n room other_room within so_far =
-    take_more_set flags n (f (get_or a n 0) (get_or b n 0)) within
+pub one_more : (f : ℕ → ℕ → ℕ) (a b bits : List ℕ) (n : ℕ) → n < length a → n < length b → n < length bits
+    → take n bits ≡ zip2 f (take n a) (take n b)
+    → take (n + 1) (set bits n (f (get_or a n 0) (get_or b n 0))) ≡ zip2 f (take (n + 1) a) (take (n + 1) b)
+one_more f a b bits n room other_room within so_far =
+    take_more_set bits n (f (get_or a n 0) (get_or b n 0)) within
     ∙ ap (λ t. t ++ (f (get_or a n 0) (get_or b n 0) ∷ [])) so_far
     ∙ sym (ap (λ t. zip2 f t (take (n + 1) b)) (take_more a n 0 room) ∙ ap (zip2 f _) (take_more b n 0 other_room)
     ∙ zip2_push f (take n a) (take n b) (get_or a n 0) (get_or b n 0)
     (omega (arith, length-take-le n a, length-take-le n b, room, other_room)))
 
--- up to the first flag
-equal_to_flag : (xs ys : List ℕ)
+-- up to the first bit
+equal_to_bit : (xs ys : List ℕ)
     → take (first_position 1 (zip2 difference_bit xs ys)) (lowered xs) ≡ take (first_position 1 (zip2 difference_bit xs ys)) (lowered ys)
-equal_to_flag [] ys = refl
-equal_to_flag (x ∷ xs) [] = refl
-equal_to_flag (x ∷ xs) (y ∷ ys) = go (to_ascii_lowercase x == to_ascii_lowercase y) refl (equal_to_flag xs ys)
+equal_to_bit [] ys = refl
+equal_to_bit (x ∷ xs) [] = refl
+equal_to_bit (x ∷ xs) (y ∷ ys) = go (to_ascii_lowercase x == to_ascii_lowercase y) refl (equal_to_bit xs ys)
   where
     go : (same : Bool) → (to_ascii_lowercase x == to_ascii_lowercase y) ≡ same
         → take (first_position 1 (zip2 difference_bit xs ys)) (lowered xs) ≡ take (first_position 1 (zip2 difference_bit xs ys)) (lowered ys)
@@ -74,53 +74,53 @@ equal_to_flag (x ∷ xs) (y ∷ ys) = go (to_ascii_lowercase x == to_ascii_lower
         rw next (λ i. byte i ∷ rest i)
     go false is rest = refl
 
--- bytes are not flagged exactly where they are the same ignoring ASCII case
-pub no_flag_at : (x y found : ℕ) → found ≡ difference_bit x y → (found ≡ 0) ↔ (to_ascii_lowercase x ≡ to_ascii_lowercase y)
-no_flag_at x y found is = (λ none. grind (arith, nat_tests), λ same. is ∙ ap (λ b. cond b 0 1) (eq-eqb _ _ same))
+-- a bit is 0 exactly if the bytes are the same ignoring ASCII case
+pub no_bit_at : (x y found : ℕ) → found ≡ difference_bit x y → (found ≡ 0) ↔ (to_ascii_lowercase x ≡ to_ascii_lowercase y)
+no_bit_at x y found is = (λ none. grind (arith, nat_tests), λ same. is ∙ ap (λ b. cond b 0 1) (eq-eqb _ _ same))
 
--- at a flag they differ
-differ_at_flag : (x y : ℕ) → difference_bit x y ≡ 1 → to_ascii_lowercase x ≢ to_ascii_lowercase y
-differ_at_flag x y is same = absurd (omega (arith, sym is ∙ ap (λ b. cond b 0 1) (eq-eqb _ _ same)))
+-- if a bit is 1, they differ
+differ_at_bit : (x y : ℕ) → difference_bit x y ≡ 1 → to_ascii_lowercase x ≢ to_ascii_lowercase y
+differ_at_bit x y is same = absurd (omega (arith, sym is ∙ ap (λ b. cond b 0 1) (eq-eqb _ _ same)))
 
--- in the first 16 bytes, as the flags show it
-module _ (a b flags : List ℕ) (found : ℕ) (room : 16 ≤ length a) (other_room : 16 ≤ length b)
-    (is : flags ≡ zip2 difference_bit (take 16 a) (take 16 b)) (found_is : found ≡ mask_of 1 (take 16 flags)) where
-  long : length flags ≡ 16
+-- in the first 16 bytes, as the bits show it
+module _ (a b bits : List ℕ) (found : ℕ) (room : 16 ≤ length a) (other_room : 16 ≤ length b)
+    (is : bits ≡ zip2 difference_bit (take 16 a) (take 16 b)) (found_is : found ≡ mask_of 1 (take 16 bits)) where
+  long : length bits ≡ 16
   long =
       ap length is ∙ length-zip2 difference_bit (take 16 a) (take 16 b) (length-take-le 16 a room ∙ sym (length-take-le 16 b other_room))
       ∙ length-take-le 16 a room
 
-  whole : mask_of 1 (take 16 flags) ≡ mask_of 1 flags
-  whole = ap (mask_of 1) (take_all 16 flags (omega (arith, long)))
+  whole : mask_of 1 (take 16 bits) ≡ mask_of 1 bits
+  whole = ap (mask_of 1) (take_all 16 bits (omega (arith, long)))
 
-  equal_before : (n : ℕ) → n ≤ 16 → n ≡ first_position 1 flags → take n (lowered a) ≡ take n (lowered b)
+  equal_before : (n : ℕ) → n ≤ 16 → n ≡ first_position 1 bits → take n (lowered a) ≡ take n (lowered b)
   equal_before n few first =
-      sym (shorter a) ∙ ap (λ m. take m (lowered (take 16 a))) (first ∙ ap (first_position 1) is) ∙ equal_to_flag (take 16 a) (take 16 b)
+      sym (shorter a) ∙ ap (λ m. take m (lowered (take 16 a))) (first ∙ ap (first_position 1) is) ∙ equal_to_bit (take 16 a) (take 16 b)
       ∙ ap (λ m. take m (lowered (take 16 b))) (sym (first ∙ ap (first_position 1) is)) ∙ shorter b
     where
       shorter : (t : List ℕ) → take n (lowered (take 16 t)) ≡ take n (lowered t)
       shorter t = ap (take n) (lowered-take 16 t) ∙ take-take n 16 (lowered t) few
 
-  pub no_flag : found ≡ 0 → take 16 (lowered a) ≡ take 16 (lowered b)
-  no_flag none =
+  pub no_bit : found ≡ 0 → take 16 (lowered a) ≡ take 16 (lowered b)
+  no_bit none =
       equal_before 16 (omega arith)
-      (sym (leading_from_mask_l (λ b. b == 1) flags (sym whole ∙ sym found_is ∙ none) ∙ long))
+      (sym (leading_from_mask_l (λ b. b == 1) bits (sym whole ∙ sym found_is ∙ none) ∙ long))
 
-  pub first_flag : 0 < found → FirstDifference a b (count_trailing_zeros 64 found)
-  first_flag some =
-      let at : count_trailing_zeros 64 found ≡ first_position 1 flags =
+  pub first_bit : 0 < found → FirstDifference a b (count_trailing_zeros 64 found)
+  first_bit some =
+      let at : count_trailing_zeros 64 found ≡ first_position 1 bits =
       ap (count_trailing_zeros 64) found_is
-      ∙ sym (position-flagged 1 flags 16 (omega (arith, long)) (omega arith) (omega (arith, some, found_is))) in
-      let n = first_position 1 flags in
-      let near : n < length flags =
-      elim (cases_lt n (length flags)) [
+      ∙ sym (position-found 1 bits 16 (omega (arith, long)) (omega arith) (omega (arith, some, found_is))) in
+      let n = first_position 1 bits in
+      let near : n < length bits =
+      elim (cases_lt n (length bits)) [
         | inl near ↦ near
         | inr far ↦
-            let all = all_pass (λ b. b == 1) flags (omega (arith, far, prefix_len-le-length (λ b. not (b == 1)) flags)) in
+            let all = all_pass (λ b. b == 1) bits (omega (arith, far, prefix_len-le-length (λ b. not (b == 1)) bits)) in
             absurd (omega (arith, some, found_is, whole, all))
       ] in
-      let stop : get_or flags n 0 ≡ 1 =
-      (let stops = prefix_len_stops (λ b. not (b == 1)) flags 0 near in grind (arith, nat_tests)) in
+      let stop : get_or bits n 0 ≡ 1 =
+      (let stops = prefix_len_stops (λ b. not (b == 1)) bits 0 near in grind (arith, nat_tests)) in
       let differ : difference_bit (get_or a n 0) (get_or b n 0) ≡ 1 =
       cc (
         stop,
@@ -134,7 +134,7 @@ module _ (a b flags : List ℕ) (found : ℕ) (room : 16 ≤ length a) (other_ro
         within = omega (arith, near, long, room);
         within_other = omega (arith, near, long, other_room);
         equal_before = equal_before n (omega (arith, near, long)) refl;
-        differ = differ_at_flag (get_or a n 0) (get_or b n 0) differ;
+        differ = differ_at_bit (get_or a n 0) (get_or b n 0) differ;
       })
 
 -- after equal bytes: more of them, or a difference

@@ -1,4 +1,4 @@
--- One call of a `MimeIter`: pieces are passed up to the first that is an item, and that is given.
+-- One call of a `MimeIter`: pieces are read up to the first that is an item, which is yielded.
 use Rattle.std.proofs.Common.{◌≡◌, ◌≢◌, ℕ, ◌+◌, ◌-◌, ◌<◌, ◌≤◌, true, false, List, [], length, Option, Some, None, Result, Ok, Err, refl, sym, ap, ◌∙◌, subst, arith, Bor, ◌∷◌, ◌++◌, map}
 use Rattle.std.specs.Prelude.{codes}
 use Rattle.std.proofs.lemmas.Bool.{true≢false}
@@ -7,7 +7,7 @@ use Rattle.std.proofs.lemmas.Option.{none-some}
 use Rattle.mime.specs.Values.{OwnedMedia, Reads}
 use Rattle.mime.specs.Cut.{TakesSteps, Cut, CutItem, good}
 use Rattle.mime.specs.Runs.{Iteration, GivesItem, IsNext}
-use Rattle.mime.specs.Inner.BetweenCalls.{IsUnderWay, PassesOn, IsFirstPiece, PassesPiece, IsFound}
+use Rattle.mime.specs.Inner.BetweenCalls.{IsUnderWay, PassesOn, IsFirstPiece, ReadsPiece, IsFound}
 use Rattle.mime.specs.declared.iter.Bad.{Bad}
 use Rattle.mime.specs.declared.iter.Bad.TheVariants.{Piece, NoMemory}
 use Rattle.mime.specs.declared.iter.MimeIter.TheInside.{Inside}
@@ -25,7 +25,7 @@ use Rattle.mime.proofs.CutLemmas.Containment.{comma_contains, joined_comes_back}
 abbrev pub IsSound : Iteration → Type 0
 IsSound i = IsUnderWay i.text i.left i.out_of_memory i.steps
 
--- pieces without an item were passed since a call began
+-- pieces without an item were read since a call began
 pub record IsLooking (old now : Iteration) : Type 0 where
   pub passed : PassesOn old.left now.left
   pub out_of_memory : now.out_of_memory ≡ old.out_of_memory
@@ -52,11 +52,11 @@ looking-first old = record {
   less = omega arith;
 }
 
--- an iterator after a piece was passed
+-- an iterator after a piece was read
 abbrev after_piece : Iteration → List ℕ → ℕ → Iteration
 after_piece now left steps = record now { left = left; steps = steps }
 
--- an iterator after a piece was passed keeps what every iterator keeps
+-- an iterator after a piece was read keeps what every iterator keeps
 sound-after_piece : (now : Iteration) (left : List ℕ) (steps : ℕ) → IsSound now → IsUnderWay now.left left false (steps - now.steps)
     → now.steps ≤ steps → IsSound (after_piece now left steps)
 sound-after_piece now left steps sound passes counted = record {
@@ -67,7 +67,7 @@ sound-after_piece now left steps sound passes counted = record {
 
 -- after an empty piece the search goes on
 pub looking-more : (old now : Iteration) (piece left : List ℕ) (positions : Option Positions) (steps : ℕ) → IsLooking old now × IsSound now
-    → 0 < length now.left → PassesPiece now.left piece positions left (steps - now.steps) → now.steps ≤ steps → length piece ≡ 0
+    → 0 < length now.left → ReadsPiece now.left piece positions left (steps - now.steps) → now.steps ≤ steps → length piece ≡ 0
     → IsLooking old (after_piece now left steps) × IsSound (after_piece now left steps)
 looking-more old now piece left positions steps (looking, sound) some passes counted none =
     let still_some : now.left ≢ [] = λ e. absurd (omega (arith, ap length e, some)) in
@@ -107,7 +107,7 @@ first_piece-carries text now piece left (Some positions) some passed (has, first
 
 -- a piece that isn't empty was found
 pub found-some : (old now : Iteration) (piece : Bor (List ℕ)) (left : List ℕ) (positions : Option Positions) (steps : ℕ)
-    → IsLooking old now × IsSound now → 0 < length now.left → PassesPiece now.left piece.now positions left (steps - now.steps)
+    → IsLooking old now × IsSound now → 0 < length now.left → ReadsPiece now.left piece.now positions left (steps - now.steps)
     → now.steps ≤ steps → 0 < length piece.now → IsFound old (Some (piece, positions)) (after_piece now left steps)
 found-some old now piece left positions steps (looking, sound) some passes counted item =
     let still_some : now.left ≢ [] = λ e. absurd (omega (arith, ap length e, some)) in

@@ -6,6 +6,7 @@ pub mod Blocks
 pub mod Pairs
 pub mod KeptText
 pub mod ComparedText
+pub mod OrderLaws
 pub mod HashInput
-pub mod StoredText
+pub mod KeptBytes
 pub mod BetweenCalls

@@ -10,8 +10,8 @@ use crate::scan::Positions;
 use crate::value::Mime;
 use std::fmt;
 
-/// A constant media type (RFC 7231, 3.1.1.1): [`Atom::mime`] gives its value, [`Atom::text`] its text. It can be
-/// matched and copied, and never allocates: `TEXT_PLAIN.mime()` is the media type `text/plain`.
+/// A constant media type (RFC 7231, 3.1.1.1): [`Atom::mime`] returns it as a [`Mime`], [`Atom::text`] as a
+/// string. It can be matched and copied, and never allocates: `TEXT_PLAIN.mime()` is the media type `text/plain`.
 ///
 /// Each constant of the crate's root, such as [`TEXT_PLAIN`](crate::TEXT_PLAIN), is the variant of its name, so a
 /// `match` can name it:
@@ -19,7 +19,7 @@ use std::fmt;
 /// ```rust
 /// use mime::{Atom, IMAGE_PNG, TEXT_HTML, TEXT_HTML_UTF_8};
 ///
-/// /// What a file of this media type is called after its dot, if it is known here.
+/// /// The file extension of this media type, if it has one here.
 /// pub fn extension(atom: Atom) -> Option<&'static str> {
 ///     match atom {
 ///         TEXT_HTML | TEXT_HTML_UTF_8 => Some("html"),
@@ -103,7 +103,7 @@ pub enum Atom {
 /// The old spelling of [`TEXT_JAVASCRIPT`].
 pub const TEXT_JAVSCRIPT: Atom = Atom::TEXT_JAVASCRIPT;
 
-/// A constant's text, with the positions of its slash, its plus and its semicolon.
+/// A constant's string, with the positions of its slash, its plus and its semicolon.
 type Row = (&'static str, usize, Option<usize>, Option<usize>);
 
 /// The constants, in the order of [`Atom`].
@@ -148,7 +148,7 @@ static TABLE: [Row; 32] = [
 ];
 
 impl Atom {
-    /// The constant's text, and where its parts are.
+    /// The constant's string, and the positions of its parts.
     #[inline]
     fn constant(self) -> (&'static str, Positions)
         ensures text { result.0.now ≡ atom_text self }
@@ -165,15 +165,15 @@ impl Atom {
         (text, positions)
     }
 
-    /// The constant's text: `text/plain` for `TEXT_PLAIN`.
+    /// The constant as a string: `text/plain` for `TEXT_PLAIN`.
     pub fn text(self) -> &'static str
         ensures { result.now ≡ atom_text self }
     {
         self.constant().0
     }
 
-    /// The media type that its text is read as (RFC 7231, 3.1.1.1). It doesn't allocate, and neither does cloning
-    /// it: `TEXT_PLAIN_UTF_8.mime()` is equal to what `text/plain;charset="utf-8"` is read as.
+    /// The media type (RFC 7231, 3.1.1.1). Neither this nor cloning the result allocates. `TEXT_PLAIN_UTF_8.mime()` is
+    /// equal to the media type read from `text/plain;charset="utf-8"`.
     pub fn mime(self) -> Mime
         ensures reads { Reads (atom_text self) result.media }
         ensures kept { result.media.kept ≡ atom_text self }
@@ -184,7 +184,7 @@ impl Atom {
     }
 }
 
-/// Prints the constant's text, padded to a width where one is given: `TEXT_PLAIN` prints `text/plain`.
+/// Prints the constant as a string, padded to the width, if one is given: `TEXT_PLAIN` prints `text/plain`.
 impl fmt::Display for Atom {
     ghost output = { λ atom. Some (atom_text atom) };
 

@@ -1,8 +1,8 @@
-//! The search for a byte in a text, a block of bytes at a time.
+//! The search for a byte in a string, a block of bytes at a time.
 
 ghost use Rattle.std.specs.Prelude.{◌≡◌, ◌+◌, ◌<◌, ◌≤◌, length, take, drop, slice_index};
 ghost use Rattle.std.specs.Str.{IsCharBoundary};
-ghost use Rattle.mime.specs.Inner.Blocks.{IsEndOf, first_position, before_byte, after_byte, mask_of};
+ghost use Rattle.mime.specs.Inner.Blocks.{IsSuffixOf, first_position, before_byte, after_byte, mask_of};
 
 use std::marker::Model;
 use std::simd::prelude::*;
@@ -10,7 +10,8 @@ use std::simd::prelude::*;
 /// The number of bytes that are compared at once.
 pub(crate) const BLOCK: usize = 16;
 
-/// The positions at which a byte occurs in the first block of a text, as a bit mask: the lowest bit is for position 0.
+/// The positions at which a byte occurs in the first block of a string, as a bit mask. The lowest bit is for position
+/// 0.
 #[inline(always)]
 pub(crate) fn mask(text: &[u8], byte: u8) -> u64
     requires { BLOCK ≤ length text.now }
@@ -21,11 +22,11 @@ pub(crate) fn mask(text: &[u8], byte: u8) -> u64
         .to_bitmask()
 }
 
-/// The first position of a byte in `text`, a suffix of `whole` shorter than a block, or the suffix's length. If `whole`
-/// has a block, its last block is searched at once.
+/// The first position of a byte in `text`, or its length if it doesn't occur. `text` is a suffix of `whole` shorter
+/// than a block. If `whole` has a block, its last block is searched at once.
 #[inline(always)]
-fn position_in_end(whole: &[u8], text: &[u8], byte: u8) -> usize
-    requires end { IsEndOf text.now whole.now }
+fn position_in_last_block(whole: &[u8], text: &[u8], byte: u8) -> usize
+    requires end { IsSuffixOf text.now whole.now }
     requires short { length text.now < BLOCK }
     ensures { result ≡ first_position byte text.now }
 {
@@ -40,7 +41,7 @@ fn position_in_end(whole: &[u8], text: &[u8], byte: u8) -> usize
     }
 }
 
-/// The first position of a byte, or the text's length, searched byte by byte.
+/// The first position of a byte, or the length if it doesn't occur, searched byte by byte.
 #[inline(always)]
 fn position_by_one(text: &[u8], byte: u8) -> usize
     ensures { result ≡ first_position byte text.now }
@@ -55,7 +56,8 @@ fn position_by_one(text: &[u8], byte: u8) -> usize
     position
 }
 
-/// The first position of a byte, or the text's length, searched block by block.
+/// The first position of a byte, or the length if it doesn't occur, searched block by block. It isn't inlined: most
+/// searches end in their first block.
 #[inline(never)]
 fn position_by_blocks(text: &[u8], byte: u8) -> usize
     requires { BLOCK ≤ length text.now }
@@ -69,36 +71,36 @@ fn position_by_blocks(text: &[u8], byte: u8) -> usize
         }
         left = &left[BLOCK..];
     }
-    text.len() - left.len() + position_in_end(text, left, byte)
+    text.len() - left.len() + position_in_last_block(text, left, byte)
 }
 
-/// A suffix of a text, together with the text: where the suffix is shorter than a block, the text's last block is
-/// searched in its place, without a loop.
+/// A suffix of a string, together with the string: if the suffix is shorter than a block, the string's last block is
+/// searched instead, without a loop.
 #[derive(Drop)]
-pub(crate) struct TextEnd<'a> {
+pub(crate) struct Suffix<'a> {
     whole: &'a str,
     text: &'a str,
 }
 
-impl<'a> Model for TextEnd<'a> {
+impl<'a> Model for Suffix<'a> {
     ghost use Rattle.std.specs.Prelude.{List, ℕ};
-    ghost use Rattle.mime.specs.Inner.Blocks.{IsEndOf};
+    ghost use Rattle.mime.specs.Inner.Blocks.{IsSuffixOf};
 
     ghost Value = { List ℕ };
 
     ghost view = { λ end. end.text.now };
 
-    ghost invariant = { λ end. IsEndOf end.text.now end.whole.now };
+    ghost invariant = { λ end. IsSuffixOf end.text.now end.whole.now };
 }
 
-impl<'a> TextEnd<'a> {
-    /// The suffix of a text from this position on.
+impl<'a> Suffix<'a> {
+    /// The suffix of a string from this position on.
     #[inline(always)]
-    pub(crate) fn of(whole: &'a str, from: usize) -> TextEnd<'a>
+    pub(crate) fn of(whole: &'a str, from: usize) -> Suffix<'a>
         requires { IsCharBoundary whole.now from }
         ensures { result ≡ drop from whole.entry.now }
     {
-        TextEnd {
+        Suffix {
             whole,
             text: &whole[from..],
         }
@@ -112,26 +114,26 @@ impl<'a> TextEnd<'a> {
         self.text
     }
 
-    /// The suffix of it from this position on.
+    /// Its own suffix from this position on.
     #[inline(always)]
-    pub(crate) fn after(&self, from: usize) -> TextEnd<'a>
+    pub(crate) fn after(&self, from: usize) -> Suffix<'a>
         requires { IsCharBoundary self.now from }
         ensures { result ≡ drop from self.now }
     {
-        TextEnd {
+        Suffix {
             whole: self.whole,
             text: &self.text[from..],
         }
     }
 
-    /// The first position of a byte, counted from 0 in the suffix, or the suffix's length.
+    /// The first position of a byte, counted from 0 in the suffix, or the suffix's length if it doesn't occur.
     #[inline(always)]
     pub(crate) fn position_of(&self, byte: u8) -> usize
         ensures { result ≡ first_position byte self.now }
     {
         let text = self.text.as_bytes();
         if text.len() < BLOCK {
-            return position_in_end(self.whole.as_bytes(), text, byte);
+            return position_in_last_block(self.whole.as_bytes(), text, byte);
         }
         let found = mask(text, byte);
         if found == 0 {
@@ -140,9 +142,9 @@ impl<'a> TextEnd<'a> {
         found.trailing_zeros() as usize
     }
 
-    /// Splits at the ASCII byte at `position`, which is dropped; at the end, returns all of the text and an empty rest.
+    /// Splits at the ASCII byte at `position`, which is dropped. At the end, returns the whole suffix and an empty one.
     #[inline(always)]
-    pub(crate) fn split_around(&self, position: usize) -> (&'a str, TextEnd<'a>)
+    pub(crate) fn split_around(&self, position: usize) -> (&'a str, Suffix<'a>)
         requires within { position ≤ length self.now }
         requires ascii { position < length self.now → slice_index self.now position < 128 }
         ensures before { result.0.now ≡ take position self.now }
@@ -153,9 +155,10 @@ impl<'a> TextEnd<'a> {
         (&text[..position], self.after(position + dropped))
     }
 
-    /// Splits at the first such ASCII byte, which is dropped; without one, returns all of the text and an empty rest.
+    /// Splits at the first `byte`, which must be ASCII and is dropped. If it doesn't occur, returns the whole suffix
+    /// and an empty one.
     #[inline(always)]
-    pub(crate) fn split_at_first(&self, byte: u8) -> (&'a str, TextEnd<'a>)
+    pub(crate) fn split_at_first(&self, byte: u8) -> (&'a str, Suffix<'a>)
         requires ascii { byte < 128 }
         ensures before { result.0.now ≡ before_byte byte self.now }
         ensures after { result.1 ≡ after_byte byte self.now }

@@ -1,59 +1,59 @@
-//! Comparing a media type with a text, without allocating.
+//! Comparing a media type with a string, without allocating.
 
 ghost use Rattle.std.specs.Prelude.{◌≡◌, ◌≢◌, ◌↔◌, IsTrue, Some, [], map};
 ghost use Rattle.mime.specs.Comparison.{TextIs};
 ghost use Rattle.mime.specs.Difference.{reaches_value, DifferInValue};
 ghost use Rattle.mime.specs.Inner.KeptText.{AreLowPairs, IsLowPair, lowered_pair};
-ghost use Rattle.mime.specs.Inner.ComparedText.{IsListAfter, IsAcceptedAt};
+ghost use Rattle.mime.specs.Inner.ComparedText.{StartsWithEssence, IsAcceptedAt};
 ghost use Rattle.mime.specs.Values.{Reads, lowered};
 ghost use Rattle.mime.specs.declared.compare.Compared.TheVariants.{Equal, Different};
 
 use crate::blocks::BLOCK;
 use crate::bytes::is_space;
-use crate::ignoring_case::{eq_ignoring_case, first_difference};
+use crate::ignoring_case::{eq_ignore_ascii_case, first_difference};
 use crate::scan::{ByteReader, Positions, Verdict, scan};
 use crate::value::Mime;
 use crate::value::pairs::Pairs;
 
-/// Whether two texts are equal ignoring ASCII case.
+/// Whether two strings are equal ignoring ASCII case.
 #[inline(always)]
-fn eq_str_ignoring_case(one: &str, other: &str) -> bool
+fn eq_str_ignore_ascii_case(one: &str, other: &str) -> bool
     ensures { IsTrue result ↔ (lowered one.now ≡ lowered other.now) }
 {
-    eq_ignoring_case(one.as_bytes(), other.as_bytes())
+    eq_ignore_ascii_case(one.as_bytes(), other.as_bytes())
 }
 
-/// Whether a text begins with this essence, ignoring ASCII case, and a semicolon after it.
+/// Whether a string starts with this essence, ignoring ASCII case, and a semicolon right after it.
 #[inline]
-fn is_list_after(essence: &str, text: &str) -> bool
-    ensures { IsTrue result ↔ IsListAfter essence.now text.now }
+fn starts_with_essence(essence: &str, text: &str) -> bool
+    ensures { IsTrue result ↔ StartsWithEssence essence.now text.now }
 {
     let end = essence.len();
     let text = text.as_bytes();
     if end >= text.len() || text[end] != b';' {
         return false;
     }
-    eq_ignoring_case(essence.as_bytes(), &text[..end])
+    eq_ignore_ascii_case(essence.as_bytes(), &text[..end])
 }
 
-/// Whether a text's name and value are those of a kept parameter: ignoring ASCII case in the name, and in the value if the
-/// name is `charset`. The kept ones are `name` and `value`.
+/// Whether a string's parameter is the kept one, `name` with `value`: ignoring ASCII case in the name, and in the
+/// value if the name is `charset`.
 #[inline]
 fn is_pair(name: &str, value: &str, other_name: &str, other_value: &str) -> bool
     requires { IsLowPair (name.now, value.now) }
     ensures { IsTrue result ↔ ((name.now, value.now) ≡ lowered_pair (other_name.now, other_value.now)) }
 {
-    if !eq_str_ignoring_case(name, other_name) {
+    if !eq_str_ignore_ascii_case(name, other_name) {
         return false;
     }
     if name == "charset" {
-        eq_str_ignoring_case(value, other_value)
+        eq_str_ignore_ascii_case(value, other_value)
     } else {
         value == other_value
     }
 }
 
-/// Whether the pairs of a text are read as the kept ones.
+/// Whether a string's parameters are read as the kept ones.
 #[inline]
 fn are_pairs(kept: Pairs<'_>, pairs: Pairs<'_>) -> bool
     requires { AreLowPairs kept }
@@ -73,26 +73,28 @@ fn are_pairs(kept: Pairs<'_>, pairs: Pairs<'_>) -> bool
 
 /// Whether the first semicolon is at this position, and `count` parameters follow it.
 #[inline(always)]
-fn is_list_at(positions: Positions, semicolon: usize, count: usize) -> bool
+fn has_shape(positions: Positions, semicolon: usize, count: usize) -> bool
     ensures { IsTrue result ↔ ((positions.semicolon ≡ Some semicolon) × (positions.pair_count ≡ count)) }
 {
     positions.semicolon == Some(semicolon) && positions.pair_count == count
 }
 
-/// Whether a text is accepted, with its first semicolon at this position and `count` parameters.
+/// Whether a string is accepted, with its first semicolon at this position and `count` parameters. It isn't inlined:
+/// the scan needs its registers.
 #[inline(never)]
 fn is_accepted_at(text: &str, semicolon: usize, count: usize) -> bool
     ensures { IsTrue result ↔ IsAcceptedAt text.now semicolon count }
 {
     let mut reader = ByteReader::new(text, 0);
     match scan(&mut reader) {
-        Verdict::Accepted(positions) => is_list_at(positions, semicolon, count),
+        Verdict::Accepted(positions) => has_shape(positions, semicolon, count),
         _ => false,
     }
 }
 
-/// Whether a text is equal to a value with parameters, part by part: it has the essence, and then the parameters. If
-/// `equal_ignoring_case`, it is the kept text ignoring ASCII case, and so accepted; otherwise it is scanned.
+/// Whether a string is equal to a value with parameters, part by part: it has the essence, and then the parameters. If
+/// `equal_ignoring_case`, it is the kept text ignoring ASCII case, and so accepted; otherwise it is scanned. It isn't
+/// inlined: few strings need it.
 #[inline(never)]
 fn eq_by_parts(mime: &Mime, s: &str, equal_ignoring_case: bool) -> bool
     requires reads { Reads mime.now.media.kept mime.now.media }
@@ -101,11 +103,14 @@ fn eq_by_parts(mime: &Mime, s: &str, equal_ignoring_case: bool) -> bool
     ensures { IsTrue result ↔ TextIs mime.now.media s.now }
 {
     let essence = mime.essence_str();
-    if !is_list_after(essence, s) {
+    if !starts_with_essence(essence, s) {
         return false;
     }
     let end = essence.len();
-    if !are_pairs(mime.pairs(), Pairs::after(s, Some(end), mime.param_count())) {
+    if !are_pairs(
+        mime.pairs(),
+        Pairs::of_text(s, Some(end), mime.param_count()),
+    ) {
         return false;
     }
     equal_ignoring_case || is_accepted_at(s, end, mime.param_count())
@@ -119,17 +124,17 @@ fn reaches_value(byte: u8) -> bool
     !(is_space(byte) || byte == b'"')
 }
 
-/// What a comparison of two texts shows.
+/// What a comparison of two strings shows.
 enum Compared {
     /// They are equal ignoring ASCII case.
     Equal,
     /// They are read as different values: their first difference, ignoring ASCII case, reaches the value.
     Different,
-    /// Neither is known: a text is shorter than a block, or they first differ at a space, tab or quote, or one ends first.
+    /// Neither is known: one is shorter than a block, or they first differ at a space, tab or quote, or one ends first.
     Undecided,
 }
 
-/// Compares two texts up to their first difference, ignoring ASCII case.
+/// Compares two strings up to their first difference, ignoring ASCII case.
 #[inline(always)]
 fn compare_texts(kept: &str, text: &str) -> Compared
     ensures equal { result ≡ Equal → lowered kept.now ≡ lowered text.now }
@@ -147,10 +152,11 @@ fn compare_texts(kept: &str, text: &str) -> Compared
     }
 }
 
-/// Whether a text other than the kept text is equal to a value with parameters. The first difference decides most texts;
-/// a lone charset in another case is equal; otherwise the parts are compared.
+/// Whether a string other than the kept text is equal to a value with parameters. The first difference decides most; a
+/// lone charset in another case is equal; otherwise the parts are compared. It isn't inlined: most calls end with the
+/// kept text.
 #[inline(never)]
-fn eq_otherwise(mime: &Mime, s: &str) -> bool
+fn eq_other_text(mime: &Mime, s: &str) -> bool
     requires { mime.now.media.pairs ≢ [] }
     ensures { IsTrue result ↔ TextIs mime.now.media s.now }
 {
@@ -161,19 +167,18 @@ fn eq_otherwise(mime: &Mime, s: &str) -> bool
     }
 }
 
-/// Whether a text is read as a value equal to this one and, where this one has no parameter, has no
-/// semicolon (RFC 7231, 3.1.1.1). It doesn't allocate.
+/// Whether a string is read as a value equal to `mime` and, if `mime` has no parameter, has no semicolon (RFC 7231,
+/// 3.1.1.1). It doesn't allocate.
 ///
-/// `TEXT/PLAIN;charset="UTF-8"; ` is `TEXT_PLAIN_UTF_8.mime()`. But `text/plain;` isn't
-/// `TEXT_PLAIN.mime()`, though reading it gives an equal value: a media type without parameters is
-/// not equal to a text with a semicolon.
+/// `TEXT/PLAIN;charset="UTF-8"; ` is `TEXT_PLAIN_UTF_8.mime()`. But `text/plain;` isn't `TEXT_PLAIN.mime()`, though
+/// it is read as an equal value: a media type without parameters isn't equal to a string with a semicolon.
 #[inline]
 pub fn mime_eq_str(mime: &Mime, s: &str) -> bool
     ensures { IsTrue result ↔ TextIs mime.now.media s.now }
 {
     let kept = mime.as_str();
     if mime.param_count() == 0 {
-        return eq_str_ignoring_case(kept, s);
+        return eq_str_ignore_ascii_case(kept, s);
     }
-    kept == s || eq_otherwise(mime, s)
+    kept == s || eq_other_text(mime, s)
 }

@@ -56,8 +56,8 @@ fn difference_in_block(a: &[u8], b: &[u8]) -> Option<usize>
     }
 }
 
-/// The first position at which two texts of at least a block differ ignoring ASCII case, if they do before one of them
-/// ends. The last block may overlap the one before.
+/// The first position at which two byte strings of at least a block differ ignoring ASCII case, if they do before one
+/// of them ends. The last block may overlap the one before.
 #[inline(always)]
 pub(crate) fn first_difference(a: &[u8], b: &[u8]) -> Option<usize>
     requires room { BLOCK ≤ length a.now }
@@ -79,7 +79,7 @@ pub(crate) fn first_difference(a: &[u8], b: &[u8]) -> Option<usize>
     }
 }
 
-/// Whether two byte strings of one length are equal ignoring ASCII case. The loop doesn't end early: over
+/// Whether two byte strings of equal length are equal ignoring ASCII case. The loop doesn't end early: over
 /// a known length it is a few vector instructions.
 #[inline(always)]
 fn eq_byte_by_byte(a: &[u8], b: &[u8]) -> bool
@@ -95,8 +95,9 @@ fn eq_byte_by_byte(a: &[u8], b: &[u8]) -> bool
     differs == 0
 }
 
-/// Whether two byte strings of one length, from `block` to twice `block`, are equal ignoring ASCII case: by their last
-/// and first `block` bytes, which together are all of them. Two names differ more often in their last bytes than in their first.
+/// Whether two byte strings of equal length, from `block` to twice `block`, are equal ignoring ASCII case: by their
+/// last and first `block` bytes, which together are all of them. Names differ more often in their last bytes than in
+/// their first.
 #[inline(always)]
 fn eq_at_both_ends(a: &[u8], b: &[u8], block: usize) -> bool
     requires same_length { length a.now ≡ length b.now }
@@ -108,9 +109,9 @@ fn eq_at_both_ends(a: &[u8], b: &[u8], block: usize) -> bool
     eq_byte_by_byte(&a[last..], &b[last..]) && eq_byte_by_byte(&a[..block], &b[..block])
 }
 
-/// Whether two byte strings are equal ignoring ASCII case.
+/// Whether two byte strings are equal ignoring ASCII case. It isn't inlined: it has many callers.
 #[inline(never)]
-pub(crate) fn eq_ignoring_case(a: &[u8], b: &[u8]) -> bool
+pub(crate) fn eq_ignore_ascii_case(a: &[u8], b: &[u8]) -> bool
     ensures { IsTrue result ↔ (lowered a.now ≡ lowered b.now) }
 {
     if a.len() != b.len() {

@@ -1,10 +1,10 @@
-//! Media types one by one out of a text.
+//! Media types one by one out of a string.
 
 ghost use Rattle.std.specs.Prelude.{◌≡◌, ◌+◌, ◌-◌, ◌<◌, ◌≤◌, ◌^◌, false, length, IfSome, None, ⊤};
 ghost use Rattle.std.specs.Iterator.{UpTo, at_most};
 ghost use Rattle.std.specs.Iterator.SizeHint.{IsWithinCount};
 ghost use Rattle.mime.specs.Runs.{IsNext};
-ghost use Rattle.mime.specs.Inner.BetweenCalls.{PassesPiece, IsFound};
+ghost use Rattle.mime.specs.Inner.BetweenCalls.{ReadsPiece, IsFound};
 
 use crate::scan::{ByteReader, Positions, Verdict, scan};
 use crate::value::Mime;
@@ -15,43 +15,43 @@ use std::marker::Model;
 /// Why an item of a [`MimeIter`] isn't a media type (lists of them: RFC 7231, 5.3.2).
 #[derive(Clone, Copy, PartialEq, Eq, Debug)]
 pub enum Bad<'a> {
-    /// This piece of the text isn't a media type, as `invalid` in `invalid, a/b`.
+    /// This piece of the string isn't a media type, as `invalid` in `invalid, a/b`.
     Piece(&'a str),
-    /// The piece is a media type, and memory ran out. Nothing comes after this.
+    /// The piece is a media type, and memory ran out. The iterator yields nothing more.
     NoMemory,
 }
 
-/// The first piece of a text, after which a character is skipped.
+/// The first piece of a string, after which a character is skipped.
 #[derive(Clone, Copy)]
-struct Passed<'a> {
-    /// The piece; empty where it isn't yielded.
+struct ReadPiece<'a> {
+    /// The piece; empty if it isn't yielded.
     piece: &'a str,
     /// The positions of its parts, if it is a media type.
     positions: Option<Positions>,
-    /// What is left of the text.
+    /// What is left of the string.
     left: &'a str,
-    /// The number of bytes read so far, from the start of the iterator's text.
+    /// The number of bytes read so far, from the start of the iterator's string.
     steps: u128,
 }
 
-/// Reads the first piece of a text, and skips the character after it. `from` is the number of bytes read before.
+/// Reads the first piece of a string, and skips the character after it. `from` is the number of bytes read before.
 #[inline(always)]
-fn pass<'a>(text: &'a str, from: u128) -> Passed<'a>
+fn read_piece<'a>(text: &'a str, from: u128) -> ReadPiece<'a>
     requires { from + length text.now < 2 ^ 128 }
-    ensures passes { PassesPiece text.now result.piece.now result.positions result.left.now (result.steps - from) }
+    ensures reads { ReadsPiece text.now result.piece.now result.positions result.left.now (result.steps - from) }
     ensures counted { from ≤ result.steps }
 {
     let mut reader = ByteReader::new(text, from);
     let verdict = scan(&mut reader);
     let steps = reader.count();
     match verdict {
-        Verdict::Accepted(positions) => Passed {
+        Verdict::Accepted(positions) => ReadPiece {
             piece: text,
             positions: Some(positions),
             left: "",
             steps,
         },
-        Verdict::Unfinished(_) => Passed {
+        Verdict::Unfinished(_) => ReadPiece {
             piece: "",
             positions: None,
             left: "",
@@ -59,7 +59,7 @@ fn pass<'a>(text: &'a str, from: u128) -> Passed<'a>
         },
         Verdict::Stopped(_, positions) => {
             let end = reader.position(from);
-            Passed {
+            ReadPiece {
                 piece: &text[..end],
                 positions,
                 left: &text[text.ceil_char_boundary(end + 1)..],
@@ -69,10 +69,10 @@ fn pass<'a>(text: &'a str, from: u128) -> Passed<'a>
     }
 }
 
-/// The media types of a text one by one, as those of an `Accept` header (RFC 7231, 5.3.2): the good
+/// The media types of a string one by one, as those of an `Accept` header (RFC 7231, 5.3.2): the good
 /// entries of a list, and the pieces of it that aren't media types.
 ///
-/// The text is cut into the longest pieces that some media type begins with. Each ends before a
+/// The string is cut into the longest pieces that some media type begins with. Each ends before a
 /// character that can't follow it, such as the comma of a list; that character is skipped. A piece
 /// is a media type or a bad piece; an empty one isn't yielded, nor is a last piece that is
 /// unfinished. So a bad entry doesn't change the entries after its comma, unless it ends in an open quoted value. The
@@ -122,9 +122,9 @@ impl<'a> MimeIter<'a> {
         }
     }
 
-    /// The number of bytes read so far, from the start of the text: 43 for all of
+    /// The number of bytes read so far, from the start of the string: 43 for all of
     /// `application/json, invalid, application/json`, which are 16, 7 and 16 bytes and 4 skipped
-    /// characters. It is never more than the text's length.
+    /// characters. It is never more than the string's length in bytes.
     pub fn steps(&self) -> u128
         ensures steps { result ≡ self.now.steps }
         ensures few { result ≤ length self.now.text }
@@ -132,18 +132,18 @@ impl<'a> MimeIter<'a> {
         self.steps
     }
 
-    /// Skips empty pieces up to the first that isn't, and returns that, with the positions of its parts if it is a media
+    /// Skips empty pieces, and returns the first that isn't empty, with the positions of its parts if it is a media
     /// type.
     #[inline(always)]
     fn next_piece(&mut self) -> Option<(&'a str, Option<Positions>)>
         ensures { IsFound self.old result self.new }
     {
         while !self.left.is_empty() {
-            let passed = pass(self.left, self.steps);
-            self.left = passed.left;
-            self.steps = passed.steps;
-            if !passed.piece.is_empty() {
-                return Some((passed.piece, passed.positions));
+            let read = read_piece(self.left, self.steps);
+            self.left = read.left;
+            self.steps = read.steps;
+            if !read.piece.is_empty() {
+                return Some((read.piece, read.positions));
             }
         }
         None
@@ -151,7 +151,7 @@ impl<'a> MimeIter<'a> {
 }
 
 /// Makes an iterator that goes on from the same position, with the same count of steps: after the first item of
-/// `a/b, c/d` both give `c/d`. It always succeeds, and doesn't allocate.
+/// `a/b, c/d` both yield `c/d`. It always succeeds, and doesn't allocate.
 impl<'a> Clone for MimeIter<'a> {
     ghost is_clone = { λ iter copy. copy ≡ iter };
 
@@ -200,7 +200,7 @@ impl<'a> Iterator for MimeIter<'a> {
     }
 }
 
-/// Its text is open: it may change between versions.
+/// What it prints is open: it may change between versions.
 impl fmt::Debug for MimeIter<'_> {
     fn fmt<W: fmt::Write>(&self, f: &mut fmt::Formatter<W>) -> fmt::Result {
         f.write_str("MimeIter")

@@ -1,4 +1,4 @@
-//! The laws of the definitions, as calls: a caller that calls one has its law in its proof. Most do nothing;
+//! The laws of the definitions, as calls: a caller that calls one can use its law in its own proof. Most do nothing;
 //! `name_constants` returns the constant names. docs/LAWS.md lists all claims, docs/RULES.md says what viable,
 //! accepted and cut mean.
 
@@ -9,7 +9,34 @@ ghost use Rattle.std.specs.Ordering.{ordering_then, bool_cmp, nat_cmp};
 ghost use Rattle.mime.specs.Values.{OwnedMedia, lowered};
 ghost use Rattle.mime.specs.Names.{name_table};
 ghost use Rattle.mime.specs.Items.{name_text};
-ghost use Rattle.mime.specs.Laws.{OneTree, OneReading, EmptyIsViable, PrefixOfViableIsViable, AcceptedIsViable, OneCompletion, CompletedIsRefused, NoCompletion, OneFault, OneLongestPrefix, PrefixEndsBetweenCharacters, PrefixIsInUtf8, PlusIsLast, KeptIsRead, EssenceIsRead, OneOrder, BeforeIsTransitive, BareTextIs, KeptTextIs, OneAnswer, HasAnswer, IsDecided, FirstDifferenceDecides, AcceptedOrRefused, EssenceIsParts, SameEssence};
+ghost use Rattle.mime.specs.Laws.{
+  OneTree,
+  OneReading,
+  EmptyIsViable,
+  PrefixOfViableIsViable,
+  AcceptedIsViable,
+  OneCompletion,
+  CompletedIsRefused,
+  NoCompletion,
+  OneFault,
+  OneLongestPrefix,
+  PrefixEndsBetweenCharacters,
+  PrefixIsInUtf8,
+  PlusIsLast,
+  KeptIsRead,
+  EssenceIsRead,
+  OneOrder,
+  BeforeIsTransitive,
+  BareTextIs,
+  KeptTextIs,
+  OneAnswer,
+  HasAnswer,
+  IsDecided,
+  FirstDifferenceDecides,
+  AcceptedOrRefused,
+  EssenceIsParts,
+  SameEssence,
+};
 ghost use Rattle.mime.specs.HeaderLaws.{KeptIsSafe, ParameterIsRead};
 ghost use Rattle.mime.specs.Comparison.{Same, IsOrderOf};
 ghost use Rattle.mime.specs.HashLaws.{RespectsEquality, IsPrefixFree};
@@ -24,23 +51,23 @@ use crate::scan::ParseError;
 use crate::value::Mime;
 use std::hash::Hash;
 
-/// A text is spelled by at most one well-formed tree: `a/b;p=x` only by the one with type `a`, subtype `b` and a
+/// A string is spelled by at most one well-formed tree: `a/b;p=x` only by the one with type `a`, subtype `b` and a
 /// plain parameter (RFC 7231, 3.1.1.1).
 pub fn one_tree()
     ensures { OneTree }
 {}
 
-/// A text is read as at most one value: every reading of `Text/Plain` is `text/plain`.
+/// A string is read as at most one value: every reading of `Text/Plain` is `text/plain`.
 pub fn one_reading()
     ensures { OneReading }
 {}
 
-/// A text is accepted or refused: `a/b` is accepted, and `a` is refused.
+/// A string is accepted or rejected: `a/b` is accepted, and `a` is rejected.
 pub fn accepted_or_refused()
     ensures { AcceptedOrRefused }
 {}
 
-/// The empty text is viable: `a/b` begins with it.
+/// The empty string is viable: `a/b` begins with it.
 pub fn empty_is_viable()
     ensures { EmptyIsViable }
 {}
@@ -55,40 +82,40 @@ pub fn accepted_is_viable()
     ensures { AcceptedIsViable }
 {}
 
-/// Exactly one of five things is missing from a viable refused text, and its completion makes the text an accepted
+/// Exactly one of five things is missing from a viable rejected text, and its completion makes the string an accepted
 /// one: `a/b;p` lacks an equals sign, and `a/b;p=x` is accepted.
 pub fn one_completion()
     ensures { OneCompletion }
 {}
 
-/// A text that lacks a slash, a subtype, an equals sign, a value or a closing quote is refused: `text/`, which lacks
+/// A string that lacks a slash, a subtype, an equals sign, a value or a closing quote is rejected: `text/`, which lacks
 /// a subtype.
 pub fn completed_is_refused()
     ensures { CompletedIsRefused }
 {}
 
-/// Nothing makes a text that isn't viable an accepted one: `a b` is refused, whatever follows it.
+/// Nothing makes a string that isn't viable an accepted one: `a b` is rejected, whatever follows it.
 pub fn no_completion()
     ensures { NoCompletion }
 {}
 
-/// A refused text has exactly one fault: that of `text/;` is its byte at position 5, counted from 0.
+/// A rejected text has exactly one fault: that of `text/;` is its byte at position 5, counted from 0.
 pub fn one_fault()
     ensures { OneFault }
 {}
 
-/// A text has exactly one longest viable prefix: that of `a/b c` is `a/b`.
+/// A string has exactly one longest viable prefix: that of `a/b c` is `a/b`.
 pub fn one_longest_prefix()
     ensures { OneLongestPrefix }
 {}
 
-/// The longest viable prefix of a text of valid UTF-8 ends between characters: that of `a/bé` before the `é`.
+/// The longest viable prefix of a string of valid UTF-8 ends between characters: that of `a/bé` before the `é`.
 pub fn prefix_ends_between_characters()
     ensures { PrefixEndsBetweenCharacters }
 {}
 
-/// In a text of valid UTF-8 the longest viable prefix is the same whether it may be completed by any bytes or only to a
-/// text of valid UTF-8: that of `a/b;p="é` is all of it, since `a/b;p="éx"` is accepted.
+/// In a string of valid UTF-8 the longest viable prefix is the same whether it may be completed by any bytes or only
+/// to a text of valid UTF-8: that of `a/b;p="é` is all of it, since `a/b;p="éx"` is accepted.
 pub fn prefix_is_in_utf8()
     ensures { PrefixIsInUtf8 }
 {}
@@ -116,7 +143,7 @@ pub fn essence_is_parts()
     ensures { EssenceIsParts }
 {}
 
-/// Two values that were read have the same essence exactly where they have the same type, subtype and suffix:
+/// Two values that were read have the same essence exactly if they have the same type, subtype and suffix:
 /// `a/b+c;p=x` and `A/B+C`.
 pub fn same_essence()
     ensures { SameEssence }
@@ -129,15 +156,15 @@ pub fn kept_is_safe()
     ensures { KeptIsSafe }
 {}
 
-/// The essence of a value that was read, with `; `, a token, an equals sign and quoted content in its quotes after it, is
-/// read as the value with that parameter alone: `a/b; P="X"` as `a/b` with the parameter `p`, whose value is `X` (RFC
-/// 7231, 3.1.1.1).
+/// The essence of a value that was read, with `; `, a token, an equals sign and quoted content in its quotes after
+/// it, is read as the value with that parameter alone: `a/b; P="X"` as `a/b` with the parameter `p`, whose value is
+/// `X` (RFC 7231, 3.1.1.1).
 pub fn parameter_is_read()
     ensures { ParameterIsRead }
 {}
 
-/// Of two values exactly one of these is true: the first comes before the second, they are equal, or the second comes before
-/// the first. `a/b` comes before `a/b;p=1`, and that before `a/c`.
+/// Of two values exactly one of these is true: the first comes before the second, they are equal, or the second comes
+/// before the first. `a/b` comes before `a/b;p=1`, and that before `a/c`.
 pub fn one_order()
     ensures { OneOrder }
 {}
@@ -147,14 +174,14 @@ pub fn before_is_transitive()
     ensures { BeforeIsTransitive }
 {}
 
-/// A text is a value without parameters exactly where the text in lowercase is the kept text: `Text/Plain` is
+/// A string is a value without parameters exactly if the string in lowercase is the kept text: `Text/Plain` is
 /// `text/plain`, and `text/plain;` isn't.
 pub fn bare_text_is()
     ensures { BareTextIs }
 {}
 
-/// A value is equal to the kept text of a value that was read exactly where the two values are equal: that of
-/// `a/b; p="x"` to the text `a/b;p=x`, which is kept of `A/B;P=x`.
+/// A value is equal to the kept text of a value that was read exactly if the two values are equal: that of
+/// `a/b; p="x"` to the string `a/b;p=x`, which is kept of `A/B;P=x`.
 pub fn kept_text_is()
     ensures { KeptTextIs }
 {}
@@ -166,13 +193,14 @@ pub fn one_answer<K: ParamKey>(key: &K)
     ensures least { HasAnswer (K.Accepts key.now) }
 {}
 
-/// It is decided whether a `TextKey` accepts a name, and whether a `Name` does: `TextKey("P")` accepts `p`, and not `q`.
+/// It is decided whether a `TextKey` accepts a name, and whether a `Name` does: `TextKey("P")` accepts `p`, and not
+/// `q`.
 pub fn keys_decide()
     ensures text { (key : TextKey) → IsDecided (⟦<TextKey<'static> as ParamKey>⟧.Accepts key) }
     ensures name { (key : Name) → IsDecided (⟦<Name<'static> as ParamKey>⟧.Accepts key) }
 {}
 
-/// Two values are equal exactly where their essences and their pairs are the same: `a/b; p="x"` and `A/B;P=x`.
+/// Two values are equal exactly if their essences and their pairs are the same: `a/b; p="x"` and `A/B;P=x`.
 pub fn mime_equality()
     ensures { (first second : OwnedMedia) → IsTrue (⟦<Mime as PartialEq>⟧.eq first second) ↔ Same first.media second.media }
 {}
@@ -182,47 +210,48 @@ pub fn mime_order()
     ensures { (first second : OwnedMedia) → IsOrderOf first.media second.media (⟦<Mime as Ord>⟧.cmp first second) }
 {}
 
-/// Equal values feed a hasher the same: `a/b; p="x"` and `A/B;P=x`.
+/// Equal values feed a hasher the same bytes: `a/b; p="x"` and `A/B;P=x`.
 pub fn equal_values_feed_the_same()
     ensures { RespectsEquality ⟦<Mime as Hash>⟧.hash_input }
 {}
 
 /// What values feed a hasher is prefix-free: what a value feeds is never a prefix of what an unequal one feeds, so a
-/// pair of a value and a text feeds what no other pair does. `a/bx` with `c` and `a/b` with `xc` feed different bytes.
+/// pair of a value and a string feeds what no other pair does. `a/bx` with `c` and `a/b` with `xc` feed different
+/// bytes.
 pub fn hash_is_prefix_free()
     ensures { IsPrefixFree ⟦<Mime as Hash>⟧.hash_input }
 {}
 
-/// Texts that first differ, ignoring ASCII case, where neither byte is a space, a tab or a quote, are not read as equal values:
-/// `a/b;p=x` and `A/B;P=y`. Where one has a quote, they may be: `a/b;p=x` and `a/b;p="x"`.
+/// Strings whose first difference, ignoring ASCII case, is between two bytes other than space, tab and quote aren't
+/// read as equal values: `a/b;p=x` and `A/B;P=y`. If one of the bytes is a quote, they may be: `a/b;p=x` and
+/// `a/b;p="x"`.
 pub fn first_difference_decides()
     ensures { FirstDifferenceDecides }
 {}
 
-/// A text has exactly one cut: that of `a/b, e, c/d` has the items `a/b`, the bad piece `e`, and `c/d`.
+/// A string has exactly one cut: that of `a/b, e, c/d` has the items `a/b`, the bad piece `e`, and `c/d`.
 pub fn one_cut()
     ensures { OneCut }
 {}
 
-/// Each item of a cut is a piece that is read as its value, or a bad piece, which is viable, refused and not empty. The
-/// rest is viable and refused: over `a/b, e, c` the items are `a/b` and the bad piece `e`, and the rest is `c`.
+/// Each item of a cut is a piece that is read as its value, or a bad piece, which is viable, rejected and not empty.
+/// The rest is viable and rejected: over `a/b, e, c` the items are `a/b` and the bad piece `e`, and the rest is `c`.
 pub fn cut_has_items()
     ensures { CutHasItems }
 {}
 
-/// A text is pieces, a character after each, and a last piece, which is accepted or the rest of the
+/// A string is pieces, a character after each, and a last piece, which is accepted or the rest of the
 /// text's cut: `e,a/b` is the piece `e`, a comma, and the last piece `a/b`.
 pub fn cut_writes_text()
     ensures { CutWritesText }
 {}
 
-/// In a text of valid UTF-8 what is skipped after a piece is one character, a scalar value: both bytes of the `é` of
-/// `a/bé`.
+/// In a string of valid UTF-8, what is skipped after a piece is one character: both bytes of the `é` of `a/bé`.
 pub fn passes_one_character()
     ensures { PassesOneCharacter }
 {}
 
-/// A text takes exactly one number of steps: `a/b,c/d` takes 7, one for each byte.
+/// A string takes exactly one number of steps: `a/b,c/d` takes 7, one for each byte.
 pub fn one_count()
     ensures { OneCount }
 {}
@@ -246,20 +275,20 @@ pub fn http_list_is_cut()
     ensures { HttpListIsCut }
 {}
 
-/// A run of a `MimeIter` yields the items of the cut, over `a/b, e, c/d` two media types and a bad piece. Out of memory may come
-/// for an item that is a media type other than `*/*`, and ends the run.
+/// A run of a `MimeIter` yields the items of the cut: over `a/b, e, c/d` two media types and a bad piece. `NoMemory`
+/// may be yielded for a media type other than `*/*`, and ends the run.
 pub fn run_gives_cut()
     ensures { RunGivesCut }
 {}
 
-/// A run over a text with a comma gives the items of the text before the comma, the rest of that, and the items of
-/// the text after the comma, unless the rest is an open quoted value: over `e, c/d` it gives the bad piece `e`, which
+/// A run over a string with a comma gives the items of the string before the comma, the rest of that, and the items of
+/// the string after the comma, unless the rest is an open quoted value: over `e, c/d` it gives the bad piece `e`, which
 /// is the rest of `e` alone, and `c/d`.
 pub fn comma_contains_on_runs()
     ensures { CommaContainsOnRuns }
 {}
 
-/// A run over a printed list of values that were read gives these values: over `a/b, c/d` the two.
+/// A run over a printed list of values that were read yields these values: over `a/b, c/d` the two.
 pub fn printed_list_comes_back()
     ensures { PrintedListComesBack }
 {}

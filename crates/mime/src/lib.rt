@@ -1,8 +1,8 @@
 //! Media types such as `text/plain; charset=utf-8` (RFC 7231, 3.1.1.1): read, stored, compared and printed.
 //! It is a port of the Rust crate `mime`, series 0.3; what it promises are contracts that a prover checks.
 //!
-//! [`Mime::from_str`] reads a media type from a text, [`MimeIter`] takes them one by one out of a list, such
-//! as an `Accept` header, and [`mime_eq_str`] compares one with a text. The 38 constants such as [`CHARSET`]
+//! [`Mime::from_str`] reads a media type from a string, [`MimeIter`] takes them one by one out of a list, such
+//! as an `Accept` header, and [`mime_eq_str`] compares one with a string. The 38 constants such as [`CHARSET`]
 //! are names, the 32 such as [`TEXT_PLAIN_UTF_8`] are media types. [`laws`] says what holds of all of them.
 //!
 //! # Example
@@ -21,7 +21,7 @@
 //! ```
 //!
 //! # Errors
-//! A text that isn't a media type is refused with its one fault, a [`ParseError`]: what is missing at its
+//! A string that isn't a media type is rejected with its one fault, a [`ParseError`]: what is missing at its
 //! end, or the first byte that no media type could have there, with its position. Positions count bytes from
 //! 0. A piece of a list that isn't a media type is [`Bad::Piece`]. A bad entry doesn't change the entries after its
 //! comma, unless it ends in an open quoted value. A last entry that isn't a media type, but could still become one,
@@ -29,8 +29,8 @@
 //!
 //! # Memory
 //! `Mime::from_str` and `MimeIter::new` take the allocator. Reading a media type, `clone` of a `Mime`, and each
-//! media type that a `MimeIter` yields allocate once, and report an error where memory runs out. Nothing else allocates;
-//! refused texts, `*/*` and constants don't either.
+//! media type that a `MimeIter` yields allocate once, and return an error if memory runs out. Nothing else allocates:
+//! not rejecting a string, nor `*/*`, nor a constant.
 //!
 //! # Standards
 //! The grammar is that of RFC 7231 and RFC 7230, with the departures that docs/DIFFERENCES.md lists. RFC 9110
@@ -41,6 +41,8 @@
 //! What a media type means: ranges, weights, choosing by `Accept`, escapes in quoted values, extensions of
 //! files. docs/DIFFERENCES.md lists what differs from the Rust crate and from RFC 7231, crates/mime/CALLING.md
 //! every contract, docs/RECIPES.md what callers do.
+//!
+//! This is version 1.0.0; README.md says what may change within 1.
 #![tactic(auto)]
 
 mod atoms;

@@ -6,19 +6,19 @@ ghost use Rattle.mime.specs.Names.{NameIs};
 
 pub(crate) mod constants;
 
-use crate::ignoring_case::eq_ignoring_case;
+use crate::ignoring_case::eq_ignore_ascii_case;
 use std::fmt;
 
 /// A part of a media type: a type, a subtype, a suffix, a parameter's name or its value (RFC 7231,
 /// 3.1.1.1). The type of `Text/Plain` is `Name { text: "text", ignores_case: true }`, and equals [`TEXT`](crate::TEXT).
 ///
-/// Two names are equal if their texts and their flags are; they are ordered by the bytes of the
-/// text and then by the flag, `false` first. To compare with a text, see [`name_eq_str`].
+/// Two names are equal if their texts and their flags are. They are ordered by the bytes of the
+/// text, and then by the flag, `false` first. To compare with a string, see [`name_eq_str`].
 #[derive(Clone, Copy, PartialEq, Eq, PartialOrd, Ord, Hash)]
 pub struct Name<'a> {
     /// The part's text. In a name that this crate returns and that ignores case, it has no ASCII capital.
     pub text: &'a str,
-    /// Whether the name is compared with a text ignoring ASCII case.
+    /// Whether the name is compared with a string ignoring ASCII case.
     pub ignores_case: bool,
 }
 
@@ -32,7 +32,7 @@ impl<'a> Name<'a> {
     }
 }
 
-/// Prints the text, padded to a width where one is given: [`TEXT`](crate::TEXT) prints `text`.
+/// Prints the text, padded to the width, if one is given: [`TEXT`](crate::TEXT) prints `text`.
 impl fmt::Display for Name<'_> {
     ghost output = { λ name. Some name.text.now };
 
@@ -52,14 +52,14 @@ impl fmt::Debug for Name<'_> {
     }
 }
 
-/// Whether a name is equal to the text `s`: ignoring ASCII case where the name does, else
+/// Whether a name is equal to the string `s`: ignoring ASCII case if the name does, else
 /// byte for byte (RFC 7231, 3.1.1.1). `name_eq_str(&TEXT, "Text")` is true; the boundary `ABC` isn't `abc`.
 /// It doesn't allocate.
 #[inline]
 pub fn name_eq_str(name: &Name<'_>, s: &str) -> bool
     ensures { IsTrue result ↔ NameIs name.now.text.now name.now.ignores_case s.now }
 {
-    name.text == s || name.ignores_case && eq_ignoring_case(name.text.as_bytes(), s.as_bytes())
+    name.text == s || name.ignores_case && eq_ignore_ascii_case(name.text.as_bytes(), s.as_bytes())
 }
 
 /// A key that looks a parameter up by its name, with [`Mime::get_param`](crate::Mime::get_param): a `&str`, a
@@ -68,13 +68,13 @@ pub trait ParamKey: Drop {
     /// The names that the key accepts, by text and flag.
     ghost Accepts: { Self → List ℕ → Bool → Type 0 };
 
-    /// Whether the key accepts a parameter's name: `TextKey("P")` accepts `p`. `get_param` gives it the name in
+    /// Whether the key accepts a parameter's name: `TextKey("P")` accepts `p`. `get_param` passes the name in
     /// lowercase, with the flag `true`.
     fn accepts(&self, name: Name<'_>) -> bool
         ensures { IsTrue result ↔ Accepts self.now name.entry.text.now name.entry.ignores_case };
 }
 
-/// The key that accepts the names that are equal to this text, as [`name_eq_str`] compares them:
+/// The key that accepts the names that are equal to this string, as [`name_eq_str`] compares them:
 /// `TextKey("Charset")` accepts `charset` (names ignore case: RFC 7231, 3.1.1.1).
 #[derive(Clone, Copy)]
 pub struct TextKey<'k>(pub &'k str);
@@ -87,8 +87,8 @@ impl ParamKey for TextKey<'_> {
     }
 }
 
-/// A text as a key accepts what [`TextKey`] of it accepts: `"Charset"` accepts `charset`, so that `get_param("charset")` gives
-/// `utf-8` for `text/html; charset=UTF-8` (names ignore case: RFC 7231, 3.1.1.1).
+/// A string as a key accepts what [`TextKey`] of it accepts: `"Charset"` accepts `charset`, so that
+/// `get_param("charset")` returns `utf-8` for `text/html; charset=UTF-8` (names ignore case: RFC 7231, 3.1.1.1).
 impl ParamKey for &str {
     ghost Accepts = { λ key name ignores_case. NameIs name ignores_case key.now };
 

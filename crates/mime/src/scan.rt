@@ -1,6 +1,7 @@
-//! One pass over a text: where its parts are, or why it is refused.
+//! One pass over a string: the positions of its parts, or why it is rejected.
 //!
-//! A function that reads a part returns the byte that ends it, which is read too, or none at the end of the text.
+//! A function that reads a part also reads the byte that ends it, and returns that byte, or `None` at the end of the
+//! string.
 
 ghost use Rattle.std.specs.Prelude.{◌+◌, ◌-◌, ◌<◌, ◌^◌, length};
 ghost use Rattle.mime.specs.Bytes.{is_token_byte, is_quoted_text_byte};
@@ -15,7 +16,7 @@ use crate::bytes::{is_quoted_byte, is_quoted_text_byte, is_space, is_token, is_t
 pub use crate::scan::fault::{FromStrError, ParseError};
 pub(crate) use crate::scan::reader::ByteReader;
 
-/// The parts of an accepted text: their positions, in bytes from 0, and the number of its parameters.
+/// The parts of an accepted string: their positions, in bytes from 0, and the number of its parameters.
 #[derive(Clone, Copy)]
 pub(crate) struct Positions {
     pub(crate) slash: usize,
@@ -27,15 +28,15 @@ pub(crate) struct Positions {
     pub(crate) pair_count: usize,
 }
 
-/// What one pass over a text finds.
+/// What one pass over a string finds.
 #[derive(Clone, Copy)]
 pub(crate) enum Verdict {
     /// It is accepted, and its parts have these positions.
     Accepted(Positions),
     /// It ends too early: this is missing.
     Unfinished(ParseError),
-    /// No media type has this byte here, which is the last one read. The positions are those of the parts of
-    /// the text before it, if that is a media type by itself.
+    /// No media type continues with this byte, the last one read. The positions are those of the parts of the string
+    /// before it, if that is a media type by itself.
     Stopped(u8, Option<Positions>),
 }
 
@@ -109,7 +110,7 @@ fn content(reader: &mut ByteReader<'_>) -> Option<u8>
 }
 
 /// Reads what follows a subtype's first byte. Returns the position of its last plus, if there is one, and the
-/// byte that ends it. `from` is the reader's count at the start of the text.
+/// byte that ends it. `from` is the reader's count at the start of the string.
 #[inline(always)]
 fn subtype(reader: &mut ByteReader<'_>, from: u128) -> (Option<usize>, Option<u8>)
     requires begun { from < reader.old.count }
@@ -126,13 +127,13 @@ fn subtype(reader: &mut ByteReader<'_>, from: u128) -> (Option<usize>, Option<u8
     (if plus == 0 { None } else { Some(plus) }, stop)
 }
 
-/// Reads a parameter list, after its semicolon. `head` has the positions of the parts before it, and no pairs yet.
+/// Reads a parameter list, after its semicolon. `before` has the positions of the parts before it, and no pairs yet.
 #[inline(always)]
-fn parameters(reader: &mut ByteReader<'_>, head: Positions) -> Verdict
-    requires { head.pair_count + length reader.old.left < 2 ^ 64 }
-    ensures { ScansList head reader.old reader.new result }
+fn parameters(reader: &mut ByteReader<'_>, before: Positions) -> Verdict
+    requires { before.pair_count + length reader.old.left < 2 ^ 64 }
+    ensures { ScansList before reader.old reader.new result }
 {
-    let mut positions = head;
+    let mut positions = before;
     loop {
         let Some(first) = spaces(reader) else {
             return Verdict::Accepted(positions);
@@ -169,7 +170,7 @@ fn parameters(reader: &mut ByteReader<'_>, head: Positions) -> Verdict
     }
 }
 
-/// Reads a text to its end, or up to and including the first byte that no media type has there.
+/// Reads a string to its end, or up to and including the first byte that no media type continues with.
 #[inline(always)]
 pub(crate) fn scan(reader: &mut ByteReader<'_>) -> Verdict
     ensures { Scans reader.old reader.new result }

@@ -7,7 +7,7 @@ ghost use Rattle.mime.specs.Refusals.{Explains};
 ghost use Rattle.mime.specs.Items.{items_of, name_seen, name_text, IsLowIf, IsLowItem, IsFirstAccepted};
 ghost use Rattle.mime.specs.Inner.Scanning.{HasPositions};
 ghost use Rattle.mime.specs.Inner.KeptText.{IsKept, media_of, AreLowPairs};
-ghost use Rattle.mime.specs.Inner.StoredText.{bytes_of};
+ghost use Rattle.mime.specs.Inner.KeptBytes.{bytes_of};
 
 mod hashing;
 mod kept;
@@ -58,7 +58,7 @@ impl Model for Mime {
 
     ghost Value = { OwnedMedia };
 
-    ghost use Rattle.mime.specs.Inner.StoredText.{bytes_of, is_fixed};
+    ghost use Rattle.mime.specs.Inner.KeptBytes.{bytes_of, is_fixed};
     ghost use Rattle.mime.specs.Inner.KeptText.{media_of, IsKept};
 
     ghost view = { λ mime. record { media = media_of (bytes_of mime.text) mime.positions; fixed = is_fixed mime.text } };
@@ -75,17 +75,17 @@ impl Mime {
     /// `text/plain; ` as `text/plain`.
     ///
     /// # Errors
-    /// The one fault of a text that isn't a media type: what is missing at its end (`MissingSlash`,
+    /// The one fault of a string that isn't a media type: what is missing at its end (`MissingSlash`,
     /// `MissingSubtype`, `MissingEqual`, `MissingValue` or `MissingQuote`), as `MissingEqual` for `a/b;p`, or
     /// else the position (`InvalidToken`, in bytes, from 0) of the first byte that no media type could have
-    /// there, as 5 for `text/;`. Reporting a fault doesn't allocate. [`ParseError::NoMemory`] comes only for a
-    /// media type, and never for `*/*`.
+    /// there, as 5 for `text/;`. Reporting a fault doesn't allocate. [`ParseError::NoMemory`] is returned only
+    /// for a media type, and never for `*/*`.
     pub fn from_str(alloc: Global, s: &str) -> Result<Mime, FromStrError>
-        // What is read has the value that the text is read as.
+        // The result has the value that the string is read as.
         ensures read { IfOk result (λ mime. Reads s.now mime.media) }
-        // An error is the fault of a refused text, or says that memory ran out for an accepted one.
+        // An error is the fault of a rejected string, or says that memory ran out for an accepted one.
         ensures explained { IfErr result (λ error. Explains s.now error) }
-        // So an accepted text is read, or memory ran out.
+        // So an accepted string is read, or memory ran out.
         ensures accepted { IsAccepted s.now → IfErr result (λ error. error ≡ ParseError.NoMemory) }
         // `*/*` is always read, and fixed.
         ensures star { s.now ≡ codes "*/*" → IfOk result (λ mime. mime.fixed ≡ true) × IsOk result }
@@ -101,7 +101,7 @@ impl Mime {
         }
     }
 
-    /// The media type of an accepted text, whose parts have these positions. The only error is that memory ran out.
+    /// The media type of an accepted string, whose parts have these positions. The only error is that memory ran out.
     #[inline(always)]
     pub(crate) fn of_accepted(
         alloc: Global,
@@ -128,7 +128,7 @@ impl Mime {
         }
     }
 
-    /// The media type of a static text already in kept form, with the positions of its parts.
+    /// The media type of a static string already in kept form, with the positions of its parts.
     #[inline(always)]
     pub(crate) fn fixed(text: &'static str, positions: Positions) -> Mime
         requires { IsKept text.now positions }
@@ -170,7 +170,7 @@ impl Mime {
     }
 
     /// The suffix, after the subtype's last `+` that isn't its first byte, in lowercase:
-    /// `xml` in `image/svg+xml`, the empty text in `a/b+`, and none in `a/+xml` (RFC 6838, 4.2.8).
+    /// `xml` in `image/svg+xml`, the empty string in `a/b+`, and `None` in `a/+xml` (RFC 6838, 4.2.8).
     pub fn suffix(&self) -> Option<Name<'_>>
         ensures text { option_map name_text result ≡ suffix_of self.now.media }
         ensures flag { IfSome result (λ name. name.ignores_case ≡ true) }
@@ -195,9 +195,9 @@ impl Mime {
         }
     }
 
-    /// The kept text, which is what is printed. Where there is a parameter, it is the whole text that was
+    /// The kept text, which is what is printed. If there is a parameter, it is the whole string that was
     /// read, with type, subtype, parameter names and charset in lowercase; else it is the essence.
-    /// `a/b;P=X; ` gives `a/b;p=X; `. Reading it gives an equal value with the same kept text.
+    /// That of `a/b;P=X; ` is `a/b;p=X; `. It is read as an equal value with the same kept text.
     pub fn as_str(&self) -> &str
         ensures text { result.now ≡ self.now.media.kept }
         ensures reads { Reads result.now self.now.media }
@@ -205,7 +205,7 @@ impl Mime {
         self.text.as_str()
     }
 
-    /// The parameters, in the text's order and with duplicates, as pairs of a name and a value
+    /// The parameters, in order of appearance and with duplicates, as pairs of a name and a value
     /// without its quotes (RFC 7231, 3.1.1.1): `p` with `1` and `p` with `;` for `a/b;p=1;P=";"`.
     /// Backslashes stay: the value of `a/b;p="\"x"` is `\"x`.
     pub fn params(&self) -> Params<'_>
@@ -215,14 +215,14 @@ impl Mime {
         Params::new(self.pairs())
     }
 
-    /// The parameters as pairs of a name and a value, both texts.
+    /// The parameters as pairs of a name and a value, both strings.
     #[inline(always)]
     pub(crate) fn pairs(&self) -> Pairs<'_>
         ensures pairs { result ≡ self.now.media.pairs }
         ensures low { AreLowPairs result }
     {
         let text = self.text.as_str();
-        Pairs::after(text, self.positions.semicolon, self.positions.pair_count)
+        Pairs::of_text(text, self.positions.semicolon, self.positions.pair_count)
     }
 
     /// The number of parameters.
@@ -233,7 +233,7 @@ impl Mime {
         self.positions.pair_count
     }
 
-    /// The value of the first parameter whose name the key accepts, or none if it accepts none:
+    /// The value of the first parameter whose name the key accepts, or `None` if it accepts no name:
     /// `TextKey("P")` finds `1` in `a/b;p=1;P=2`, and `CHARSET` finds `utf-8` in
     /// `text/html; Charset="UTF-8"` (RFC 7231, 3.1.1.1). The value is without its quotes. Backslashes stay: that of
     /// `a/b;p="\"x"` is `\"x`. It doesn't allocate.

@@ -24,7 +24,7 @@ svg_written : written (strings (texts_of svg)) (codes "-------------------------
 unfolding svg
 svg_written = refl
 
--- what is found beside them, by each field, and of an invalid byte
+-- what is found besides them, by each field, and of an invalid byte
 svg_found : found_of svg ≡ record { length = 36; params = 1; printed = 17; slash = 5; subtype_end = 9; pos = 0; byte = 0 }
 unfolding svg
 svg_found = refl
@@ -102,7 +102,7 @@ module _ (utf8 : IsUtf8 (codes "A/B")) where
 ab_needs : NeedsMemory (codes "A/B")
 ab_needs = record { before = []; piece = codes "A/B"; media = ab; after = []; rest = []; cut = whole_ab; not_star = λ is. omega (arith, ap (λ text. get_or text 0 0) is) }
 
-empty_needs_none : ¬ (NeedsMemory [])
+pub empty_needs_none : ¬ (NeedsMemory [])
 empty_needs_none needs =
     let none = (cut_unique [] [] [] empty-cut (needs.before ++ good needs.piece needs.media ∷ needs.after) needs.rest needs.cut).0 in
     absurd (omega (arith, ap length none, length-append needs.before (good needs.piece needs.media ∷ needs.after)))

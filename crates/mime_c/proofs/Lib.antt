@@ -3,3 +3,4 @@ pub mod Room
 pub mod Writing
 pub mod OneOutcome
 mod AnswerFacts
+mod OutcomeFacts

@@ -30,7 +30,7 @@ utf8_or_not text =
     ⊎_elim (λ is. inl (IsUtf8-from_is_utf8 text is)) (λ isnt. inr (λ utf8. true≢false (sym (is_utf8-from_IsUtf8 text utf8) ∙ isnt)))
     (cases_Bool (is_utf8 text))
 
--- want of memory is no fault,
+-- want of memory isn't a fault,
 is_fault : (text : List ℕ) (fault : ParseError) → Explains text fault → number_of fault ≢ MIME_NO_MEMORY → IsFault text fault
 is_fault text NoMemory why some = absurd (some refl)
 is_fault text fault why some = why

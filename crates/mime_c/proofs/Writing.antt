@@ -21,7 +21,7 @@ both_written now mid new one other at next end first second = record {
   adds = λ old prefix wrote. subst (HasWritten old new end) (append_assoc prefix one other) (second.adds old _ (first.adds old prefix wrote));
 }
 
--- a text that there is room for behind what is written fits
+-- a text that there is room for after what is written fits
 pub fits : {old now prefix : List ℕ} {at : ℕ} → HasWritten old now at prefix → (text more : List ℕ)
     → length (prefix ++ (string_of text ++ more)) ≤ length old → at + length text < length now
 fits {old} {now} {prefix} wrote text more room = omega (arith, wrote.end, ap length wrote.there, length-append {A = ℕ}, length-drop {A = ℕ})

@@ -21,7 +21,7 @@ number_of MissingQuote = MIME_MISSING_QUOTE
 number_of (InvalidToken pos byte) = MIME_INVALID_BYTE
 number_of NoMemory = MIME_NO_MEMORY
 
--- what is found of an invalid byte; nothing else is found of a text that is refused
+-- what is found of an invalid byte; nothing else is found of a rejected text
 abbrev pub found_at : ℕ → ℕ → MimeFound
 found_at pos byte = record { length = 0; params = 0; printed = 0; slash = 0; subtype_end = 0; pos = pos; byte = byte }
 
@@ -45,7 +45,7 @@ found_of media = record {
   byte = 0;
 }
 
--- why a text is read as no media type: the answer, and what is found
+-- why a text isn't read as a media type: the answer, and what is found
 pub data Fails (text : List ℕ) : ℕ → MimeFound → Type 0 where
   is_refused : (fault : ParseError) → IsUtf8 text → Explains text fault → Fails text (number_of fault) (found_of_fault fault)
   is_not_text : ¬ (IsUtf8 text) → Fails text MIME_NOT_UTF8 nothing
@@ -78,7 +78,7 @@ pub data ListsTo (text old : List ℕ) : ℕ → List ℕ → ℕ → Type 0 whe
   is_not_text : 2 * length text ≤ length old → ¬ (IsUtf8 text) → ListsTo text old MIME_NOT_UTF8 old 0
   has_no_room : length old < 2 * length text → ListsTo text old MIME_NO_ROOM old 0
 
--- `mime_is` of two texts: the answer, and 1 if both are read as equal media types, else 0
+-- `mime_equal` of two texts: the answer, and 1 if both are read as equal media types, else 0
 pub data Compares (one other : List ℕ) : ℕ → ℕ → Type 0 where
   are_read : (first second : MediaType) (equal : Bool) → IsUtf8 one → IsUtf8 other → Reads one first → Reads other second
       → IsTrue equal ↔ Same first second

@@ -18,6 +18,6 @@ ReadsToOne = (text old : List ℕ) → HasOne (λ (answer : ℕ) (held : List �
 abbrev pub ListsToOne : Type 0
 ListsToOne = (text old : List ℕ) → HasOne (λ (answer : ℕ) (held : List ℕ × ℕ). ListsTo text old answer held.0 held.1)
 
--- Unless memory runs out, `mime_is` of two texts has exactly one outcome.
+-- Unless memory runs out, `mime_equal` of two texts has exactly one outcome.
 abbrev pub ComparesAsOne : Type 0
 ComparesAsOne = (one other : List ℕ) → HasOne (Compares one other)

@@ -14,7 +14,7 @@ pub fn lists_to_one()
     ensures { ListsToOne }
 {}
 
-/// Unless memory runs out, `mime_is` of two texts has exactly one outcome.
+/// Unless memory runs out, `mime_equal` of two texts has exactly one outcome.
 #[tactic(auto, using(crate::proofs::OneOutcome::compares_as_one))]
 pub fn compares_as_one()
     ensures { ComparesAsOne }

@@ -1,7 +1,7 @@
 //! Media types for programs that aren't in Rattle: the calls that include/mime.h declares.
 //!
-//! No call keeps a pointer or a state. Each returns a number, its answer, and writes strings, with the byte 0 after each, into
-//! the caller's buffer. The pages `Strings` and `Answers` of `Rattle.mime_c.specs` say which.
+//! No call keeps a pointer or a state. Each returns a number, its answer, and writes strings, with the byte 0 after
+//! each, into the caller's buffer. The pages `Strings` and `Answers` of `Rattle.mime_c.specs` say which.
 #![tactic(auto)]
 
 ghost use Rattle.std.specs.Prelude.{◌≡◌, ◌+◌, ◌<◌, ◌≤◌, ◌∷◌, length, IfOk, IfErr};
@@ -43,27 +43,27 @@ const MIME_GOOD: u8 = b'+';
 
 const MIME_BAD: u8 = b'-';
 
-/// What `mime_read` finds besides the strings: numbers of bytes, and positions in bytes from 0.
+/// What `mime_read` finds besides the strings, in bytes, positions from 0. What its answer doesn't set is 0.
 #[repr(C)]
 #[derive(Clone, Copy)]
 pub struct MimeFound {
-    /// How many bytes were written.
+    /// The number of bytes written.
     pub length: usize,
-    /// How many parameters there are.
+    /// The number of parameters.
     pub params: usize,
-    /// The position in the buffer of the last string, which the media type is printed as.
+    /// The position in the buffer of the last string, the media type as it is printed.
     pub printed: usize,
     /// The position of the slash in the essence.
     pub slash: usize,
-    /// The position in the essence at which the subtype ends: that of the plus of a suffix, or of the 0 after the essence.
+    /// The end of the subtype in the essence: the position of a suffix's plus, or of the 0 after the essence.
     pub subtype_end: usize,
-    /// The position of the invalid byte in the text.
+    /// The position in the text of the invalid byte.
     pub pos: usize,
     /// The invalid byte.
     pub byte: u8,
 }
 
-/// What is found where there is nothing to say.
+/// What is found if there is nothing to say.
 const NOTHING: MimeFound = MimeFound {
     length: 0,
     params: 0,
@@ -74,7 +74,7 @@ const NOTHING: MimeFound = MimeFound {
     byte: 0,
 };
 
-/// Why a text isn't read as a media type: the answer of a call, and what is found.
+/// Why a text isn't read: the answer of a call, and what is found.
 #[derive(Clone, Copy)]
 struct Failure {
     answer: u32,
@@ -96,7 +96,7 @@ fn number_of(fault: &ParseError) -> u32
     }
 }
 
-/// What is found of a fault.
+/// What is found of a fault: the invalid byte and its position, if it is one.
 fn found_of_fault(fault: &ParseError) -> MimeFound
     ensures { result ≡ found_of_fault fault.now }
 {
@@ -180,10 +180,10 @@ fn put_parts(out: &mut [u8], mime: &Mime) -> MimeFound
     }
 }
 
-/// Reads a media type from the whole of `text` (RFC 7231, 3.1.1.1), and writes its parts and the text that it is printed
-/// as to `out`, which needs `2 * text.len() + 2` bytes. It returns `MIME_OK`, or why it writes nothing: include/mime.h.
+/// Reads the whole of `text` as one media type (RFC 7231, 3.1.1.1), and writes its parts and how it is printed to
+/// `out`, of at least `2 * text.len() + 2` bytes. It returns `MIME_OK`, or why it wrote nothing: mime.h.
 #[unsafe(no_mangle)]
-#[tactic(auto, using(crate::specs::Answers::has_no_room, crate::specs::Answers::fails, crate::specs::Answers::is_read, crate::proofs::NoZero::texts_come_back, crate::proofs::Room::texts_fit))]
+#[tactic(auto, using(crate::proofs::Room::texts_fit))]
 pub extern "C" fn mime_read(
     alloc: Global,
     text: &[u8],
@@ -208,7 +208,7 @@ pub extern "C" fn mime_read(
     }
 }
 
-/// Writes an item of a list at a position, and returns the position after it. `mark` says whether it is a media type.
+/// Writes an item of a list at a position, and returns the position after it. `mark` is its first byte.
 #[tactic(auto, using(crate::proofs::Writing::both_written))]
 fn put_item(out: &mut [u8], at: usize, mark: u8, text: &str) -> usize
     requires { at + length (mark ∷ text.now) < length out.old }
@@ -218,8 +218,8 @@ fn put_item(out: &mut [u8], at: usize, mark: u8, text: &str) -> usize
     put(out, next, text)
 }
 
-/// Takes the media types one by one out of `text` (RFC 7231, 5.3.2), and writes a string for each, and for each bad piece,
-/// to `out`, which needs `2 * text.len()` bytes. It returns `MIME_OK`, or why not: include/mime.h.
+/// Takes the media types out of `text`, such as an Accept header (RFC 7231, 5.3.2). It writes a string for each, and for
+/// each bad piece, to `out`, of at least `2 * text.len()` bytes, and returns `MIME_OK`, or why it wrote no list: mime.h.
 #[unsafe(no_mangle)]
 #[tactic(auto, using(crate::specs::Answers::has_no_room, crate::specs::Answers::is_not_text))]
 pub extern "C" fn mime_list(alloc: Global, text: &[u8], out: &mut [u8], length: &mut usize) -> u32
@@ -244,11 +244,11 @@ pub extern "C" fn mime_list(alloc: Global, text: &[u8], out: &mut [u8], length: 
     MIME_OK
 }
 
-/// Sets `equal` to 1 if two texts are read as equal media types (RFC 7231, 3.1.1.1), else to 0. It returns `MIME_OK`, or why a text isn't
-/// read: include/mime.h.
+/// Sets `equal` to 1 if two texts are read as equal media types (RFC 7231, 3.1.1.1), else to 0. It returns `MIME_OK`,
+/// or why a text isn't read. `Text/Plain;charset="UTF-8"` and `text/plain; charset=utf-8` are equal.
 #[unsafe(no_mangle)]
 #[tactic(auto, using(crate::specs::Answers::first_fails, crate::specs::Answers::second_fails))]
-pub extern "C" fn mime_is(alloc: Global, one: &[u8], other: &[u8], equal: &mut u8) -> u32
+pub extern "C" fn mime_equal(alloc: Global, one: &[u8], other: &[u8], equal: &mut u8) -> u32
     ensures { Compares one.now other.now result equal.new }
 {
     *equal = 0;

@@ -6,8 +6,8 @@ ghost use Rattle.mime.specs.Values.{MediaType, Reads, IsAccepted, IsRefused};
 use mime::{Mime, ParseError};
 use std::alloc::Global;
 
-/// The status that answers a `Content-Type` with this fault: 400 where it is no media type
-/// (RFC 7231, 6.5.1), and 503 where there was no memory to read it (RFC 7231, 6.6.4).
+/// The status that answers a `Content-Type` with this fault: 400 if it isn't a media type
+/// (RFC 9110, 15.5.1), and 503 if there was no memory to read it (RFC 9110, 15.6.4).
 pub fn status_of(fault: &ParseError) -> u16
     ensures malformed { (result ≡ 400) ↔ (fault.now ≢ ParseError.NoMemory) }
     ensures memory { (result ≡ 503) ↔ (fault.now ≡ ParseError.NoMemory) }
@@ -23,13 +23,13 @@ pub fn status_of(fault: &ParseError) -> u16
     }
 }
 
-/// The status that refuses a request by its `Content-Type`, or none where that is `application/json`,
-/// whatever its parameters are: 415 for any other media type (RFC 7231, 6.5.13).
+/// The status that refuses a request by its `Content-Type`, or `None` if that is `application/json`,
+/// whatever its parameters are: 415 for any other media type (RFC 9110, 15.5.16).
 pub fn refusal(alloc: Global, content_type: &str) -> Option<u16>
     // JSON alone is taken.
     ensures taken { result ≡ None
         → (value : MediaType) × Reads content_type.now value × (value.essence ≡ codes "application/json") }
-    // 400 is answered exactly for what is no media type,
+    // 400 is answered exactly for what isn't a media type,
     ensures malformed { (result ≡ Some 400) ↔ IsRefused content_type.now }
     // 415 only for another media type, and 503 only for a media type.
     ensures unsupported { result ≡ Some 415

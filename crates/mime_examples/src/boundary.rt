@@ -35,13 +35,13 @@ pub fn is_boundary(bytes: &[u8]) -> bool
 }
 
 /// The boundary between the parts of a form's body (RFC 7578, 4.1), byte for byte as it stands in the
-/// body; none where the media type isn't a form's, or its first `boundary` is missing or none.
+/// body; `None` if the media type isn't a form's, or its first `boundary` is missing or invalid.
 ///
 /// # Errors
-/// `AllocError` where memory runs out.
+/// `AllocError` if memory runs out.
 pub fn form_boundary(alloc: Global, mime: &Mime) -> Result<Option<Vec<u8>>, AllocError>
-    // It is what the first value under `boundary`, in any case, means; a form has none only where there is no such value, or it
-    // means no boundary.
+    // It is what the first value under `boundary`, in any case, means; a form has none only if there is no such value, or what it
+    // means isn't a boundary.
     ensures { IfOk result (λ answer. (found : Option (List ℕ × Bool))
         × IsFirstAccepted (λ name flag. NameIs name flag (codes "boundary")) (items_of mime.now.media.pairs) found
         × MatchOption answer

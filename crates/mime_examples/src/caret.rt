@@ -1,13 +1,13 @@
-//! A caret under the refused character.
+//! A caret under the rejected character.
 
 use mime::{FromStrError, ParseError};
 use std::alloc::{AllocError, Global};
 
-/// A line with a caret under the character at which a refused text goes wrong, or after its end
-/// where something is missing or memory ran out.
+/// A line with a caret under the character at which a rejected string goes wrong, or after its end
+/// if something is missing or memory ran out.
 ///
 /// # Errors
-/// `AllocError` where memory runs out.
+/// `AllocError` if memory runs out.
 pub fn caret_line(alloc: Global, text: &str, error: &FromStrError) -> Result<String, AllocError> {
     let mut line = String::new(alloc);
     for (at, _) in text.char_indices() {

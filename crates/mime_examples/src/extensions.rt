@@ -7,7 +7,7 @@ use std::collections::HashMap;
 /// The extensions of files by what they hold, in a map keyed by media type.
 ///
 /// # Errors
-/// `AllocError` where memory runs out.
+/// `AllocError` if memory runs out.
 pub fn extensions(alloc: Global) -> Result<HashMap<Mime, &'static str>, AllocError> {
     let mut extensions = HashMap::new(alloc);
     extensions.insert(TEXT_HTML_UTF_8.mime(), "html")?;

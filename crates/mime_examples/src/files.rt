@@ -20,7 +20,7 @@ static TYPES: [(&str, Atom); 8] = [
 ];
 
 /// The media type of a file by what follows the last dot of its name, in any case;
-/// `application/octet-stream` where the table doesn't have it.
+/// `application/octet-stream` if the table doesn't have it.
 pub fn type_of_file(name: &str) -> Atom {
     if let Some((_, extension)) = name.rsplit_once('.') {
         for (known, atom) in TYPES {

@@ -16,10 +16,10 @@ fn is_html(mime: &Mime) -> bool
     essence == "text/html" || essence == "text/*" || essence == "*/*"
 }
 
-/// Whether some entry of an `Accept` header names HTML (RFC 7231, 5.3.2), whatever its weight is.
+/// Whether some entry of an `Accept` header names HTML (RFC 9110, 12.5.1), whatever its weight is.
 ///
 /// # Errors
-/// `AllocError` where memory runs out.
+/// `AllocError` if memory runs out.
 pub fn names_html(alloc: Global, accept: &str) -> Result<bool, AllocError>
     // It says whether some item of the header's cut does.
     ensures { IfOk result (λ yes. (items : List CutItem) × (rest : List ℕ)

@@ -1,7 +1,7 @@
 //! What callers do with media types: a module for each task, which docs/RECIPES.md lists. README.md and crates/mime/CALLING.md quote
 //! some of them whole.
-//! The program tries them: each row of standard input names an example and has its texts, each with a bar behind it, and is
-//! printed with what the example answers, again with a bar behind each answer.
+//! The program tries them: each row of standard input names an example and has its texts, each with a bar after it, and is
+//! printed with what the example answers, again with a bar after each answer.
 #![tactic(auto)]
 
 mod accept;
@@ -13,6 +13,7 @@ mod callers;
 mod caret;
 mod document;
 mod extensions;
+mod field;
 mod files;
 mod handler;
 mod header;
@@ -24,7 +25,6 @@ mod parts;
 mod plain;
 mod range;
 mod reader;
-mod semicolons;
 mod unescape;
 mod utf8;
 mod weights;
@@ -55,7 +55,7 @@ fn main(rt: HostRuntime) -> io::Result<()> {
     Ok(())
 }
 
-/// Prints an answer with a bar behind it, or what stands for none.
+/// Prints an answer, or what stands for `None`, with a bar after it.
 fn say<D: Display + Drop>(
     out: &mut String,
     answer: Option<D>,
@@ -96,13 +96,12 @@ fn try_accept(
     other: &str,
 ) -> Result<(), AllocError> {
     match example {
-        "best" => try_best(alloc, out, text),
+        "best" => try_best(alloc, out, Some(text.as_bytes())),
+        "best without a header" => try_best(alloc, out, None),
         "given" => try_given(alloc, out, text, other),
-        "entries_of" => try_entries_of(alloc, out, text),
+        "entries_of" => try_entries_of(alloc, out, text.as_bytes()),
         "names_html" => write!(out, "{}|", html::names_html(alloc, text)?),
-        "tightened" => write!(out, "{}|", semicolons::tightened(alloc, text)?),
-        "thousandths" => say(out, best::thousandths(text), "none"),
-        "weights" => try_weights(alloc, out, text),
+        "thousandths" => write!(out, "{}|", weights::thousandths(text)),
         _ => try_text(alloc, out, example, text, other),
     }
 }
@@ -142,6 +141,7 @@ fn try_mime(
         "is_json" => write!(out, "{}|", json::is_json(mime)),
         "is_plain" => write!(out, "{}|", plain::is_plain(mime)),
         "quality_of" => write!(out, "{}|", key::quality_of(mime)),
+        "weight_of" => write!(out, "{}|", weights::weight_of(mime)),
         _ => try_with_memory(alloc, out, example, mime, other),
     }
 }
@@ -164,7 +164,7 @@ fn try_with_memory(
     }
 }
 
-/// Prints a media type as a header holds it, or that none was made.
+/// Prints a media type as a header holds it, or that there is none.
 fn say_made(out: &mut String, made: Option<Mime>) -> Result<(), AllocError> {
     match made {
         Some(mime) => write!(out, "{}|", parameter::header_text(&mime)),
@@ -181,16 +181,16 @@ fn try_bare_of(alloc: Global, out: &mut String, mime: &Mime) -> Result<(), Alloc
 }
 
 /// Prints the position of the best of three offers.
-fn try_best(alloc: Global, out: &mut String, accept: &str) -> Result<(), AllocError> {
+fn try_best(alloc: Global, out: &mut String, accept: Option<&[u8]>) -> Result<(), AllocError> {
     let offers = [TEXT_HTML.mime(), TEXT_PLAIN.mime(), APPLICATION_JSON.mime()];
     say(out, best::best(alloc, accept, &offers)?, "none")
 }
 
 /// Prints what a header gives a media type, in thousandths.
 fn try_given(alloc: Global, out: &mut String, accept: &str, offer: &str) -> Result<(), AllocError> {
-    let ranges = accept::entries_of(alloc, accept)?;
+    let ranges = accept::entries_of(alloc, accept.as_bytes())?.good;
     match Mime::from_str(alloc, offer) {
-        Ok(mime) => write!(out, "{}|", best::given(&ranges.good, &mime)),
+        Ok(mime) => write!(out, "{}|", best::given(&ranges, &mime)),
         Err(_) => write!(out, "not read|"),
     }
 }
@@ -210,14 +210,14 @@ fn try_covers(alloc: Global, out: &mut String, range: &Mime, text: &str) -> Resu
 }
 
 /// Prints the good entries, and then the bad ones.
-fn try_entries_of(alloc: Global, out: &mut String, accept: &str) -> Result<(), AllocError> {
-    let entries = accept::entries_of(alloc, accept)?;
+fn try_entries_of(alloc: Global, out: &mut String, list: &[u8]) -> Result<(), AllocError> {
+    let entries = accept::entries_of(alloc, list)?;
     for mime in &entries.good {
         write!(out, "{mime}|")?;
     }
     write!(out, "bad:|")?;
-    for piece in &entries.bad {
-        write!(out, "{piece}|")?;
+    for entry in &entries.bad {
+        write!(out, "{}|", str::from_utf8(entry).unwrap_or("not text"))?;
     }
     Ok(())
 }
@@ -242,6 +242,7 @@ fn try_header_value(alloc: Global, out: &mut String, value: &[u8]) -> Result<(),
         Ok(mime) => write!(out, "{mime}|"),
         Err(HeaderError::NotText) => write!(out, "not text|"),
         Err(HeaderError::NotRead(_)) => write!(out, "not read|"),
+        Err(HeaderError::NoMemory) => write!(out, "no memory|"),
     }
 }
 
@@ -298,12 +299,4 @@ fn try_unescape(
     unescape::unescape(value.text, &mut buffer)?;
     unescape::unescape(other, &mut buffer)?;
     write!(out, "{}|", str::from_utf8(&buffer).unwrap_or("not text"))
-}
-
-/// Prints the essence and the weight of each entry.
-fn try_weights(alloc: Global, out: &mut String, accept: &str) -> Result<(), AllocError> {
-    for (mime, weight) in &weights::weights(alloc, accept)? {
-        write!(out, "{}|{weight}|", mime.essence_str())?;
-    }
-    Ok(())
 }

@@ -1,4 +1,4 @@
-//! A charset or a form's boundary, written as a parameter, and the text that a header then holds.
+//! A charset or a form's boundary, written as a parameter, and the string that a header then holds.
 
 ghost use Rattle.std.specs.Prelude.{◌≡◌, ◌↔◌, IsTrue, IfOk, MatchOption, codes};
 ghost use Rattle.mime.specs.Grammar.{IsToken, IsContent};
@@ -30,7 +30,7 @@ fn put_on(alloc: Global, mime: &Mime, name: &str, content: &str) -> Result<Mime,
     }
 }
 
-/// Whether a text is a token.
+/// Whether a string is a token.
 fn is_token_text(text: &str) -> bool
     ensures { IsTrue result ↔ IsToken text.now }
 {
@@ -45,11 +45,11 @@ fn is_token_text(text: &str) -> bool
     true
 }
 
-/// A media type with this charset in place of its parameters; none exactly where the charset is no
-/// token (RFC 7231, 3.1.1.2).
+/// A media type with this charset in place of its parameters; `None` exactly if the charset isn't
+/// a token (RFC 9110, 8.3.2).
 ///
 /// # Errors
-/// `AllocError` where memory runs out.
+/// `AllocError` if memory runs out.
 pub fn with_charset(alloc: Global, mime: &Mime, charset: &str) -> Result<Option<Mime>, AllocError>
     ensures { IfOk result (λ answer. MatchOption answer (¬ (IsToken charset.now))
         (λ made. made.media ≡ with_parameter mime.now.media (codes "charset") (lowered charset.now))) }
@@ -61,10 +61,10 @@ pub fn with_charset(alloc: Global, mime: &Mime, charset: &str) -> Result<Option<
     Ok(Some(made))
 }
 
-/// A form's media type with this boundary; none exactly where these bytes are no boundary.
+/// A form's media type with this boundary; `None` exactly if these bytes aren't a boundary.
 ///
 /// # Errors
-/// `AllocError` where memory runs out.
+/// `AllocError` if memory runs out.
 pub fn form_with_boundary(alloc: Global, boundary: &str) -> Result<Option<Mime>, AllocError>
     ensures { IfOk result (λ answer. MatchOption answer (¬ (IsBoundary boundary.now))
         (λ made. (form : MediaType) × Reads (codes "multipart/form-data") form
@@ -77,7 +77,7 @@ pub fn form_with_boundary(alloc: Global, boundary: &str) -> Result<Option<Mime>,
     Ok(Some(made))
 }
 
-/// The text of a media type, as a header holds it (RFC 7231, 3.1.1.5).
+/// A media type as a header holds it (RFC 9110, 8.3).
 pub fn header_text(mime: &Mime) -> &str
     ensures text { result.now ≡ mime.now.media.kept }
     // It has no line feed, no carriage return and no zero, so nothing can be put into the response by it.

@@ -7,7 +7,7 @@ use std::fmt::Write;
 /// The type, the subtype, the suffix and the parameters of a media type, a line each.
 ///
 /// # Errors
-/// `AllocError` where memory runs out.
+/// `AllocError` if memory runs out.
 pub fn described(alloc: Global, mime: &Mime) -> Result<String, AllocError> {
     let mut lines = String::new(alloc);
     writeln!(lines, "type {}", mime.type_())?;

@@ -6,11 +6,11 @@ ghost use Rattle.mime_examples.specs.Unescaped.{unescaped};
 
 use std::alloc::AllocError;
 
-/// Adds what a value means to a buffer: each quoted pair as the byte after its backslash (RFC 7230,
-/// 3.2.6). A plain value has no backslash, and means itself.
+/// Adds what a value means to a buffer: each quoted pair as the byte after its backslash (RFC 9110,
+/// 5.6.4). A plain value has no backslash, and means itself.
 ///
 /// # Errors
-/// `AllocError` where memory runs out. Part of what the value means may have been added by then.
+/// `AllocError` if memory runs out. Part of what the value means may have been added by then.
 pub fn unescape(value: &str, buffer: &mut Vec<u8>) -> Result<(), AllocError>
     ensures { OnOk result (vec_items buffer.new ≡ vec_items buffer.old ++ unescaped value.now) }
 {

@@ -1,39 +1,54 @@
-//! The `q` of every entry, as text.
+//! The weight of an entry.
 
-ghost use Rattle.std.specs.Prelude.{◌≡◌, ℕ, List, Bool, Option, codes, option_map, unwrap_or};
-ghost use Rattle.mime.specs.Names.{NameIs};
-ghost use Rattle.mime.specs.Items.{items_of, IsFirstAccepted};
+ghost use Rattle.std.specs.Prelude.{◌≡◌, codes};
+ghost use Rattle.mime.specs.Items.{items_of};
+ghost use Rattle.mime_examples.specs.Weight.{last_weight, decimals, thousandths_of};
 
-use mime::{Bad, Mime, MimeIter};
-use std::alloc::{AllocError, Global};
+use mime::Mime;
 
-/// The weight of an entry as it is written, or `1` where it has none (RFC 7231, 5.3.1).
+/// The weight of an entry as it is written, or `1` if it has none (RFC 9110, 12.4.2). Of two the last counts, as in
+/// Werkzeug and HTTP::Negotiate.
 pub fn weight_of(mime: &Mime) -> &str
-    ensures { (found : Option (List ℕ × Bool))
-        × IsFirstAccepted (λ name flag. NameIs name flag (codes "q")) (items_of mime.now.media.pairs) found
-        × (result.now ≡ unwrap_or (option_map (λ value. value.0) found) (codes "1")) }
+    ensures { result.now ≡ last_weight (codes "1") (items_of mime.now.media.pairs) }
 {
-    match mime.get_param("q") {
-        Some(weight) => weight.as_str(),
-        None => "1",
-    }
-}
-
-/// Every good entry of an `Accept` header with its weight.
-///
-/// # Errors
-/// `AllocError` where memory runs out.
-pub fn weights(alloc: Global, accept: &str) -> Result<Vec<(Mime, String)>, AllocError> {
-    let mut weights = Vec::new(alloc);
-    for item in MimeIter::new(alloc, accept) {
-        match item {
-            Ok(mime) => {
-                let weight = String::from_str(alloc, weight_of(&mime))?;
-                weights.push((mime, weight))?;
-            }
-            Err(Bad::Piece(_)) => {}
-            Err(Bad::NoMemory) => return Err(AllocError),
+    let mut weight = "1";
+    for (name, value) in mime.params() {
+        if name.text == "q" {
+            weight = value.text;
         }
     }
-    Ok(weights)
+    weight
+}
+
+/// What the digits after a dot are worth in thousandths, as 500 for `5`.
+fn decimals_of(bytes: &[u8]) -> u16
+    ensures { result ≡ decimals 100 bytes.now }
+{
+    let mut unit = 100;
+    let mut sum = 0;
+    for &byte in bytes {
+        if !byte.is_ascii_digit() {
+            return sum;
+        }
+        sum += unit * u16::from(byte - b'0');
+        unit /= 10;
+    }
+    sum
+}
+
+/// A weight in thousandths, as 500 for `0.5`. A string that is no weight counts as the number that it begins with, at most 1, and as 0
+/// without one: `.2` is 200, `2` is 1000 and `high` is 0, as in most libraries.
+pub fn thousandths(weight: &str) -> u16
+    ensures { result ≡ thousandths_of weight.now }
+{
+    let bytes = weight.as_bytes();
+    for (at, byte) in bytes.iter().enumerate() {
+        match byte {
+            b'0' => {}
+            b'1'..=b'9' => return 1000,
+            b'.' => return decimals_of(&bytes[at + 1..]),
+            _ => return 0,
+        }
+    }
+    0
 }

@@ -97,7 +97,7 @@ bare_first (inl (inr (a, inr (slash, inl less)))) = absurd (omega (arith, less))
 bare_first (inl (inr (a, inr (slash, inr rest)))) = rest.1
 bare_first (inr rest) = rest.1
 
--- an answer is the order of two values exactly where it names the one of the three that holds
+-- an answer is the order of two values exactly if it names the one of the three that holds
 orders : IsOrderOf plain_x plain_y Less × IsOrderOf quoted_x plain_x Equal × IsOrderOf plain_y plain_x Greater
 orders = (values_before.2, (refl, refl), values_before.2)
 
@@ -132,7 +132,7 @@ texts_of_values = (
   record { read = quoted_x; reads = reads_quoted; same = (refl, refl); bare = λ none. absurd cc },
 )
 
--- a text with a semicolon isn't a value without parameters, though it is read as one
+-- a text with a semicolon isn't a value without parameters, although it is read as one
 semicolon_counts : ¬ (TextIs plain_value (codes "a/b;"))
 semicolon_counts is = false≢true (is.bare refl)
 
@@ -148,7 +148,7 @@ parameter_counts is =
 differ_at_end : FirstDifference (codes "a/b") (codes "A/c") 2
 differ_at_end = record { within = omega arith; within_other = omega arith; equal_before = refl; differ = λ is. absurd (omega (arith, is)) }
 
--- case alone is no difference
+-- a difference of case alone is none
 case_is_none : ¬ (FirstDifference (codes "a/b") (codes "A/c") 0)
 case_is_none is = is.differ refl
 
@@ -159,7 +159,7 @@ end_is_none is = absurd (omega (arith, is.within))
 later_is_none : ¬ (FirstDifference (codes "ab") (codes "cd") 1)
 later_is_none is = differ (codes "a") (codes "c") refl is.equal_before
 
--- the bytes that tell nothing are a space, a tab and a quote
+-- the bytes that don't reach the value are a space, a tab and a quote
 reaching_bytes : map reaches_value (codes "b;= \t\"") ≡ true ∷ true ∷ true ∷ false ∷ false ∷ false ∷ []
 reaching_bytes = refl
 

@@ -49,7 +49,7 @@ pub e_is_refused : IsRefused (codes "e")
 unfolding is_token_byte
 e_is_refused = refused-from_walk (codes "e") (in_type (codes "e")) refl refl
 
--- though it may still become a media type
+-- although it may still become a media type
 pub e_is_viable : IsViable (codes "e")
 unfolding is_token_byte
 e_is_viable = viable-from_walk (codes "e") (in_type (codes "e")) refl

@@ -8,7 +8,7 @@ use Rattle.mime.proofs.GrammarLemmas.Content.{IsContent-taken, content-taken, co
 
 -- ---- bytes
 
--- the token bytes of RFC 7230, and ASCII bytes that are none
+-- the token bytes of RFC 7230, and ASCII bytes that aren't
 token_bytes :
     (list_all is_token_byte (codes "!#$%&'*+-.0123456789ABCDEFGHIJKLMNOPQRSTUVWXYZ^_`abcdefghijklmnopqrstuvwxyz|~") ≡ true)
     × (list_any is_token_byte (0 ∷ 9 ∷ 31 ∷ 127 ∷ 128 ∷ 255 ∷ codes " \"(),/:;<=>?@[\\]{}") ≡ false)

@@ -41,7 +41,7 @@ two_pluses = media (codes "a/b+c+d") 1 (Some 5) [] (codes "a/b+c+d")
 essence_of_parts : EssenceIsParts → codes "a/b+c+d" ≡ type_of two_pluses ++ (codes "/" ++ (subtype_of two_pluses ++ codes "+d"))
 essence_of_parts law = law _ two_pluses plus_twice
 
--- parts are the same whatever the parameters, and differ where one of them does
+-- parts are the same whatever the parameters, and differ if one of them does
 same_parts :
     HaveSameParts plain_value (record plain_value { pairs = ([], []) ∷ [] })
     × ¬ (HaveSameParts plain_value (media (codes "c/b") 1 None [] []))

@@ -41,7 +41,7 @@ value_of_text law value reads = law (codes "A/B") value plain_value reads reads_
 second_plus : PlusIsLast → (3 ≤ 5) × (slice_get (codes "a/b+c+d") 5 ≡ Some plus_byte) × HasNoPlusFrom (codes "a/b+c+d") 6
 second_plus law = law (codes "a/b+c+d") _ plus_twice
 
--- where a value has no plus, none stands after the subtype's first byte
+-- if a value has no plus, none comes after the subtype's first byte
 none_without_plus : PlusIsLast → HasNoPlusFrom (codes "a/b") 3
 none_without_plus law = law (codes "A/B") plain_value reads_capitals
 

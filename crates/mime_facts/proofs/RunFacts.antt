@@ -15,14 +15,14 @@ use Rattle.mime.proofs.CutLemmas.Cuts.{cut_unique, takes_unique, takes-viable, e
 use Rattle.mime_facts.proofs.StandardFacts.{media, reads}
 use Rattle.mime_facts.proofs.ValueFacts.{differ, plain_value, reads_capitals}
 
--- an iterator over a text, at its begin and at its end
+-- an iterator over a text, at its start and at its end
 abbrev begun : List ℕ → Iteration
 begun text = record { text = text; left = text; out_of_memory = false; steps = 0 }
 
 abbrev ended_run : List ℕ → ℕ → Iteration
 ended_run text steps = record { text = text; left = []; out_of_memory = false; steps = steps }
 
--- the same, where memory ran out
+-- the same, if memory ran out
 abbrev memory_ran_out : Iteration → Iteration
 memory_ran_out i = record i { out_of_memory = true }
 
@@ -86,11 +86,11 @@ star_is_fixed old new at end mime (piece, first, star, same) =
     let cut = first [] [] (subst (λ l. Cut l [] []) (sym end) empty-cut) in
     star (star_piece _ _ _ _ (subst (λ t. Cut t (good piece mime.media ∷ []) []) at cut))
 
--- that memory ran out is said where it did
+-- that memory ran out is said if it did
 no_memory_is_told : ¬ (GivesItem (begun (codes "A/B")) (Some (Err NoMemory)) (ended_run (codes "A/B") 3))
 no_memory_is_told given = true≢false (sym given.2)
 
--- and nowhere else: not where none is given, nor with a media type or a bad piece
+-- and only then: not if none is given, nor with a media type or a bad piece
 none_keeps_memory : ¬ (GivesItem (begun (codes "e")) None (memory_ran_out (ended_run (codes "e") 1)))
 none_keeps_memory given = true≢false given.2
 
@@ -101,14 +101,14 @@ piece_keeps_memory : (piece : Bor (List ℕ))
     → ¬ (GivesItem (begun (codes "e,A/B")) (Some (Err (Piece piece))) (memory_ran_out (begun (codes "A/B"))))
 piece_keeps_memory piece given = true≢false given.1
 
--- where none is given, or memory ran out, nothing is left
+-- if none is given, or memory ran out, nothing is left
 none_ends : ¬ (GivesItem (begun (codes "e")) None (begun (codes "e")))
 none_ends given = differ (codes "e") [] refl given.1
 
 no_memory_ends : ¬ (GivesItem (begun (codes "A/B")) (Some (Err NoMemory)) (memory_ran_out (begun (codes "A/B"))))
 no_memory_ends given = differ (codes "A/B") [] refl given.1
 
--- none is given only where there is no item
+-- none is given only if there is no item
 none_at_no_item : ¬ (GivesItem (begun (codes "e,A/B")) None (ended_run (codes "e,A/B") 5))
 none_at_no_item given = no_items.1 given.0
 
@@ -122,7 +122,7 @@ ends_at_rest = record {
   stays = λ end. absurd (ends.1 end);
 }
 
--- no more steps than bytes, even where memory ran out
+-- no more steps than bytes, even if memory ran out
 steps_are_few : ¬ (IsNext (record (begun (codes "a/")) { out_of_memory = true }) None (record (ended_run (codes "a/") 3) { out_of_memory = true }))
 steps_are_few next = absurd (omega (arith, next.few))
 

@@ -169,13 +169,14 @@ first_answers =
 
 -- ---- names, constants and errors
 
--- a name that ignores case is a text in any case, another its bytes alone
+-- a name that ignores ASCII case is a text in any case, whichever of them has capitals; another is its bytes alone
 names :
     NameIs (codes "text") true (codes "Text")
+    × NameIs (codes "Text") true (codes "text")
     × ¬ (NameIs (codes "text") true (codes "texts"))
     × NameIs (codes "Abc") false (codes "Abc")
     × ¬ (NameIs (codes "Abc") false (codes "abc"))
-names = (refl, differ (codes "text") (codes "texts") refl, refl, differ (codes "Abc") (codes "abc") refl)
+names = (refl, refl, differ (codes "text") (codes "texts") refl, refl, differ (codes "Abc") (codes "abc") refl)
 
 -- the constant names, from `*` on
 constant_names :

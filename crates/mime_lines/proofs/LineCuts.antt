@@ -41,7 +41,7 @@ pub line_end-found : (bytes : List ℕ) (end : ℕ) → end ≡ position_or_len 
     → slice_get bytes end ≡ Some 10
 line_end-found bytes end is within = slice_get-first_position 10 bytes end is within
 
--- the first line, and the lines after its end, where these are known
+-- the first line, and the lines after its end, if these are known
 pub lines_of-cut : (bytes prefix rest : List ℕ) (end : ℕ) → 0 < length bytes → end ≡ position_or_len (λ b. nat_eq b 10) bytes
     → prefix ≡ take end bytes → rest ≡ drop (end + 1) bytes → lines_of bytes ≡ prefix ∷ lines_of rest
 lines_of-cut bytes prefix rest end some is prefix_is rest_is =
@@ -56,6 +56,13 @@ lines_of-last bytes end some is past =
 -- the bytes after a position that may be the end
 pub drop-beyond : (n : ℕ) (xs : List ℕ) → drop (n + 1) xs ≡ take (length xs - min (n + 1) (length xs)) (drop (min (n + 1) (length xs)) xs)
 drop-beyond n xs = grind (arith, common_steps)
+
+-- no line ends before this position
+abbrev pub IsPassed : ℕ → List ℕ → Type 0
+IsPassed end input = record {
+  within : end ≤ length input;
+  onward : end + position_or_len (λ b. nat_eq b 10) (drop end input) ≡ position_or_len (λ b. nat_eq b 10) input;
+}
 
 -- a byte and bytes that were passed are passed
 one_more_passed : (is_end any : Bool) (n l m : ℕ) → (is_end || any) ≡ false → (any ≡ false → n ≡ l + m)

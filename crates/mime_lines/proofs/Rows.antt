@@ -8,6 +8,7 @@ use Rattle.mime_lines.specs.Report.{row, param_rows, lines_of, item_row, item_ro
 use Rattle.mime_lines.specs.Report.ReportsText.{listed}
 use Rattle.mime_lines.specs.Report.ReportsLine.{is_text}
 use Rattle.mime_lines.specs.Report.ReportsLines.{no_more, line_more}
+use Rattle.mime_lines.specs.Inner.{Adds}
 use Rattle.mime_lines.specs.declared.mode.Mode.{Mode}
 use Rattle.mime.specs.Refusals.{IsFault, Explains}
 use Rattle.mime.specs.declared.scan.fault.ParseError.{ParseError}
@@ -26,14 +27,13 @@ given_rows-items_of ((name, value) ∷ pairs) =
 
 -- what a call that succeeds added is the report
 pub reported : {E : Type 0} (R : List ℕ → Type 0) (result : Result (Unit {0}) E) (rows old new : List ℕ) → R rows
-    → OnOk result (new ≡ old ++ rows) → OnOk result ((more : List ℕ) × R more × (new ≡ old ++ more))
+    → OnOk result (new ≡ old ++ rows) → OnOk result (Adds R old new)
 reported R (Ok done) rows old new report added = (rows, report, added)
 reported R (Err error) rows old new report added = tt
 
 -- the report on a text is that on its line
 pub reported-line : {E : Type 0} (result : Result (Unit {0}) E) (mode : Mode) (text line old new : List ℕ) → text ≡ line → IsUtf8 line
-    → OnOk result ((rows : List ℕ) × ReportsText mode text rows × (new ≡ old ++ rows))
-    → OnOk result ((rows : List ℕ) × ReportsLine mode line rows × (new ≡ old ++ rows))
+    → OnOk result (Adds (ReportsText mode text) old new) → OnOk result (Adds (ReportsLine mode line) old new)
 reported-line (Ok done) mode text line old new is utf8 (rows, report, added) =
     (rows, is_text utf8 (subst (λ t. ReportsText mode t rows) is report), added)
 reported-line (Err error) mode text line old new is utf8 added = tt
@@ -41,14 +41,14 @@ reported-line (Err error) mode text line old new is utf8 added = tt
 -- a line's report, and then that on the lines after it
 pub ReportsLines-step : (mode : Mode) (input rest line tail old new : List ℕ) → lines_of rest ≡ line ∷ lines_of tail
     → ((more : List ℕ) → ReportsLines mode (lines_of rest) more → ReportsLines mode (lines_of input) (old ++ more))
-    → ((rows : List ℕ) × ReportsLine mode line rows × (new ≡ old ++ rows))
+    → Adds (ReportsLine mode line) old new
     → (more : List ℕ) → ReportsLines mode (lines_of tail) more → ReportsLines mode (lines_of input) (new ++ more)
 ReportsLines-step mode input rest line tail old new cut whole (rows, report, added) more reports =
     let joined : old ++ (rows ++ more) ≡ new ++ more = sym (append_assoc old rows more) ∙ ap (λ text. text ++ more) (sym added) in
     subst (λ text. ReportsLines mode (lines_of input) text) joined
     (whole (rows ++ more) (subst (λ lines. ReportsLines mode lines (rows ++ more)) (sym cut) (line_more report reports)))
 
--- where no lines are left the report is whole
+-- if no lines are left, the report is complete
 pub ReportsLines-end : (mode : Mode) (input rest report : List ℕ) → length rest ≡ 0
     → ((more : List ℕ) → ReportsLines mode (lines_of rest) more → ReportsLines mode (lines_of input) (report ++ more))
     → ReportsLines mode (lines_of input) report
@@ -76,14 +76,14 @@ listing-step text left next old new added rows item listing first is joined = re
       );
 }
 
--- where no item is left the text is reported
+-- if no item is left, the text is reported
 pub listing-end : (text left old new : List ℕ) → IsListing text left old new → HasNoItem left
-    → (rows : List ℕ) × ReportsText Mode.List text rows × (new ≡ old ++ rows)
+    → Adds (ReportsText Mode.List text) old new
 listing-end text left old new listing (rest, cut) =
     let all = listing.onward [] rest cut in
     (item_rows all.0, listed all.0 rest all.1, sym (append-nil new) ∙ sym all.2)
 
--- where no parameters are left all rows are added
+-- if no parameters are left, all rows are added
 pub param_rows-end : (old new : List ℕ) (all left : List Item) (pairs : List (List ℕ × List ℕ)) → left ≡ [] → all ≡ items_of pairs
     → new ++ given_rows left ≡ old ++ given_rows all → new ≡ old ++ param_rows pairs
 param_rows-end old new all left pairs none items added =

@@ -1,5 +1,5 @@
--- Lines, rows, reports and arguments of which each definition is true, and others of which it is false, so that a page that says less
--- or more doesn't check.
+-- Lines, rows, reports and arguments for which each definition is true, and others for which it is false, so that a page that says
+-- less or more doesn't check.
 use Rattle.std.proofs.Common.{◌≡◌, ℕ, ◌*◌, List, [], ◌∷◌, map, length, refl, sym, ap, ◌∙◌, subst, arith, codes}
 use Rattle.std.proofs.Math.Seq.{take-length}
 use Rattle.std.proofs.lemmas.Option.{slice_get_within}
@@ -107,7 +107,7 @@ report_of_line : IsReportOf Mode.Parts (codes "a/b\n") (codes "ok a/b\ntype a\ns
 unfolding encode
 report_of_line = line_more (is_text (codes "a/b", (refl, refl)) (read text_value reads_text)) no_more
 
--- bytes that are no text are reported as such, and a text isn't
+-- bytes that aren't UTF-8 are reported as such, and a text isn't
 report_of_bytes : (mode : Mode) → ¬ (IsUtf8 (255 ∷ [])) → ReportsLine mode (255 ∷ []) (codes "not text\n")
 report_of_bytes mode not_utf8 = not_text not_utf8
 

@@ -1,3 +1,5 @@
 -- the trusted pages
 pub mod Report
 pub mod Program
+-- private
+pub mod Inner

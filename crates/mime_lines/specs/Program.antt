@@ -1,4 +1,4 @@
--- How much the program reads, which mode an argument names, and what is printed where a run stops.
+-- How much the program reads, which mode an argument names, and what is printed if a run stops.
 use Rattle.std.specs.Prelude.{List, ℕ, Option, Some, None, if◌then◌else◌, codes}
 use Rattle.std.specs.Str.{bytes_eq}
 use Rattle.mime_lines.specs.declared.mode.Mode.{Mode}

@@ -13,43 +13,43 @@ pub struct Failed;
 
 /// What can be read from: a [`Device`] over standard input, for example.
 pub trait Source {
-    /// The bytes that are left to read; none where the source doesn't say.
+    /// The bytes that are left to read, or `None` if the source doesn't say.
     ghost left: { Self → Option (List ℕ) };
-    /// The flag "has failed".
+    /// Whether a call has failed.
     ghost has_failed: { Self → Bool };
 
     /// Reads bytes into the start of a buffer, and returns their number: 3 for a buffer of 8 bytes means
-    /// that its first 3 are new, and 0 for a buffer that isn't empty means the end.
+    /// that its first 3 are new, and 0 for a nonempty buffer means the end.
     fn read(&mut self, buf: &mut [u8]) -> Result<usize, Failed>
         ensures bound { ReadsAtMost result buf.new }
         ensures bytes { ReadConsumes (left self.old) (left self.new) result buf.new }
-        // A failure sets the flag, and nothing else changes it.
+        // A failure sets this flag, and nothing else changes it.
         ensures failed { OnErr result (has_failed self.new ≡ true) }
         ensures unfailed { OnOk result (has_failed self.new ≡ has_failed self.old) };
 }
 
 /// What can be written to: a [`Device`] over standard output, for example.
 pub trait Sink {
-    /// The bytes that it holds; none where the sink doesn't say.
+    /// The bytes that it holds, or `None` if the sink doesn't say.
     ghost held: { Self → Option (List ℕ) };
-    /// The flag "has failed".
+    /// Whether a call has failed.
     ghost has_failed: { Self → Bool };
-    /// All that was written is passed on; true where the sink doesn't say.
+    /// Whether all that was written is passed on; true if the sink doesn't say.
     ghost IsPassedOn: { Self → Type 0 } = { λ _. ⊤ };
 
     /// Writes all of the bytes. After a failure it isn't known how many were written.
     fn write_all(&mut self, bytes: &[u8]) -> Result<(), Failed>
         ensures bytes { OnOk result (Appends (held self.old) (held self.new) bytes.now) }
-        // A failure sets the flag, and nothing else changes it.
+        // A failure sets this flag, and nothing else changes it.
         ensures failed { OnErr result (has_failed self.new ≡ true) }
         ensures unfailed { OnOk result (has_failed self.new ≡ has_failed self.old) };
 
-    /// Passes on all that was written: what a buffer still holds goes to the file that it is for.
+    /// Passes on all that was written: what a buffer still holds goes to its file.
     fn flush(&mut self) -> Result<(), Failed>
         ensures bytes { Keeps (held self.old) (held self.new) }
         // Nothing else says that all is passed on.
         ensures passed_on { OnOk result (IsPassedOn self.new) }
-        // A failure sets the flag, and nothing else changes it.
+        // A failure sets this flag, and nothing else changes it.
         ensures failed { OnErr result (has_failed self.new ≡ true) }
         ensures unfailed { OnOk result (has_failed self.new ≡ has_failed self.old) };
 }
@@ -65,7 +65,7 @@ pub struct Device<T> {
 }
 
 impl<T> Device<T> {
-    /// What an inner call returned, without the cause of an error. An error sets the flag.
+    /// What an inner call returned, without the cause of an error, which sets the flag.
     fn flagged<V>(&mut self, answer: io::Result<V>) -> Result<V, Failed>
         ensures inner { self.new.inner ≡ self.old.inner }
         ensures answer { MatchResult answer (λ value. result ≡ Ok value) (λ _. IsErr result) }

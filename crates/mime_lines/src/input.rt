@@ -16,7 +16,7 @@ const LIMIT: usize = 1_048_576;
 /// The most bytes that one read asks for.
 const BLOCK: usize = 8192;
 
-/// The number of bytes that are searched at once for the end of a line.
+/// The number of bytes that are searched at once for a line feed.
 const STEP: usize = 8;
 
 /// Reads a source to its end, and no further than one byte past the limit.
@@ -25,13 +25,13 @@ pub(crate) fn read_to_limit<S: Source>(alloc: Global, source: &mut S) -> Result<
     ensures bytes { IfOk result (λ input. Consumes (S.left source.old) (S.left source.new) input.items) }
     ensures end { OnOk result (IsAtEnd (S.left source.new)) }
     ensures limit { IfOk result (λ input. length input.items ≤ limit) }
-    // The source fails exactly where the answer is `Read`.
+    // The source fails exactly if the result is `Read`.
     ensures read { result ≡ Err RunError.Read → S.has_failed source.new ≡ true }
     ensures unfailed { result ≢ Err RunError.Read → S.has_failed source.new ≡ S.has_failed source.old }
-    // The byte after the limit was given where the answer is `TooLong`.
+    // If the result is `TooLong`, the source gave one byte more than the limit.
     ensures too_long { result ≡ Err RunError.TooLong
         → (bytes : List ℕ) × Consumes (S.left source.old) (S.left source.new) bytes × (length bytes ≡ limit + 1) }
-    // The answer is never `Write`.
+    // The result is never `Write`.
     ensures no_write { result ≢ Err RunError.Write }
 {
     let mut input = Vec::new(alloc);
@@ -53,8 +53,7 @@ pub(crate) fn read_to_limit<S: Source>(alloc: Global, source: &mut S) -> Result<
     }
 }
 
-/// Whether some bytes have a line feed. The loop doesn't end early: over a known length it is a few
-/// instructions.
+/// Whether some bytes have a line feed. Without an early exit, several bytes are tested at a time.
 #[inline(always)]
 fn has_line_end(bytes: &[u8]) -> bool
     ensures { result ≡ list_any (λ byte. byte == 10) bytes.now }
@@ -66,16 +65,25 @@ fn has_line_end(bytes: &[u8]) -> bool
     found
 }
 
-/// The position of an input's first line feed, or the input's length. Whole steps are searched first, and then single
-/// bytes.
-fn line_end(input: &[u8]) -> usize
-    ensures line { result ≡ position_or_len (λ byte. byte == 10) input.now }
+/// The length of the whole steps at an input's start, of `STEP` bytes each, that have no line feed.
+fn whole_steps(input: &[u8]) -> usize
     ensures within { result ≤ length input.now }
+    ensures passed { result + position_or_len (λ byte. byte == 10) (drop result input.now)
+        ≡ position_or_len (λ byte. byte == 10) input.now }
 {
     let mut end = 0;
     while input.len() - end >= STEP && !has_line_end(&input[end..end + STEP]) {
         end += STEP;
     }
+    end
+}
+
+/// The position of an input's first line feed, or the input's length.
+fn line_end(input: &[u8]) -> usize
+    ensures line { result ≡ position_or_len (λ byte. byte == 10) input.now }
+    ensures within { result ≤ length input.now }
+{
+    let mut end = whole_steps(input);
     while end < input.len() && input[end] != b'\n' {
         end += 1;
     }
@@ -93,8 +101,8 @@ pub(crate) fn first_line(input: &[u8]) -> (&[u8], &[u8])
     (&input[..end], &input[next..])
 }
 
-/// The first line of a nonempty text, and the rest after its line feed. A line feed is an ASCII byte, so
-/// both are valid UTF-8.
+/// The first line of a nonempty string, and the rest after its line feed. Both are valid UTF-8, since a line feed is an
+/// ASCII byte.
 pub(crate) fn first_text_line(text: &str) -> (&str, &str)
     requires { 0 < length text.now }
     ensures lines { lines_of text.now ≡ result.0.now ∷ lines_of result.1.now }

@@ -1,4 +1,4 @@
-//! The laws of the program's public types, as calls that do nothing: a caller that calls one has its law in its proof.
+//! The laws of the program's public types, as functions that do nothing: whoever calls one has its law in the proof.
 
 ghost use Rattle.std.specs.Prelude.{◌≡◌};
 

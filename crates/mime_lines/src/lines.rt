@@ -12,37 +12,37 @@ use crate::mode::Mode;
 use crate::report::report_of;
 use std::alloc::Global;
 
-/// Reads a source to its end, and then writes the report of what it read to a sink. For `a/b` that is
-/// the three lines `ok a/b`, `type a` and `subtype b` by [`Mode::Parts`], and `ok a/b` alone by
+/// Reads a source to its end, and then writes the report on what it read to a sink. For `a/b` this is
+/// the three lines `ok a/b`, `type a` and `subtype b` in [`Mode::Parts`], and only `ok a/b` in
 /// [`Mode::List`].
 ///
 /// # Errors
-/// `Read` and `Write` where the source or the sink fails; nothing is tried twice. `TooLong` for more
-/// than 1,048,576 bytes. `NoMemory` where memory runs out. Whichever comes first is answered, and
-/// only after `Write` a part of the report may have been written.
+/// `Read` if the source fails, and `Write` if the sink does; no call is made again. `TooLong` if the source
+/// gives more than 1,048,576 bytes. `NoMemory` if memory runs out. The first of these is returned. Only
+/// after `Write` may a part of the report have been written.
 pub fn run<S: Source, T: Sink>(
     alloc: Global,
     source: &mut S,
     sink: &mut T,
     mode: Mode,
 ) -> Result<(), RunError>
-    // A run that succeeds has read some bytes to the end of the source, and not more than the limit.
-    // It has written the report of these bytes, nothing else, and passed it on. All this holds too of
-    // a source or a sink that doesn't tell its bytes.
+    // A run that succeeds has read bytes to the end of the source, and not more than the limit. It has
+    // written the report on these bytes, nothing else, and passed it on. This also holds of a source or a
+    // sink that doesn't say which bytes it has.
     ensures whole { OnOk result ((bytes : List ℕ) × (text : List ℕ)
         × Consumes (S.left source.old) (S.left source.new) bytes × (length bytes ≤ limit)
         × IsReportOf mode bytes text × Appends (T.held sink.old) (T.held sink.new) text) }
     ensures end { OnOk result (IsAtEnd (S.left source.new)) }
     ensures passed_on { OnOk result (T.IsPassedOn sink.new) }
-    // The source fails where the answer is `Read`, the sink where it is `Write`, and else neither.
+    // The source fails if the result is `Read`, the sink if it is `Write`, and otherwise neither does.
     ensures read { result ≡ Err RunError.Read → S.has_failed source.new ≡ true }
     ensures write { result ≡ Err RunError.Write → T.has_failed sink.new ≡ true }
     ensures source_unfailed { result ≢ Err RunError.Read → S.has_failed source.new ≡ S.has_failed source.old }
     ensures sink_unfailed { result ≢ Err RunError.Write → T.has_failed sink.new ≡ T.has_failed sink.old }
-    // The byte after the limit was given where the answer is `TooLong`.
+    // If the result is `TooLong`, the source gave one byte more than the limit.
     ensures too_long { result ≡ Err RunError.TooLong
         → (bytes : List ℕ) × Consumes (S.left source.old) (S.left source.new) bytes × (length bytes ≡ limit + 1) }
-    // Nothing is written before the whole report is there.
+    // Nothing is written before the report is complete.
     ensures untouched { IfErr result (λ error. error ≢ RunError.Write → sink.new ≡ sink.old) }
 {
     let input = read_to_limit(alloc, source)?;
@@ -56,7 +56,7 @@ pub fn run<S: Source, T: Sink>(
 fn write_report<T: Sink>(sink: &mut T, report: &[u8]) -> Result<(), RunError>
     ensures bytes { OnOk result (Appends (T.held sink.old) (T.held sink.new) report.now) }
     ensures passed_on { OnOk result (T.IsPassedOn sink.new) }
-    // The sink fails exactly where the answer isn't `Ok`, which is `Write`.
+    // The sink fails exactly if the result isn't `Ok`, but `Write`.
     ensures unfailed { OnOk result (T.has_failed sink.new ≡ T.has_failed sink.old) }
     ensures failed { OnErr result (T.has_failed sink.new ≡ true) }
     ensures write { IfErr result (λ error. error ≡ RunError.Write) }

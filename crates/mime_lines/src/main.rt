@@ -24,8 +24,8 @@ use std::env;
 use std::env::Args;
 use std::process::ExitCode;
 
-/// The mode that the arguments ask for, or none where they ask for no mode. The first of them is the
-/// name of the program.
+/// The mode that the arguments select, or `None` if they select none. The first of them is the name of
+/// the program.
 fn asked_mode(mut arguments: Args) -> Option<Mode>
     ensures parts { into_iter_len arguments ≤ 1 → result ≡ Some Mode.Parts }
     // The argument after the program's name says which mode.
@@ -43,7 +43,7 @@ fn asked_mode(mut arguments: Args) -> Option<Mode>
     }
 }
 
-/// The mode that an argument names, or none.
+/// The mode that an argument names, or `None`.
 fn named_mode(word: &str) -> Option<Mode>
     ensures { result ≡ mode_named word.now }
 {
@@ -75,7 +75,7 @@ fn main(rt: HostRuntime) -> ExitCode {
     ended(&rt, outcome)
 }
 
-/// The exit status of a run. An error is printed on standard error.
+/// The exit status of a run, whose error is printed on standard error.
 fn ended(rt: &impl Eprint, outcome: Result<(), RunError>) -> ExitCode
     ensures done { OnOk outcome (exit_status result ≡ 0) }
     ensures stopped { OnErr outcome (exit_status result ≡ 1) }

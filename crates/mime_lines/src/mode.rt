@@ -1,9 +1,9 @@
 //! What the program reports on each line.
 
-/// What is reported of each line.
+/// What is reported on each line.
 #[derive(Clone, Copy, PartialEq, Eq, Debug)]
 pub enum Mode {
-    /// The parts of the one media type that the line is: for `a/b` the rows `ok a/b`, `type a` and
+    /// The parts of the media type that the line is: for `a/b` the rows `ok a/b`, `type a` and
     /// `subtype b`.
     Parts,
     /// The media types and the bad pieces of the line, as [`mime::MimeIter`] yields them.

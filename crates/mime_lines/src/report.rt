@@ -1,15 +1,17 @@
 //! The report on an input, line by line.
 
-ghost use Rattle.std.specs.Prelude.{◌≡◌, ℕ, List, ◌++◌, OnOk, IfOk, string_bytes};
+ghost use Rattle.std.specs.Prelude.{◌≡◌, ◌++◌, OnOk, IfOk, string_bytes};
 ghost use Rattle.mime.specs.Values.{suffix_of};
-ghost use Rattle.mime_lines.specs.Report.{row, suffix_row, param_rows, value_rows, ReportsText, ReportsLine, IsReportOf};
+ghost use Rattle.mime_lines.specs.Report.{row, suffix_row, param_rows, value_rows};
+ghost use Rattle.mime_lines.specs.Report.{ReportsText, ReportsLine, IsReportOf};
+ghost use Rattle.mime_lines.specs.Inner.{Adds};
 
 use crate::input::{first_line, first_text_line};
 use crate::mode::Mode;
 use mime::{Bad, Mime, MimeIter, ParseError};
 use std::alloc::{AllocError, Global};
 
-/// The report on an input. Where all of it is valid UTF-8, its lines are, and needn't be validated one by one.
+/// The report on an input. If all of it is valid UTF-8, so are its lines, which needn't be validated one by one.
 pub(crate) fn report_of(alloc: Global, input: &[u8], mode: Mode) -> Result<String, AllocError>
     ensures { IfOk result (λ report. IsReportOf mode input.now (string_bytes report)) }
 {
@@ -33,7 +35,7 @@ fn report_of_text(alloc: Global, text: &str, mode: Mode) -> Result<String, Alloc
     Ok(report)
 }
 
-/// The report on any input, each line of which is validated by itself.
+/// The report on any input, whose lines are validated one by one.
 fn report_of_bytes(alloc: Global, input: &[u8], mode: Mode) -> Result<String, AllocError>
     ensures { IfOk result (λ report. IsReportOf mode input.now (string_bytes report)) }
 {
@@ -49,7 +51,7 @@ fn report_of_bytes(alloc: Global, input: &[u8], mode: Mode) -> Result<String, Al
 
 /// Adds the report on a line.
 fn push_line(alloc: Global, report: &mut String, line: &[u8], mode: Mode) -> Result<(), AllocError>
-    ensures { OnOk result ((rows : List ℕ) × ReportsLine mode line.now rows × (string_bytes report.new ≡ string_bytes report.old ++ rows)) }
+    ensures { OnOk result (Adds (ReportsLine mode line.now) (string_bytes report.old) (string_bytes report.new)) }
 {
     match str::from_utf8(line) {
         Ok(text) => push_text(alloc, report, text, mode),
@@ -60,7 +62,7 @@ fn push_line(alloc: Global, report: &mut String, line: &[u8], mode: Mode) -> Res
 /// Adds the report on a line that is valid UTF-8.
 #[inline(always)]
 fn push_text(alloc: Global, report: &mut String, text: &str, mode: Mode) -> Result<(), AllocError>
-    ensures { OnOk result ((rows : List ℕ) × ReportsLine mode text.now rows × (string_bytes report.new ≡ string_bytes report.old ++ rows)) }
+    ensures { OnOk result (Adds (ReportsLine mode text.now) (string_bytes report.old) (string_bytes report.new)) }
 {
     match mode {
         Mode::Parts => push_reading(alloc, report, text),
@@ -68,11 +70,10 @@ fn push_text(alloc: Global, report: &mut String, text: &str, mode: Mode) -> Resu
     }
 }
 
-/// Adds the rows of the media type that a text is, or a row with its fault.
+/// Adds the rows of the media type that a string is, or a row with its fault.
 #[inline(never)]
 fn push_reading(alloc: Global, report: &mut String, text: &str) -> Result<(), AllocError>
-    ensures { OnOk result
-        ((rows : List ℕ) × ReportsText Mode.Parts text.now rows × (string_bytes report.new ≡ string_bytes report.old ++ rows)) }
+    ensures { OnOk result (Adds (ReportsText Mode.Parts text.now) (string_bytes report.old) (string_bytes report.new)) }
 {
     match Mime::from_str(alloc, text) {
         Ok(mime) => push_value(report, &mime),
@@ -83,10 +84,9 @@ fn push_reading(alloc: Global, report: &mut String, text: &str) -> Result<(), Al
     }
 }
 
-/// Adds a row for each item of a text.
+/// Adds a row for each item of a string.
 fn push_items(alloc: Global, report: &mut String, text: &str) -> Result<(), AllocError>
-    ensures { OnOk result
-        ((rows : List ℕ) × ReportsText Mode.List text.now rows × (string_bytes report.new ≡ string_bytes report.old ++ rows)) }
+    ensures { OnOk result (Adds (ReportsText Mode.List text.now) (string_bytes report.old) (string_bytes report.new)) }
 {
     for item in MimeIter::new(alloc, text) {
         match item {
@@ -131,7 +131,7 @@ fn push_params(report: &mut String, mime: &Mime) -> Result<(), AllocError>
     Ok(())
 }
 
-/// Adds a row: a label, a text and a line feed.
+/// Adds a row: a label, a string and a line feed.
 #[inline(always)]
 fn push_row(report: &mut String, label: &str, text: &str) -> Result<(), AllocError>
     ensures { OnOk result (string_bytes report.new ≡ string_bytes report.old ++ row label.now text.now) }

@@ -1,4 +1,5 @@
-//! What runs over readers and writers in memory return and write. The reports on ordinary inputs are data: vectors/ and tools/program.
+//! What runs over readers and writers in memory return and write. The reports on ordinary inputs are data: vectors/ and
+//! tools/program.
 
 ghost use Rattle.std.specs.Prelude.{◌≡◌, None, false};
 
@@ -13,10 +14,11 @@ use std::{fmt, io};
 const ENOUGH: usize = 1 << 22;
 
 /// Gives its bytes, at most `most` a read, or the letter `a` without end. After `reads` reads it is
-/// interrupted, once or for ever; that is a failure like any other.
+/// interrupted, once or for ever; that is a failure like any other. A read after its end gives more, as a terminal does.
 #[derive(Clone, Copy)]
 struct Reader<'a> {
     left: &'a [u8],
+    after_end: &'a [u8],
     is_endless: bool,
     most: usize,
     reads: usize,
@@ -27,6 +29,7 @@ struct Reader<'a> {
 fn giving(bytes: &[u8], most: usize) -> Reader<'_> {
     Reader {
         left: bytes,
+        after_end: b"",
         is_endless: false,
         most,
         reads: ENOUGH,
@@ -45,28 +48,34 @@ impl Read for Reader<'_> {
             buf.fill(b'a');
             return Ok(buf.len());
         }
+        if self.left.is_empty() {
+            self.left = self.after_end;
+            return Ok(0);
+        }
         let count = buf.len().min(self.most);
         self.left.read(&mut buf[..count])
     }
 }
 
-/// Takes its bytes, at most `most` a write, and fails at any others, or at a flush. If it fails only once, it takes
-/// anything after that.
+/// Takes its bytes, at most `most` a write and in at most `writes` writes, and fails at any others. After `flushes`
+/// flushes it fails at a flush. If it fails only once, it takes anything after that.
 #[derive(Clone, Copy)]
 struct Writer<'a> {
     left: &'a [u8],
     most: usize,
-    fails_at_flush: bool,
+    writes: usize,
+    flushes: usize,
     fails_once: bool,
     takes_all: bool,
 }
 
-/// A writer that takes these bytes, at most `most` a write, and fails at no flush.
+/// A writer that takes these bytes, at most `most` a write, and one flush.
 fn taking(bytes: &[u8], most: usize) -> Writer<'_> {
     Writer {
         left: bytes,
         most,
-        fails_at_flush: false,
+        writes: ENOUGH,
+        flushes: 1,
         fails_once: false,
         takes_all: false,
     }
@@ -79,7 +88,8 @@ impl Write for Writer<'_> {
         }
         let count = buf.len().min(self.left.len()).min(self.most);
         match self.left.strip_prefix(&buf[..count]) {
-            Some(left) if count > 0 => {
+            Some(left) if count > 0 && self.writes > 0 => {
+                self.writes -= 1;
                 self.left = left;
                 Ok(count)
             }
@@ -91,10 +101,14 @@ impl Write for Writer<'_> {
     }
 
     fn flush(&mut self) -> io::Result<()> {
-        if self.fails_at_flush && !self.takes_all {
+        if self.takes_all {
+            return Ok(());
+        }
+        if self.flushes == 0 {
             self.takes_all = self.fails_once;
             return Err(io::Error::from(io::ErrorKind::BrokenPipe));
         }
+        self.flushes -= 1;
         Ok(())
     }
 }
@@ -114,8 +128,8 @@ struct Run<'a> {
     answer: Result<(), RunError>,
 }
 
-/// Checks that the run returns this answer, that its writer has taken all its bytes, and that only what the answer names
-/// has failed.
+/// Checks that the run returns this result, that its writer has taken all its bytes, and that only what the result
+/// names has failed.
 fn check(rt: &impl Abort, alloc: Global, case: Run<'_>) {
     let mut source = Device {
         inner: case.reader,
@@ -230,6 +244,73 @@ fn reads_and_writes_a_byte_at_a_time(rt: HostRuntime) {
 }
 
 #[test]
+fn reads_nothing_after_the_end(rt: HostRuntime) {
+    for &case in CASES {
+        let mut reader = giving(case.input, ENOUGH);
+        reader.after_end = b"\nc/d";
+        let writer = taking(case.report, ENOUGH);
+        check(&rt, rt.alloc(), ending(case.mode, reader, writer, Ok(())));
+    }
+}
+
+#[test]
+fn writes_all_at_once(rt: HostRuntime) {
+    for &case in CASES {
+        let mut writer = taking(case.report, ENOUGH);
+        writer.writes = 1;
+        let reader = giving(case.input, ENOUGH);
+        check(&rt, rt.alloc(), ending(case.mode, reader, writer, Ok(())));
+    }
+}
+
+#[test]
+fn an_earlier_failure_stops_nothing(rt: HostRuntime) {
+    for &case in CASES {
+        let mut source = Device {
+            inner: case.input,
+            failed: true,
+        };
+        let mut sink = Device {
+            inner: taking(case.report, ENOUGH),
+            failed: true,
+        };
+        let answer = run(rt.alloc(), &mut source, &mut sink, case.mode);
+        assert!(rt; answer.is_ok() && sink.inner.left.is_empty() && source.failed && sink.failed);
+    }
+}
+
+/// Checks that a run into a slice of bytes, which takes no memory, writes all of its report, or nothing if memory runs
+/// out, and prints which. tools/refused_requests refuses each request for memory between the lines `now` and `end`.
+fn check_slice(rt: &(impl Abort + Print), alloc: Global, case: Reported<'_>) {
+    let mut room = [0u8; 256];
+    let mut source = Device {
+        inner: case.input,
+        failed: false,
+    };
+    let mut sink = Device {
+        inner: room.as_mut_slice(),
+        failed: false,
+    };
+    let _ = println!(rt; "now");
+    let answer = run(alloc, &mut source, &mut sink, case.mode);
+    let _ = println!(rt; "end");
+    let count = 256usize.saturating_sub(sink.inner.len());
+    let _ = println!(rt; "{answer:?}, {count} of {} bytes", case.report.len());
+    let is_right = match answer {
+        Ok(()) => room.get(..count) == Some(case.report),
+        Err(error) => error == RunError::NoMemory && count == 0,
+    };
+    assert!(rt; is_right);
+}
+
+#[test]
+fn writes_into_a_slice_all_or_nothing(rt: HostRuntime) {
+    for &case in CASES {
+        check_slice(&rt, rt.alloc(), case);
+    }
+}
+
+#[test]
 fn stops_where_a_read_fails(rt: HostRuntime) {
     for &case in CASES {
         // The last of these reads would have returned the end.
@@ -261,12 +342,12 @@ fn stops_where_a_write_fails(rt: HostRuntime) {
     }
 }
 
-/// Checks that a run writes this report, and that it stops where the flush after it fails.
+/// Checks that a run writes this report, and that it stops if the flush after it fails.
 fn check_flush(rt: &impl Abort, alloc: Global, case: Reported<'_>) {
     let reader = giving(case.input, ENOUGH);
     let mut writer = taking(case.report, ENOUGH);
     check(rt, alloc, ending(case.mode, reader, writer, Ok(())));
-    writer.fails_at_flush = true;
+    writer.flushes = 0;
     for fails_once in [false, true] {
         writer.fails_once = fails_once;
         let run = ending(case.mode, reader, writer, Err(RunError::Write));
@@ -397,7 +478,7 @@ fn prints_each_error(rt: HostRuntime) {
     ];
     for &(error, text) in TEXTS {
         assert!(rt; prints(error, text));
-        // It fails where its writer does.
+        // It fails if its writer does.
         for room in 0..text.len() {
             assert!(rt; !prints(error, &text[..room]));
         }

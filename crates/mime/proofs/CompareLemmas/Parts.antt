@@ -14,7 +14,7 @@ use Rattle.mime.specs.Comparison.{TextIs, HasNoSemicolon}
 use Rattle.mime.specs.Inner.Pairs.{PairCut, cut_after_equals, cut_of, pairs_within}
 use Rattle.mime.specs.Inner.Scanning.{positions_of, semicolon_of}
 use Rattle.mime.specs.Inner.KeptText.{lowered_pair}
-use Rattle.mime.specs.Inner.ComparedText.{IsListAfter, IsAcceptedAt, IsLoneCharset}
+use Rattle.mime.specs.Inner.ComparedText.{StartsWithEssence, IsAcceptedAt, IsLoneCharset}
 use Rattle.mime.specs.declared.scan.Positions.{Positions}
 use Rattle.mime.proofs.BytesLemmas.{list_all-parts, AreTokenBytes-from_token, are_other-token, semicolon_is_no_token}
 use Rattle.mime.proofs.ValueLemmas.Parts.{kept-essence, read-low_essence}
@@ -88,7 +88,7 @@ IsAcceptedAt-same text {end} {also} {count} {number} ends counts is =
 
 -- what a text has that is equal to a value with pairs
 pub record TextParts (value : MediaType) (text : List ℕ) : Type 0 where
-  pub list : IsListAfter value.essence text
+  pub list : StartsWithEssence value.essence text
   pub pairs : value.pairs ≡ map lowered_pair (pairs_within (length value.pairs) (drop (length value.essence + 1) text))
   pub accepted : IsAcceptedAt text (length value.essence) (length value.pairs)
 

@@ -13,7 +13,7 @@ use Rattle.mime.specs.Refusals.{IsViable, IsLongestPrefix, IsDeadAt}
 use Rattle.mime.specs.Cut.{is_following_byte, BeginsCharacter, IsCharacter, IsSplit, CutItem, good, bad, ItemsOf, is_read, is_refused, is_empty, Cut, whole, unfinished, goes_on, TakesSteps}
 use Rattle.mime.specs.Inner.ReaderState.{Remaining}
 use Rattle.mime.specs.Inner.Scanning.{HasPositions, Judges, Scans}
-use Rattle.mime.specs.Inner.BetweenCalls.{IsUnderWay, IsFirstPiece, PassesPiece}
+use Rattle.mime.specs.Inner.BetweenCalls.{IsUnderWay, IsFirstPiece, ReadsPiece}
 use Rattle.mime.specs.declared.scan.fault.ParseError.{ParseError}
 use Rattle.mime.specs.declared.scan.Positions.{Positions}
 use Rattle.mime.specs.declared.scan.Verdict.{Verdict}
@@ -89,7 +89,7 @@ under_way-viable text viable = record {
 
 -- an accepted text is its first piece
 pub passes-whole : (text : List ℕ) (positions : Positions) (steps : ℕ) → Judges text steps (Accepted positions)
-    → PassesPiece text text (Some positions) [] steps
+    → ReadsPiece text text (Some positions) [] steps
 passes-whole text positions steps (is, has) =
     let accepted = accepted-from_positions text positions has in
     record {
@@ -107,7 +107,7 @@ passes-whole text positions steps (is, has) =
 
 -- an unfinished text has no piece
 pub passes-unfinished : (text : List ℕ) (fault : ParseError) (steps : ℕ) → Judges text steps (Unfinished fault)
-    → PassesPiece text [] None [] steps
+    → ReadsPiece text [] None [] steps
 passes-unfinished text fault steps (is, fault_is, viable) = record {
   empty = λ e. record {
     carries = λ some. absurd (some refl);
@@ -120,7 +120,7 @@ passes-unfinished text fault steps (is, fault_is, viable) = record {
 
 -- a character that can't follow ends the piece
 passes-split : (text piece character left : List ℕ) (positions : Option Positions) → IsSplit text piece character left
-    → MatchOption positions (IsRefused piece) (λ p. HasPositions piece p) → PassesPiece text piece positions left (length piece + 1)
+    → MatchOption positions (IsRefused piece) (λ p. HasPositions piece p) → ReadsPiece text piece positions left (length piece + 1)
 passes-split text piece character left positions split is =
     let size = split-size text piece character left split in
     record {
@@ -167,14 +167,14 @@ after_position text at end there past border near =
 pub passes-stopped : (text piece left : List ℕ) (steps at end byte : ℕ) (positions : Option Positions)
     → Judges text steps (Stopped byte positions) → at ≡ steps - 1 → piece ≡ take at text → left ≡ drop end text
     → (at + 1 ≤ length text → at + 1 ≤ end) → IsCharBoundary text end → ((i : ℕ) → at + 1 ≤ i → i < end → ¬ (IsCharBoundary text i))
-    → PassesPiece text piece positions left steps
+    → ReadsPiece text piece positions left steps
 passes-stopped text piece left steps at end byte positions (given, dead_at, refused) is_at is_piece is_left past border near =
     let dead = subst (λ n. IsDeadAt text n byte) (sym is_at) dead_at in
     let size : length (take at text) ≡ at = length-take-le at text dead.prefix.within in
     let there : at < length text = slice_get_within text at byte dead.there in
     let after = after_position text at end there (past (omega (arith, there))) border near in
-    subst (λ p. PassesPiece text p positions left steps) (sym is_piece)
-    (subst (PassesPiece text (take at text) positions left) (omega (arith, given, is_at, size))
+    subst (λ p. ReadsPiece text p positions left steps) (sym is_piece)
+    (subst (ReadsPiece text (take at text) positions left) (omega (arith, given, is_at, size))
     (passes-split text (take at text) after.0 left positions
     (record {
       spelled = sym (take-append-drop at text) ∙ ap (λ t. take at text ++ t) (after.1 ∙ ap (λ t. after.0 ++ t) (sym is_left));

@@ -87,14 +87,14 @@ cons-append b xs ys = refl
 ruleset regroup = (append_assoc, append-nil, cons-append)
 
 -- a byte of a class leads on one way, a delimiter another
-pub by_class : {X : Type 0} (P : ℕ → X → Type 0) (class : ℕ → Bool) (flag b : ℕ) (x y : X)
-    → (IsTrue (class b) → P b x) → (IsFalse (class flag) → P flag y)
-    → MatchOption (if class b then Some x else (if b == flag then Some y else None)) (Unit {0}) (P b)
-by_class P class flag b x y passes flagged =
+pub by_class : {X : Type 0} (P : ℕ → X → Type 0) (class : ℕ → Bool) (other b : ℕ) (x y : X)
+    → (IsTrue (class b) → P b x) → (IsFalse (class other) → P other y)
+    → MatchOption (if class b then Some x else (if b == other then Some y else None)) (Unit {0}) (P b)
+by_class P class other b x y passes stops =
     cond_both (class b) _ _ (λ o. MatchOption o (Unit {0}) (P b)) passes
-    (λ fails. cond_both (b == flag) _ _ (λ o. MatchOption o (Unit {0}) (P b))
-    (λ same. let is = eqb-true b flag same in
-    subst (λ c. P c y) (sym is) (flagged (subst (λ c. IsFalse (class c)) is fails)))
+    (λ fails. cond_both (b == other) _ _ (λ o. MatchOption o (Unit {0}) (P b))
+    (λ same. let is = eqb-true b other same in
+    subst (λ c. P c y) (sym is) (stops (subst (λ c. IsFalse (class c)) is fails)))
     (λ other. tt))
 
 -- what one more byte makes of a begun list

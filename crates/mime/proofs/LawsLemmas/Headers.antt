@@ -10,7 +10,7 @@ use Rattle.mime.specs.Values.{MediaType, Reads, lowered, type_of, subtype_of, su
 use Rattle.mime.specs.Laws.{without_parameters, suffix_text, EssenceIsParts, SameEssence}
 use Rattle.mime.proofs.LawsLemmas.Callers.{essence_is_read}
 use Rattle.mime.proofs.LowercaseLemmas.{length-lowered, lowered-lowered, IsToken-lowered, IsWellFormed-lowered_tree}
-use Rattle.mime.proofs.ValueLemmas.ListText.{flagged, drop_past}
+use Rattle.mime.proofs.ValueLemmas.ListText.{ended, drop_past}
 use Rattle.mime.proofs.ValueLemmas.Parts.{slash_in, plus_in, subtype_end}
 use Rattle.mime.proofs.GrammarLemmas.Readings.{one_reading, walk-accepted}
 use Rattle.std.specs.List.{AllByRecursion}
@@ -43,7 +43,7 @@ after_slash-read text value reads =
     let top = lowered reads.tree.top in
     let sub = lowered reads.tree.sub in
     subst (λ (v : MediaType). drop (v.slash + 1) v.essence ≡ sub) reads.valued
-    (drop_past slash_byte top (slash_byte ∷ sub) sub _ (flagged sub) (length-lowered reads.tree.top))
+    (drop_past slash_byte top (slash_byte ∷ sub) sub _ (ended sub) (length-lowered reads.tree.top))
 
 -- what follows the slash is the subtype, and a plus with the suffix if there is one
 after_slash : (text : List ℕ) (value : MediaType) (plus : Option ℕ) → Reads text value → value.plus ≡ plus

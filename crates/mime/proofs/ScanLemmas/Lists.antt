@@ -55,34 +55,34 @@ pub essence_is : (slash : ℕ) (plus : Option ℕ) (top others : List ℕ) → s
 essence_is slash plus top others e f = rw (e, f)
 
 -- the answer on the list is the answer on the text
-pub scans_list : {old mid new : Remaining} {top sub : List ℕ} {head : Positions} {verdict : Verdict}
-    → Reaches (in_type []) old mid None (in_list top sub begun_list) → head ≡ positions_of (before_list top sub)
-    → ScansList head mid new verdict → Scans old new verdict
+pub scans_list : {old mid new : Remaining} {top sub : List ℕ} {before : Positions} {verdict : Verdict}
+    → Reaches (in_type []) old mid None (in_list top sub begun_list) → before ≡ positions_of (before_list top sub)
+    → ScansList before mid new verdict → Scans old new verdict
 scans_list {old} {mid} {top = top} {sub = sub} r e scans =
     let found = walk_from-lengthens (in_type []) r.run (in_list top sub begun_list) refl r.walked in
     scans old top sub found.0.top found.0.sub e (subst (λ run. Given old mid run None) (sym found.1) r.given)
 
 -- the loop before a parameter: some are closed, and each took a byte of those that were left
-pub record Turn (head positions : Positions) (old now : Remaining) : Type 0 where
+pub record Turn (before positions : Positions) (old now : Remaining) : Type 0 where
   pub closed : List (List ℕ × Parameter)
   pub walked : ListReaches old now None (record { closed = closed; position = in_spaces [] })
-  pub same_positions : positions ≡ record head { pair_count = head.pair_count + (length closed + 0) }
+  pub same_positions : positions ≡ record before { pair_count = before.pair_count + (length closed + 0) }
   pub room : length closed + length now.left ≤ length old.left
 
 -- one parameter more is counted
-pub one_pair_more : (head positions : Positions) (n : ℕ) → positions ≡ record head { pair_count = head.pair_count + (n + 0) }
-    → record positions { pair_count = positions.pair_count + 1 } ≡ record head { pair_count = head.pair_count + (n + 1) }
-one_pair_more head positions n e = rw e (ap (λ (count : ℕ). record head { pair_count = count }) (omega arith))
+pub one_pair_more : (before positions : Positions) (n : ℕ) → positions ≡ record before { pair_count = before.pair_count + (n + 0) }
+    → record positions { pair_count = positions.pair_count + 1 } ≡ record before { pair_count = before.pair_count + (n + 1) }
+one_pair_more before positions n e = rw e (ap (λ (count : ℕ). record before { pair_count = count }) (omega arith))
 
 -- the spaces before a parameter were walked
-pub spaces_walked : {head positions : Positions} {old mid new : Remaining} {stop : Option ℕ}
-    → (t : Turn head positions old mid) → (p : Passes is_space mid new stop)
+pub spaces_walked : {before positions : Positions} {old mid new : Remaining} {stop : Option ℕ}
+    → (t : Turn before positions old mid) → (p : Passes is_space mid new stop)
     → ListReaches old new stop (record { closed = t.closed; position = in_spaces p.run })
 spaces_walked t p = list_run t.walked p.given (walk_list-spaces t.closed [] p.run p.of_class)
 
 -- a parameter's name was walked
-pub name_walked : {head positions : Positions} {old mid from new : Remaining} {b : ℕ} {stop : Option ℕ}
-    → (t : Turn head positions old mid) → (p : Passes is_space mid from (Some b)) → is_token_byte b ≡ true
+pub name_walked : {before positions : Positions} {old mid from new : Remaining} {b : ℕ} {stop : Option ℕ}
+    → (t : Turn before positions old mid) → (p : Passes is_space mid from (Some b)) → is_token_byte b ≡ true
     → (q : Passes is_token_byte from new stop)
     → ListReaches old new stop (record { closed = t.closed; position = in_name p.run (b ∷ q.run) })
 name_walked {b = b} t p f q =
@@ -112,8 +112,8 @@ pub record Valued (closed : List (List ℕ × Parameter)) (spaces : List ℕ) (o
   pub parameter : Parameter
   pub position : ListState
   pub walked : ListReaches old now stop (record { closed = closed; position = position })
-  pub counted : (head : Positions) → positions_of_list head (record { closed = closed; position = position })
-      ≡ Some (record head { pair_count = head.pair_count + (length closed + 1) })
+  pub counted : (before : Positions) → positions_of_list before (record { closed = closed; position = position })
+      ≡ Some (record before { pair_count = before.pair_count + (length closed + 1) })
   pub closing : grow_state closed position semicolon_byte ≡ close closed spaces parameter
   pub stopped : MatchOption stop (now.left ≡ []) (λ b. b ≢ semicolon_byte → grow_state closed position b ≡ None)
   pub less : length now.left ≤ length mid.left
@@ -134,7 +134,7 @@ valued_token {closed} {spaces} {name} {new = new} {b = b} {stop = stop} r g f q 
   parameter = plain name (b ∷ q.run);
   position = in_value spaces name (b ∷ q.run);
   walked = list_run r (given_then (given_whole g.0) q.given) (walk_list-value closed spaces name (b ∷ q.run) (and_from _ _ f q.of_class));
-  counted = λ head. refl;
+  counted = λ before. refl;
   closing = rw semicolon_is_no_token;
   stopped = only_semicolon is_token_byte new.left stop _ _ q.stopped;
   less = omega (arith, given_sum g.0, given_sum q.given);
@@ -152,7 +152,7 @@ valued_quotes {closed} {spaces} {name} {new = new} {c = c} {stop = stop} r g e q
       list_run
       (list_byte (quotes_walked r g e q) (cond-false (continues q.run c) _ _ q.stopped ∙ cond-true _ _ _ (eq-eqb c quote_byte h)))
       p.given (walk_list-after_quotes closed spaces name q.run [] p.run p.of_class);
-  counted = λ head. refl;
+  counted = λ before. refl;
   closing = refl;
   stopped = only_semicolon is_space new.left stop _ _ p.stopped;
   less = omega (arith, given_sum g.0, given_sum q.given, given_sum p.given);

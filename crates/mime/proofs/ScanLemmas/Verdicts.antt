@@ -117,8 +117,8 @@ length-with_closed ((n, parameter) ∷ closed) rest = length-with_closed closed 
 
 -- the positions of a text that ends in a list, if it may end there, with those before the list
 abbrev pub positions_of_list : Positions → BegunList → Option Positions
-positions_of_list head list =
-    option_map (λ rest. record head { pair_count = head.pair_count + (length list.closed + length (pairs_of_list rest)) })
+positions_of_list before list =
+    option_map (λ rest. record before { pair_count = before.pair_count + (length list.closed + length (pairs_of_list rest)) })
     (list_at_end list.position)
 
 -- the positions of a text that ends in a list are those of its tree
@@ -143,9 +143,9 @@ stopped_in_list top sub left list None end = end
 stopped_in_list top sub left list (Some b) dead = ap (option_map (in_list top sub)) dead
 
 -- the scanner's answer on a list where it stops
-pub list_scans_at : {head : Positions} {old new : Remaining} {stop : Option ℕ} {list : BegunList} (positions : Option Positions)
+pub list_scans_at : {before : Positions} {old new : Remaining} {stop : Option ℕ} {list : BegunList} (positions : Option Positions)
     → ListReaches old new stop list → MatchOption stop (new.left ≡ []) (λ b. grow_list list b ≡ None)
-    → positions ≡ positions_of_list head list → ScansList head old new (verdict_at stop positions (lacking_list list.position))
+    → positions ≡ positions_of_list before list → ScansList before old new (verdict_at stop positions (lacking_list list.position))
 list_scans_at {new = new} {stop = stop} {list = list} positions r stopped e = λ start top sub top_token sub_token head_is given.
     let before : Reaches (in_type []) start _ None (in_list top sub begun_list) = record {
       run = text_of (before_list top sub);

@@ -1,10 +1,9 @@
--- What a value feeds a hasher: the buffer in which a pair is joined, and that what is fed is prefix-free.
-use Rattle.std.proofs.Common.{◌≡◌, ℕ, suc, ◌+◌, ◌-◌, ◌%◌, ◌<◌, ◌≤◌, List, [], ◌∷◌, ◌++◌, length, take, drop, replicate, refl, sym, ap, ◌∙◌, arith, true, false, cond, subst, append-nil, append_assoc, ⊎_elim}
+-- What a value feeds a hasher: the last word of a part, and that what is fed is prefix-free.
+use Rattle.std.proofs.Common.{◌≡◌, ℕ, suc, ◌-◌, ◌<◌, List, [], ◌∷◌, ◌++◌, length, take, drop, replicate, refl, sym, ap, ◌∙◌, arith, true, subst, append-nil, append_assoc, ⊎_elim}
 use Rattle.std.proofs.Math.ListN.{set}
-use Rattle.std.proofs.Math.Seq.{take-append-add}
-use Rattle.std.proofs.lemmas.List.{append_assoc, take_at, drop_at, set_at, drop-replicate, take-replicate, length-append, append_cancel_left}
-use Rattle.mime.specs.Inner.HashInput.{pair_count, pair_run, pair_end, pair_parts, pair_input, media_input}
-use Rattle.std.specs.Prelude.{IsUtf8, nat_lt}
+use Rattle.std.proofs.lemmas.List.{append_assoc, set_at, drop-replicate, append_cancel_left, take-append-drop}
+use Rattle.mime.specs.Inner.HashInput.{end_word, words_len, part_input, pair_input, media_input}
+use Rattle.std.specs.Prelude.{IsUtf8}
 use Rattle.std.specs.List.{list_all, flat_map, concat, AllByRecursion}
 use Rattle.std.proofs.lemmas.Bool.{and_parts, and_from}
 use Rattle.std.proofs.lemmas.Bool.Decides.{nat_tests}
@@ -17,59 +16,18 @@ use Rattle.mime.specs.HashLaws.{IsReadInUtf8, IsPrefixFree}
 use Rattle.mime.proofs.BytesLemmas.{list_all-parts, list_all-wider, is_other, AreTokenBytes-from_token, are_other-token}
 use Rattle.mime.proofs.LowercaseLemmas.{IsToken-lowered, list_all-lowered, lowered_value-either}
 use Rattle.mime.specs.Inner.Blocks.{before_byte, after_byte}
-use Rattle.mime.proofs.ValueLemmas.ListText.{flagged, before_to, after_to}
+use Rattle.mime.proofs.ValueLemmas.ListText.{ended, before_to, after_to}
 use Rattle.std.proofs.lemmas.Bool.{cases_lt}
 use Rattle.std.proofs.lemmas.Str.{encode_ascii}
 use Rattle.mime.proofs.ValueLemmas.Utf8.{high_bytes}
 use lib.Utf8.{scalars, scalar, encodes, encode}
 
--- a text copied in after what the buffer holds
-put-text : (free at count : ℕ) (held text : List ℕ) → length held ≡ at
-    → take at (held ++ replicate free 0) ++ (text ++ drop count (drop at (held ++ replicate free 0)))
-    ≡ held ++ text ++ replicate (free - count) 0
-put-text free at count held text is =
-    rw (take_at held (replicate free 0) at is, drop_at held (replicate free 0) at is, drop-replicate {X = ℕ} count free 0)
-    (sym (append_assoc held text (replicate (free - count) 0)))
-
--- the byte 255 after what the buffer holds
-put-flag : (free left at : ℕ) (held : List ℕ) → length held ≡ at → free ≡ suc left
-    → set (held ++ replicate free 0) at 255 ≡ held ++ 255 ∷ [] ++ replicate left 0
-put-flag free left at held is room =
-    rw room (set_at held 0 (replicate left 0) 255 at is ∙ sym (append_assoc held (255 ∷ []) (replicate left 0)))
-
--- the start of the buffer
-take-held : (free kept count : ℕ) (held : List ℕ) → count ≡ length held + kept → kept ≤ free
-    → take count (held ++ replicate free 0) ≡ held ++ replicate kept 0
-take-held free kept count held is within =
-    rw is (take-append-add held (replicate free 0) kept ∙ ap (λ zeros. held ++ zeros) (take-replicate {X = ℕ} kept free 0 within))
-
--- a name, the byte 255, a value and the byte 255, up to a whole word, are the pair's run
-pub joined_pair : (name value one other : List ℕ) → one ≡ name → other ≡ value → pair_count (name, value) < 64
-    → take (length name + 1 + length value + 8 - (length name + 1 + length value) % 8)
-    (set (take (length name + 1) (set (one ++ drop (length name) (replicate 64 0)) (length name) 255)
-    ++ (other ++ drop (length name + 1 + length value - (length name + 1))
-    (drop (length name + 1) (set (one ++ drop (length name) (replicate 64 0)) (length name) 255))))
-    (length name + 1 + length value) 255)
-    ≡ pair_run (name, value)
-joined_pair name value one other first second short =
-    let flagged : length (name ++ 255 ∷ []) ≡ length name + 1 = length-append name (255 ∷ []) in
-    let filled : length (name ++ 255 ∷ [] ++ value) ≡ length name + 1 + length value = length-append (name ++ 255 ∷ []) value
-    ∙ ap (λ n. n + length value) flagged in
-    let closed : length (name ++ 255 ∷ [] ++ value ++ 255 ∷ []) ≡ length name + 1 + length value + 1 =
-    length-append (name ++ 255 ∷ [] ++ value) (255 ∷ []) ∙ ap (λ n. n + 1) filled in
-    rw (
-      first,
-      second,
-      drop-replicate {X = ℕ} (length name) 64 0,
-      put-flag (64 - length name) (63 - length name) (length name) name refl (omega (arith, short)),
-      put-text (63 - length name) (length name + 1) (length name + 1 + length value - (length name + 1)) (name ++ 255 ∷ []) value flagged,
-      put-flag (63 - length name - (length name + 1 + length value - (length name + 1))) (63 - (length name + 1 + length value))
-          (length name + 1 + length value) (name ++ 255 ∷ [] ++ value) filled (omega (arith, short)),
-      take-held (63 - (length name + 1 + length value)) (7 - (length name + 1 + length value) % 8)
-          (length name + 1 + length value + 8 - (length name + 1 + length value) % 8) (name ++ 255 ∷ [] ++ value ++ 255 ∷ [])
-          (omega (arith, closed)) (omega (arith, short)),
-    )
-    (simp append_assoc)
+-- a part's bytes after its whole words, copied into a word of zeros, with the byte 255 after them
+pub ended_rest : (rest one : List ℕ) → one ≡ rest → length rest < 8
+    → set (one ++ drop (length rest) (replicate 8 0)) (length rest) 255 ≡ end_word rest
+ended_rest rest one is short =
+    let free : 8 - length rest ≡ suc (7 - length rest) = omega (arith, short) in
+    rw (is, drop-replicate {X = ℕ} (length rest) 8 0, free) (set_at rest 0 (replicate (7 - length rest) 0) 255 (length rest) refl)
 
 -- ---- the byte 255
 
@@ -106,10 +64,10 @@ lowered_bytes : (text : List ℕ) → AreTextBytes text → AreTextBytes (lowere
 lowered_bytes text all = list_all-lowered (is_other 255) (λ b. grind (arith, nat_tests)) text ∙ all
 
 -- two runs up to the first byte 255 are the same, and so is what follows
-first_flag : (xs ys m n : List ℕ) → AreTextBytes xs → AreTextBytes ys → xs ++ (255 ∷ m) ≡ ys ++ (255 ∷ n) → (xs ≡ ys) × (m ≡ n)
-first_flag xs ys m n one other same = (
-  sym (before_to 255 xs (255 ∷ m) m one (flagged m)) ∙ ap (before_byte 255) same ∙ before_to 255 ys (255 ∷ n) n other (flagged n),
-  sym (after_to 255 xs (255 ∷ m) m one (flagged m)) ∙ ap (after_byte 255) same ∙ after_to 255 ys (255 ∷ n) n other (flagged n),
+first_end : (xs ys m n : List ℕ) → AreTextBytes xs → AreTextBytes ys → xs ++ (255 ∷ m) ≡ ys ++ (255 ∷ n) → (xs ≡ ys) × (m ≡ n)
+first_end xs ys m n one other same = (
+  sym (before_to 255 xs (255 ∷ m) m one (ended m)) ∙ ap (before_byte 255) same ∙ before_to 255 ys (255 ∷ n) n other (ended n),
+  sym (after_to 255 xs (255 ∷ m) m one (ended m)) ∙ ap (after_byte 255) same ∙ after_to 255 ys (255 ∷ n) n other (ended n),
 )
 
 -- ---- the values that are read
@@ -164,56 +122,75 @@ fed-read value (text, utf8, reads) =
 
 -- ---- the bytes that are fed
 
--- a pair feeds its run, in one piece or part by part
-pair_bytes : (pair : List ℕ × List ℕ) → concat (pair_input pair) ≡ pair_run pair
-pair_bytes pair =
-    elim (nat_lt (pair_count pair) 64) as (λ b. concat (cond b (pair_run pair ∷ []) (pair_parts pair)) ≡ pair_run pair) [
-      | true ↦ append-nil (pair_run pair)
-      | false ↦ ap (λ end. pair.0 ++ (255 ∷ (pair.1 ++ end))) (append-nil (pair_end (pair_count pair)))
-    ]
+-- the zeros after a part
+abbrev zeros_after : List ℕ → List ℕ
+zeros_after part = replicate (7 - length (drop (words_len part) part)) 0
 
-pairs_bytes : (pairs : List (List ℕ × List ℕ)) → concat (flat_map pair_input pairs) ≡ flat_map pair_run pairs
-pairs_bytes [] = refl
-pairs_bytes (pair ∷ pairs) =
+-- the bytes of a part, with its end
+abbrev part_bytes : List ℕ → List ℕ
+part_bytes part = part ++ (255 ∷ zeros_after part)
+
+abbrev pair_bytes : List ℕ × List ℕ → List ℕ
+pair_bytes pair = part_bytes pair.0 ++ part_bytes pair.1
+
+-- a part feeds these
+fed_part_bytes : (part : List ℕ) → concat (part_input part) ≡ part_bytes part
+fed_part_bytes part =
+    ap (λ end. take (words_len part) part ++ end) (append-nil (end_word (drop (words_len part) part)))
+    ∙ sym (append_assoc (take (words_len part) part) (drop (words_len part) part) (255 ∷ zeros_after part))
+    ∙ ap (λ whole. whole ++ (255 ∷ zeros_after part)) (take-append-drop (words_len part) part)
+
+fed_pair_bytes : (pair : List ℕ × List ℕ) → concat (pair_input pair) ≡ pair_bytes pair
+fed_pair_bytes pair =
+    concat-append (part_input pair.0) (part_input pair.1) ∙ (λ i. fed_part_bytes pair.0 i ++ fed_part_bytes pair.1 i)
+
+fed_pairs_bytes : (pairs : List (List ℕ × List ℕ)) → concat (flat_map pair_input pairs) ≡ flat_map pair_bytes pairs
+fed_pairs_bytes [] = refl
+fed_pairs_bytes (pair ∷ pairs) =
     ap concat (flat_map-cons pair_input pair pairs) ∙ concat-append (pair_input pair) (flat_map pair_input pairs)
-    ∙ (λ i. pair_bytes pair i ++ pairs_bytes pairs i) ∙ sym (flat_map-cons pair_run pair pairs)
+    ∙ (λ i. fed_pair_bytes pair i ++ fed_pairs_bytes pairs i) ∙ sym (flat_map-cons pair_bytes pair pairs)
 
--- a value feeds the runs of its pairs, its essence, and the byte 255
+-- a value feeds the bytes of its pairs, its essence, and the byte 255
 media_bytes : (media : MediaType) (after : List ℕ)
-    → concat (media_input media) ++ after ≡ flat_map pair_run media.pairs ++ (media.essence ++ (255 ∷ after))
+    → concat (media_input media) ++ after ≡ flat_map pair_bytes media.pairs ++ (media.essence ++ (255 ∷ after))
 media_bytes media after =
-    rw (concat-append (flat_map pair_input media.pairs) (media.essence ∷ (255 ∷ []) ∷ []), pairs_bytes media.pairs) (simp append_assoc)
+    rw (concat-append (flat_map pair_input media.pairs) (media.essence ∷ (255 ∷ []) ∷ []), fed_pairs_bytes media.pairs) (simp append_assoc)
 
--- the runs of pairs, and what follows them
-more_runs : (pair : List ℕ × List ℕ) (pairs : List (List ℕ × List ℕ)) (after : List ℕ)
-    → flat_map pair_run (pair ∷ pairs) ++ after
-    ≡ pair.0 ++ (255 ∷ (pair.1 ++ (255 ∷ (replicate (7 - pair_count pair % 8) 0 ++ (flat_map pair_run pairs ++ after)))))
-more_runs pair pairs after = ap (λ xs. xs ++ after) (flat_map-cons pair_run pair pairs) ∙ simp append_assoc
+-- the bytes of pairs, and what follows them
+more_bytes : (pair : List ℕ × List ℕ) (pairs : List (List ℕ × List ℕ)) (after : List ℕ)
+    → flat_map pair_bytes (pair ∷ pairs) ++ after
+    ≡ pair.0 ++ (255 ∷ (zeros_after pair.0 ++ (pair.1 ++ (255 ∷ (zeros_after pair.1 ++ (flat_map pair_bytes pairs ++ after))))))
+more_bytes pair pairs after =
+    ap (λ xs. xs ++ after) (flat_map-cons pair_bytes pair pairs) ∙ append_assoc (pair_bytes pair) (flat_map pair_bytes pairs) after
+    ∙ append_assoc (part_bytes pair.0) (part_bytes pair.1) _ ∙ append_assoc pair.0 (255 ∷ zeros_after pair.0) _
+    ∙ ap (λ xs. pair.0 ++ (255 ∷ (zeros_after pair.0 ++ xs))) (append_assoc pair.1 (255 ∷ zeros_after pair.1) _)
+
+-- two runs that begin with a part and its end: the parts are the same, and so is what follows
+first_part : (x y m n : List ℕ) → AreTextBytes x → AreTextBytes y → x ++ (255 ∷ (zeros_after x ++ m)) ≡ y ++ (255 ∷ (zeros_after y ++ n))
+    → (x ≡ y) × (m ≡ n)
+first_part x y m n one other same =
+    let cut = first_end x y _ _ one other same in
+    (cut.0, append_cancel_left (zeros_after y) m n (ap (λ part. zeros_after part ++ m) (sym cut.0) ∙ cut.1))
 
 -- pairs and essences whose bytes begin with the same are the same
 pairs_same : (xs ys : List (List ℕ × List ℕ)) (one other m n : List ℕ) → AllByRecursion IsFedPair xs → AllByRecursion IsFedPair ys
     → AreTextBytes one → AreTextBytes other → ¬ (AreTokenBytes one) → ¬ (AreTokenBytes other)
-    → flat_map pair_run xs ++ (one ++ (255 ∷ m)) ≡ flat_map pair_run ys ++ (other ++ (255 ∷ n))
+    → flat_map pair_bytes xs ++ (one ++ (255 ∷ m)) ≡ flat_map pair_bytes ys ++ (other ++ (255 ∷ n))
     → (one ≡ other) × (xs ≡ ys)
 unfolding is_token_byte
-pairs_same [] [] one other m n first second text also slash slashed same = ((first_flag one other m n text also same).0, refl)
+pairs_same [] [] one other m n first second text also slash slashed same = ((first_end one other m n text also same).0, refl)
 pairs_same [] (y ∷ ys) one other m n first second text also slash slashed same =
-    let cut = first_flag one y.0 m _ text (are_other-token 255 refl y.0 second.0.0) (same ∙ more_runs y ys _) in
+    let cut = first_end one y.0 m _ text (are_other-token 255 refl y.0 second.0.0) (same ∙ more_bytes y ys _) in
     absurd (slash (subst AreTokenBytes (sym cut.0) second.0.0))
 pairs_same (x ∷ xs) [] one other m n first second text also slash slashed same =
-    let cut = first_flag x.0 other _ n (are_other-token 255 refl x.0 first.0.0) also (sym (more_runs x xs _) ∙ same) in
+    let cut = first_end x.0 other _ n (are_other-token 255 refl x.0 first.0.0) also (sym (more_bytes x xs _) ∙ same) in
     absurd (slashed (subst AreTokenBytes cut.0 first.0.0))
 pairs_same (x ∷ xs) (y ∷ ys) one other m n first second text also slash slashed same =
-    let named = first_flag x.0 y.0 _ _ (are_other-token 255 refl x.0 first.0.0) (are_other-token 255 refl y.0 second.0.0)
-    (sym (more_runs x xs _) ∙ same ∙ more_runs y ys _) in
-    let valued = first_flag x.1 y.1 _ _ first.0.1 second.0.1 named.1 in
-    let pair : x ≡ y = λ i. (named.0 i, valued.0 i) in
-    let rest = pairs_same xs ys one other m n first.1 second.1 text also slash slashed
-    (zeros (7 - pair_count x % 8) (7 - pair_count y % 8) _ _ (ap (λ p. 7 - pair_count p % 8) pair) valued.1) in
-    (rest.0, λ i. pair i ∷ rest.1 i)
-  where
-    zeros : (k l : ℕ) (first second : List ℕ) → k ≡ l → replicate k 0 ++ first ≡ replicate l 0 ++ second → first ≡ second
-    zeros k l first second is same = append_cancel_left (replicate l 0) first second (sym (ap (λ k. replicate k 0 ++ first) is) ∙ same)
+    let named = first_part x.0 y.0 _ _ (are_other-token 255 refl x.0 first.0.0) (are_other-token 255 refl y.0 second.0.0)
+    (sym (more_bytes x xs _) ∙ same ∙ more_bytes y ys _) in
+    let valued = first_part x.1 y.1 _ _ first.0.1 second.0.1 named.1 in
+    let rest = pairs_same xs ys one other m n first.1 second.1 text also slash slashed valued.1 in
+    (rest.0, λ i. (named.0 i, valued.0 i) ∷ rest.1 i)
 
 -- what values feed is prefix-free
 pub hash_is_prefix_free : IsPrefixFree (λ value. media_input value.media)

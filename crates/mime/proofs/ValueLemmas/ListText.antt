@@ -20,7 +20,7 @@ use borrow.Rule.Slice.PartMut.{put_mid}
 -- what may follow a run: nothing, or the byte and the rest
 pub data IsFollow (byte : ℕ) : List ℕ → List ℕ → Type 0 where
   nothing : IsFollow byte [] []
-  flagged : (rest : List ℕ) → IsFollow byte (byte ∷ rest) rest
+  ended : (rest : List ℕ) → IsFollow byte (byte ∷ rest) rest
 
 -- a run of a class ends at the first byte outside it
 run_to : (class : ℕ → Bool) (run : List ℕ) (b : ℕ) (after : List ℕ) → list_all class run ≡ true → class b ≡ false
@@ -33,7 +33,7 @@ run_to class (x ∷ run) b after all out =
 -- the search for a byte passes a run without it, up to the byte or to the end
 position_to : (byte : ℕ) (run follow rest : List ℕ) → list_all (is_other byte) run ≡ true → IsFollow byte follow rest
     → prefix_len (is_other byte) (run ++ follow) ≡ length run
-position_to byte run follow rest all (flagged _) = run_to (is_other byte) run byte rest all (grind (arith, nat_tests))
+position_to byte run follow rest all (ended _) = run_to (is_other byte) run byte rest all (grind (arith, nat_tests))
 position_to byte [] follow rest all nothing = refl
 position_to byte (x ∷ run) follow rest all nothing =
     let parts = and_parts (is_other byte x) (list_all (is_other byte) run) all in
@@ -51,7 +51,7 @@ drop_past byte run follow rest n follows long =
   where
     past : (follow rest : List ℕ) → IsFollow byte follow rest → drop 1 follow ≡ rest
     past follow rest nothing = refl
-    past follow rest (flagged _) = refl
+    past follow rest (ended _) = refl
 
 -- the text after it
 pub after_to : (byte : ℕ) (run follow rest : List ℕ) → list_all (is_other byte) run ≡ true → IsFollow byte follow rest
@@ -62,9 +62,9 @@ after_to byte run follow rest all follows =
 -- a plain value is cut up to the semicolon or the end
 cut_value-plain : (whole : ℕ) (name value follow rest : List ℕ) → AreTokenBytes value → IsFollow semicolon_byte follow rest
     → cut_after_equals whole name (value ++ follow)
-    ≡ record { name = name; head = whole - length (value ++ follow); value = value; rest = rest }
-cut_value-plain whole name [] follow rest all nothing = ap (λ n. record { name = name; head = n; value = []; rest = [] }) (omega arith)
-cut_value-plain whole name [] follow rest all (flagged _) = refl
+    ≡ record { name = name; value_start = whole - length (value ++ follow); value = value; rest = rest }
+cut_value-plain whole name [] follow rest all nothing = ap (λ n. record { name = name; value_start = n; value = []; rest = [] }) (omega arith)
+cut_value-plain whole name [] follow rest all (ended _) = refl
 cut_value-plain whole name (v ∷ value) follow rest all follows =
     let first = and_parts (is_token_byte v) (list_all is_token_byte value) all in
     let others = are_other-token semicolon_byte semicolon_is_no_token (v ∷ value) all in
@@ -74,12 +74,12 @@ cut_value-plain whole name (v ∷ value) follow rest all follows =
 -- a quoted value is cut up to its closing quote
 cut_value-quoted : (whole : ℕ) (name content n follow rest : List ℕ) → IsContent content → AreSpaces n → IsFollow semicolon_byte follow rest
     → cut_after_equals whole name (quote_byte ∷ (content ++ (quote_byte ∷ (n ++ follow))))
-    ≡ record { name = name; head = whole - length (content ++ (quote_byte ∷ (n ++ follow))); value = content; rest = rest }
+    ≡ record { name = name; value_start = whole - length (content ++ (quote_byte ∷ (n ++ follow))); value = content; rest = rest }
 cut_value-quoted whole name content n follow rest is white follows =
     let bytes : List ℕ = content ++ (quote_byte ∷ (n ++ follow)) in
     let position = content_len-content content (n ++ follow) is in
     let value : content_of bytes ≡ content = take_at content (quote_byte ∷ (n ++ follow)) (content_len bytes) (sym position) in
-    let after_quote : after_content bytes ≡ n ++ follow = drop_past quote_byte content _ _ (content_len bytes) (flagged _) (sym position) in
+    let after_quote : after_content bytes ≡ n ++ follow = drop_past quote_byte content _ _ (content_len bytes) (ended _) (sym position) in
     let after : after_byte semicolon_byte (after_content bytes) ≡ rest =
     ap (after_byte semicolon_byte) after_quote
     ∙ after_to semicolon_byte n follow rest (are_other-spaces semicolon_byte refl n white) follows in
@@ -101,8 +101,8 @@ cut_of-named n name after white is =
     let others = are_other-token equals_byte equals_is_no_token name (AreTokenBytes-from_token name is) in
     rw (
       without_spaces-token n name (equals_byte ∷ after) white is,
-      before_to equals_byte name (equals_byte ∷ after) after others (flagged after),
-      after_to equals_byte name (equals_byte ∷ after) after others (flagged after),
+      before_to equals_byte name (equals_byte ∷ after) after others (ended after),
+      after_to equals_byte name (equals_byte ∷ after) after others (ended after),
     )
 
 -- the text before the value of a parameter
@@ -134,19 +134,19 @@ head_counted n name opening after =
 cut_of-parameter : (n : List ℕ) (p : Parameter) (follow rest : List ℕ) → AreSpaces n → IsParameter p
     → IsFollow semicolon_byte follow rest
     → cut_of (n ++ (text_of_parameter p ++ follow))
-    ≡ record { name = (pair_of p).0; head = length (n ++ head_of p); value = (pair_of p).1; rest = rest }
+    ≡ record { name = (pair_of p).0; value_start = length (n ++ head_of p); value = (pair_of p).1; rest = rest }
 cut_of-parameter n (plain name value) follow rest white (named, token) follows =
     ap (λ x. cut_of (n ++ x)) (append_assoc name (equals_byte ∷ value) follow)
     ∙ cut_of-named n name (value ++ follow) white named
     ∙ cut_value-plain _ name value follow rest (AreTokenBytes-from_token value token) follows
-    ∙ ap (λ h. record { name = name; head = h; value = value; rest = rest }) (head_counted n name (equals_byte ∷ []) (value ++ follow))
+    ∙ ap (λ h. record { name = name; value_start = h; value = value; rest = rest }) (head_counted n name (equals_byte ∷ []) (value ++ follow))
 cut_of-parameter n (quoted name content m) follow rest white (named, is, blanks) follows =
     let after = content ++ (quote_byte ∷ (m ++ follow)) in
     let grouped : text_of_parameter (quoted name content m) ++ follow ≡ name ++ (equals_byte ∷ quote_byte ∷ after) = simp append_assoc in
     ap (λ x. cut_of (n ++ x)) grouped
     ∙ cut_of-named n name (quote_byte ∷ after) white named
     ∙ cut_value-quoted _ name content m follow rest is blanks follows
-    ∙ ap (λ h. record { name = name; head = h; value = content; rest = rest }) (head_counted n name (equals_byte ∷ quote_byte ∷ []) after)
+    ∙ ap (λ h. record { name = name; value_start = h; value = content; rest = rest }) (head_counted n name (equals_byte ∷ quote_byte ∷ []) after)
 
 -- the pairs of a parameter list's text are the list's
 pub pairs_within-text_of_list : (list : Parameters) → AreParameters list
@@ -157,7 +157,7 @@ pairs_within-text_of_list (final n p) (white, well) =
     ∙ ap (λ (cut : PairCut). (cut.name, cut.value) ∷ []) (cut_of-parameter n p [] [] white well nothing)
 pairs_within-text_of_list (more n p rest) (white, well, others) =
     ap (λ (cut : PairCut). (cut.name, cut.value) ∷ pairs_within (length (pairs_of_list rest)) cut.rest)
-    (cut_of-parameter n p _ (text_of_list rest) white well (flagged _))
+    (cut_of-parameter n p _ (text_of_list rest) white well (ended _))
     ∙ ap (λ pairs. pair_of p ∷ pairs) (pairs_within-text_of_list rest others)
 
 -- spaces are in lowercase already
@@ -189,7 +189,7 @@ lowered_within-parameter count n p between rest white well follows =
       prefix = n ++ head_of p;
       middle = end_of p ++ between;
       parts = subst (λ (c : PairCut). list ≡ (n ++ head_of p) ++ (c.value ++ ((end_of p ++ between) ++ c.rest))) (sym cut) parts;
-      head = ap (λ (c : PairCut). c.head) cut;
+      value_start = ap (λ (c : PairCut). c.value_start) cut;
     })
     ∙ ap (λ (c : PairCut). (lowered (n ++ head_of p) ++ (lowered_value c.name c.value ++ (end_of p ++ between)))
     ++ lowered_within count c.rest) cut
@@ -205,7 +205,7 @@ lowered_within-text_of_list (final n p) (white, well) =
     ∙ lowered_within-parameter 0 n p [] [] white well nothing
     ∙ ap (λ x. n ++ x) (append-nil (text_of_parameter (lowered_parameter p)))
 lowered_within-text_of_list (more n p rest) (white, well, others) =
-    lowered_within-parameter _ n p (semicolon_byte ∷ []) (text_of_list rest) white well (flagged _)
+    lowered_within-parameter _ n p (semicolon_byte ∷ []) (text_of_list rest) white well (ended _)
     ∙ ap (λ x. n ++ (text_of_parameter (lowered_parameter p) ++ (semicolon_byte ∷ x))) (lowered_within-text_of_list rest others)
 
 -- the bytes with those between two positions lowercased
@@ -225,27 +225,27 @@ lowered_range-middle from to bytes prefix middle back e at end =
     cc
 
 -- the head of a list lowercased, and the rest as it is
-lowered_range-head : (list : List ℕ) (lies : LiesIn list (cut_of list))
-    → lowered_range 0 (cut_of list).head list ≡ lowered lies.prefix ++ ((cut_of list).value ++ (lies.middle ++ (cut_of list).rest))
-lowered_range-head list lies = lowered_range-middle 0 _ list [] lies.prefix _ lies.parts refl (omega (arith, lies.head))
+lowered_range-before_value : (list : List ℕ) (lies : LiesIn list (cut_of list))
+    → lowered_range 0 (cut_of list).value_start list ≡ lowered lies.prefix ++ ((cut_of list).value ++ (lies.middle ++ (cut_of list).rest))
+lowered_range-before_value list lies = lowered_range-middle 0 _ list [] lies.prefix _ lies.parts refl (omega (arith, lies.value_start))
 
 -- under another name than `charset` the head alone is lowercased
 pub lowered_first-plain : (list : List ℕ) → is_charset (cut_of list).name ≡ false
-    → lowered_range 0 (cut_of list).head list ≡ lowered_first list
+    → lowered_range 0 (cut_of list).value_start list ≡ lowered_first list
 lowered_first-plain list other =
     let lies = cut_of-lies list in
     let as_is : lowered_value (cut_of list).name (cut_of list).value ≡ (cut_of list).value = rw other refl in
-    lowered_range-head list lies ∙ sym (lowered_first-joined list lies ∙ rw as_is (simp append_assoc))
+    lowered_range-before_value list lies ∙ sym (lowered_first-joined list lies ∙ rw as_is (simp append_assoc))
 
 -- under `charset` the value is lowercased too
 pub lowered_first-charset : (list : List ℕ) → is_charset (cut_of list).name ≡ true
-    → lowered_range (cut_of list).head ((cut_of list).head + length (cut_of list).value) (lowered_range 0 (cut_of list).head list)
+    → lowered_range (cut_of list).value_start ((cut_of list).value_start + length (cut_of list).value) (lowered_range 0 (cut_of list).value_start list)
     ≡ lowered_first list
 lowered_first-charset list charset =
     let lies = cut_of-lies list in
     let lowercase : lowered_value (cut_of list).name (cut_of list).value ≡ lowered (cut_of list).value = rw charset refl in
-    lowered_range-middle _ _ _ (lowered lies.prefix) _ (lies.middle ++ (cut_of list).rest) (lowered_range-head list lies)
-    (length-lowered lies.prefix ∙ sym lies.head) refl
+    lowered_range-middle _ _ _ (lowered lies.prefix) _ (lies.middle ++ (cut_of list).rest) (lowered_range-before_value list lies)
+    (length-lowered lies.prefix ∙ sym lies.value_start) refl
     ∙ sym (lowered_first-joined list lies ∙ rw lowercase (simp append_assoc))
 
 -- the bytes are those that are done and the list that is left; with `count` pairs of the list lowercased they are the whole

@@ -6,7 +6,7 @@ use Rattle.std.proofs.lemmas.List.{drop_more, drop_all, take_at, drop_at, drop-d
 use Rattle.std.proofs.lemmas.Bool.{and_parts, cond-false, eqb-true, true≢false, cond_both}
 use Rattle.mime.specs.Bytes.{quote_byte, backslash_byte, equals_byte}
 use Rattle.mime.specs.Grammar.{IsContent}
-use Rattle.mime.specs.Inner.Blocks.{first_position, before_byte, after_byte, IsEndOf}
+use Rattle.mime.specs.Inner.Blocks.{first_position, before_byte, after_byte, IsSuffixOf}
 use Rattle.mime.proofs.BlocksLemmas.{end_all, end_drop}
 use Rattle.mime.specs.Inner.Quoted.{awaits_next, takes, takes_all, awaits_after, len_from, content_len}
 use Rattle.mime.proofs.GrammarLemmas.Content.{taken-closes_not, content-taken, content-awaits}
@@ -134,11 +134,11 @@ pub record LiesIn (list : List ℕ) (cut : PairCut) : Type 0 where
   pub prefix : List ℕ
   pub middle : List ℕ
   pub parts : list ≡ prefix ++ (cut.value ++ (middle ++ cut.rest))
-  pub head : cut.head ≡ length prefix
+  pub value_start : cut.value_start ≡ length prefix
 
 -- a value that begins an end of the list lies in the list
-lies_from_end : (list bytes name rest : List ℕ) (k n : ℕ) → IsEndOf bytes list → rest ≡ drop n (drop k bytes)
-    → LiesIn list (record { name = name; head = length list - length bytes; value = take k bytes; rest = rest })
+lies_from_end : (list bytes name rest : List ℕ) (k n : ℕ) → IsSuffixOf bytes list → rest ≡ drop n (drop k bytes)
+    → LiesIn list (record { name = name; value_start = length list - length bytes; value = take k bytes; rest = rest })
 lies_from_end list bytes name rest k n end after =
     let prefix = take (length list - length bytes) list in
     let whole : prefix ++ bytes ≡ list = ap (λ x. prefix ++ x) end ∙ take-append-drop (length list - length bytes) list in
@@ -146,12 +146,12 @@ lies_from_end list bytes name rest k n end after =
       prefix = prefix;
       middle = take n (drop k bytes);
       parts = sym (rw (after, take-append-drop n (drop k bytes), take-append-drop k bytes) whole);
-      head = omega (arith, ap length whole, length-append prefix bytes);
+      value_start = omega (arith, ap length whole, length-append prefix bytes);
     }
 
 -- the cut after the equals sign lies in the list
-cut_value-lies : (list name bytes : List ℕ) → IsEndOf bytes list → LiesIn list (cut_after_equals (length list) name bytes)
-cut_value-lies list name [] end = record { prefix = list; middle = []; parts = sym (append-nil list); head = refl }
+cut_value-lies : (list name bytes : List ℕ) → IsSuffixOf bytes list → LiesIn list (cut_after_equals (length list) name bytes)
+cut_value-lies list name [] end = record { prefix = list; middle = []; parts = sym (append-nil list); value_start = refl }
 cut_value-lies list name (b ∷ bytes) end =
     cond_both (b == quote_byte) _ _ (LiesIn list)
     (λ _. lies_from_end list bytes name _ (content_len bytes) _ (end_drop 1 (b ∷ bytes) list end)
@@ -167,13 +167,13 @@ cut_of-lies list =
     (end_drop _ body list (end_drop (leading_spaces list) list list (end_all list)))
 
 -- the first value and the rest don't overlap within the list
-pub cut_of-within : (list : List ℕ) → (cut_of list).head + length (cut_of list).value + length (cut_of list).rest ≤ length list
+pub cut_of-within : (list : List ℕ) → (cut_of list).value_start + length (cut_of list).value + length (cut_of list).rest ≤ length list
 cut_of-within list =
     let cut = cut_of list in
     let lies = cut_of-lies list in
     let size : length list ≡ length lies.prefix + (length cut.value + (length lies.middle + length cut.rest)) =
     ap length lies.parts ∙ simp length-append in
-    omega (arith, size, lies.head)
+    omega (arith, size, lies.value_start)
 
 -- all before the rest, and the same with the first pair lowercased
 abbrev before_rest : (list : List ℕ) → LiesIn list (cut_of list) → List ℕ
@@ -191,11 +191,11 @@ pub lowered_first-joined : (list : List ℕ) (lies : LiesIn list (cut_of list))
     → lowered_first list ≡ first_lowered list lies ++ (cut_of list).rest
 lowered_first-joined list lies =
     let cut = cut_of list in
-    let prefix : take cut.head list ≡ lies.prefix =
-    rw (lies.head) (ap (take (length lies.prefix)) lies.parts ∙ take_at lies.prefix _ (length lies.prefix) refl) in
-    let back : drop (cut.head + length cut.value) list ≡ lies.middle ++ cut.rest =
-    ap (drop (cut.head + length cut.value)) (lies.parts ∙ sym (append_assoc lies.prefix cut.value (lies.middle ++ cut.rest)))
-    ∙ drop_at (lies.prefix ++ cut.value) _ _ (omega (arith, lies.head, length-append lies.prefix cut.value)) in
+    let prefix : take cut.value_start list ≡ lies.prefix =
+    rw (lies.value_start) (ap (take (length lies.prefix)) lies.parts ∙ take_at lies.prefix _ (length lies.prefix) refl) in
+    let back : drop (cut.value_start + length cut.value) list ≡ lies.middle ++ cut.rest =
+    ap (drop (cut.value_start + length cut.value)) (lies.parts ∙ sym (append_assoc lies.prefix cut.value (lies.middle ++ cut.rest)))
+    ∙ drop_at (lies.prefix ++ cut.value) _ _ (omega (arith, lies.value_start, length-append lies.prefix cut.value)) in
     rw (prefix, back) (simp append_assoc)
 
 -- only capitals are made small

@@ -10,7 +10,7 @@ use Rattle.std.specs.Ordering.{MatchOrdering, nat_cmp, ordering_then, is_eq, is_
 use Rattle.mime.specs.Values.{MediaType}
 use Rattle.mime.specs.Comparison.{Same, IsListBefore, IsTextBefore, IsPairBefore, Before, pair_cmp, media_cmp}
 use Rattle.mime.specs.Laws.{OneOf}
-use Rattle.mime.specs.Inner.HashInput.{same_from_cmp, pair_cmp_total, media_cmp_total}
+use Rattle.mime.specs.Inner.OrderLaws.{same_from_cmp, pair_cmp_total, media_cmp_total}
 use Rattle.std.specs.Prelude.{MatchOption, IfSome}
 use Rattle.std.specs.Iterator.{YieldsFirstBy, YieldsThen, ComparesItemsByEq}
 use Rattle.std.specs.List.{AllZip}

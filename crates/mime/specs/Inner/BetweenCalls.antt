@@ -1,4 +1,4 @@
--- How a text is passed piece by piece, and what a `MimeIter` keeps.
+-- How a text is read piece by piece, and what a `MimeIter` keeps.
 use Rattle.std.specs.Prelude.{◌≡◌, ◌≢◌, ℕ, ◌+◌, ◌≤◌, ◌<◌, Bool, false, List, [], length, Option, Some, None, MatchOption}
 use Rattle.std.specs.Borrow.{Bor}
 use Rattle.mime.specs.Values.{MediaType, Reads}
@@ -23,8 +23,8 @@ IsFirstPiece text piece None left = IsFirstItem text (bad piece) left
 IsFirstPiece text piece (Some positions) left =
     HasPositions piece positions × ((value : MediaType) → Reads piece value → IsFirstItem text (good piece value) left)
 
--- the first piece of a text was passed, with the character after it, and the steps that this took
-pub record PassesPiece (text piece : List ℕ) (positions : Option Positions) (left : List ℕ) (steps : ℕ) : Type 0 where
+-- the first piece of a text was read, the character after it was skipped, and this took so many steps
+pub record ReadsPiece (text piece : List ℕ) (positions : Option Positions) (left : List ℕ) (steps : ℕ) : Type 0 where
   pub empty : piece ≡ [] → PassesOn text left
   pub item : piece ≢ [] → IsFirstPiece text piece positions left
   pub less : 0 < length text → length left < length text

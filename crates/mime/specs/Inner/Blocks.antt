@@ -16,8 +16,8 @@ abbrev pub after_byte : ℕ → List ℕ → List ℕ
 after_byte byte text = drop (first_position byte text + 1) text
 
 -- the first list is the second without some of its first bytes
-abbrev pub IsEndOf : List ℕ → List ℕ → Type 0
-IsEndOf end whole = end ≡ drop (length whole - length end) whole
+abbrev pub IsSuffixOf : List ℕ → List ℕ → Type 0
+IsSuffixOf end whole = end ≡ drop (length whole - length end) whole
 
 -- which bytes are this one, as a number: bit by bit from the lowest
 abbrev pub mask_of : ℕ → List ℕ → ℕ

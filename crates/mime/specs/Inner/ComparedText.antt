@@ -6,8 +6,8 @@ use Rattle.mime.specs.Values.{lowered, is_charset}
 use Rattle.mime.specs.declared.scan.Positions.{Positions}
 
 -- a text that goes on with a semicolon after this essence, ignoring ASCII case
-abbrev pub IsListAfter : List ℕ → List ℕ → Type 0
-IsListAfter essence text =
+abbrev pub StartsWithEssence : List ℕ → List ℕ → Type 0
+StartsWithEssence essence text =
     (slice_get text (length essence) ≡ Some semicolon_byte) × (lowered essence ≡ lowered (take (length essence) text))
 
 -- an accepted text with its semicolon at this position, and `count` parameters

@@ -12,19 +12,19 @@ use Rattle.mime.specs.Values.{lowered, lowered_value}
 -- quotes, and the list after its semicolon
 pub record PairCut : Type 0 where
   pub name : List ℕ
-  pub head : ℕ
+  pub value_start : ℕ
   pub value : List ℕ
   pub rest : List ℕ
 
 -- after the equals sign: a quoted value, or a plain one.
 -- The length before it is the whole length less the remaining length, so it lies within the list
 abbrev pub cut_after_equals : ℕ → List ℕ → List ℕ → PairCut
-cut_after_equals size name [] = record { name = name; head = size; value = []; rest = [] }
+cut_after_equals size name [] = record { name = name; value_start = size; value = []; rest = [] }
 cut_after_equals size name (b ∷ back) =
     let text = b ∷ back in
     if b == quote_byte
-    then record { name = name; head = size - length back; value = content_of back; rest = after_byte semicolon_byte (after_content back) }
-    else record { name = name; head = size - length text; value = before_byte semicolon_byte text; rest = after_byte semicolon_byte text }
+    then record { name = name; value_start = size - length back; value = content_of back; rest = after_byte semicolon_byte (after_content back) }
+    else record { name = name; value_start = size - length text; value = before_byte semicolon_byte text; rest = after_byte semicolon_byte text }
 
 -- the spaces before the first name, and the list without them
 abbrev pub leading_spaces : List ℕ → ℕ
@@ -56,7 +56,7 @@ pair_seen (name, value) = (name.now, value.now)
 abbrev pub lowered_first : List ℕ → List ℕ
 lowered_first list =
     let cut = cut_of list in
-    lowered (take cut.head list) ++ (lowered_value cut.name cut.value ++ drop (cut.head + length cut.value) list)
+    lowered (take cut.value_start list) ++ (lowered_value cut.name cut.value ++ drop (cut.value_start + length cut.value) list)
 
 -- the list with this number of its first pairs lowercased in this way
 abbrev pub lowered_within : ℕ → List ℕ → List ℕ

@@ -78,6 +78,6 @@ before_list top sub = record { top = top; sub = sub; tail = listed (blank []) }
 
 -- the scanner's answer on a parameter list is its answer on each text that the list ends
 abbrev pub ScansList : Positions → Remaining → Remaining → Verdict → Type 0
-ScansList head old new verdict =
-    (start : Remaining) (top sub : List ℕ) → IsToken top → IsToken sub → head ≡ positions_of (before_list top sub)
+ScansList before old new verdict =
+    (start : Remaining) (top sub : List ℕ) → IsToken top → IsToken sub → before ≡ positions_of (before_list top sub)
     → Given start old (text_of (before_list top sub)) None → Scans start new verdict

@@ -2,7 +2,7 @@
 
 use crate::name::Name;
 
-/// The name of a text that ignores case.
+/// The name with this text that ignores case.
 macro_rules! name {
     ($text:literal) => {
         Name {

@@ -1,4 +1,4 @@
-//! How a refusal is reported, and what it prints.
+//! Why a string is rejected, and what that prints.
 
 ghost use Rattle.std.specs.Prelude.{◌≡◌, IfOk, Some};
 ghost use Rattle.std.specs.Fmt.InlineText.{inline_text};
@@ -9,18 +9,18 @@ use std::fmt;
 use std::fmt::{InlineText, Write};
 use std::marker::Model;
 
-/// Why a text isn't read as a media type (RFC 7231, 3.1.1.1).
+/// Why a string isn't read as a media type (RFC 7231, 3.1.1.1).
 #[derive(Clone, Copy, PartialEq, Eq, Debug)]
 pub enum ParseError {
-    /// The text ends in its type, as in `text`, or is empty: at least a `/` and a subtype are missing.
+    /// The string ends in its type, as in `text`, or is empty: at least a `/` and a subtype are missing.
     MissingSlash,
-    /// The text ends in its slash: a subtype is missing, as in `text/`.
+    /// The string ends in its slash: a subtype is missing, as in `text/`.
     MissingSubtype,
-    /// The text ends in a parameter's name: a `=` and a value are missing, as in `a/b;p`.
+    /// The string ends in a parameter's name: a `=` and a value are missing, as in `a/b;p`.
     MissingEqual,
-    /// The text ends in a parameter's equals sign: a value is missing, as in `a/b;p=`.
+    /// The string ends in a parameter's equals sign: a value is missing, as in `a/b;p=`.
     MissingValue,
-    /// The text ends in a quoted value: its closing `"` is missing, as in `a/b;p="x`. After an unpaired backslash, as
+    /// The string ends in a quoted value: its closing `"` is missing, as in `a/b;p="x`. After an unpaired backslash, as
     /// in `a/b;p="\`, the byte after it is missing too.
     MissingQuote,
     /// A byte that no media type has there, as the space in `a b`: some media type begins with the bytes before it, and
@@ -31,12 +31,12 @@ pub enum ParseError {
         /// The byte, which is the first of its character.
         byte: u8,
     },
-    /// The text is a media type, such as `text/plain`, and memory ran out.
+    /// The string is a media type, such as `text/plain`, and memory ran out.
     NoMemory,
 }
 
-/// The text for an invalid byte. It is written without the caller's formatter, whose width would pad each number. It
-/// has at most 69 bytes.
+/// What `InvalidToken` prints, at most 69 bytes. Not written with the caller's formatter, whose width would pad each
+/// number.
 fn token_text(pos: usize, byte: u8) -> Result<InlineText<80>, fmt::Error>
     ensures { IfOk result (λ text. inline_text text ≡ token_text pos byte) }
 {
@@ -51,7 +51,7 @@ fn token_text(pos: usize, byte: u8) -> Result<InlineText<80>, fmt::Error>
 /// Prints what is missing, or the byte in capital hexadecimal with its position in decimal, or that memory ran out. A
 /// width and a precision are ignored.
 ///
-/// `text/;` is refused with `an invalid token was encountered, 3B at position 5`.
+/// `text/;` is rejected with `an invalid token was encountered, 3B at position 5`.
 impl fmt::Display for ParseError {
     ghost use Rattle.mime.specs.Printed.{fault_text};
 
@@ -78,7 +78,7 @@ impl fmt::Display for ParseError {
 
 impl Error for ParseError {}
 
-/// Why a text isn't read as a media type (RFC 7231, 3.1.1.1): the error of `Mime::from_str`. That of `text` prints
+/// Why a string isn't read as a media type (RFC 7231, 3.1.1.1): the error of `Mime::from_str`. That of `text` prints
 /// `mime parse error: a slash (/) was missing between the type and subtype`.
 #[derive(Debug, Drop)]
 pub struct FromStrError {
@@ -94,7 +94,7 @@ impl Model for FromStrError {
 }
 
 impl FromStrError {
-    /// The error of a text with this fault.
+    /// The error of a string with this fault.
     pub(crate) fn new(fault: ParseError) -> FromStrError
         ensures { result ≡ fault }
     {

@@ -1,11 +1,11 @@
-//! A reader of a text's bytes that counts those it has returned.
+//! A reader of a string's bytes that counts those it has returned.
 
 ghost use Rattle.std.specs.Prelude.{◌≡◌, ◌+◌, ◌-◌, ◌<◌, ◌≤◌, ◌^◌, length};
 ghost use Rattle.mime.specs.Inner.Scanning.{GivesFirst};
 
 use std::marker::Model;
 
-/// The unread bytes of a text, and what the count will be at its end.
+/// The unread bytes of a string, and what the count will be at its end.
 #[derive(Drop)]
 pub(crate) struct ByteReader<'a> {
     left: &'a [u8],
@@ -38,7 +38,7 @@ impl<'a> ByteReader<'a> {
         }
     }
 
-    /// The next byte, or none at the end.
+    /// The next byte, or `None` at the end.
     #[inline(always)]
     pub(crate) fn next(&mut self) -> Option<u8>
         ensures { GivesFirst self.old self.new result }
@@ -57,7 +57,7 @@ impl<'a> ByteReader<'a> {
         self.end_count - self.left.len() as u128
     }
 
-    /// The position of the byte that was read last, in bytes from 0. `from` is what the count was at the start of the text.
+    /// The position of the byte that was read last, in bytes from 0. `from` was the count at the start of the string.
     #[inline(always)]
     pub(crate) fn position(&self, from: u128) -> usize
         requires given { from < self.now.count }

@@ -1,4 +1,4 @@
-//! The kept text of an accepted text, in one allocation.
+//! The kept text of an accepted string, in one allocation.
 
 ghost use Rattle.std.specs.Prelude.{◌≡◌, ◌+◌, ◌++◌, ◌≤◌, ◌↔◌, IsFalse, IfOk, take, drop, length, slice_get, slice_range, string_bytes};
 ghost use Rattle.mime.specs.Bytes.{semicolon_byte};
@@ -7,13 +7,13 @@ ghost use Rattle.mime.specs.Inner.Pairs.{cut_of, lowered_first, lowered_within};
 ghost use Rattle.mime.specs.Inner.Scanning.{HasPositions};
 ghost use Rattle.mime.specs.Inner.KeptText.{with_pairs_lowered, kept_positions, kept_text_of};
 
-use crate::blocks::TextEnd;
-use crate::ignoring_case::eq_ignoring_case;
+use crate::blocks::Suffix;
+use crate::ignoring_case::eq_ignore_ascii_case;
 use crate::scan::Positions;
 use crate::value::pairs::cut;
 use std::alloc::{AllocError, Global};
 
-/// Whether a text has an ASCII capital.
+/// Whether a string has an ASCII capital.
 #[inline]
 fn has_capital(text: &str) -> bool
     ensures { IsFalse result ↔ (lowered text.now ≡ text.now) }
@@ -31,12 +31,12 @@ fn has_capital(text: &str) -> bool
 fn names_charset(name: &str) -> bool
     ensures { result ≡ is_charset name.now }
 {
-    eq_ignoring_case(name.as_bytes(), b"charset")
+    eq_ignore_ascii_case(name.as_bytes(), b"charset")
 }
 
 /// Lowercases the bytes from one position up to another.
 #[inline]
-fn lower_range(bytes: &mut [u8], from: usize, to: usize)
+fn lowercase_range(bytes: &mut [u8], from: usize, to: usize)
     requires order { from ≤ to }
     requires within { to ≤ length bytes.old }
     ensures { bytes.new ≡ take from bytes.old ++ (lowered (slice_range bytes.old from to) ++ drop to bytes.old) }
@@ -44,49 +44,50 @@ fn lower_range(bytes: &mut [u8], from: usize, to: usize)
     bytes[from..to].make_ascii_lowercase();
 }
 
-/// Lowercases what ignores case in the first pair of a list, and returns the list after it. `bytes` is a copy of the
-/// list's bytes.
+/// Lowercases the first pair's name, and its value if the name is `charset`. Returns the list after the pair. `bytes`
+/// is a copy of the list's bytes.
 #[inline]
-fn lower_first<'a>(bytes: &mut [u8], list: &TextEnd<'a>) -> TextEnd<'a>
+fn lowercase_first<'a>(bytes: &mut [u8], list: &Suffix<'a>) -> Suffix<'a>
     requires { bytes.old ≡ list.now }
     ensures lowered { bytes.new ≡ lowered_first list.now }
     ensures rest { result ≡ (cut_of list.now).rest }
 {
     let pair = cut(list);
-    lower_range(bytes, 0, pair.head);
+    lowercase_range(bytes, 0, pair.value_start);
     if names_charset(pair.name) {
-        lower_range(bytes, pair.head, pair.head + pair.value.len());
+        lowercase_range(bytes, pair.value_start, pair.value_start + pair.value.len());
     }
     pair.rest
 }
 
-/// Lowercases what ignores case in the first `count` pairs of a list. `bytes` is a copy of the list's bytes.
+/// Lowercases the names of the first `count` pairs of a list, and the values of `charset`. `bytes` is a copy of the
+/// list's bytes.
 #[inline]
-fn lower_pairs(bytes: &mut [u8], list: TextEnd<'_>, count: usize)
+fn lowercase_pairs(bytes: &mut [u8], list: Suffix<'_>, count: usize)
     requires { bytes.old ≡ list }
     ensures { bytes.new ≡ lowered_within count list.entry }
 {
     let mut left = list;
     for _ in 0..count {
         let from = bytes.len() - left.text().len();
-        left = lower_first(&mut bytes[from..], &left);
+        left = lowercase_first(&mut bytes[from..], &left);
     }
 }
 
-/// Lowercases what ignores case in a text with `count` pairs: all up to the semicolon, and what does in the pairs. `bytes`
-/// is a copy of the text's bytes.
+/// Lowercases, in a string with `count` pairs, everything up to the semicolon, the names, and the values of `charset`.
+/// `bytes` is a copy of the string's bytes.
 #[inline]
-fn lower_text(bytes: &mut [u8], text: &str, semicolon: usize, count: usize)
+fn lowercase_text(bytes: &mut [u8], text: &str, semicolon: usize, count: usize)
     requires same { bytes.old ≡ text.now }
     requires parted { slice_get text.now semicolon ≡ Some semicolon_byte }
     ensures { bytes.new ≡ with_pairs_lowered count semicolon text.now }
 {
     let start = semicolon + 1;
-    lower_range(bytes, 0, start);
-    lower_pairs(&mut bytes[start..], TextEnd::of(text, start), count);
+    lowercase_range(bytes, 0, start);
+    lowercase_pairs(&mut bytes[start..], Suffix::of(text, start), count);
 }
 
-/// The kept text of a text with `count` pairs: only what ignores case is lowercased.
+/// The kept text of a string with `count` pairs: only what ignores case is lowercased.
 #[inline(always)]
 fn keep_pairs(
     alloc: Global,
@@ -101,12 +102,12 @@ fn keep_pairs(
         return String::from_str(alloc, text);
     }
     let mut bytes = Vec::from_slice(alloc, text.as_bytes())?;
-    lower_text(&mut bytes, text, semicolon, count);
-    // SAFETY: these are the bytes of a text, of which only ASCII capitals were lowercased: so they are UTF-8.
+    lowercase_text(&mut bytes, text, semicolon, count);
+    // SAFETY: these are the bytes of a `str`, in which only ASCII capitals were lowercased: so they are UTF-8.
     Ok(unsafe { String::from_utf8_unchecked(bytes) })
 }
 
-/// The kept text of an accepted text, and the positions in it. An empty parameter list is dropped.
+/// The kept text of an accepted string, and the positions in it. An empty parameter list is dropped.
 #[inline(always)]
 pub(crate) fn keep(
     alloc: Global,

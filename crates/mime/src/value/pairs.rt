@@ -10,7 +10,7 @@ ghost use Rattle.mime.specs.Bytes.{quote_byte, semicolon_byte};
 ghost use Rattle.mime.specs.Inner.ComparedText.{IsLoneCharset};
 ghost use Rattle.mime.specs.Inner.Quoted.{content_len};
 
-use crate::blocks::TextEnd;
+use crate::blocks::Suffix;
 use crate::bytes::is_space;
 use std::marker::Model;
 
@@ -19,14 +19,14 @@ use std::marker::Model;
 pub(crate) struct Pair<'a> {
     pub(crate) name: &'a str,
     /// The position of the value in the list, in bytes from 0: after the opening quote of a quoted one.
-    pub(crate) head: usize,
+    pub(crate) value_start: usize,
     /// The value without its quotes; backslashes stay: `\"x` for `"\"x"`.
     pub(crate) value: &'a str,
-    pub(crate) rest: TextEnd<'a>,
+    pub(crate) rest: Suffix<'a>,
 }
 
-/// The length in bytes of a quoted value's content, up to its first unpaired quote or the end of the text. `quote` is the
-/// position of the first quote, or the text's length.
+/// The length in bytes of a quoted value's content, up to its first unpaired quote or the end. `quote` is the
+/// position of the first quote, or the length if there is none.
 #[inline(always)]
 fn content_len(text: &[u8], quote: usize) -> usize
     requires { quote ≡ first_position quote_byte text.now }
@@ -72,9 +72,9 @@ fn leading_spaces(list: &str) -> usize
     count
 }
 
-/// The text after the first semicolon, or an empty one. Most texts begin with it, or are empty.
+/// What follows the first semicolon, or an empty suffix. Most suffixes begin with it, or are empty.
 #[inline(always)]
-fn after_semicolon<'a>(end: TextEnd<'a>) -> TextEnd<'a>
+fn after_semicolon<'a>(end: Suffix<'a>) -> Suffix<'a>
     ensures { result ≡ after_byte semicolon_byte end.entry }
 {
     let text = end.text();
@@ -87,13 +87,13 @@ fn after_semicolon<'a>(end: TextEnd<'a>) -> TextEnd<'a>
     end.split_at_first(b';').1
 }
 
-/// The pair of a name, cut from the text after its equals sign, with a quoted value or a plain one. `list` is the
-/// list's length in bytes.
+/// The pair of a name, with the quoted or plain value that follows its equals sign. `list` is the list's length in
+/// bytes.
 #[inline(always)]
-fn cut_value<'a>(list: usize, name: &'a str, end: &TextEnd<'a>) -> Pair<'a>
+fn cut_value<'a>(list: usize, name: &'a str, end: &Suffix<'a>) -> Pair<'a>
     requires { length end.now ≤ list }
     ensures name { result.name.now ≡ (cut_after_equals list name.entry.now end.now).name }
-    ensures head { result.head ≡ (cut_after_equals list name.entry.now end.now).head }
+    ensures value_start { result.value_start ≡ (cut_after_equals list name.entry.now end.now).value_start }
     ensures value { result.value.now ≡ (cut_after_equals list name.entry.now end.now).value }
     ensures rest { result.rest ≡ (cut_after_equals list name.entry.now end.now).rest }
 {
@@ -104,7 +104,7 @@ fn cut_value<'a>(list: usize, name: &'a str, end: &TextEnd<'a>) -> Pair<'a>
         let (value, others) = content.split_around(length);
         return Pair {
             name,
-            head: list - content.text().len(),
+            value_start: list - content.text().len(),
             value,
             rest: after_semicolon(others),
         };
@@ -112,7 +112,7 @@ fn cut_value<'a>(list: usize, name: &'a str, end: &TextEnd<'a>) -> Pair<'a>
     let (value, rest) = end.split_at_first(b';');
     Pair {
         name,
-        head: list - text.len(),
+        value_start: list - text.len(),
         value,
         rest,
     }
@@ -121,9 +121,9 @@ fn cut_value<'a>(list: usize, name: &'a str, end: &TextEnd<'a>) -> Pair<'a>
 /// Cuts the first pair off a list.
 #[tactic(auto, unfolding(crate::specs::Inner::Pairs::cut_of))]
 #[inline(always)]
-pub(crate) fn cut<'a>(list: &TextEnd<'a>) -> Pair<'a>
+pub(crate) fn cut<'a>(list: &Suffix<'a>) -> Pair<'a>
     ensures name { result.name.now ≡ (cut_of list.now).name }
-    ensures head { result.head ≡ (cut_of list.now).head }
+    ensures value_start { result.value_start ≡ (cut_of list.now).value_start }
     ensures value { result.value.now ≡ (cut_of list.now).value }
     ensures rest { result.rest ≡ (cut_of list.now).rest }
 {
@@ -132,11 +132,11 @@ pub(crate) fn cut<'a>(list: &TextEnd<'a>) -> Pair<'a>
     cut_value(text.len(), name, &rest)
 }
 
-/// The pairs of a list that are still to come, each a name and a value.
+/// The pairs of a list that are left, each a name and a value.
 #[derive(Drop)]
 pub(crate) struct Pairs<'a> {
     /// The list from the next pair on.
-    list: TextEnd<'a>,
+    list: Suffix<'a>,
     /// The number of pairs left.
     left: usize,
 }
@@ -151,19 +151,19 @@ impl<'a> Model for Pairs<'a> {
 }
 
 impl<'a> Pairs<'a> {
-    /// The first `count` pairs after a text's semicolon, or none where it has no list.
+    /// The first `count` pairs after a string's semicolon, or no pair if it has no semicolon.
     #[inline(always)]
-    pub(crate) fn after(text: &'a str, semicolon: Option<usize>, count: usize) -> Pairs<'a>
+    pub(crate) fn of_text(text: &'a str, semicolon: Option<usize>, count: usize) -> Pairs<'a>
         requires { IfSome semicolon (λ at. slice_get text.now at ≡ Some semicolon_byte) }
         ensures { result ≡ pairs_after count semicolon text.now }
     {
         match semicolon {
             None => Pairs {
-                list: TextEnd::of(text, text.len()),
+                list: Suffix::of(text, text.len()),
                 left: 0,
             },
             Some(at) => Pairs {
-                list: TextEnd::of(text, at + 1),
+                list: Suffix::of(text, at + 1),
                 left: count,
             },
         }

@@ -11,9 +11,9 @@ use crate::value::pairs::Pairs;
 use std::fmt;
 use std::marker::Model;
 
-/// The parameters of a media type that are still to come, in the text's order: an iterator over
+/// The parameters of a media type that are left, in order of appearance: an iterator over
 /// pairs of a name and a value. A name ignores case; a value does exactly if its name is `charset`.
-/// Those of `a/b;P=X` give the name `p` with the value `X` (RFC 7231, 3.1.1.1). A value is without its quotes.
+/// That of `a/b;P=X` yields the name `p` with the value `X` (RFC 7231, 3.1.1.1). A value is without its quotes.
 /// Backslashes stay: the value of `a/b;p="\"x"` is `\"x`.
 /// The size hint is exact. The iterator walks the kept text, and doesn't allocate.
 #[derive(Drop)]

@@ -5,7 +5,8 @@ ghost use Rattle.std.specs.Cmp.{partial_equiv_from_equiv, partial_order_from_tot
 ghost use Rattle.std.specs.Fmt.{debug_str, styled_text};
 ghost use Rattle.std.specs.Ordering.{eq_by_cmp, on, as_partial_cmp};
 ghost use Rattle.mime.specs.Comparison.{Same, IsOrderOf, media_cmp};
-ghost use Rattle.mime.specs.Inner.HashInput.{media_input, media_cmp_total, same_from_cmp, media_input-same};
+ghost use Rattle.mime.specs.Inner.HashInput.{media_input, media_input-same};
+ghost use Rattle.mime.specs.Inner.OrderLaws.{media_cmp_total, same_from_cmp};
 
 use crate::value::hashing::feed_pairs;
 use crate::value::{Mime, Text};
@@ -14,7 +15,8 @@ use std::cmp::Ordering;
 use std::fmt;
 use std::hash::{Hash, Hasher};
 
-/// Whether two values are equal, part by part. Their texts may differ and the values be equal: `a/b;p=x` and `a/b;p="x"`.
+/// Whether two values are equal, part by part. Their kept texts may differ: `a/b;p=x` and `a/b;p="x"`. It isn't
+/// inlined: most calls of `eq` end before it.
 #[inline(never)]
 fn same_parts(first: &Mime, second: &Mime) -> bool
     ensures { IsTrue result ↔ Same first.now.media second.now.media }
@@ -22,7 +24,7 @@ fn same_parts(first: &Mime, second: &Mime) -> bool
     first.essence_str() == second.essence_str() && first.pairs().eq(second.pairs())
 }
 
-/// How two values compare, part by part.
+/// How two values compare, part by part. It isn't inlined, as `same_parts`.
 #[inline(never)]
 fn order_parts(first: &Mime, second: &Mime) -> Ordering
     ensures { result ≡ media_cmp first.now.media second.now.media }
@@ -53,7 +55,7 @@ impl PartialEq for Mime {
         if self.as_str() == other.as_str() {
             return true;
         }
-        // Without parameters the text is the essence, and the essences differ.
+        // Without parameters the kept text is the essence, and the essences differ.
         if self.param_count() == 0 {
             return false;
         }
@@ -76,9 +78,9 @@ impl PartialOrd for Mime {
     }
 }
 
-/// Values are ordered by the bytes of their essences, and then by their parameters, pair by pair,
-/// each by its name and then its value; a list that is a prefix of another comes first: `a/b`, `a/b;p=1`, `a/b;p=2`, `a/c`.
-/// It doesn't allocate.
+/// Values are ordered by the bytes of their essences, and then by their parameters, pair by pair, each by its name
+/// and then its value; a list that is a prefix of another comes first: `a/b`, `a/b;p=1`, `a/b;p=2`, `a/c`. It doesn't
+/// allocate.
 impl Ord for Mime {
     ghost cmp = { on (λ mime. mime.media) media_cmp };
 
@@ -91,7 +93,7 @@ impl Ord for Mime {
     #[inline]
     fn cmp(&self, other: &Mime) -> Ordering
         ensures computed { result ≡ media_cmp self.now.media other.now.media }
-        ensures told { IsOrderOf self.now.media other.now.media result }
+        ensures order { IsOrderOf self.now.media other.now.media result }
     {
         // Equal texts are equal values.
         if self.as_str() == other.as_str() {
@@ -102,8 +104,8 @@ impl Ord for Mime {
 }
 
 /// Feeds a hasher the parameters and the essence. Equal values feed it the same bytes: `a/b; p="x"` and `A/B;P=x`. What
-/// a value feeds is never a prefix of what an unequal one feeds, so a tuple of a value and a text is as good a key as
-/// the value alone. Which bytes are fed may change between versions. It doesn't allocate.
+/// a value feeds is never a prefix of what an unequal one feeds, so a map keyed by `(Mime, String)` hashes as well as
+/// one keyed by `Mime`. Which bytes are fed may change between versions. It doesn't allocate.
 impl Hash for Mime {
     ghost hash_input = { λ mime. media_input mime.media };
 
@@ -115,8 +117,8 @@ impl Hash for Mime {
     }
 }
 
-/// Makes a copy with the same kept text. It allocates once, and its error says that memory ran out;
-/// a constant and `*/*` don't allocate.
+/// Makes a copy with the same kept text. It allocates once, and its error says that memory ran out.
+/// Cloning a constant or `*/*` doesn't allocate.
 impl Clone for Mime {
     ghost is_clone = { λ mime copy. copy ≡ mime };
 
@@ -134,7 +136,7 @@ impl Clone for Mime {
     }
 }
 
-/// Prints the kept text, padded to a width where one is given: `Text/Plain;` prints `text/plain`.
+/// Prints the kept text, padded to the width, if one is given: `Text/Plain;` prints `text/plain`.
 impl fmt::Display for Mime {
     ghost output = { λ mime. Some mime.media.kept };
 

@@ -1,8 +1,8 @@
--- Bytes without a flag are passed; the lowest flag is the first position.
+-- Bytes without a bit are passed; the lowest bit is the first position.
 use Rattle.std.proofs.Common.{◌∙◌, ap, sym, arith}
 use Rattle.std.specs.Prelude.{◌==◌, not}
 use Rattle.std.proofs.lemmas.List.Sums.{prefix_len-le-length}
-use Rattle.mime.proofs.BlocksLemmas.{position-flagged, next-end, next-onward, end-le}
+use Rattle.mime.proofs.BlocksLemmas.{position-found, next-end, next-onward, end-le}
 use lib.Count.{count_trailing_zeros}
 use Rattle.mime.proofs.blocks.position_by_blocks.Goals as goal
 
@@ -11,7 +11,7 @@ returns-then-found-ne0 c =
     let left = c.loop-left.left.now in
     let found = c.mask-found.ensures in
     let at = ap (count_trailing_zeros 64) found
-    ∙ sym (position-flagged c.args.byte left 16 (omega arith) (omega arith) (omega (arith, found, c.if-found-ne0.true))) in
+    ∙ sym (position-found c.args.byte left 16 (omega arith) (omega arith) (omega (arith, found, c.if-found-ne0.true))) in
     omega (arith, at, c.loop-left.invariant.onward)
 
 pub loop-left-preserved : goal.loop-left-preserved
@@ -32,7 +32,7 @@ overflow_add-result-2 c =
       fits =
           omega (
             arith,
-            c.position_in_end.ensures,
+            c.position_in_last_block.ensures,
             prefix_len-le-length (λ b. not (b == c.args.byte)) left,
             end-le left c.args.text.now c.loop-left.invariant.end,
           );

@@ -1,11 +1,11 @@
 -- What was passed is not the byte, and what is left is an end of the text.
 use Rattle.std.proofs.Common.{◌≡◌, ◌+◌, ◌-◌, length}
-use Rattle.mime.specs.Inner.Blocks.{IsEndOf, first_position}
+use Rattle.mime.specs.Inner.Blocks.{IsSuffixOf, first_position}
 use Rattle.mime.proofs.blocks.position_by_blocks.Given as goal
 
 abbrev pub invariant-loop-left : goal.invariant-loop-left
 invariant-loop-left l = record {
-  end : IsEndOf l.left l.fn.text;
+  end : IsSuffixOf l.left l.fn.text;
   onward : length l.fn.text - length l.left + first_position l.fn.byte l.left ≡ first_position l.fn.byte l.fn.text;
 }
 

@@ -19,10 +19,10 @@ refused-not_accepted text count (Stopped byte positions) judged other = refused-
 pub returns-in-Accepted : goal.returns-in-Accepted
 returns-in-Accepted c =
     let has = subst (λ text. HasPositions text c.in-Accepted.positions) c.new-reader.ensures.left c.in-Accepted.ensures.judged.1 in (
-      λ is. let at = c.is_list_at.ensures.0 is in
+      λ is. let at = c.has_shape.ensures.0 is in
           record { positions = c.in-Accepted.positions; has = has; at = at.0; counted = at.1 },
       λ is. let one = one_positions c.args.text.now c.in-Accepted.positions is.positions has is.has in
-          c.is_list_at.ensures.1 (ap (λ (p : Positions). p.semicolon) one ∙ is.at, ap (λ (p : Positions). p.pair_count) one ∙ is.counted),
+          c.has_shape.ensures.1 (ap (λ (p : Positions). p.semicolon) one ∙ is.at, ap (λ (p : Positions). p.pair_count) one ∙ is.counted),
     )
 
 pub returns-in_default : goal.returns-in_default

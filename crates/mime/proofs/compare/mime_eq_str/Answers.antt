@@ -9,7 +9,7 @@ returns-then-param_count-eq0 c =
     let value = c.args.mime.now.media in
     let none = nil_from_length value.pairs (sym c.param_count.ensures ∙ c.if-param_count-eq0.true) in
     let told = text_is-kept_case _ c.args.s.now value c.as_str-kept.ensures.reads c.as_str-kept.ensures.text none in
-    (λ is. told.1 (c.eq_str_ignoring_case.ensures.0 is), λ is. c.eq_str_ignoring_case.ensures.1 (told.0 is))
+    (λ is. told.1 (c.eq_str_ignore_ascii_case.ensures.0 is), λ is. c.eq_str_ignore_ascii_case.ensures.1 (told.0 is))
 
 pub returns-else-eq : goal.returns-else-eq
 returns-else-eq c = search rules

@@ -14,7 +14,7 @@ use Rattle.mime.proofs.ignoring_case.difference.Goals as goal
 letter : ℕ → Bool
 letter b = is_ascii_lowercase (bit_or b 32)
 
--- the flag of two bytes, as the code finds it, with the bit that tells a letter's cases or none
+-- the bit of two bytes, as the code finds it, with the bit that tells a letter's cases or none
 abbrev found : ℕ → ℕ → ℕ → ℕ
 found case x y = bool_byte (not (nat_eq (bit_and (bit_xor x y) (255 - case)) 0))
 

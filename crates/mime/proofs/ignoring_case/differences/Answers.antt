@@ -1,4 +1,4 @@
--- One more flag; at the end there is one for each of the bytes.
+-- One more bit; at the end there is one for each of the bytes.
 use Rattle.std.proofs.Common.{◌≡◌, ◌+◌, ◌∙◌, sym, ap, subst, take, arith, rules, slice_set}
 use Rattle.std.specs.Simd.Lanes.{zip2}
 use Rattle.std.proofs.lemmas.List.{take_all}

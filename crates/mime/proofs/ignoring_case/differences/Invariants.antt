@@ -1,4 +1,4 @@
--- The flags so far are those of the bytes so far.
+-- The bits so far are those of the bytes so far.
 use Rattle.std.proofs.Common.{◌-◌, ◌≡◌, ◌≤◌, take, length}
 use Rattle.std.specs.Simd.Lanes.{zip2}
 use Rattle.mime.specs.Inner.Blocks.{difference_bit}

@@ -3,7 +3,7 @@ use Rattle.std.proofs.Common.{◌≡◌, ◌+◌, [], ◌∷◌, ◌++◌, get_o
 use Rattle.std.specs.Char.{to_ascii_lowercase}
 use Rattle.std.proofs.lemmas.List.{map_more, same_from_push}
 use Rattle.mime.specs.Values.{lowered}
-use Rattle.mime.proofs.IgnoringCaseLemmas.{together, no_flag_at}
+use Rattle.mime.proofs.IgnoringCaseLemmas.{together, no_bit_at}
 use Rattle.mime.proofs.ignoring_case.eq_byte_by_byte.Goals as goal
 
 pub loop-at-preserved : goal.loop-at-preserved
@@ -19,7 +19,7 @@ loop-at-preserved c =
       within = omega (arith, c.loop-at-test.true);
       so_far =
           together c.loop-at.differs c.difference-differs.result _ (x ≡ y) _ c.loop-at.invariant.so_far
-          (no_flag_at (get_or a n 0) (get_or b n 0) _ c.difference-differs.ensures)
+          (no_bit_at (get_or a n 0) (get_or b n 0) _ c.difference-differs.ensures)
           (λ prefix last. let same : lowered (take n a) ++ (x ∷ []) ≡ lowered (take n b) ++ (y ∷ []) = cc in more_a ∙ same ∙ sym more_b)
           (λ whole. same_from_push (lowered (take n a)) (lowered (take n b)) x y (sym more_a ∙ whole ∙ more_b));
     }

@@ -86,14 +86,14 @@ pub returns-in-None-stop : goal.returns-in-None-stop
 returns-in-None-stop c =
     let here = goal.at.returns-in-None-stop c in
     let v = rw c.in-None-stop.is at (valued here.Joined-first-eq34 (named here.In-Some-eq61)) in
-    list_scans_at (Some _) v.walked v.stopped (ap Some (one_pair_more _ _ _ c.loop-first.invariant.same_positions) ∙ sym (v.counted c.args.head))
+    list_scans_at (Some _) v.walked v.stopped (ap Some (one_pair_more _ _ _ c.loop-first.invariant.same_positions) ∙ sym (v.counted c.args.before))
 
 pub returns-in-Some-stop : goal.returns-in-Some-stop
 returns-in-Some-stop c =
     let here = goal.at.returns-in-Some-stop c in
     let v = rw c.in-Some-stop.is at (valued here.Joined-first-eq34 (named here.In-Some-eq61)) in
     list_scans_at (Some _) v.walked (v.stopped (rw c.in-Some-stop.is at c.in-Some-stop.byte-test.1))
-    (ap Some (one_pair_more _ _ _ c.loop-first.invariant.same_positions) ∙ sym (v.counted c.args.head))
+    (ap Some (one_pair_more _ _ _ c.loop-first.invariant.same_positions) ∙ sym (v.counted c.args.before))
 
 pub loop-first-preserved : goal.loop-first-preserved
 loop-first-preserved c =
@@ -102,7 +102,7 @@ loop-first-preserved c =
     record {
       closed = (c.in-Some.ensures.run, v.parameter) ∷ c.loop-first.invariant.closed;
       walked = list_byte v.walked (rw (rw c.in-Some-eq59.field-0-is at c.in-Some-eq59.field-0-test) v.closing);
-      same_positions = one_pair_more _ _ _ c.loop-first.invariant.same_positions ∙ ap (λ n. record c.args.head { pair_count = n }) (omega arith);
+      same_positions = one_pair_more _ _ _ c.loop-first.invariant.same_positions ∙ ap (λ n. record c.args.before { pair_count = n }) (omega arith);
       room = omega (arith, v.less, given_less c.in-Some.ensures.given, given_less c.in-Some-eq61.ensures.given);
     }
 

@@ -1,4 +1,4 @@
--- The end of a line was found exactly where it is among the bytes so far.
+-- A line feed was found exactly if one is among the bytes so far.
 use Rattle.std.proofs.Common.{◌≡◌, nat_eq, take}
 use Rattle.std.specs.List.{list_any}
 use Rattle.mime_lines.proofs.input.has_line_end.Given as goal

@@ -1,4 +1,4 @@
--- Where too much was given, it is what was kept and what the last read gave.
+-- If too much was given, it is what was kept and what the last read gave.
 use Rattle.std.proofs.Common.{rules, ◌++◌, take}
 use Rattle.mime_lines.proofs.ReadingOn.{consumed_together, one_past_the_limit}
 use Rattle.mime_lines.proofs.input.read_to_limit.Goals as goal

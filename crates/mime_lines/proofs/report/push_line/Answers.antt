@@ -1,4 +1,4 @@
--- A line that isn't a text is reported so.
+-- A line that isn't UTF-8 is reported as such.
 use Rattle.mime_lines.specs.Report.{ReportsLine}
 use Rattle.mime_lines.specs.Report.ReportsLine.{not_text}
 use Rattle.mime_lines.proofs.Rows.{reported}

@@ -1,4 +1,4 @@
--- Each piece that is passed is a step of the search.
+-- Each piece that is read is a step of the search.
 use Rattle.std.proofs.Common.{sym, subst, rules}
 use Rattle.mime.proofs.IterLemmas.{IsLooking, looking-first, looking-more, found-none, found-some}
 use Rattle.mime.proofs.iter.MimeIter.next_piece.Goals as goal
@@ -8,8 +8,8 @@ loop-self-init c = (subst (IsLooking _) (sym c.self.view_is) (looking-first _), 
 
 pub loop-self-preserved : goal.loop-self-preserved
 loop-self-preserved c =
-    looking-more _ _ _ _ _ _ c.loop-self.invariant (search (rules, c.is_empty.ensures, c.loop-self-test.true)) c.pass-passed.ensures.passes
-    c.pass-passed.ensures.counted (search (rules, c.is_empty-in-loop-self.ensures, c.if-not-is_empty.false))
+    looking-more _ _ _ _ _ _ c.loop-self.invariant (search (rules, c.is_empty.ensures, c.loop-self-test.true)) c.read_piece-read.ensures.reads
+    c.read_piece-read.ensures.counted (search (rules, c.is_empty-in-loop-self.ensures, c.if-not-is_empty.false))
 
 pub loop-self-smaller : goal.loop-self-smaller
 loop-self-smaller c = search rules
@@ -19,8 +19,8 @@ returns c = found-none _ _ c.loop-self.invariant (search (rules, c.is_empty.ensu
 
 pub returns-then-not-is_empty : goal.returns-then-not-is_empty
 returns-then-not-is_empty c =
-    found-some _ _ _ _ _ _ c.loop-self.invariant (search (rules, c.is_empty.ensures, c.loop-self-test.true)) c.pass-passed.ensures.passes
-    c.pass-passed.ensures.counted (search (rules, c.is_empty-in-loop-self.ensures))
+    found-some _ _ _ _ _ _ c.loop-self.invariant (search (rules, c.is_empty.ensures, c.loop-self-test.true)) c.read_piece-read.ensures.reads
+    c.read_piece-read.ensures.counted (search (rules, c.is_empty-in-loop-self.ensures))
 
 pub invariant_of-self-then-not-is_empty : goal.invariant_of-self-then-not-is_empty
 invariant_of-self-then-not-is_empty c = search rules

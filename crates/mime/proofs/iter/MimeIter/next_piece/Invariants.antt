@@ -1,4 +1,4 @@
--- Pieces without an item were passed.
+-- Pieces without an item were read.
 use Rattle.std.proofs.Common.{length}
 use Rattle.mime.proofs.IterLemmas.{IsSound, IsLooking, seen}
 use Rattle.mime.proofs.iter.MimeIter.next_piece.Given as goal

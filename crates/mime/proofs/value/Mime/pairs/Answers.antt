@@ -9,7 +9,7 @@ use Rattle.mime.proofs.value.Mime.pairs.Goals as goal
 
 pub returns-clause-pairs : goal.returns-clause-pairs
 returns-clause-pairs c =
-    c.after.ensures ∙ ap (pairs_after _ _) c.as_str-text.ensures ∙ ap (λ (kept : OwnedMedia). kept.media.pairs) c.self.view_is
+    c.of_text.ensures ∙ ap (pairs_after _ _) c.as_str-text.ensures ∙ ap (λ (kept : OwnedMedia). kept.media.pairs) c.self.view_is
 
 pub returns-clause-low : goal.returns-clause-low
 returns-clause-low c =

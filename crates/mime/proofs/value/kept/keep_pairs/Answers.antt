@@ -15,8 +15,8 @@ returns-then-not-has_capital c =
 
 pub from_utf8_unchecked-requires : goal.from_utf8_unchecked-requires
 from_utf8_unchecked-requires c =
-    let bytes = c.lower_text.new.bytes in
-    let size = c.lower_text.auto.bytes ∙ c.deref_mut.ensures.len in
+    let bytes = c.lowercase_text.new.bytes in
+    let size = c.lowercase_text.auto.bytes ∙ c.deref_mut.ensures.len in
     let all = take_at bytes (drop (length bytes) c.in_ok-bytes.bytes.items) c.in_ok-bytes.bytes.len size in
     let parts = kept-in_part c.args.count c.args.semicolon c.args.text.now in
-    subst IsUtf8 (sym (all ∙ c.lower_text.ensures)) (IsUtf8-in_part c.args.text.now _ parts c.utf8.text)
+    subst IsUtf8 (sym (all ∙ c.lowercase_text.ensures)) (IsUtf8-in_part c.args.text.now _ parts c.utf8.text)

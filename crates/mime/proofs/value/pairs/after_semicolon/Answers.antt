@@ -10,5 +10,5 @@ pub after-requires : goal.after-requires
 after-requires c =
     let text = c.text-text.result.now in
     let within : 0 < length text = grind (arith, nat_tests, c.is_empty.ensures, c.if-is_empty.false) in
-    let flag : get_or text 0 0 ≡ semicolon_byte = cc in
+    let there : get_or text 0 0 ≡ semicolon_byte = cc in
     subst (λ t. IsCharBoundary t 1) c.text-text.ensures (IsCharBoundary-after_ascii text 0 c.text-text.utf8 within (omega arith))

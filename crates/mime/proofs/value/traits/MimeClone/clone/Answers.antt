@@ -1,6 +1,6 @@
 -- The copy has the bytes of the text, so what is kept is the same.
 use Rattle.std.proofs.Common.{rules, ◌≡◌}
-use Rattle.mime.specs.Inner.StoredText.{bytes_of}
+use Rattle.mime.specs.Inner.KeptBytes.{bytes_of}
 use Rattle.mime.proofs.value.traits.MimeClone.clone.Goals as goal
 
 pub invariant_of-result : goal.invariant_of-result

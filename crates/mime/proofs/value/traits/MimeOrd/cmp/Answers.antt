@@ -12,8 +12,8 @@ returns-then-eq-clause-computed c =
     (same_from_text _ _ c.args.self.now.media c.args.other.now.media c.as_str.ensures.reads c.as_str-2.ensures.reads
     (same_text _ _ (sym c.if-eq.true ∙ c.eq.ensures))))
 
-pub returns-then-eq-clause-told : goal.returns-then-eq-clause-told
-returns-then-eq-clause-told c = tells_answer c.args.self.now.media c.args.other.now.media Equal (returns-then-eq-clause-computed c)
+pub returns-then-eq-clause-order : goal.returns-then-eq-clause-order
+returns-then-eq-clause-order c = tells_answer c.args.self.now.media c.args.other.now.media Equal (returns-then-eq-clause-computed c)
 
-pub returns-clause-told : goal.returns-clause-told
-returns-clause-told c = tells_answer c.args.self.now.media c.args.other.now.media c.order_parts.result c.order_parts.ensures
+pub returns-clause-order : goal.returns-clause-order
+returns-clause-order c = tells_answer c.args.self.now.media c.args.other.now.media c.order_parts.result c.order_parts.ensures

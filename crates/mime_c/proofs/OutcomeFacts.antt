@@ -1,0 +1,133 @@
+-- What each answer says, whatever the text is: when memory may run out, what then holds, and that the texts come back.
+use Rattle.std.proofs.Common.{◌≡◌, ◌≢◌, ℕ, ◌*◌, ◌≤◌, ◌⊎◌, inl, inr, List, [], ◌∷◌, ◌++◌, length, refl, ap, arith, codes, None, length-append}
+use Rattle.std.specs.Str.{IsUtf8}
+use Rattle.mime.specs.Bytes.{is_token_byte}
+use Rattle.mime.specs.Grammar.{no_list}
+use Rattle.mime.specs.Values.{MediaType, Reads}
+use Rattle.mime.specs.Refusals.{Explains}
+use Rattle.mime.specs.Cut.{CutItem, good, Cut, whole}
+use Rattle.mime.specs.declared.scan.fault.ParseError.TheVariants.{NoMemory}
+use Rattle.mime.proofs.GrammarLemmas.Readings.{refused-from_walk}
+use Rattle.mime.proofs.CutLemmas.Cuts.{cut_unique}
+use Rattle.mime_c.specs.Strings.{strings, ComeBack, texts_of, item_texts, written}
+use Rattle.mime_c.specs.Answers.{nothing, Fails, is_refused, is_not_text, ReadsTo, is_read, fails, has_no_room, NeedsMemory, ListsTo, is_listed, has_no_memory, Compares, are_read, first_fails, second_fails}
+use Rattle.mime_c.specs.Answers as answers
+use Rattle.mime_c.specs.Laws.{HasOne}
+use Rattle.mime_c.specs.declared.MimeFound.{MimeFound}
+use Rattle.mime_c.specs.declared.TheConstants.{MIME_OK, MIME_NO_MEMORY}
+use Rattle.mime_c.proofs.AnswerFacts.{empty_needs_none}
+use Rattle.mime_c.proofs.OneOutcome.{reads_to_one, lists_to_one, compares_as_one}
+
+-- ---- out of memory
+
+-- if a text fails for want of memory, it is a media type other than `*/*`, and nothing is found;
+fails_for_memory : {text : List ℕ} {n : ℕ} {found : MimeFound} → n ≡ MIME_NO_MEMORY → Fails text n found
+    → (found ≡ nothing) × IsUtf8 text × Explains text NoMemory
+fails_for_memory is (is_refused NoMemory utf8 why) = (refl, utf8, why)
+fails_for_memory is (is_refused fault utf8 why) = absurd (omega (arith, is))
+fails_for_memory is (is_not_text isnt) = absurd (omega (arith, is))
+
+-- `mime_read` writes nothing then;
+reads_for_memory : {text old new : List ℕ} {n : ℕ} {found : MimeFound} → n ≡ MIME_NO_MEMORY → ReadsTo text old n new found
+    → (new ≡ old) × (found ≡ nothing) × IsUtf8 text × Explains text NoMemory
+reads_for_memory is (fails n found room why) = let failed = fails_for_memory is why in (refl, failed.0, failed.1, failed.2)
+reads_for_memory is (is_read media room utf8 reads back) = absurd (omega (arith, is))
+reads_for_memory is (has_no_room short) = absurd (omega (arith, is))
+
+-- `mime_list` had room, and its text has an item that needs memory;
+lists_for_memory : {text old new : List ℕ} {n size : ℕ} → n ≡ MIME_NO_MEMORY → ListsTo text old n new size
+    → (size ≡ 0) × (2 * length text ≤ length old) × IsUtf8 text × NeedsMemory text
+lists_for_memory is (has_no_memory new room utf8 needs) = (refl, room, utf8, needs)
+lists_for_memory is (is_listed items rest room utf8 cut back) = absurd (omega (arith, is))
+lists_for_memory is (answers.ListsTo.is_not_text room isnt) = absurd (omega (arith, is))
+lists_for_memory is (answers.ListsTo.has_no_room short) = absurd (omega (arith, is))
+
+-- `mime_equal` says 0, and one of its texts needs memory
+compares_for_memory : {one other : List ℕ} {n equal : ℕ} → n ≡ MIME_NO_MEMORY → Compares one other n equal
+    → (equal ≡ 0) × (Explains one NoMemory ⊎ Explains other NoMemory)
+compares_for_memory is (first_fails n found why) = (refl, inl (fails_for_memory is why).2)
+compares_for_memory is (second_fails media n found utf8 reads why) = (refl, inr (fails_for_memory is why).2)
+compares_for_memory is (are_read first second equal u v reads again tells) = absurd (omega (arith, is))
+
+-- so memory never runs out for the empty text, for `*/*`, for what isn't a media type, or isn't UTF-8
+empty_list_needs_none : (old new : List ℕ) (size : ℕ) → ¬ (ListsTo [] old MIME_NO_MEMORY new size)
+empty_list_needs_none old new size lists = empty_needs_none (lists_for_memory refl lists).3
+
+star : MediaType
+star = record { essence = codes "*/*"; slash = 1; plus = None; pairs = []; kept = codes "*/*" }
+
+reads_star : Reads (codes "*/*") star
+unfolding star is_token_byte
+reads_star = record { tree = record { top = codes "*"; sub = codes "*"; tail = no_list }; well_formed = (refl, refl, tt); spelled = refl; valued = refl }
+
+-- the piece of a media type that is the only item
+abbrev piece_of : List CutItem → List ℕ
+piece_of (good piece media ∷ items) = piece
+piece_of items = []
+
+only_piece : (before after : List CutItem) (piece other : List ℕ) (media value : MediaType)
+    → before ++ good piece media ∷ after ≡ good other value ∷ [] → piece ≡ other
+only_piece [] after piece other media value is = ap (λ items. piece_of items) is
+only_piece (item ∷ before) after piece other media value is =
+    absurd (omega (arith, ap length is, length-append before (good piece media ∷ after)))
+
+star_list_needs_none : (old new : List ℕ) (size : ℕ) → ¬ (ListsTo (codes "*/*") old MIME_NO_MEMORY new size)
+star_list_needs_none old new size lists =
+    let needs = (lists_for_memory refl lists).3 in
+    let only = cut_unique (codes "*/*") _ [] (whole (codes "*/*") star reads_star) _ needs.rest needs.cut in
+    needs.not_star (only_piece needs.before needs.after needs.piece (codes "*/*") needs.media star only.0)
+
+star_needs_none : (old new : List ℕ) (found : MimeFound) → ¬ (ReadsTo (codes "*/*") old MIME_NO_MEMORY new found)
+star_needs_none old new found reads = (reads_for_memory refl reads).3.1 refl
+
+e_needs_none : (old new : List ℕ) (found : MimeFound) → ¬ (ReadsTo (codes "e") old MIME_NO_MEMORY new found)
+unfolding is_token_byte
+e_needs_none old new found reads = refused-from_walk (codes "e") _ refl refl (reads_for_memory refl reads).3.0
+
+module _ (isnt : ¬ (IsUtf8 (255 ∷ []))) where
+  not_text_needs_none : (old new : List ℕ) (found : MimeFound) → ¬ (ReadsTo (255 ∷ []) old MIME_NO_MEMORY new found)
+  not_text_needs_none old new found reads = isnt (reads_for_memory refl reads).2
+
+  not_text_list_needs_none : (old new : List ℕ) (size : ℕ) → ¬ (ListsTo (255 ∷ []) old MIME_NO_MEMORY new size)
+  not_text_list_needs_none old new size lists = isnt (lists_for_memory refl lists).2
+
+-- ---- success
+
+-- a failure has another answer
+no_failure_is_ok : {text : List ℕ} {n : ℕ} {found : MimeFound} → n ≡ MIME_OK → ¬ (Fails text n found)
+no_failure_is_ok is (is_refused NoMemory utf8 why) = omega (arith, is)
+no_failure_is_ok is (is_refused fault utf8 why) = omega (arith, is)
+no_failure_is_ok is (is_not_text isnt) = omega (arith, is)
+
+-- the strings that are written are those of the text's media type, and of its items, and their texts come back: none has a 0
+reads_without_zero : {text old new : List ℕ} {n : ℕ} {found : MimeFound} → n ≡ MIME_OK → ReadsTo text old n new found
+    → (media : MediaType) × Reads text media × ComeBack (texts_of media) × (new ≡ written (strings (texts_of media)) old)
+reads_without_zero is (is_read media room utf8 reads back) = (media, reads, back, refl)
+reads_without_zero is (fails n found room why) = absurd (no_failure_is_ok is why)
+reads_without_zero is (has_no_room short) = absurd (omega (arith, is))
+
+lists_without_zero : {text old new : List ℕ} {n size : ℕ} → n ≡ MIME_OK → ListsTo text old n new size
+    → (items : List CutItem) × (rest : List ℕ) × Cut text items rest × ComeBack (item_texts items)
+    × (new ≡ written (strings (item_texts items)) old)
+lists_without_zero is (is_listed items rest room utf8 cut back) = (items, rest, cut, back, refl)
+lists_without_zero is (has_no_memory new room utf8 needs) = absurd (omega (arith, is))
+lists_without_zero is (answers.ListsTo.is_not_text room isnt) = absurd (omega (arith, is))
+lists_without_zero is (answers.ListsTo.has_no_room short) = absurd (omega (arith, is))
+
+-- ---- existence
+
+-- each call has an outcome other than want of memory
+abbrev HasOutcome : {Held : Type 0} → (ℕ → Held → Type 0) → Type 0
+HasOutcome {Held} IsOutcome = (answer : ℕ) × (held : Held) × (answer ≢ MIME_NO_MEMORY) × IsOutcome answer held
+
+outcome_of : {Held : Type 0} (IsOutcome : ℕ → Held → Type 0) → HasOne IsOutcome → HasOutcome IsOutcome
+outcome_of IsOutcome one = (one.0, one.1, one.2, one.3)
+
+reads_has_outcome : (text old : List ℕ) → HasOutcome (λ (answer : ℕ) (held : List ℕ × MimeFound). ReadsTo text old answer held.0 held.1)
+reads_has_outcome text old = outcome_of _ (reads_to_one text old)
+
+lists_has_outcome : (text old : List ℕ) → HasOutcome (λ (answer : ℕ) (held : List ℕ × ℕ). ListsTo text old answer held.0 held.1)
+lists_has_outcome text old = outcome_of _ (lists_to_one text old)
+
+compares_has_outcome : (one other : List ℕ) → HasOutcome (Compares one other)
+compares_has_outcome one other = outcome_of _ (compares_as_one one other)
