@@ -1,13 +1,13 @@
 //! Makes operations on media types here and in the Rust crate `mime`, as bench/run asks for them.
 //!
-//! Standard input has a text, a zero byte and another text. An operation goes over the lines of the text, and takes the line of the
-//! other text beside it if it works on two: so many rounds, in which it is made so many times on each line.
-//! `driver OPERATION here ROUNDS TIMES` and `driver OPERATION there ROUNDS TIMES` do that once: the difference of two runs is what the
-//! operation costs. `driver OPERATION` prints the nanoseconds that the operation takes here, and there, and what it answers here, and
-//! there. An operation `call_NAME` is here the call from C, and there the operation NAME. Without words it is the program `mime_lines`
-//! over the Rust crate, written the same way: labels and texts are pushed, and a fault by its `Display`.
+//! `driver OPERATION here TIMES` and `driver OPERATION there TIMES` make an operation so many times: the difference of two runs is
+//! what it costs. `driver OPERATION` prints the nanoseconds that it takes here, and there, and what it answers here, and there.
+//! Standard input has a text, and after a zero byte the text or name that an operation on two takes. An operation `mixed_NAME` goes
+//! over the lines of both texts, so many rounds. An operation `call_NAME` is here the call from C, and there the operation NAME.
+//! Without words it is the program `mime_lines` over the Rust crate, written the same way: labels and texts are pushed, and a fault
+//! by its `Display`.
 
-use mime::{Mime, APPLICATION_JSON, IMAGE_SVG, TEXT_HTML, TEXT_PLAIN_UTF_8};
+use mime::{Mime, Name, APPLICATION_JSON, CHARSET, IMAGE_SVG, TEXT_HTML, TEXT_PLAIN_UTF_8};
 use std::collections::HashMap;
 use std::fmt::Write as _;
 use std::hash::{BuildHasherDefault, DefaultHasher, Hash, Hasher};
@@ -20,7 +20,8 @@ use std::time::{Duration, Instant};
 struct Slice(*const u8, usize);
 
 extern "C" {
-    fn mime_bench(operation: Slice, text: Slice, other: Slice, rounds: usize, times: usize) -> usize;
+    fn mime_bench(operation: Slice, text: Slice, other: Slice, times: usize) -> usize;
+    fn mime_bench_mixed(operation: Slice, texts: Slice, others: Slice, rounds: usize) -> usize;
     // The calls of include/mime.h.
     fn mime_read(text: Slice, out: Slice, found: *mut [usize; 7]) -> u32;
     fn mime_list(text: Slice, out: Slice, length: *mut usize) -> u32;
@@ -31,91 +32,166 @@ fn slice(text: &str) -> Slice {
     Slice(text.as_ptr(), text.len())
 }
 
-type Operation = fn(&[&str], &[&str], usize, usize) -> usize;
-
 /// For each operation the twin of what `mime_bench` does, over the Rust crate: after a comma what is made before, and then what each
 /// turn answers, or adds to the answer. What LLVM makes of it turns on what is compiled with it, and on the order: after a change of
 /// this file look at the counts of the Rust crate, too.
 macro_rules! operations {
-    ($($name:ident($text:ident, $other:ident) $(, $kept:ident = $value:expr)* => $answer:ident $sets:tt $turn:expr;)*) => {
+    ($($name:ident($text:ident, $other:ident) $(, $kept:pat = $value:expr)* => $answer:ident $sets:tt $turn:expr;)*) => {
         $(
             #[inline(never)]
-            fn $name(texts: &[&str], others: &[&str], rounds: usize, times: usize) -> usize {
-                let pairs = texts.iter().zip(others);
-                let mut made: Vec<_> = pairs.map(|(&$text, &$other)| ($text, $other, $($value,)*)).collect();
-                let mut sum = 0;
-                for _ in 0..rounds {
-                    for ($text, $other, $($kept,)*) in &mut made {
-                        let (_, _, mut $answer) = (&$text, &$other, 0);
-                        for _ in 0..times {
-                            $answer $sets $turn;
-                        }
-                        sum += $answer;
-                    }
+            fn $name($text: &str, $other: &str, times: usize) -> usize {
+                $(let $kept = $value;)*
+                let mut $answer = 0;
+                for _ in 0..times {
+                    $answer $sets $turn;
                 }
-                sum
+                $answer
             }
         )*
 
         /// The operations by name. A program that hashes has maps, too: so the hasher isn't made part of the one place that calls it.
-        fn operations() -> HashMap<&'static str, Operation, BuildHasherDefault<DefaultHasher>> {
-            [$((stringify!($name), $name as Operation)),*].into_iter().collect()
+        fn operations() -> HashMap<&'static str, fn(&str, &str, usize) -> usize, BuildHasherDefault<DefaultHasher>> {
+            [$((stringify!($name), $name as fn(&str, &str, usize) -> usize)),*].into_iter().collect()
         }
     };
 }
 
 // What `black_box` gives may be another value at each turn, as far as the compiler can tell.
 operations! {
-    read(text, _other) => length = match black_box(*text).parse::<Mime>() {
-        Ok(mime) => mime.as_ref().len(),
-        Err(_) => 0,
-    };
-    look_up(text, other), mime = value_of(text) => length = black_box(&*mime).get_param(*other).map_or(0, |value| value.as_str().len());
-    walk(text, _other), mime = value_of(text) => length = {
-        let mut length = 0;
-        for (name, value) in black_box(&*mime).params() {
-            length += name.as_str().len() + value.as_str().len();
-        }
-        length
-    };
+    read(text, _other) => length = length_read(black_box(text));
+    look_up(text, other), mime = value_of(text) => length = length_found(black_box(&mime), other);
+    walk(text, _other), mime = value_of(text) => length = length_walked(black_box(&mime));
+    name_eq(text, other) => same += black_box(text).eq_ignore_ascii_case(other) as usize;
     // The release has no iterator, so this is what its user writes.
     items(text, _other) => length =
-        black_box(*text).split(',').filter_map(|entry| entry.trim().parse::<Mime>().ok()).map(|mime| mime.as_ref().len()).sum();
-    eq(text, other), one = value_of(text), second = value_of(other) => same += (*black_box(&*one) == *black_box(&*second)) as usize;
-    is(text, other) => same += (value_of(black_box(*text)) == value_of(*other)) as usize;
-    cmp(text, other), one = value_of(text), second = value_of(other) => less += black_box(&*one).cmp(black_box(&*second)).is_lt() as usize;
-    eq_str(text, other), one = value_of(text) => same += (*black_box(&*one) == black_box(*other)) as usize;
-    // Which bytes are fed is open, so the hashes of the two sides differ, and the answer is 1.
-    hash(text, _other), mime = value_of(text) => answer += {
-        let mut hasher = DefaultHasher::new();
-        black_box(&*mime).hash(&mut hasher);
-        (hasher.finish() != 1) as usize
-    };
-    clone(text, _other), mime = value_of(text) => copied += !black_box(&black_box(&*mime).clone()).as_ref().is_empty() as usize;
-    print(text, _other), mime = value_of(text), printed = String::with_capacity(text.len()) => length = {
-        printed.clear();
-        write!(printed, "{}", black_box(&*mime)).unwrap();
-        printed.len()
-    };
+        black_box(text).split(',').filter_map(|entry| entry.trim().parse::<Mime>().ok()).map(|mime| mime.as_ref().len()).sum();
+    eq(text, other), one = value_of(text), other = value_of(other) => same += (*black_box(&one) == *black_box(&other)) as usize;
+    is(text, other) => same += (value_of(black_box(text)) == value_of(other)) as usize;
+    cmp(text, other), one = value_of(text), other = value_of(other) => less += black_box(&one).cmp(black_box(&other)).is_lt() as usize;
+    eq_str(text, other), one = value_of(text) => same += (*black_box(&one) == black_box(other)) as usize;
+    hash(text, _other), mime = value_of(text) => count += is_hashed(black_box(&mime)) as usize;
+    // A map here takes another hasher, there the same one.
+    fold(text, _other), mime = value_of(text) => count += is_hashed(black_box(&mime)) as usize;
+    clone(text, _other), mime = value_of(text) => copied += is_cloned(black_box(&mime)) as usize;
+    print(text, _other), mime = value_of(text), mut printed = String::with_capacity(text.len()) => length =
+        length_printed(black_box(&mime), &mut printed);
     // One of four constants as a value, whatever the text is.
     atom(_text, _other), constants = [TEXT_HTML, APPLICATION_JSON, TEXT_PLAIN_UTF_8, IMAGE_SVG] =>
-        length += black_box(&*constants)[length % 4].clone().as_ref().len();
+        length += black_box(&constants)[length % 4].clone().as_ref().len();
 
     // The calls from C, which answer as their twins do. What is found is first the length, and third where the printed text begins, or 0
     // if the text is rejected.
-    call_read(text, _other), out = vec![0u8; 2 * text.len() + 2] => length = {
+    call_read(text, _other), mut out = vec![0u8; 2 * text.len() + 2] => length = {
         let mut found = [0; 7];
-        unsafe { mime_read(slice(black_box(*text)), Slice(out.as_mut_ptr(), out.len()), &mut found) };
+        unsafe { mime_read(slice(black_box(text)), Slice(out.as_mut_ptr(), out.len()), &mut found) };
         (found[0] - found[2]).saturating_sub(1)
     };
-    call_items(text, _other), out = vec![0u8; 2 * text.len()], length = 0 => answer = {
-        unsafe { mime_list(slice(black_box(*text)), Slice(out.as_mut_ptr(), out.len()), length) };
-        out[..*length].split(|byte| *byte == 0).filter(|item| item.first() == Some(&b'+')).map(|item| item.len() - 1).sum()
+    call_items(text, _other), mut out = vec![0u8; 2 * text.len()], mut length = 0 => answer = {
+        unsafe { mime_list(slice(black_box(text)), Slice(out.as_mut_ptr(), out.len()), &mut length) };
+        out[..length].split(|byte| *byte == 0).filter(|item| item.first() == Some(&b'+')).map(|item| item.len() - 1).sum()
     };
-    call_is(text, other), equal = 0 => same += {
-        unsafe { mime_equal(slice(black_box(*text)), slice(*other), equal) };
-        usize::from(*equal)
+    call_is(text, other), mut equal = 0 => same += {
+        unsafe { mime_equal(slice(black_box(text)), slice(other), &mut equal) };
+        usize::from(equal)
     };
+}
+
+/// The twin of `mime_bench_mixed`.
+fn mixed(operation: &str, text: &str, other: &str, rounds: usize) -> usize {
+    let (texts, others): (Vec<_>, Vec<_>) = (text.lines().collect(), other.lines().collect());
+    let operation = match operation {
+        "read" => return read_mixed(&texts, rounds),
+        "look_up" => Operation::LookUp,
+        "walk" => Operation::Walk,
+        "eq" => Operation::Eq,
+        "cmp" => Operation::Cmp,
+        "fold" => Operation::Hash,
+        "eq_str" => Operation::EqStr,
+        "clone" => Operation::Clone,
+        _ => Operation::Print,
+    };
+    let [values, against] = [&texts, &others].map(|texts| texts.iter().map(|text| value_of(text)).collect::<Vec<_>>());
+    on_each(operation, &values, &against, &others, rounds)
+}
+
+/// An operation on each of many values, and on the value or the string beside it.
+#[derive(Clone, Copy)]
+enum Operation {
+    LookUp,
+    Walk,
+    Eq,
+    Cmp,
+    Hash,
+    EqStr,
+    Clone,
+    Print,
+}
+
+#[inline(never)]
+fn read_mixed(texts: &[&str], rounds: usize) -> usize {
+    (0..rounds).map(|_| texts.iter().map(|text| length_read(text)).sum::<usize>()).sum()
+}
+
+#[inline(never)]
+fn on_each(operation: Operation, values: &[Mime], others: &[Mime], texts: &[&str], rounds: usize) -> usize {
+    let (mut sum, mut printed) = (0, String::new());
+    for _ in 0..rounds {
+        for ((mime, other), text) in values.iter().zip(others).zip(texts) {
+            sum += match operation {
+                Operation::LookUp => length_found(mime, CHARSET),
+                Operation::Walk => length_walked(mime),
+                Operation::Eq => (mime == other) as usize,
+                Operation::Cmp => mime.cmp(other).is_lt() as usize,
+                Operation::Hash => is_hashed(mime) as usize,
+                Operation::EqStr => (mime == text) as usize,
+                Operation::Clone => is_cloned(mime) as usize,
+                Operation::Print => length_printed(mime, &mut printed),
+            };
+        }
+    }
+    sum
+}
+
+#[inline(always)]
+fn length_read(text: &str) -> usize {
+    match text.parse::<Mime>() {
+        Ok(mime) => mime.as_ref().len(),
+        Err(_) => 0,
+    }
+}
+
+#[inline(always)]
+fn length_found<'a>(mime: &'a Mime, name: impl PartialEq<Name<'a>>) -> usize {
+    mime.get_param(name).map_or(0, |value| value.as_str().len())
+}
+
+#[inline(always)]
+fn length_walked(mime: &Mime) -> usize {
+    let mut length = 0;
+    for (name, value) in mime.params() {
+        length += name.as_str().len() + value.as_str().len();
+    }
+    length
+}
+
+/// Whether the hash isn't 1: which bytes are fed is open, so the hashes of the two sides differ.
+#[inline(always)]
+fn is_hashed(mime: &Mime) -> bool {
+    let mut hasher = DefaultHasher::new();
+    mime.hash(&mut hasher);
+    hasher.finish() != 1
+}
+
+#[inline(always)]
+fn is_cloned(mime: &Mime) -> bool {
+    !black_box(&mime.clone()).as_ref().is_empty()
+}
+
+#[inline(always)]
+fn length_printed(mime: &Mime, printed: &mut String) -> usize {
+    printed.clear();
+    write!(printed, "{mime}").unwrap();
+    printed.len()
 }
 
 /// The value of a text that is a media type.
@@ -197,31 +273,28 @@ fn main() -> io::Result<()> {
     }
     let (name, given) = (words[1].as_str(), String::from_utf8(input).unwrap());
     let (text, other) = given.split_once('\0').unwrap();
-    let (texts, others): (Vec<_>, Vec<_>) = (text.split('\n').collect(), other.split('\n').collect());
     let operations = operations();
-    // A map here takes another hasher, there the same one.
-    let twin = operations[if name == "fold" { "hash" } else { name.trim_start_matches("call_") }];
-    let here = |rounds, times| match name.starts_with("call_") {
-        true => operations[name](&texts, &others, rounds, times),
-        false => unsafe { mime_bench(slice(name), slice(text), slice(other), rounds, times) },
+    let here = |times| match name.strip_prefix("mixed_") {
+        Some(name) => unsafe { mime_bench_mixed(slice(name), slice(text), slice(other), times) },
+        None if name.starts_with("call_") => operations[name](text, other, times),
+        None => unsafe { mime_bench(slice(name), slice(text), slice(other), times) },
     };
-    let there = |rounds, times| twin(&texts, &others, rounds, times);
+    let there = |times| match name.strip_prefix("mixed_") {
+        Some(name) => mixed(name, text, other, times),
+        None => operations[name.trim_start_matches("call_")](text, other, times),
+    };
     // Memory was used before, as in a program that has run for a while: else a block can grow where it is.
     drop(black_box((20..80).map(|length| "x".repeat(length)).collect::<Vec<_>>()).clone());
-    let [_, _, side, rounds, times] = &words[..] else {
-        // On one line the times are repeated, on several the rounds.
-        let [here_ns, there_ns] = match texts.len() {
-            1 => time([&|times| here(1, times), &|times| there(1, times)]),
-            _ => time([&|rounds| here(rounds, 1), &|rounds| there(rounds, 1)]).map(|time| time / texts.len() as f64),
-        };
-        println!("{here_ns} {there_ns} {} {}", here(1, 1), there(1, 1));
+    let [_, _, side, times] = &words[..] else {
+        let [time, time_there] = time([&here, &there]);
+        println!("{time} {time_there} {} {}", here(4), there(4));
         return Ok(());
     };
-    let run: &dyn Fn(usize, usize) -> usize = if side == "here" { &here } else { &there };
+    let run: &dyn Fn(usize) -> usize = if side == "here" { &here } else { &there };
     // Until malloc's own lists are filled, the same request costs more or less.
     for _ in 0..(20_000 / text.len()).clamp(1, 32) {
-        run(1, 1);
+        run(1);
     }
-    run(rounds.parse().unwrap(), times.parse().unwrap());
+    run(times.parse().unwrap());
     Ok(())
 }

@@ -7,9 +7,9 @@ from itertools import cycle, islice
 
 from commands import text_of
 
-# An operation on strings, each with another beside it, and its goals: as a ratio to the Rust crate's instructions, or in instructions a
-# byte.
-Row = namedtuple("Row", "label operation lines goal others byte_goal", defaults=[None, None, None])
+# An operation on a text, or on two; its goals, as a ratio to the Rust crate's instructions, or in instructions a byte; and whether both
+# crates answer differently, as docs/DIFFERENCES.md says.
+Row = namedtuple("Row", "label operation text goal other byte_goal differs", defaults=[None, "", None, False])
 
 
 def parameters(count):
@@ -21,7 +21,7 @@ def accept(count):
     return ", ".join(islice(cycle(["text/html", "application/xhtml+xml", "application/xml;q=0.9", "image/webp", "*/*;q=0.8"]), count))
 
 
-PLAIN, CHARSET, QUOTED = "text/plain", "text/plain; charset=utf-8", 'a/b; p="x;y"; q="z"'
+PLAIN, CHARSET, SHORT, QUOTED = "text/plain", "text/plain; charset=utf-8", "a/b;q=0.9", 'a/b; p="x;y"; q="z"'
 TWO, HUNDRED = "multipart/form-data; charset=BASE64; boundary=ABCDEFG", parameters(100)
 TWO_QUOTED, TWO_LOWERED = 'multipart/form-data;charset=base64;boundary="ABCDEFG"', TWO.replace("BASE64", "base64")
 BROKEN = "text/html, invalid, application/xml;q=0.9, te xt, */*;q=0.8, invalid, application/xhtml+xml, te xt, image/webp, invalid"
@@ -31,18 +31,18 @@ HEADERS = text_of("bench/headers").splitlines()
 CONTENTS = [it for it in HEADERS if not re.search(r", |,[a-z*]", it)]
 
 
-def row(label, operation, text, goal=None, other=None, byte_goal=None):
-    return Row(label.format(NAMES.get(text, text)), operation, [text], goal, [text if other is None else other], byte_goal)
+def row(label, operation, text, *more, **named):
+    return Row(label.format(NAMES.get(text, text)), operation, text, *more, **named)
 
 
 def mixed():
     """Real media types in random order. Every second is compared with itself, and the others with the next."""
     lines = random.Random(1).choices(CONTENTS, k=256)
-    others = [lines[(at + at % 2) % 256] for at in range(256)]
-    for label, operation in (("read", "read"), ("look up charset", "look_up"), ("walk the parameters", "walk"), ("equality", "eq"),
-                             ("order", "cmp"), ("hash", "hash"), ("hash in a map", "fold"), ("mime_eq_str", "eq_str"),
-                             ("clone and drop", "clone"), ("print", "print")):
-        yield Row(label, operation, lines, None, ["charset"] * 256 if operation == "look_up" else others)
+    text, other = "\n".join(lines), "\n".join(lines[(at + at % 2) % 256] for at in range(256))
+    for label, operation in (("read", "read"), ("look up CHARSET", "look_up"), ("walk the parameters", "walk"), ("equality", "eq"),
+                             ("order", "cmp"), ("hash in a map", "fold"), ("mime_eq_str", "eq_str"), ("clone and drop", "clone"),
+                             ("print", "print")):
+        yield Row(label, f"mixed_{operation}", text, other=other, differs=label in ("equality", "mime_eq_str"))
 
 
 def reading():
@@ -69,20 +69,22 @@ def looking_up():
 def walking():
     for text, goal in ((CHARSET, 2.70), (TWO, 1.25), (QUOTED, 1.30), (HUNDRED, 1.25)):
         yield row("{}", "walk", text, goal)
-    yield row("10,000 parameters", "walk", parameters(10_000), 1.25)
-    for length in (1_000, 10_000):
+    for count in (1_000, 10_000):
+        yield row(f"{count:,} parameters", "walk", parameters(count), 1.25)
+    for length in (1_000, 1_000_000):
         yield row(f"a value of {length:,} bytes", "walk", "a/b; p=" + "x" * length, byte_goal=0.80)
-    yield row("a quoted value of 1,000 bytes, in pairs", "walk", 'a/b; p="' + "\\x" * 500 + '"', byte_goal=0.80)
+    for what, ten in (("plain", "xxxxxxxxxx"), ("a pair in ten", "xxxxxxxx\\x"), ("in pairs", "\\x" * 5)):
+        yield row(f"a quoted value of 1,000 bytes, {what}", "walk", f'a/b; p="{ten * 100}"', byte_goal=0.80)
 
 
 def values():
     for text, otherwise, equal, equal_otherwise, order, hashed in (
             (PLAIN, "TEXT/PLAIN", 0.30, 0.50, 0.60, 1.75), (CHARSET, 'TEXT/PLAIN;CHARSET="UTF-8"', 0.30, 0.50, 0.60, 2.80),
             (TWO, TWO_QUOTED, 0.30, 0.50, 0.60, 3.30), (HUNDRED, HUNDRED.replace("; ", ";"), 0.60, None, 2.30, None)):
-        yield row("equality, the same string: {}", "eq", text, equal)
+        yield row("equality, the same string: {}", "eq", text, equal, text)
         yield row("equality, written otherwise: {}", "eq", text, equal_otherwise, otherwise)
-        yield row("order, the same string: {}", "cmp", text, order)
-        yield row("order, written otherwise: {}", "cmp", text, None, otherwise)
+        yield row("order, the same string: {}", "cmp", text, order, text)
+        yield row("order, written otherwise: {}", "cmp", text, None, otherwise, differs=text != PLAIN)
         yield row("hash: {}", "hash", text, hashed)
         yield row("hash in a map: {}", "fold", text)
         yield row("clone and drop: {}", "clone", text, 0.80)
@@ -98,10 +100,15 @@ def against():
             (CHARSET, ("kept text", 0.60, CHARSET), ("in capitals", 1.20, CHARSET.upper()), ("another type", 1.20, f"n{CHARSET[1:]}"),
              ("another charset", 1.20, f"{CHARSET[:-1]}9"), ("rejected near its end", 1.10, f"{CHARSET[:-2]}(8"),
              ("with quotes, no space", 1.10, 'text/plain;charset="utf-8"')),
-            (TWO, ("kept text", 0.60, TWO_LOWERED), ("in capitals", 1.10, TWO.upper()), ("another type", 1.10, f"n{TWO_LOWERED[1:]}"),
-             ("another boundary", 1.10, f"{TWO_LOWERED[:-1]}X"), ("rejected near its end", 1.10, f"{TWO_LOWERED[:-2]}(G"),
-             ("with quotes, no space", 1.10, TWO_QUOTED))):
-        yield from (row(f"{{}}: {label}", "eq_str", value, goal, other) for label, goal, other in cases)
+            (TWO, ("kept text", 0.60, TWO_LOWERED), ("in capitals", 1.10, TWO.upper(), True), ("another type", 1.10, f"n{TWO_LOWERED[1:]}"),
+             ("another boundary", 1.10, f"{TWO_LOWERED[:-1]}X", True), ("rejected near its end", 1.10, f"{TWO_LOWERED[:-2]}(G", True),
+             ("with quotes, no space", 1.10, TWO_QUOTED)),
+            (SHORT, ("kept text", 0.60, SHORT), ("in capitals", 1.10, SHORT.upper()), ("another weight", 1.10, "a/b;q=0.8", True),
+             ("with a space", 1.10, "a/b; q=0.9"))):
+        for label, goal, other, *differs in cases:
+            yield row(f"{{}}: {label}", "eq_str", value, goal, other, differs=any(differs))
+    for name in ("application-octet-stream", "charset"):
+        yield row("the name {}, in capitals", "name_eq", name, None, name.upper())
 
 
 def lists():

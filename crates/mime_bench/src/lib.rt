@@ -1,163 +1,211 @@
-//! A call over byte slices for the operations that bench/ measures.
+//! Calls over byte slices for the operations that bench/ measures.
 //!
-//! An operation goes over the lines of a text in some rounds, and is made some times on each line: the difference of two calls is
-//! the operation alone. No clause says what it answers: the driver compares that with the Rust crate's answers.
+//! They repeat an operation, so that the difference of two calls is the operation alone. No clause says what they answer:
+//! the driver compares that with the Rust crate's answers.
 #![tactic(auto)]
 
 use mime::{
-    APPLICATION_JSON, IMAGE_SVG, Mime, MimeIter, TEXT_HTML, TEXT_PLAIN_UTF_8, TextKey, mime_eq_str,
+    APPLICATION_JSON, CHARSET, IMAGE_SVG, Mime, MimeIter, Name, ParamKey, TEXT_HTML,
+    TEXT_PLAIN_UTF_8, TextKey, mime_eq_str, name_eq_str,
 };
 use std::alloc::Global;
 use std::fmt::Write;
 use std::hash::{DefaultHasher, FoldHasher, Hash, Hasher};
 
-/// The sum of the last answers: of so many rounds over a list, in which each turn is taken so many times.
-macro_rules! repeat {
-    ($rounds:ident, $times:ident, $it:pat in $all:expr => $turn:expr) => {{
-        let mut sum = 0usize;
-        for _ in 0..$rounds {
-            for $it in $all {
-                let mut answer = 0usize;
-                for _ in 0..$times {
-                    answer = $turn;
-                }
-                sum = sum.wrapping_add(answer);
-            }
+/// The value of a text; without one the operation answers 0.
+macro_rules! value {
+    ($alloc:ident, $text:ident) => {
+        match Mime::from_str($alloc, $text) {
+            Ok(mime) => mime,
+            Err(_) => return 0,
         }
-        sum
+    };
+}
+
+/// The answer of the last of so many turns.
+macro_rules! repeat {
+    ($times:ident => $turn:expr) => {{
+        let mut answer = 0usize;
+        for _ in 0..$times {
+            answer = $turn;
+        }
+        answer
     }};
 }
 
-/// How many of these turns say yes. Each takes one of two equal things, by the answer before: so the compiler leaves none out.
+/// How many of so many turns say yes. Each takes one of two equal things, by the answer before: so the compiler leaves none
+/// out.
 macro_rules! count {
-    ($rounds:ident, $times:ident, $each:pat in $all:expr, $it:ident = $one:expr, $other:expr => $turn:expr) => {{
+    ($times:ident, $it:ident = $one:expr, $other:expr => $turn:expr) => {{
         let mut count = 0usize;
-        for _ in 0..$rounds {
-            for $each in $all {
-                let mut $it = $one;
-                for _ in 0..$times {
-                    if $turn {
-                        count = count.wrapping_add(1);
-                        $it = $one;
-                    } else {
-                        $it = $other;
-                    }
-                }
+        let mut $it = $one;
+        for _ in 0..$times {
+            if $turn {
+                count = count.wrapping_add(1);
+                $it = $one;
+            } else {
+                $it = $other;
             }
         }
         count
     }};
 }
 
-/// Makes an operation on each line of a text, and if it takes two on the line of the other text beside it.
+/// Makes an operation `times` times.
 #[unsafe(no_mangle)]
 pub extern "C" fn mime_bench(
     alloc: Global,
     operation: &[u8],
     text: &[u8],
     other: &[u8],
-    rounds: usize,
     times: usize,
 ) -> usize {
     let (Ok(text), Ok(other)) = (std::str::from_utf8(text), std::str::from_utf8(other)) else {
         return 0;
     };
-    let (Some(texts), Some(others)) = (lines(alloc, text), lines(alloc, other)) else {
-        return 0;
-    };
     match operation {
-        b"read" => read(alloc, &texts, rounds, times),
-        b"items" => items(alloc, &texts, rounds, times),
+        b"read" => read(alloc, text, times),
+        b"walk" => walk(alloc, text, times),
+        b"look_up" => look_up(alloc, text, other, times),
+        b"name_eq" => name_eq(text, other, times),
+        b"eq" => eq(alloc, text, other, times),
+        b"cmp" => cmp(alloc, text, other, times),
+        b"hash" => hash(alloc, text, times),
+        b"fold" => fold(alloc, text, times),
+        b"clone" => clone(alloc, text, times),
+        b"print" => print(alloc, text, times),
+        b"eq_str" => eq_str(alloc, text, other, times),
         b"atom" => atom(times),
-        _ => match (values_of(alloc, &texts), values_of(alloc, &texts)) {
-            (Some(values), Some(again)) => {
-                on_values(alloc, operation, &values, &again, &others, rounds, times)
-            }
-            _ => 0,
-        },
-    }
-}
-
-/// The operations on values. A second list has the same values again.
-fn on_values(
-    alloc: Global,
-    operation: &[u8],
-    values: &[Mime],
-    again: &[Mime],
-    others: &[&str],
-    rounds: usize,
-    times: usize,
-) -> usize {
-    match operation {
-        b"walk" => walk(values, rounds, times),
-        b"look_up" => look_up(values, others, rounds, times),
-        b"hash" => hash(values, again, rounds, times),
-        b"fold" => fold(values, again, rounds, times),
-        b"clone" => clone(values, again, rounds, times),
-        b"print" => print(alloc, values, rounds, times),
-        b"eq_str" => eq_str(values, again, others, rounds, times),
-        _ => match (values_of(alloc, others), values_of(alloc, others)) {
-            (Some(others), Some(again)) => on_two(
-                operation, values, &others, &again, rounds, times,
-            ),
-            _ => 0,
-        },
-    }
-}
-
-/// The operations on two values.
-fn on_two(
-    operation: &[u8],
-    values: &[Mime],
-    others: &[Mime],
-    again: &[Mime],
-    rounds: usize,
-    times: usize,
-) -> usize {
-    match operation {
-        b"eq" => eq(values, others, again, rounds, times),
-        b"cmp" => cmp(values, others, again, rounds, times),
+        b"items" => items(alloc, text, times),
         _ => 0,
     }
 }
 
-fn lines<'a>(alloc: Global, text: &'a str) -> Option<Vec<&'a str>> {
-    let mut lines = Vec::new(alloc);
-    for line in text.split('\n') {
-        lines.push(line).ok()?;
-    }
-    Some(lines)
-}
-
-fn values_of(alloc: Global, texts: &[&str]) -> Option<Vec<Mime>> {
-    let mut values = Vec::new(alloc);
-    for text in texts {
-        values.push(Mime::from_str(alloc, text).ok()?).ok()?;
-    }
-    Some(values)
-}
-
 /// Reads a media type and drops it: the length of its kept text, or 0 if it is rejected.
 #[inline(never)]
-fn read(alloc: Global, texts: &[&str], rounds: usize, times: usize) -> usize {
-    repeat!(rounds, times, text in texts => match Mime::from_str(alloc, text) {
+fn read(alloc: Global, text: &str, times: usize) -> usize {
+    repeat!(times => match Mime::from_str(alloc, text) {
         Ok(mime) => mime.as_str().len(),
         Err(_) => 0,
     })
 }
 
-/// Goes over the media types of a list: how many bytes their kept texts have.
+/// Walks all parameters: the bytes of their names and values.
 #[inline(never)]
-fn items(alloc: Global, texts: &[&str], rounds: usize, times: usize) -> usize {
-    repeat!(rounds, times, text in texts => {
-        let mut length = 0usize;
-        for item in MimeIter::new(alloc, text) {
-            if let Ok(mime) = item {
-                length = length.wrapping_add(mime.as_str().len());
-            }
-        }
-        length
-    })
+fn walk(alloc: Global, text: &str, times: usize) -> usize {
+    let mime = value!(alloc, text);
+    repeat!(times => length_walked(&mime))
+}
+
+#[inline(always)]
+fn length_walked(mime: &Mime) -> usize {
+    let mut length = 0usize;
+    for (name, value) in mime.params() {
+        length = length
+            .wrapping_add(name.text.len())
+            .wrapping_add(value.text.len());
+    }
+    length
+}
+
+/// Looks a parameter up by its name: the length of its value, or 0 without one.
+#[inline(never)]
+fn look_up(alloc: Global, text: &str, name: &str, times: usize) -> usize {
+    let mime = value!(alloc, text);
+    repeat!(times => length_found(&mime, TextKey(name)))
+}
+
+#[inline(always)]
+fn length_found<K: ParamKey + Drop>(mime: &Mime, name: K) -> usize {
+    match mime.get_param(name) {
+        Some(value) => value.text.len(),
+        None => 0,
+    }
+}
+
+/// Compares a name that ignores case with a text.
+#[inline(never)]
+fn name_eq(name: &str, text: &str, times: usize) -> usize {
+    let name = Name {
+        text: name,
+        ignores_case: true,
+    };
+    count!(times, against = text, name.text => name_eq_str(&name, against))
+}
+
+/// Compares two values.
+#[inline(never)]
+fn eq(alloc: Global, one: &str, other: &str, times: usize) -> usize {
+    let first = value!(alloc, one);
+    let (second, third) = (value!(alloc, other), value!(alloc, other));
+    count!(times, against = &second, &third => first == *against)
+}
+
+/// Orders two values: how often the first was less.
+#[inline(never)]
+fn cmp(alloc: Global, one: &str, other: &str, times: usize) -> usize {
+    let first = value!(alloc, one);
+    let (second, third) = (value!(alloc, other), value!(alloc, other));
+    count!(times, against = &second, &third => first.cmp(against).is_lt())
+}
+
+/// Hashes a value by SipHash: how often the hash isn't 1, since which bytes are fed is open.
+#[inline(never)]
+fn hash(alloc: Global, text: &str, times: usize) -> usize {
+    let (first, second) = (value!(alloc, text), value!(alloc, text));
+    count!(times, next = &second, &first => is_hashed(next, DefaultHasher::new()))
+}
+
+/// Hashes a value by the hasher that maps take unless told otherwise.
+#[inline(never)]
+fn fold(alloc: Global, text: &str, times: usize) -> usize {
+    let (first, second) = (value!(alloc, text), value!(alloc, text));
+    count!(times, next = &second, &first => is_hashed(next, FoldHasher::default()))
+}
+
+#[inline(always)]
+fn is_hashed<H: Hasher + Drop>(mime: &Mime, mut hasher: H) -> bool {
+    mime.hash(&mut hasher);
+    hasher.finish() != 1
+}
+
+/// Clones a value and drops the clone: how often its text isn't empty.
+#[inline(never)]
+fn clone(alloc: Global, text: &str, times: usize) -> usize {
+    let (first, second) = (value!(alloc, text), value!(alloc, text));
+    count!(times, next = &second, &first => is_cloned(next))
+}
+
+#[inline(always)]
+fn is_cloned(mime: &Mime) -> bool {
+    match mime.clone() {
+        Ok(copy) => !copy.as_str().is_empty(),
+        Err(_) => false,
+    }
+}
+
+/// Prints a value into a text that has room for it: the length of what was printed.
+#[inline(never)]
+fn print(alloc: Global, text: &str, times: usize) -> usize {
+    let mime = value!(alloc, text);
+    let Ok(mut printed) = String::with_capacity(alloc, text.len()) else {
+        return 0;
+    };
+    repeat!(times => length_printed(&mime, &mut printed))
+}
+
+#[inline(always)]
+fn length_printed(mime: &Mime, printed: &mut String) -> usize {
+    printed.clear();
+    let _ = write!(printed, "{mime}");
+    printed.len()
+}
+
+/// Compares a value with a text.
+#[inline(never)]
+fn eq_str(alloc: Global, one: &str, other: &str, times: usize) -> usize {
+    let (first, second) = (value!(alloc, one), value!(alloc, one));
+    count!(times, against = &second, &first => mime_eq_str(against, other))
 }
 
 /// Makes one of four constants: the sum of the lengths of their texts.
@@ -171,89 +219,123 @@ fn atom(times: usize) -> usize {
     length
 }
 
-/// Walks all parameters: the bytes of their names and values.
+/// Goes over the media types of a list: how many bytes their kept texts have.
 #[inline(never)]
-fn walk(values: &[Mime], rounds: usize, times: usize) -> usize {
-    repeat!(rounds, times, mime in values => {
+fn items(alloc: Global, text: &str, times: usize) -> usize {
+    repeat!(times => {
         let mut length = 0usize;
-        for (name, value) in mime.params() {
-            length = length
-                .wrapping_add(name.text.len())
-                .wrapping_add(value.text.len());
+        for item in MimeIter::new(alloc, text) {
+            if let Ok(mime) = item {
+                length = length.wrapping_add(mime.as_str().len());
+            }
         }
         length
     })
 }
 
-/// Looks a parameter up by its name: the length of its value, or 0 without one.
-#[inline(never)]
-fn look_up(values: &[Mime], names: &[&str], rounds: usize, times: usize) -> usize {
-    repeat!(rounds, times, (mime, name) in values.iter().zip(names) => match mime.get_param(TextKey(name)) {
-        Some(value) => value.text.len(),
-        None => 0,
-    })
+/// An operation on each of many values, and on the value or the string beside it. Looking up and hashing take another key and
+/// another hasher than above, so that the compiler still makes those part of their one caller.
+#[derive(Clone, Copy)]
+enum Operation {
+    LookUp,
+    Walk,
+    Eq,
+    Cmp,
+    Hash,
+    EqStr,
+    Clone,
+    Print,
 }
 
-/// Hashes a value by SipHash: 1 for each, since which bytes are fed is open.
-#[inline(never)]
-fn hash(values: &[Mime], again: &[Mime], rounds: usize, times: usize) -> usize {
-    count!(rounds, times, (first, second) in values.iter().zip(again), next = second, first => {
-        let mut hasher = DefaultHasher::new();
-        next.hash(&mut hasher);
-        hasher.finish() != 1
-    })
+/// Makes an operation on each line of a string and the line of the other string beside it, so many rounds: the sum of the
+/// answers.
+#[unsafe(no_mangle)]
+pub extern "C" fn mime_bench_mixed(
+    alloc: Global,
+    operation: &[u8],
+    texts: &[u8],
+    others: &[u8],
+    rounds: usize,
+) -> usize {
+    let (Some(texts), Some(others)) = (lines(alloc, texts), lines(alloc, others)) else {
+        return 0;
+    };
+    let operation = match operation {
+        b"read" => return read_mixed(alloc, &texts, rounds),
+        b"look_up" => Operation::LookUp,
+        b"walk" => Operation::Walk,
+        b"eq" => Operation::Eq,
+        b"cmp" => Operation::Cmp,
+        b"fold" => Operation::Hash,
+        b"eq_str" => Operation::EqStr,
+        b"clone" => Operation::Clone,
+        b"print" => Operation::Print,
+        _ => return 0,
+    };
+    match (values_of(alloc, &texts), values_of(alloc, &others)) {
+        (Some(values), Some(against)) => mixed(
+            alloc, operation, &values, &against, &others, rounds,
+        ),
+        _ => 0,
+    }
 }
 
-/// Hashes a value by the hasher that maps take by default.
-#[inline(never)]
-fn fold(values: &[Mime], again: &[Mime], rounds: usize, times: usize) -> usize {
-    count!(rounds, times, (first, second) in values.iter().zip(again), next = second, first => {
-        let mut hasher = FoldHasher::default();
-        next.hash(&mut hasher);
-        hasher.finish() != 1
-    })
+#[inline(always)]
+fn lines<'a>(alloc: Global, text: &'a [u8]) -> Option<Vec<&'a str>> {
+    let text = std::str::from_utf8(text).ok()?;
+    let mut lines = Vec::new(alloc);
+    for line in text.split('\n') {
+        lines.push(line).ok()?;
+    }
+    Some(lines)
 }
 
-/// Clones a value and drops the clone: how often its text isn't empty.
-#[inline(never)]
-fn clone(values: &[Mime], again: &[Mime], rounds: usize, times: usize) -> usize {
-    count!(rounds, times, (first, second) in values.iter().zip(again), next = second, first => match next.clone() {
-        Ok(copy) => !copy.as_str().is_empty(),
-        Err(_) => false,
-    })
+#[inline(always)]
+fn values_of(alloc: Global, texts: &[&str]) -> Option<Vec<Mime>> {
+    let mut values = Vec::new(alloc);
+    for text in texts {
+        values.push(Mime::from_str(alloc, text).ok()?).ok()?;
+    }
+    Some(values)
 }
 
-/// Prints a value: the length of what was printed.
 #[inline(never)]
-fn print(alloc: Global, values: &[Mime], rounds: usize, times: usize) -> usize {
-    let mut printed = String::new(alloc);
-    repeat!(rounds, times, mime in values => {
-        printed.clear();
-        let _ = write!(printed, "{mime}");
-        printed.len()
-    })
+fn read_mixed(alloc: Global, texts: &[&str], rounds: usize) -> usize {
+    let mut sum = 0usize;
+    for _ in 0..rounds {
+        for text in texts {
+            if let Ok(mime) = Mime::from_str(alloc, text) {
+                sum = sum.wrapping_add(mime.as_str().len());
+            }
+        }
+    }
+    sum
 }
 
-/// Compares a value with a text.
 #[inline(never)]
-fn eq_str(values: &[Mime], again: &[Mime], texts: &[&str], rounds: usize, times: usize) -> usize {
-    count!(rounds, times, ((first, second), text) in values.iter().zip(again).zip(texts), against = second, first => {
-        mime_eq_str(against, text)
-    })
-}
-
-/// Compares two values.
-#[inline(never)]
-fn eq(values: &[Mime], others: &[Mime], again: &[Mime], rounds: usize, times: usize) -> usize {
-    count!(rounds, times, ((first, second), third) in values.iter().zip(others).zip(again), against = second, third => {
-        *first == *against
-    })
-}
-
-/// Orders two values: how often the first was less.
-#[inline(never)]
-fn cmp(values: &[Mime], others: &[Mime], again: &[Mime], rounds: usize, times: usize) -> usize {
-    count!(rounds, times, ((first, second), third) in values.iter().zip(others).zip(again), against = second, third => {
-        first.cmp(against).is_lt()
-    })
+fn mixed(
+    alloc: Global,
+    operation: Operation,
+    values: &[Mime],
+    others: &[Mime],
+    texts: &[&str],
+    rounds: usize,
+) -> usize {
+    let (mut sum, mut printed) = (0usize, String::new(alloc));
+    for _ in 0..rounds {
+        for ((mime, other), text) in values.iter().zip(others).zip(texts) {
+            let answer = match operation {
+                Operation::LookUp => length_found(mime, CHARSET),
+                Operation::Walk => length_walked(mime),
+                Operation::Eq => (mime == other) as usize,
+                Operation::Cmp => mime.cmp(other).is_lt() as usize,
+                Operation::Hash => is_hashed(mime, FoldHasher::default()) as usize,
+                Operation::EqStr => mime_eq_str(mime, text) as usize,
+                Operation::Clone => is_cloned(mime) as usize,
+                Operation::Print => length_printed(mime, &mut printed),
+            };
+            sum = sum.wrapping_add(answer);
+        }
+    }
+    sum
 }
