@@ -46,15 +46,15 @@ def run(words, seconds=RT_SECONDS, given=None, **how):
     return outcome
 
 
-def said(words, folder=TOP, given=None, **how):
+def output(words, folder=TOP, given=None, **how):
     """What a command writes to standard output and standard error, as a string, and its status."""
     it = run(words, given=given, cwd=folder, **{"stderr": STDOUT, **how})
     return it.stdout.decode(errors="replace"), it.returncode
 
 
-def done(*words, folder=TOP, given=None):
+def run_ok(*words, folder=TOP, given=None):
     """What a command writes. Its failure is an error."""
-    text, status = said(words, folder, given)
+    text, status = output(words, folder, given)
     if status:
         raise OSError(f"{' '.join(words[:6])} ended with status {status}:\n{text[-3000:]}")
     return text
@@ -64,7 +64,7 @@ def is_right(tool, command, is_wanted, folder=TOP, **how):
     """Whether a shell command succeeds and writes what is wanted."""
     began = time.monotonic()
     try:
-        text, status = said(["bash", "-euo", "pipefail", "-c", command], folder, **how)
+        text, status = output(["bash", "-euo", "pipefail", "-c", command], folder, **how)
     except TimeoutError as error:
         text, status = str(error), 1
     well = not status and bool(is_wanted(text))
@@ -73,7 +73,7 @@ def is_right(tool, command, is_wanted, folder=TOP, **how):
     return well
 
 
-def ended(tool, tries, least=1):
+def exit_status(tool, tries, least=1):
     """The exit status of a tool, after its last line. Each of its tries says whether it passed; an error ends them; if there are fewer than
     the least, some are lost. SIGTERM and SIGINT end the tool as an error does, so its folders are removed, and what it runs ends too."""
     for number in (signal.SIGTERM, signal.SIGINT):
@@ -101,7 +101,7 @@ def _end(number, _frame):
 
 @functools.cache
 def kit():
-    return done("rt", "version")
+    return run_ok("rt", "version")
 
 
 @functools.cache
@@ -148,7 +148,7 @@ def need(what, *packages):
     with _alone():
         if not is_there():
             print(f"{what} is missing: apt-get installs {names}", flush=True)
-            text, _ = said(["sh", "-c", f"apt-get update -qq; apt-get install -y -qq --no-install-recommends {names}"])
+            text, _ = output(["sh", "-c", f"apt-get update -qq; apt-get install -y -qq --no-install-recommends {names}"])
         if not is_there():
             raise OSError(f"{what} is needed, and could not be installed: install it (on Debian: {names})\n{text[-600:]}")
 
@@ -176,7 +176,7 @@ def instructions(words, given):
 def refusing_library(room):
     """tools/refusals/refuse.c, compiled."""
     need("cc", "gcc", "libc6-dev")
-    done("cc", "-O2", "-shared", "-fPIC", "-o", f"{room}/refuse.so", "tools/refusals/refuse.c")
+    run_ok("cc", "-O2", "-shared", "-fPIC", "-o", f"{room}/refuse.so", "tools/refusals/refuse.c")
     return f"{room}/refuse.so"
 
 
@@ -230,7 +230,7 @@ def program(crate, backend="llvm", room=None):
     top = TOP if backend == "llvm" else copied(["mime", crate], f"{room}/{crate}", without=())
     made = f"{top}/crates/{crate}/out/{crate}"
     print(f"rt proves and builds {crate} by the compiler {backend}, as far as it isn't up to date", flush=True)
-    text, _ = said(["sh", "-c", f"rm -f out/{crate}; rt run --backend {backend}"], f"{top}/crates/{crate}")
+    text, _ = output(["sh", "-c", f"rm -f out/{crate}; rt run --backend {backend}"], f"{top}/crates/{crate}")
     if not os.path.exists(made):
         raise OSError(f"{crate} can't be built:\n{text[-3000:]}")
     return made

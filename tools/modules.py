@@ -4,12 +4,12 @@ it uses; and over them the other crates."""
 import re
 import textwrap
 
-from commands import done, text_of
+from commands import run_ok, text_of
 from svg import box, path, picture, words
 
 # The size of a card of the modules.
 WIDE, HIGH = 250, 102
-FILES = done("git", "ls-files").split("\n")
+FILES = run_ok("git", "ls-files").split("\n")
 
 
 def sentence(source):

@@ -6,7 +6,7 @@ import os
 import sys
 
 sys.dont_write_bytecode = True
-from commands import TOP, ended, text_of, write
+from commands import TOP, exit_status, text_of, write
 from modules import modules
 from railroad import grammar
 
@@ -28,4 +28,4 @@ def tries():
 
 
 if __name__ == "__main__":
-    sys.exit(ended("pictures", tries()))
+    sys.exit(exit_status("pictures", tries()))

@@ -9,7 +9,7 @@ use Rattle.std.specs.Prelude.{IsTrue, IsFalse, ◌==◌, not}
 use Rattle.std.proofs.lemmas.Bool.{and_parts, and_from}
 use Rattle.std.proofs.lemmas.Bool.Decides.{nat_tests, Decides-eqb}
 use Rattle.mime.specs.Bytes.{is_token_byte, semicolon_byte, equals_byte, quote_byte}
-use Rattle.mime.specs.Grammar.{is_space, AreSpaces, AreTokenBytes, IsToken}
+use Rattle.mime.specs.Grammar.{is_space, AreTokenBytes, IsToken}
 use Rattle.std.specs.Str.{IsUtf8, IsCharBoundary}
 use Rattle.std.proofs.lemmas.Option.{slice_get-get_or, slice_get_within, get_or_from_slice_get}
 use Rattle.std.proofs.lemmas.Str.{IsCharBoundary-before_ascii, IsCharBoundary-after_ascii}
@@ -81,7 +81,7 @@ abbrev pub is_other : ℕ → ℕ → Bool
 is_other byte b = not (b == byte)
 
 -- a byte outside a class isn't among bytes of it
-are_other : (class : ℕ → Bool) (byte : ℕ) → class byte ≡ false → (bytes : List ℕ) → list_all class bytes ≡ true
+pub are_other : (class : ℕ → Bool) (byte : ℕ) → class byte ≡ false → (bytes : List ℕ) → list_all class bytes ≡ true
     → list_all (is_other byte) bytes ≡ true
 are_other class byte out = list_all-wider class (is_other byte) (λ b member. grind (arith, nat_tests, ap class {x = b} {y = byte}))
 
@@ -89,10 +89,6 @@ are_other class byte out = list_all-wider class (is_other byte) (λ b member. gr
 pub are_other-token : (byte : ℕ) → is_token_byte byte ≡ false → (bytes : List ℕ) → AreTokenBytes bytes
     → list_all (is_other byte) bytes ≡ true
 are_other-token = are_other is_token_byte
-
--- a byte that is no space isn't among spaces
-pub are_other-spaces : (byte : ℕ) → is_space byte ≡ false → (bytes : List ℕ) → AreSpaces bytes → list_all (is_other byte) bytes ≡ true
-are_other-spaces = are_other is_space
 
 -- a token is token bytes
 pub AreTokenBytes-from_token : (bytes : List ℕ) → IsToken bytes → AreTokenBytes bytes

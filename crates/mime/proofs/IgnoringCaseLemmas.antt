@@ -42,9 +42,8 @@ lapped a b n last after prefix back =
 zip2_push : (f : ℕ → ℕ → ℕ) (xs ys : List ℕ) (x y : ℕ) → length xs ≡ length ys
     → zip2 f (xs ++ (x ∷ [])) (ys ++ (y ∷ [])) ≡ zip2 f xs ys ++ (f x y ∷ [])
 zip2_push f [] [] x y long = refl
-zip2_push f [] (b ∷ ys) x y long = absurd (omega (arith, long))
-zip2_push f (a ∷ xs) [] x y long = absurd (omega (arith, long))
 zip2_push f (a ∷ xs) (b ∷ ys) x y long = ap (λ rest. f a b ∷ rest) (zip2_push f xs ys x y (omega (arith, long)))
+zip2_push f xs ys x y long = absurd (omega (arith, long))
 
 pub one_more : (f : ℕ → ℕ → ℕ) (a b bits : List ℕ) (n : ℕ) → n < length a → n < length b → n < length bits
     → take n bits ≡ zip2 f (take n a) (take n b)

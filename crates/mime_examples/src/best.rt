@@ -9,21 +9,26 @@ use crate::weights::{thousandths, weight_of};
 use mime::Mime;
 use std::alloc::{AllocError, Global};
 
+/// How many parts of an essence a range names: 0 for `*/*`, 1 for `text/*`, and 2 for `text/html`.
+fn named_parts(range: &Mime) -> u8 {
+    let essence = range.essence_str();
+    if essence == "*/*" {
+        0
+    } else if essence.ends_with("/*") {
+        1
+    } else {
+        2
+    }
+}
+
 /// How closely a range names a media type: `*/*` less than `text/*`, that less than `text/html`, and of
 /// these the more closely the more parameters it has; then its weight. `None` if it doesn't cover it.
 fn closeness(range: &Mime, mime: &Mime) -> Option<(u8, usize, u16)> {
     if !covers(range, mime) {
         return None;
     }
-    let parts = if range.essence_str() == "*/*" {
-        0
-    } else if range.essence_str().ends_with("/*") {
-        1
-    } else {
-        2
-    };
     let shared = shared_parameters(range, mime)?;
-    Some((parts, shared, thousandths(weight_of(range))))
+    Some((named_parts(range), shared, thousandths(weight_of(range))))
 }
 
 /// What the ranges of an `Accept` header give a media type, in thousandths: the weight of the closest

@@ -1,7 +1,6 @@
 //! The constants, and the classes of bytes.
 
-use crate::relations::{BothSets, relation};
-use crate::values::{PartsOf, print_copy, sign};
+use crate::values::print_copy;
 use mime::{
     APPLICATION, APPLICATION_JAVASCRIPT, APPLICATION_JAVASCRIPT_UTF_8, APPLICATION_JSON,
     APPLICATION_MSGPACK, APPLICATION_OCTET_STREAM, APPLICATION_PDF,
@@ -14,46 +13,53 @@ use mime::{
     TEXT_JAVASCRIPT, TEXT_JAVSCRIPT, TEXT_PLAIN, TEXT_PLAIN_UTF_8, TEXT_STAR,
     TEXT_TAB_SEPARATED_VALUES, TEXT_TAB_SEPARATED_VALUES_UTF_8, TEXT_VCARD, TEXT_XML, TextKey,
     UTF_8, VCARD, VIDEO, WOFF, WOFF2, WWW_FORM_URLENCODED, XML, is_quoted_byte,
-    is_quoted_text_byte, is_token, name_eq_str,
+    is_quoted_text_byte, is_token,
 };
 use std::alloc::{AllocError, Global};
+use std::fmt;
 use std::fmt::Write;
 
-/// The constant media types. The last is an old spelling of another.
-static ATOMS: &[Atom] = &[
-    STAR_STAR,
-    TEXT_STAR,
-    TEXT_PLAIN,
-    TEXT_PLAIN_UTF_8,
-    TEXT_HTML,
-    TEXT_HTML_UTF_8,
-    TEXT_CSS,
-    TEXT_CSS_UTF_8,
-    TEXT_JAVASCRIPT,
-    TEXT_XML,
-    TEXT_EVENT_STREAM,
-    TEXT_CSV,
-    TEXT_CSV_UTF_8,
-    TEXT_TAB_SEPARATED_VALUES,
-    TEXT_TAB_SEPARATED_VALUES_UTF_8,
-    TEXT_VCARD,
-    IMAGE_STAR,
-    IMAGE_JPEG,
-    IMAGE_GIF,
-    IMAGE_PNG,
-    IMAGE_BMP,
-    IMAGE_SVG,
-    FONT_WOFF,
-    FONT_WOFF2,
-    APPLICATION_JSON,
-    APPLICATION_JAVASCRIPT,
-    APPLICATION_JAVASCRIPT_UTF_8,
-    APPLICATION_WWW_FORM_URLENCODED,
-    APPLICATION_OCTET_STREAM,
-    APPLICATION_MSGPACK,
-    APPLICATION_PDF,
-    MULTIPART_FORM_DATA,
-    TEXT_JAVSCRIPT,
+/// The constant media types, each with its identifier. The last is an old spelling of another.
+static ATOMS: &[(&str, Atom)] = &[
+    ("STAR_STAR", STAR_STAR),
+    ("TEXT_STAR", TEXT_STAR),
+    ("TEXT_PLAIN", TEXT_PLAIN),
+    ("TEXT_PLAIN_UTF_8", TEXT_PLAIN_UTF_8),
+    ("TEXT_HTML", TEXT_HTML),
+    ("TEXT_HTML_UTF_8", TEXT_HTML_UTF_8),
+    ("TEXT_CSS", TEXT_CSS),
+    ("TEXT_CSS_UTF_8", TEXT_CSS_UTF_8),
+    ("TEXT_JAVASCRIPT", TEXT_JAVASCRIPT),
+    ("TEXT_XML", TEXT_XML),
+    ("TEXT_EVENT_STREAM", TEXT_EVENT_STREAM),
+    ("TEXT_CSV", TEXT_CSV),
+    ("TEXT_CSV_UTF_8", TEXT_CSV_UTF_8),
+    ("TEXT_TAB_SEPARATED_VALUES", TEXT_TAB_SEPARATED_VALUES),
+    (
+        "TEXT_TAB_SEPARATED_VALUES_UTF_8",
+        TEXT_TAB_SEPARATED_VALUES_UTF_8,
+    ),
+    ("TEXT_VCARD", TEXT_VCARD),
+    ("IMAGE_STAR", IMAGE_STAR),
+    ("IMAGE_JPEG", IMAGE_JPEG),
+    ("IMAGE_GIF", IMAGE_GIF),
+    ("IMAGE_PNG", IMAGE_PNG),
+    ("IMAGE_BMP", IMAGE_BMP),
+    ("IMAGE_SVG", IMAGE_SVG),
+    ("FONT_WOFF", FONT_WOFF),
+    ("FONT_WOFF2", FONT_WOFF2),
+    ("APPLICATION_JSON", APPLICATION_JSON),
+    ("APPLICATION_JAVASCRIPT", APPLICATION_JAVASCRIPT),
+    ("APPLICATION_JAVASCRIPT_UTF_8", APPLICATION_JAVASCRIPT_UTF_8),
+    (
+        "APPLICATION_WWW_FORM_URLENCODED",
+        APPLICATION_WWW_FORM_URLENCODED,
+    ),
+    ("APPLICATION_OCTET_STREAM", APPLICATION_OCTET_STREAM),
+    ("APPLICATION_MSGPACK", APPLICATION_MSGPACK),
+    ("APPLICATION_PDF", APPLICATION_PDF),
+    ("MULTIPART_FORM_DATA", MULTIPART_FORM_DATA),
+    ("TEXT_JAVSCRIPT", TEXT_JAVSCRIPT),
 ];
 
 /// The constant names, each with its identifier.
@@ -98,25 +104,39 @@ static NAMES: &[(&str, Name<'static>)] = &[
     ("UTF_8", UTF_8),
 ];
 
-/// The constant that equals a media type, by equality, order and hash.
-pub(crate) fn constant_of(mime: &Mime) -> Option<Atom> {
-    for atom in ATOMS {
-        let constant = atom.mime();
-        if constant == *mime && relation(&constant, mime) == '=' {
-            return Some(*atom);
+/// The value that a field stands for: that of a constant, or what the string is read as.
+pub(crate) fn value_of(alloc: Global, field: &str) -> Result<Mime, FromStrError> {
+    for (identifier, atom) in ATOMS {
+        if *identifier == field {
+            return Ok(atom.mime());
+        }
+    }
+    Mime::from_str(alloc, field)
+}
+
+/// The constant name with an identifier.
+pub(crate) fn constant_name(field: &str) -> Option<Name<'static>> {
+    for (identifier, name) in NAMES {
+        if *identifier == field {
+            return Some(*name);
         }
     }
     None
 }
 
-/// The constant name that equals a text.
-pub(crate) fn name_of(text: &str) -> Option<Name<'static>> {
-    for (_, name) in NAMES {
-        if name_eq_str(name, text) {
-            return Some(*name);
+/// A name as tables have it: the identifier of the constant that is equal to it, or its text in quotes.
+#[derive(Clone, Copy)]
+pub(crate) struct Shown<'a>(pub(crate) Name<'a>);
+
+impl fmt::Debug for Shown<'_> {
+    fn fmt<W: fmt::Write>(&self, f: &mut fmt::Formatter<W>) -> fmt::Result {
+        for (identifier, name) in NAMES {
+            if *name == self.0 {
+                return f.write_str(identifier);
+            }
         }
+        fmt::Debug::fmt(&self.0, f)
     }
-    None
 }
 
 /// Compiles only for a type whose values threads may hand over and share.
@@ -142,64 +162,21 @@ impl CrossesThreads for FromStrError {}
 
 /// Prints the copies of the constant media types.
 pub(crate) fn copies(out: &mut String) -> Result<(), AllocError> {
-    for atom in ATOMS {
+    for (_, atom) in ATOMS {
         print_copy(out, &atom.mime())?;
     }
     Ok(())
 }
 
-/// Prints the constants: names, and media types with their parts, and whether a set of those before finds what the text of one is
-/// read as.
-pub(crate) fn constants(alloc: Global, out: &mut String) -> Result<(), AllocError> {
-    for (identifier, name) in NAMES {
-        writeln!(out, "{identifier}: {}{name}", sign(*name))?;
-    }
-    let fault = ParseError::NoMemory;
-    writeln!(out, "{fault}|{fault:>99}|{fault:?}")?;
-    print_atoms(alloc, out)
-}
-
-/// Prints the constant media types with their parts.
-fn print_atoms(alloc: Global, out: &mut String) -> Result<(), AllocError> {
-    let mut sets = BothSets::new(alloc);
-    for atom in ATOMS {
-        let mime = atom.mime();
-        let is_new = sets.insert(&mime)?;
-        let mut alike = 0u32;
-        for other in ATOMS {
-            alike = alike.wrapping_add((*other == *atom) as u32);
-        }
-        let parts = PartsOf(&mime);
-        writeln!(out, "{atom:?}: {parts}\nas often in the table: {alike}")?;
-        if is_page_or_script(*atom) {
-            out.push_str("a page or a script\n")?;
-        }
-        let Ok(read) = Mime::from_str(alloc, atom.text()) else {
-            return writeln!(out, "not a media type");
-        };
-        let (sign, is_found) = (relation(&mime, &read), sets.sign_of(&read) == '=');
-        writeln!(out, "{sign} what is read, new {is_new}, found {is_found}")?;
-    }
-    Ok(())
-}
-
-/// Whether a constant is a page of HTML, or JavaScript by its old spelling, which is no variant.
-fn is_page_or_script(atom: Atom) -> bool {
-    matches!(atom, TEXT_HTML | TEXT_HTML_UTF_8 | TEXT_JAVSCRIPT)
-}
-
-/// Prints each byte with the classes that it is in.
+/// Prints each byte, and whether it is in a token, in a quoted string by itself, and there after a backslash or by itself.
 pub(crate) fn bytes(out: &mut String) -> Result<(), AllocError> {
     for byte in 0..=255u8 {
-        write!(out, "{byte}")?;
-        for (is_in, class) in [
-            (is_token(byte), " token"),
-            (is_quoted_text_byte(byte), " text"),
-            (is_quoted_byte(byte), " quoted"),
-        ] {
-            out.push_str(if is_in { class } else { "" })?;
-        }
-        out.push('\n')?;
+        let classes = (
+            is_token(byte),
+            is_quoted_text_byte(byte),
+            is_quoted_byte(byte),
+        );
+        writeln!(out, "{byte} {classes:?}")?;
     }
     Ok(())
 }

@@ -1,69 +1,53 @@
-//! The media types in a text.
+//! The media types in a string.
 
+use crate::fields::string_at;
 use mime::{Bad, Mime, MimeIter};
 use std::alloc::{AllocError, Global};
 use std::fmt::Write;
 
-fn print_item(out: &mut String, item: &Result<Mime, Bad<'_>>) -> Result<(), AllocError> {
+fn print_item(out: &mut String, item: Result<Mime, Bad<'_>>) -> Result<(), AllocError> {
     match item {
-        Ok(mime) => writeln!(out, "ok {}", mime.as_str()),
+        Ok(mime) => writeln!(out, "ok {mime}"),
         Err(Bad::Piece(piece)) => writeln!(out, "bad {piece}"),
-        Err(Bad::NoMemory) => writeln!(out, "no memory"),
+        Err(Bad::NoMemory) => out.push_str("no memory\n"),
     }
 }
 
-/// Prints the items that are left, and whether another comes after the end.
+/// Prints the items that are left, as long as the size hint after each is `(0, None)`; then the steps, the size hint before the items,
+/// and whether there is none after the last.
 fn print_rest(out: &mut String, iter: &mut MimeIter<'_>) -> Result<(), AllocError> {
-    while let Some(item) = iter.next() {
-        print_item(out, &item)?;
+    let hint = iter.size_hint();
+    while let (Some(item), (0, None)) = (iter.next(), iter.size_hint()) {
+        print_item(out, item)?;
     }
-    if iter.next().is_some() {
-        writeln!(out, "an item after the end")?;
-    }
-    Ok(())
+    let is_end = iter.next().is_none();
+    writeln!(out, "steps {:?}", (iter.steps(), hint, is_end))
 }
 
-/// Prints the items of a text, and the steps.
+/// Prints the items of a string.
 pub(crate) fn items(alloc: Global, out: &mut String, text: &str) -> Result<(), AllocError> {
-    let mut iter = MimeIter::new(alloc, text);
-    print_rest(out, &mut iter)?;
-    writeln!(out, "steps {}", iter.steps())
+    print_rest(out, &mut MimeIter::new(alloc, text))
 }
 
-/// Prints the first item of a text, and those that are left, first by a clone of the iterator and then by itself.
+/// Prints the first item of a string, and those that are left, first by a clone of the iterator and then by itself.
 pub(crate) fn again(alloc: Global, out: &mut String, text: &str) -> Result<(), AllocError> {
     let mut iter = MimeIter::new(alloc, text);
     if let Some(item) = iter.next() {
-        print_item(out, &item)?;
-    }
-    let mut clone = iter.clone()?;
-    print_rest(out, &mut clone)?;
-    writeln!(out, "steps {} and {}", iter.steps(), clone.steps())?;
-    print_rest(out, &mut iter)?;
-    writeln!(out, "steps {} and {}", iter.steps(), clone.steps())
-}
-
-/// Prints the items of a text, which are all kept until the last was taken, and the steps.
-pub(crate) fn all_items(alloc: Global, out: &mut String, text: &str) -> Result<(), AllocError> {
-    let mut iter = MimeIter::new(alloc, text);
-    let mut kept = Vec::new(alloc);
-    let mut is_exact = iter.size_hint() == (0, None);
-    while let Some(item) = iter.next() {
-        kept.push(item)?;
-        is_exact = is_exact && iter.size_hint() == (0, None);
-    }
-    for item in &kept {
-        out.push_str("item ")?;
         print_item(out, item)?;
     }
-    writeln!(out, "steps {}, size hints right: {is_exact}", iter.steps())
+    print_rest(out, &mut iter.clone()?)?;
+    print_rest(out, &mut iter)
 }
 
-/// Whether an item is what this piece is read as, or else the piece.
-pub(crate) fn is_item(alloc: Global, item: Option<Result<Mime, Bad<'_>>>, piece: &str) -> bool {
-    match (item, Mime::from_str(alloc, piece)) {
-        (Some(Ok(item)), Ok(mime)) => item == mime && item.as_str() == mime.as_str(),
-        (Some(Err(Bad::Piece(bad))), Err(_)) => bad == piece,
-        _ => false,
+/// Prints which items (`=`) of the first string are equal to what the others are read as.
+pub(crate) fn list(alloc: Global, out: &mut String, strings: &[String]) -> Result<(), AllocError> {
+    let mut iter = MimeIter::new(alloc, string_at(strings, 0));
+    for text in strings.iter().skip(1) {
+        let is_equal = match (iter.next(), Mime::from_str(alloc, text.as_str())) {
+            (Some(Ok(item)), Ok(mime)) => item == mime,
+            _ => false,
+        };
+        out.push(if is_equal { '=' } else { ' ' })?;
     }
+    out.push_str(".\n")
 }

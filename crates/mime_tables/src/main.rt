@@ -1,19 +1,20 @@
-//! Prints what the library says of each row of a table, which is standard input. A row is a word and texts, divided by tabs:
+//! Prints what the library says of each row of a table, which is standard input. A row is a word and fields, divided by tabs. A `VALUE` is
+//! a string that is read, or the identifier of a constant:
 //!
-//! - `read TEXT`, `clone TEXT`, `items TEXT`: the text is read, what was read is cloned, or the media types in it are taken;
-//! - `again TEXT`: so are those that are left after the first, twice, by a clone of the iterator and by itself;
-//! - `parts TEXT`: all that a value tells, or the fault in each of its printed forms;
-//! - `long TEXT`: the numbers of a value with many parameters;
-//! - `print TEXT`: a value within several widths;
-//! - `key TEXT KEY OTHER`: the value that a key finds, and whether it equals the other text;
-//! - `compare TEXTS`, `sets TEXTS`: the values against each other and against the texts, and in sets;
-//! - `with_text TEXT TEXT TEXT TEXT`: a value with a text in a set, against another value with another text;
-//! - `pair TEXT TEXT`: two values, in few walks;
-//! - `against VALUE TEXTS`: a value against texts;
-//! - `names NAMES`: names against each other, each with `~` before it where it ignores case, and with `=` where it doesn't;
-//! - `bytes`, `constants`, `copies`: the classes of bytes, the constants, and their copies;
-//! - `case`, `rooms`: how names ignore case, and how printing fails where its writer does;
-//! - `short_verdicts`, `short_cuts`, `short_against`: all short texts, by rules that need no table.
+//! - `read VALUE`, `clone VALUE`, `items STRING`: reads the string, clones what was read, or takes the media types in it;
+//! - `again STRING`: takes those that are left after the first, twice, by a clone of the iterator and by itself;
+//! - `list STRING STRINGS`: takes the media types in the first string, and compares each with what the next of the others is read as;
+//! - `parts VALUE`: the parts of a value, or why it is rejected;
+//! - `long VALUE KEPT`: the numbers of a value, and whether its string is `KEPT`;
+//! - `print VALUE`: a value in 12 places, and by Debug;
+//! - `key VALUE KEY OTHER`: the value that a key finds, which is a string or a constant, and whether it equals the other string;
+//! - `compare VALUE VALUE`, `pair VALUE VALUE`: two values, how they compare, or whether they are equal by each trait; and the first
+//!   against the second's string;
+//! - `sets VALUE VALUE`: whether the first is found in sets that have the second;
+//! - `against VALUE STRING`: a value against a string;
+//! - `names NAME NAME`: two names, each a constant, or a string with `~` before it if it ignores case, or else with `=`;
+//! - `bytes`, `copies`: the classes of bytes, and the copies of the constants;
+//! - `short_verdicts`: all short strings, by a rule that needs no table.
 //!
 //! What a row does is done between the lines `now` and `end`, without other requests for memory than its own: there
 //! tools/refused_requests refuses and counts them. What it says is printed after them.
@@ -23,16 +24,14 @@ mod constants;
 mod fields;
 mod items;
 mod relations;
-mod rooms;
 mod short;
 mod values;
 
-use crate::constants::{bytes, constants, copies};
-use crate::fields::{text_at, texts_of};
-use crate::items::{again, items};
-use crate::relations::{against, case, compare, names, pair, sets, with_text};
-use crate::rooms::rooms;
-use crate::short::short;
+use crate::constants::{bytes, copies, value_of};
+use crate::fields::{string_at, strings_of};
+use crate::items::{again, items, list};
+use crate::relations::{against, compare, names, pair, sets};
+use crate::short::short_verdicts;
 use crate::values::{clone, key, long, parts, print};
 use mime::Mime;
 use std::alloc::{AllocError, Global};
@@ -48,7 +47,7 @@ fn main(rt: HostRuntime) -> io::Result<()> {
     rt.stdin().read_to_string(&mut table)?;
     let mut out = String::with_capacity(rt.alloc(), ROOM)?;
     for line in table.as_str().lines() {
-        if !line.is_empty() && !line.starts_with('#') {
+        if !line.starts_with('#') {
             row(&rt, &mut out, line)?;
         }
     }
@@ -57,11 +56,11 @@ fn main(rt: HostRuntime) -> io::Result<()> {
 
 fn row(rt: &HostRuntime, out: &mut String, line: &str) -> io::Result<()> {
     let (word, fields) = line.split_once('\t').unwrap_or((line, ""));
-    let texts = texts_of(rt.alloc(), fields)?;
+    let strings = strings_of(rt.alloc(), fields)?;
     out.clear();
     println!(rt; "{line}")?;
     println!(rt; "now")?;
-    let end = match answer(rt.alloc(), out, word, texts.as_slice()) {
+    let end = match answer(rt.alloc(), out, word, strings.as_slice()) {
         Ok(()) => "end",
         Err(_) => "end\nout of memory",
     };
@@ -72,48 +71,39 @@ fn row(rt: &HostRuntime, out: &mut String, line: &str) -> io::Result<()> {
 // A function for a few words each, since the time of a proof grows with the square of a `match`.
 
 /// Writes what the library says of a row.
-fn answer(alloc: Global, out: &mut String, word: &str, texts: &[String]) -> Result<(), AllocError> {
-    let text = text_at(texts, 0);
-    match word {
-        "items" => items(alloc, out, text),
-        "again" => again(alloc, out, text),
-        "parts" => parts(alloc, out, text),
-        "compare" => compare(alloc, out, texts),
-        "sets" => sets(alloc, out, texts),
-        "names" => names(out, texts),
-        _ => answer_alone(alloc, out, word, texts),
-    }
-}
-
-/// Writes what the library says of a row without texts.
-fn answer_alone(
+fn answer(
     alloc: Global,
     out: &mut String,
     word: &str,
-    texts: &[String],
+    strings: &[String],
 ) -> Result<(), AllocError> {
     match word {
         "bytes" => bytes(out),
-        "constants" => constants(alloc, out),
         "copies" => copies(out),
-        "case" => case(alloc, out),
-        "rooms" => rooms(alloc, out),
-        "short_verdicts" | "short_cuts" | "short_against" => short(alloc, out, word),
-        _ => answer_of_value(alloc, out, word, texts),
+        "short_verdicts" => short_verdicts(alloc, out),
+        "names" => names(out, string_at(strings, 0), string_at(strings, 1)),
+        "list" => list(alloc, out, strings),
+        _ => answer_of_one(alloc, out, word, strings),
     }
 }
 
-/// Writes what the library says of a row whose first text is read.
-fn answer_of_value(
+/// Writes what the library says of a row whose first field is a value, or has media types in it.
+fn answer_of_one(
     alloc: Global,
     out: &mut String,
     word: &str,
-    texts: &[String],
+    strings: &[String],
 ) -> Result<(), AllocError> {
-    match Mime::from_str(alloc, text_at(texts, 0)) {
-        Ok(mime) => tell(alloc, out, word, &mime, texts),
-        Err(error) if word == "read" => writeln!(out, "bad {error}"),
-        Err(_) => out.push_str("not a media type\n"),
+    let first = string_at(strings, 0);
+    match word {
+        "items" => items(alloc, out, first),
+        "again" => again(alloc, out, first),
+        _ => match value_of(alloc, first) {
+            Ok(mime) => tell(alloc, out, word, &mime, strings),
+            Err(_) if word == "clone" => out.push_str("not a media type\n"),
+            // The error ignores a width.
+            Err(error) => writeln!(out, "bad {error:99}"),
+        },
     }
 }
 
@@ -122,30 +112,33 @@ fn tell(
     out: &mut String,
     word: &str,
     mime: &Mime,
-    texts: &[String],
+    strings: &[String],
 ) -> Result<(), AllocError> {
+    let second = string_at(strings, 1);
     match word {
         "read" => writeln!(out, "ok {mime}"),
+        "parts" => parts(out, mime),
         "clone" => clone(out, mime),
-        "long" => long(alloc, out, mime, text_at(texts, 0)),
         "print" => print(out, mime),
-        _ => tell_with_texts(alloc, out, word, mime, texts),
+        "key" => key(out, mime, second, string_at(strings, 2)),
+        "against" => against(out, mime, second),
+        "long" => long(out, mime, second),
+        _ => tell_of_two(alloc, out, word, mime, second),
     }
 }
 
-fn tell_with_texts(
+/// Writes what the library says of two values.
+fn tell_of_two(
     alloc: Global,
     out: &mut String,
     word: &str,
-    mime: &Mime,
-    texts: &[String],
+    one: &Mime,
+    text: &str,
 ) -> Result<(), AllocError> {
-    let second = text_at(texts, 1);
-    match word {
-        "key" => key(out, mime, second, text_at(texts, 2)),
-        "pair" => pair(alloc, out, mime, second),
-        "with_text" => with_text(alloc, out, mime, texts),
-        "against" => against(out, mime, texts),
-        _ => out.push_str("no such row\n"),
+    match value_of(alloc, text) {
+        Ok(other) if word == "sets" => sets(alloc, out, one, other),
+        Ok(other) if word == "compare" => compare(out, one, &other, text),
+        Ok(other) => pair(out, one, &other, text),
+        Err(error) => writeln!(out, "bad {error}"),
     }
 }

@@ -4,7 +4,7 @@ use Rattle.std.proofs.lemmas.List.{take-append-le, take-append-drop, take-take}
 use Rattle.std.proofs.lemmas.Bool.{and_parts, cond-false}
 use Rattle.std.proofs.lemmas.Bool.Decides.{nat_tests}
 use Rattle.mime.proofs.GrammarLemmas.Begun.{Begun, in_type, grow, walk}
-use Rattle.mime.proofs.GrammarLemmas.Characters.{following-low, high_token, IsForeign, IsOpen, grow-foreign}
+use Rattle.mime.proofs.GrammarLemmas.Characters.{following-low, foreign-from_high, IsForeign, IsOpen, grow-foreign}
 use Rattle.mime.proofs.CutLemmas.Cuts.{Following, following_of, split-size, split-from_dead, items-from_refused, split_inv, empty-cut, has_cut, cut_unique, takes_unique}
 use Rattle.mime.proofs.ValueLemmas.KeptText.{kept_is_read}
 use Rattle.mime.proofs.GrammarLemmas.Viability.{walk-from_viable, lacks-from_walk, accepted_is_viable, prefix_of_viable_is_viable}
@@ -63,7 +63,7 @@ cut-after_following bytes rest items end cut =
         let parts = and_parts (is_following_byte b) (list_all is_following_byte following) of_class in
         dead-inv b (following ++ left)
         (record { following = following; left = left; spelled = refl; of_class = parts.1; begins = begins }) items end
-        (cond-false (is_token_byte b) _ _ (high_token b (following-low b parts.0).0)) cut
+        (cond-false (is_token_byte b) _ _ (foreign-from_high b (following-low b parts.0).0).token) cut
 
 -- a byte that begins no type, passed with what follows it, leaves a cut as it is
 cut-after_dead : (b : ℕ) (bytes : List ℕ) (items : List CutItem) (end : List ℕ) → grow (in_type []) b ≡ None

@@ -1,9 +1,9 @@
 -- Characters: the longest viable prefix ends between two, and what is passed after it is one.
 use Rattle.std.proofs.Common.{◌≡◌, ℕ, Bool, false, List, [], ◌∷◌, ◌++◌, Option, Some, None, refl, sym, ◌∙◌, subst, ◌+◌, ◌<◌, ◌≤◌, true, length, get_or, drop, ap, arith, ◌⊎◌, inl, inr, ⊎_elim, length-drop, zero, suc, take, append-nil, length-append}
-use Rattle.std.proofs.lemmas.Bool.{cond_both, cond-false, cases_lt, and_parts, both_ways, cases_Bool}
-use Rattle.std.specs.Prelude.{IsFalse, MatchOption, if◌then◌else◌, ◌==◌, IsTrue}
+use Rattle.std.proofs.lemmas.Bool.{cond_both, cond-false, cases_lt, and_parts}
+use Rattle.std.specs.Prelude.{IsFalse, MatchOption, if◌then◌else◌, ◌==◌, IsTrue, ◌&&◌, ◌||◌, nat_le}
 use Rattle.std.specs.Option.{option_map}
-use Rattle.mime.specs.Bytes.{is_token_byte, slash_byte, semicolon_byte, equals_byte, quote_byte}
+use Rattle.mime.specs.Bytes.{is_token_byte, slash_byte, semicolon_byte, equals_byte, quote_byte, space_byte, tab_byte}
 use Rattle.mime.specs.Grammar.{is_space}
 use Rattle.mime.specs.Inner.Quoted.{continues, awaits_after}
 use Rattle.mime.proofs.GrammarLemmas.Begun.{Closed, Begun, in_type, in_subtype, in_list, ListState, in_spaces, in_name, in_value, in_quotes, after_quotes, list_at, grow, grow_state, grow_list, BegunList, walk, walk_from}
@@ -16,7 +16,7 @@ use Rattle.mime.proofs.GrammarLemmas.Content.{takes-high}
 use Rattle.mime.specs.Laws.{PrefixEndsBetweenCharacters}
 use Rattle.mime.proofs.GrammarLemmas.Viability.{by_option, whole_prefix-from_walk, prefix_unique, stop-from_walk, dead-from_stop}
 use Rattle.std.proofs.Math.Seq.{take-append_seam, drop-append_seam, get_or-append_seam}
-use Rattle.std.proofs.lemmas.List.Folds.{list_all_at}
+use Rattle.std.proofs.lemmas.List.Sums.{AllPass-from_list_all}
 use Rattle.std.specs.List.{list_all}
 use Rattle.std.specs.Char.{IsScalar, encode_utf8, len_utf8}
 use Rattle.mime.specs.Cut.{is_following_byte, IsCharacter}
@@ -83,23 +83,23 @@ grow-foreign (in_list top sub list) b foreign =
     → MatchOption (option_map (in_list top sub) o) (Unit {0}) (λ next. IsOpen (in_list top sub list) × IsOpen next))
     [ None ↦ λ opens. opens | Some next ↦ λ opens. opens ] (grow_state-foreign top sub list.closed list.position b foreign)
 
--- ---- a byte past ASCII is foreign to the grammar
+-- ---- bytes foreign to the grammar
 
--- a byte past ASCII is no token byte
-pub high_token : (b : ℕ) → 128 ≤ b → IsFalse (is_token_byte b)
+-- a byte that is no tab and isn't from the space to the tilde is no token byte, no space and no delimiter
+pub IsForeign-outside : (b : ℕ) → IsFalse (b == tab_byte || nat_le space_byte b && nat_le b 126) → IsForeign b
 unfolding is_token_byte
-high_token b high = grind (arith, nat_tests)
-
--- a byte past ASCII is no token byte, no space and no delimiter
-foreign-from_high : (b : ℕ) → 128 ≤ b → IsForeign b
-foreign-from_high b high = record {
-  token = high_token b high;
+IsForeign-outside b outside = record {
+  token = grind (arith, nat_tests);
   space = grind (arith, nat_tests);
   slash = grind (arith, nat_tests);
   semicolon = grind (arith, nat_tests);
   equals = grind (arith, nat_tests);
   quote = grind (arith, nat_tests);
 }
+
+-- so is a byte past ASCII
+pub foreign-from_high : (b : ℕ) → 128 ≤ b → IsForeign b
+foreign-from_high b high = IsForeign-outside b (grind (arith, nat_tests))
 
 -- a byte past ASCII that an open quoted value doesn't take begins a character
 high-untaken : (begun : Begun) (b : ℕ) → IsOpen begun → grow begun b ≡ None → 128 ≤ b → 192 ≤ b
@@ -189,18 +189,12 @@ character-border (a ∷ f) (b ∷ l) one =
       λ within high. subst (λ (x : ℕ). 192 ≤ x) (sym there) (begins-high b one.1 (subst (λ (x : ℕ). 128 ≤ x) there high)),
     )
 
--- a byte of a run is of its class
-of_run : (class : ℕ → Bool) (f : List ℕ) (i : ℕ) → IsTrue (list_all class f) → i < length f → IsTrue (class (get_or f i 0))
-of_run class f i all within =
-    ⊎_elim (λ is. is) (λ isnt. absurd (both_ways (list_all class f) (list_all_at class f i 0 within isnt) all))
-    (cases_Bool (class (get_or f i 0)))
-
 -- between the bytes of a character a text may not be cut
 no-border : (b : ℕ) (f : List ℕ) (i : ℕ) → IsTrue (list_all is_following_byte f) → 1 ≤ i → i < length (b ∷ f)
     → IsCharBoundary (b ∷ f) i → ⊥
 no-border b f zero all above within border = absurd (omega arith)
 no-border b f (suc i) all above within border =
-    let low = following-low _ (of_run is_following_byte f i all (omega arith)) in
+    let low = following-low _ (AllPass-from_list_all is_following_byte f all i 0 (omega arith)) in
     let high = border.1 within low.0 in
     omega (arith, low.1, high)
 

@@ -1,7 +1,7 @@
 -- Which texts may still become a media type, and what such a text lacks, read off the begun tree that it is walked to.
-use Rattle.std.proofs.Common.{◌≡◌, ℕ, false, Bool, suc, ◌+◌, ◌-◌, List, [], ◌∷◌, ◌++◌, length, take, Option, Some, None, refl, sym, ap, ◌∙◌, subst, arith, append_assoc, append-nil, length-append, ⊎_elim, codes}
+use Rattle.std.proofs.Common.{◌≡◌, ℕ, false, Bool, suc, ◌+◌, ◌-◌, ◌<◌, List, [], ◌∷◌, ◌++◌, length, take, Option, Some, None, refl, sym, ap, ◌∙◌, subst, arith, append_assoc, append-nil, length-append, codes}
 use Rattle.std.proofs.Math.Seq.{take-append_seam, take-append-add, take-length}
-use Rattle.std.proofs.lemmas.Bool.{cases_order, cond-false, false≢true}
+use Rattle.std.proofs.lemmas.Bool.{cond-false, false≢true}
 use Rattle.std.proofs.lemmas.Option.{none-some, option_and_then_some, slice_get_within}
 use Rattle.std.specs.Prelude.{IsTrue, MatchOption, is_some}
 use Rattle.std.specs.Option.{option_and_then, option_map}
@@ -177,10 +177,9 @@ prefix-from_walk prefix rest b begun walked dead = record {
 -- a text has at most one prefix
 pub prefix_unique : (text : List ℕ) (m n : ℕ) → IsLongestPrefix text m → IsLongestPrefix text n → m ≡ n
 prefix_unique text m n first second =
-    ⊎_elim (λ same. same)
-    (⊎_elim (λ below. absurd (first.longest n below second.within second.viable))
-    (λ above. absurd (second.longest m above first.within first.viable)))
-    (cases_order m n)
+    let not_below : ¬ (m < n) = λ below. first.longest n below second.within second.viable in
+    let not_above : ¬ (n < m) = λ above. second.longest m above first.within first.viable in
+    omega arith
 
 -- ---- the fault
 

@@ -1,6 +1,5 @@
 -- Laws on which no code rests: what a caller may conclude of an essence, a kept text, a key, a cut's items and a prefix.
-use Rattle.std.proofs.Common.{◌≡◌, ◌≢◌, true, false, ℕ, ◌⊎◌, inl, inr, Bool, List, [], ◌∷◌, ◌++◌, length, take, Option, Some, None, refl, sym, ap, ◌∙◌, subst, append-nil, ⊎_elim, codes}
-use Rattle.std.proofs.lemmas.Bool.{cases_order}
+use Rattle.std.proofs.Common.{◌≡◌, ◌≢◌, true, false, ℕ, ◌⊎◌, inl, inr, Bool, List, [], ◌∷◌, ◌++◌, length, take, Option, Some, None, refl, sym, ap, ◌∙◌, subst, append-nil, ⊎_elim, codes, ◌<◌, arith}
 use Rattle.std.proofs.lemmas.Bool.Decides.{not_from_Decides, Decides-and}
 use Rattle.std.proofs.lemmas.Option.{none-some, same_Some}
 use Rattle.std.proofs.lemmas.Slice.Eq.{bytes_eq-Decides}
@@ -20,7 +19,7 @@ use Rattle.mime.specs.Cut.{CutItem, ItemsOf, is_read, is_refused, is_empty, whol
 use Rattle.mime.specs.Laws.{IsViableInUtf8, IsLongestPrefixInUtf8, PrefixIsInUtf8, without_parameters, EssenceIsRead, KeptTextIs, IsDecided, OneAnswer, HasAnswer}
 use Rattle.mime.specs.CutLaws.{IsItem, CutHasItems}
 use Rattle.mime.specs.declared.scan.fault.ParseError.{ParseError}
-use Rattle.mime.specs.declared.scan.fault.ParseError.TheVariants.{MissingSlash, MissingSubtype, MissingEqual, MissingValue, MissingQuote, InvalidToken, NoMemory}
+use Rattle.mime.specs.declared.scan.fault.ParseError.TheVariants.{MissingSlash, MissingSubtype, MissingEqual, MissingValue, MissingQuote}
 use Rattle.mime.proofs.GrammarLemmas.Characters.{prefix_ends_between_characters}
 use Rattle.mime.proofs.ValueLemmas.Parts.{kept-essence, read-low_essence}
 use Rattle.mime.proofs.CutLemmas.Cuts.{empty-refused, accepted_or_refused, split-piece}
@@ -154,8 +153,7 @@ completion-utf8 MissingSubtype = (codes "x", (refl, refl))
 completion-utf8 MissingEqual = (codes "=x", (refl, refl))
 completion-utf8 MissingValue = (codes "x", (refl, refl))
 completion-utf8 MissingQuote = (codes "x\"", (refl, refl))
-completion-utf8 (InvalidToken pos byte) = tt
-completion-utf8 NoMemory = tt
+completion-utf8 other = tt
 
 -- with it a text of valid UTF-8 stays one
 completed_in_utf8 : (prefix : List ℕ) (fault : ParseError) → IsUtf8 prefix → Lacks prefix fault → IsViableInUtf8 prefix
@@ -186,10 +184,9 @@ prefix-in_utf8 text count utf8 prefix = record {
 -- a text has one prefix that is completed to a text of valid UTF-8
 prefix_in_utf8-unique : (text : List ℕ) (m n : ℕ) → IsLongestPrefixInUtf8 text m → IsLongestPrefixInUtf8 text n → m ≡ n
 prefix_in_utf8-unique text m n first second =
-    ⊎_elim (λ same. same)
-    (⊎_elim (λ below. absurd (first.longest n below second.within second.viable))
-    (λ above. absurd (second.longest m above first.within first.viable)))
-    (cases_order m n)
+    let not_below : ¬ (m < n) = λ below. first.longest n below second.within second.viable in
+    let not_above : ¬ (n < m) = λ above. second.longest m above first.within first.viable in
+    omega arith
 
 -- the two fronts are the same
 pub prefix_is_in_utf8 : PrefixIsInUtf8

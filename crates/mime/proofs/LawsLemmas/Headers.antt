@@ -14,14 +14,14 @@ use Rattle.mime.proofs.ValueLemmas.ListText.{ended, drop_past}
 use Rattle.mime.proofs.ValueLemmas.Parts.{slash_in, plus_in, subtype_end}
 use Rattle.mime.proofs.GrammarLemmas.Readings.{one_reading, walk-accepted}
 use Rattle.std.specs.List.{AllByRecursion}
-use Rattle.std.proofs.lemmas.Bool.{and_parts, and_from, cond-false}
+use Rattle.std.proofs.lemmas.Bool.{and_parts, and_from, cond-false, true_from_ne_false}
 use Rattle.std.proofs.lemmas.Bool.Decides.{nat_tests}
 use Rattle.mime.specs.Grammar.{Parameter, plain, quoted, Parameters, blank, final, more, Tail, no_list, listed, SyntaxTree, AreTokenBytes, IsToken, IsContent, IsParameter, AreParameters, IsTail}
 use Rattle.mime.specs.HeaderLaws.{AreHeaderBytes, IsSafePair, KeptIsSafe, text_with_parameter, with_parameter, ParameterIsRead}
 use Rattle.mime.specs.Inner.Quoted.{takes, awaits_after, continues}
 use Rattle.mime.proofs.GrammarLemmas.Begun.{Begun, in_type, in_list, in_quotes, list_at, grow, walk_from}
 use Rattle.mime.proofs.BytesLemmas.{list_all-wider, list_all-parts, AreTokenBytes-from_token}
-use Rattle.mime.proofs.GrammarLemmas.Characters.{IsForeign, IsOpen, grow-foreign}
+use Rattle.mime.proofs.GrammarLemmas.Characters.{IsForeign, IsForeign-outside, IsOpen, grow-foreign}
 use Rattle.mime.proofs.ValueLemmas.KeptText.{kept_is_read}
 use Rattle.mime.proofs.GrammarLemmas.Content.{IsContent-taken, takes_all-text, awaits_after-text}
 
@@ -84,15 +84,8 @@ same_essence one other first second reads again = (
 
 -- a byte that a header doesn't have is foreign to the grammar
 unsafe-foreign : (b : ℕ) → IsFalse (is_quoted_byte b) → IsForeign b
-unfolding is_token_byte is_quoted_byte
-unsafe-foreign b unsafe = record {
-  token = grind (arith, nat_tests);
-  space = grind (arith, nat_tests);
-  slash = grind (arith, nat_tests);
-  semicolon = grind (arith, nat_tests);
-  equals = grind (arith, nat_tests);
-  quote = grind (arith, nat_tests);
-}
+unfolding is_quoted_byte
+unsafe-foreign b unsafe = IsForeign-outside b (grind (arith, nat_tests))
 
 -- no quoted value takes it
 unsafe-untaken : (awaiting : Bool) (b : ℕ) → IsFalse (is_quoted_byte b) → IsFalse (takes awaiting b)
@@ -122,11 +115,9 @@ pub walked-safe : (start last : Begun) (text : List ℕ) → walk_from start tex
 walked-safe start last [] walked = refl
 walked-safe start last (b ∷ text) walked =
     option_and_then_some (λ next. walk_from next text) (grow start b) last walked
-    (λ next grows goes. and_from (is_quoted_byte b) _ (go (is_quoted_byte b) refl next grows) (walked-safe next last text goes))
-  where
-    go : (safe : Bool) → is_quoted_byte b ≡ safe → (next : Begun) → grow start b ≡ Some next → safe ≡ true
-    go true is next grows = refl
-    go false is next grows = absurd (none-some next (sym (unsafe-dead start b is) ∙ grows))
+    (λ next grows goes.
+    let safe = true_from_ne_false (is_quoted_byte b) (λ unsafe. none-some next (sym (unsafe-dead start b unsafe) ∙ grows)) in
+    and_from (is_quoted_byte b) _ safe (walked-safe next last text goes))
 
 -- ---- the parts
 

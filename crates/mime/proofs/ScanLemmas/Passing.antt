@@ -3,13 +3,14 @@ use Rattle.std.proofs.Common.{◌≡◌, ℕ, ◌+◌, ◌<◌, Bool, true, fals
 use Rattle.std.specs.Prelude.{IsTrue, IsFalse, not, MatchOption}
 use Rattle.std.specs.List.{list_all}
 use Rattle.std.specs.Option.{option_eq, option_to_list}
-use Rattle.std.proofs.lemmas.Bool.{and_from, and_parts, eqb-true, true≢false}
+use Rattle.std.proofs.lemmas.Bool.{and_from, and_parts, eqb-true, true≢false, not-true, false_from_ne_true}
 use Rattle.std.proofs.lemmas.List.Folds.{list_all-append}
 use Rattle.mime.specs.Bytes.{is_token_byte, is_quoted_byte, is_quoted_text_byte, plus_byte, backslash_byte}
 use Rattle.mime.specs.Inner.Quoted.{awaits_next, takes, takes_all, awaits_after, IsOpenContent, continues}
 use Rattle.mime.specs.Values.{last_plus}
 use Rattle.mime.specs.Inner.ReaderState.{Remaining, is_token_except_plus}
 use Rattle.mime.specs.Inner.Scanning.{Given, GivesFirst, Passes, PassesContent, PassesSubtype}
+use Rattle.mime.proofs.BytesLemmas.{list_all-wider}
 use Rattle.mime.proofs.GrammarLemmas.Content.{takes-backslash, takes_all-text, awaits_after-text, awaits_after-append, takes_all-append, not_taken}
 
 -- a run, and what was given from where it ended
@@ -140,21 +141,14 @@ last_plus-plus at (x ∷ xs) b position p e = rw (last_plus-plus (at + 1) xs b p
 
 -- bytes without a plus are token bytes, and keep the last plus
 pub token_run : (xs : List ℕ) → IsTrue (list_all is_token_except_plus xs) → IsTrue (list_all is_token_byte xs)
-token_run [] all = refl
-token_run (x ∷ xs) all =
-    let parts = and_parts (is_token_except_plus x) (list_all is_token_except_plus xs) all in
-    and_from _ _ (and_parts (is_token_byte x) _ parts.0).0 (token_run xs parts.1)
+token_run = list_all-wider is_token_except_plus is_token_byte (λ b is. (and_parts (is_token_byte b) _ is).0)
 
 no_plus : (at : ℕ) (xs : List ℕ) → IsTrue (list_all is_token_except_plus xs) → last_plus at xs ≡ None
 no_plus at [] all = refl
 no_plus at (x ∷ xs) all =
     let parts = and_parts (is_token_except_plus x) (list_all is_token_except_plus xs) all in
-    let other : eqb x plus_byte ≡ false = not_plus (eqb x plus_byte) (and_parts (is_token_byte x) _ parts.0).1 in
+    let other : eqb x plus_byte ≡ false = not-true _ (and_parts (is_token_byte x) _ parts.0).1 in
     rw (no_plus (at + 1) xs parts.1, other) refl
-  where
-    not_plus : (is : Bool) → not is ≡ true → is ≡ false
-    not_plus true fails = absurd (true≢false (sym fails))
-    not_plus false holds = refl
 
 last_plus-run : (at : ℕ) (xs ys : List ℕ) → IsTrue (list_all is_token_except_plus ys) → last_plus at (xs ++ ys) ≡ last_plus at xs
 last_plus-run at [] ys all = no_plus at ys all
@@ -197,12 +191,7 @@ subtype_at {new = new} stop plus at p is passes other = record {
   plus = sym (last_plus-run at p.run passes.run passes.of_class ∙ is);
 }
   where
-    no_token : (b : ℕ) (token : Bool) → is_token_byte b ≡ token → is_token_except_plus b ≡ false → eqb b plus_byte ≡ false
-        → is_token_byte b ≡ false
-    no_token b true is fails other = absurd (true≢false (sym (and_from _ _ is (ap not other)) ∙ fails))
-    no_token b false is fails other = is
-
     ends : (stop : Option ℕ) → MatchOption stop (new.left ≡ []) (λ b. IsFalse (is_token_except_plus b))
         → option_eq eqb stop (Some plus_byte) ≡ false → MatchOption stop (new.left ≡ []) (λ b. IsFalse (is_token_byte b))
     ends None stopped other = stopped
-    ends (Some b) stopped other = no_token b (is_token_byte b) refl stopped other
+    ends (Some b) stopped other = false_from_ne_true _ (λ token. true≢false (sym (and_from _ _ token (ap not other)) ∙ stopped))

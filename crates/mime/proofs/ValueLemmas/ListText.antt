@@ -13,7 +13,7 @@ use Rattle.mime.specs.Inner.Quoted.{content_len, content_of, after_content}
 use Rattle.mime.specs.Inner.Blocks.{before_byte, after_byte}
 use Rattle.mime.specs.Inner.Pairs.{PairCut, cut_after_equals, leading_spaces, without_spaces, cut_of, pairs_within, lowered_within, lowered_first}
 use Rattle.mime.proofs.ValueLemmas.Pairs.{content_len-content, lowered_within-first, LiesIn, cut_of-lies, first_lowered, lowered_first-joined}
-use Rattle.mime.proofs.BytesLemmas.{semicolon_is_no_token, equals_is_no_token, quote_is_no_token, token_byte-not, token_byte-not_space, is_other, are_other-token, are_other-spaces, AreTokenBytes-from_token}
+use Rattle.mime.proofs.BytesLemmas.{semicolon_is_no_token, equals_is_no_token, quote_is_no_token, token_byte-not, token_byte-not_space, is_other, are_other-token, are_other, AreTokenBytes-from_token}
 use Rattle.mime.proofs.LowercaseLemmas.{lowered-append, length-lowered}
 use borrow.Rule.Slice.PartMut.{put_mid}
 
@@ -82,7 +82,7 @@ cut_value-quoted whole name content n follow rest is white follows =
     let after_quote : after_content bytes ≡ n ++ follow = drop_past quote_byte content _ _ (content_len bytes) (ended _) (sym position) in
     let after : after_byte semicolon_byte (after_content bytes) ≡ rest =
     ap (after_byte semicolon_byte) after_quote
-    ∙ after_to semicolon_byte n follow rest (are_other-spaces semicolon_byte refl n white) follows in
+    ∙ after_to semicolon_byte n follow rest (are_other is_space semicolon_byte refl n white) follows in
     cc
 
 -- the spaces before a name are cut off

@@ -15,6 +15,7 @@ use Rattle.std.specs.Prelude.{MatchOption, IfSome}
 use Rattle.std.specs.Iterator.{YieldsFirstBy, YieldsThen, ComparesItemsByEq}
 use Rattle.std.specs.List.{AllZip}
 use Rattle.std.proofs.lemmas.Bool.{true≢false}
+use Rattle.std.proofs.lemmas.Bool.Decides.{same_from_decides}
 use Rattle.mime.proofs.BytesLemmas.{cons_parts}
 
 -- an order finds one thing less than another exactly where that comes before, and finds them equal exactly where they are the same
@@ -106,12 +107,7 @@ eq_by_cmp-tells x y = (same_from_cmp x y, λ same. ap is_eq (equal-media x y sam
 
 -- a test that holds exactly of equal values answers as the order does
 pub eq_by_cmp-same : (x y : MediaType) (answer : Bool) → IsTrue answer ↔ Same x y → answer ≡ eq_by_cmp media_cmp x y
-eq_by_cmp-same x y answer tells = go answer (eq_by_cmp media_cmp x y) tells (eq_by_cmp-tells x y)
-  where
-    go : (a b : Bool) → IsTrue a ↔ Same x y → IsTrue b ↔ Same x y → a ≡ b
-    go true b tells also = sym (also.1 (tells.0 refl))
-    go false true tells also = tells.1 (also.0 refl)
-    go false false tells also = refl
+eq_by_cmp-same x y answer tells = same_from_decides answer (eq_by_cmp media_cmp x y) tells (eq_by_cmp-tells x y)
 
 -- exactly one of the three holds
 pub one_order : (x y : MediaType) → OneOf x y
@@ -142,12 +138,11 @@ module _ {A B : Type 0} (seen : A → B) (eq : A → A → Bool) (agrees : (x y 
       → AllZip (λ x y. eq x y ≡ true) xs ys → Last o p → IsTrue r ↔ (s ≡ t)
   along [] [] o p s t u w a b zip last =
       at_last o p s t u w (subst (λ j. Steps j o u) (sym a.1) a.2) (subst (λ j. Steps j p w) (sym b.1) b.2) last
-  along [] (y ∷ ys) o p s t u w a b zip last = absurd zip
-  along (x ∷ xs) [] o p s t u w a b zip last = absurd zip
   along (x ∷ xs) (y ∷ ys) o p s t u w a b zip last =
       let first = (agrees x y).0 zip.0 in
       let rest = along xs ys o p a.1.0 b.1.0 u w (a.0, a.1.2, a.2) (b.0, b.1.2, b.2) zip.1 last in
       (λ yes. a.1.1 ∙ cc (first, rest.0 yes) ∙ sym b.1.1, λ same. rest.1 (cons_parts (sym a.1.1 ∙ same ∙ b.1.1)).1)
+  along xs ys o p s t u w a b zip last = absurd zip
 
   pub same_items : (s t : List B) → ComparesItemsByEq Steps (λ x y. y ≡ x) Steps s t eq r → IsTrue r ↔ (s ≡ t)
   same_items s t d = along d.1 d.2 d.3 d.4 s t d.5 d.6 d.8 (subst (λ j. YieldsThen Steps j d.2 d.4 d.6) d.7 d.9) d.10 d.11

@@ -66,13 +66,12 @@ is_no_letter b = nat_lt b 65 || nat_le 128 b
 
 pub stays : (text partly : List ℕ) → list_all is_no_letter text ≡ true → lowered partly ≡ lowered text → partly ≡ text
 stays [] [] none is = refl
-stays [] (c ∷ partly) none is = absurd cc
-stays (b ∷ text) [] none is = absurd cc
 stays (b ∷ text) (c ∷ partly) none is =
     let parts = and_parts (is_no_letter b) (list_all is_no_letter text) none in
     let lowers : to_ascii_lowercase c ≡ to_ascii_lowercase b = cc in
     let byte : c ≡ b = grind (arith, nat_tests, parts.0) in
     cc (byte, stays text partly parts.1 cc)
+stays text partly none is = absurd cc
 
 -- the bytes of a character past ASCII are past ASCII, and below 248
 pub high_bytes : (c : ℕ) → scalar c ≡ true → 128 ≤ c → list_all (λ b. nat_le 128 b && nat_lt b 248) (encode c) ≡ true
@@ -87,11 +86,10 @@ high_bytes c is above =
 
 -- a text with the lowercased form of an ASCII character is in UTF-8
 of_ascii : (c : ℕ) (partly : List ℕ) → c < 128 → lowered partly ≡ lowered (c ∷ []) → IsUtf8 partly
-of_ascii c [] ascii is = absurd cc
 of_ascii c (b ∷ []) ascii is =
     let lowers : to_ascii_lowercase b ≡ to_ascii_lowercase c = cc in
     IsUtf8-from_ascii (b ∷ []) (IsAscii-cons b [] (grind (arith, nat_tests)) IsAscii-nil)
-of_ascii c (b ∷ d ∷ partly) ascii is = absurd cc
+of_ascii c partly ascii is = absurd cc
 
 -- a text with the lowercased form of a character is valid UTF-8
 of_character : (c : ℕ) (partly : List ℕ) → scalar c ≡ true → lowered partly ≡ lowered (encode c) → IsUtf8 partly

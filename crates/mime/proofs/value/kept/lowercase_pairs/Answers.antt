@@ -1,14 +1,10 @@
 -- Each turn lowercases the first pair of what is left.
-use Rattle.std.proofs.Common.{◌-◌, length, ap, arith, length-append}
+use Rattle.std.proofs.Common.{◌-◌, arith}
 use Rattle.mime.proofs.ValueLemmas.ListText.{lowered_to-none, lowered_to-more, lowered_to-all}
 use Rattle.mime.proofs.value.kept.lowercase_pairs.Goals as goal
 
 pub loop-init : goal.loop-init
 loop-init c = lowered_to-none c.args.bytes.now c.args.list (c.args.count - 0) c.args.count c.requires (omega arith)
-
-pub overflow_sub-from : goal.overflow_sub-from
-overflow_sub-from c =
-    omega (arith, ap length c.loop.invariant.parts, length-append c.loop.invariant.done c.loop.left, ap length c.text.ensures)
 
 pub loop-preserved : goal.loop-preserved
 loop-preserved c =
