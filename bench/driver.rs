@@ -7,7 +7,7 @@
 //! Without words it is the program `mime_lines` over the Rust crate, written the same way: labels and texts are pushed, and a fault
 //! by its `Display`.
 
-use mime::{Mime, Name, APPLICATION_JSON, CHARSET, IMAGE_SVG, TEXT_HTML, TEXT_PLAIN_UTF_8};
+use mime::{Mime, Name, APPLICATION_JSON, IMAGE_SVG, TEXT_HTML, TEXT_PLAIN_UTF_8};
 use std::collections::HashMap;
 use std::fmt::Write as _;
 use std::hash::{BuildHasherDefault, DefaultHasher, Hash, Hasher};
@@ -101,7 +101,6 @@ fn mixed(operation: &str, text: &str, other: &str, rounds: usize) -> usize {
     let (texts, others): (Vec<_>, Vec<_>) = (text.lines().collect(), other.lines().collect());
     let operation = match operation {
         "read" => return read_mixed(&texts, rounds),
-        "look_up" => Operation::LookUp,
         "walk" => Operation::Walk,
         "eq" => Operation::Eq,
         "cmp" => Operation::Cmp,
@@ -117,7 +116,6 @@ fn mixed(operation: &str, text: &str, other: &str, rounds: usize) -> usize {
 /// An operation on each of many values, and on the value or the string beside it.
 #[derive(Clone, Copy)]
 enum Operation {
-    LookUp,
     Walk,
     Eq,
     Cmp,
@@ -138,7 +136,6 @@ fn on_each(operation: Operation, values: &[Mime], others: &[Mime], texts: &[&str
     for _ in 0..rounds {
         for ((mime, other), text) in values.iter().zip(others).zip(texts) {
             sum += match operation {
-                Operation::LookUp => length_found(mime, CHARSET),
                 Operation::Walk => length_walked(mime),
                 Operation::Eq => (mime == other) as usize,
                 Operation::Cmp => mime.cmp(other).is_lt() as usize,

@@ -5,8 +5,8 @@
 #![tactic(auto)]
 
 use mime::{
-    APPLICATION_JSON, CHARSET, IMAGE_SVG, Mime, MimeIter, Name, ParamKey, TEXT_HTML,
-    TEXT_PLAIN_UTF_8, TextKey, mime_eq_str, name_eq_str,
+    APPLICATION_JSON, IMAGE_SVG, Mime, MimeIter, Name, TEXT_HTML, TEXT_PLAIN_UTF_8, TextKey,
+    mime_eq_str, name_eq_str,
 };
 use std::alloc::Global;
 use std::fmt::Write;
@@ -112,15 +112,10 @@ fn length_walked(mime: &Mime) -> usize {
 #[inline(never)]
 fn look_up(alloc: Global, text: &str, name: &str, times: usize) -> usize {
     let mime = value!(alloc, text);
-    repeat!(times => length_found(&mime, TextKey(name)))
-}
-
-#[inline(always)]
-fn length_found<K: ParamKey + Drop>(mime: &Mime, name: K) -> usize {
-    match mime.get_param(name) {
+    repeat!(times => match mime.get_param(TextKey(name)) {
         Some(value) => value.text.len(),
         None => 0,
-    }
+    })
 }
 
 /// Compares a name that ignores case with a text.
@@ -233,11 +228,10 @@ fn items(alloc: Global, text: &str, times: usize) -> usize {
     })
 }
 
-/// An operation on each of many values, and on the value or the string beside it. Looking up and hashing take another key and
-/// another hasher than above, so that the compiler still makes those part of their one caller.
+/// An operation on each of many values, and on the value or the string beside it. Looking up isn't one, and hashing takes
+/// another hasher than above, so that the compiler still inlines both into their one caller.
 #[derive(Clone, Copy)]
 enum Operation {
-    LookUp,
     Walk,
     Eq,
     Cmp,
@@ -262,7 +256,6 @@ pub extern "C" fn mime_bench_mixed(
     };
     let operation = match operation {
         b"read" => return read_mixed(alloc, &texts, rounds),
-        b"look_up" => Operation::LookUp,
         b"walk" => Operation::Walk,
         b"eq" => Operation::Eq,
         b"cmp" => Operation::Cmp,
@@ -325,7 +318,6 @@ fn mixed(
     for _ in 0..rounds {
         for ((mime, other), text) in values.iter().zip(others).zip(texts) {
             let answer = match operation {
-                Operation::LookUp => length_found(mime, CHARSET),
                 Operation::Walk => length_walked(mime),
                 Operation::Eq => (mime == other) as usize,
                 Operation::Cmp => mime.cmp(other).is_lt() as usize,
