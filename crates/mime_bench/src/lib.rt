@@ -1,6 +1,6 @@
-//! A call over byte slices for the operations that bench/ measures.
+//! Calls over byte slices for the operations that bench/ measures.
 //!
-//! It repeats an operation, so that the difference of two calls is the operation alone. No clause says what it answers:
+//! They repeat an operation, so that the difference of two calls is the operation alone. No clause says what they answer:
 //! the driver compares that with the Rust crate's answers.
 #![tactic(auto)]
 
@@ -10,7 +10,7 @@ use mime::{
 };
 use std::alloc::Global;
 use std::fmt::Write;
-use std::hash::{DefaultHasher, Hash, Hasher};
+use std::hash::{DefaultHasher, FoldHasher, Hash, Hasher};
 
 /// The value of a text; without one the operation answers 0.
 macro_rules! value {
@@ -71,6 +71,7 @@ pub extern "C" fn mime_bench(
         b"eq" => eq(alloc, text, other, times),
         b"cmp" => cmp(alloc, text, other, times),
         b"hash" => hash(alloc, text, times),
+        b"fold" => fold(alloc, text, times),
         b"clone" => clone(alloc, text, times),
         b"print" => print(alloc, text, times),
         b"eq_str" => eq_str(alloc, text, other, times),
@@ -80,7 +81,7 @@ pub extern "C" fn mime_bench(
     }
 }
 
-/// Reads a media type and drops it: the length of its kept text, or 0 where it is refused.
+/// Reads a media type and drops it: the length of its kept text, or 0 if it is rejected.
 #[inline(never)]
 fn read(alloc: Global, text: &str, times: usize) -> usize {
     repeat!(times => match Mime::from_str(alloc, text) {
@@ -93,15 +94,18 @@ fn read(alloc: Global, text: &str, times: usize) -> usize {
 #[inline(never)]
 fn walk(alloc: Global, text: &str, times: usize) -> usize {
     let mime = value!(alloc, text);
-    repeat!(times => {
-        let mut length = 0usize;
-        for (name, value) in mime.params() {
-            length = length
-                .wrapping_add(name.text.len())
-                .wrapping_add(value.text.len());
-        }
-        length
-    })
+    repeat!(times => length_walked(&mime))
+}
+
+#[inline(always)]
+fn length_walked(mime: &Mime) -> usize {
+    let mut length = 0usize;
+    for (name, value) in mime.params() {
+        length = length
+            .wrapping_add(name.text.len())
+            .wrapping_add(value.text.len());
+    }
+    length
 }
 
 /// Looks a parameter up by its name: the length of its value, or 0 without one.
@@ -140,26 +144,39 @@ fn cmp(alloc: Global, one: &str, other: &str, times: usize) -> usize {
     count!(times, against = &second, &third => first.cmp(against).is_lt())
 }
 
-/// Hashes a value: 1, since which bytes are fed is open.
+/// Hashes a value by SipHash: how often the hash isn't 1, since which bytes are fed is open.
 #[inline(never)]
 fn hash(alloc: Global, text: &str, times: usize) -> usize {
     let (first, second) = (value!(alloc, text), value!(alloc, text));
-    let even = count!(times, next = &second, &first => {
-        let mut hasher = DefaultHasher::new();
-        next.hash(&mut hasher);
-        hasher.finish() % 2 == 0
-    });
-    (even <= times) as usize
+    count!(times, next = &second, &first => is_hashed(next, DefaultHasher::new()))
 }
 
-/// Copies a value and drops the copy: how often its text isn't empty.
+/// Hashes a value by the hasher that maps take unless told otherwise.
+#[inline(never)]
+fn fold(alloc: Global, text: &str, times: usize) -> usize {
+    let (first, second) = (value!(alloc, text), value!(alloc, text));
+    count!(times, next = &second, &first => is_hashed(next, FoldHasher::default()))
+}
+
+#[inline(always)]
+fn is_hashed<H: Hasher + Drop>(mime: &Mime, mut hasher: H) -> bool {
+    mime.hash(&mut hasher);
+    hasher.finish() != 1
+}
+
+/// Clones a value and drops the clone: how often its text isn't empty.
 #[inline(never)]
 fn clone(alloc: Global, text: &str, times: usize) -> usize {
     let (first, second) = (value!(alloc, text), value!(alloc, text));
-    count!(times, next = &second, &first => match next.clone() {
+    count!(times, next = &second, &first => is_cloned(next))
+}
+
+#[inline(always)]
+fn is_cloned(mime: &Mime) -> bool {
+    match mime.clone() {
         Ok(copy) => !copy.as_str().is_empty(),
         Err(_) => false,
-    })
+    }
 }
 
 /// Prints a value into a text that has room for it: the length of what was printed.
@@ -169,11 +186,14 @@ fn print(alloc: Global, text: &str, times: usize) -> usize {
     let Ok(mut printed) = String::with_capacity(alloc, text.len()) else {
         return 0;
     };
-    repeat!(times => {
-        printed.clear();
-        let _ = write!(printed, "{mime}");
-        printed.len()
-    })
+    repeat!(times => length_printed(&mime, &mut printed))
+}
+
+#[inline(always)]
+fn length_printed(mime: &Mime, printed: &mut String) -> usize {
+    printed.clear();
+    let _ = write!(printed, "{mime}");
+    printed.len()
 }
 
 /// Compares a value with a text.
@@ -206,4 +226,108 @@ fn items(alloc: Global, text: &str, times: usize) -> usize {
         }
         length
     })
+}
+
+/// An operation on each of many values, and on the value or the string beside it. Looking up isn't one, and hashing takes
+/// another hasher than above, so that the compiler still inlines both into their one caller.
+#[derive(Clone, Copy)]
+enum Operation {
+    Walk,
+    Eq,
+    Cmp,
+    Hash,
+    EqStr,
+    Clone,
+    Print,
+}
+
+/// Makes an operation on each line of a string and the line of the other string beside it, so many rounds: the sum of the
+/// answers.
+#[unsafe(no_mangle)]
+pub extern "C" fn mime_bench_mixed(
+    alloc: Global,
+    operation: &[u8],
+    texts: &[u8],
+    others: &[u8],
+    rounds: usize,
+) -> usize {
+    let (Some(texts), Some(others)) = (lines(alloc, texts), lines(alloc, others)) else {
+        return 0;
+    };
+    let operation = match operation {
+        b"read" => return read_mixed(alloc, &texts, rounds),
+        b"walk" => Operation::Walk,
+        b"eq" => Operation::Eq,
+        b"cmp" => Operation::Cmp,
+        b"fold" => Operation::Hash,
+        b"eq_str" => Operation::EqStr,
+        b"clone" => Operation::Clone,
+        b"print" => Operation::Print,
+        _ => return 0,
+    };
+    match (values_of(alloc, &texts), values_of(alloc, &others)) {
+        (Some(values), Some(against)) => mixed(
+            alloc, operation, &values, &against, &others, rounds,
+        ),
+        _ => 0,
+    }
+}
+
+#[inline(always)]
+fn lines<'a>(alloc: Global, text: &'a [u8]) -> Option<Vec<&'a str>> {
+    let text = std::str::from_utf8(text).ok()?;
+    let mut lines = Vec::new(alloc);
+    for line in text.split('\n') {
+        lines.push(line).ok()?;
+    }
+    Some(lines)
+}
+
+#[inline(always)]
+fn values_of(alloc: Global, texts: &[&str]) -> Option<Vec<Mime>> {
+    let mut values = Vec::new(alloc);
+    for text in texts {
+        values.push(Mime::from_str(alloc, text).ok()?).ok()?;
+    }
+    Some(values)
+}
+
+#[inline(never)]
+fn read_mixed(alloc: Global, texts: &[&str], rounds: usize) -> usize {
+    let mut sum = 0usize;
+    for _ in 0..rounds {
+        for text in texts {
+            if let Ok(mime) = Mime::from_str(alloc, text) {
+                sum = sum.wrapping_add(mime.as_str().len());
+            }
+        }
+    }
+    sum
+}
+
+#[inline(never)]
+fn mixed(
+    alloc: Global,
+    operation: Operation,
+    values: &[Mime],
+    others: &[Mime],
+    texts: &[&str],
+    rounds: usize,
+) -> usize {
+    let (mut sum, mut printed) = (0usize, String::new(alloc));
+    for _ in 0..rounds {
+        for ((mime, other), text) in values.iter().zip(others).zip(texts) {
+            let answer = match operation {
+                Operation::Walk => length_walked(mime),
+                Operation::Eq => (mime == other) as usize,
+                Operation::Cmp => mime.cmp(other).is_lt() as usize,
+                Operation::Hash => is_hashed(mime, FoldHasher::default()) as usize,
+                Operation::EqStr => mime_eq_str(mime, text) as usize,
+                Operation::Clone => is_cloned(mime) as usize,
+                Operation::Print => length_printed(mime, &mut printed),
+            };
+            sum = sum.wrapping_add(answer);
+        }
+    }
+    sum
 }
