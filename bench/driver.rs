@@ -237,10 +237,10 @@ fn write_report(input: &[u8]) -> io::Result<()> {
 type Side<'a> = &'a dyn Fn(usize) -> usize;
 
 /// The least nanoseconds of each side, of many turns, in which the sides take turns: for so long, and at least five times.
-fn least(sides: [Side; 2], times: usize, long: Duration) -> [f64; 2] {
+fn least(sides: [Side; 2], times: [usize; 2], long: Duration) -> [f64; 2] {
     let (mut least, begun, mut turns) = ([f64::MAX; 2], Instant::now(), 0);
     while turns < 5 || begun.elapsed() < long {
-        for (run, least) in sides.iter().zip(&mut least) {
+        for ((run, times), least) in sides.iter().zip(times).zip(&mut least) {
             let begun = Instant::now();
             black_box(run(times));
             *least = least.min(begun.elapsed().as_nanos() as f64);
@@ -252,14 +252,19 @@ fn least(sides: [Side; 2], times: usize, long: Duration) -> [f64; 2] {
 
 /// The nanoseconds that one repetition takes on each side: what is made before is taken off.
 fn time(sides: [Side; 2]) -> [f64; 2] {
-    let before = least(sides, 0, Duration::from_millis(50));
-    // So often that it takes a while on both sides.
-    let mut times = 1;
-    while least(sides, times, Duration::ZERO).iter().zip(before).any(|(all, before)| all - before < 50_000.0 + before) {
-        times *= 2;
+    let before = least(sides, [0, 0], Duration::from_millis(50));
+    // So often that it takes a while on each side.
+    let mut times = [1, 1];
+    loop {
+        let all = least(sides, times, Duration::ZERO);
+        let is_short = [0, 1].map(|side| all[side] - before[side] < 50_000.0 + before[side]);
+        if !is_short.contains(&true) {
+            break;
+        }
+        times = [0, 1].map(|side| times[side] << is_short[side] as usize);
     }
     let all = least(sides, times, Duration::from_millis(250));
-    [0, 1].map(|side| (all[side] - before[side]) / times as f64)
+    [0, 1].map(|side| (all[side] - before[side]) / times[side] as f64)
 }
 
 fn main() -> io::Result<()> {
