@@ -182,7 +182,10 @@ fn try_bare_of(alloc: Global, out: &mut String, mime: &Mime) -> Result<(), Alloc
 
 /// Prints the position of the best of three offers.
 fn try_best(alloc: Global, out: &mut String, accept: Option<&[u8]>) -> Result<(), AllocError> {
-    let offers = [TEXT_HTML.mime(), TEXT_PLAIN.mime(), APPLICATION_JSON.mime()];
+    let mut offers = Vec::new(alloc);
+    offers.push(TEXT_HTML.mime())?;
+    offers.push(TEXT_PLAIN.mime())?;
+    offers.push(APPLICATION_JSON.mime())?;
     say(out, best::best(alloc, accept, &offers)?, "none")
 }
 
