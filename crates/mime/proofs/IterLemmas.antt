@@ -57,7 +57,7 @@ abbrev after_piece : Iteration → List ℕ → ℕ → Iteration
 after_piece now left steps = record now { left = left; steps = steps }
 
 -- an iterator after a piece was read keeps what every iterator keeps
-sound-after_piece : (now : Iteration) (left : List ℕ) (steps : ℕ) → IsSound now → IsUnderWay now.left left false (steps - now.steps)
+pub sound-after_piece : (now : Iteration) (left : List ℕ) (steps : ℕ) → IsSound now → IsUnderWay now.left left false (steps - now.steps)
     → now.steps ≤ steps → IsSound (after_piece now left steps)
 sound-after_piece now left steps sound passes counted = record {
   few = omega (arith, sound.few, passes.few, counted);

@@ -9,6 +9,10 @@ range-requires-clause-end_boundary c =
     judged-from_scan _ _ _ _ _ _ c.in-Stopped.ensures c.new-reader.ensures.left c.new-reader.ensures.count c.count-steps.ensures.count in
     (stopped-boundary _ _ _ _ _ c.utf8.text judged (omega (arith, c.position-end.ensures, c.count-steps.ensures.count))).0
 
+-- what is left begins at a character
+pub range_from-requires : goal.range_from-requires
+range_from-requires c = λ _. c.ceil_char_boundary.ensures.boundary
+
 pub returns-in-Accepted-clause-reads : goal.returns-in-Accepted-clause-reads
 returns-in-Accepted-clause-reads c =
     passes-whole _ _ _

@@ -1,6 +1,6 @@
 -- Each piece that is read is a step of the search.
 use Rattle.std.proofs.Common.{sym, subst, rules}
-use Rattle.mime.proofs.IterLemmas.{IsLooking, looking-first, looking-more, found-none, found-some}
+use Rattle.mime.proofs.IterLemmas.{IsLooking, looking-first, looking-more, found-none, found-some, sound-after_piece}
 use Rattle.mime.proofs.iter.MimeIter.next_piece.Goals as goal
 
 pub loop-self-init : goal.loop-self-init
@@ -23,4 +23,5 @@ returns-then-not-is_empty c =
     c.read_piece-read.ensures.counted (search (rules, c.is_empty-in-loop-self.ensures))
 
 pub invariant_of-self-then-not-is_empty : goal.invariant_of-self-then-not-is_empty
-invariant_of-self-then-not-is_empty c = search rules
+invariant_of-self-then-not-is_empty c =
+    sound-after_piece _ _ _ c.loop-self.invariant.1 c.read_piece-read.ensures.reads.under_way c.read_piece-read.ensures.counted
