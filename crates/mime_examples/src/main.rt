@@ -73,7 +73,8 @@ fn say_both(out: &mut String, answer: &str, other: &str) -> Result<(), AllocErro
     say(out, other)
 }
 
-fn say_text(out: &mut String, answer: String) -> Result<(), AllocError> {
+fn say_text(out: &mut String, answer: Result<String, AllocError>) -> Result<(), AllocError> {
+    let answer = answer?;
     say(out, answer.as_str())
 }
 
@@ -85,19 +86,19 @@ fn say_number<N: Copy + Display>(out: &mut String, answer: Option<N>) -> Result<
 }
 
 /// Prints a media type as a header holds it.
-fn say_made(out: &mut String, answer: Option<Mime>) -> Result<(), AllocError> {
-    match &answer {
-        Some(mime) => say(out, parameter::header_text(mime)),
+fn say_made(out: &mut String, answer: Result<Option<Mime>, AllocError>) -> Result<(), AllocError> {
+    match answer? {
+        Some(mime) => say(out, parameter::header_text(&mime)),
         None => say(out, "none"),
     }
 }
 
 /// Prints whether something is so of a text, if that is read.
-fn say_whether(out: &mut String, answer: Option<bool>) -> Result<(), AllocError> {
-    match answer {
-        Some(answer) => say(out, word(answer)),
-        None => say(out, "not read"),
-    }
+fn say_whether<E: Drop>(out: &mut String, answer: Result<bool, E>) -> Result<(), AllocError> {
+    let Ok(answer) = answer else {
+        return say(out, "not read");
+    };
+    say(out, word(answer))
 }
 
 fn word(answer: bool) -> &'static str {
@@ -141,7 +142,7 @@ fn try_accept(
         "best without a header" => try_best(alloc, out, None),
         "given" => try_given(alloc, out, text, other),
         "entries_of" => try_entries_of(alloc, out, text.as_bytes()),
-        "names_html" => say(out, word(html::names_html(alloc, text)?)),
+        "names_html" => say_whether(out, html::names_html(alloc, text)),
         "thousandths" => say_number(out, Some(weights::thousandths(text))),
         _ => try_text(alloc, out, example, text, other),
     }
@@ -155,11 +156,11 @@ fn try_text(
     other: &str,
 ) -> Result<(), AllocError> {
     match example {
-        "form_with_boundary" => say_made(out, parameter::form_with_boundary(alloc, text)?),
-        "has_suffix" => say_whether(out, callers::has_suffix(alloc, text).ok()),
+        "form_with_boundary" => say_made(out, parameter::form_with_boundary(alloc, text)),
+        "has_suffix" => say_whether(out, callers::has_suffix(alloc, text)),
         "printed, has_param" => try_printed(alloc, out, text, other),
-        "reads_alike" => say_whether(out, callers::reads_alike(alloc, text).ok()),
-        "says_utf8" => say_whether(out, utf8::says_utf8(alloc, text).ok()),
+        "reads_alike" => say_whether(out, callers::reads_alike(alloc, text)),
+        "says_utf8" => say_whether(out, utf8::says_utf8(alloc, text)),
         "status_of no memory" => say_number(out, Some(answer::status_of(&ParseError::NoMemory))),
         "type_of_file" => try_type_of_file(out, text),
         _ => try_read(alloc, out, example, text, other),
@@ -190,11 +191,11 @@ fn try_mime(
     match example {
         "bare_of" => try_bare_of(alloc, out, mime),
         "covers" => try_covers(alloc, out, mime, other),
-        "described" => say_text(out, parts::described(alloc, mime)?),
+        "described" => say_text(out, parts::described(alloc, mime)),
         "extensions" => try_extensions(alloc, out, mime),
         "form_boundary" => try_form_boundary(alloc, out, mime),
         "unescape" => try_unescape(alloc, out, mime, other),
-        "with_charset" => say_made(out, parameter::with_charset(alloc, mime, other)?),
+        "with_charset" => say_made(out, parameter::with_charset(alloc, mime, other)),
         _ => say(out, told(example, mime)),
     }
 }
@@ -250,7 +251,7 @@ fn try_caret_line(alloc: Global, out: &mut String, text: &str) -> Result<(), All
     let Some(error) = Mime::from_str(alloc, text).err() else {
         return say(out, "no fault");
     };
-    say_text(out, caret::caret_line(alloc, text, &error)?)
+    say_text(out, caret::caret_line(alloc, text, &error))
 }
 
 fn try_covers(alloc: Global, out: &mut String, range: &Mime, text: &str) -> Result<(), AllocError> {
