@@ -10,8 +10,12 @@ use std::collections::HashMap;
 /// `AllocError` if memory runs out.
 pub fn extensions(alloc: Global) -> Result<HashMap<Mime, &'static str>, AllocError> {
     let mut extensions = HashMap::new(alloc);
-    extensions.insert(TEXT_HTML_UTF_8.mime(), "html")?;
-    extensions.insert(APPLICATION_JSON.mime(), "json")?;
-    extensions.insert(IMAGE_PNG.mime(), "png")?;
+    for (atom, extension) in [
+        (TEXT_HTML_UTF_8, "html"),
+        (APPLICATION_JSON, "json"),
+        (IMAGE_PNG, "png"),
+    ] {
+        extensions.insert(atom.mime(), extension)?;
+    }
     Ok(extensions)
 }

@@ -9,9 +9,7 @@ use std::fmt::Write;
 /// # Errors
 /// `AllocError` if memory runs out.
 pub fn described(alloc: Global, mime: &Mime) -> Result<String, AllocError> {
-    let mut lines = String::new(alloc);
-    writeln!(lines, "type {}", mime.type_())?;
-    writeln!(lines, "subtype {}", mime.subtype())?;
+    let mut lines = format!(in alloc; "type {}\nsubtype {}\n", mime.type_(), mime.subtype())?;
     if let Some(suffix) = mime.suffix() {
         writeln!(lines, "suffix {suffix}")?;
     }
