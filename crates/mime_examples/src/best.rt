@@ -75,10 +75,10 @@ pub fn best(
 ) -> Result<Option<usize>, AllocError>
     ensures { IfOk result (λ best. IfSome best (λ at. at < length offers.now)) }
 {
-    let entries = entries_of(alloc, accept.unwrap_or(b"*/*"))?;
+    let ranges = entries_of(alloc, accept.unwrap_or(b"*/*"))?.good;
     let mut weights = Vec::new(alloc);
     for offer in offers {
-        weights.push(given(&entries.good, offer))?;
+        weights.push(given(&ranges, offer))?;
     }
     Ok(highest(&weights))
 }

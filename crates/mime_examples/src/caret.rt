@@ -9,15 +9,14 @@ use std::alloc::{AllocError, Global};
 /// # Errors
 /// `AllocError` if memory runs out.
 pub fn caret_line(alloc: Global, text: &str, error: &FromStrError) -> Result<String, AllocError> {
-    let end = match error.fault() {
-        ParseError::InvalidToken { pos, .. } => *pos,
-        _ => text.len(),
-    };
     let mut line = String::new(alloc);
     for (at, _) in text.char_indices() {
-        if at < end {
-            line.push(' ')?;
+        if let ParseError::InvalidToken { pos, .. } = error.fault()
+            && at >= *pos
+        {
+            break;
         }
+        line.push(' ')?;
     }
     line.push('^')?;
     Ok(line)
