@@ -4,6 +4,7 @@
 ghost use Rattle.std.specs.Prelude.{◌≡◌, None, false};
 
 use crate::{Device, Failed, Mode, RunError, Sink, run};
+use mime::Mime;
 use std::alloc::Global;
 use std::io::{Read, Write};
 use std::process::Abort;
@@ -460,6 +461,13 @@ fn passes_on_what_it_writes(rt: HostRuntime) {
         let answer = run(rt.alloc(), &mut source, &mut sink, Mode::Parts);
         assert!(rt; answer.is_ok() && !sink.is_pending);
     }
+}
+
+#[test]
+fn memory_is_found(rt: HostRuntime) {
+    // No clause says so.
+    let error = Mime::from_str(rt.alloc(), "text/plain").err();
+    assert!(rt; error.is_none(), "memory ran out");
 }
 
 /// Whether an error prints this text, and nothing else, to a writer that takes no other bytes.
