@@ -1,5 +1,6 @@
 -- What a read gave is kept with what was kept before it; if that is too much, it is one byte past the limit.
-use Rattle.std.proofs.Common.{rules, ◌≡◌, ◌++◌, ◌∙◌, ap, take}
+use Rattle.std.proofs.Common.{rules, ◌≡◌, ◌++◌, ◌∙◌, ap, take, arith}
+use Rattle.std.proofs.lemmas.Grind.{common_steps}
 use Rattle.std.proofs.lemmas.List.{take-append-le}
 use Rattle.mime_lines.proofs.ReadingOn.{consumed_together, within_the_limit, one_past_the_limit}
 use Rattle.mime_lines.proofs.input.read_to_limit.Goals as goal
@@ -20,5 +21,5 @@ loop-count-preserved g c =
     (
       within_the_limit _ _ _ _ c.loop-count.invariant.0 (search rules) taken,
       rw taken (consumed_together _ _ _ _ _ c.loop-count.invariant.1 (search rules)),
-      c.in-Ok.ensures.unfailed ∙ c.loop-count.invariant.2,
+      grind (arith, common_steps),
     )
