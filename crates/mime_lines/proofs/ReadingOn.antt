@@ -1,6 +1,6 @@
 -- What one read after another takes off a source, and how far past the limit the last one goes.
 use Rattle.std.proofs.Common.{◌≡◌, ℕ, ◌+◌, ◌-◌, ◌<◌, ◌≤◌, List, ◌++◌, length, take, Option, Some, None, arith, ap, sym, ◌∙◌}
-use Rattle.std.proofs.lemmas.List.{append_assoc, length-append, length-take, length-take-le}
+use Rattle.std.proofs.lemmas.List.{append_assoc, length-append, length-take-le}
 use Rattle.std.specs.Io.KnownBytes.{Consumes}
 use Rattle.mime_lines.specs.Program.{limit}
 
@@ -11,12 +11,6 @@ consumed_together None between after xs ys p q = tt
 consumed_together (Some x) None after xs ys p q = absurd p
 consumed_together (Some x) (Some y) None xs ys p q = absurd q
 consumed_together (Some x) (Some y) (Some z) xs ys p q = p ∙ ap (λ rest. xs ++ rest) q ∙ sym (append_assoc xs ys z)
-
--- what is kept stays within the limit if what is left of the limit has room for what is given
-pub within_the_limit : (kept block new : List ℕ) (count : ℕ) → length kept ≤ limit → count ≤ limit - length kept
-    → new ≡ kept ++ take count block → length new ≤ limit
-within_the_limit kept block new count within room is =
-    omega (arith, ap length is, length-append kept (take count block), length-take count block)
 
 -- no more is asked for than one byte past the limit
 pub one_past_the_limit : (kept block : List ℕ) (count : ℕ) → length kept ≤ limit → length block ≤ limit + 1 - length kept

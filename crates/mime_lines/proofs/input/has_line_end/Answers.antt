@@ -11,4 +11,6 @@ loop-byte-preserved c =
     ∙ sym (list_any_more (λ b. nat_eq b 10) c.args.bytes.now c.loop-byte.byte-index 0 c.loop-byte-test.true)
 
 pub returns : goal.returns
-returns c = c.loop-byte.invariant ∙ ap (list_any (λ b. nat_eq b 10)) (take_all c.loop-byte.byte-index c.args.bytes.now c.loop-byte-test.false)
+returns c =
+    c.loop-byte.invariant
+    ∙ ap (list_any (λ b. nat_eq b 10)) (take_all c.loop-byte.byte-index c.args.bytes.now c.loop-byte-test.false)

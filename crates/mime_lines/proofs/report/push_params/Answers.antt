@@ -22,8 +22,9 @@ row-added start done labelled named new name value item all left next first name
 
 pub loop-name-preserved : goal.loop-name-preserved
 loop-name-preserved c =
-    row-added _ _ _ _ _ _ _ (item_seen (c.in-Some.name, c.in-Some.value)) _ _ _ (cc (c.in-Some.ensures.steps)) c.as_str.ensures c.as_str-in-loop-name.ensures
-    c.in_ok-push_str.ensures.bytes c.in_ok-push_str-2.ensures.bytes c.in_ok-push_row.ensures c.loop-name.invariant
+    row-added _ _ _ _ _ _ _ (item_seen (c.in-Some.name, c.in-Some.value)) _ _ _ (cc (c.in-Some.ensures.steps)) c.as_str.ensures
+    c.as_str-in-loop-name.ensures c.in_ok-push_str.ensures.bytes c.in_ok-push_str-2.ensures.bytes c.in_ok-push_row.ensures
+    c.loop-name.invariant
 
 pub returns : goal.returns
 returns c = param_rows-end _ _ _ _ _ c.in-None.ensures.steps.0 (cc) c.loop-name.invariant
