@@ -63,10 +63,6 @@ pub record IsListing (text left old new : List ℕ) : Type 0 where
   pub onward : (items : List CutItem) (rest : List ℕ) → Cut left items rest
       → (all : List CutItem) × Cut text all rest × (old ++ item_rows all ≡ new ++ item_rows items)
 
--- at first nothing was added, and all items are left
-pub listing-start : (text left old : List ℕ) → left ≡ text → IsListing text left old old
-listing-start text left old is = record { onward = λ items rest cut. (items, subst (λ bytes. Cut bytes items rest) is cut, refl) }
-
 -- the row of the next item, and then those of the others
 pub listing-step : (text left next old new added rows : List ℕ) (item : CutItem) → IsListing text left old new → IsFirstItem left item next
     → rows ≡ item_row item → added ≡ new ++ rows → IsListing text next old added

@@ -3,7 +3,7 @@ use Rattle.std.proofs.Common.{ap, codes, rules, ◌≡◌, subst, refl, ◌∙�
 use Rattle.mime.specs.declared.iter.Bad.TheVariants.{Piece}
 use Rattle.mime.specs.Runs.{GivesItem}
 use Rattle.mime_lines.specs.Report.{row}
-use Rattle.mime_lines.proofs.Rows.{listing-start, listing-step, listing-end}
+use Rattle.mime_lines.proofs.Rows.{listing-step, listing-end}
 use Rattle.mime_lines.proofs.report.push_items.Goals as goal
 
 pub loop-item-preserved-in_ok-push_row-in-Ok : goal.loop-item-preserved-in_ok-push_row-in-Ok
@@ -24,6 +24,3 @@ loop-item-preserved c =
 
 pub returns : goal.returns
 returns c = listing-end _ _ _ _ c.loop-item.invariant c.in-None.ensures.steps.item.0
-
-pub loop-item-init : goal.loop-item-init
-loop-item-init c = listing-start _ _ _ (cc)
