@@ -1,6 +1,6 @@
 //! The media types in a string.
 
-use crate::fields::string_at;
+use crate::fields::DIVIDER;
 use mime::{Bad, Mime, MimeIter};
 use std::alloc::{AllocError, Global};
 use std::fmt::Write;
@@ -13,15 +13,16 @@ fn print_item(out: &mut String, item: Result<Mime, Bad<'_>>) -> Result<(), Alloc
     }
 }
 
-/// Prints the items that are left, as long as the size hint after each is `(0, None)`; then the steps, the size hint before the items,
-/// and whether there is none after the last.
+/// Prints the items that are left; then the steps, the size hint before the items, and whether that after each was `(0, None)` and there
+/// is none after the last.
 fn print_rest(out: &mut String, iter: &mut MimeIter<'_>) -> Result<(), AllocError> {
-    let hint = iter.size_hint();
-    while let (Some(item), (0, None)) = (iter.next(), iter.size_hint()) {
+    let (hint, mut is_right) = (iter.size_hint(), true);
+    while let Some(item) = iter.next() {
         print_item(out, item)?;
+        is_right = is_right && iter.size_hint() == (0, None);
     }
-    let is_end = iter.next().is_none();
-    writeln!(out, "steps {:?}", (iter.steps(), hint, is_end))
+    is_right = is_right && iter.next().is_none();
+    writeln!(out, "steps {:?}", (iter.steps(), hint, is_right))
 }
 
 /// Prints the items of a string.
@@ -40,10 +41,11 @@ pub(crate) fn again(alloc: Global, out: &mut String, text: &str) -> Result<(), A
 }
 
 /// Prints which items (`=`) of the first string are equal to what the others are read as.
-pub(crate) fn list(alloc: Global, out: &mut String, strings: &[String]) -> Result<(), AllocError> {
-    let mut iter = MimeIter::new(alloc, string_at(strings, 0));
-    for text in strings.iter().skip(1) {
-        let is_equal = match (iter.next(), Mime::from_str(alloc, text.as_str())) {
+pub(crate) fn list(alloc: Global, out: &mut String, strings: &str) -> Result<(), AllocError> {
+    let mut texts = strings.split(DIVIDER);
+    let mut iter = MimeIter::new(alloc, texts.next().unwrap_or(""));
+    for text in texts {
+        let is_equal = match (iter.next(), Mime::from_str(alloc, text)) {
             (Some(Ok(item)), Ok(mime)) => item == mime,
             _ => false,
         };

@@ -28,7 +28,7 @@ mod short;
 mod values;
 
 use crate::constants::{bytes, copies, value_of};
-use crate::fields::{string_at, strings_of};
+use crate::fields::{first_of, write_strings};
 use crate::items::{again, items, list};
 use crate::relations::{against, compare, names, pair, sets};
 use crate::short::short_verdicts;
@@ -45,43 +45,41 @@ const ROOM: usize = 65_536;
 fn main(rt: HostRuntime) -> io::Result<()> {
     let mut table = String::new(rt.alloc());
     rt.stdin().read_to_string(&mut table)?;
+    let mut strings = String::new(rt.alloc());
     let mut out = String::with_capacity(rt.alloc(), ROOM)?;
     for line in table.as_str().lines() {
         if !line.starts_with('#') {
-            row(&rt, &mut out, line)?;
+            row(&rt, &mut strings, &mut out, line)?;
         }
     }
     Ok(())
 }
 
-fn row(rt: &HostRuntime, out: &mut String, line: &str) -> io::Result<()> {
-    let (word, fields) = line.split_once('\t').unwrap_or((line, ""));
-    let strings = strings_of(rt.alloc(), fields)?;
+/// Prints a row, and what the library says of it; `strings` gets what its fields stand for.
+fn row(rt: &HostRuntime, strings: &mut String, out: &mut String, line: &str) -> io::Result<()> {
+    strings.clear();
+    write_strings(strings, line)?;
     out.clear();
-    println!(rt; "{line}")?;
-    println!(rt; "now")?;
-    let end = match answer(rt.alloc(), out, word, strings.as_slice()) {
+    rt.println(line)?;
+    rt.println("now")?;
+    let (word, strings) = first_of(strings.as_str());
+    let end = match answer(rt.alloc(), out, word, strings) {
         Ok(()) => "end",
         Err(_) => "end\nout of memory",
     };
-    println!(rt; "{end}")?;
-    print!(rt; "{out}")
+    rt.println(end)?;
+    rt.print(out.as_str())
 }
 
 // A function for a few words each, since the time of a proof grows with the square of a `match`.
 
 /// Writes what the library says of a row.
-fn answer(
-    alloc: Global,
-    out: &mut String,
-    word: &str,
-    strings: &[String],
-) -> Result<(), AllocError> {
+fn answer(alloc: Global, out: &mut String, word: &str, strings: &str) -> Result<(), AllocError> {
     match word {
         "bytes" => bytes(out),
         "copies" => copies(out),
         "short_verdicts" => short_verdicts(alloc, out),
-        "names" => names(out, string_at(strings, 0), string_at(strings, 1)),
+        "names" => names(out, strings),
         "list" => list(alloc, out, strings),
         _ => answer_of_one(alloc, out, word, strings),
     }
@@ -92,14 +90,14 @@ fn answer_of_one(
     alloc: Global,
     out: &mut String,
     word: &str,
-    strings: &[String],
+    strings: &str,
 ) -> Result<(), AllocError> {
-    let first = string_at(strings, 0);
+    let (first, others) = first_of(strings);
     match word {
         "items" => items(alloc, out, first),
         "again" => again(alloc, out, first),
         _ => match value_of(alloc, first) {
-            Ok(mime) => tell(alloc, out, word, &mime, strings),
+            Ok(mime) => tell(alloc, out, word, &mime, others),
             Err(_) if word == "clone" => out.push_str("not a media type\n"),
             // The error ignores a width.
             Err(error) => writeln!(out, "bad {error:99}"),
@@ -112,15 +110,15 @@ fn tell(
     out: &mut String,
     word: &str,
     mime: &Mime,
-    strings: &[String],
+    strings: &str,
 ) -> Result<(), AllocError> {
-    let second = string_at(strings, 1);
+    let (second, others) = first_of(strings);
     match word {
         "read" => writeln!(out, "ok {mime}"),
         "parts" => parts(out, mime),
         "clone" => clone(out, mime),
         "print" => print(out, mime),
-        "key" => key(out, mime, second, string_at(strings, 2)),
+        "key" => key(out, mime, second, others),
         "against" => against(out, mime, second),
         "long" => long(out, mime, second),
         _ => tell_of_two(alloc, out, word, mime, second),
@@ -135,10 +133,13 @@ fn tell_of_two(
     one: &Mime,
     text: &str,
 ) -> Result<(), AllocError> {
-    match value_of(alloc, text) {
-        Ok(other) if word == "sets" => sets(alloc, out, one, other),
-        Ok(other) if word == "compare" => compare(out, one, &other, text),
-        Ok(other) => pair(out, one, &other, text),
-        Err(error) => writeln!(out, "bad {error}"),
+    let other = match value_of(alloc, text) {
+        Ok(other) => other,
+        Err(error) => return writeln!(out, "bad {error}"),
+    };
+    match word {
+        "sets" => sets(alloc, out, one, other),
+        "compare" => compare(out, one, &other, text),
+        _ => pair(out, one, &other, text),
     }
 }

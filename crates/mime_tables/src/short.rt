@@ -5,7 +5,7 @@ use std::alloc::{AllocError, Global};
 use std::fmt::Write;
 
 /// The characters of the short strings.
-const ALPHABET: [char; 8] = ['a', '/', ';', '=', '"', '\\', ' ', ','];
+static ALPHABET: [char; 8] = ['a', '/', ';', '=', '"', '\\', ' ', ','];
 
 /// How many characters a short string has at most, and how many short strings there are: one, and for each length 8 times as many as
 /// for the one before.
@@ -36,8 +36,9 @@ fn fault_of(alloc: Global, text: &str) -> Option<ParseError> {
 
 /// Whether a string is a media type with a completion after it.
 fn is_completed_by(alloc: Global, text: &str, completion: &str) -> Result<bool, AllocError> {
-    let whole = format!(in alloc; "{text}{completion}")?;
-    Ok(Mime::from_str(alloc, whole.as_str()).is_ok())
+    let mut whole = String::from_str(alloc, text)?;
+    whole.push_str(completion)?;
+    Ok(fault_of(alloc, whole.as_str()).is_none())
 }
 
 /// What completes a string, what the string then ends with, and the fault that says so. No short string ends with `?`: none has the last

@@ -9,10 +9,10 @@ use std::fmt::Write;
 
 /// Prints the copy of a value.
 pub(crate) fn print_copy(out: &mut String, original: &Mime) -> Result<(), AllocError> {
-    match original.clone() {
-        Ok(copy) => writeln!(out, "ok {copy}, equal: {}", copy == *original),
-        Err(_) => out.push_str("no memory\n"),
-    }
+    let Ok(copy) = original.clone() else {
+        return out.push_str("no memory\n");
+    };
+    writeln!(out, "ok {copy}, equal: {}", copy == *original)
 }
 
 /// Clones a value. The original is printed too, since a clone that is refused leaves it as it was.
@@ -24,12 +24,11 @@ pub(crate) fn clone(out: &mut String, original: &Mime) -> Result<(), AllocError>
 /// Prints the parts of a media type: its string; type, subtype, suffix and essence; and each parameter; with the size hints before these
 /// and after each.
 pub(crate) fn parts(out: &mut String, mime: &Mime) -> Result<(), AllocError> {
-    writeln!(out, "ok {mime}")?;
     let suffix = mime.suffix().map(Shown);
     let (top, sub) = (Shown(mime.type_()), Shown(mime.subtype()));
     let mut params = mime.params();
     let parts = (top, sub, suffix, mime.essence_str());
-    writeln!(out, "{:?}", (parts, params.size_hint()))?;
+    writeln!(out, "ok {mime}\n{:?}", (parts, params.size_hint()))?;
     while let Some((name, value)) = params.next() {
         writeln!(out, "{:?}", (Shown(name), Shown(value), params.size_hint()))?;
     }
