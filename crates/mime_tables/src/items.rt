@@ -1,6 +1,6 @@
 //! The media types in a string.
 
-use crate::fields::DIVIDER;
+use crate::fields::string_at;
 use mime::{Bad, Mime, MimeIter};
 use std::alloc::{AllocError, Global};
 use std::fmt::Write;
@@ -41,11 +41,10 @@ pub(crate) fn again(alloc: Global, out: &mut String, text: &str) -> Result<(), A
 }
 
 /// Prints which items (`=`) of the first string are equal to what the others are read as.
-pub(crate) fn list(alloc: Global, out: &mut String, strings: &str) -> Result<(), AllocError> {
-    let mut texts = strings.split(DIVIDER);
-    let mut iter = MimeIter::new(alloc, texts.next().unwrap_or(""));
-    for text in texts {
-        let is_equal = match (iter.next(), Mime::from_str(alloc, text)) {
+pub(crate) fn list(alloc: Global, out: &mut String, strings: &[String]) -> Result<(), AllocError> {
+    let mut iter = MimeIter::new(alloc, string_at(strings, 0));
+    for text in strings.iter().skip(1) {
+        let is_equal = match (iter.next(), Mime::from_str(alloc, text.as_str())) {
             (Some(Ok(item)), Ok(mime)) => item == mime,
             _ => false,
         };

@@ -28,7 +28,7 @@ mod short;
 mod values;
 
 use crate::constants::{bytes, copies, value_of};
-use crate::fields::{first_of, write_strings};
+use crate::fields::{string_at, strings_of};
 use crate::items::{again, items, list};
 use crate::relations::{against, compare, names, pair, sets};
 use crate::short::short_verdicts;
@@ -45,25 +45,22 @@ const ROOM: usize = 65_536;
 fn main(rt: HostRuntime) -> io::Result<()> {
     let mut table = String::new(rt.alloc());
     rt.stdin().read_to_string(&mut table)?;
-    let mut strings = String::new(rt.alloc());
     let mut out = String::with_capacity(rt.alloc(), ROOM)?;
     for line in table.as_str().lines() {
         if !line.starts_with('#') {
-            row(&rt, &mut strings, &mut out, line)?;
+            row(&rt, &mut out, line)?;
         }
     }
     Ok(())
 }
 
-/// Prints a row, and what the library says of it; `strings` gets what its fields stand for.
-fn row(rt: &HostRuntime, strings: &mut String, out: &mut String, line: &str) -> io::Result<()> {
-    strings.clear();
-    write_strings(strings, line)?;
+fn row(rt: &HostRuntime, out: &mut String, line: &str) -> io::Result<()> {
+    let (word, fields) = line.split_once('\t').unwrap_or((line, ""));
+    let strings = strings_of(rt.alloc(), fields)?;
     out.clear();
     rt.println(line)?;
     rt.println("now")?;
-    let (word, strings) = first_of(strings.as_str());
-    let end = match answer(rt.alloc(), out, word, strings) {
+    let end = match answer(rt.alloc(), out, word, strings.as_slice()) {
         Ok(()) => "end",
         Err(_) => "end\nout of memory",
     };
@@ -74,12 +71,17 @@ fn row(rt: &HostRuntime, strings: &mut String, out: &mut String, line: &str) -> 
 // A function for a few words each, since the time of a proof grows with the square of a `match`.
 
 /// Writes what the library says of a row.
-fn answer(alloc: Global, out: &mut String, word: &str, strings: &str) -> Result<(), AllocError> {
+fn answer(
+    alloc: Global,
+    out: &mut String,
+    word: &str,
+    strings: &[String],
+) -> Result<(), AllocError> {
     match word {
         "bytes" => bytes(out),
         "copies" => copies(out),
         "short_verdicts" => short_verdicts(alloc, out),
-        "names" => names(out, strings),
+        "names" => names(out, string_at(strings, 0), string_at(strings, 1)),
         "list" => list(alloc, out, strings),
         _ => answer_of_one(alloc, out, word, strings),
     }
@@ -90,14 +92,14 @@ fn answer_of_one(
     alloc: Global,
     out: &mut String,
     word: &str,
-    strings: &str,
+    strings: &[String],
 ) -> Result<(), AllocError> {
-    let (first, others) = first_of(strings);
+    let first = string_at(strings, 0);
     match word {
         "items" => items(alloc, out, first),
         "again" => again(alloc, out, first),
         _ => match value_of(alloc, first) {
-            Ok(mime) => tell(alloc, out, word, &mime, others),
+            Ok(mime) => tell(alloc, out, word, &mime, strings),
             Err(_) if word == "clone" => out.push_str("not a media type\n"),
             // The error ignores a width.
             Err(error) => writeln!(out, "bad {error:99}"),
@@ -110,15 +112,15 @@ fn tell(
     out: &mut String,
     word: &str,
     mime: &Mime,
-    strings: &str,
+    strings: &[String],
 ) -> Result<(), AllocError> {
-    let (second, others) = first_of(strings);
+    let second = string_at(strings, 1);
     match word {
         "read" => writeln!(out, "ok {mime}"),
         "parts" => parts(out, mime),
         "clone" => clone(out, mime),
         "print" => print(out, mime),
-        "key" => key(out, mime, second, others),
+        "key" => key(out, mime, second, string_at(strings, 2)),
         "against" => against(out, mime, second),
         "long" => long(out, mime, second),
         _ => tell_of_two(alloc, out, word, mime, second),

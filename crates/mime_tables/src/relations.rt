@@ -1,26 +1,50 @@
 //! Values and names against each other.
 
 use crate::constants::constant_name;
-use crate::fields::first_of;
 use mime::{Mime, Name, mime_eq_str, name_eq_str};
 use std::alloc::{AllocError, Global};
 use std::cmp::Ordering;
 use std::collections::{BTreeSet, HashSet};
 use std::fmt::Write;
-use std::hash::{DefaultHasher, Hash, Hasher};
+use std::hash::{Hash, Hasher};
 
-/// The hash of a value.
-fn hash_of<T: Hash>(value: &T) -> u64 {
-    let mut hasher = DefaultHasher::new();
-    value.hash(&mut hasher);
-    hasher.finish()
+/// A hasher that keeps what it is fed, as a number whose digits to the base 257 are a 1 and the bytes, modulo 2 ^ 128. So two runs of
+/// at most 15 bytes are the same run if their numbers are equal. It has no hash of its own.
+#[derive(Clone, Copy)]
+struct Fed(u128);
+
+impl Hasher for Fed {
+    ghost use Rattle.std.specs.Prelude.{◌+◌, ◌*◌, ◌%◌, ◌^◌, fold};
+
+    ghost write = { λ fed bytes. record fed { 0 = fold (λ number byte. ((number * 257) % 2 ^ 128 + byte) % 2 ^ 128) fed.0 bytes } };
+
+    ghost finish = { λ fed. 0 };
+
+    fn finish(&self) -> u64 {
+        0
+    }
+
+    fn write(&mut self, bytes: &[u8]) {
+        let mut number = self.0;
+        for byte in bytes {
+            number = number.wrapping_mul(257).wrapping_add(u128::from(*byte));
+        }
+        self.0 = number;
+    }
 }
 
-/// How two values compare; `?` if order, equality and their hashes don't agree.
+/// What a value feeds a hasher, as a number.
+fn fed_by<T: Hash>(value: &T) -> u128 {
+    let mut fed = Fed(1);
+    value.hash(&mut fed);
+    fed.0
+}
+
+/// How two values compare; `?` if order, equality and what they feed a hasher don't agree.
 fn relation<T: Ord + Hash>(one: &T, other: &T) -> char {
     let order = one.cmp(other);
     let is_equal = *one == *other;
-    if is_equal != order.is_eq() || is_equal != (hash_of(one) == hash_of(other)) {
+    if is_equal != order.is_eq() || is_equal != (fed_by(one) == fed_by(other)) {
         return '?';
     }
     match order {
@@ -53,8 +77,7 @@ fn name_of(field: &str) -> Name<'_> {
 }
 
 /// Prints a name; and then it and another quoted, how they compare, and whether the first is equal to the second's text.
-pub(crate) fn names(out: &mut String, fields: &str) -> Result<(), AllocError> {
-    let (one, other) = first_of(fields);
+pub(crate) fn names(out: &mut String, one: &str, other: &str) -> Result<(), AllocError> {
     let (one, other) = (name_of(one), name_of(other));
     let (sign, is_text) = (relation(&one, &other), name_eq_str(&one, other.text));
     writeln!(out, "{one}\n{:?}", (one, sign, other, is_text))
@@ -68,7 +91,7 @@ pub(crate) fn pair(
     text: &str,
 ) -> Result<(), AllocError> {
     let is_equal = *one == *other && one.cmp(other).is_eq();
-    let by_hash = hash_of(one) == hash_of(other);
+    let by_hash = fed_by(one) == fed_by(other);
     let by_text = mime_eq_str(one, text);
     writeln!(
         out,
