@@ -11,6 +11,7 @@ use mime::{
 use std::alloc::Global;
 use std::fmt::Write;
 use std::hash::{DefaultHasher, FoldHasher, Hash, Hasher};
+use std::str;
 
 /// The value of a text; without one the operation answers 0.
 macro_rules! value {
@@ -51,6 +52,44 @@ macro_rules! count {
     }};
 }
 
+/// What is measured.
+#[derive(Clone, Copy)]
+enum Operation {
+    Read,
+    Walk,
+    LookUp,
+    NameEq,
+    Eq,
+    Cmp,
+    Hash,
+    Fold,
+    Clone,
+    Print,
+    EqStr,
+    Atom,
+    Items,
+}
+
+/// The operation of a name.
+fn named(name: &[u8]) -> Option<Operation> {
+    Some(match str::from_utf8(name).ok()? {
+        "read" => Operation::Read,
+        "walk" => Operation::Walk,
+        "look_up" => Operation::LookUp,
+        "name_eq" => Operation::NameEq,
+        "eq" => Operation::Eq,
+        "cmp" => Operation::Cmp,
+        "hash" => Operation::Hash,
+        "fold" => Operation::Fold,
+        "clone" => Operation::Clone,
+        "print" => Operation::Print,
+        "eq_str" => Operation::EqStr,
+        "atom" => Operation::Atom,
+        "items" => Operation::Items,
+        _ => return None,
+    })
+}
+
 /// Makes an operation `times` times.
 #[unsafe(no_mangle)]
 pub extern "C" fn mime_bench(
@@ -60,24 +99,27 @@ pub extern "C" fn mime_bench(
     other: &[u8],
     times: usize,
 ) -> usize {
-    let (Ok(text), Ok(other)) = (std::str::from_utf8(text), std::str::from_utf8(other)) else {
+    let (Some(operation), Ok(text), Ok(other)) = (
+        named(operation),
+        str::from_utf8(text),
+        str::from_utf8(other),
+    ) else {
         return 0;
     };
     match operation {
-        b"read" => read(alloc, text, times),
-        b"walk" => walk(alloc, text, times),
-        b"look_up" => look_up(alloc, text, other, times),
-        b"name_eq" => name_eq(text, other, times),
-        b"eq" => eq(alloc, text, other, times),
-        b"cmp" => cmp(alloc, text, other, times),
-        b"hash" => hash(alloc, text, times),
-        b"fold" => fold(alloc, text, times),
-        b"clone" => clone(alloc, text, times),
-        b"print" => print(alloc, text, times),
-        b"eq_str" => eq_str(alloc, text, other, times),
-        b"atom" => atom(times),
-        b"items" => items(alloc, text, times),
-        _ => 0,
+        Operation::Read => read(alloc, text, times),
+        Operation::Walk => walk(alloc, text, times),
+        Operation::LookUp => look_up(alloc, text, other, times),
+        Operation::NameEq => name_eq(text, other, times),
+        Operation::Eq => eq(alloc, text, other, times),
+        Operation::Cmp => cmp(alloc, text, other, times),
+        Operation::Hash => hash(alloc, text, times),
+        Operation::Fold => fold(alloc, text, times),
+        Operation::Clone => clone(alloc, text, times),
+        Operation::Print => print(alloc, text, times),
+        Operation::EqStr => eq_str(alloc, text, other, times),
+        Operation::Atom => atom(times),
+        Operation::Items => items(alloc, text, times),
     }
 }
 
@@ -228,19 +270,6 @@ fn items(alloc: Global, text: &str, times: usize) -> usize {
     })
 }
 
-/// An operation on each of many values, and on the value or the string beside it. Looking up isn't one, and hashing takes
-/// another hasher than above, so that the compiler still inlines both into their one caller.
-#[derive(Clone, Copy)]
-enum Operation {
-    Walk,
-    Eq,
-    Cmp,
-    Hash,
-    EqStr,
-    Clone,
-    Print,
-}
-
 /// Makes an operation on each line of a string and the line of the other string beside it, so many rounds: the sum of the
 /// answers.
 #[unsafe(no_mangle)]
@@ -251,31 +280,35 @@ pub extern "C" fn mime_bench_mixed(
     others: &[u8],
     rounds: usize,
 ) -> usize {
-    let (Some(texts), Some(others)) = (lines(alloc, texts), lines(alloc, others)) else {
+    let (Some(operation), Ok(texts), Ok(others)) = (
+        named(operation),
+        str::from_utf8(texts),
+        str::from_utf8(others),
+    ) else {
         return 0;
     };
-    let operation = match operation {
-        b"read" => return read_mixed(alloc, &texts, rounds),
-        b"walk" => Operation::Walk,
-        b"eq" => Operation::Eq,
-        b"cmp" => Operation::Cmp,
-        b"fold" => Operation::Hash,
-        b"eq_str" => Operation::EqStr,
-        b"clone" => Operation::Clone,
-        b"print" => Operation::Print,
-        _ => return 0,
-    };
-    match (values_of(alloc, &texts), values_of(alloc, &others)) {
-        (Some(values), Some(against)) => mixed(
-            alloc, operation, &values, &against, &others, rounds,
-        ),
-        _ => 0,
+    on_lines(alloc, operation, texts, others, rounds).unwrap_or(0)
+}
+
+fn on_lines(
+    alloc: Global,
+    operation: Operation,
+    texts: &str,
+    others: &str,
+    rounds: usize,
+) -> Option<usize> {
+    let texts = lines(alloc, texts)?;
+    if matches!(operation, Operation::Read) {
+        return Some(read_mixed(alloc, &texts, rounds));
     }
+    let others = lines(alloc, others)?;
+    let values = values_of(alloc, &texts)?;
+    let against = values_of(alloc, &others)?;
+    Some(mixed(alloc, operation, &values, &against, &others, rounds))
 }
 
 #[inline(always)]
-fn lines<'a>(alloc: Global, text: &'a [u8]) -> Option<Vec<&'a str>> {
-    let text = std::str::from_utf8(text).ok()?;
+fn lines<'a>(alloc: Global, text: &'a str) -> Option<Vec<&'a str>> {
     let mut lines = Vec::new(alloc);
     for line in text.split('\n') {
         lines.push(line).ok()?;
@@ -305,6 +338,8 @@ fn read_mixed(alloc: Global, texts: &[&str], rounds: usize) -> usize {
     sum
 }
 
+/// Makes an operation on each value, and on the value or the string beside it. Looking up isn't one, and hashing takes another
+/// hasher than above, so that the compiler still inlines both into their one caller.
 #[inline(never)]
 fn mixed(
     alloc: Global,
@@ -321,10 +356,11 @@ fn mixed(
                 Operation::Walk => length_walked(mime),
                 Operation::Eq => (mime == other) as usize,
                 Operation::Cmp => mime.cmp(other).is_lt() as usize,
-                Operation::Hash => is_hashed(mime, FoldHasher::default()) as usize,
+                Operation::Fold => is_hashed(mime, FoldHasher::default()) as usize,
                 Operation::EqStr => mime_eq_str(mime, text) as usize,
                 Operation::Clone => is_cloned(mime) as usize,
                 Operation::Print => length_printed(mime, &mut printed),
+                _ => 0,
             };
             sum = sum.wrapping_add(answer);
         }
