@@ -1,4 +1,4 @@
--- Only the last call writes, and it writes the whole report.
+-- Nothing is written before the report is complete.
 use Rattle.std.proofs.Common.{rules}
 use Rattle.mime_lines.proofs.lines.run.Goals as goal
 
