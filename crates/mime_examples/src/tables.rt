@@ -1,5 +1,5 @@
-//! Prints what the library says of each row of a table, which is standard input. A row is a word and fields, divided by tabs. A `VALUE` is
-//! a string that is read, or the identifier of a constant:
+//! What the rows of a table are, and what is said of each. A row is a word and fields, divided by tabs. A `VALUE` is a string that is read,
+//! or the identifier of a constant:
 //!
 //! - `read VALUE`, `clone VALUE`, `items STRING`: reads the string, clones what was read, or takes the media types in it;
 //! - `again STRING`: takes those that are left after the first, twice, by a clone of the iterator and by itself;
@@ -13,65 +13,35 @@
 //! - `sets VALUE VALUE`: whether the first is found in sets that have the second;
 //! - `against VALUE STRING`: a value against a string;
 //! - `names NAME NAME`: two names, each a constant, or a string with `~` before it if it ignores case, or else with `=`;
+//! - `recipe NAME STRING STRING`: what a recipe answers to its strings;
 //! - `bytes`, `copies`: the classes of bytes, and the copies of the constants;
 //! - `short_verdicts`: all short strings, by a rule that needs no table.
 //!
 //! What a row does is done between the lines `now` and `end`, without other requests for memory than its own: there
 //! tools/refused_requests refuses and counts them. What it says is printed after them.
-#![tactic(auto)]
 
 mod constants;
-mod fields;
+pub(crate) mod fields;
 mod items;
 mod relations;
 mod short;
 mod values;
 
-use crate::constants::{bytes, copies, value_of};
-use crate::fields::{string_at, strings_of};
-use crate::items::{again, items, list};
-use crate::relations::{against, compare, names, pair, sets};
-use crate::short::short_verdicts;
-use crate::values::{clone, key, long, parts, print};
+use crate::recipes;
+use crate::tables::constants::{bytes, copies, value_of};
+use crate::tables::fields::string_at;
+use crate::tables::items::{again, items, list};
+use crate::tables::relations::{against, compare, names, pair, sets};
+use crate::tables::short::short_verdicts;
+use crate::tables::values::{clone, key, long, parts, print};
 use mime::Mime;
 use std::alloc::{AllocError, Global};
-use std::io;
-use std::io::Read;
-
-/// How many bytes a row prints without a request for memory.
-const ROOM: usize = 65_536;
-
-/// Prints each row of standard input, with what the library says of it.
-fn main(rt: HostRuntime) -> io::Result<()> {
-    let mut table = String::new(rt.alloc());
-    rt.stdin().read_to_string(&mut table)?;
-    let mut out = String::with_capacity(rt.alloc(), ROOM)?;
-    for line in table.as_str().lines() {
-        if !line.starts_with('#') {
-            row(&rt, &mut out, line)?;
-        }
-    }
-    Ok(())
-}
-
-fn row(rt: &HostRuntime, out: &mut String, line: &str) -> io::Result<()> {
-    let (word, fields) = line.split_once('\t').unwrap_or((line, ""));
-    let strings = strings_of(rt.alloc(), fields)?;
-    out.clear();
-    rt.println(line)?;
-    rt.println("now")?;
-    let end = match answer(rt.alloc(), out, word, strings.as_slice()) {
-        Ok(()) => "end",
-        Err(_) => "end\nout of memory",
-    };
-    rt.println(end)?;
-    rt.print(out.as_str())
-}
+use std::fmt::Write;
 
 // A function for a few words each, since the time of a proof grows with the square of a `match`.
 
 /// Writes what the library says of a row.
-fn answer(
+pub(crate) fn answer(
     alloc: Global,
     out: &mut String,
     word: &str,
@@ -83,8 +53,15 @@ fn answer(
         "short_verdicts" => short_verdicts(alloc, out),
         "names" => names(out, string_at(strings, 0), string_at(strings, 1)),
         "list" => list(alloc, out, strings),
+        "recipe" => recipe(alloc, out, strings),
         _ => answer_of_one(alloc, out, word, strings),
     }
+}
+
+/// Writes what a recipe answers.
+fn recipe(alloc: Global, out: &mut String, strings: &[String]) -> Result<(), AllocError> {
+    let (name, text, other) = (string_at(strings, 0), string_at(strings, 1), string_at(strings, 2));
+    recipes::answer(alloc, out, name, text, other)
 }
 
 /// Writes what the library says of a row whose first field is a value, or has media types in it.

@@ -1,6 +1,6 @@
 //! Values and names against each other.
 
-use crate::constants::constant_name;
+use crate::tables::constants::constant_name;
 use mime::{Mime, Name, mime_eq_str, name_eq_str};
 use std::alloc::{AllocError, Global};
 use std::cmp::Ordering;

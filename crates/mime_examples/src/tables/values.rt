@@ -2,7 +2,7 @@
 
 ghost use Rattle.std.specs.Prelude.{◌≡◌, codes};
 
-use crate::constants::{Shown, constant_name};
+use crate::tables::constants::{Shown, constant_name};
 use mime::{Mime, Name, ParamKey, TextKey, name_eq_str};
 use std::alloc::{AllocError, Global};
 use std::fmt::Write;

@@ -1,6 +1,6 @@
 //! The constants, and the classes of bytes.
 
-use crate::values::print_copy;
+use crate::tables::values::print_copy;
 use mime::{
     APPLICATION, APPLICATION_JAVASCRIPT, APPLICATION_JAVASCRIPT_UTF_8, APPLICATION_JSON,
     APPLICATION_MSGPACK, APPLICATION_OCTET_STREAM, APPLICATION_PDF,

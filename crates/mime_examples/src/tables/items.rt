@@ -1,6 +1,6 @@
 //! The media types in a string.
 
-use crate::fields::string_at;
+use crate::tables::fields::string_at;
 use mime::{Bad, Mime, MimeIter};
 use std::alloc::{AllocError, Global};
 use std::fmt::Write;
