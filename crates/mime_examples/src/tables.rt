@@ -34,7 +34,7 @@ use crate::tables::items::{again, items, list};
 use crate::tables::relations::{against, compare, names, pair, sets};
 use crate::tables::short::short_verdicts;
 use crate::tables::values::{clone, key, long, parts, print};
-use mime::Mime;
+use mime::{Mime, MimeIter};
 use std::alloc::{AllocError, Global};
 use std::fmt::Write;
 
@@ -73,7 +73,7 @@ fn answer_of_one(
 ) -> Result<(), AllocError> {
     let first = string_at(strings, 0);
     match word {
-        "items" => items(alloc, out, first),
+        "items" => items(out, MimeIter::new(alloc, first)),
         "again" => again(alloc, out, first),
         _ => match value_of(alloc, first) {
             Ok(mime) => tell(alloc, out, word, &mime, strings),

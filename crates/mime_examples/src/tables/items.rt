@@ -15,8 +15,9 @@ fn print_item(out: &mut String, item: Result<Mime, Bad<'_>>) -> Result<(), Alloc
 
 /// Prints the items that are left; then the steps, the size hint before the items, and whether that after each was `(0, None)` and there
 /// is none after the last.
-fn print_rest(out: &mut String, iter: &mut MimeIter<'_>) -> Result<(), AllocError> {
-    let (hint, mut is_right) = (iter.size_hint(), true);
+pub(crate) fn items(out: &mut String, mut iter: MimeIter<'_>) -> Result<(), AllocError> {
+    let hint = iter.size_hint();
+    let mut is_right = true;
     while let Some(item) = iter.next() {
         print_item(out, item)?;
         is_right = is_right && iter.size_hint() == (0, None);
@@ -25,26 +26,21 @@ fn print_rest(out: &mut String, iter: &mut MimeIter<'_>) -> Result<(), AllocErro
     writeln!(out, "steps {:?}", (iter.steps(), hint, is_right))
 }
 
-/// Prints the items of a string.
-pub(crate) fn items(alloc: Global, out: &mut String, text: &str) -> Result<(), AllocError> {
-    print_rest(out, &mut MimeIter::new(alloc, text))
-}
-
 /// Prints the first item of a string, and those that are left, first by a clone of the iterator and then by itself.
 pub(crate) fn again(alloc: Global, out: &mut String, text: &str) -> Result<(), AllocError> {
     let mut iter = MimeIter::new(alloc, text);
     if let Some(item) = iter.next() {
         print_item(out, item)?;
     }
-    print_rest(out, &mut iter.clone()?)?;
-    print_rest(out, &mut iter)
+    items(out, iter.clone()?)?;
+    items(out, iter)
 }
 
 /// Prints which items (`=`) of the first string are equal to what the others are read as.
 pub(crate) fn list(alloc: Global, out: &mut String, strings: &[String]) -> Result<(), AllocError> {
     let mut iter = MimeIter::new(alloc, string_at(strings, 0));
-    for text in strings.iter().skip(1) {
-        let is_equal = match (iter.next(), Mime::from_str(alloc, text.as_str())) {
+    for at in 1..strings.len() {
+        let is_equal = match (iter.next(), Mime::from_str(alloc, string_at(strings, at))) {
             (Some(Ok(item)), Ok(mime)) => item == mime,
             _ => false,
         };

@@ -1,6 +1,7 @@
 //! Values and names against each other.
 
 use crate::tables::constants::constant_name;
+use crate::tables::values::say;
 use mime::{Mime, Name, mime_eq_str, name_eq_str};
 use std::alloc::{AllocError, Global};
 use std::cmp::Ordering;
@@ -61,8 +62,7 @@ pub(crate) fn compare(
     other: &Mime,
     text: &str,
 ) -> Result<(), AllocError> {
-    let said = (relation(one, other), mime_eq_str(one, text));
-    writeln!(out, "{said:?}")
+    say(out, &(relation(one, other), mime_eq_str(one, text)))
 }
 
 /// A name that a field stands for: a constant, or a text, with `~` before it if it ignores case, and with `=` if not.
@@ -78,8 +78,10 @@ fn name_of(field: &str) -> Name<'_> {
 
 /// Prints a name; and then it and another quoted, how they compare, and whether the first is equal to the second's text.
 pub(crate) fn names(out: &mut String, one: &str, other: &str) -> Result<(), AllocError> {
-    let (one, other) = (name_of(one), name_of(other));
-    let (sign, is_text) = (relation(&one, &other), name_eq_str(&one, other.text));
+    let one = name_of(one);
+    let other = name_of(other);
+    let sign = relation(&one, &other);
+    let is_text = name_eq_str(&one, other.text);
     writeln!(out, "{one}\n{:?}", (one, sign, other, is_text))
 }
 
@@ -110,11 +112,10 @@ pub(crate) fn sets(
     hashed.insert(other.clone()?)?;
     let mut ordered = BTreeSet::new(alloc);
     ordered.insert(other)?;
-    let found = (hashed.contains(one), ordered.contains(one));
-    writeln!(out, "{found:?}")
+    say(out, &(hashed.contains(one), ordered.contains(one)))
 }
 
 /// Prints whether a value equals a string.
 pub(crate) fn against(out: &mut String, mime: &Mime, text: &str) -> Result<(), AllocError> {
-    writeln!(out, "{}", mime_eq_str(mime, text))
+    say(out, &mime_eq_str(mime, text))
 }

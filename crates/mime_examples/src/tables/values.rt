@@ -5,7 +5,12 @@ ghost use Rattle.std.specs.Prelude.{◌≡◌, codes};
 use crate::tables::constants::{Shown, constant_name};
 use mime::{Mime, Name, ParamKey, TextKey, name_eq_str};
 use std::alloc::{AllocError, Global};
-use std::fmt::Write;
+use std::fmt::{Debug, Write};
+
+/// Prints what is said of a row, by Debug.
+pub(crate) fn say<T: Debug>(out: &mut String, said: &T) -> Result<(), AllocError> {
+    writeln!(out, "{said:?}")
+}
 
 /// Prints the copy of a value.
 pub(crate) fn print_copy(out: &mut String, original: &Mime) -> Result<(), AllocError> {
@@ -25,20 +30,22 @@ pub(crate) fn clone(out: &mut String, original: &Mime) -> Result<(), AllocError>
 /// and after each.
 pub(crate) fn parts(out: &mut String, mime: &Mime) -> Result<(), AllocError> {
     let suffix = mime.suffix().map(Shown);
-    let (top, sub) = (Shown(mime.type_()), Shown(mime.subtype()));
+    let top = Shown(mime.type_());
+    let sub = Shown(mime.subtype());
     let mut params = mime.params();
     let parts = (top, sub, suffix, mime.essence_str());
     writeln!(out, "ok {mime}\n{:?}", (parts, params.size_hint()))?;
     while let Some((name, value)) = params.next() {
-        writeln!(out, "{:?}", (Shown(name), Shown(value), params.size_hint()))?;
+        say(out, &(Shown(name), Shown(value), params.size_hint()))?;
     }
     Ok(())
 }
 
 /// Prints the size hint and the number of the parameters, and whether the value's string is as it must be.
 pub(crate) fn long(out: &mut String, mime: &Mime, kept: &str) -> Result<(), AllocError> {
-    let (hint, count) = (mime.params().size_hint(), mime.params().count());
-    writeln!(out, "{:?}", (hint, count, mime.as_str() == kept))
+    let hint = mime.params().size_hint();
+    let count = mime.params().count();
+    say(out, &(hint, count, mime.as_str() == kept))
 }
 
 /// Prints a value in 12 places and quoted, and its parameters by Debug.
@@ -68,9 +75,6 @@ pub(crate) fn key(out: &mut String, mime: &Mime, key: &str, other: &str) -> Resu
         Some(value) => (name_eq_str(&value, other), mime.get_param(value)),
         None => (false, None),
     };
-    writeln!(
-        out,
-        "{:?}",
-        (value.map(Shown), is_other, own, mime.get_param(Foo))
-    )
+    let foo = mime.get_param(Foo);
+    say(out, &(value.map(Shown), is_other, own, foo))
 }
