@@ -8,33 +8,65 @@ use mime::Mime;
 use std::alloc::Global;
 use std::io::{Read, Write};
 use std::process::Abort;
-use std::test::Fail;
 use std::{fmt, io};
 
 /// More bytes than any run here reads or writes.
 const ENOUGH: usize = 1 << 22;
 
-/// Gives its bytes, at most `most` a read, or the letter `a` without end. After `reads` reads it is
-/// interrupted, once or for ever; that is a failure like any other. A read after its end gives more, as a terminal does.
+/// How a run of these cases goes, and what it returns. A call reads or writes at most `most` bytes, and after so many
+/// reads, writes or flushes another one fails. The first byte of the input is given `repeats` times more, and after the end
+/// come other bytes. The report is written `again` times more. Source and sink may have failed before.
 #[derive(Clone, Copy)]
+struct Way {
+    most: usize,
+    reads: usize,
+    writes: usize,
+    flushes: usize,
+    repeats: usize,
+    again: usize,
+    after_end: &'static [u8],
+    has_failed: bool,
+    answer: Result<(), RunError>,
+    cases: &'static [Case<'static>],
+}
+
+/// A run that nothing stops.
+const WELL: Way = Way {
+    most: ENOUGH,
+    reads: ENOUGH,
+    writes: ENOUGH,
+    flushes: 1,
+    repeats: 0,
+    again: 0,
+    after_end: b"",
+    has_failed: false,
+    answer: Ok(()),
+    cases: CASES,
+};
+
+/// Gives a byte `repeats` times, and then its bytes, at most `most` a read. After `reads` reads it is interrupted, once or
+/// for ever; that is a failure like any other. A read after its end gives more, as a terminal does.
+#[derive(Drop)]
 struct Reader<'a> {
+    byte: u8,
+    repeats: usize,
     left: &'a [u8],
     after_end: &'a [u8],
-    is_endless: bool,
     most: usize,
     reads: usize,
     fails_once: bool,
 }
 
-/// A reader that gives these bytes, at most `most` a read.
-fn giving(bytes: &[u8], most: usize) -> Reader<'_> {
+/// A reader that gives these bytes.
+fn giving<'a>(bytes: &'a [u8], way: &Way, reads: usize, fails_once: bool) -> Reader<'a> {
     Reader {
+        byte: *bytes.first().unwrap_or(&b'a'),
+        repeats: way.repeats,
         left: bytes,
-        after_end: b"",
-        is_endless: false,
-        most,
-        reads: ENOUGH,
-        fails_once: false,
+        after_end: way.after_end,
+        most: way.most,
+        reads,
+        fails_once,
     }
 }
 
@@ -45,9 +77,11 @@ impl Read for Reader<'_> {
             return Err(io::Error::from(io::ErrorKind::Interrupted));
         }
         self.reads -= 1;
-        if self.is_endless {
-            buf.fill(b'a');
-            return Ok(buf.len());
+        if self.repeats > 0 {
+            let count = buf.len().min(self.repeats);
+            buf[..count].fill(self.byte);
+            self.repeats -= count;
+            return Ok(count);
         }
         if self.left.is_empty() {
             self.left = self.after_end;
@@ -58,11 +92,13 @@ impl Read for Reader<'_> {
     }
 }
 
-/// Takes its bytes, at most `most` a write and in at most `writes` writes, and fails at any others. After `flushes`
-/// flushes it fails at a flush. If it fails only once, it takes anything after that.
-#[derive(Clone, Copy)]
+/// Takes its bytes, and again so many times, at most `most` a write and in at most `writes` writes, and fails at any
+/// others. After `flushes` flushes it fails at a flush. If it fails only once, it takes anything after that.
+#[derive(Drop)]
 struct Writer<'a> {
+    bytes: &'a [u8],
     left: &'a [u8],
+    again: usize,
     most: usize,
     writes: usize,
     flushes: usize,
@@ -70,14 +106,16 @@ struct Writer<'a> {
     takes_all: bool,
 }
 
-/// A writer that takes these bytes, at most `most` a write, and one flush.
-fn taking(bytes: &[u8], most: usize) -> Writer<'_> {
+/// A writer that takes these bytes.
+fn taking<'a>(bytes: &'a [u8], way: &Way, fails_once: bool) -> Writer<'a> {
     Writer {
+        bytes,
         left: bytes,
-        most,
-        writes: ENOUGH,
-        flushes: 1,
-        fails_once: false,
+        again: way.again,
+        most: way.most,
+        writes: way.writes,
+        flushes: way.flushes,
+        fails_once,
         takes_all: false,
     }
 }
@@ -92,6 +130,10 @@ impl Write for Writer<'_> {
             Some(left) if count > 0 && self.writes > 0 => {
                 self.writes -= 1;
                 self.left = left;
+                if left.is_empty() && self.again > 0 {
+                    self.left = self.bytes;
+                    self.again -= 1;
+                }
                 Ok(count)
             }
             _ => {
@@ -120,310 +162,308 @@ impl fmt::Write for Writer<'_> {
     }
 }
 
-/// A run: what it reads and writes, and how it ends.
-#[derive(Clone, Copy)]
-struct Run<'a> {
-    mode: Mode,
-    reader: Reader<'a>,
-    writer: Writer<'a>,
-    answer: Result<(), RunError>,
-}
-
-/// Checks that the run returns this result, that its writer has taken all its bytes, and that only what the result
-/// names has failed.
-fn check(rt: &impl Abort, alloc: Global, case: Run<'_>) {
-    let mut source = Device {
-        inner: case.reader,
-        failed: false,
-    };
-    let mut sink = Device {
-        inner: case.writer,
-        failed: false,
-    };
-    let got = run(alloc, &mut source, &mut sink, case.mode);
-    let is_right = got == case.answer
-        && sink.inner.left.is_empty()
-        && source.failed == (case.answer == Err(RunError::Read))
-        && sink.failed == (case.answer == Err(RunError::Write));
-    assert!(rt;
-        is_right,
-        "{got:?}, with {} reads and {} bytes to write",
-        case.reader.reads,
-        case.writer.left.len()
-    );
-}
-
 /// A mode, an input and its report.
 #[derive(Clone, Copy)]
-struct Reported<'a> {
+struct Case<'a> {
     mode: Mode,
     input: &'a [u8],
     report: &'a [u8],
 }
 
-static CASES: &[Reported<'static>] = &[
-    Reported {
+/// What a run writes that goes this way; a failed write stops it at this byte.
+fn written<'a>(case: &Case<'a>, way: &Way, at: usize) -> &'a [u8] {
+    match way.answer {
+        Err(RunError::Write) if way.flushes > 0 => &case.report[..at.min(case.report.len())],
+        Ok(()) | Err(RunError::Write) => case.report,
+        Err(_) => b"",
+    }
+}
+
+/// Checks that a run goes this way, with a failure at this read or at this byte of the report if the way has one: that its
+/// writer has taken all its bytes, and that only what its answer names has failed.
+fn check(rt: &impl Abort, alloc: Global, case: &Case<'_>, way: &Way, at: usize, fails_once: bool) {
+    let reads = match way.answer {
+        Err(RunError::Read) => at,
+        _ => way.reads,
+    };
+    let report = written(case, way, at);
+    let mut source = Device {
+        inner: giving(case.input, way, reads, fails_once),
+        failed: way.has_failed,
+    };
+    let mut sink = Device {
+        inner: taking(report, way, fails_once),
+        failed: way.has_failed,
+    };
+    let got = run(alloc, &mut source, &mut sink, case.mode);
+    let is_right = (got == way.answer)
+        & sink.inner.left.is_empty()
+        & (source.failed == (way.has_failed | (got == Err(RunError::Read))))
+        & (sink.failed == (way.has_failed | (got == Err(RunError::Write))));
+    assert!(rt;
+        is_right,
+        "failed: {got:?}, with {reads} reads and {} bytes to write",
+        report.len()
+    );
+}
+
+/// Checks that a run goes this way, wherever a read or a write can fail, once or for ever.
+fn check_each(rt: &impl Abort, alloc: Global, case: &Case<'_>, way: &Way) {
+    let count = match way.answer {
+        // The last of these reads would have returned the end.
+        Err(RunError::Read) => case.input.len() + 1,
+        Err(RunError::Write) if way.flushes > 0 => case.report.len(),
+        _ => 1,
+    };
+    for at in 0..count {
+        check(rt, alloc, case, way, at, false);
+        check(rt, alloc, case, way, at, true);
+    }
+}
+
+/// Checks that a run of each of these cases goes this way.
+fn check_all(rt: &impl Abort, alloc: Global, way: &Way) {
+    for case in way.cases {
+        check_each(rt, alloc, case, way);
+    }
+}
+
+const CASES: &[Case<'static>] = &[
+    Case {
         mode: Mode::Parts,
         input: b"IMAGE/SVG+XML\n\xff\ntext/",
         report: b"ok image/svg+xml\ntype image\nsubtype svg\nsuffix xml\nnot text\n\
           bad mime parse error: a subtype was missing behind the slash (/)\n",
     },
-    Reported {
+    Case {
         mode: Mode::Parts,
         input: b"TEXT/HTML+XML; Charset=\"UTF-8\" ;q=1",
         report: b"ok text/html+xml; charset=\"utf-8\" ;q=1\ntype text\nsubtype html\nsuffix xml\n\
           param charset=utf-8\nparam q=1\n",
     },
-    Reported {
+    Case {
         mode: Mode::Parts,
         input: b"a/b",
         report: b"ok a/b\ntype a\nsubtype b\n",
     },
-    Reported {
+    Case {
         mode: Mode::Parts,
         input: b"text/html",
         report: b"ok text/html\ntype text\nsubtype html\n",
     },
-    Reported {
+    Case {
         mode: Mode::Parts,
         input: b"\n",
         report: b"bad mime parse error: a slash (/) was missing between the type and subtype\n",
     },
-    Reported {
+    Case {
         mode: Mode::Parts,
         input: b"\xff\n",
         report: b"not text\n",
     },
-    Reported {
+    Case {
         mode: Mode::List,
         input: b"application/json, invalid, text/html\ninvalid\n\xff",
         report: b"ok application/json\nbad invalid\nok text/html\nnot text\n",
     },
-    Reported {
+    Case {
         mode: Mode::List,
         input: b"application/json, invalid, text/html\ninvalid\n",
         report: b"ok application/json\nbad invalid\nok text/html\n",
     },
-    Reported {
+    Case {
         mode: Mode::Parts,
         input: b"a/b;p=\"\\\"\xc3\xa9\"; q=\"\"",
         report: b"ok a/b;p=\"\\\"\xc3\xa9\"; q=\"\"\ntype a\nsubtype b\nparam p=\\\"\xc3\xa9\nparam q=\n",
     },
-    Reported {
+    Case {
         mode: Mode::Parts,
         input: b"",
         report: b"",
     },
-    Reported {
+    Case {
         mode: Mode::List,
         input: b"",
         report: b"",
     },
 ];
 
-/// A run that returns this answer.
-fn ending<'a>(
-    mode: Mode,
-    reader: Reader<'a>,
-    writer: Writer<'a>,
-    answer: Result<(), RunError>,
-) -> Run<'a> {
-    Run {
-        mode,
-        reader,
-        writer,
-        answer,
-    }
-}
-
 #[test]
 fn reads_and_writes_a_byte_at_a_time(rt: HostRuntime) {
-    for &case in CASES {
-        let (reader, writer) = (giving(case.input, 1), taking(case.report, 1));
-        check(&rt, rt.alloc(), ending(case.mode, reader, writer, Ok(())));
-    }
+    static BYTES: Way = Way { most: 1, ..WELL };
+    check_all(&rt, rt.alloc(), &BYTES);
 }
 
 #[test]
 fn reads_nothing_after_the_end(rt: HostRuntime) {
-    for &case in CASES {
-        let mut reader = giving(case.input, ENOUGH);
-        reader.after_end = b"\nc/d";
-        let writer = taking(case.report, ENOUGH);
-        check(&rt, rt.alloc(), ending(case.mode, reader, writer, Ok(())));
-    }
+    static TERMINAL: Way = Way {
+        after_end: b"\nc/d",
+        ..WELL
+    };
+    check_all(&rt, rt.alloc(), &TERMINAL);
 }
 
 #[test]
 fn writes_all_at_once(rt: HostRuntime) {
-    for &case in CASES {
-        let mut writer = taking(case.report, ENOUGH);
-        writer.writes = 1;
-        let reader = giving(case.input, ENOUGH);
-        check(&rt, rt.alloc(), ending(case.mode, reader, writer, Ok(())));
-    }
+    static ONE_WRITE: Way = Way { writes: 1, ..WELL };
+    check_all(&rt, rt.alloc(), &ONE_WRITE);
 }
 
 #[test]
 fn an_earlier_failure_stops_nothing(rt: HostRuntime) {
-    for &case in CASES {
-        let mut source = Device {
-            inner: case.input,
-            failed: true,
-        };
-        let mut sink = Device {
-            inner: taking(case.report, ENOUGH),
-            failed: true,
-        };
-        let answer = run(rt.alloc(), &mut source, &mut sink, case.mode);
-        assert!(rt; answer.is_ok() && sink.inner.left.is_empty() && source.failed && sink.failed);
-    }
+    static FAILED: Way = Way {
+        has_failed: true,
+        ..WELL
+    };
+    check_all(&rt, rt.alloc(), &FAILED);
 }
 
-/// Checks that a run into a slice of bytes, which takes no memory, writes all of its report, or nothing if memory runs
-/// out, and prints which. tools/refused_requests refuses each request for memory between the lines `now` and `end`.
-fn check_slice(rt: &(impl Abort + Print), alloc: Global, case: Reported<'_>) {
-    let mut room = [0u8; 256];
+/// Runs into a slice of bytes, which takes no memory. tools/refused_requests refuses each request for memory between the
+/// lines `now` and `end`.
+fn run_into(
+    rt: &HostRuntime,
+    case: &Case<'_>,
+    sink: &mut Device<&mut [u8]>,
+) -> Result<(), RunError> {
     let mut source = Device {
         inner: case.input,
         failed: false,
     };
+    let _ = println!(rt; "now");
+    let answer = run(rt.alloc(), &mut source, sink, case.mode);
+    let _ = println!(rt; "end");
+    answer
+}
+
+/// Whether a run into a slice of bytes writes all of its report, or nothing if memory runs out. It prints which.
+fn fills_slice(rt: &HostRuntime, case: &Case<'_>) -> bool {
+    let mut room = [0u8; 256];
     let mut sink = Device {
         inner: room.as_mut_slice(),
         failed: false,
     };
-    let _ = println!(rt; "now");
-    let answer = run(alloc, &mut source, &mut sink, case.mode);
-    let _ = println!(rt; "end");
+    let answer = run_into(rt, case, &mut sink);
     let count = 256usize.saturating_sub(sink.inner.len());
     let _ = println!(rt; "{answer:?}, {count} of {} bytes", case.report.len());
-    let is_right = match answer {
+    match answer {
         Ok(()) => room.get(..count) == Some(case.report),
         Err(error) => error == RunError::NoMemory && count == 0,
-    };
-    assert!(rt; is_right);
+    }
 }
 
 #[test]
 fn writes_into_a_slice_all_or_nothing(rt: HostRuntime) {
-    for &case in CASES {
-        check_slice(&rt, rt.alloc(), case);
+    for case in CASES {
+        assert!(rt; fills_slice(&rt, case));
     }
 }
 
 #[test]
 fn stops_where_a_read_fails(rt: HostRuntime) {
-    for &case in CASES {
-        // The last of these reads would have returned the end.
-        for reads in 0..=case.input.len() {
-            for fails_once in [false, true] {
-                let mut reader = giving(case.input, 1);
-                reader.reads = reads;
-                reader.fails_once = fails_once;
-                let writer = taking(b"", ENOUGH);
-                let run = ending(case.mode, reader, writer, Err(RunError::Read));
-                check(&rt, rt.alloc(), run);
-            }
-        }
-    }
+    static BYTES: Way = Way {
+        most: 1,
+        answer: Err(RunError::Read),
+        ..WELL
+    };
+    check_all(&rt, rt.alloc(), &BYTES);
 }
 
 #[test]
 fn stops_where_a_write_fails(rt: HostRuntime) {
-    for &case in CASES {
-        for room in 0..case.report.len() {
-            for fails_once in [false, true] {
-                let mut writer = taking(&case.report[..room], 1);
-                writer.fails_once = fails_once;
-                let reader = giving(case.input, ENOUGH);
-                let run = ending(case.mode, reader, writer, Err(RunError::Write));
-                check(&rt, rt.alloc(), run);
-            }
-        }
-    }
-}
-
-/// Checks that a run writes this report, and that it stops if the flush after it fails.
-fn check_flush(rt: &impl Abort, alloc: Global, case: Reported<'_>) {
-    let reader = giving(case.input, ENOUGH);
-    let mut writer = taking(case.report, ENOUGH);
-    check(rt, alloc, ending(case.mode, reader, writer, Ok(())));
-    writer.flushes = 0;
-    for fails_once in [false, true] {
-        writer.fails_once = fails_once;
-        let run = ending(case.mode, reader, writer, Err(RunError::Write));
-        check(rt, alloc, run);
-    }
+    static BYTES: Way = Way {
+        most: 1,
+        answer: Err(RunError::Write),
+        ..WELL
+    };
+    check_all(&rt, rt.alloc(), &BYTES);
 }
 
 #[test]
 fn stops_where_a_flush_fails(rt: HostRuntime) {
-    for &case in CASES {
-        // A flush is made for an empty report too.
-        check_flush(&rt, rt.alloc(), case);
-    }
-}
-
-/// Checks that a run stops because this reader's input is too long.
-fn check_too_long(rt: &impl Abort, alloc: Global, mode: Mode, reader: Reader<'_>) {
-    let writer = taking(b"", ENOUGH);
-    check(
-        rt,
-        alloc,
-        ending(mode, reader, writer, Err(RunError::TooLong)),
-    );
+    // A flush is made for an empty report too.
+    static FLUSH: Way = Way {
+        flushes: 0,
+        answer: Err(RunError::Write),
+        ..WELL
+    };
+    check_all(&rt, rt.alloc(), &FLUSH);
 }
 
 #[test]
 fn an_endless_input_is_too_long(rt: HostRuntime) {
-    for mode in [Mode::Parts, Mode::List] {
-        let mut endless = giving(b"", ENOUGH);
-        endless.is_endless = true;
-        check_too_long(&rt, rt.alloc(), mode, endless);
-    }
-}
-
-#[test]
-fn takes_1048576_bytes_and_no_more(rt: HostRuntime) -> Result<(), Fail> {
-    let slashless: &[u8] =
-        b"bad mime parse error: a slash (/) was missing between the type and subtype\n";
-    let cases: [(Mode, u8, &[u8]); 2] = [(Mode::Parts, b'a', slashless), (Mode::List, b',', b"")];
-    for (mode, byte, report) in cases {
-        let mut input = vec![in rt.alloc(); byte; 1_048_576]?;
-        let (reader, writer) = (giving(input.as_slice(), ENOUGH), taking(report, ENOUGH));
-        check(&rt, rt.alloc(), ending(mode, reader, writer, Ok(())));
-        input.push(byte)?;
-        check_too_long(&rt, rt.alloc(), mode, giving(input.as_slice(), ENOUGH));
-    }
-    Ok(())
-}
-
-#[test]
-fn a_report_may_be_longer_than_the_limit(rt: HostRuntime) -> Result<(), Fail> {
-    let mut input = vec![in rt.alloc(); b'a'; 1_048_574]?;
-    input.extend_from_slice(b"/b")?;
-    let mut report = Vec::new(rt.alloc());
-    let parts: [&[u8]; 3] = [b"ok ", input.as_slice(), b"\n"];
-    for part in parts {
-        report.extend_from_slice(part)?;
-    }
-    let case = Reported {
-        mode: Mode::List,
-        input: input.as_slice(),
-        report: report.as_slice(),
+    static ENDLESS: Way = Way {
+        repeats: usize::MAX,
+        answer: Err(RunError::TooLong),
+        ..WELL
     };
-    check_flush(&rt, rt.alloc(), case);
-    Ok(())
+    check_all(&rt, rt.alloc(), &ENDLESS);
+}
+
+/// Bytes to be repeated, which give the same report.
+const LETTERS: &[Case<'static>] = &[
+    Case {
+        mode: Mode::List,
+        input: b",",
+        report: b"",
+    },
+    Case {
+        mode: Mode::Parts,
+        input: b"a",
+        report: b"bad mime parse error: a slash (/) was missing between the type and subtype\n",
+    },
+];
+
+#[test]
+fn takes_1048576_bytes_and_no_more(rt: HostRuntime) {
+    static LONGEST: Way = Way {
+        repeats: 1_048_575,
+        cases: LETTERS,
+        ..WELL
+    };
+    static LONGER: Way = Way {
+        repeats: 1_048_576,
+        cases: LETTERS,
+        answer: Err(RunError::TooLong),
+        ..WELL
+    };
+    check_all(&rt, rt.alloc(), &LONGEST);
+    check_all(&rt, rt.alloc(), &LONGER);
 }
 
 #[test]
-fn reads_many_bytes_at_a_time(rt: HostRuntime) -> Result<(), Fail> {
-    let commas = vec![in rt.alloc(); b','; 65_536]?;
-    let mut reader = giving(commas.as_slice(), ENOUGH);
-    reader.reads = 100;
-    let run = ending(Mode::List, reader, taking(b"", ENOUGH), Ok(()));
-    check(&rt, rt.alloc(), run);
-    Ok(())
+fn reads_many_bytes_at_a_time(rt: HostRuntime) {
+    static FEW_READS: Way = Way {
+        repeats: 65_535,
+        reads: 100,
+        cases: LETTERS,
+        ..WELL
+    };
+    check_all(&rt, rt.alloc(), &FEW_READS);
+}
+
+#[test]
+fn a_report_may_be_longer_than_the_limit(rt: HostRuntime) {
+    const EMPTY_LINES: &[Case<'static>] = &[Case {
+        mode: Mode::Parts,
+        input: b"\n",
+        report: b"bad mime parse error: a slash (/) was missing between the type and subtype\n",
+    }];
+    static LONG: Way = Way {
+        repeats: 13_999,
+        again: 13_999,
+        cases: EMPTY_LINES,
+        ..WELL
+    };
+    static FLUSH: Way = Way {
+        flushes: 0,
+        answer: Err(RunError::Write),
+        repeats: 13_999,
+        again: 13_999,
+        cases: EMPTY_LINES,
+        ..WELL
+    };
+    check_all(&rt, rt.alloc(), &LONG);
+    check_all(&rt, rt.alloc(), &FLUSH);
 }
 
 /// A sink that drops what it is given, and knows whether a flush is due.
@@ -452,13 +492,13 @@ impl Sink for Pending {
 
 #[test]
 fn passes_on_what_it_writes(rt: HostRuntime) {
-    for input in [b"".as_slice(), b"a/b"] {
+    for case in CASES {
         let mut source = Device {
-            inner: input,
+            inner: case.input,
             failed: false,
         };
         let mut sink = Pending { is_pending: true };
-        let answer = run(rt.alloc(), &mut source, &mut sink, Mode::Parts);
+        let answer = run(rt.alloc(), &mut source, &mut sink, case.mode);
         assert!(rt; answer.is_ok() && !sink.is_pending);
     }
 }
@@ -472,8 +512,16 @@ fn memory_is_found(rt: HostRuntime) {
 
 /// Whether an error prints this text, and nothing else, to a writer that takes no other bytes.
 fn prints(error: RunError, text: &[u8]) -> bool {
-    let mut writer = taking(text, ENOUGH);
+    static PLAIN: Way = WELL;
+    let mut writer = taking(text, &PLAIN, false);
     fmt::Write::write_fmt(&mut writer, format_args!("{error}")).is_ok() && writer.left.is_empty()
+}
+
+/// Checks that an error prints this text, and that this fails if its writer does.
+fn check_print(rt: &impl Abort, error: RunError, text: &[u8]) {
+    for room in 0..=text.len() {
+        assert!(rt; prints(error, &text[..room]) == (room == text.len()));
+    }
 }
 
 #[test]
@@ -485,10 +533,6 @@ fn prints_each_error(rt: HostRuntime) {
         (RunError::NoMemory, b"no memory"),
     ];
     for &(error, text) in TEXTS {
-        assert!(rt; prints(error, text));
-        // It fails if its writer does.
-        for room in 0..text.len() {
-            assert!(rt; !prints(error, &text[..room]));
-        }
+        check_print(&rt, error, text);
     }
 }
