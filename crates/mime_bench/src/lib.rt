@@ -70,24 +70,31 @@ enum Operation {
     Items,
 }
 
-/// The operation of a name.
+/// Each operation by its name.
+const OPERATIONS: [(&str, Operation); 13] = [
+    ("read", Operation::Read),
+    ("walk", Operation::Walk),
+    ("look_up", Operation::LookUp),
+    ("name_eq", Operation::NameEq),
+    ("eq", Operation::Eq),
+    ("cmp", Operation::Cmp),
+    ("hash", Operation::Hash),
+    ("fold", Operation::Fold),
+    ("clone", Operation::Clone),
+    ("print", Operation::Print),
+    ("eq_str", Operation::EqStr),
+    ("atom", Operation::Atom),
+    ("items", Operation::Items),
+];
+
+/// The operation of a name. It is compared byte by byte, since a `==` of slices here makes `mime_eq_str` dearer.
 fn named(name: &[u8]) -> Option<Operation> {
-    Some(match str::from_utf8(name).ok()? {
-        "read" => Operation::Read,
-        "walk" => Operation::Walk,
-        "look_up" => Operation::LookUp,
-        "name_eq" => Operation::NameEq,
-        "eq" => Operation::Eq,
-        "cmp" => Operation::Cmp,
-        "hash" => Operation::Hash,
-        "fold" => Operation::Fold,
-        "clone" => Operation::Clone,
-        "print" => Operation::Print,
-        "eq_str" => Operation::EqStr,
-        "atom" => Operation::Atom,
-        "items" => Operation::Items,
-        _ => return None,
-    })
+    for (it, operation) in &OPERATIONS {
+        if it.bytes().eq(name.iter().copied()) {
+            return Some(*operation);
+        }
+    }
+    None
 }
 
 /// Makes an operation `times` times.
@@ -170,15 +177,25 @@ fn name_eq(name: &str, text: &str, times: usize) -> usize {
     count!(times, against = text, name.text => name_eq_str(&name, against))
 }
 
+/// A value of a text, and two of another.
+fn three(alloc: Global, one: &str, other: &str) -> Option<[Mime; 3]> {
+    let first = Mime::from_str(alloc, one).ok()?;
+    let second = Mime::from_str(alloc, other).ok()?;
+    let third = Mime::from_str(alloc, other).ok()?;
+    Some([first, second, third])
+}
+
 /// Compares two values.
 #[inline(never)]
 fn eq(alloc: Global, one: &str, other: &str, times: usize) -> usize {
-    let first = value!(alloc, one);
-    let (second, third) = (value!(alloc, other), value!(alloc, other));
-    count!(times, against = &second, &third => first == *against)
+    let Some(values) = three(alloc, one, other) else {
+        return 0;
+    };
+    let [first, second, third] = &values;
+    count!(times, against = second, third => first == against)
 }
 
-/// Orders two values: how often the first was less.
+/// Orders two values: how often the first was less. By [`three`] it would cost two instructions more.
 #[inline(never)]
 fn cmp(alloc: Global, one: &str, other: &str, times: usize) -> usize {
     let first = value!(alloc, one);
@@ -189,15 +206,21 @@ fn cmp(alloc: Global, one: &str, other: &str, times: usize) -> usize {
 /// Hashes a value by SipHash: how often the hash isn't 1, since which bytes are fed is open.
 #[inline(never)]
 fn hash(alloc: Global, text: &str, times: usize) -> usize {
-    let (first, second) = (value!(alloc, text), value!(alloc, text));
-    count!(times, next = &second, &first => is_hashed(next, DefaultHasher::new()))
+    let Some(values) = three(alloc, text, text) else {
+        return 0;
+    };
+    let [first, second, _] = &values;
+    count!(times, next = second, first => is_hashed(next, DefaultHasher::new()))
 }
 
 /// Hashes a value by the hasher that maps take unless told otherwise.
 #[inline(never)]
 fn fold(alloc: Global, text: &str, times: usize) -> usize {
-    let (first, second) = (value!(alloc, text), value!(alloc, text));
-    count!(times, next = &second, &first => is_hashed(next, FoldHasher::default()))
+    let Some(values) = three(alloc, text, text) else {
+        return 0;
+    };
+    let [first, second, _] = &values;
+    count!(times, next = second, first => is_hashed(next, FoldHasher::default()))
 }
 
 #[inline(always)]
@@ -209,8 +232,11 @@ fn is_hashed<H: Hasher + Drop>(mime: &Mime, mut hasher: H) -> bool {
 /// Clones a value and drops the clone: how often its text isn't empty.
 #[inline(never)]
 fn clone(alloc: Global, text: &str, times: usize) -> usize {
-    let (first, second) = (value!(alloc, text), value!(alloc, text));
-    count!(times, next = &second, &first => is_cloned(next))
+    let Some(values) = three(alloc, text, text) else {
+        return 0;
+    };
+    let [first, second, _] = &values;
+    count!(times, next = second, first => is_cloned(next))
 }
 
 #[inline(always)]
@@ -241,8 +267,11 @@ fn length_printed(mime: &Mime, printed: &mut String) -> usize {
 /// Compares a value with a text.
 #[inline(never)]
 fn eq_str(alloc: Global, one: &str, other: &str, times: usize) -> usize {
-    let (first, second) = (value!(alloc, one), value!(alloc, one));
-    count!(times, against = &second, &first => mime_eq_str(against, other))
+    let Some(values) = three(alloc, one, one) else {
+        return 0;
+    };
+    let [first, second, _] = &values;
+    count!(times, against = second, first => mime_eq_str(against, other))
 }
 
 /// Makes one of four constants: the sum of the lengths of their texts.
