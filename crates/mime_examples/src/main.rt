@@ -56,10 +56,7 @@ fn row(rt: &HostRuntime, out: &mut String, line: &str) -> io::Result<()> {
     out.clear();
     rt.println(line)?;
     rt.println("now")?;
-    let end = match tables::answer(rt.alloc(), out, word, strings.as_slice()) {
-        Ok(()) => "end",
-        Err(_) => "end\nout of memory",
-    };
-    rt.println(end)?;
+    tables::answer(rt.alloc(), out, word, strings.as_slice());
+    rt.println("end")?;
     rt.print(out.as_str())
 }

@@ -14,49 +14,51 @@ pub(crate) fn answer(
     recipe: &str,
     text: &str,
     other: &str,
-) -> Result<(), AllocError> {
-    try_content_type(alloc, out, recipe, text, other)?;
-    out.push('\n')
+) {
+    try_content_type(alloc, out, recipe, text, other);
+    let _ = out.push('\n');
 }
 
 // An answer is printed with a bar after it.
 
-fn say(out: &mut String, answer: &str) -> Result<(), AllocError> {
-    out.push_str(answer)?;
-    out.push('|')
+fn say(out: &mut String, answer: &str) {
+    let _ = out.push_str(answer);
+    let _ = out.push('|');
 }
 
-fn say_both(out: &mut String, answer: &str, other: &str) -> Result<(), AllocError> {
-    say(out, answer)?;
-    say(out, other)
+fn say_both(out: &mut String, answer: &str, other: &str) {
+    say(out, answer);
+    say(out, other);
 }
 
-fn say_text(out: &mut String, answer: Result<String, AllocError>) -> Result<(), AllocError> {
-    let answer = answer?;
-    say(out, answer.as_str())
-}
-
-fn say_number<N: Copy + Display>(out: &mut String, answer: Option<N>) -> Result<(), AllocError> {
-    match answer {
-        Some(number) => write!(out, "{number}|"),
-        None => say(out, "none"),
+fn say_text(out: &mut String, answer: Result<String, AllocError>) {
+    if let Ok(answer) = answer {
+        say(out, answer.as_str());
     }
 }
 
+fn say_number<N: Copy + Display>(out: &mut String, answer: Option<N>) {
+    let _ = match answer {
+        Some(number) => write!(out, "{number}|"),
+        None => out.push_str("none|"),
+    };
+}
+
 /// Prints a media type as a header holds it.
-fn say_made(out: &mut String, answer: Result<Option<Mime>, AllocError>) -> Result<(), AllocError> {
-    match answer? {
-        Some(mime) => say(out, parameter::header_text(&mime)),
-        None => say(out, "none"),
+fn say_made(out: &mut String, answer: Result<Option<Mime>, AllocError>) {
+    match answer {
+        Ok(Some(mime)) => say(out, parameter::header_text(&mime)),
+        Ok(None) => say(out, "none"),
+        Err(_) => (),
     }
 }
 
 /// Prints whether something is so of a text, if that is read.
-fn say_whether<E: Drop>(out: &mut String, answer: Result<bool, E>) -> Result<(), AllocError> {
-    let Ok(answer) = answer else {
-        return say(out, "not read");
-    };
-    say(out, word(answer))
+fn say_whether<E: Drop>(out: &mut String, answer: Result<bool, E>) {
+    match answer {
+        Ok(answer) => say(out, word(answer)),
+        Err(_) => say(out, "not read"),
+    }
 }
 
 fn word(answer: bool) -> &'static str {
@@ -76,7 +78,7 @@ fn try_content_type(
     recipe: &str,
     text: &str,
     other: &str,
-) -> Result<(), AllocError> {
+) {
     match recipe {
         "caret_line" => try_caret_line(alloc, out, text),
         "header_value" => try_header_value(alloc, out, text.as_bytes()),
@@ -94,7 +96,7 @@ fn try_accept(
     recipe: &str,
     text: &str,
     other: &str,
-) -> Result<(), AllocError> {
+) {
     match recipe {
         "best" => try_best(alloc, out, Some(text.as_bytes())),
         "best without a header" => try_best(alloc, out, None),
@@ -112,7 +114,7 @@ fn try_text(
     recipe: &str,
     text: &str,
     other: &str,
-) -> Result<(), AllocError> {
+) {
     match recipe {
         "form_with_boundary" => say_made(out, parameter::form_with_boundary(alloc, text)),
         "has_suffix" => say_whether(out, callers::has_suffix(alloc, text)),
@@ -132,7 +134,7 @@ fn try_read(
     recipe: &str,
     text: &str,
     other: &str,
-) -> Result<(), AllocError> {
+) {
     let Ok(mime) = Mime::from_str(alloc, text) else {
         return say(out, "not read");
     };
@@ -145,7 +147,7 @@ fn try_mime(
     recipe: &str,
     mime: &Mime,
     other: &str,
-) -> Result<(), AllocError> {
+) {
     match recipe {
         "bare_of" => try_bare_of(alloc, out, mime),
         "covers" => try_covers(alloc, out, mime, other),
@@ -179,7 +181,7 @@ fn handled(handler: Handler) -> &'static str {
 }
 
 /// Prints the media type without its parameters, and whether that has any.
-fn try_bare_of(alloc: Global, out: &mut String, mime: &Mime) -> Result<(), AllocError> {
+fn try_bare_of(alloc: Global, out: &mut String, mime: &Mime) {
     let Ok(bare) = bare::bare_of(alloc, mime) else {
         return say(out, "none");
     };
@@ -187,32 +189,35 @@ fn try_bare_of(alloc: Global, out: &mut String, mime: &Mime) -> Result<(), Alloc
 }
 
 /// Prints the position of the best of three offers.
-fn try_best(alloc: Global, out: &mut String, accept: Option<&[u8]>) -> Result<(), AllocError> {
+fn try_best(alloc: Global, out: &mut String, accept: Option<&[u8]>) {
     let offers = [TEXT_HTML.mime(), TEXT_PLAIN.mime(), APPLICATION_JSON.mime()];
-    say_number(out, best::best(alloc, accept, &offers)?)
+    if let Ok(best) = best::best(alloc, accept, &offers) {
+        say_number(out, best);
+    }
 }
 
 /// Prints what a header gives a media type, in thousandths.
-fn try_given(alloc: Global, out: &mut String, accept: &str, offer: &str) -> Result<(), AllocError> {
+fn try_given(alloc: Global, out: &mut String, accept: &str, offer: &str) {
     let Ok(mime) = Mime::from_str(alloc, offer) else {
         return say(out, "not read");
     };
     say_given(alloc, out, accept, &mime)
 }
 
-fn say_given(alloc: Global, out: &mut String, accept: &str, mime: &Mime) -> Result<(), AllocError> {
-    let entries = accept::entries_of(alloc, accept.as_bytes())?;
-    say_number(out, Some(best::given(&entries.good, mime)))
+fn say_given(alloc: Global, out: &mut String, accept: &str, mime: &Mime) {
+    if let Ok(entries) = accept::entries_of(alloc, accept.as_bytes()) {
+        say_number(out, Some(best::given(&entries.good, mime)));
+    }
 }
 
-fn try_caret_line(alloc: Global, out: &mut String, text: &str) -> Result<(), AllocError> {
+fn try_caret_line(alloc: Global, out: &mut String, text: &str) {
     let Some(error) = Mime::from_str(alloc, text).err() else {
         return say(out, "no fault");
     };
     say_text(out, caret::caret_line(alloc, text, &error))
 }
 
-fn try_covers(alloc: Global, out: &mut String, range: &Mime, text: &str) -> Result<(), AllocError> {
+fn try_covers(alloc: Global, out: &mut String, range: &Mime, text: &str) {
     let Ok(mime) = Mime::from_str(alloc, text) else {
         return say(out, "not read");
     };
@@ -220,39 +225,41 @@ fn try_covers(alloc: Global, out: &mut String, range: &Mime, text: &str) -> Resu
 }
 
 /// Prints the good entries, and then the bad ones.
-fn try_entries_of(alloc: Global, out: &mut String, list: &[u8]) -> Result<(), AllocError> {
-    let entries = accept::entries_of(alloc, list)?;
-    say_entries(out, &entries.good, &entries.bad)
+fn try_entries_of(alloc: Global, out: &mut String, list: &[u8]) {
+    if let Ok(entries) = accept::entries_of(alloc, list) {
+        say_entries(out, &entries.good, &entries.bad);
+    }
 }
 
-fn say_entries(out: &mut String, good: &[Mime], bad: &[Vec<u8>]) -> Result<(), AllocError> {
+fn say_entries(out: &mut String, good: &[Mime], bad: &[Vec<u8>]) {
     for mime in good {
-        say(out, mime.as_str())?;
+        say(out, mime.as_str());
     }
-    say_bad(out, bad)
+    say_bad(out, bad);
 }
 
-fn say_bad(out: &mut String, bad: &[Vec<u8>]) -> Result<(), AllocError> {
-    say(out, "bad:")?;
+fn say_bad(out: &mut String, bad: &[Vec<u8>]) {
+    say(out, "bad:");
     for entry in bad {
-        say(out, shown(entry))?;
-    }
-    Ok(())
-}
-
-fn try_extensions(alloc: Global, out: &mut String, mime: &Mime) -> Result<(), AllocError> {
-    let extensions = extensions::extensions(alloc)?;
-    say(out, extensions.get(mime).copied().unwrap_or("none"))
-}
-
-fn try_form_boundary(alloc: Global, out: &mut String, mime: &Mime) -> Result<(), AllocError> {
-    match boundary::form_boundary(alloc, mime)? {
-        Some(boundary) => say(out, shown(&boundary)),
-        None => say(out, "none"),
+        say(out, shown(entry));
     }
 }
 
-fn try_header_value(alloc: Global, out: &mut String, value: &[u8]) -> Result<(), AllocError> {
+fn try_extensions(alloc: Global, out: &mut String, mime: &Mime) {
+    if let Ok(extensions) = extensions::extensions(alloc) {
+        say(out, extensions.get(mime).copied().unwrap_or("none"));
+    }
+}
+
+fn try_form_boundary(alloc: Global, out: &mut String, mime: &Mime) {
+    match boundary::form_boundary(alloc, mime) {
+        Ok(Some(boundary)) => say(out, shown(&boundary)),
+        Ok(None) => say(out, "none"),
+        Err(_) => (),
+    }
+}
+
+fn try_header_value(alloc: Global, out: &mut String, value: &[u8]) {
     let read = header::header_value(alloc, value);
     let answer = match &read {
         Ok(mime) => mime.as_str(),
@@ -264,16 +271,16 @@ fn try_header_value(alloc: Global, out: &mut String, value: &[u8]) -> Result<(),
 }
 
 /// Tries a header's value in ISO 8859-1, which has one byte for each character.
-fn try_header_in_latin_1(alloc: Global, out: &mut String, text: &str) -> Result<(), AllocError> {
+fn try_header_in_latin_1(alloc: Global, out: &mut String, text: &str) {
     let mut value = Vec::new(alloc);
     for character in text.chars() {
-        value.push(u8::try_from(character).unwrap_or(b'?'))?;
+        let _ = value.push(u8::try_from(character).unwrap_or(b'?'));
     }
     try_header_value(alloc, out, &value)
 }
 
 /// Prints whether what a text is read as has a parameter.
-fn try_printed(alloc: Global, out: &mut String, text: &str, name: &str) -> Result<(), AllocError> {
+fn try_printed(alloc: Global, out: &mut String, text: &str, name: &str) {
     let Ok(mime) = callers::printed(alloc, text) else {
         return say(out, "not read");
     };
@@ -286,7 +293,7 @@ fn try_received(
     out: &mut String,
     content_type: &str,
     body: &str,
-) -> Result<(), AllocError> {
+) {
     let Ok(document) = document::received(alloc, content_type, body.as_bytes()) else {
         return say(out, "not read");
     };
@@ -294,7 +301,7 @@ fn try_received(
 }
 
 /// Prints the media type of a file, and whether to send it compressed.
-fn try_type_of_file(out: &mut String, name: &str) -> Result<(), AllocError> {
+fn try_type_of_file(out: &mut String, name: &str) {
     let atom = files::type_of_file(name);
     say_both(
         out,
@@ -309,12 +316,12 @@ fn try_unescape(
     out: &mut String,
     mime: &Mime,
     other: &str,
-) -> Result<(), AllocError> {
+) {
     let Some(value) = mime.get_param("p") else {
         return say(out, "no p");
     };
     let mut buffer = Vec::new(alloc);
-    unescape::unescape(value.text, &mut buffer)?;
-    unescape::unescape(other, &mut buffer)?;
-    say(out, shown(&buffer))
+    let _ = unescape::unescape(value.text, &mut buffer);
+    let _ = unescape::unescape(other, &mut buffer);
+    say(out, shown(&buffer));
 }

@@ -18,7 +18,7 @@
 //! - `short_verdicts`: all short strings, by a rule that needs no table.
 //!
 //! What a row does is done between the lines `now` and `end`, without other requests for memory than its own: there
-//! tools/refused_requests refuses and counts them. What it says is printed after them.
+//! tools/refused_requests refuses and counts them. What it says is printed after them; what there is no memory for is left out.
 
 mod constants;
 pub(crate) mod fields;
@@ -34,8 +34,8 @@ use crate::tables::items::{again, items, list};
 use crate::tables::relations::{against, compare, names, pair, sets};
 use crate::tables::short::short_verdicts;
 use crate::tables::values::{clone, key, long, parts, print};
-use mime::{Mime, MimeIter};
-use std::alloc::{AllocError, Global};
+use mime::{FromStrError, Mime, MimeIter};
+use std::alloc::Global;
 use std::fmt::Write;
 
 // A function for a few words each, since the time of a proof grows with the square of a `match`.
@@ -46,7 +46,7 @@ pub(crate) fn answer(
     out: &mut String,
     word: &str,
     strings: &[String],
-) -> Result<(), AllocError> {
+) {
     match word {
         "bytes" => bytes(out),
         "copies" => copies(out),
@@ -59,7 +59,7 @@ pub(crate) fn answer(
 }
 
 /// Writes what a recipe answers.
-fn recipe(alloc: Global, out: &mut String, strings: &[String]) -> Result<(), AllocError> {
+fn recipe(alloc: Global, out: &mut String, strings: &[String]) {
     let (name, text, other) = (string_at(strings, 0), string_at(strings, 1), string_at(strings, 2));
     recipes::answer(alloc, out, name, text, other)
 }
@@ -70,18 +70,28 @@ fn answer_of_one(
     out: &mut String,
     word: &str,
     strings: &[String],
-) -> Result<(), AllocError> {
+) {
     let first = string_at(strings, 0);
     match word {
         "items" => items(out, MimeIter::new(alloc, first)),
         "again" => again(alloc, out, first),
         _ => match value_of(alloc, first) {
             Ok(mime) => tell(alloc, out, word, &mime, strings),
-            Err(_) if word == "clone" => out.push_str("not a media type\n"),
-            // The error ignores a width.
-            Err(error) => writeln!(out, "bad {error:99}"),
+            Err(error) => print_error(out, word, &error),
         },
     }
+}
+
+fn print_error(out: &mut String, word: &str, error: &FromStrError) {
+    let _ = match word {
+        "clone" => out.push_str("not a media type\n"),
+        // The error ignores a width.
+        _ => writeln!(out, "bad {error:99}"),
+    };
+}
+
+fn print_read(out: &mut String, mime: &Mime) {
+    let _ = writeln!(out, "ok {mime}");
 }
 
 fn tell(
@@ -90,10 +100,10 @@ fn tell(
     word: &str,
     mime: &Mime,
     strings: &[String],
-) -> Result<(), AllocError> {
+) {
     let second = string_at(strings, 1);
     match word {
-        "read" => writeln!(out, "ok {mime}"),
+        "read" => print_read(out, mime),
         "parts" => parts(out, mime),
         "clone" => clone(out, mime),
         "print" => print(out, mime),
@@ -111,10 +121,10 @@ fn tell_of_two(
     word: &str,
     one: &Mime,
     text: &str,
-) -> Result<(), AllocError> {
+) {
     let other = match value_of(alloc, text) {
         Ok(other) => other,
-        Err(error) => return writeln!(out, "bad {error}"),
+        Err(error) => return print_error(out, word, &error),
     };
     match word {
         "sets" => sets(alloc, out, one, other),

@@ -15,7 +15,7 @@ use mime::{
     UTF_8, VCARD, VIDEO, WOFF, WOFF2, WWW_FORM_URLENCODED, XML, is_quoted_byte,
     is_quoted_text_byte, is_token,
 };
-use std::alloc::{AllocError, Global};
+use std::alloc::Global;
 use std::fmt;
 use std::fmt::Write;
 
@@ -161,22 +161,20 @@ impl CrossesThreads for ParseError {}
 impl CrossesThreads for FromStrError {}
 
 /// Prints the copies of the constant media types.
-pub(crate) fn copies(out: &mut String) -> Result<(), AllocError> {
+pub(crate) fn copies(out: &mut String) {
     for (_, atom) in ATOMS {
-        print_copy(out, &atom.mime())?;
+        print_copy(out, &atom.mime());
     }
-    Ok(())
 }
 
 /// Prints each byte, and whether it is in a token, in a quoted string by itself, and there after a backslash or by itself.
-pub(crate) fn bytes(out: &mut String) -> Result<(), AllocError> {
+pub(crate) fn bytes(out: &mut String) {
     for byte in 0..=255u8 {
         let classes = (
             is_token(byte),
             is_quoted_text_byte(byte),
             is_quoted_byte(byte),
         );
-        writeln!(out, "{byte} {classes:?}")?;
+        let _ = writeln!(out, "{byte} {classes:?}");
     }
-    Ok(())
 }

@@ -2,49 +2,51 @@
 
 use crate::tables::fields::string_at;
 use mime::{Bad, Mime, MimeIter};
-use std::alloc::{AllocError, Global};
+use std::alloc::Global;
 use std::fmt::Write;
 
-fn print_item(out: &mut String, item: Result<Mime, Bad<'_>>) -> Result<(), AllocError> {
-    match item {
+fn print_item(out: &mut String, item: Result<Mime, Bad<'_>>) {
+    let _ = match item {
         Ok(mime) => writeln!(out, "ok {mime}"),
         Err(Bad::Piece(piece)) => writeln!(out, "bad {piece}"),
         Err(Bad::NoMemory) => out.push_str("no memory\n"),
-    }
+    };
 }
 
 /// Prints the items that are left; then the steps, the size hint before the items, and whether that after each was `(0, None)` and there
 /// is none after the last.
-pub(crate) fn items(out: &mut String, mut iter: MimeIter<'_>) -> Result<(), AllocError> {
+pub(crate) fn items(out: &mut String, mut iter: MimeIter<'_>) {
     let hint = iter.size_hint();
     let mut is_right = true;
     while let Some(item) = iter.next() {
-        print_item(out, item)?;
+        print_item(out, item);
         is_right = is_right && iter.size_hint() == (0, None);
     }
     is_right = is_right && iter.next().is_none();
-    writeln!(out, "steps {:?}", (iter.steps(), hint, is_right))
+    let _ = writeln!(out, "steps {:?}", (iter.steps(), hint, is_right));
 }
 
 /// Prints the first item of a string, and those that are left, first by a clone of the iterator and then by itself.
-pub(crate) fn again(alloc: Global, out: &mut String, text: &str) -> Result<(), AllocError> {
+pub(crate) fn again(alloc: Global, out: &mut String, text: &str) {
     let mut iter = MimeIter::new(alloc, text);
     if let Some(item) = iter.next() {
-        print_item(out, item)?;
+        print_item(out, item);
     }
-    items(out, iter.clone()?)?;
-    items(out, iter)
+    if let Ok(others) = iter.clone() {
+        items(out, others);
+    }
+    items(out, iter);
 }
 
 /// Prints which items (`=`) of the first string are equal to what the others are read as.
-pub(crate) fn list(alloc: Global, out: &mut String, strings: &[String]) -> Result<(), AllocError> {
+pub(crate) fn list(alloc: Global, out: &mut String, strings: &[String]) {
     let mut iter = MimeIter::new(alloc, string_at(strings, 0));
     for at in 1..strings.len() {
         let is_equal = match (iter.next(), Mime::from_str(alloc, string_at(strings, at))) {
             (Some(Ok(item)), Ok(mime)) => item == mime,
             _ => false,
         };
-        out.push(if is_equal { '=' } else { ' ' })?;
+        let _ = out.push(if is_equal { '=' } else { ' ' });
     }
-    out.push_str(".\n")
+    let _ = out.push_str(".\n");
 }

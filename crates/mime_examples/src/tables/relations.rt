@@ -56,13 +56,8 @@ fn relation<T: Ord + Hash>(one: &T, other: &T) -> char {
 }
 
 /// Prints how two values compare, and whether the first is equal to the second's string.
-pub(crate) fn compare(
-    out: &mut String,
-    one: &Mime,
-    other: &Mime,
-    text: &str,
-) -> Result<(), AllocError> {
-    say(out, &(relation(one, other), mime_eq_str(one, text)))
+pub(crate) fn compare(out: &mut String, one: &Mime, other: &Mime, text: &str) {
+    say(out, &(relation(one, other), mime_eq_str(one, text)));
 }
 
 /// A name that a field stands for: a constant, or a text, with `~` before it if it ignores case, and with `=` if not.
@@ -77,45 +72,42 @@ fn name_of(field: &str) -> Name<'_> {
 }
 
 /// Prints a name; and then it and another quoted, how they compare, and whether the first is equal to the second's text.
-pub(crate) fn names(out: &mut String, one: &str, other: &str) -> Result<(), AllocError> {
+pub(crate) fn names(out: &mut String, one: &str, other: &str) {
     let one = name_of(one);
     let other = name_of(other);
     let sign = relation(&one, &other);
     let is_text = name_eq_str(&one, other.text);
-    writeln!(out, "{one}\n{:?}", (one, sign, other, is_text))
+    let _ = writeln!(out, "{one}\n{:?}", (one, sign, other, is_text));
 }
 
 /// Prints whether two values are equal, in order and by their hashes, and whether the first equals the second's string.
-pub(crate) fn pair(
-    out: &mut String,
-    one: &Mime,
-    other: &Mime,
-    text: &str,
-) -> Result<(), AllocError> {
+pub(crate) fn pair(out: &mut String, one: &Mime, other: &Mime, text: &str) {
     let is_equal = *one == *other && one.cmp(other).is_eq();
     let by_hash = fed_by(one) == fed_by(other);
     let by_text = mime_eq_str(one, text);
-    writeln!(
+    let _ = writeln!(
         out,
         "equal {is_equal}, by hash {by_hash}, by text {by_text}"
-    )
+    );
 }
 
-/// Prints whether a value is found in a `HashSet` and a `BTreeSet` that have another.
-pub(crate) fn sets(
-    alloc: Global,
-    out: &mut String,
-    one: &Mime,
-    other: Mime,
-) -> Result<(), AllocError> {
+/// Whether a value is found in a `HashSet` and a `BTreeSet` that have another.
+fn found(alloc: Global, one: &Mime, other: Mime) -> Result<(bool, bool), AllocError> {
     let mut hashed = HashSet::new(alloc);
     hashed.insert(other.clone()?)?;
     let mut ordered = BTreeSet::new(alloc);
     ordered.insert(other)?;
-    say(out, &(hashed.contains(one), ordered.contains(one)))
+    Ok((hashed.contains(one), ordered.contains(one)))
+}
+
+/// Prints whether a value is found in sets that have another.
+pub(crate) fn sets(alloc: Global, out: &mut String, one: &Mime, other: Mime) {
+    if let Ok(found) = found(alloc, one, other) {
+        say(out, &found);
+    }
 }
 
 /// Prints whether a value equals a string.
-pub(crate) fn against(out: &mut String, mime: &Mime, text: &str) -> Result<(), AllocError> {
-    say(out, &mime_eq_str(mime, text))
+pub(crate) fn against(out: &mut String, mime: &Mime, text: &str) {
+    say(out, &mime_eq_str(mime, text));
 }

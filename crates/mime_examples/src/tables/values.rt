@@ -4,53 +4,51 @@ ghost use Rattle.std.specs.Prelude.{◌≡◌, codes};
 
 use crate::tables::constants::{Shown, constant_name};
 use mime::{Mime, Name, ParamKey, TextKey, name_eq_str};
-use std::alloc::{AllocError, Global};
 use std::fmt::{Debug, Write};
 
 /// Prints what is said of a row, by Debug.
-pub(crate) fn say<T: Debug>(out: &mut String, said: &T) -> Result<(), AllocError> {
-    writeln!(out, "{said:?}")
+pub(crate) fn say<T: Debug>(out: &mut String, said: &T) {
+    let _ = writeln!(out, "{said:?}");
 }
 
 /// Prints the copy of a value.
-pub(crate) fn print_copy(out: &mut String, original: &Mime) -> Result<(), AllocError> {
-    let Ok(copy) = original.clone() else {
-        return out.push_str("no memory\n");
+pub(crate) fn print_copy(out: &mut String, original: &Mime) {
+    let _ = match original.clone() {
+        Ok(copy) => writeln!(out, "ok {copy}, equal: {}", copy == *original),
+        Err(_) => out.push_str("no memory\n"),
     };
-    writeln!(out, "ok {copy}, equal: {}", copy == *original)
 }
 
 /// Clones a value. The original is printed too, since a clone that is refused leaves it as it was.
-pub(crate) fn clone(out: &mut String, original: &Mime) -> Result<(), AllocError> {
-    print_copy(out, original)?;
-    writeln!(out, "original {original}")
+pub(crate) fn clone(out: &mut String, original: &Mime) {
+    print_copy(out, original);
+    let _ = writeln!(out, "original {original}");
 }
 
 /// Prints the parts of a media type: its string; type, subtype, suffix and essence; and each parameter; with the size hints before these
 /// and after each.
-pub(crate) fn parts(out: &mut String, mime: &Mime) -> Result<(), AllocError> {
+pub(crate) fn parts(out: &mut String, mime: &Mime) {
     let suffix = mime.suffix().map(Shown);
     let top = Shown(mime.type_());
     let sub = Shown(mime.subtype());
     let mut params = mime.params();
     let parts = (top, sub, suffix, mime.essence_str());
-    writeln!(out, "ok {mime}\n{:?}", (parts, params.size_hint()))?;
+    let _ = writeln!(out, "ok {mime}\n{:?}", (parts, params.size_hint()));
     while let Some((name, value)) = params.next() {
-        say(out, &(Shown(name), Shown(value), params.size_hint()))?;
+        say(out, &(Shown(name), Shown(value), params.size_hint()));
     }
-    Ok(())
 }
 
 /// Prints the size hint and the number of the parameters, and whether the value's string is as it must be.
-pub(crate) fn long(out: &mut String, mime: &Mime, kept: &str) -> Result<(), AllocError> {
+pub(crate) fn long(out: &mut String, mime: &Mime, kept: &str) {
     let hint = mime.params().size_hint();
     let count = mime.params().count();
-    say(out, &(hint, count, mime.as_str() == kept))
+    say(out, &(hint, count, mime.as_str() == kept));
 }
 
 /// Prints a value in 12 places and quoted, and its parameters by Debug.
-pub(crate) fn print(out: &mut String, mime: &Mime) -> Result<(), AllocError> {
-    writeln!(out, "{mime:>12}|{mime:?}|{:?}", mime.params())
+pub(crate) fn print(out: &mut String, mime: &Mime) {
+    let _ = writeln!(out, "{mime:>12}|{mime:?}|{:?}", mime.params());
 }
 
 /// The key that accepts the one name `foo`.
@@ -66,7 +64,7 @@ impl ParamKey for Foo {
 }
 
 /// Prints the value that a key finds, whether it is equal to another string, what it finds itself as a key, and what the key `Foo` finds.
-pub(crate) fn key(out: &mut String, mime: &Mime, key: &str, other: &str) -> Result<(), AllocError> {
+pub(crate) fn key(out: &mut String, mime: &Mime, key: &str, other: &str) {
     let value = match constant_name(key) {
         Some(name) => mime.get_param(name),
         None => mime.get_param(TextKey(key)),
@@ -76,5 +74,5 @@ pub(crate) fn key(out: &mut String, mime: &Mime, key: &str, other: &str) -> Resu
         None => (false, None),
     };
     let foo = mime.get_param(Foo);
-    say(out, &(value.map(Shown), is_other, own, foo))
+    say(out, &(value.map(Shown), is_other, own, foo));
 }
