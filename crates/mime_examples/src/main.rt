@@ -41,22 +41,31 @@ const ROOM: usize = 65_536;
 fn main(rt: HostRuntime) -> io::Result<()> {
     let mut table = String::new(rt.alloc());
     rt.stdin().read_to_string(&mut table)?;
+    print_rows(&rt, table.as_str())
+}
+
+fn print_rows(rt: &HostRuntime, table: &str) -> io::Result<()> {
     let mut out = String::with_capacity(rt.alloc(), ROOM)?;
-    for line in table.as_str().lines() {
+    for line in table.lines() {
         if !line.starts_with('#') {
-            row(&rt, &mut out, line)?;
+            print_row(rt, &mut out, line)?;
         }
     }
     Ok(())
 }
 
-fn row(rt: &HostRuntime, out: &mut String, line: &str) -> io::Result<()> {
-    let (word, fields) = line.split_once('\t').unwrap_or((line, ""));
-    let strings = strings_of(rt.alloc(), fields)?;
-    out.clear();
+fn print_row(rt: &HostRuntime, out: &mut String, line: &str) -> io::Result<()> {
     rt.println(line)?;
-    rt.println("now")?;
-    tables::answer(rt.alloc(), out, word, strings.as_slice());
-    rt.println("end")?;
+    say(rt, out, line);
     rt.print(out.as_str())
+}
+
+/// Writes what is said of a row.
+fn say(rt: &HostRuntime, out: &mut String, line: &str) {
+    let (word, fields) = line.split_once('\t').unwrap_or((line, ""));
+    let strings = strings_of(rt.alloc(), fields);
+    out.clear();
+    let _ = rt.println("now");
+    tables::answer(rt.alloc(), out, word, strings.as_slice());
+    let _ = rt.println("end");
 }

@@ -1,36 +1,42 @@
 //! The strings that a table's fields stand for.
 
-use std::alloc::{AllocError, Global};
+use std::alloc::Global;
+
+/// The character that a sign stands for.
+fn character_of(sign: char) -> char {
+    match (sign as u32).wrapping_sub(0x2400) {
+        0x21 => '\u{7F}',
+        number if number < 0x20 => char::from_u32(number).unwrap_or(sign),
+        _ => sign,
+    }
+}
 
 /// The string that a field stands for: the signs from U+2400 on stand for the controls, U+2421 for the byte 127, and `⟨part×count⟩` for
 /// so many parts.
-fn string_of(alloc: Global, field: &str) -> Result<String, AllocError> {
-    if field.is_ascii() {
-        return String::from_str(alloc, field);
-    }
+fn string_of(alloc: Global, field: &str) -> String {
     let mut text = String::new(alloc);
+    if field.is_ascii() {
+        let _ = text.push_str(field);
+        return text;
+    }
     for piece in field.split(['⟨', '⟩']) {
         let (part, count) = piece.split_once('×').unwrap_or((piece, "1"));
         for _ in 0..count.parse::<usize>().unwrap_or(0) {
             for sign in part.chars() {
-                text.push(match (sign as u32).wrapping_sub(0x2400) {
-                    0x21 => '\u{7F}',
-                    number if number < 0x20 => char::from_u32(number).unwrap_or(sign),
-                    _ => sign,
-                })?;
+                let _ = text.push(character_of(sign));
             }
         }
     }
-    Ok(text)
+    text
 }
 
 /// The strings that fields between tabs stand for.
-pub(crate) fn strings_of(alloc: Global, fields: &str) -> Result<Vec<String>, AllocError> {
+pub(crate) fn strings_of(alloc: Global, fields: &str) -> Vec<String> {
     let mut strings = Vec::new(alloc);
     for field in fields.split('\t') {
-        strings.push(string_of(alloc, field)?)?;
+        let _ = strings.push(string_of(alloc, field));
     }
-    Ok(strings)
+    strings
 }
 
 /// One of the strings of a row, or an empty one.

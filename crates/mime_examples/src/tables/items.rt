@@ -38,12 +38,19 @@ pub(crate) fn again(alloc: Global, out: &mut String, text: &str) {
     items(out, iter);
 }
 
+fn is_equal(alloc: Global, one: &Mime, text: &str) -> bool {
+    match Mime::from_str(alloc, text) {
+        Ok(other) => *one == other,
+        Err(_) => false,
+    }
+}
+
 /// Prints which items (`=`) of the first string are equal to what the others are read as.
 pub(crate) fn list(alloc: Global, out: &mut String, strings: &[String]) {
     let mut iter = MimeIter::new(alloc, string_at(strings, 0));
     for at in 1..strings.len() {
-        let is_equal = match (iter.next(), Mime::from_str(alloc, string_at(strings, at))) {
-            (Some(Ok(item)), Ok(mime)) => item == mime,
+        let is_equal = match iter.next() {
+            Some(Ok(item)) => is_equal(alloc, &item, string_at(strings, at)),
             _ => false,
         };
         let _ = out.push(if is_equal { '=' } else { ' ' });

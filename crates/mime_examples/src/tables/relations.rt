@@ -3,7 +3,7 @@
 use crate::tables::constants::constant_name;
 use crate::tables::values::say;
 use mime::{Mime, Name, mime_eq_str, name_eq_str};
-use std::alloc::{AllocError, Global};
+use std::alloc::Global;
 use std::cmp::Ordering;
 use std::collections::{BTreeSet, HashSet};
 use std::fmt::Write;
@@ -91,19 +91,24 @@ pub(crate) fn pair(out: &mut String, one: &Mime, other: &Mime, text: &str) {
     );
 }
 
-/// Whether a value is found in a `HashSet` and a `BTreeSet` that have another.
-fn found(alloc: Global, one: &Mime, other: Mime) -> Result<(bool, bool), AllocError> {
-    let mut hashed = HashSet::new(alloc);
-    hashed.insert(other.clone()?)?;
-    let mut ordered = BTreeSet::new(alloc);
-    ordered.insert(other)?;
-    Ok((hashed.contains(one), ordered.contains(one)))
+/// Whether a value is found in a `HashSet` that has another.
+fn is_hashed(alloc: Global, one: &Mime, other: Mime) -> bool {
+    let mut set = HashSet::new(alloc);
+    let _ = set.insert(other);
+    set.contains(one)
+}
+
+/// Whether a value is found in a `BTreeSet` that has another.
+fn is_ordered(alloc: Global, one: &Mime, other: Mime) -> bool {
+    let mut set = BTreeSet::new(alloc);
+    let _ = set.insert(other);
+    set.contains(one)
 }
 
 /// Prints whether a value is found in sets that have another.
 pub(crate) fn sets(alloc: Global, out: &mut String, one: &Mime, other: Mime) {
-    if let Ok(found) = found(alloc, one, other) {
-        say(out, &found);
+    if let Ok(clone) = other.clone() {
+        say(out, &(is_hashed(alloc, one, clone), is_ordered(alloc, one, other)));
     }
 }
 
