@@ -2,19 +2,16 @@
 
 use crate::handler::Handler;
 use crate::header::HeaderError;
-use crate::{accept, answer, bare, best, boundary, callers, caret, document, extensions, files, handler, header, html, json, key, parameter, parts, plain, range, reader, unescape, utf8, weights};
+use crate::{
+    accept, answer, bare, best, boundary, callers, caret, document, extensions, files, handler,
+    header, html, json, key, parameter, parts, plain, range, reader, unescape, utf8, weights,
+};
 use mime::{APPLICATION_JSON, Mime, ParseError, TEXT_HTML, TEXT_PLAIN};
 use std::alloc::{AllocError, Global};
 use std::fmt::{Display, Write};
 
 /// Prints what a recipe answers.
-pub(crate) fn answer(
-    alloc: Global,
-    out: &mut String,
-    recipe: &str,
-    text: &str,
-    other: &str,
-) {
+pub(crate) fn answer(alloc: Global, out: &mut String, recipe: &str, text: &str, other: &str) {
     try_content_type(alloc, out, recipe, text, other);
     let _ = out.push('\n');
 }
@@ -72,13 +69,7 @@ fn shown(bytes: &[u8]) -> &str {
 
 // A function for a few recipes each, since the time of a proof grows with the square of a `match`.
 
-fn try_content_type(
-    alloc: Global,
-    out: &mut String,
-    recipe: &str,
-    text: &str,
-    other: &str,
-) {
+fn try_content_type(alloc: Global, out: &mut String, recipe: &str, text: &str, other: &str) {
     match recipe {
         "caret_line" => try_caret_line(alloc, out, text),
         "header_value" => try_header_value(alloc, out, text.as_bytes()),
@@ -90,13 +81,7 @@ fn try_content_type(
     }
 }
 
-fn try_accept(
-    alloc: Global,
-    out: &mut String,
-    recipe: &str,
-    text: &str,
-    other: &str,
-) {
+fn try_accept(alloc: Global, out: &mut String, recipe: &str, text: &str, other: &str) {
     match recipe {
         "best" => try_best(alloc, out, Some(text.as_bytes())),
         "best without a header" => try_best(alloc, out, None),
@@ -108,13 +93,7 @@ fn try_accept(
     }
 }
 
-fn try_text(
-    alloc: Global,
-    out: &mut String,
-    recipe: &str,
-    text: &str,
-    other: &str,
-) {
+fn try_text(alloc: Global, out: &mut String, recipe: &str, text: &str, other: &str) {
     match recipe {
         "form_with_boundary" => say_made(out, parameter::form_with_boundary(alloc, text)),
         "has_suffix" => say_whether(out, callers::has_suffix(alloc, text)),
@@ -128,26 +107,14 @@ fn try_text(
 }
 
 /// Tries a recipe that takes a media type.
-fn try_read(
-    alloc: Global,
-    out: &mut String,
-    recipe: &str,
-    text: &str,
-    other: &str,
-) {
+fn try_read(alloc: Global, out: &mut String, recipe: &str, text: &str, other: &str) {
     let Ok(mime) = Mime::from_str(alloc, text) else {
         return say(out, "not read");
     };
     try_mime(alloc, out, recipe, &mime, other)
 }
 
-fn try_mime(
-    alloc: Global,
-    out: &mut String,
-    recipe: &str,
-    mime: &Mime,
-    other: &str,
-) {
+fn try_mime(alloc: Global, out: &mut String, recipe: &str, mime: &Mime, other: &str) {
     match recipe {
         "bare_of" => try_bare_of(alloc, out, mime),
         "covers" => try_covers(alloc, out, mime, other),
@@ -288,12 +255,7 @@ fn try_printed(alloc: Global, out: &mut String, text: &str, name: &str) {
 }
 
 /// Prints the media type and the body.
-fn try_received(
-    alloc: Global,
-    out: &mut String,
-    content_type: &str,
-    body: &str,
-) {
+fn try_received(alloc: Global, out: &mut String, content_type: &str, body: &str) {
     let Ok(document) = document::received(alloc, content_type, body.as_bytes()) else {
         return say(out, "not read");
     };
@@ -311,12 +273,7 @@ fn try_type_of_file(out: &mut String, name: &str) {
 }
 
 /// Prints what the value of `p` means, with what another value means added to it.
-fn try_unescape(
-    alloc: Global,
-    out: &mut String,
-    mime: &Mime,
-    other: &str,
-) {
+fn try_unescape(alloc: Global, out: &mut String, mime: &Mime, other: &str) {
     let Some(value) = mime.get_param("p") else {
         return say(out, "no p");
     };

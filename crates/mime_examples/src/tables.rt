@@ -41,12 +41,7 @@ use std::fmt::Write;
 // A function for a few words each, since the time of a proof grows with the square of a `match`.
 
 /// Writes what the library says of a row.
-pub(crate) fn answer(
-    alloc: Global,
-    out: &mut String,
-    word: &str,
-    strings: &[String],
-) {
+pub(crate) fn answer(alloc: Global, out: &mut String, word: &str, strings: &[String]) {
     match word {
         "bytes" => bytes(out),
         "copies" => copies(out),
@@ -60,17 +55,16 @@ pub(crate) fn answer(
 
 /// Writes what a recipe answers.
 fn recipe(alloc: Global, out: &mut String, strings: &[String]) {
-    let (name, text, other) = (string_at(strings, 0), string_at(strings, 1), string_at(strings, 2));
+    let (name, text, other) = (
+        string_at(strings, 0),
+        string_at(strings, 1),
+        string_at(strings, 2),
+    );
     recipes::answer(alloc, out, name, text, other)
 }
 
 /// Writes what the library says of a row whose first field is a value, or has media types in it.
-fn answer_of_one(
-    alloc: Global,
-    out: &mut String,
-    word: &str,
-    strings: &[String],
-) {
+fn answer_of_one(alloc: Global, out: &mut String, word: &str, strings: &[String]) {
     let first = string_at(strings, 0);
     match word {
         "items" => items(out, MimeIter::new(alloc, first)),
@@ -94,13 +88,7 @@ fn print_read(out: &mut String, mime: &Mime) {
     let _ = writeln!(out, "ok {mime}");
 }
 
-fn tell(
-    alloc: Global,
-    out: &mut String,
-    word: &str,
-    mime: &Mime,
-    strings: &[String],
-) {
+fn tell(alloc: Global, out: &mut String, word: &str, mime: &Mime, strings: &[String]) {
     let second = string_at(strings, 1);
     match word {
         "read" => print_read(out, mime),
@@ -115,13 +103,7 @@ fn tell(
 }
 
 /// Writes what the library says of two values.
-fn tell_of_two(
-    alloc: Global,
-    out: &mut String,
-    word: &str,
-    one: &Mime,
-    text: &str,
-) {
+fn tell_of_two(alloc: Global, out: &mut String, word: &str, one: &Mime, text: &str) {
     let other = match value_of(alloc, text) {
         Ok(other) => other,
         Err(error) => return print_error(out, word, &error),

@@ -108,7 +108,10 @@ fn is_ordered(alloc: Global, one: &Mime, other: Mime) -> bool {
 /// Prints whether a value is found in sets that have another.
 pub(crate) fn sets(alloc: Global, out: &mut String, one: &Mime, other: Mime) {
     if let Ok(clone) = other.clone() {
-        say(out, &(is_hashed(alloc, one, clone), is_ordered(alloc, one, other)));
+        say(
+            out,
+            &(is_hashed(alloc, one, clone), is_ordered(alloc, one, other)),
+        );
     }
 }
 
