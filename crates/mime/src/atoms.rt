@@ -1,6 +1,6 @@
 //! The constant media types.
 
-ghost use Rattle.std.specs.Fmt.{styled_text};
+ghost use Rattle.std.specs.Fmt.{debug_str, styled_text};
 ghost use Rattle.std.specs.Prelude.{◌≡◌, true, Some};
 ghost use Rattle.mime.specs.Values.{Reads};
 ghost use Rattle.mime.specs.Atoms.{atom_text};
@@ -31,7 +31,7 @@ use std::fmt;
 ///
 /// IANA's registry of media types (RFC 6838) says what most of them mean. Those with a `*` are media ranges
 /// (RFC 7231, 5.3.2).
-#[derive(Clone, Copy, PartialEq, Eq, PartialOrd, Ord, Hash, Debug)]
+#[derive(Clone, Copy, PartialEq, Eq, PartialOrd, Ord, Hash)]
 #[allow(non_camel_case_types)]
 pub enum Atom {
     /// `*/*`
@@ -192,5 +192,14 @@ impl fmt::Display for Atom {
 
     fn fmt<W: fmt::Write>(&self, f: &mut fmt::Formatter<W>) -> fmt::Result {
         fmt::Display::fmt(self.text(), f)
+    }
+}
+
+/// Prints the constant as a string in quotes: `TEXT_PLAIN` prints `"text/plain"`.
+impl fmt::Debug for Atom {
+    ghost debug_output = { λ atom. debug_str (atom_text atom) };
+
+    fn fmt<W: fmt::Write>(&self, f: &mut fmt::Formatter<W>) -> fmt::Result {
+        fmt::Debug::fmt(self.text(), f)
     }
 }

@@ -23,9 +23,9 @@ static TYPES: [(&str, Atom); 8] = [
 /// `application/octet-stream` if the table doesn't have it.
 pub fn type_of_file(name: &str) -> Atom {
     if let Some((_, extension)) = name.rsplit_once('.') {
-        for (known, atom) in TYPES {
+        for (known, atom) in &TYPES {
             if extension.eq_ignore_ascii_case(known) {
-                return atom;
+                return *atom;
             }
         }
     }
