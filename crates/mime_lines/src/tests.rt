@@ -13,25 +13,29 @@ use std::{fmt, io};
 /// More bytes than any run here reads or writes.
 const ENOUGH: usize = 1 << 22;
 
-/// How a run of these cases goes, and what it returns. A call reads or writes at most `most` bytes, and after so many
-/// reads, writes or flushes another one fails. The first byte of the input is given `repeats` times more, and after the end
-/// come other bytes. The report is written `again` times more. Source and sink may have failed before.
+/// What readers and writers do in runs of some cases, and what these return.
 #[derive(Clone, Copy)]
-struct Way {
+struct Scenario {
+    /// The most bytes of one read or write.
     most: usize,
+    /// How many reads, writes and flushes succeed. The next one fails.
     reads: usize,
     writes: usize,
     flushes: usize,
+    /// How many times more the first byte of the input is read, before the input.
     repeats: usize,
+    /// How many times more the report is written.
     again: usize,
+    /// What a read after the end gives, as a terminal does.
     after_end: &'static [u8],
+    /// Whether source and sink have failed before.
     has_failed: bool,
     answer: Result<(), RunError>,
     cases: &'static [Case<'static>],
 }
 
-/// A run that nothing stops.
-const WELL: Way = Way {
+/// A scenario in which nothing fails.
+const PLAIN: Scenario = Scenario {
     most: ENOUGH,
     reads: ENOUGH,
     writes: ENOUGH,
@@ -58,13 +62,13 @@ struct Reader<'a> {
 }
 
 /// A reader that gives these bytes.
-fn giving<'a>(bytes: &'a [u8], way: &Way, reads: usize, fails_once: bool) -> Reader<'a> {
+fn giving<'a>(bytes: &'a [u8], scenario: &Scenario, reads: usize, fails_once: bool) -> Reader<'a> {
     Reader {
         byte: *bytes.first().unwrap_or(&b'a'),
-        repeats: way.repeats,
+        repeats: scenario.repeats,
         left: bytes,
-        after_end: way.after_end,
-        most: way.most,
+        after_end: scenario.after_end,
+        most: scenario.most,
         reads,
         fails_once,
     }
@@ -107,14 +111,14 @@ struct Writer<'a> {
 }
 
 /// A writer that takes these bytes.
-fn taking<'a>(bytes: &'a [u8], way: &Way, fails_once: bool) -> Writer<'a> {
+fn taking<'a>(bytes: &'a [u8], scenario: &Scenario, fails_once: bool) -> Writer<'a> {
     Writer {
         bytes,
         left: bytes,
-        again: way.again,
-        most: way.most,
-        writes: way.writes,
-        flushes: way.flushes,
+        again: scenario.again,
+        most: scenario.most,
+        writes: scenario.writes,
+        flushes: scenario.flushes,
         fails_once,
         takes_all: false,
     }
@@ -170,36 +174,36 @@ struct Case<'a> {
     report: &'a [u8],
 }
 
-/// What a run writes that goes this way; a failed write stops it at this byte.
-fn written<'a>(case: &Case<'a>, way: &Way, at: usize) -> &'a [u8] {
-    match way.answer {
-        Err(RunError::Write) if way.flushes > 0 => &case.report[..at.min(case.report.len())],
+/// What a run of a scenario writes; a failed write stops it at this byte.
+fn written<'a>(case: &Case<'a>, scenario: &Scenario, at: usize) -> &'a [u8] {
+    match scenario.answer {
+        Err(RunError::Write) if scenario.flushes > 0 => &case.report[..at.min(case.report.len())],
         Ok(()) | Err(RunError::Write) => case.report,
         Err(_) => b"",
     }
 }
 
-/// Checks that a run goes this way, with a failure at this read or at this byte of the report if the way has one: that its
-/// writer has taken all its bytes, and that only what its answer names has failed.
-fn check(rt: &impl Abort, alloc: Global, case: &Case<'_>, way: &Way, at: usize, fails_once: bool) {
-    let reads = match way.answer {
+/// Checks a run of a scenario, in which the read or the written byte of this number fails if its answer says so: what it
+/// returns, that its writer has taken all its bytes, and that only what its answer names has failed.
+fn check(rt: &impl Abort, alloc: Global, case: &Case<'_>, scenario: &Scenario, at: usize, fails_once: bool) {
+    let reads = match scenario.answer {
         Err(RunError::Read) => at,
-        _ => way.reads,
+        _ => scenario.reads,
     };
-    let report = written(case, way, at);
+    let report = written(case, scenario, at);
     let mut source = Device {
-        inner: giving(case.input, way, reads, fails_once),
-        failed: way.has_failed,
+        inner: giving(case.input, scenario, reads, fails_once),
+        failed: scenario.has_failed,
     };
     let mut sink = Device {
-        inner: taking(report, way, fails_once),
-        failed: way.has_failed,
+        inner: taking(report, scenario, fails_once),
+        failed: scenario.has_failed,
     };
     let got = run(alloc, &mut source, &mut sink, case.mode);
-    let is_right = (got == way.answer)
+    let is_right = (got == scenario.answer)
         & sink.inner.left.is_empty()
-        & (source.failed == (way.has_failed | (got == Err(RunError::Read))))
-        & (sink.failed == (way.has_failed | (got == Err(RunError::Write))));
+        & (source.failed == (scenario.has_failed | (got == Err(RunError::Read))))
+        & (sink.failed == (scenario.has_failed | (got == Err(RunError::Write))));
     assert!(rt;
         is_right,
         "failed: {got:?}, with {reads} reads and {} bytes to write",
@@ -207,24 +211,24 @@ fn check(rt: &impl Abort, alloc: Global, case: &Case<'_>, way: &Way, at: usize, 
     );
 }
 
-/// Checks that a run goes this way, wherever a read or a write can fail, once or for ever.
-fn check_each(rt: &impl Abort, alloc: Global, case: &Case<'_>, way: &Way) {
-    let count = match way.answer {
+/// Checks runs of a scenario, with a failure wherever a read or a write can fail, once or for ever.
+fn check_each(rt: &impl Abort, alloc: Global, case: &Case<'_>, scenario: &Scenario) {
+    let count = match scenario.answer {
         // The last of these reads would have returned the end.
         Err(RunError::Read) => case.input.len() + 1,
-        Err(RunError::Write) if way.flushes > 0 => case.report.len(),
+        Err(RunError::Write) if scenario.flushes > 0 => case.report.len(),
         _ => 1,
     };
     for at in 0..count {
-        check(rt, alloc, case, way, at, false);
-        check(rt, alloc, case, way, at, true);
+        check(rt, alloc, case, scenario, at, false);
+        check(rt, alloc, case, scenario, at, true);
     }
 }
 
-/// Checks that a run of each of these cases goes this way.
-fn check_all(rt: &impl Abort, alloc: Global, way: &Way) {
-    for case in way.cases {
-        check_each(rt, alloc, case, way);
+/// Checks runs of all cases of a scenario.
+fn check_all(rt: &impl Abort, alloc: Global, scenario: &Scenario) {
+    for case in scenario.cases {
+        check_each(rt, alloc, case, scenario);
     }
 }
 
@@ -290,30 +294,30 @@ const CASES: &[Case<'static>] = &[
 
 #[test]
 fn reads_and_writes_a_byte_at_a_time(rt: HostRuntime) {
-    static BYTES: Way = Way { most: 1, ..WELL };
+    static BYTES: Scenario = Scenario { most: 1, ..PLAIN };
     check_all(&rt, rt.alloc(), &BYTES);
 }
 
 #[test]
 fn reads_nothing_after_the_end(rt: HostRuntime) {
-    static TERMINAL: Way = Way {
+    static TERMINAL: Scenario = Scenario {
         after_end: b"\nc/d",
-        ..WELL
+        ..PLAIN
     };
     check_all(&rt, rt.alloc(), &TERMINAL);
 }
 
 #[test]
 fn writes_all_at_once(rt: HostRuntime) {
-    static ONE_WRITE: Way = Way { writes: 1, ..WELL };
+    static ONE_WRITE: Scenario = Scenario { writes: 1, ..PLAIN };
     check_all(&rt, rt.alloc(), &ONE_WRITE);
 }
 
 #[test]
 fn an_earlier_failure_stops_nothing(rt: HostRuntime) {
-    static FAILED: Way = Way {
+    static FAILED: Scenario = Scenario {
         has_failed: true,
-        ..WELL
+        ..PLAIN
     };
     check_all(&rt, rt.alloc(), &FAILED);
 }
@@ -360,20 +364,20 @@ fn writes_into_a_slice_all_or_nothing(rt: HostRuntime) {
 
 #[test]
 fn stops_where_a_read_fails(rt: HostRuntime) {
-    static BYTES: Way = Way {
+    static BYTES: Scenario = Scenario {
         most: 1,
         answer: Err(RunError::Read),
-        ..WELL
+        ..PLAIN
     };
     check_all(&rt, rt.alloc(), &BYTES);
 }
 
 #[test]
 fn stops_where_a_write_fails(rt: HostRuntime) {
-    static BYTES: Way = Way {
+    static BYTES: Scenario = Scenario {
         most: 1,
         answer: Err(RunError::Write),
-        ..WELL
+        ..PLAIN
     };
     check_all(&rt, rt.alloc(), &BYTES);
 }
@@ -381,20 +385,20 @@ fn stops_where_a_write_fails(rt: HostRuntime) {
 #[test]
 fn stops_where_a_flush_fails(rt: HostRuntime) {
     // A flush is made for an empty report too.
-    static FLUSH: Way = Way {
+    static FLUSH: Scenario = Scenario {
         flushes: 0,
         answer: Err(RunError::Write),
-        ..WELL
+        ..PLAIN
     };
     check_all(&rt, rt.alloc(), &FLUSH);
 }
 
 #[test]
 fn an_endless_input_is_too_long(rt: HostRuntime) {
-    static ENDLESS: Way = Way {
+    static ENDLESS: Scenario = Scenario {
         repeats: usize::MAX,
         answer: Err(RunError::TooLong),
-        ..WELL
+        ..PLAIN
     };
     check_all(&rt, rt.alloc(), &ENDLESS);
 }
@@ -415,16 +419,16 @@ const LETTERS: &[Case<'static>] = &[
 
 #[test]
 fn takes_1048576_bytes_and_no_more(rt: HostRuntime) {
-    static LONGEST: Way = Way {
+    static LONGEST: Scenario = Scenario {
         repeats: 1_048_575,
         cases: LETTERS,
-        ..WELL
+        ..PLAIN
     };
-    static LONGER: Way = Way {
+    static LONGER: Scenario = Scenario {
         repeats: 1_048_576,
         cases: LETTERS,
         answer: Err(RunError::TooLong),
-        ..WELL
+        ..PLAIN
     };
     check_all(&rt, rt.alloc(), &LONGEST);
     check_all(&rt, rt.alloc(), &LONGER);
@@ -432,11 +436,11 @@ fn takes_1048576_bytes_and_no_more(rt: HostRuntime) {
 
 #[test]
 fn reads_many_bytes_at_a_time(rt: HostRuntime) {
-    static FEW_READS: Way = Way {
+    static FEW_READS: Scenario = Scenario {
         repeats: 65_535,
         reads: 100,
         cases: LETTERS,
-        ..WELL
+        ..PLAIN
     };
     check_all(&rt, rt.alloc(), &FEW_READS);
 }
@@ -448,19 +452,19 @@ fn a_report_may_be_longer_than_the_limit(rt: HostRuntime) {
         input: b"\n",
         report: b"bad mime parse error: a slash (/) was missing between the type and subtype\n",
     }];
-    static LONG: Way = Way {
+    static LONG: Scenario = Scenario {
         repeats: 13_999,
         again: 13_999,
         cases: EMPTY_LINES,
-        ..WELL
+        ..PLAIN
     };
-    static FLUSH: Way = Way {
+    static FLUSH: Scenario = Scenario {
         flushes: 0,
         answer: Err(RunError::Write),
         repeats: 13_999,
         again: 13_999,
         cases: EMPTY_LINES,
-        ..WELL
+        ..PLAIN
     };
     check_all(&rt, rt.alloc(), &LONG);
     check_all(&rt, rt.alloc(), &FLUSH);
@@ -512,8 +516,8 @@ fn memory_is_found(rt: HostRuntime) {
 
 /// Whether an error prints this text, and nothing else, to a writer that takes no other bytes.
 fn prints(error: RunError, text: &[u8]) -> bool {
-    static PLAIN: Way = WELL;
-    let mut writer = taking(text, &PLAIN, false);
+    static ANY: Scenario = PLAIN;
+    let mut writer = taking(text, &ANY, false);
     fmt::Write::write_fmt(&mut writer, format_args!("{error}")).is_ok() && writer.left.is_empty()
 }
 
