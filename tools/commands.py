@@ -165,12 +165,13 @@ def _alone():
 
 
 def instructions(words, given):
-    """How many instructions a whole run takes, as valgrind counts them."""
-    text = run(["valgrind", "--tool=callgrind", "--callgrind-out-file=/dev/null", *words], given=given, stdout=DEVNULL).stderr
-    found = re.search(rb"Collected : (\d+)", text)
+    """How many instructions a whole run takes, as valgrind counts them. Its cachegrind takes half the time of callgrind."""
+    counting = ["valgrind", "--tool=cachegrind", "--cache-sim=no", "--cachegrind-out-file=/dev/null"]
+    text = run([*counting, *words], given=given, stdout=DEVNULL).stderr
+    found = re.search(rb"I +refs: +([\d,]+)", text)
     if not found:
         raise OSError(f"valgrind counted nothing:\n{text[-600:].decode(errors='replace')}")
-    return int(found[1])
+    return int(found[1].replace(b",", b""))
 
 
 def refusing_library(room):

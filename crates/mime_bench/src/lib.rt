@@ -316,7 +316,7 @@ pub extern "C" fn mime_bench_mixed(
     ) else {
         return 0;
     };
-    on_lines(alloc, operation, texts, others, rounds).unwrap_or(0)
+    on_lines(alloc, operation, texts, others, rounds)
 }
 
 fn on_lines(
@@ -325,33 +325,36 @@ fn on_lines(
     texts: &str,
     others: &str,
     rounds: usize,
-) -> Option<usize> {
-    let texts = lines(alloc, texts)?;
+) -> usize {
+    let texts = lines(alloc, texts);
     if matches!(operation, Operation::Read) {
-        return Some(read_mixed(alloc, &texts, rounds));
+        return read_mixed(alloc, &texts, rounds);
     }
-    let others = lines(alloc, others)?;
-    let values = values_of(alloc, &texts)?;
-    let against = values_of(alloc, &others)?;
-    Some(mixed(alloc, operation, &values, &against, &others, rounds))
+    let others = lines(alloc, others);
+    let values = values_of(alloc, &texts);
+    let against = values_of(alloc, &others);
+    mixed(alloc, operation, &values, &against, &others, rounds)
 }
 
+/// The lines of a text. What there is no memory for is left out, here and below.
 #[inline(always)]
-fn lines<'a>(alloc: Global, text: &'a str) -> Option<Vec<&'a str>> {
+fn lines<'a>(alloc: Global, text: &'a str) -> Vec<&'a str> {
     let mut lines = Vec::new(alloc);
     for line in text.split('\n') {
-        lines.push(line).ok()?;
+        let _ = lines.push(line);
     }
-    Some(lines)
+    lines
 }
 
 #[inline(always)]
-fn values_of(alloc: Global, texts: &[&str]) -> Option<Vec<Mime>> {
+fn values_of(alloc: Global, texts: &[&str]) -> Vec<Mime> {
     let mut values = Vec::new(alloc);
     for text in texts {
-        values.push(Mime::from_str(alloc, text).ok()?).ok()?;
+        if let Ok(mime) = Mime::from_str(alloc, text) {
+            let _ = values.push(mime);
+        }
     }
-    Some(values)
+    values
 }
 
 #[inline(never)]
