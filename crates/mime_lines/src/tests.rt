@@ -185,7 +185,14 @@ fn written<'a>(case: &Case<'a>, scenario: &Scenario, at: usize) -> &'a [u8] {
 
 /// Checks a run of a scenario, in which the read or the written byte of this number fails if its answer says so: what it
 /// returns, that its writer has taken all its bytes, and that only what its answer names has failed.
-fn check(rt: &impl Abort, alloc: Global, case: &Case<'_>, scenario: &Scenario, at: usize, fails_once: bool) {
+fn check(
+    rt: &impl Abort,
+    alloc: Global,
+    case: &Case<'_>,
+    scenario: &Scenario,
+    at: usize,
+    fails_once: bool,
+) {
     let reads = match scenario.answer {
         Err(RunError::Read) => at,
         _ => scenario.reads,
