@@ -336,7 +336,7 @@ fn on_lines(
     mixed(alloc, operation, &values, &against, &others, rounds)
 }
 
-/// The lines of a text. What there is no memory for is left out, here and below.
+/// The lines of a text. What there is no memory for is left out.
 #[inline(always)]
 fn lines<'a>(alloc: Global, text: &'a str) -> Vec<&'a str> {
     let mut lines = Vec::new(alloc);
@@ -346,6 +346,7 @@ fn lines<'a>(alloc: Global, text: &'a str) -> Vec<&'a str> {
     lines
 }
 
+/// The values of texts. Those that aren't read are left out, which the driver sees in the answers.
 #[inline(always)]
 fn values_of(alloc: Global, texts: &[&str]) -> Vec<Mime> {
     let mut values = Vec::new(alloc);

@@ -65,7 +65,9 @@ fn compare_verdicts(alloc: Global, out: &mut String, text: &str) {
 
 /// Prints how many short strings there are, after those whose verdicts don't agree.
 pub(crate) fn short_verdicts(alloc: Global, out: &mut String) {
-    let mut text = String::new(alloc);
+    let Ok(mut text) = String::with_capacity(alloc, MOST) else {
+        return;
+    };
     for number in 0..COUNT {
         spell(&mut text, number);
         compare_verdicts(alloc, out, text.as_str());
