@@ -1,6 +1,7 @@
 //! Why a run stops before its end.
 
-ghost use Rattle.std.specs.Prelude.{Some};
+ghost use Rattle.std.specs.Prelude.{◌≡◌, Some};
+ghost use Rattle.mime_lines.specs.Program.{stop_text};
 
 use std::fmt;
 
@@ -17,20 +18,27 @@ pub enum RunError {
     NoMemory,
 }
 
+impl RunError {
+    /// What the error prints.
+    fn text(self) -> &'static str
+        ensures { result.now ≡ stop_text self }
+    {
+        match self {
+            RunError::Read => "read",
+            RunError::Write => "write",
+            RunError::TooLong => "too long",
+            RunError::NoMemory => "no memory",
+        }
+    }
+}
+
 /// Prints one word or two, `TooLong` as `too long`. A width is ignored.
 impl fmt::Display for RunError {
-    ghost use Rattle.mime_lines.specs.Program.{stop_text};
-
     ghost output = { λ error. Some (stop_text error) };
 
     ghost styled_output = { λ error spec. Some (stop_text error) };
 
     fn fmt<W: fmt::Write>(&self, f: &mut fmt::Formatter<W>) -> fmt::Result {
-        f.write_str(match self {
-            RunError::Read => "read",
-            RunError::Write => "write",
-            RunError::TooLong => "too long",
-            RunError::NoMemory => "no memory",
-        })
+        f.write_str(self.text())
     }
 }
