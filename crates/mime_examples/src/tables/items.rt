@@ -1,13 +1,14 @@
 //! The media types in a string.
 
 use crate::tables::fields::string_at;
+use crate::tables::print_read;
 use mime::{Bad, Mime, MimeIter};
 use std::alloc::Global;
 use std::fmt::Write;
 
 fn print_item(out: &mut String, item: Result<Mime, Bad<'_>>) {
     let _ = match item {
-        Ok(mime) => writeln!(out, "ok {mime}"),
+        Ok(mime) => return print_read(out, &mime),
         Err(Bad::Piece(piece)) => writeln!(out, "bad {piece}"),
         Err(Bad::NoMemory) => out.push_str("no memory\n"),
     };
