@@ -389,28 +389,15 @@ fn stops_where_a_write_fails(rt: HostRuntime) {
     check_all(&rt, rt.alloc(), &BYTES);
 }
 
-/// A scenario in which a flush fails.
-const FAILED_FLUSH: Scenario = Scenario {
-    flushes: 0,
-    answer: Err(RunError::Write),
-    ..PLAIN
-};
-
 #[test]
 fn stops_where_a_flush_fails(rt: HostRuntime) {
     // A flush is made for an empty report too.
-    static FLUSH: Scenario = FAILED_FLUSH;
-    check_all(&rt, rt.alloc(), &FLUSH);
-}
-
-#[test]
-fn a_device_flushes(rt: HostRuntime) {
-    static FLUSH: Scenario = FAILED_FLUSH;
-    let mut sink = Device {
-        inner: taking(b"", &FLUSH, false),
-        failed: false,
+    static FLUSH: Scenario = Scenario {
+        flushes: 0,
+        answer: Err(RunError::Write),
+        ..PLAIN
     };
-    assert!(rt; sink.flush().is_err(), "nothing was flushed");
+    check_all(&rt, rt.alloc(), &FLUSH);
 }
 
 #[test]
@@ -479,10 +466,12 @@ fn a_report_may_be_longer_than_the_limit(rt: HostRuntime) {
         ..PLAIN
     };
     static FLUSH: Scenario = Scenario {
+        flushes: 0,
+        answer: Err(RunError::Write),
         repeats: 13_999,
         again: 13_999,
         cases: EMPTY_LINES,
-        ..FAILED_FLUSH
+        ..PLAIN
     };
     check_all(&rt, rt.alloc(), &LONG);
     check_all(&rt, rt.alloc(), &FLUSH);
