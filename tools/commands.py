@@ -2,7 +2,6 @@
 programs; and what counts."""
 
 import contextlib
-import fcntl
 import functools
 import hashlib
 import os
@@ -153,25 +152,12 @@ def keep(name, text, paths, more=""):
 def need(what, *packages):
     """Installs Debian's packages that have a command or a file, if it is missing. If it still is then, that is an error."""
     is_there, names = lambda: shutil.which(what) or os.path.exists(what), " ".join(packages)
-    if is_there():
-        return
-    with _alone():
-        if not is_there():
-            print(f"{what} is missing: apt-get installs {names}", flush=True)
-            text, _ = output(["sh", "-c", f"apt-get update -qq; apt-get install -y -qq --no-install-recommends {names}"])
+    if not is_there():
+        print(f"{what} is missing: apt-get installs {names}", flush=True)
+        waiting = "-o DPkg::Lock::Timeout=600 -o APT::Update::Lock::Timeout=600 -qq"
+        text, _ = output(["sh", "-c", f"apt-get update {waiting}; apt-get install {waiting} -y --no-install-recommends {names}"])
         if not is_there():
             raise OSError(f"{what} is needed, and could not be installed: install it (on Debian: {names})\n{text[-600:]}")
-
-
-@contextlib.contextmanager
-def _alone():
-    """Waits until no other tool installs anything."""
-    folder = os.open(tempfile.gettempdir(), os.O_RDONLY)
-    fcntl.flock(folder, fcntl.LOCK_EX)
-    try:
-        yield
-    finally:
-        os.close(folder)
 
 
 def instructions(words, given):
@@ -255,7 +241,7 @@ def program(crate, backend="llvm", room=None):
     """The program of a crate as a compiler builds it: that which rt ci proved, or which was built from the same sources. Otherwise rt
     proves and builds it. There both compilers' programs have the same path, so the other one's is built in a copy in the room."""
     made = f"{TOP}/crates/{crate}/out/{crate}{'.by-rattle' if backend == 'rattle' else ''}"
-    if is_current(made, crate):
+    if is_current(made):
         return made
     top = TOP if backend == "llvm" else copied(below(crate), f"{room}/{crate}", without=())
     made = f"{top}/crates/{crate}/out/{crate}"
@@ -263,18 +249,13 @@ def program(crate, backend="llvm", room=None):
     text, _ = output(["sh", "-c", f"rm -f out/{crate}; rt run --backend {backend}"], f"{top}/crates/{crate}")
     if not os.path.exists(made):
         raise OSError(f"{crate} can't be built:\n{text[-3000:]}")
-    set_current(made, crate)
+    if not is_touched(["crates.txt", "HANDLES", "crates"]):
+        write(f"{made}.sources", run_ok("tools/sources"))
     return made
 
 
-def is_current(made, crate):
-    """Whether a program was built from the crate's sources as they are, by their contents."""
+def is_current(made):
+    """Whether a program was built from the sources as they are, by their contents."""
     with contextlib.suppress(OSError):
-        return os.path.exists(made) and Path(f"{made}.sources").read_text(encoding="utf-8") == run_ok("tools/sources", *below(crate))
+        return os.path.exists(made) and Path(f"{made}.sources").read_text(encoding="utf-8") == run_ok("tools/sources")
     return False
-
-
-def set_current(made, crate):
-    """Notes what a program was built from, unless that was touched meanwhile."""
-    if not is_touched(["crates.txt", "HANDLES", *(f"crates/{it}" for it in below(crate))]):
-        write(f"{made}.sources", run_ok("tools/sources", *below(crate)))
