@@ -2,7 +2,8 @@
 //! `name_constants` returns the constant names. docs/LAWS.md lists all claims, docs/RULES.md says what viable,
 //! accepted and cut mean.
 
-ghost use Rattle.std.specs.Prelude.{◌≡◌, ◌↔◌, IsTrue, map};
+ghost use Rattle.std.specs.Borrow.{Bor};
+ghost use Rattle.std.specs.Prelude.{◌≡◌, ◌↔◌, IsTrue, List, ℕ, map};
 ghost use Rattle.std.specs.Cmp.Lexicographic.{slice_cmp};
 ghost use Rattle.std.specs.List.{list_all};
 ghost use Rattle.std.specs.Ordering.{ordering_then, bool_cmp, nat_cmp};
@@ -193,9 +194,10 @@ pub fn one_answer<K: ParamKey>(key: &K)
     ensures least { HasAnswer (K.Accepts key.now) }
 {}
 
-/// It is decided whether a `TextKey` accepts a name, and whether a `Name` does: `TextKey("P")` accepts `p`, and not
-/// `q`.
+/// It is decided whether a string as a key accepts a name, whether a `TextKey` does, and whether a `Name` does: `"P"`
+/// accepts `p`, and not `q`.
 pub fn keys_decide()
+    ensures string { (key : Bor (List ℕ)) → IsDecided (⟦<&'static str as ParamKey>⟧.Accepts key) }
     ensures text { (key : TextKey) → IsDecided (⟦<TextKey<'static> as ParamKey>⟧.Accepts key) }
     ensures name { (key : Name) → IsDecided (⟦<Name<'static> as ParamKey>⟧.Accepts key) }
 {}

@@ -237,10 +237,15 @@ impl Mime {
     /// `TextKey("P")` finds `1` in `a/b;p=1;P=2`, and `CHARSET` finds `utf-8` in
     /// `text/html; Charset="UTF-8"` (RFC 7231, 3.1.1.1). The value is without its quotes. Backslashes stay: that of
     /// `a/b;p="\"x"` is `\"x`. It doesn't allocate.
+    #[inline(always)]
     pub fn get_param<K: ParamKey>(&self, key: K) -> Option<Name<'_>>
         ensures found { IsFirstAccepted (K.Accepts key) (items_of self.now.media.pairs) (option_map name_seen result) }
         ensures low { IfSome result (λ name. IsLowIf name.ignores_case name.text.now) }
     {
+        // Most media types have no parameter.
+        if self.param_count() == 0 {
+            return None;
+        }
         for (name, value) in self.params() {
             if key.accepts(name) {
                 return Some(value);
