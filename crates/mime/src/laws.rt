@@ -17,7 +17,7 @@ ghost use Rattle.mime.specs.Laws.{
   PrefixOfViableIsViable,
   AcceptedIsViable,
   OneCompletion,
-  CompletedIsRefused,
+  CompletedIsRejected,
   NoCompletion,
   OneFault,
   OneLongestPrefix,
@@ -34,7 +34,7 @@ ghost use Rattle.mime.specs.Laws.{
   HasAnswer,
   IsDecided,
   FirstDifferenceDecides,
-  AcceptedOrRefused,
+  AcceptedOrRejected,
   EssenceIsParts,
   SameEssence,
 };
@@ -64,8 +64,8 @@ pub fn one_reading()
 {}
 
 /// A string is accepted or rejected: `a/b` is accepted, and `a` is rejected.
-pub fn accepted_or_refused()
-    ensures { AcceptedOrRefused }
+pub fn accepted_or_rejected()
+    ensures { AcceptedOrRejected }
 {}
 
 /// The empty string is viable: `a/b` begins with it.
@@ -91,8 +91,8 @@ pub fn one_completion()
 
 /// A string that lacks a slash, a subtype, an equals sign, a value or a closing quote is rejected: `text/`, which lacks
 /// a subtype.
-pub fn completed_is_refused()
-    ensures { CompletedIsRefused }
+pub fn completed_is_rejected()
+    ensures { CompletedIsRejected }
 {}
 
 /// Nothing makes a string that isn't viable an accepted one: `a b` is rejected, whatever follows it.

@@ -1,5 +1,5 @@
 -- What a key accepts is decided by a test of bytes.
-use Rattle.mime.proofs.LawsLemmas.Callers.{text_decides, name_decides}
+use Rattle.mime.proofs.LawsLemmas.Keys.{text_decides, name_decides}
 use Rattle.mime.proofs.laws.keys_decide.Goals as goal
 
 pub returns-clause-string : goal.returns-clause-string

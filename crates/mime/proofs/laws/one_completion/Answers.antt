@@ -1,4 +1,4 @@
--- A viable refused text lacks exactly one thing.
+-- A viable rejected text lacks exactly one thing.
 use Rattle.mime.proofs.GrammarLemmas.Faults.{one_completion}
 use Rattle.mime.proofs.laws.one_completion.Goals as goal
 

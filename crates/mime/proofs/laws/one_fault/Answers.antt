@@ -1,4 +1,4 @@
--- A refused text has exactly one fault.
+-- A rejected text has exactly one fault.
 use Rattle.mime.proofs.GrammarLemmas.Faults.{one_fault}
 use Rattle.mime.proofs.laws.one_fault.Goals as goal
 

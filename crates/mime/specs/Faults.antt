@@ -1,4 +1,4 @@
--- How a text is refused: which texts may still become a media type, up to where a text may, and its one fault.
+-- How a text is rejected: which texts may still become a media type, up to where a text may, and its one fault.
 use Rattle.std.specs.Prelude.{◌≡◌, ◌≢◌, ℕ, ◌<◌, ◌≤◌, List, [], ◌∷◌, ◌++◌, length, take, slice_get, Option, Some, None, MatchOption, codes, ⊤}
 use Rattle.mime.specs.Bytes.{slash_byte, equals_byte}
 use Rattle.mime.specs.Values.{IsAccepted}
@@ -51,7 +51,7 @@ pub record IsDeadAt (text : List ℕ) (pos byte : ℕ) : Type 0 where
   pub prefix : IsLongestPrefix text pos
   pub there : slice_get text pos ≡ Some byte
 
--- the fault of a refused text; `NoMemory` isn't one
+-- the fault of a rejected text; `NoMemory` isn't one
 abbrev pub IsFault : List ℕ → ParseError → Type 0
 IsFault text (InvalidToken pos byte) = IsDeadAt text pos byte
 IsFault text fault = Lacks text fault

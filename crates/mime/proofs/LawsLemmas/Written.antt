@@ -1,15 +1,14 @@
--- The parts of an essence, and what is printed into a header.
-use Rattle.std.proofs.Common.{◌≡◌, ℕ, ◌+◌, List, ◌∷◌, ◌++◌, length, drop, Option, Some, None, sym, ap, ◌∙◌, subst, refl, arith, zero, suc, ◌-◌, ◌<◌, Bool, true, false, [], take, append_assoc}
+-- The essence of a value and its parts, and what is written into a header.
+use Rattle.std.proofs.Common.{◌≡◌, ℕ, ◌+◌, List, ◌∷◌, ◌++◌, length, drop, Option, Some, None, sym, ap, ◌∙◌, subst, refl, arith, zero, suc, ◌-◌, ◌<◌, Bool, true, false, [], take, append_assoc, append-nil}
 use Rattle.std.specs.Prelude.{slice_get, slice_range, unwrap_or, IsFalse, MatchOption, ◌==◌, ◌&&◌, not}
 use Rattle.std.specs.Option.{option_map, IfSome}
 use Rattle.std.proofs.lemmas.List.{take-append-drop, take_at, drop_more, drop_all, length-drop}
 use Rattle.std.proofs.lemmas.List.Folds.{drop_split}
 use Rattle.std.proofs.lemmas.Option.{slice_get_within, get_or_from_slice_get, none-some, option_and_then_some}
 use Rattle.mime.specs.Bytes.{slash_byte, plus_byte, is_token_byte, is_quoted_byte, is_quoted_text_byte, quote_byte}
-use Rattle.mime.specs.Values.{MediaType, Reads, lowered, type_of, subtype_of, suffix_of, lowered_value, lowered_tail, pair_of, pairs_of_list, pairs_of_tail}
-use Rattle.mime.specs.Laws.{without_parameters, suffix_text, EssenceIsParts, SameEssence}
-use Rattle.mime.proofs.LawsLemmas.Callers.{essence_is_read}
-use Rattle.mime.proofs.LowercaseLemmas.{length-lowered, lowered-lowered, IsToken-lowered, IsWellFormed-lowered_tree}
+use Rattle.mime.specs.Values.{MediaType, Reads, lowered, lowered_tree, type_of, subtype_of, suffix_of, lowered_value, lowered_tail, pair_of, pairs_of_list, pairs_of_tail}
+use Rattle.mime.specs.Laws.{without_parameters, suffix_text, EssenceIsRead, EssenceIsParts, SameEssence}
+use Rattle.mime.proofs.LowercaseLemmas.{length-lowered, lowered-lowered, IsToken-lowered, lowered_tree-lowered_tree, IsWellFormed-lowered_tree}
 use Rattle.mime.proofs.ValueLemmas.ListText.{ended, drop_past}
 use Rattle.mime.proofs.ValueLemmas.Parts.{slash_in, plus_in, subtype_end}
 use Rattle.mime.proofs.GrammarLemmas.Readings.{one_reading, walk-accepted}
@@ -22,8 +21,21 @@ use Rattle.mime.specs.Inner.Quoted.{takes, awaits_after, continues}
 use Rattle.mime.proofs.GrammarLemmas.Begun.{Begun, in_type, in_list, in_quotes, list_at, grow, walk_from}
 use Rattle.mime.proofs.BytesLemmas.{list_all-wider, list_all-parts, AreTokenBytes-from_token}
 use Rattle.mime.proofs.GrammarLemmas.Characters.{IsForeign, IsForeign-outside, IsOpen, grow-foreign}
-use Rattle.mime.proofs.ValueLemmas.KeptText.{kept_is_read}
+use Rattle.mime.proofs.ValueLemmas.KeptText.{value_of_low, value_of-lowering, kept_is_read}
 use Rattle.mime.proofs.GrammarLemmas.Content.{IsContent-taken, takes_all-text, awaits_after-text}
+
+-- the essence of a value that was read is read as the value without its parameters
+pub essence_is_read : EssenceIsRead
+essence_is_read text value reads =
+    let bare : SyntaxTree = record { top = reads.tree.top; sub = reads.tree.sub; tail = no_list } in
+    record {
+      tree = lowered_tree bare;
+      well_formed = IsWellFormed-lowered_tree bare (reads.well_formed.0, reads.well_formed.1, tt);
+      spelled = ap (λ x. (lowered_tree bare).top ++ (47 ∷ x)) (append-nil (lowered_tree bare).sub)
+          ∙ ap (λ (v : MediaType). v.essence) reads.valued;
+      valued = value_of-lowering (lowered_tree bare) ∙ ap value_of_low (lowered_tree-lowered_tree bare) ∙ sym (value_of-lowering bare)
+          ∙ ap without_parameters reads.valued;
+    }
 
 -- the bytes from a position on begin with the byte there
 drop-from : (bytes : List ℕ) (p b : ℕ) → slice_get bytes p ≡ Some b → drop p bytes ≡ b ∷ drop (p + 1) bytes

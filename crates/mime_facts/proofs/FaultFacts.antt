@@ -1,13 +1,13 @@
--- Texts for which each definition of a refusal is true, and others for which it is false.
+-- Texts for which each definition of a fault is true, and others for which it is false.
 use Rattle.std.proofs.Common.{◌≡◌, ℕ, List, [], ◌∷◌, length, get_or, Some, None, refl, sym, ap, ◌∙◌, arith, length-append, codes}
 use Rattle.std.proofs.Math.Seq.{get_or-append_seam}
 use Rattle.std.proofs.lemmas.Option.{same_Some}
 use Rattle.mime.specs.Bytes.{is_token_byte}
-use Rattle.mime.specs.Refusals.{IsViable, IsLongestPrefix, completion_of, last_byte_of, EndsIn, Lacks, IsUnclosed, IsDeadAt, IsFault, Explains}
+use Rattle.mime.specs.Faults.{IsViable, IsLongestPrefix, completion_of, last_byte_of, EndsIn, Lacks, IsUnclosed, IsDeadAt, IsFault, Explains}
 use Rattle.mime.specs.declared.scan.fault.ParseError.{ParseError}
 use Rattle.mime.specs.declared.scan.fault.ParseError.TheVariants.{MissingSlash, MissingSubtype, MissingEqual, MissingValue, MissingQuote, InvalidToken, NoMemory}
-use Rattle.mime.proofs.GrammarLemmas.Faults.{one_fault, completed_is_refused, fault-from_lacks}
-use Rattle.mime.proofs.GrammarLemmas.Readings.{stopped-from_walk, refused-from_walk}
+use Rattle.mime.proofs.GrammarLemmas.Faults.{one_fault, completed_is_rejected, fault-from_lacks}
+use Rattle.mime.proofs.GrammarLemmas.Readings.{stopped-from_walk, rejected-from_walk}
 use Rattle.mime_facts.proofs.StandardFacts.{slash_fault-from_walk, no_slash, no_subtype, no_equals, no_value, no_quote, space_in_type}
 use Rattle.mime_facts.proofs.ValueFacts.{differ, plain_value, reads_capitals}
 use Rattle.mime.proofs.GrammarLemmas.Viability.{accepted_is_viable, not_viable-at_dead, prefix_unique, viable-from_lacks}
@@ -55,7 +55,7 @@ ends_in_no_letter (prefix, is) =
 -- a text that lacks something lacks nothing else
 lacks_alone : (text : List ℕ) (fault other : ParseError) → Lacks text fault → Lacks text other → fault ≡ other
 lacks_alone text fault other lacks also =
-    let one = one_fault text (completed_is_refused text fault lacks) in
+    let one = one_fault text (completed_is_rejected text fault lacks) in
     one.2 fault (fault-from_lacks text fault lacks) ∙ sym (one.2 other (fault-from_lacks text other also))
 
 -- a lone type lacks its slash
@@ -93,7 +93,7 @@ dead = (
   λ is. absurd (omega (arith, prefix_unique _ 2 1 is.prefix space_in_type.prefix)),
 )
 
--- each refused text has its fault alone, and none of them is `NoMemory`
+-- each rejected text has its fault alone, and none of them is `NoMemory`
 faults : IsFault (codes "invalid") MissingSlash × ¬ (IsFault (codes "a b") MissingSlash) × ¬ (IsFault (codes "A/B") NoMemory)
 faults =
     (no_slash, (λ is. not_viable-at_dead (codes "a b") 1 32 space_in_type (viable-from_lacks (codes "a b") MissingSlash is)), λ is. is.0)
@@ -104,5 +104,5 @@ unfolding is_token_byte
 memory = (
   ((plain_value, reads_capitals), differ (codes "A/B") (codes "*/*") refl),
   (λ is. is.1 refl),
-  λ is. refused-from_walk (codes "text/") _ refl refl is.0,
+  λ is. rejected-from_walk (codes "text/") _ refl refl is.0,
 )
