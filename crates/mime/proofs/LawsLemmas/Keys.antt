@@ -1,35 +1,16 @@
 -- What a key finds: at most one answer, and one if it decides each name.
-use Rattle.std.proofs.Common.{◌≡◌, ◌≢◌, true, false, ℕ, ◌⊎◌, inl, inr, Bool, List, [], ◌∷◌, ◌++◌, length, take, Option, Some, None, refl, sym, ap, ◌∙◌, subst, append-nil, ⊎_elim, codes, ◌<◌, arith}
+use Rattle.std.proofs.Common.{◌≡◌, ◌≢◌, true, false, ℕ, ◌⊎◌, inl, inr, Bool, List, [], ◌∷◌, Option, Some, None, refl, sym, ap, ◌∙◌, ⊎_elim}
 use Rattle.std.proofs.lemmas.Bool.Decides.{not_from_Decides, Decides-and}
 use Rattle.std.proofs.lemmas.Option.{none-some, same_Some}
 use Rattle.std.proofs.lemmas.Slice.Eq.{bytes_eq-Decides}
-use Rattle.std.proofs.lemmas.Str.{IsUtf8-append, IsUtf8-take}
-use Rattle.std.specs.List.{AllByRecursion}
-use Rattle.std.specs.Prelude.{MatchOption, ◌&&◌}
-use Rattle.std.specs.Str.{IsUtf8, bytes_eq}
+use Rattle.std.specs.Prelude.{◌&&◌}
+use Rattle.std.specs.Str.{bytes_eq}
 use Rattle.std.specs.Bool.{Decides, beq}
 use Rattle.std.specs.Cmp.{booleans_Decides}
-use Rattle.mime.specs.Grammar.{SyntaxTree, no_list}
-use Rattle.mime.specs.Values.{MediaType, Reads, lowered, lowered_tree, IsAccepted}
-use Rattle.mime.specs.Comparison.{Same, HasNoSemicolon}
-use Rattle.mime.specs.Faults.{IsViable, IsLongestPrefix, completion_of, Lacks}
+use Rattle.mime.specs.Values.{lowered}
 use Rattle.mime.specs.Items.{Item, IsFirstAccepted}
 use Rattle.mime.specs.Names.{NameIs}
-use Rattle.mime.specs.Cut.{CutItem, ItemsOf, is_read, is_rejected, is_empty, whole, unfinished, goes_on}
-use Rattle.mime.specs.Laws.{IsViableInUtf8, IsLongestPrefixInUtf8, PrefixIsInUtf8, without_parameters, EssenceIsRead, KeptTextIs, IsDecided, OneAnswer, HasAnswer}
-use Rattle.mime.specs.CutLaws.{IsItem, CutHasItems}
-use Rattle.mime.specs.declared.scan.fault.ParseError.{ParseError}
-use Rattle.mime.specs.declared.scan.fault.ParseError.TheVariants.{MissingSlash, MissingSubtype, MissingEqual, MissingValue, MissingQuote}
-use Rattle.mime.proofs.GrammarLemmas.Characters.{prefix_ends_between_characters}
-use Rattle.mime.proofs.ValueLemmas.Parts.{kept-essence, read-low_essence}
-use Rattle.mime.proofs.CutLemmas.Cuts.{empty-rejected, accepted_or_rejected, split-piece}
-use Rattle.mime.proofs.ValueLemmas.KeptText.{value_of_low, value_of-lowering, kept_is_read}
-use Rattle.mime.proofs.LowercaseLemmas.{lowered_tree-lowered_tree, IsWellFormed-lowered_tree}
-use Rattle.mime.proofs.GrammarLemmas.Faults.{one_completion, one_longest_prefix}
-use Rattle.mime.proofs.GrammarLemmas.Readings.{one_reading}
-use Rattle.mime.proofs.CompareLemmas.Parts.{text_is-from_lowered}
-use Rattle.mime.proofs.GrammarLemmas.Viability.{empty_is_viable}
-use lib.Utf8.{encode}
+use Rattle.mime.specs.Laws.{IsDecided, OneAnswer, HasAnswer}
 
 -- what a test decides is so or isn't
 decided_by : {P : Type 0} (test : Bool) → Decides test P → P ⊎ ¬ P
