@@ -1,5 +1,5 @@
 use Rattle.std.proofs.Common.{◌≡◌, ◌+◌, ◌*◌, ◌%◌, ◌^◌, take, fold}
-use Rattle.mime_examples.proofs.tables.relations.FedHasher.write.Given as goal
+use Rattle.mime_tests.proofs.relations.FedHasher.write.Given as goal
 
 abbrev pub invariant-loop-byte : goal.invariant-loop-byte
 invariant-loop-byte l =

@@ -1,36 +1,17 @@
-//! What callers do with media types: a module for each task, which docs/RECIPES.md lists. README.md and crates/mime/CALLING.md quote
-//! some of them whole.
-//! The program tries them and the library: it prints what they say of each row of a table, which is standard input.
+//! Tries the library and the recipes: prints what they say of each row of a table, which is standard input.
 #![tactic(auto)]
 
-mod accept;
-mod answer;
-mod bare;
-mod best;
-mod boundary;
-mod callers;
-mod caret;
-mod document;
-mod extensions;
-mod field;
-mod files;
-mod handler;
-mod header;
-mod html;
-mod json;
-mod key;
-mod parameter;
-mod parts;
-mod plain;
-mod range;
-mod reader;
+mod constants;
+mod fields;
+mod items;
 mod recipes;
-mod tables;
-mod unescape;
-mod utf8;
-mod weights;
+mod relations;
+mod rows;
+mod short;
+mod values;
 
-use crate::tables::fields::strings_of;
+use crate::fields::strings_of;
+use crate::rows::show;
 use std::io;
 use std::io::Read;
 
@@ -56,16 +37,16 @@ fn print_rows(rt: &HostRuntime, table: &str) -> io::Result<()> {
 
 fn print_row(rt: &HostRuntime, out: &mut String, line: &str) -> io::Result<()> {
     rt.println(line)?;
-    say(rt, out, line);
+    show_row(rt, out, line);
     rt.print(out.as_str())
 }
 
-/// Writes what is said of a row.
-fn say(rt: &HostRuntime, out: &mut String, line: &str) {
+/// Writes what is said of a row, between the lines `now` and `end`.
+fn show_row(rt: &HostRuntime, out: &mut String, line: &str) {
     let (word, fields) = line.split_once('\t').unwrap_or((line, ""));
     let strings = strings_of(rt.alloc(), fields);
     out.clear();
     let _ = rt.println("now");
-    tables::answer(rt.alloc(), out, word, strings.as_slice());
+    show(rt.alloc(), out, word, strings.as_slice());
     let _ = rt.println("end");
 }

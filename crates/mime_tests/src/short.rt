@@ -52,8 +52,8 @@ static COMPLETIONS: &[(&str, &str, ParseError)] = &[
     ("", "?", ParseError::NoMemory),
 ];
 
-/// Prints a string if the verdict on it doesn't agree with those on the string completed.
-fn compare_verdicts(alloc: Global, out: &mut String, text: &str) {
+/// Writes a string if the verdict on it doesn't agree with those on the string completed.
+fn show_difference(alloc: Global, out: &mut String, text: &str) {
     let fault = fault_of(alloc, text);
     for (completion, end, missing) in COMPLETIONS {
         let is_completed = text.ends_with(*end) && is_completed_by(alloc, text, completion);
@@ -63,14 +63,14 @@ fn compare_verdicts(alloc: Global, out: &mut String, text: &str) {
     }
 }
 
-/// Prints how many short strings there are, after those whose verdicts don't agree.
-pub(crate) fn short_verdicts(alloc: Global, out: &mut String) {
+/// Shows how many short strings there are, after those whose verdicts don't agree.
+pub(crate) fn show_short_verdicts(alloc: Global, out: &mut String) {
     let Ok(mut text) = String::with_capacity(alloc, MOST) else {
         return;
     };
     for number in 0..COUNT {
         spell(&mut text, number);
-        compare_verdicts(alloc, out, text.as_str());
+        show_difference(alloc, out, text.as_str());
     }
     let _ = writeln!(out, "{COUNT} strings");
 }

@@ -1,6 +1,6 @@
 //! The constants, and the classes of bytes.
 
-use crate::tables::values::print_copy;
+use crate::values::show_copy;
 use mime::{
     APPLICATION, APPLICATION_JAVASCRIPT, APPLICATION_JAVASCRIPT_UTF_8, APPLICATION_JSON,
     APPLICATION_MSGPACK, APPLICATION_OCTET_STREAM, APPLICATION_PDF,
@@ -160,15 +160,15 @@ impl CrossesThreads for ParseError {}
 
 impl CrossesThreads for FromStrError {}
 
-/// Prints the copies of the constant media types.
-pub(crate) fn copies(out: &mut String) {
+/// Shows the copies of the constant media types.
+pub(crate) fn show_copies(out: &mut String) {
     for (_, atom) in ATOMS {
-        print_copy(out, &atom.mime());
+        show_copy(out, &atom.mime());
     }
 }
 
-/// Prints each byte, and whether it is in a token, in a quoted string by itself, and there after a backslash or by itself.
-pub(crate) fn bytes(out: &mut String) {
+/// Shows each byte, and whether it is in a token, in a quoted string by itself, and there after a backslash or by itself.
+pub(crate) fn show_bytes(out: &mut String) {
     for byte in 0..=255u8 {
         let classes = (
             is_token(byte),

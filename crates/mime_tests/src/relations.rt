@@ -1,7 +1,7 @@
 //! Values and names against each other.
 
-use crate::tables::constants::constant_name;
-use crate::tables::values::say;
+use crate::constants::constant_name;
+use crate::values::{show_debug, value_or_fault};
 use mime::{Mime, Name, mime_eq_str, name_eq_str};
 use std::alloc::Global;
 use std::cmp::Ordering;
@@ -35,7 +35,7 @@ impl Hasher for Fed {
 }
 
 /// What a value feeds a hasher, as a number.
-fn fed_by<T: Hash>(value: &T) -> u128 {
+fn hash_input<T: Hash>(value: &T) -> u128 {
     let mut fed = Fed(1);
     value.hash(&mut fed);
     fed.0
@@ -45,7 +45,7 @@ fn fed_by<T: Hash>(value: &T) -> u128 {
 fn relation<T: Ord + Hash>(one: &T, other: &T) -> char {
     let order = one.cmp(other);
     let is_equal = *one == *other;
-    if is_equal != order.is_eq() || is_equal != (fed_by(one) == fed_by(other)) {
+    if is_equal != order.is_eq() || is_equal != (hash_input(one) == hash_input(other)) {
         return '?';
     }
     match order {
@@ -55,9 +55,15 @@ fn relation<T: Ord + Hash>(one: &T, other: &T) -> char {
     }
 }
 
-/// Prints how two values compare, and whether the first is equal to the second's string.
-pub(crate) fn compare(out: &mut String, one: &Mime, other: &Mime, text: &str) {
-    say(out, &(relation(one, other), mime_eq_str(one, text)));
+/// Shows how two values compare, and whether the first is equal to the second's string.
+pub(crate) fn show_compared(alloc: Global, out: &mut String, field: &str, text: &str) {
+    let Some(one) = value_or_fault(alloc, out, field) else {
+        return;
+    };
+    let Some(other) = value_or_fault(alloc, out, text) else {
+        return;
+    };
+    show_debug(out, &(relation(&one, &other), mime_eq_str(&one, text)));
 }
 
 /// A name that a field stands for: a constant, or a text, with `~` before it if it ignores case, and with `=` if not.
@@ -71,8 +77,8 @@ fn name_of(field: &str) -> Name<'_> {
     }
 }
 
-/// Prints a name; and then it and another quoted, how they compare, and whether the first is equal to the second's text.
-pub(crate) fn names(out: &mut String, one: &str, other: &str) {
+/// Shows a name; and then it and another quoted, how they compare, and whether the first is equal to the second's text.
+pub(crate) fn show_names(out: &mut String, one: &str, other: &str) {
     let one = name_of(one);
     let other = name_of(other);
     let sign = relation(&one, &other);
@@ -80,11 +86,17 @@ pub(crate) fn names(out: &mut String, one: &str, other: &str) {
     let _ = writeln!(out, "{one}\n{:?}", (one, sign, other, is_text));
 }
 
-/// Prints whether two values are equal, in order and by their hashes, and whether the first equals the second's string.
-pub(crate) fn pair(out: &mut String, one: &Mime, other: &Mime, text: &str) {
-    let is_equal = *one == *other && one.cmp(other).is_eq();
-    let by_hash = fed_by(one) == fed_by(other);
-    let by_text = mime_eq_str(one, text);
+/// Shows whether two values are equal, in order and by their hashes, and whether the first equals the second's string.
+pub(crate) fn show_pair(alloc: Global, out: &mut String, field: &str, text: &str) {
+    let Some(one) = value_or_fault(alloc, out, field) else {
+        return;
+    };
+    let Some(other) = value_or_fault(alloc, out, text) else {
+        return;
+    };
+    let is_equal = one == other && one.cmp(&other).is_eq();
+    let by_hash = hash_input(&one) == hash_input(&other);
+    let by_text = mime_eq_str(&one, text);
     let _ = writeln!(
         out,
         "equal {is_equal}, by hash {by_hash}, by text {by_text}"
@@ -105,17 +117,27 @@ fn is_ordered(alloc: Global, one: &Mime, other: Mime) -> bool {
     set.contains(one)
 }
 
-/// Prints whether a value is found in sets that have another.
-pub(crate) fn sets(alloc: Global, out: &mut String, one: &Mime, other: Mime) {
+/// Shows whether a value is found in sets that have another.
+pub(crate) fn show_sets(alloc: Global, out: &mut String, field: &str, text: &str) {
+    let Some(one) = value_or_fault(alloc, out, field) else {
+        return;
+    };
+    let Some(other) = value_or_fault(alloc, out, text) else {
+        return;
+    };
     if let Ok(clone) = other.clone() {
-        say(
-            out,
-            &(is_hashed(alloc, one, clone), is_ordered(alloc, one, other)),
+        let found = (
+            is_hashed(alloc, &one, clone),
+            is_ordered(alloc, &one, other),
         );
+        show_debug(out, &found);
     }
 }
 
-/// Prints whether a value equals a string.
-pub(crate) fn against(out: &mut String, mime: &Mime, text: &str) {
-    say(out, &mime_eq_str(mime, text));
+/// Shows whether a value equals a string.
+pub(crate) fn show_against(alloc: Global, out: &mut String, field: &str, text: &str) {
+    let Some(mime) = value_or_fault(alloc, out, field) else {
+        return;
+    };
+    show_debug(out, &mime_eq_str(&mime, text));
 }
