@@ -31,7 +31,7 @@ use std::fmt;
 ///
 /// IANA's registry of media types (RFC 6838) says what most of them mean. Those with a `*` are media ranges
 /// (RFC 7231, 5.3.2).
-#[derive(Clone, Copy, PartialEq, Eq, PartialOrd, Ord, Hash)]
+#[derive(Clone, Copy, PartialEq, Eq, Hash)]
 #[allow(non_camel_case_types)]
 pub enum Atom {
     /// `*/*`

@@ -1,7 +1,7 @@
 //! The classes of bytes (RFC 7231, 3.1.1.1; RFC 7230, 3.2.6).
 
 ghost use Rattle.std.specs.Prelude.{◌≡◌};
-ghost use Rattle.mime.specs.Inner.ReaderState.{is_token_except_plus};
+ghost use Rattle.mime.specs.Inner.ByteClasses.{is_token_except_plus};
 ghost use Rattle.mime.specs.Grammar.{is_space};
 ghost use Rattle.mime.specs.Bytes.{is_token_byte, is_quoted_byte, is_quoted_text_byte};
 

@@ -3,7 +3,7 @@
 ghost use Rattle.std.specs.Prelude.{◌≡◌, ◌≢◌, true, IfOk, IfErr, IsOk, IfSome, codes, option_map, length};
 ghost use Rattle.std.specs.List.{AllByRecursion};
 ghost use Rattle.mime.specs.Values.{Reads, IsAccepted, lowered, type_of, subtype_of, suffix_of};
-ghost use Rattle.mime.specs.Refusals.{Explains};
+ghost use Rattle.mime.specs.Faults.{Explains};
 ghost use Rattle.mime.specs.Items.{items_of, name_seen, name_text, IsLowIf, IsLowItem, IsFirstAccepted};
 ghost use Rattle.mime.specs.Inner.Scanning.{HasPositions};
 ghost use Rattle.mime.specs.Inner.KeptText.{IsKept, media_of, AreLowPairs};
@@ -237,10 +237,15 @@ impl Mime {
     /// `TextKey("P")` finds `1` in `a/b;p=1;P=2`, and `CHARSET` finds `utf-8` in
     /// `text/html; Charset="UTF-8"` (RFC 7231, 3.1.1.1). The value is without its quotes. Backslashes stay: that of
     /// `a/b;p="\"x"` is `\"x`. It doesn't allocate.
+    #[inline(always)]
     pub fn get_param<K: ParamKey>(&self, key: K) -> Option<Name<'_>>
         ensures found { IsFirstAccepted (K.Accepts key) (items_of self.now.media.pairs) (option_map name_seen result) }
         ensures low { IfSome result (λ name. IsLowIf name.ignores_case name.text.now) }
     {
+        // Most media types have no parameter.
+        if self.param_count() == 0 {
+            return None;
+        }
         for (name, value) in self.params() {
             if key.accepts(name) {
                 return Some(value);

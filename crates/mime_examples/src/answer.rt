@@ -1,7 +1,7 @@
 //! What to answer for each fault.
 
 ghost use Rattle.std.specs.Prelude.{◌≡◌, ◌≢◌, ◌↔◌, ◌⊎◌, Some, None, IfSome, codes};
-ghost use Rattle.mime.specs.Values.{MediaType, Reads, IsAccepted, IsRefused};
+ghost use Rattle.mime.specs.Values.{MediaType, Reads, IsAccepted, IsRejected};
 
 use mime::{Mime, ParseError};
 use std::alloc::Global;
@@ -30,7 +30,7 @@ pub fn refusal(alloc: Global, content_type: &str) -> Option<u16>
     ensures taken { result ≡ None
         → (value : MediaType) × Reads content_type.now value × (value.essence ≡ codes "application/json") }
     // 400 is answered exactly for what isn't a media type,
-    ensures malformed { (result ≡ Some 400) ↔ IsRefused content_type.now }
+    ensures malformed { (result ≡ Some 400) ↔ IsRejected content_type.now }
     // 415 only for another media type, and 503 only for a media type.
     ensures unsupported { result ≡ Some 415
         → (value : MediaType) × Reads content_type.now value × (value.essence ≢ codes "application/json") }

@@ -3,7 +3,7 @@
 ghost use Rattle.std.specs.Prelude.{◌≡◌, Err, IfOk};
 ghost use Rattle.std.specs.Str.{IsUtf8};
 ghost use Rattle.mime.specs.Values.{Reads};
-ghost use Rattle.mime.specs.Refusals.{Explains};
+ghost use Rattle.mime.specs.Faults.{Explains};
 ghost use Rattle.mime_examples.specs.Field.{tight};
 
 use crate::field::tightened;

@@ -22,6 +22,8 @@ use Rattle.mime.proofs.ValueLemmas.KeptText.{text_of-essence, take-essence, leng
 use Rattle.mime.proofs.LowercaseLemmas.{lowered-append, length-lowered, length-tail_lowered, pairs_of_tail-lowered, list_all-lowered}
 use Rattle.mime.proofs.GrammarLemmas.Readings.{one_reading}
 use Rattle.mime.proofs.CompareLemmas.OtherCase.{case_read, case_read-count, case_read-lone_charset}
+use Rattle.mime.specs.Comparison.{Same}
+use Rattle.mime.specs.Laws.{KeptTextIs}
 
 -- ---- what an accepted text with parameters is read as
 
@@ -226,3 +228,22 @@ text_is-kept_case kept text value reads is none =
     let essence = is ∙ kept-essence value kept reads (ap length none) in
     let low : lowered kept ≡ value.kept = ap lowered essence ∙ read-low_essence kept value reads ∙ sym essence ∙ is in
     (λ at. low ∙ sym (told.0 at), λ at. told.1 (sym at ∙ low))
+
+-- the kept text of a value without parameters has no semicolon
+kept-no_semicolon : (text : List ℕ) (value : MediaType) → Reads text value → value.pairs ≡ [] → HasNoSemicolon value.kept
+kept-no_semicolon text value reads none =
+    let is = kept-essence value text reads (ap length none) in
+    let low = read-low_essence text value reads in
+    (text_is-from_lowered value.kept text value reads none (ap lowered is ∙ low)).bare none
+
+-- a value is equal to the kept text of a value that was read exactly where the two values are equal
+pub kept_text_is : KeptTextIs
+kept_text_is text value reads other = (
+  λ is. subst (Same other) (one_reading value.kept is.read value is.reads (kept_is_read text value reads)) is.same,
+  λ same. record {
+    read = value;
+    reads = kept_is_read text value reads;
+    same = same;
+    bare = λ none. kept-no_semicolon text value reads (sym same.1 ∙ none);
+  },
+)

@@ -1,7 +1,7 @@
 -- The fault of what is left.
 use Rattle.std.proofs.Common.{rules, ◌≡◌, subst}
 use Rattle.std.specs.Str.{IsUtf8}
-use Rattle.mime.specs.Refusals.{Explains}
+use Rattle.mime.specs.Faults.{Explains}
 use Rattle.mime_examples.specs.Field.{tight}
 use Rattle.mime_examples.proofs.header.header_value.Goals as goal
 

@@ -1,0 +1,52 @@
+//! Tries the library and the recipes: prints what they say of each row of a table, which is standard input.
+#![tactic(auto)]
+
+mod constants;
+mod fields;
+mod items;
+mod recipes;
+mod relations;
+mod rows;
+mod short;
+mod values;
+
+use crate::fields::strings_of;
+use crate::rows::show;
+use std::io;
+use std::io::Read;
+
+/// How many bytes a row prints without a request for memory.
+const ROOM: usize = 65_536;
+
+/// Prints each row of standard input, with what is said of it.
+fn main(rt: HostRuntime) -> io::Result<()> {
+    let mut table = String::new(rt.alloc());
+    rt.stdin().read_to_string(&mut table)?;
+    print_rows(&rt, table.as_str())
+}
+
+fn print_rows(rt: &HostRuntime, table: &str) -> io::Result<()> {
+    let mut out = String::with_capacity(rt.alloc(), ROOM)?;
+    for line in table.lines() {
+        if !line.starts_with('#') {
+            print_row(rt, &mut out, line)?;
+        }
+    }
+    Ok(())
+}
+
+fn print_row(rt: &HostRuntime, out: &mut String, line: &str) -> io::Result<()> {
+    rt.println(line)?;
+    show_row(rt, out, line);
+    rt.print(out.as_str())
+}
+
+/// Writes what is said of a row, between the lines `now` and `end`.
+fn show_row(rt: &HostRuntime, out: &mut String, line: &str) {
+    let (word, fields) = line.split_once('\t').unwrap_or((line, ""));
+    let strings = strings_of(rt.alloc(), fields);
+    out.clear();
+    let _ = rt.println("now");
+    show(rt.alloc(), out, word, strings.as_slice());
+    let _ = rt.println("end");
+}

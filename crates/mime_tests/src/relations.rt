@@ -1,0 +1,143 @@
+//! Values and names against each other.
+
+use crate::constants::constant_name;
+use crate::values::{show_debug, value_or_fault};
+use mime::{Mime, Name, mime_eq_str, name_eq_str};
+use std::alloc::Global;
+use std::cmp::Ordering;
+use std::collections::{BTreeSet, HashSet};
+use std::fmt::Write;
+use std::hash::{Hash, Hasher};
+
+/// A hasher that keeps what it is fed, as a number whose digits to the base 257 are a 1 and the bytes, modulo 2 ^ 128. So two runs of
+/// at most 15 bytes are the same run if their numbers are equal. It has no hash of its own.
+#[derive(Clone, Copy)]
+struct Fed(u128);
+
+impl Hasher for Fed {
+    ghost use Rattle.std.specs.Prelude.{◌+◌, ◌*◌, ◌%◌, ◌^◌, fold};
+
+    ghost write = { λ fed bytes. record fed { 0 = fold (λ number byte. ((number * 257) % 2 ^ 128 + byte) % 2 ^ 128) fed.0 bytes } };
+
+    ghost finish = { λ fed. 0 };
+
+    fn finish(&self) -> u64 {
+        0
+    }
+
+    fn write(&mut self, bytes: &[u8]) {
+        let mut number = self.0;
+        for byte in bytes {
+            number = number.wrapping_mul(257).wrapping_add(u128::from(*byte));
+        }
+        self.0 = number;
+    }
+}
+
+/// What a value feeds a hasher, as a number.
+fn hash_input<T: Hash>(value: &T) -> u128 {
+    let mut fed = Fed(1);
+    value.hash(&mut fed);
+    fed.0
+}
+
+/// How two values compare; `?` if order, equality and what they feed a hasher don't agree.
+fn relation<T: Ord + Hash>(one: &T, other: &T) -> char {
+    let order = one.cmp(other);
+    let is_equal = *one == *other;
+    if is_equal != order.is_eq() || is_equal != (hash_input(one) == hash_input(other)) {
+        return '?';
+    }
+    match order {
+        Ordering::Less => '<',
+        Ordering::Equal => '=',
+        Ordering::Greater => '>',
+    }
+}
+
+/// Shows how two values compare, and whether the first is equal to the second's string.
+pub(crate) fn show_compared(alloc: Global, out: &mut String, field: &str, text: &str) {
+    let Some(one) = value_or_fault(alloc, out, field) else {
+        return;
+    };
+    let Some(other) = value_or_fault(alloc, out, text) else {
+        return;
+    };
+    show_debug(out, &(relation(&one, &other), mime_eq_str(&one, text)));
+}
+
+/// A name that a field stands for: a constant, or a text, with `~` before it if it ignores case, and with `=` if not.
+fn name_of(field: &str) -> Name<'_> {
+    match constant_name(field) {
+        Some(name) => name,
+        None => Name {
+            text: field.get(1..).unwrap_or(""),
+            ignores_case: field.starts_with('~'),
+        },
+    }
+}
+
+/// Shows a name; and then it and another quoted, how they compare, and whether the first is equal to the second's text.
+pub(crate) fn show_names(out: &mut String, one: &str, other: &str) {
+    let one = name_of(one);
+    let other = name_of(other);
+    let sign = relation(&one, &other);
+    let is_text = name_eq_str(&one, other.text);
+    let _ = writeln!(out, "{one}\n{:?}", (one, sign, other, is_text));
+}
+
+/// Shows whether two values are equal, in order and by their hashes, and whether the first equals the second's string.
+pub(crate) fn show_pair(alloc: Global, out: &mut String, field: &str, text: &str) {
+    let Some(one) = value_or_fault(alloc, out, field) else {
+        return;
+    };
+    let Some(other) = value_or_fault(alloc, out, text) else {
+        return;
+    };
+    let is_equal = one == other && one.cmp(&other).is_eq();
+    let by_hash = hash_input(&one) == hash_input(&other);
+    let by_text = mime_eq_str(&one, text);
+    let _ = writeln!(
+        out,
+        "equal {is_equal}, by hash {by_hash}, by text {by_text}"
+    );
+}
+
+/// Whether a value is found in a `HashSet` that has another.
+fn is_hashed(alloc: Global, one: &Mime, other: Mime) -> bool {
+    let mut set = HashSet::new(alloc);
+    let _ = set.insert(other);
+    set.contains(one)
+}
+
+/// Whether a value is found in a `BTreeSet` that has another.
+fn is_ordered(alloc: Global, one: &Mime, other: Mime) -> bool {
+    let mut set = BTreeSet::new(alloc);
+    let _ = set.insert(other);
+    set.contains(one)
+}
+
+/// Shows whether a value is found in sets that have another.
+pub(crate) fn show_sets(alloc: Global, out: &mut String, field: &str, text: &str) {
+    let Some(one) = value_or_fault(alloc, out, field) else {
+        return;
+    };
+    let Some(other) = value_or_fault(alloc, out, text) else {
+        return;
+    };
+    if let Ok(clone) = other.clone() {
+        let found = (
+            is_hashed(alloc, &one, clone),
+            is_ordered(alloc, &one, other),
+        );
+        show_debug(out, &found);
+    }
+}
+
+/// Shows whether a value equals a string.
+pub(crate) fn show_against(alloc: Global, out: &mut String, field: &str, text: &str) {
+    let Some(mime) = value_or_fault(alloc, out, field) else {
+        return;
+    };
+    show_debug(out, &mime_eq_str(&mime, text));
+}

@@ -1,0 +1,76 @@
+//! All short strings, by a rule that needs no table.
+
+use mime::{Mime, ParseError};
+use std::alloc::Global;
+use std::fmt::Write;
+
+/// The characters of the short strings.
+static ALPHABET: [char; 8] = ['a', '/', ';', '=', '"', '\\', ' ', ','];
+
+/// How many characters a short string has at most, and how many short strings there are: one, and for each length 8 times as many as
+/// for the one before.
+const MOST: usize = 7;
+
+const COUNT: usize = 2_396_745;
+
+/// Writes the short string of a number: its digits, the lowest first, from 1 to 8.
+fn spell(text: &mut String, number: usize) {
+    text.clear();
+    let mut rest = number;
+    for _ in 0..MOST {
+        if rest == 0 {
+            break;
+        }
+        rest = rest.wrapping_sub(1);
+        let _ = text.push(ALPHABET[rest % 8]);
+        rest /= 8;
+    }
+}
+
+/// The fault of a string, or `None` if it is accepted.
+fn fault_of(alloc: Global, text: &str) -> Option<ParseError> {
+    let error = Mime::from_str(alloc, text).err()?;
+    Some(*error.fault())
+}
+
+/// Whether a string is a media type with a completion after it.
+fn is_completed_by(alloc: Global, text: &str, completion: &str) -> bool {
+    let mut whole = String::new(alloc);
+    let _ = whole.push_str(text);
+    let _ = whole.push_str(completion);
+    fault_of(alloc, whole.as_str()).is_none()
+}
+
+/// What completes a string, what the string then ends with, and the fault that says so. No short string ends with `?`: none has the last
+/// fault.
+static COMPLETIONS: &[(&str, &str, ParseError)] = &[
+    ("x/x", "", ParseError::MissingSlash),
+    ("x", "/", ParseError::MissingSubtype),
+    ("=x", "", ParseError::MissingEqual),
+    ("x", "=", ParseError::MissingValue),
+    ("x\"", "", ParseError::MissingQuote),
+    ("", "?", ParseError::NoMemory),
+];
+
+/// Writes a string if the verdict on it doesn't agree with those on the string completed.
+fn show_difference(alloc: Global, out: &mut String, text: &str) {
+    let fault = fault_of(alloc, text);
+    for (completion, end, missing) in COMPLETIONS {
+        let is_completed = text.ends_with(*end) && is_completed_by(alloc, text, completion);
+        if is_completed != (fault == Some(*missing)) {
+            let _ = writeln!(out, "not so: {text}");
+        }
+    }
+}
+
+/// Shows how many short strings there are, after those whose verdicts don't agree.
+pub(crate) fn show_short_verdicts(alloc: Global, out: &mut String) {
+    let Ok(mut text) = String::with_capacity(alloc, MOST) else {
+        return;
+    };
+    for number in 0..COUNT {
+        spell(&mut text, number);
+        show_difference(alloc, out, text.as_str());
+    }
+    let _ = writeln!(out, "{COUNT} strings");
+}

@@ -1,0 +1,125 @@
+//! What one value tells.
+
+ghost use Rattle.std.specs.Prelude.{◌≡◌, codes};
+
+use crate::constants::{Shown, constant_name, value_of};
+use mime::{FromStrError, Mime, Name, ParamKey, TextKey, name_eq_str};
+use std::alloc::Global;
+use std::fmt::{Debug, Write};
+
+/// Writes what is said of a row, by Debug.
+pub(crate) fn show_debug<T: Debug>(out: &mut String, said: &T) {
+    let _ = writeln!(out, "{said:?}");
+}
+
+/// Writes why a string is rejected.
+pub(crate) fn show_fault(out: &mut String, error: &FromStrError) {
+    // The error ignores a width.
+    let _ = writeln!(out, "bad {error:99}");
+}
+
+/// The value that a field stands for; if there is none, it writes why.
+pub(crate) fn value_or_fault(alloc: Global, out: &mut String, field: &str) -> Option<Mime> {
+    match value_of(alloc, field) {
+        Ok(mime) => Some(mime),
+        Err(error) => {
+            show_fault(out, &error);
+            None
+        }
+    }
+}
+
+/// Writes a media type.
+pub(crate) fn show_media_type(out: &mut String, mime: &Mime) {
+    let _ = writeln!(out, "ok {mime}");
+}
+
+/// Shows what a string is read as.
+pub(crate) fn show_read(alloc: Global, out: &mut String, field: &str) {
+    let Some(mime) = value_or_fault(alloc, out, field) else {
+        return;
+    };
+    show_media_type(out, &mime);
+}
+
+/// Writes the copy of a value.
+pub(crate) fn show_copy(out: &mut String, original: &Mime) {
+    let _ = match original.clone() {
+        Ok(copy) => writeln!(out, "ok {copy}, equal: {}", copy == *original),
+        Err(_) => out.push_str("no memory\n"),
+    };
+}
+
+/// Shows the clone of a value; and the original, since a clone that is refused leaves it as it was.
+pub(crate) fn show_clone(alloc: Global, out: &mut String, field: &str) {
+    let Ok(original) = value_of(alloc, field) else {
+        let _ = out.push_str("not a media type\n");
+        return;
+    };
+    show_copy(out, &original);
+    let _ = writeln!(out, "original {original}");
+}
+
+/// Shows the parts of a media type: its string; type, subtype, suffix and essence; and each parameter; with the size hints before these
+/// and after each.
+pub(crate) fn show_parts(alloc: Global, out: &mut String, field: &str) {
+    let Some(mime) = value_or_fault(alloc, out, field) else {
+        return;
+    };
+    let suffix = mime.suffix().map(Shown);
+    let top = Shown(mime.type_());
+    let sub = Shown(mime.subtype());
+    let mut params = mime.params();
+    let parts = (top, sub, suffix, mime.essence_str());
+    let _ = writeln!(out, "ok {mime}\n{:?}", (parts, params.size_hint()));
+    while let Some((name, value)) = params.next() {
+        show_debug(out, &(Shown(name), Shown(value), params.size_hint()));
+    }
+}
+
+/// Shows the size hint and the number of the parameters, and whether the value's string is as it must be.
+pub(crate) fn show_long(alloc: Global, out: &mut String, field: &str, kept: &str) {
+    let Some(mime) = value_or_fault(alloc, out, field) else {
+        return;
+    };
+    let hint = mime.params().size_hint();
+    let count = mime.params().count();
+    show_debug(out, &(hint, count, mime.as_str() == kept));
+}
+
+/// Shows a value in 12 places and quoted, and its parameters by Debug.
+pub(crate) fn show_printed(alloc: Global, out: &mut String, field: &str) {
+    let Some(mime) = value_or_fault(alloc, out, field) else {
+        return;
+    };
+    let _ = writeln!(out, "{mime:>12}|{mime:?}|{:?}", mime.params());
+}
+
+/// The key that accepts the one name `foo`.
+#[derive(Clone, Copy)]
+struct Foo;
+
+impl ParamKey for Foo {
+    ghost Accepts = { λ key name ignores_case. name ≡ codes "foo" };
+
+    fn accepts(&self, name: Name<'_>) -> bool {
+        name.text == "foo"
+    }
+}
+
+/// Shows the value that a key finds, whether it is equal to another string, what it finds itself as a key, and what the key `Foo` finds.
+pub(crate) fn show_found(alloc: Global, out: &mut String, field: &str, key: &str, other: &str) {
+    let Some(mime) = value_or_fault(alloc, out, field) else {
+        return;
+    };
+    let value = match constant_name(key) {
+        Some(name) => mime.get_param(name),
+        None => mime.get_param(TextKey(key)),
+    };
+    let (is_other, own) = match value {
+        Some(value) => (name_eq_str(&value, other), mime.get_param(value)),
+        None => (false, None),
+    };
+    let foo = mime.get_param(Foo);
+    show_debug(out, &(value.map(Shown), is_other, own, foo));
+}
