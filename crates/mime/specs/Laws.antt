@@ -117,7 +117,7 @@ abbrev pub HaveSameParts : MediaType → MediaType → Type 0
 HaveSameParts first second =
     (type_of first ≡ type_of second) × (subtype_of first ≡ subtype_of second) × (suffix_of first ≡ suffix_of second)
 
--- Two values that were read have the same essence exactly where they have the same type, subtype and suffix.
+-- Two values that were read have the same essence exactly if they have the same type, subtype and suffix.
 abbrev pub SameEssence : Type 0
 SameEssence =
     (one other : List ℕ) (first second : MediaType) → Reads one first → Reads other second
@@ -138,13 +138,13 @@ OneOrder = (first second : MediaType) → OneOf first second
 abbrev pub BeforeIsTransitive : Type 0
 BeforeIsTransitive = (first second third : MediaType) → Before first second → Before second third → Before first third
 
--- A text is equal to a value without parameters exactly where the text, lowercased, is the kept text.
+-- A text is equal to a value without parameters exactly if the text, lowercased, is the kept text.
 abbrev pub BareTextIs : Type 0
 BareTextIs =
     (text : List ℕ) (value : MediaType) → Reads text value → value.pairs ≡ []
     → (other : List ℕ) → TextIs value other ↔ (lowered other ≡ value.kept)
 
--- A value is equal to the kept text of a value that was read exactly where the two values are equal.
+-- A value is equal to the kept text of a value that was read exactly if the two values are equal.
 abbrev pub KeptTextIs : Type 0
 KeptTextIs = (text : List ℕ) (value : MediaType) → Reads text value → (other : MediaType) → TextIs other value.kept ↔ Same other value
 

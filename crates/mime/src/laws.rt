@@ -136,7 +136,7 @@ pub fn plus_is_last()
     ensures { PlusIsLast }
 {}
 
-/// The kept text of a value that was read is read as the value: `a/b;p=X`, which is kept of `A/B;P=X`.
+/// The kept text of a value that was read is read as the value: `a/b;p=X`, the kept text of `A/B;P=X`.
 #[tactic(auto, using(crate::proofs::ValueLemmas::KeptText::kept_is_read))]
 pub fn kept_is_read()
     ensures { KeptIsRead }
@@ -195,7 +195,7 @@ pub fn bare_text_is()
 {}
 
 /// A value is equal to the kept text of a value that was read exactly if the two values are equal: that of
-/// `a/b; p="x"` to the string `a/b;p=x`, which is kept of `A/B;P=x`.
+/// `a/b; p="x"` to the string `a/b;p=x`, the kept text of `A/B;P=x`.
 pub fn kept_text_is()
     ensures { KeptTextIs }
 {}
@@ -318,7 +318,7 @@ pub fn printed_list_comes_back()
     ensures { PrintedListComesBack }
 {}
 
-/// The constant names, in the order of their table, from `*` on. Each has its text, ignores case, and holds no
+/// Returns the constant names, in the order of their table, from `*` on. Each has its text, ignores case, and holds no
 /// ASCII capital.
 pub fn name_constants() -> [Name<'static>; 38]
     ensures texts { map name_text result ≡ name_table }

@@ -94,7 +94,7 @@ pub record TextParts (value : MediaType) (text : List ℕ) : Type 0 where
   pub pairs : value.pairs ≡ map lowered_pair (pairs_within (length value.pairs) (drop (length value.essence + 1) text))
   pub accepted : IsAcceptedAt text (length value.essence) (length value.pairs)
 
--- a text is equal to a value with pairs exactly where it has these parts
+-- a text is equal to a value with pairs exactly if it has these parts
 pub text_is-by_parts : (kept text : List ℕ) (value : MediaType) → Reads kept value → value.pairs ≢ []
     → TextIs value text ↔ TextParts value text
 text_is-by_parts kept text value reads some =
@@ -207,7 +207,7 @@ text_is-from_lowered text kept value reads none is =
       bare = λ _. sym (HasNoSemicolon-lowered text) ∙ ap (list_all _) (is ∙ sym essence) ∙ HasNoSemicolon-lowered (essence_of tree) ∙ bare;
     }
 
--- a text is equal to a value without pairs exactly where, lowercased, it is the kept text
+-- a text is equal to a value without pairs exactly if, lowercased, it is the kept text
 pub text_is-bare : (kept : List ℕ) (value : MediaType) → Reads kept value → value.pairs ≡ []
     → (text : List ℕ) → TextIs value text ↔ (lowered text ≡ value.kept)
 text_is-bare kept value reads none text =
@@ -220,7 +220,7 @@ text_is-bare kept value reads none text =
       λ low. text_is-from_lowered text kept value reads none low,
     )
 
--- a text is a value without parameters exactly where it is the kept text ignoring ASCII case
+-- a text is a value without parameters exactly if it is the kept text ignoring ASCII case
 pub text_is-kept_case : (kept text : List ℕ) (value : MediaType) → Reads kept value → kept ≡ value.kept → value.pairs ≡ []
     → TextIs value text ↔ (lowered kept ≡ lowered text)
 text_is-kept_case kept text value reads is none =
@@ -236,7 +236,7 @@ kept-no_semicolon text value reads none =
     let low = read-low_essence text value reads in
     (text_is-from_lowered value.kept text value reads none (ap lowered is ∙ low)).bare none
 
--- a value is equal to the kept text of a value that was read exactly where the two values are equal
+-- a value is equal to the kept text of a value that was read exactly if the two values are equal
 pub kept_text_is : KeptTextIs
 kept_text_is text value reads other = (
   λ is. subst (Same other) (one_reading value.kept is.read value is.reads (kept_is_read text value reads)) is.same,

@@ -1,4 +1,4 @@
--- A value is equal to a kept text exactly where the two values are equal.
+-- A value is equal to a kept text exactly if the two values are equal.
 use Rattle.mime.proofs.CompareLemmas.Parts.{kept_text_is}
 use Rattle.mime.proofs.laws.kept_text_is.Goals as goal
 
