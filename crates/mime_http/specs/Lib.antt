@@ -1,0 +1,9 @@
+pub mod Boundary
+pub mod Entries
+pub mod Field
+pub mod HeaderLaws
+pub mod HttpMediaType
+pub mod Ranges
+pub mod RangesLaws
+pub mod Unescaped
+pub mod Weight
