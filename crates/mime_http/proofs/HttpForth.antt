@@ -62,7 +62,7 @@ spaces-append n m first second = list_all-append is_space n m ∙ and_from _ _ f
 indent : (n bytes : List ℕ) {pairs : List (List ℕ × List ℕ)} → AreSpaces n → FromSemicolon bytes pairs → FromSemicolon (n ++ bytes) pairs
 indent n bytes {pairs} white from = go from.list from.is from.same from.has
   where
-    kept : Leads ⊥ Semicolon n n Semicolon
+    kept : Leads Semicolon n n Semicolon
     kept = walk_spaces before_name n white
 
     go : (list : Parameters) → AreParameters list → tight_from Semicolon bytes ≡ text_of_list list
@@ -91,8 +91,8 @@ with_parameter : {text : List ℕ} {pair : List ℕ × List ℕ} → IsHttpParam
     → FromPlain bytes pairs → FromClosed bytes pairs → FromSemicolon (text ++ bytes) (pair ∷ pairs)
 with_parameter (with_token name value named valued) bytes {pairs} after closed = go after.tail after.is after.same after.has
   where
-    leads : Leads ⊥ Semicolon (name ++ (61 ∷ value)) (name ++ (61 ∷ value)) Plain
-    leads = both (token of_name name named) (both (one Plain 61 (λ never. refl)) (token of_value value valued))
+    leads : Leads Semicolon (name ++ (61 ∷ value)) (name ++ (61 ∷ value)) Plain
+    leads = both (token of_name name named) (both (one Plain 61) (token of_value value valued))
 
     go : (tail : Tail) → IsTail tail → tight_from Plain bytes ≡ text_of_tail tail → pairs_of_tail (lowered_tail tail) ≡ pairs
         → FromSemicolon ((name ++ (61 ∷ value)) ++ bytes) ((lowered name, lowered_value name value) ∷ pairs)
@@ -111,9 +111,9 @@ with_parameter (with_token name value named valued) bytes {pairs} after closed =
 with_parameter (with_string name content named valued) bytes {pairs} after closed =
     go closed.spaces closed.tail closed.white closed.is closed.same closed.has
   where
-    leads : Leads ⊥ Semicolon (name ++ (61 ∷ 34 ∷ (content ++ (34 ∷ [])))) (name ++ (61 ∷ 34 ∷ (content ++ (34 ∷ [])))) Closed
-    leads = both (token of_name name named) (both (one Plain 61 (λ never. refl)) (both (one Equals 34 (λ never. refl))
-        (both (quoted_content valued) (one Quoted 34 (λ never. refl)))))
+    leads : Leads Semicolon (name ++ (61 ∷ 34 ∷ (content ++ (34 ∷ [])))) (name ++ (61 ∷ 34 ∷ (content ++ (34 ∷ [])))) Closed
+    leads = both (token of_name name named) (both (one Plain 61) (both (one Equals 34)
+        (both (quoted_content valued) (one Quoted 34))))
 
     grouped : (out : List ℕ) → (name ++ (61 ∷ 34 ∷ (content ++ (34 ∷ [])))) ++ out ≡ name ++ (61 ∷ 34 ∷ (content ++ (34 ∷ out)))
     grouped out = append_assoc name _ out ∙ ap (λ x. name ++ (61 ∷ 34 ∷ x)) (append_assoc content (34 ∷ []) out)
@@ -149,7 +149,7 @@ after_semicolon : (b bytes : List ℕ) {pairs : List (List ℕ × List ℕ)} →
 after_semicolon b bytes white from = record {
   plain = record { tail = listed from.list; is = from.is; same = plain_semicolon b bytes white ∙ ap (λ x. 59 ∷ x) from.same; has = from.has };
   closed =
-      let kept : Leads ⊥ Closed b b Closed = walk_spaces after_value b white in
+      let kept : Leads Closed b b Closed = walk_spaces after_value b white in
       record {
         spaces = b;
         tail = listed from.list;
@@ -166,7 +166,7 @@ forth : {text : List ℕ} {pairs : List (List ℕ × List ℕ)} → AreHttpParam
 forth no_more after white = record {
   plain = record { tail = no_list; is = tt; same = plain_end after white; has = refl };
   closed =
-      let kept : Leads ⊥ Closed after after Closed = walk_spaces after_value after white in
+      let kept : Leads Closed after after Closed = walk_spaces after_value after white in
       record {
         spaces = after;
         tail = no_list;
@@ -176,7 +176,7 @@ forth no_more after white = record {
         has = refl;
       };
   list =
-      let kept : Leads ⊥ Semicolon after after Semicolon = walk_spaces before_name after white in
+      let kept : Leads Semicolon after after Semicolon = walk_spaces before_name after white in
       record {
         list = blank after;
         is = white;
@@ -202,8 +202,8 @@ http_is_read value media reads =
     let top = reads.top in
     let sub = reads.sub in
     let strict : SyntaxTree = record { top = top; sub = sub; tail = from.tail } in
-    let leads : Leads ⊥ Start (top ++ (47 ∷ sub)) (top ++ (47 ∷ sub)) Plain =
-    both (token of_type top reads.is_top) (both (one Plain 47 (λ never. refl)) (token goes_on sub reads.is_sub)) in
+    let leads : Leads Start (top ++ (47 ∷ sub)) (top ++ (47 ∷ sub)) Plain =
+    both (token of_type top reads.is_top) (both (one Plain 47) (token goes_on sub reads.is_sub)) in
     let same : value_of strict ≡ record media { kept = (value_of strict).kept } = λ i. record {
       essence = sym reads.essence i;
       slash = sym reads.slash i;

@@ -17,7 +17,7 @@ use Rattle.mime_http.proofs.HttpBack.{After, and_then, to_place, plain_back, any
 
 -- ---- ASCII bytes
 
-abbrev AreAscii : List ℕ → Type 0
+abbrev pub AreAscii : List ℕ → Type 0
 AreAscii [] = ⊤
 AreAscii (b ∷ bytes) = (b < 128) × AreAscii bytes
 
@@ -25,12 +25,12 @@ ascii-append : (xs ys : List ℕ) → AreAscii xs → AreAscii ys → AreAscii (
 ascii-append [] ys first second = second
 ascii-append (b ∷ xs) ys first second = (first.0, ascii-append xs ys first.1 second)
 
-put_ascii : (xs ys : List ℕ) → AreAscii xs → IsUtf8 ys → IsUtf8 (xs ++ ys)
+pub put_ascii : (xs ys : List ℕ) → AreAscii xs → IsUtf8 ys → IsUtf8 (xs ++ ys)
 put_ascii [] ys all is = is
 put_ascii (b ∷ xs) ys all is =
     IsUtf8-append (b ∷ []) (xs ++ ys) (IsUtf8-from_ascii (b ∷ []) (IsAscii-cons b [] all.0 IsAscii-nil)) (put_ascii xs ys all.1 is)
 
-drop_ascii : (xs ys : List ℕ) → AreAscii xs → IsUtf8 (xs ++ ys) → IsUtf8 ys
+pub drop_ascii : (xs ys : List ℕ) → AreAscii xs → IsUtf8 (xs ++ ys) → IsUtf8 ys
 drop_ascii [] ys all is = is
 drop_ascii (b ∷ xs) ys all is =
     let cut = cons_from_encodes is.0 (xs ++ ys) b (is.1.1 ∙ ap (λ e. e ++ (xs ++ ys)) (sym (encode_ascii b all.0))) in

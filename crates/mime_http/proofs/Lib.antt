@@ -1,16 +1,14 @@
 -- What the proofs of several functions cite.
-pub mod Closest
+pub mod Adds
 pub mod Contents
-pub mod Demanded
-pub mod First
+pub mod Cuts
 pub mod Highest
 pub mod HttpBack
 pub mod HttpFacts
 pub mod HttpForth
 pub mod HttpLaws
-pub mod HttpLists
 pub mod HttpText
-pub mod Merits
-pub mod Order
+pub mod Lists
 pub mod Places
 pub mod PlacesAgain
+pub mod Trims

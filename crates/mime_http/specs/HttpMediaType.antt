@@ -1,7 +1,7 @@
 -- A header's value that is one media type, as HTTP writes it (RFC 9110, 8.3.1 and 5.6.6), and what is read of it. Above each definition
 -- stands its rule. OWS, token and the content of a quoted string (5.6.2 to 5.6.4) are the library's `AreSpaces`, `IsToken`, `IsContent`.
 use Rattle.std.specs.Prelude.{◌≡◌, ℕ, ◌+◌, List, [], ◌∷◌, ◌++◌, length, drop}
-use Rattle.mime.specs.Bytes.{slash_byte, semicolon_byte, equals_byte, quote_byte, comma_byte}
+use Rattle.mime.specs.Bytes.{slash_byte, semicolon_byte, equals_byte, quote_byte}
 use Rattle.mime.specs.Grammar.{AreSpaces, IsToken, IsContent}
 use Rattle.mime.specs.Values.{MediaType, lowered, lowered_value, last_plus}
 
@@ -43,13 +43,3 @@ pub record HttpReads (value : List ℕ) (media : MediaType) : Type 0 where
 -- The value is a media type as HTTP writes it.
 abbrev pub IsHttpMediaType : List ℕ → Type 0
 IsHttpMediaType value = (media : MediaType) × HttpReads value media
-
--- [ element ] *( OWS "," OWS [ element ] ), as recipients read a list (RFC 9110, 5.6.1.2), and its elements, each with the white
--- space around it
-pub data IsHttpMediaList : List ℕ → List (List ℕ) → Type 0 where
-  empty : (white : List ℕ) → AreSpaces white → IsHttpMediaList white []
-  element : (value : List ℕ) → IsHttpMediaType value → IsHttpMediaList value (value ∷ [])
-  empty_and : (white list : List ℕ) (elements : List (List ℕ)) → AreSpaces white → IsHttpMediaList list elements
-      → IsHttpMediaList (white ++ (comma_byte ∷ list)) elements
-  element_and : (value list : List ℕ) (elements : List (List ℕ)) → IsHttpMediaType value → IsHttpMediaList list elements
-      → IsHttpMediaList (value ++ (comma_byte ∷ list)) (value ∷ elements)

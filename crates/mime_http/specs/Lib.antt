@@ -1,9 +1,9 @@
 pub mod Boundary
-pub mod Entries
 pub mod Field
 pub mod HeaderLaws
+pub mod HttpList
 pub mod HttpMediaType
-pub mod Ranges
-pub mod RangesLaws
+pub mod ListLaws
 pub mod Unescaped
+pub mod Walk
 pub mod Weight
