@@ -1,10 +1,13 @@
 //! An `Accept` header, read once, and what it says of a server's offers.
 
-ghost use Rattle.std.specs.Prelude.{[], ◌∷◌, map, IfOk, OnOk};
+ghost use Rattle.std.specs.Prelude.{◌≡◌, ◌<◌, [], ◌∷◌, map, length, IfSome, IfOk, OnOk};
+ghost use Rattle.std.specs.Vec.{vec_items};
 ghost use Rattle.mime_http.specs.HttpList.{IsHeader};
+ghost use Rattle.mime_http.specs.Ranges.{given_weight, best_offer, AreInOrder};
 ghost use Rattle.mime_http.specs.Walk.{Adds, AddsLines};
 
 use crate::list::{At, after, ends, read, trim_end, trim_start};
+use crate::offers::{best_of, merit, order_of};
 use mime::Mime;
 use std::alloc::{AllocError, Global};
 use std::marker::Model;
@@ -79,5 +82,47 @@ impl Accept {
             accept.add_line(alloc, line)?;
         }
         Ok(accept)
+    }
+
+    /// The ranges, in the header's order.
+    pub fn ranges(&self) -> &[Mime]
+        ensures { map (λ range. range.media) result.now ≡ self.now.ranges }
+    {
+        &self.ranges
+    }
+
+    /// The entries that are no media ranges, in the header's order, each as it came, without the white space around it.
+    pub fn bad(&self) -> &[Vec<u8>]
+        ensures { map vec_items result.now ≡ self.now.bad }
+    {
+        &self.bad
+    }
+
+    /// The weight of an offer in thousandths: that of the closest range that covers it, of two as close the higher, and 0 without one
+    /// (RFC 9110, 12.5.1).
+    pub fn weight(&self, offer: &Mime) -> u16
+        ensures { result ≡ given_weight self.now.ranges offer.now.media }
+    {
+        merit(&self.ranges, offer).0
+    }
+
+    /// The position of the best of these offers: that of the highest weight, then of the closer range (the parts that it names, then the
+    /// parameters that it demands), then of the range that stands earlier, and then the first offered. It is `None` exactly if each
+    /// weighs 0, so that 406 is the answer (RFC 9110, 15.5.7). It allocates nothing.
+    pub fn best(&self, offers: &[Mime]) -> Option<usize>
+        ensures exact { result ≡ best_offer self.now.ranges (map (λ offer. offer.media) offers.now) }
+        ensures within { IfSome result (λ at. at < length offers.now) }
+    {
+        best_of(&self.ranges, offers)
+    }
+
+    /// The positions of all offers that weigh more than 0, in the order in which `best` takes them.
+    ///
+    /// # Errors
+    /// `AllocError` if memory runs out.
+    pub fn order(&self, alloc: Global, offers: &[Mime]) -> Result<Vec<usize>, AllocError>
+        ensures { IfOk result (λ order. AreInOrder self.now.ranges (map (λ offer. offer.media) offers.now) (vec_items order)) }
+    {
+        order_of(alloc, &self.ranges, offers)
     }
 }

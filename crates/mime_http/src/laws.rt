@@ -2,6 +2,7 @@
 
 ghost use Rattle.mime_http.specs.HeaderLaws.{HttpIsRead, ReadIsHttp, PlainIsHttp, OneHttpReading, TightIsUtf8};
 ghost use Rattle.mime_http.specs.ListLaws.{OneCut, HttpListsAreRead, ReadAreHttpLists, OneHeader, BadIsAlone};
+ghost use Rattle.mime_http.specs.RangesLaws.{ClosestIsClosest};
 
 /// A media type as HTTP writes it is read as it, tightened: `text/html ;; charset=utf-8` as `text/html; charset=utf-8`
 /// (RFC 9110, 8.3.1).
@@ -53,4 +54,9 @@ pub fn one_header()
 /// A bad entry before a header's first changes nothing else.
 pub fn bad_is_alone()
     ensures { BadIsAlone }
+{}
+
+/// The closest range covers the offer, and no other that covers it is closer.
+pub fn closest_is_closest()
+    ensures { ClosestIsClosest }
 {}

@@ -8,8 +8,11 @@ mod field;
 mod header;
 pub mod laws;
 mod list;
+mod offers;
 mod parameter;
 mod quoted;
+mod range;
+mod weights;
 
 pub use crate::accept::Accept;
 pub use crate::boundary::{form_boundary, is_boundary};
@@ -17,3 +20,4 @@ pub use crate::field::tightened;
 pub use crate::header::{HeaderError, header_value};
 pub use crate::parameter::{form_with_boundary, header_text, with_charset};
 pub use crate::quoted::unescape;
+pub use crate::range::{covers, weight_of};
