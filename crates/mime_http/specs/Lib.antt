@@ -1,0 +1,11 @@
+pub mod Boundary
+pub mod Field
+pub mod HeaderLaws
+pub mod HttpList
+pub mod HttpMediaType
+pub mod ListLaws
+pub mod Ranges
+pub mod RangesLaws
+pub mod Unescaped
+pub mod Walk
+pub mod Weight

@@ -1,0 +1,23 @@
+//! Media types in HTTP headers, as HTTP writes them (RFC 9110): a `Content-Type`, an `Accept` header and its weights,
+//! and a form's boundary.
+#![tactic(auto)]
+
+mod accept;
+mod boundary;
+mod field;
+mod header;
+pub mod laws;
+mod list;
+mod offers;
+mod parameter;
+mod quoted;
+mod range;
+mod weights;
+
+pub use crate::accept::Accept;
+pub use crate::boundary::{form_boundary, is_boundary};
+pub use crate::field::tightened;
+pub use crate::header::{HeaderError, header_value};
+pub use crate::parameter::{form_with_boundary, header_text, with_charset};
+pub use crate::quoted::unescape;
+pub use crate::range::{covers, weight_of};
