@@ -7,9 +7,10 @@ use Rattle.std.proofs.lemmas.List.{append-nil}
 use Rattle.mime.specs.Bytes.{is_token_byte}
 use Rattle.mime.specs.Grammar.{is_space, AreSpaces, AreTokenBytes}
 use Rattle.mime.proofs.BytesLemmas.{AreTokenBytes-from_token}
-use Rattle.mime_http.specs.declared.field.Place.{Place}
-use Rattle.mime_http.specs.declared.field.Place.TheVariants.{Start, Plain, Spaced, Equals, Quoted, Closed, Semicolon}
-use Rattle.mime_http.specs.Field.{place_after, added, tight, ends_entry, with_entry, entries_from, entries_in}
+use Rattle.mime_http.specs.declared.tight.Place.{Place}
+use Rattle.mime_http.specs.declared.tight.Place.TheVariants.{Start, Plain, Spaced, Equals, Quoted, Closed, Semicolon}
+use Rattle.mime_http.specs.Tight.{place_after, added, tight}
+use Rattle.mime_http.specs.Field.{ends_entry, with_entry, entries_from, entries_in}
 use Rattle.mime_http.specs.HttpMediaType.{IsHttpParameter, with_token, with_string, AreHttpParameters, no_more, semicolon, semicolon_and, IsHttpMediaType, IsHttpMediaList, empty, element, empty_and, element_and}
 use Rattle.mime_http.proofs.Places.{Leads, no_bytes, one, both, so, token_is_plain, quoted_content, not_empty, no_comma}
 use Rattle.mime_http.proofs.HttpForth.{http_is_read}

@@ -6,10 +6,12 @@ pub mod First
 pub mod Highest
 pub mod HttpBack
 pub mod HttpFacts
+pub mod HttpFaults
 pub mod HttpForth
 pub mod HttpLaws
 pub mod HttpLists
 pub mod HttpText
+pub mod HttpViability
 pub mod Merits
 pub mod Order
 pub mod Places

@@ -9,24 +9,36 @@ use Rattle.mime.specs.Grammar.{Parameter, plain, quoted, Parameters, blank, fina
 use Rattle.mime.specs.Values.{MediaType, Reads, IsAccepted}
 use Rattle.mime.specs.Cut.{CutItem}
 use Rattle.mime.specs.CutLaws.{is_separator, IsHttpList, no_element, separated, one_element, more_elements}
-use Rattle.mime_http.specs.declared.field.Place.{Place}
-use Rattle.mime_http.specs.declared.field.Place.TheVariants.{Start, Plain, Equals, Quoted, Paired, Closed, Semicolon}
-use Rattle.mime_http.specs.Field.{place_after, added, tight_from, tight, ends_entry, with_entry, entries_from, entries_in, piece_of}
+use Rattle.mime_http.specs.declared.tight.Place.{Place}
+use Rattle.mime_http.specs.declared.tight.Place.TheVariants.{Start, Plain, Equals, Quoted, Paired, Closed, Semicolon}
+use Rattle.mime_http.specs.Tight.{place_after, added, tight_from, tight}
+use Rattle.mime_http.specs.Field.{ends_entry, with_entry, entries_from, entries_in, piece_of}
+
+-- the place after bytes
+abbrev pub place_from : Place → List ℕ → Place
+place_from place [] = place
+place_from place (b ∷ bytes) = place_from (place_after place b) bytes
+
+pub place_from-append : (place : Place) (xs ys : List ℕ) → place_from place (xs ++ ys) ≡ place_from (place_from place xs) ys
+place_from-append place [] ys = refl
+place_from-append place (b ∷ xs) ys = place_from-append (place_after place b) xs ys
 
 -- from a place on, bytes are written as these and lead to that place; in a list, too, if no entry ends there
 pub record Leads (Goes : Type 0) (from : Place) (bytes out : List ℕ) (to : Place) : Type 0 where
+  pub there : place_from from bytes ≡ to
   pub tightly : (rest : List ℕ) → tight_from from (bytes ++ rest) ≡ out ++ tight_from to rest
   pub within : Goes → (entry rest : List ℕ) → entries_from from entry (bytes ++ rest) ≡ entries_from to (entry ++ out) rest
 
 pub no_bytes : {Goes : Type 0} (place : Place) → Leads Goes place [] [] place
-no_bytes place = record { tightly = λ rest. refl; within = λ goes entry rest. ap (λ e. entries_from place e rest) (sym (append-nil entry)) }
+no_bytes place = record { there = refl; tightly = λ rest. refl; within = λ goes entry rest. ap (λ e. entries_from place e rest) (sym (append-nil entry)) }
 
 pub one : {Goes : Type 0} (place : Place) (b : ℕ) → (Goes → ends_entry place b ≡ false) → Leads Goes place (b ∷ []) (added place b) (place_after place b)
-one place b goes_on = record { tightly = λ rest. refl; within = λ goes entry rest. rw (goes_on goes) refl }
+one place b goes_on = record { there = refl; tightly = λ rest. refl; within = λ goes entry rest. rw (goes_on goes) refl }
 
 pub both : {Goes : Type 0} {p q r : Place} {xs ys out add : List ℕ} → Leads Goes p xs out q → Leads Goes q ys add r
     → Leads Goes p (xs ++ ys) (out ++ add) r
 both {Goes} {p} {q} {r} {xs} {ys} {out} {add} first second = record {
+  there = place_from-append p xs ys ∙ (ap (λ place. place_from place ys) first.there ∙ second.there);
   tightly = λ rest. ap (tight_from p) (append_assoc xs ys rest) ∙ (first.tightly (ys ++ rest)
       ∙ (ap (λ x. out ++ x) (second.tightly rest) ∙ sym (append_assoc out add (tight_from r rest))));
   within = λ goes entry rest. ap (entries_from p entry) (append_assoc xs ys rest) ∙ (first.within goes entry (ys ++ rest)

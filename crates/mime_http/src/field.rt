@@ -1,119 +1,16 @@
-//! A header's value without what HTTP allows there and the library rejects.
+//! A list in a header, cut into its entries.
 
 ghost use Rattle.std.specs.List.{AllByRecursion};
 ghost use Rattle.std.specs.Prelude.{◌≡◌, ◌++◌, ℕ, List, [], map, OnOk, IfOk};
 ghost use Rattle.std.specs.Vec.{vec_items};
 ghost use Rattle.mime.specs.Cut.{CutItem};
 ghost use Rattle.mime.specs.CutLaws.{IsHttpList};
-ghost use Rattle.mime.specs.Values.{IsAccepted};
 ghost use Rattle.mime_http.specs.HttpMediaType.{IsHttpMediaList};
-ghost use Rattle.mime_http.specs.Field.{after_space, after_outside, place_after, is_left_out, added, tight, ends_entry, with_entry, entries_in, piece_of, IsOneEntry};
+ghost use Rattle.mime_http.specs.Tight.{tight};
+ghost use Rattle.mime_http.specs.Field.{ends_entry, with_entry, entries_in, piece_of, IsOneEntry};
 
+use crate::tight::{Place, next, push_byte};
 use std::alloc::{AllocError, Global};
-
-/// Where in an entry the next byte is.
-#[derive(Clone, Copy)]
-enum Place {
-    /// Before its first byte.
-    Start,
-    /// After a byte that leads to no other place.
-    Plain,
-    /// After white space that was left out.
-    Spaced,
-    /// Right after an equals sign.
-    Equals,
-    /// In a quoted value.
-    Quoted,
-    /// Right after a backslash in a quoted value.
-    Paired,
-    /// After a quoted value, and any white space after it.
-    Closed,
-    /// After a semicolon, and any white space after it.
-    Semicolon,
-}
-
-/// The place after white space outside quotes.
-fn next_after_space(place: Place) -> Place
-    ensures { result ≡ after_space place }
-{
-    match place {
-        Place::Start | Place::Closed | Place::Semicolon => place,
-        _ => Place::Spaced,
-    }
-}
-
-/// The place after a byte outside quotes. A quote opens a quoted value only right after an equals sign.
-fn next_outside(place: Place, byte: u8) -> Place
-    ensures { result ≡ after_outside place byte }
-{
-    match byte {
-        b' ' | b'\t' => next_after_space(place),
-        b';' => Place::Semicolon,
-        b'=' => Place::Equals,
-        b'"' if matches!(place, Place::Equals) => Place::Quoted,
-        _ => Place::Plain,
-    }
-}
-
-/// The place after a byte.
-fn next(place: Place, byte: u8) -> Place
-    ensures { result ≡ place_after place byte }
-{
-    match place {
-        Place::Quoted => match byte {
-            b'\\' => Place::Paired,
-            b'"' => Place::Closed,
-            _ => Place::Quoted,
-        },
-        Place::Paired => Place::Quoted,
-        _ => next_outside(place, byte),
-    }
-}
-
-/// Whether a byte is left out of an entry.
-fn is_dropped(place: Place, byte: u8) -> bool
-    ensures { result ≡ is_left_out place byte }
-{
-    match place {
-        Place::Quoted | Place::Paired | Place::Closed => false,
-        Place::Semicolon => byte == b';',
-        _ => byte == b' ' || byte == b'\t',
-    }
-}
-
-/// Adds a byte to an entry, if it isn't left out.
-fn push_byte(entry: &mut Vec<u8>, place: Place, byte: u8) -> Result<(), AllocError>
-    ensures { OnOk result (vec_items entry.new ≡ vec_items entry.old ++ added place byte) }
-{
-    if is_dropped(place, byte) {
-        return Ok(());
-    }
-    if matches!(place, Place::Spaced) && byte != b';' {
-        entry.push(b' ')?;
-    }
-    entry.push(byte)?;
-    Ok(())
-}
-
-/// The value of a header that has one media type, as the library takes it: without white space around it and before
-/// semicolons, and without empty parameters (RFC 9110, 5.6.6). `text/html ;; q=1` becomes `text/html; q=1`.
-///
-/// # Errors
-/// `AllocError` if memory runs out.
-pub fn tightened(alloc: Global, value: &[u8]) -> Result<Vec<u8>, AllocError>
-    ensures exact { IfOk result (λ entry. vec_items entry ≡ tight value.now) }
-    // What the library reads is left as it is, and what comes out comes out of itself.
-    ensures read { IsAccepted value.now → IfOk result (λ entry. vec_items entry ≡ value.now) }
-    ensures again { IfOk result (λ entry. tight (vec_items entry) ≡ vec_items entry) }
-{
-    let mut entry = Vec::new(alloc);
-    let mut place = Place::Start;
-    for &byte in value {
-        push_byte(&mut entry, place, byte)?;
-        place = next(place, byte);
-    }
-    Ok(entry)
-}
 
 /// Whether a byte ends an entry of a list: a comma outside quotes.
 fn is_end(place: Place, byte: u8) -> bool

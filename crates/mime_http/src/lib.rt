@@ -4,8 +4,8 @@
 
 mod accept;
 mod boundary;
+mod fault;
 mod field;
-mod header;
 pub mod laws;
 mod negotiation;
 mod offers;
@@ -13,14 +13,16 @@ mod parameter;
 mod quoted;
 mod range;
 mod ranking;
+mod tight;
+mod value;
 mod weights;
 
 pub use crate::accept::{Entries, entries_of};
 pub use crate::boundary::{form_boundary, is_boundary};
-pub use crate::field::{entries, tightened};
-pub use crate::header::{HeaderError, header_value};
+pub use crate::field::entries;
 pub use crate::negotiation::{Accept, best};
 pub use crate::parameter::{form_with_boundary, header_text, with_charset};
 pub use crate::quoted::unescape;
 pub use crate::range::{covers, weight_of};
+pub use crate::value::{FieldError, content_type};
 pub use crate::weights::thousandths;
