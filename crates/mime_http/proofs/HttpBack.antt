@@ -8,9 +8,9 @@ use Rattle.mime.specs.Grammar.{Parameter, plain, quoted, Parameters, blank, fina
 use Rattle.mime.specs.Values.{MediaType, lowered, last_plus}
 use Rattle.mime.proofs.BytesLemmas.{AreTokenBytes-from_token}
 use Rattle.mime.proofs.GrammarLemmas.Readings.{one_reading}
-use Rattle.mime_http.specs.declared.field.Place.{Place}
-use Rattle.mime_http.specs.declared.field.Place.TheVariants.{Start, Plain, Spaced, Equals, Quoted, Paired, Closed, Semicolon}
-use Rattle.mime_http.specs.Field.{place_after, added, tight_from, tight}
+use Rattle.mime_http.specs.declared.tight.Place.{Place}
+use Rattle.mime_http.specs.declared.tight.Place.TheVariants.{Start, Plain, Spaced, Equals, Quoted, Paired, Closed, Semicolon}
+use Rattle.mime_http.specs.Tight.{place_after, added, tight_from, tight}
 use Rattle.mime_http.specs.HttpMediaType.{IsHttpParameter, with_token, with_string, AreHttpParameters, no_more, semicolon, semicolon_and, HttpReads}
 use Rattle.mime_http.specs.HeaderLaws.{ReadIsHttp}
 use Rattle.mime_http.proofs.Places.{IsPlainByte, token_is_plain, TakesToken, of_type, goes_on, of_value, of_name, text_is_no_mark}
@@ -173,7 +173,7 @@ start_back (b ∷ bytes) x out e = go (start_back bytes x out) (is_space b) refl
 
 -- ---- tokens, quoted content, and the white space after it
 
-after_plain_byte : {place : Place} → TakesToken place → (b : ℕ) → IsPlainByte b → place_after place b ≡ Plain
+pub after_plain_byte : {place : Place} → TakesToken place → (b : ℕ) → IsPlainByte b → place_after place b ≡ Plain
 after_plain_byte of_type b is = rw (is.space, is.semicolon, is.equals, is.quote) refl
 after_plain_byte goes_on b is = rw (is.space, is.semicolon, is.equals, is.quote) refl
 after_plain_byte of_value b is = rw (is.space, is.semicolon, is.equals, is.quote) refl

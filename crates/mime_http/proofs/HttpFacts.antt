@@ -4,7 +4,7 @@ use Rattle.std.specs.Prelude.{codes}
 use Rattle.mime.specs.Bytes.{is_token_byte, is_quoted_byte}
 use Rattle.mime.proofs.GrammarLemmas.Readings.{stopped-from_walk, refused-from_walk}
 use Rattle.mime.proofs.GrammarLemmas.Content.{IsContent-taken}
-use Rattle.mime_http.specs.Field.{tight}
+use Rattle.mime_http.specs.Tight.{tight}
 use Rattle.mime_http.specs.HttpMediaType.{with_string, no_more, semicolon, semicolon_and, HttpReads, IsHttpMediaType}
 use Rattle.mime_http.proofs.HttpLaws.{accepted_from_http}
 

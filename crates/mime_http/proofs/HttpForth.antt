@@ -5,8 +5,8 @@ use Rattle.std.proofs.lemmas.List.{append-nil, append_assoc}
 use Rattle.std.proofs.lemmas.List.Folds.{list_all-append}
 use Rattle.mime.specs.Grammar.{plain, quoted, Parameters, blank, final, more, Tail, no_list, listed, SyntaxTree, is_space, AreSpaces, text_of_list, text_of_tail, AreParameters, IsTail}
 use Rattle.mime.specs.Values.{value_of, lowered, lowered_value, lowered_list, lowered_tail, pairs_of_list, pairs_of_tail}
-use Rattle.mime_http.specs.declared.field.Place.TheVariants.{Start, Plain, Spaced, Equals, Quoted, Closed, Semicolon}
-use Rattle.mime_http.specs.Field.{tight_from, tight}
+use Rattle.mime_http.specs.declared.tight.Place.TheVariants.{Start, Plain, Spaced, Equals, Quoted, Closed, Semicolon}
+use Rattle.mime_http.specs.Tight.{tight_from, tight}
 use Rattle.mime_http.specs.HttpMediaType.{IsHttpParameter, with_token, with_string, AreHttpParameters, no_more, semicolon, semicolon_and}
 use Rattle.mime_http.specs.HeaderLaws.{HttpIsRead}
 use Rattle.mime_http.proofs.Places.{Leads, one, both, of_type, goes_on, of_value, of_name, token, walk_spaces, after_value, before_name, quoted_content}

@@ -2,7 +2,7 @@
 use Rattle.std.proofs.Common.{ap, subst, sym, ℕ, List}
 use Rattle.mime.specs.Values.{MediaType, Reads, IsAccepted}
 use Rattle.mime.proofs.GrammarLemmas.Readings.{one_reading}
-use Rattle.mime_http.specs.Field.{tight}
+use Rattle.mime_http.specs.Tight.{tight}
 use Rattle.mime_http.specs.HttpMediaType.{IsHttpMediaType}
 use Rattle.mime_http.specs.HeaderLaws.{PlainIsHttp, OneHttpReading}
 use Rattle.mime_http.proofs.Places.{accepted_stays}

@@ -10,9 +10,9 @@ use Rattle.std.proofs.lemmas.Str.Ascii.{IsAscii-cons, IsAscii-nil}
 use Rattle.mime.proofs.ValueLemmas.Utf8.{high_bytes}
 use Rattle.mime.specs.Grammar.{is_space}
 use lib.Utf8.{scalars, scalar, encodes, encode}
-use Rattle.mime_http.specs.declared.field.Place.{Place}
-use Rattle.mime_http.specs.declared.field.Place.TheVariants.{Start, Plain, Spaced, Equals, Quoted, Paired, Closed, Semicolon}
-use Rattle.mime_http.specs.Field.{place_after, is_left_out, brought_back, added, tight_from, tight}
+use Rattle.mime_http.specs.declared.tight.Place.{Place}
+use Rattle.mime_http.specs.declared.tight.Place.TheVariants.{Start, Plain, Spaced, Equals, Quoted, Paired, Closed, Semicolon}
+use Rattle.mime_http.specs.Tight.{place_after, is_left_out, brought_back, added, tight_from, tight}
 use Rattle.mime_http.proofs.HttpBack.{After, and_then, to_place, plain_back, any_back}
 
 -- ---- ASCII bytes

@@ -7,9 +7,11 @@ pub mod Demanded
 pub mod Highest
 pub mod HttpBack
 pub mod HttpFacts
+pub mod HttpFaults
 pub mod HttpForth
 pub mod HttpLaws
 pub mod HttpText
+pub mod HttpViability
 pub mod Lists
 pub mod Order
 pub mod Places

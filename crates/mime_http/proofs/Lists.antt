@@ -7,7 +7,7 @@ use Rattle.std.proofs.lemmas.List.{append-nil, append_assoc}
 use Rattle.mime.specs.Bytes.{is_token_byte}
 use Rattle.mime.specs.Grammar.{is_space, AreSpaces, AreTokenBytes, IsToken, IsContent, no_byte, text_byte, quoted_pair}
 use Rattle.mime.specs.Values.{MediaType, IsAccepted}
-use Rattle.mime_http.specs.Field.{tight}
+use Rattle.mime_http.specs.Tight.{tight}
 use Rattle.mime_http.specs.HttpMediaType.{IsHttpParameter, with_token, with_string, AreHttpParameters, no_more, semicolon, semicolon_and, HttpReads, IsHttpMediaType}
 use Rattle.mime_http.specs.HttpList.{AreBetweenCommas, no_line, line_end, comma, trim_start, trim_end, AreSorted, no_text, blank, a_range, a_bad, IsInString, string_end, string_byte, string_pair, opens_string, IsPiece, piece_end, piece_byte, piece_string, BeginsPiece}
 use Rattle.mime_http.specs.ListLaws.{HttpListsAreRead, ReadAreHttpLists, AreSame, OneHeader, BadIsAlone}

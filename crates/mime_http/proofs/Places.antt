@@ -6,23 +6,34 @@ use Rattle.std.proofs.lemmas.List.{append-nil, append_assoc}
 use Rattle.mime.specs.Bytes.{is_token_byte, is_quoted_byte, is_quoted_text_byte}
 use Rattle.mime.specs.Grammar.{Parameter, plain, quoted, Parameters, blank, final, more, Tail, no_list, listed, SyntaxTree, is_space, AreSpaces, text_of_parameter, text_of_list, text_of_tail, text_of, AreTokenBytes, IsToken, IsContent, no_byte, text_byte, quoted_pair, IsParameter, AreParameters, IsTail, IsWellFormed}
 use Rattle.mime.specs.Values.{MediaType, Reads, IsAccepted}
-use Rattle.mime_http.specs.declared.field.Place.{Place}
-use Rattle.mime_http.specs.declared.field.Place.TheVariants.{Start, Plain, Equals, Quoted, Paired, Closed, Semicolon}
-use Rattle.mime_http.specs.Field.{place_after, added, tight_from, tight}
+use Rattle.mime_http.specs.declared.tight.Place.{Place}
+use Rattle.mime_http.specs.declared.tight.Place.TheVariants.{Start, Plain, Equals, Quoted, Paired, Closed, Semicolon}
+use Rattle.mime_http.specs.Tight.{place_after, added, tight_from, tight}
+
+-- the place after bytes
+abbrev pub place_from : Place → List ℕ → Place
+place_from place [] = place
+place_from place (b ∷ bytes) = place_from (place_after place b) bytes
+
+pub place_from-append : (place : Place) (xs ys : List ℕ) → place_from place (xs ++ ys) ≡ place_from (place_from place xs) ys
+place_from-append place [] ys = refl
+place_from-append place (b ∷ xs) ys = place_from-append (place_after place b) xs ys
 
 -- from a place on, bytes are written as these and lead to that place
 pub record Leads (from : Place) (bytes out : List ℕ) (to : Place) : Type 0 where
+  pub there : place_from from bytes ≡ to
   pub tightly : (rest : List ℕ) → tight_from from (bytes ++ rest) ≡ out ++ tight_from to rest
 
 pub no_bytes : (place : Place) → Leads place [] [] place
-no_bytes place = record { tightly = λ rest. refl }
+no_bytes place = record { there = refl; tightly = λ rest. refl }
 
 pub one : (place : Place) (b : ℕ) → Leads place (b ∷ []) (added place b) (place_after place b)
-one place b = record { tightly = λ rest. refl }
+one place b = record { there = refl; tightly = λ rest. refl }
 
 pub both : {p q r : Place} {xs ys out add : List ℕ} → Leads p xs out q → Leads q ys add r
     → Leads p (xs ++ ys) (out ++ add) r
 both {p} {q} {r} {xs} {ys} {out} {add} first second = record {
+  there = place_from-append p xs ys ∙ (ap (λ place. place_from place ys) first.there ∙ second.there);
   tightly = λ rest. ap (tight_from p) (append_assoc xs ys rest) ∙ (first.tightly (ys ++ rest)
       ∙ (ap (λ x. out ++ x) (second.tightly rest) ∙ sym (append_assoc out add (tight_from r rest))));
 }

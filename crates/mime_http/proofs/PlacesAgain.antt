@@ -2,20 +2,20 @@
 use Rattle.std.proofs.Common.{◌≡◌, ◌==◌, refl, sym, subst, arith, ℕ, Bool, true, false, List, [], ◌∷◌, ◌++◌}
 use Rattle.std.specs.Prelude.{⊤, if◌then◌else◌}
 use Rattle.std.proofs.lemmas.Bool.Decides.{nat_tests}
-use Rattle.std.proofs.lemmas.List.{append_assoc}
+use Rattle.std.proofs.lemmas.List.{append-nil, append_assoc}
 use Rattle.mime.specs.Grammar.{is_space}
-use Rattle.mime_http.specs.declared.field.Place.{Place}
-use Rattle.mime_http.specs.declared.field.Place.TheVariants.{Start, Plain, Spaced, Equals, Quoted, Paired, Closed, Semicolon}
-use Rattle.mime_http.specs.Field.{after_quote, after_outside, after_within, place_after, added, tight_from, tight}
-use Rattle.mime_http.proofs.Places.{Leads, both, one, so, no_bytes, KeepsSpace, after_value, before_name}
+use Rattle.mime_http.specs.declared.tight.Place.{Place}
+use Rattle.mime_http.specs.declared.tight.Place.TheVariants.{Start, Plain, Spaced, Equals, Quoted, Paired, Closed, Semicolon}
+use Rattle.mime_http.specs.Tight.{after_quote, after_outside, after_within, place_after, added, tight_from, tight}
+use Rattle.mime_http.proofs.Places.{place_from, Leads, both, one, so, no_bytes, KeepsSpace, after_value, before_name}
 
 -- a place after which no white space was left out
-abbrev IsSettled : Place → Type 0
+abbrev pub IsSettled : Place → Type 0
 IsSettled Spaced = ⊥
 IsSettled place = ⊤
 
 -- the place at which what was written so far ends: the same, or that before the white space that was left out
-data IsLike : Place → Place → Type 0 where
+pub data IsLike : Place → Place → Type 0 where
   itself : (place : Place) → IsSettled place → IsLike place place
   left_after_plain : IsLike Spaced Plain
   left_after_equals : IsLike Spaced Equals
@@ -31,7 +31,7 @@ after_quote_settled Closed = tt
 after_quote_settled Semicolon = tt
 
 -- a byte other than white space leads to a settled place
-outside_settled : (place : Place) (b : ℕ) → is_space b ≡ false → IsSettled (after_outside place b)
+pub outside_settled : (place : Place) (b : ℕ) → is_space b ≡ false → IsSettled (after_outside place b)
 outside_settled place b is = rw is (go (b == 59) (b == 61) (b == 34))
   where
     go : (s e q : Bool) → IsSettled (if s then Semicolon else if e then Equals else if q then after_quote place else Plain)
@@ -40,7 +40,7 @@ outside_settled place b is = rw is (go (b == 59) (b == 61) (b == 34))
     go false false true = after_quote_settled place
     go false false false = tt
 
-within_settled : (b : ℕ) → IsSettled (after_within b)
+pub within_settled : (b : ℕ) → IsSettled (after_within b)
 within_settled b = go (b == 92) (b == 34)
   where
     go : (s q : Bool) → IsSettled (if s then Paired else if q then Closed else Quoted)
@@ -67,7 +67,7 @@ left_out_again : (place like : Place) (b : ℕ) → added place b ≡ [] → IsL
 left_out_again place like b e is =
     record { to = like; leads = subst (λ a. Leads like a a like) (sym e) (no_bytes like); is_like = is }
 
-kept_settled : {place : Place} → KeepsSpace place → (b : ℕ) → IsSettled (place_after place b)
+pub kept_settled : {place : Place} → KeepsSpace place → (b : ℕ) → IsSettled (place_after place b)
 kept_settled after_value b = go (is_space b) refl
   where
     go : (t : Bool) → is_space b ≡ t → IsSettled (place_after Closed b)
@@ -79,7 +79,7 @@ kept_settled before_name b = go (is_space b) refl
     go true white = rw white tt
     go false other = outside_settled Semicolon b other
 
-no_space : (b : ℕ) → (b == 59) ≡ true → is_space b ≡ false
+pub no_space : (b : ℕ) → (b == 59) ≡ true → is_space b ≡ false
 no_space b is = grind (arith, nat_tests)
 
 settled_again : (place : Place) → IsSettled place → (b : ℕ) → Again place b place
@@ -147,13 +147,19 @@ again (itself place settled) b = settled_again place settled b
 again left_after_plain b = spaced_again leaves_plain b
 again left_after_equals b = spaced_again leaves_equals b
 
-tight_from_again : (bytes : List ℕ) (place like : Place) (out : List ℕ) → Leads Start out out like → IsLike place like
-    → tight (out ++ tight_from place bytes) ≡ out ++ tight_from place bytes
-tight_from_again [] place like out leads is = leads.tightly []
-tight_from_again (b ∷ bytes) place like out leads is =
-    let step : Again place b like = again is b in
-    subst (λ x. tight x ≡ x) (append_assoc out (added place b) (tight_from (place_after place b) bytes))
-    (tight_from_again bytes (place_after place b) step.to (out ++ added place b) (both leads step.leads) step.is_like)
+-- what was written of bytes up to a place ends at a like place, and is written again
+pub record Ends (place : Place) (text : List ℕ) : Type 0 where
+  pub like : Place
+  pub leads : Leads Start text text like
+  pub is_like : IsLike place like
 
-pub tight_again : (value : List ℕ) → tight (tight value) ≡ tight value
-tight_again value = tight_from_again value Start Start [] (no_bytes Start) (itself Start tt)
+ends_from : (bytes : List ℕ) (place like : Place) (out : List ℕ) → Leads Start out out like → IsLike place like
+    → Ends (place_from place bytes) (out ++ tight_from place bytes)
+ends_from [] place like out leads is = subst (Ends place) (sym (append-nil out)) (record { like = like; leads = leads; is_like = is })
+ends_from (b ∷ bytes) place like out leads is =
+    let step : Again place b like = again is b in
+    subst (Ends (place_from (place_after place b) bytes)) (append_assoc out (added place b) (tight_from (place_after place b) bytes))
+    (ends_from bytes (place_after place b) step.to (out ++ added place b) (both leads step.leads) step.is_like)
+
+pub ends : (value : List ℕ) → Ends (place_from Start value) (tight value)
+ends value = ends_from value Start Start [] (no_bytes Start) (itself Start tt)

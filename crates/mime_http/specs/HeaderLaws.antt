@@ -3,7 +3,7 @@ use Rattle.std.specs.Prelude.{ℕ, List, ◌↔◌}
 use Rattle.std.specs.Str.{IsUtf8}
 use Rattle.mime.specs.Values.{MediaType, Reads}
 use Rattle.mime.specs.Comparison.{Same}
-use Rattle.mime_http.specs.Field.{tight}
+use Rattle.mime_http.specs.Tight.{tight}
 use Rattle.mime_http.specs.HttpMediaType.{HttpReads}
 
 -- A media type as HTTP writes it, tightened, is read as it; only the kept text may be another.

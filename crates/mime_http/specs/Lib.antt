@@ -1,11 +1,16 @@
-pub mod Boundary
-pub mod Field
-pub mod HeaderLaws
-pub mod HttpList
+-- the trusted pages, in reading order
 pub mod HttpMediaType
-pub mod ListLaws
-pub mod Ranges
-pub mod RangesLaws
-pub mod Unescaped
-pub mod Walk
+pub mod HttpFaults
+pub mod HttpPrinted
+pub mod HttpList
 pub mod Weight
+pub mod Ranges
+pub mod Boundary
+pub mod Unescaped
+pub mod HeaderLaws
+pub mod ListLaws
+pub mod RangesLaws
+-- private
+pub mod Tight
+pub mod Reached
+pub mod Walk

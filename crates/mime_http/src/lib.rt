@@ -4,20 +4,20 @@
 
 mod accept;
 mod boundary;
-mod field;
-mod header;
+mod fault;
 pub mod laws;
 mod list;
 mod offers;
 mod parameter;
 mod quoted;
 mod range;
+mod tight;
+mod value;
 mod weights;
 
 pub use crate::accept::Accept;
 pub use crate::boundary::{form_boundary, is_boundary};
-pub use crate::field::tightened;
-pub use crate::header::{HeaderError, header_value};
 pub use crate::parameter::{form_with_boundary, header_text, with_charset};
 pub use crate::quoted::unescape;
 pub use crate::range::{covers, weight_of};
+pub use crate::value::{FieldError, content_type};

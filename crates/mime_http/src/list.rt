@@ -7,8 +7,8 @@ ghost use Rattle.mime_http.specs.HttpMediaType.{HttpReads, IsHttpMediaType};
 ghost use Rattle.mime_http.specs.HttpList.{trim_start, trim_end};
 ghost use Rattle.mime_http.specs.Walk.{after_outside, after, ends};
 
-use crate::header::{HeaderError, header_value};
-use mime::{Mime, ParseError};
+use crate::value::{FieldError, content_type};
+use mime::Mime;
 use std::alloc::{AllocError, Global};
 
 /// Where in a line the next byte is.
@@ -91,13 +91,9 @@ pub(crate) fn read(alloc: Global, piece: &[u8]) -> Result<Option<Mime>, AllocErr
     ensures { IfOk result (λ answer. MatchOption answer (¬ (IsUtf8 piece.now × IsHttpMediaType piece.now))
         (λ mime. IsUtf8 piece.now × HttpReads piece.now mime.media)) }
 {
-    match header_value(alloc, piece) {
+    match content_type(alloc, piece) {
         Ok(mime) => Ok(Some(mime)),
-        Err(HeaderError::NoMemory) => Err(AllocError),
-        Err(HeaderError::NotText) => Ok(None),
-        Err(HeaderError::NotRead(error)) => match error.fault() {
-            ParseError::NoMemory => Err(AllocError),
-            _ => Ok(None),
-        },
+        Err(FieldError::NoMemory) => Err(AllocError),
+        Err(_) => Ok(None),
     }
 }

@@ -2,14 +2,13 @@
 
 ghost use Rattle.std.specs.Prelude.{◌≡◌, ◌++◌, OnOk, IfOk};
 ghost use Rattle.std.specs.Vec.{vec_items};
-ghost use Rattle.mime.specs.Values.{IsAccepted};
-ghost use Rattle.mime_http.specs.Field.{after_space, after_outside, place_after, is_left_out, added, tight};
+ghost use Rattle.mime_http.specs.Tight.{after_space, after_outside, place_after, is_left_out, added, tight};
 
 use std::alloc::{AllocError, Global};
 
-/// Where in an entry the next byte is.
+/// Where in a value the next byte is.
 #[derive(Clone, Copy)]
-enum Place {
+pub(crate) enum Place {
     /// Before its first byte.
     Start,
     /// After a byte that leads to no other place.
@@ -52,7 +51,7 @@ fn next_outside(place: Place, byte: u8) -> Place
 }
 
 /// The place after a byte.
-fn next(place: Place, byte: u8) -> Place
+pub(crate) fn next(place: Place, byte: u8) -> Place
     ensures { result ≡ place_after place byte }
 {
     match place {
@@ -66,8 +65,8 @@ fn next(place: Place, byte: u8) -> Place
     }
 }
 
-/// Whether a byte is left out of an entry.
-fn is_dropped(place: Place, byte: u8) -> bool
+/// Whether a byte is left out.
+pub(crate) fn is_dropped(place: Place, byte: u8) -> bool
     ensures { result ≡ is_left_out place byte }
 {
     match place {
@@ -77,36 +76,31 @@ fn is_dropped(place: Place, byte: u8) -> bool
     }
 }
 
-/// Adds a byte to an entry, if it isn't left out.
-fn push_byte(entry: &mut Vec<u8>, place: Place, byte: u8) -> Result<(), AllocError>
-    ensures { OnOk result (vec_items entry.new ≡ vec_items entry.old ++ added place byte) }
+/// Adds a byte to what comes out, if it isn't left out.
+pub(crate) fn push_byte(out: &mut Vec<u8>, place: Place, byte: u8) -> Result<(), AllocError>
+    ensures { OnOk result (vec_items out.new ≡ vec_items out.old ++ added place byte) }
 {
     if is_dropped(place, byte) {
         return Ok(());
     }
     if matches!(place, Place::Spaced) && byte != b';' {
-        entry.push(b' ')?;
+        out.push(b' ')?;
     }
-    entry.push(byte)?;
+    out.push(byte)?;
     Ok(())
 }
 
 /// The value of a header that has one media type, as the library takes it: without white space around it and before
-/// semicolons, and without empty parameters (RFC 9110, 5.6.6). `text/html ;; q=1` becomes `text/html; q=1`.
-///
-/// # Errors
-/// `AllocError` if memory runs out.
-pub fn tightened(alloc: Global, value: &[u8]) -> Result<Vec<u8>, AllocError>
-    ensures exact { IfOk result (λ entry. vec_items entry ≡ tight value.now) }
-    // What the library reads is left as it is, and what comes out comes out of itself.
-    ensures read { IsAccepted value.now → IfOk result (λ entry. vec_items entry ≡ value.now) }
-    ensures again { IfOk result (λ entry. tight (vec_items entry) ≡ vec_items entry) }
+/// semicolons, and without empty parameters (RFC 9110, 5.6.6). `text/html ;; q=1` becomes `text/html; q=1`. It is never longer
+/// than the value, so one allocation has room for it.
+pub(crate) fn tightened(alloc: Global, value: &[u8]) -> Result<Vec<u8>, AllocError>
+    ensures { IfOk result (λ out. vec_items out ≡ tight value.now) }
 {
-    let mut entry = Vec::new(alloc);
+    let mut out = Vec::with_capacity(alloc, value.len())?;
     let mut place = Place::Start;
     for &byte in value {
-        push_byte(&mut entry, place, byte)?;
+        push_byte(&mut out, place, byte)?;
         place = next(place, byte);
     }
-    Ok(entry)
+    Ok(out)
 }

@@ -2,8 +2,8 @@
 use Rattle.std.specs.Prelude.{ℕ, Bool, false, List, [], ◌∷◌, ◌++◌, if◌then◌else◌, ◌==◌}
 use Rattle.mime.specs.Bytes.{semicolon_byte, equals_byte, quote_byte, backslash_byte, space_byte}
 use Rattle.mime.specs.Grammar.{is_space}
-use Rattle.mime_http.specs.declared.field.Place.{Place}
-use Rattle.mime_http.specs.declared.field.Place.TheVariants.{Start, Plain, Spaced, Equals, Quoted, Paired, Closed, Semicolon}
+use Rattle.mime_http.specs.declared.tight.Place.{Place}
+use Rattle.mime_http.specs.declared.tight.Place.TheVariants.{Start, Plain, Spaced, Equals, Quoted, Paired, Closed, Semicolon}
 
 -- outside quotes, the place after white space
 abbrev pub after_space : Place → Place
