@@ -12,5 +12,7 @@ pub mod HttpLists
 pub mod HttpText
 pub mod Merits
 pub mod Order
+pub mod Others
 pub mod Places
 pub mod PlacesAgain
+pub mod Written

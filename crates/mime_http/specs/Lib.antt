@@ -7,3 +7,4 @@ pub mod Ranges
 pub mod RangesLaws
 pub mod Unescaped
 pub mod Weight
+pub mod Written

@@ -2,6 +2,7 @@
 
 ghost use Rattle.mime_http.specs.Entries.{OneList};
 ghost use Rattle.mime_http.specs.HeaderLaws.{HttpIsRead, ReadIsHttp, PlainIsHttp, OneHttpReading, TightIsUtf8};
+ghost use Rattle.mime_http.specs.Written.{WrittenIsMeant};
 ghost use Rattle.mime_http.specs.RangesLaws.{ClosestIsClosest, BestIsFirst, RankedIsInOrder, RankedHasAll};
 
 use mime::laws::one_reading;
@@ -58,4 +59,9 @@ pub fn one_http_reading()
 /// A value is in UTF-8 exactly if it is so tightened.
 pub fn tight_is_utf8()
     ensures { TightIsUtf8 }
+{}
+
+/// What is written for a value means the value; that of a `charset` means it in lowercase, as it is read (RFC 9110, 5.6.4).
+pub fn written_is_meant()
+    ensures { WrittenIsMeant }
 {}

@@ -3,10 +3,10 @@
 #![tactic(auto)]
 
 mod accept;
-mod boundary;
 mod field;
 mod header;
 pub mod laws;
+mod multipart;
 mod negotiation;
 mod offers;
 mod parameter;
@@ -16,11 +16,11 @@ mod ranking;
 mod weights;
 
 pub use crate::accept::{Entries, entries_of};
-pub use crate::boundary::{form_boundary, is_boundary};
 pub use crate::field::{entries, tightened};
 pub use crate::header::{HeaderError, header_value};
+pub use crate::multipart::{boundary, is_boundary};
 pub use crate::negotiation::{Accept, best};
-pub use crate::parameter::{form_with_boundary, header_text, with_charset};
+pub use crate::parameter::{with_boundary, with_charset, with_parameter};
 pub use crate::quoted::unescape;
 pub use crate::range::{covers, weight_of};
 pub use crate::weights::thousandths;
