@@ -14,7 +14,9 @@ pub mod HttpText
 pub mod HttpViability
 pub mod Lists
 pub mod Order
+pub mod Others
 pub mod Places
 pub mod PlacesAgain
 pub mod Ranks
 pub mod Trims
+pub mod Written

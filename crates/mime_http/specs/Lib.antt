@@ -7,6 +7,7 @@ pub mod Weight
 pub mod Ranges
 pub mod Boundary
 pub mod Unescaped
+pub mod Written
 pub mod HeaderLaws
 pub mod ListLaws
 pub mod RangesLaws

@@ -3,6 +3,7 @@
 ghost use Rattle.mime_http.specs.HeaderLaws.{HttpIsRead, ReadIsHttp, PlainIsHttp, OneHttpReading, TightIsUtf8};
 ghost use Rattle.mime_http.specs.ListLaws.{OneCut, HttpListsAreRead, ReadAreHttpLists, OneHeader, BadIsAlone};
 ghost use Rattle.mime_http.specs.RangesLaws.{ClosestIsClosest};
+ghost use Rattle.mime_http.specs.Written.{WrittenIsMeant};
 
 /// A media type as HTTP writes it is read as it, tightened: `text/html ;; charset=utf-8` as `text/html; charset=utf-8`
 /// (RFC 9110, 8.3.1).
@@ -59,4 +60,9 @@ pub fn bad_is_alone()
 /// The closest range covers the offer, and no other that covers it is closer.
 pub fn closest_is_closest()
     ensures { ClosestIsClosest }
+{}
+
+/// What is written for a value means the value; that of a `charset` means it in lowercase, as it is read (RFC 9110, 5.6.4).
+pub fn written_is_meant()
+    ensures { WrittenIsMeant }
 {}

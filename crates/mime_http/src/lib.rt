@@ -3,10 +3,10 @@
 #![tactic(auto)]
 
 mod accept;
-mod boundary;
 mod fault;
 pub mod laws;
 mod list;
+mod multipart;
 mod offers;
 mod parameter;
 mod quoted;
@@ -16,8 +16,8 @@ mod value;
 mod weights;
 
 pub use crate::accept::Accept;
-pub use crate::boundary::{form_boundary, is_boundary};
-pub use crate::parameter::{form_with_boundary, header_text, with_charset};
+pub use crate::multipart::{boundary, is_boundary};
+pub use crate::parameter::{with_boundary, with_charset, with_parameter};
 pub use crate::quoted::unescape;
 pub use crate::range::{covers, weight_of};
 pub use crate::value::{FieldError, content_type};

@@ -9,7 +9,7 @@ use crate::weights::thousandths;
 use mime::{Mime, Name};
 
 /// The first value under a name, which is in lowercase.
-fn first_value<'a>(mime: &'a Mime, name: &str) -> Option<Name<'a>>
+pub(crate) fn first_value<'a>(mime: &'a Mime, name: &str) -> Option<Name<'a>>
     ensures { option_map name_text result ≡ first_value name.now mime.now.media.pairs }
 {
     mime.get_param(Name {
