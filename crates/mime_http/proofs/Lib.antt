@@ -4,6 +4,7 @@ pub mod Closest
 pub mod Contents
 pub mod Cuts
 pub mod Demanded
+pub mod First
 pub mod Highest
 pub mod HttpBack
 pub mod HttpFacts
@@ -11,6 +12,7 @@ pub mod HttpForth
 pub mod HttpLaws
 pub mod HttpText
 pub mod Lists
+pub mod NegotiationFacts
 pub mod Order
 pub mod Places
 pub mod PlacesAgain

@@ -2,7 +2,7 @@
 
 ghost use Rattle.mime_http.specs.HeaderLaws.{HttpIsRead, ReadIsHttp, PlainIsHttp, OneHttpReading, TightIsUtf8};
 ghost use Rattle.mime_http.specs.ListLaws.{OneCut, HttpListsAreRead, ReadAreHttpLists, OneHeader, BadIsAlone};
-ghost use Rattle.mime_http.specs.RangesLaws.{ClosestIsClosest};
+ghost use Rattle.mime_http.specs.RangesLaws.{ClosestIsClosest, BestIsFirst};
 
 /// A media type as HTTP writes it is read as it, tightened: `text/html ;; charset=utf-8` as `text/html; charset=utf-8`
 /// (RFC 9110, 8.3.1).
@@ -59,4 +59,9 @@ pub fn bad_is_alone()
 /// The closest range covers the offer, and no other that covers it is closer.
 pub fn closest_is_closest()
     ensures { ClosestIsClosest }
+{}
+
+/// The best offer is the first in the order of all that weigh more than 0.
+pub fn best_is_first()
+    ensures { BestIsFirst }
 {}
