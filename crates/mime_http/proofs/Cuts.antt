@@ -136,7 +136,7 @@ through (piece_string content piece inside rest) place fits =
 
 -- ---- the only cut
 
-cut_of_piece : {piece : List ℕ} → IsPiece piece → cut piece ≡ piece ∷ []
+pub cut_of_piece : {piece : List ℕ} → IsPiece piece → cut piece ≡ piece ∷ []
 cut_of_piece {piece} is = ap (cut_from Outside []) (sym (append-nil piece)) ∙ (through is Outside tt).passes.same [] []
 
 some_piece : (place : At) (piece bytes : List ℕ) → 0 < length (cut_from place piece bytes)

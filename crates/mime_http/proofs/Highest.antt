@@ -43,7 +43,7 @@ module _ {K : Type 0} {R : K → K → Ordering} (total : IsTotalOrder R) (one :
   stays_by m x Equal is low = one x m is
   stays_by m x Greater is low = absurd (true≢false low)
 
-  same_by : (x y : K) (r : Ordering) → R x y ≡ r → is_eq r ≡ true → x ≡ y
+  pub same_by : (x y : K) (r : Ordering) → R x y ≡ r → is_eq r ≡ true → x ≡ y
   same_by x y Less is level = absurd (true≢false (sym level))
   same_by x y Equal is level = one x y is
   same_by x y Greater is level = absurd (true≢false (sym level))

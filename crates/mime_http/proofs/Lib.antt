@@ -4,6 +4,7 @@ pub mod Closest
 pub mod Contents
 pub mod Cuts
 pub mod Demanded
+pub mod First
 pub mod Highest
 pub mod HttpBack
 pub mod HttpFacts
@@ -13,6 +14,7 @@ pub mod HttpLaws
 pub mod HttpText
 pub mod HttpViability
 pub mod Lists
+pub mod NegotiationFacts
 pub mod Order
 pub mod Others
 pub mod Places

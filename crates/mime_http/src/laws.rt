@@ -2,8 +2,8 @@
 
 ghost use Rattle.mime_http.specs.HeaderLaws.{HttpIsRead, ReadIsHttp, PlainIsHttp, OneHttpReading, TightIsUtf8};
 ghost use Rattle.mime_http.specs.ListLaws.{OneCut, HttpListsAreRead, ReadAreHttpLists, OneHeader, BadIsAlone};
-ghost use Rattle.mime_http.specs.RangesLaws.{ClosestIsClosest};
 ghost use Rattle.mime_http.specs.Written.{WrittenIsMeant};
+ghost use Rattle.mime_http.specs.RangesLaws.{ClosestIsClosest, BestIsFirst};
 
 /// A media type as HTTP writes it is read as it, tightened: `text/html ;; charset=utf-8` as `text/html; charset=utf-8`
 /// (RFC 9110, 8.3.1).
@@ -65,4 +65,9 @@ pub fn closest_is_closest()
 /// What is written for a value means the value; that of a `charset` means it in lowercase, as it is read (RFC 9110, 5.6.4).
 pub fn written_is_meant()
     ensures { WrittenIsMeant }
+{}
+
+/// The best offer is the first in the order of all that weigh more than 0.
+pub fn best_is_first()
+    ensures { BestIsFirst }
 {}
