@@ -10,6 +10,7 @@ pub mod HttpFaults
 pub mod HttpForth
 pub mod HttpLaws
 pub mod HttpLists
+pub mod HttpOneFault
 pub mod HttpText
 pub mod HttpViability
 pub mod Merits

@@ -1,7 +1,7 @@
 //! The laws of the definitions, as calls: a caller that calls one can use its law in its own proof.
 
 ghost use Rattle.mime_http.specs.Entries.{OneList};
-ghost use Rattle.mime_http.specs.HeaderLaws.{HttpIsRead, ReadIsHttp, PlainIsHttp, OneHttpReading, TightIsUtf8};
+ghost use Rattle.mime_http.specs.HeaderLaws.{HttpIsRead, ReadIsHttp, PlainIsHttp, OneHttpReading, OneHttpFault, TightIsUtf8};
 ghost use Rattle.mime_http.specs.RangesLaws.{ClosestIsClosest, BestIsFirst, RankedIsInOrder, RankedHasAll};
 
 use mime::laws::one_reading;
@@ -53,6 +53,12 @@ pub fn plain_is_http()
 /// or before the second.
 pub fn one_http_reading()
     ensures { OneHttpReading }
+{}
+
+/// A value that is no media type has exactly one fault: that of `   a/b c` is its byte at position 7, counted from 0
+/// (RFC 9110, 8.3.1).
+pub fn one_http_fault()
+    ensures { OneHttpFault }
 {}
 
 /// A value is in UTF-8 exactly if it is so tightened.
