@@ -398,6 +398,35 @@ tree_back : (strict : SyntaxTree) → IsWellFormed strict → (value : List ℕ)
     → (media : MediaType) × HttpReads value media
 tree_back strict is value e = go strict.top is.0 e
   where
+    finish : (x : ℕ) (top : List ℕ) → IsToken (x ∷ top) → (spaces : List ℕ) → AreSpaces spaces → (here : List ℕ) → value ≡ spaces ++ (x ∷ here)
+        → (rest : List ℕ) → here ≡ (top ++ (47 ∷ strict.sub)) ++ rest → Rest rest → (media : MediaType) × HttpReads value media
+    finish x top token spaces white here first rest then end = (
+      record {
+        essence = lowered (x ∷ top) ++ (47 ∷ lowered strict.sub);
+        slash = length (x ∷ top);
+        plus = last_plus (length (x ∷ top) + 2) (drop 1 (lowered strict.sub));
+        pairs = end.pairs;
+        kept = [];
+      },
+      record {
+        before = spaces;
+        top = x ∷ top;
+        sub = strict.sub;
+        parameters = end.text;
+        after = end.after;
+        spelled = sym (first ∙ ap (λ r. spaces ++ (x ∷ r)) (then ∙ (append_assoc top (47 ∷ strict.sub) rest
+            ∙ ap (λ r. top ++ (47 ∷ (strict.sub ++ r))) end.split)));
+        white_before = white;
+        is_top = token;
+        is_sub = is.1;
+        are_parameters = end.is;
+        white_after = end.white;
+        essence = refl;
+        slash = refl;
+        plus = refl;
+      },
+    )
+
     go : (top : List ℕ) → IsToken top → tight value ≡ top ++ (47 ∷ (strict.sub ++ text_of_tail strict.tail))
         → (media : MediaType) × HttpReads value media
     go [] token e = absurd token
@@ -410,33 +439,8 @@ tree_back strict is value e = go strict.top is.0 e
         and_then (token_back top here.rest _ parts.1 left)
         (λ rest left. and_then (plain_back rest 47 (strict.sub ++ text_of_tail strict.tail) refl refl left)
         (λ rest left. token_back strict.sub rest (text_of_tail strict.tail) (AreTokenBytes-from_token strict.sub is.1) left)) in
-        let end = (tail_back strict.tail is.2).plain there.rest there.left in
-        let split : here.rest ≡ top ++ (47 ∷ (strict.sub ++ (end.text ++ end.after))) =
-        there.split ∙ (append_assoc top (47 ∷ strict.sub) there.rest ∙ ap (λ r. top ++ (47 ∷ (strict.sub ++ r))) end.split) in (
-          record {
-            essence = lowered (x ∷ top) ++ (47 ∷ lowered strict.sub);
-            slash = length (x ∷ top);
-            plus = last_plus (length (x ∷ top) + 2) (drop 1 (lowered strict.sub));
-            pairs = end.pairs;
-            kept = [];
-          },
-          record {
-            before = here.spaces;
-            top = x ∷ top;
-            sub = strict.sub;
-            parameters = end.text;
-            after = end.after;
-            spelled = sym (here.split ∙ ap (λ r. here.spaces ++ (x ∷ r)) split);
-            white_before = here.white;
-            is_top = token;
-            is_sub = is.1;
-            are_parameters = end.is;
-            white_after = end.white;
-            essence = refl;
-            slash = refl;
-            plus = refl;
-          },
-        )
+        finish x top token here.spaces here.white here.rest here.split there.rest there.split
+        ((tail_back strict.tail is.2).plain there.rest there.left)
 
 -- the kept text may be any
 with_kept : {value : List ℕ} {media : MediaType} → HttpReads value media → (kept : List ℕ) → HttpReads value (record media { kept = kept })

@@ -1,7 +1,7 @@
 -- The fault of a value, from that of what is left of it: how far the value goes before it.
-use Rattle.std.proofs.Common.{◌≡◌, ◌∙◌, ◌==◌, refl, sym, ap, subst, arith, ℕ, zero, suc, ◌+◌, ◌-◌, ◌<◌, ◌≤◌, Bool, true, false, List, [], ◌∷◌, ◌++◌, length, length-append, take, Option, Some, None, ◌⊎◌, inl, inr}
+use Rattle.std.proofs.Common.{◌≡◌, ◌∙◌, ◌==◌, refl, sym, ap, subst, arith, ℕ, suc, ◌+◌, ◌-◌, ◌<◌, ◌≤◌, Bool, true, false, List, [], ◌∷◌, ◌++◌, length, length-append, take, Some, ◌⊎◌, inl, inr}
 use Rattle.std.proofs.Math.Seq.{take-append_seam, take-append-add, take-length}
-use Rattle.std.specs.Prelude.{⊤, nat_lt, slice_get, MatchOption}
+use Rattle.std.specs.Prelude.{⊤, nat_lt, slice_get}
 use Rattle.std.proofs.lemmas.Bool.Decides.{nat_tests}
 use Rattle.std.proofs.lemmas.List.{append-nil, append_assoc}
 use Rattle.std.proofs.lemmas.Option.{slice_get_within}
@@ -11,11 +11,11 @@ use Rattle.mime.proofs.BytesLemmas.{boundary_after, slice_get-prefix}
 use Rattle.mime_http.proofs.HttpText.{tight_utf8}
 use Rattle.mime.specs.Grammar.{is_space}
 use Rattle.mime.specs.Values.{IsAccepted}
-use Rattle.mime.specs.Faults.{IsViable, completion_of, last_byte_of, EndsIn, Lacks, IsFault}
+use Rattle.mime.specs.Faults.{IsViable, EndsIn, Lacks, IsFault}
 use Rattle.mime.specs.declared.scan.fault.ParseError.{ParseError}
 use Rattle.mime.specs.declared.scan.fault.ParseError.TheVariants.{MissingSlash, MissingSubtype, MissingEqual, MissingValue, MissingQuote, InvalidToken}
 use Rattle.mime.proofs.GrammarLemmas.Viability.{viable-from_lacks, prefix_of_viable_is_viable}
-use Rattle.mime.proofs.GrammarLemmas.Faults.{completed_is_refused}
+use Rattle.mime.proofs.GrammarLemmas.Faults.{completed_is_rejected}
 use Rattle.mime_http.specs.declared.tight.Place.{Place}
 use Rattle.mime_http.specs.declared.tight.Place.TheVariants.{Start, Plain, Spaced, Equals, Quoted, Paired, Closed, Semicolon}
 use Rattle.mime_http.specs.declared.fault.Reach.{Reach}
@@ -28,11 +28,11 @@ use Rattle.mime_http.proofs.HttpViability.{tight-append, settled_end, goes_on_as
 
 -- ---- a place is after white space that was left out, or settled
 
-data Kind (place : Place) : Type 0 where
+pub data Kind (place : Place) : Type 0 where
   spaced : place ≡ Spaced → Kind place
   settled : IsSettled place → ((before here : ℕ) → settled_at place before here ≡ here) → Kind place
 
-kind : (place : Place) → Kind place
+pub kind : (place : Place) → Kind place
 kind Spaced = spaced refl
 kind place = settled tt (λ before here. refl)
 
@@ -76,7 +76,7 @@ white_adds_nothing place b e = go (is_space b) refl
     go true white = (white, rw white refl)
     go false other = absurd (subst IsSettled e (outside_settled place b other))
 
-tight_one : (front : List ℕ) (b : ℕ) → tight (front ++ (b ∷ [])) ≡ tight front ++ added (place_from Start front) b
+pub tight_one : (front : List ℕ) (b : ℕ) → tight (front ++ (b ∷ [])) ≡ tight front ++ added (place_from Start front) b
 tight_one front b = tight-append Start front (b ∷ []) ∙ ap (λ x. tight front ++ x) (append-nil _)
 
 more_white : {front : List ℕ} {n : ℕ} → SettledAt front n → (b : ℕ) → place_from Start (front ++ (b ∷ [])) ≡ Spaced
@@ -212,7 +212,7 @@ not_beyond text (InvalidToken pos byte) dead front rest split over viable =
     (subst IsViable (sym (ap (take (length front)) split ∙ take-append_seam front rest)) viable)
 not_beyond text other lacks front rest split over viable = omega (arith, over, ap length split, length-append front rest)
 
-longest_at : (front after : List ℕ) → IsHttpViable front → ((b : ℕ) (bytes : List ℕ) → after ≡ b ∷ bytes → IsHttpViable (front ++ (b ∷ [])) → ⊥)
+pub longest_at : (front after : List ℕ) → IsHttpViable front → ((b : ℕ) (bytes : List ℕ) → after ≡ b ∷ bytes → IsHttpViable (front ++ (b ∷ [])) → ⊥)
     → IsHttpLongestPrefix (front ++ after) (length front)
 longest_at front after viable dies = record {
   within = omega (arith, length-append front after);
@@ -236,7 +236,7 @@ none_ends : {X : Type 0} (front : List ℕ) (b : ℕ) → ◌≡◌ {A = List �
 none_ends [] b e = absurd (cc)
 none_ends (c ∷ front) b e = absurd (cc)
 
-same_last : (xs ys : List ℕ) (a b : ℕ) → xs ++ (a ∷ []) ≡ ys ++ (b ∷ []) → a ≡ b
+pub same_last : (xs ys : List ℕ) (a b : ℕ) → xs ++ (a ∷ []) ≡ ys ++ (b ∷ []) → a ≡ b
 same_last [] [] a b e = cc
 same_last [] (y ∷ ys) a b e =
     let rest : ◌≡◌ {A = List ℕ} [] (ys ++ (b ∷ [])) = cc in none_ends ys b rest
@@ -246,13 +246,13 @@ same_last (x ∷ xs) (y ∷ ys) a b e =
     let rest : xs ++ (a ∷ []) ≡ ys ++ (b ∷ []) = cc in same_last xs ys a b rest
 
 -- the places after a slash and after an equals sign, to which no byte leads that is left out
-abbrev IsBusy : Place → Type 0
+abbrev pub IsBusy : Place → Type 0
 IsBusy Plain = ⊤
 IsBusy Equals = ⊤
 IsBusy Quoted = ⊤
 IsBusy place = ⊥
 
-busy_after : (place : Place) → IsBusy (place_after place 47) × IsBusy (place_after place 61)
+pub busy_after : (place : Place) → IsBusy (place_after place 47) × IsBusy (place_after place 61)
 busy_after Start = (tt, tt)
 busy_after Plain = (tt, tt)
 busy_after Spaced = (tt, tt)
@@ -263,11 +263,11 @@ busy_after Closed = (tt, tt)
 busy_after Semicolon = (tt, tt)
 
 -- a byte that leads there is the last that it adds
-record AddsItself (place : Place) (b : ℕ) : Type 0 where
-  before : List ℕ
-  adds : added place b ≡ before ++ (b ∷ [])
+pub record AddsItself (place : Place) (b : ℕ) : Type 0 where
+  pub before : List ℕ
+  pub adds : added place b ≡ before ++ (b ∷ [])
 
-adds_itself : (place : Place) (b : ℕ) → IsBusy (place_after place b) → AddsItself place b
+pub adds_itself : (place : Place) (b : ℕ) → IsBusy (place_after place b) → AddsItself place b
 adds_itself Quoted b busy = record { before = []; adds = refl }
 adds_itself Paired b busy = record { before = []; adds = refl }
 adds_itself Closed b busy = record { before = []; adds = refl }
@@ -337,7 +337,7 @@ fault_at_end : (value : List ℕ) (fault : ParseError) → IsFault (tight value)
 fault_at_end value (InvalidToken pos byte) dead within or =
     absurd (omega (arith, within, slice_get_within (tight value) pos byte dead.there))
 fault_at_end value other lacks within (inl at_rest) = end_lacks value other at_rest lacks
-fault_at_end value other lacks within (inr is) = absurd (completed_is_refused (tight value) other lacks is)
+fault_at_end value other lacks within (inr is) = absurd (completed_is_rejected (tight value) other lacks is)
 
 record Reached (value : List ℕ) (fault : ParseError) (reach : Reach) (front after : List ℕ) : Type 0 where
   split : value ≡ front ++ after
@@ -396,13 +396,13 @@ fault_here value fault reach is stop or =
 pub fault_before : (value : List ℕ) (fault : ParseError) (reach : Reach) → IsFault (tight value) fault
     → (stop : Stops value (limit_of (tight value) fault) reach)
     → place_from Start stop.front ≡ Spaced → ¬ (IsAccepted (tight stop.front)) → FaultAt value fault reach.settled
-fault_before value fault reach is stop spaced_there refused =
-    go stop.so_far.back_to spaced_there refused (reached value fault reach is stop)
+fault_before value fault reach is stop spaced_there rejected =
+    go stop.so_far.back_to spaced_there rejected (reached value fault reach is stop)
   where
     go : {front after : List ℕ} {n : ℕ} → SettledAt front n → place_from Start front ≡ Spaced → ¬ (IsAccepted (tight front))
         → Reached value fault reach front after → FaultAt value fault n
-    go (here front at_rest) spaced_there refused there = absurd (subst IsSettled spaced_there at_rest)
-    go {after = after} (back front c white at_rest first one all) spaced_there refused there =
+    go (here front at_rest) spaced_there rejected there = absurd (subst IsSettled spaced_there at_rest)
+    go {after = after} (back front c white at_rest first one all) spaced_there rejected there =
         let split : value ≡ front ++ (c ∷ (white ++ after)) = there.split ∙ append_assoc front (c ∷ white) after in
         record {
           prefix = subst (λ v. IsHttpLongestPrefix v (length front)) (sym split)
@@ -410,6 +410,6 @@ fault_before value fault reach is stop spaced_there refused =
               (λ b bytes e viable.
               let same : c ≡ b = cc in
               let begins = subst (λ x. IsHttpViable (front ++ (x ∷ []))) (sym same) viable in
-              refused (subst IsAccepted (one ∙ sym all) (accepted_from_spaced (front ++ (c ∷ [])) first begins))));
+              rejected (subst IsAccepted (one ∙ sym all) (accepted_from_spaced (front ++ (c ∷ [])) first begins))));
           end = λ over. absurd (omega (arith, over, ap length split, length-append front (c ∷ (white ++ after))));
         }

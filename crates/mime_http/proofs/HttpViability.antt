@@ -1,7 +1,7 @@
 -- Which beginnings of a value may still become a media type as HTTP writes it: by the library's walk over what is left of them.
 use Rattle.std.proofs.Common.{◌≡◌, ◌∙◌, ◌==◌, refl, sym, ap, subst, arith, ℕ, Bool, true, false, List, [], ◌∷◌, ◌++◌, Option, Some, None}
 use Rattle.std.specs.Prelude.{⊤, IsTrue, IsFalse, MatchOption, if◌then◌else◌}
-use Rattle.std.specs.Option.{option_and_then, option_map}
+use Rattle.std.specs.Option.{option_map}
 use Rattle.std.proofs.lemmas.Bool.{and_parts, cond_both, false≢true}
 use Rattle.std.proofs.lemmas.Bool.Decides.{nat_tests}
 use Rattle.std.proofs.lemmas.List.{append-nil, append_assoc, append_cancel_left}
@@ -21,7 +21,7 @@ use Rattle.mime_http.specs.declared.tight.Place.TheVariants.{Start, Plain, Space
 use Rattle.mime_http.specs.Tight.{place_after, added, tight_from, tight}
 use Rattle.mime_http.specs.HttpMediaType.{IsHttpMediaType}
 use Rattle.mime_http.specs.HttpFaults.{IsHttpViable}
-use Rattle.mime_http.proofs.Places.{place_from, place_from-append, token_is_plain, of_type, goes_on, of_value, of_name, accepted_stays}
+use Rattle.mime_http.proofs.Places.{place_from, token_is_plain, of_type, goes_on, of_value, of_name, accepted_stays}
 use Rattle.mime_http.proofs.PlacesAgain.{IsSettled, IsLike, itself, left_after_plain, left_after_equals, ends}
 use Rattle.mime_http.proofs.HttpBack.{after_plain_byte, read_is_http}
 use Rattle.mime_http.proofs.HttpLaws.{accepted_from_http}
@@ -223,7 +223,7 @@ goes_on_as front more settled is =
 pub viable_from_tight : (front : List ℕ) → IsSettled (place_from Start front) → IsViable (tight front) → IsHttpViable front
 viable_from_tight front settled viable = (viable.0, goes_on_as front viable.0 settled viable.1)
 
-tight_accepted : (front more : List ℕ) → IsHttpMediaType (front ++ more) → IsAccepted (tight front ++ tight_from (place_from Start front) more)
+pub tight_accepted : (front more : List ℕ) → IsHttpMediaType (front ++ more) → IsAccepted (tight front ++ tight_from (place_from Start front) more)
 tight_accepted front more is = subst IsAccepted (tight-append Start front more) (accepted_from_http (front ++ more) is)
 
 pub tight_from_viable : (front : List ℕ) → IsHttpViable front → IsViable (tight front)

@@ -11,6 +11,7 @@ pub mod HttpFacts
 pub mod HttpFaults
 pub mod HttpForth
 pub mod HttpLaws
+pub mod HttpOneFault
 pub mod HttpText
 pub mod HttpViability
 pub mod Lists

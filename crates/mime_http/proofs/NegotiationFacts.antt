@@ -133,8 +133,8 @@ first_weight = refl
 higher_weight : given_weight (html (q (codes "0.2") ∷ []) ∷ html (q (codes "0.9") ∷ []) ∷ html (q (codes "0.5") ∷ []) ∷ []) (html []) ≡ 900
 higher_weight = refl
 
-refused : given_weight (any [] ∷ html (q (codes "0") ∷ []) ∷ []) (html []) ≡ 0
-refused = refl
+rejected : given_weight (any [] ∷ html (q (codes "0") ∷ []) ∷ []) (html []) ≡ 0
+rejected = refl
 
 -- `application/json, text/plain, */*`, as axios sends it: the closer range decides
 axios : best_offer (json ∷ plain [] ∷ any [] ∷ []) (html [] ∷ json ∷ []) ≡ Some 1

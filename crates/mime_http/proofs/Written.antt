@@ -9,7 +9,7 @@ use Rattle.mime.specs.Grammar.{Parameter, plain, quoted, Parameters, final, more
 use Rattle.mime.specs.HeaderLaws.{IsSafePair, IsSafe}
 use Rattle.mime.specs.Values.{MediaType, Reads, lowered, lowered_value, lowered_parameter, lowered_list, lowered_tree, kept_text, pair_of, pairs_of_list, pairs_of_tail, last_plus}
 use Rattle.mime.specs.Inner.KeptText.{lowered_pair, IsLowPair}
-use Rattle.mime.proofs.LawsLemmas.Callers.{essence_is_read}
+use Rattle.mime.proofs.LawsLemmas.Written.{essence_is_read}
 use Rattle.mime.proofs.LowercaseLemmas.{lowered-lowered, length-lowered, list_all-lowered, IsToken-lowered, lowered_value-either, lowered_value-lowered, pairs_of_tail-lowered}
 use Rattle.mime_http.specs.Written.{is_token_value, text_of_pair, text_of_pairs, others, with_pairs, with_pair}
 

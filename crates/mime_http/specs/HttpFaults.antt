@@ -1,5 +1,5 @@
--- How a header's value is refused: which values may still become a media type as HTTP writes it, up to where a value may, and its
--- one fault. As of a text alone (the library's page `Refusals`), with `IsHttpMediaType` for accepted.
+-- How a header's value is rejected: which values may still become a media type as HTTP writes it, up to where a value may, and its
+-- one fault. As of a text alone (the library's page `Faults`), with `IsHttpMediaType` for accepted.
 use Rattle.std.specs.Prelude.{◌≡◌, ◌≢◌, ℕ, ◌<◌, ◌≤◌, List, ◌++◌, length, take, slice_get, Some, MatchOption, codes, ⊤}
 use Rattle.std.specs.Str.{IsUtf8, IsValidUpTo}
 use Rattle.mime.specs.Faults.{completion_of, last_byte_of, EndsIn}

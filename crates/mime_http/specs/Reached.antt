@@ -1,5 +1,5 @@
 -- How far a value goes before more than some bytes come out of it.
-use Rattle.std.specs.Prelude.{ℕ, zero, ◌+◌, ◌-◌, nat_lt, List, [], ◌∷◌, length, if◌then◌else◌}
+use Rattle.std.specs.Prelude.{ℕ, ◌+◌, ◌-◌, nat_lt, List, [], ◌∷◌, length, if◌then◌else◌}
 use Rattle.mime.specs.declared.scan.fault.ParseError.{ParseError}
 use Rattle.mime.specs.declared.scan.fault.ParseError.TheVariants.{InvalidToken}
 use Rattle.mime_http.specs.declared.fault.Reach.{Reach}

@@ -1,6 +1,6 @@
 //! The laws of the definitions, as calls: a caller that calls one can use its law in its own proof.
 
-ghost use Rattle.mime_http.specs.HeaderLaws.{HttpIsRead, ReadIsHttp, PlainIsHttp, OneHttpReading, TightIsUtf8};
+ghost use Rattle.mime_http.specs.HeaderLaws.{HttpIsRead, ReadIsHttp, PlainIsHttp, OneHttpReading, OneHttpFault, TightIsUtf8};
 ghost use Rattle.mime_http.specs.ListLaws.{OneCut, HttpListsAreRead, ReadAreHttpLists, OneHeader, BadIsAlone};
 ghost use Rattle.mime_http.specs.Written.{WrittenIsMeant};
 ghost use Rattle.mime_http.specs.RangesLaws.{ClosestIsClosest, BestIsFirst};
@@ -25,6 +25,12 @@ pub fn plain_is_http()
 /// or before the second.
 pub fn one_http_reading()
     ensures { OneHttpReading }
+{}
+
+/// A value that is no media type has exactly one fault: that of `   a/b c` is its byte at position 7, counted from 0
+/// (RFC 9110, 8.3.1).
+pub fn one_http_fault()
+    ensures { OneHttpFault }
 {}
 
 /// A value is in UTF-8 exactly if it is so tightened.

@@ -35,10 +35,10 @@ ends value text fault limit reach same bound there is accepted =
 ends_not : (value text : List ℕ) (fault : ParseError) (limit : ℕ) (reach : Reach) → text ≡ tight value → limit ≡ limit_of text fault
     → reach ≡ reach_from (start limit) value → IsFault text fault → reach.place ≡ Spaced → ¬ (IsAccepted (take (limit - reach.left) text))
     → FaultAt value fault reach.settled
-ends_not value text fault limit reach same bound there is spaced refused =
+ends_not value text fault limit reach same bound there is spaced rejected =
     let stop = stopped value text fault limit reach same bound there in
     fault_before value fault reach (subst (λ t. IsFault t fault) same is) stop (stop.so_far.place ∙ spaced)
-    (λ accepted. refused (subst IsAccepted (sym (came_out value text fault limit reach same bound stop)) accepted))
+    (λ accepted. rejected (subst IsAccepted (sym (came_out value text fault limit reach same bound stop)) accepted))
 
 pub returns-in_default : goal.returns-in_default
 returns-in_default c =
