@@ -16,3 +16,4 @@ pub mod Others
 pub mod Places
 pub mod PlacesAgain
 pub mod Written
+pub mod WrittenFacts
