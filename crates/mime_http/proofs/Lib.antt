@@ -23,3 +23,4 @@ pub mod PlacesAgain
 pub mod Ranks
 pub mod Trims
 pub mod Written
+pub mod WrittenFacts

@@ -55,7 +55,11 @@ fn text_with(alloc: Global, mime: &Mime, name: &str, content: &str) -> Result<St
     ensures { IfOk result (λ text. string_bytes text
         ≡ mime.now.media.essence ++ text_of_pairs (others name.now mime.now.media.pairs ++ ((name.now, content.now) ∷ []))) }
 {
-    let mut text = String::from_str(alloc, mime.essence_str())?;
+    // The kept text has the parameters that stay; the rest is the new one with its marks, of which there are five at most.
+    let added = name.len().saturating_add(content.len()).saturating_add(5);
+    let room = mime.as_str().len().saturating_add(added);
+    let mut text = String::with_capacity(alloc, room)?;
+    text.push_str(mime.essence_str())?;
     for (other, value) in mime.params() {
         if name_eq_str(&other, name) {
             continue;

@@ -1,6 +1,6 @@
 //! The content of a quoted string: what it means, and what is written for a value.
 
-ghost use Rattle.std.specs.Prelude.{◌≡◌, ◌++◌, OnOk, IfOk, string_bytes, encode_utf8};
+ghost use Rattle.std.specs.Prelude.{◌≡◌, ◌++◌, OnOk, IfOk, is_ok, if◌then◌else◌, string_bytes, encode_utf8};
 ghost use Rattle.std.specs.Vec.{vec_items};
 ghost use Rattle.mime_http.specs.Unescaped.{unescaped};
 ghost use Rattle.mime_http.specs.Written.{escaped};
@@ -11,9 +11,9 @@ use std::alloc::{AllocError, Global};
 /// 5.6.4). A plain value has no backslash, and means itself.
 ///
 /// # Errors
-/// `AllocError` if memory runs out. Part of what the value means may have been added by then.
+/// `AllocError` if memory runs out; the buffer is then as it was.
 pub fn unescape(value: &str, buffer: &mut Vec<u8>) -> Result<(), AllocError>
-    ensures { OnOk result (vec_items buffer.new ≡ vec_items buffer.old ++ unescaped value.now) }
+    ensures { vec_items buffer.new ≡ (if is_ok result then vec_items buffer.old ++ unescaped value.now else vec_items buffer.old) }
 {
     buffer.reserve(value.len())?;
     let mut is_paired = false;
