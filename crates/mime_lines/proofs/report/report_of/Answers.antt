@@ -2,7 +2,7 @@
 use Rattle.std.proofs.Common.{◌≡◌, length, rules}
 use Rattle.mime_lines.proofs.Rows.{ReportsLines-step, ReportsLines-end}
 use borrow.Author.Tests.{tests}
-use Rattle.mime_lines.proofs.report.report_of_bytes.Goals as goal
+use Rattle.mime_lines.proofs.report.report_of.Goals as goal
 
 pub loop-rest-preserved : goal.loop-rest-preserved
 loop-rest-preserved c =

@@ -27,13 +27,13 @@ pub fn run<S: Source, T: Sink>(
     mode: Mode,
 ) -> Result<(), RunError>
     // A run that succeeds has read bytes to the end of the source, and not more than the limit. It has
-    // written the report on these bytes, nothing else, and passed it on. This also holds of a source or a
+    // written the report on these bytes, nothing else, and flushed it. This also holds of a source or a
     // sink that doesn't say which bytes it has.
     ensures whole { OnOk result ((bytes : List ℕ) × (text : List ℕ)
         × Consumes (S.left source.old) (S.left source.new) bytes × (length bytes ≤ limit)
         × IsReportOf mode bytes text × Appends (T.held sink.old) (T.held sink.new) text) }
     ensures end { OnOk result (IsAtEnd (S.left source.new)) }
-    ensures passed_on { OnOk result (T.IsPassedOn sink.new) }
+    ensures flushed { OnOk result (T.IsFlushed sink.new) }
     // The source fails if the result is `Read`, the sink if it is `Write`, and otherwise neither does.
     ensures read { result ≡ Err RunError.Read → S.has_failed source.new ≡ true }
     ensures write { result ≡ Err RunError.Write → T.has_failed sink.new ≡ true }
@@ -52,10 +52,10 @@ pub fn run<S: Source, T: Sink>(
     write_report(sink, report.as_str().as_bytes())
 }
 
-/// Writes a report to a sink, and passes it on.
+/// Writes a report to a sink, and flushes it.
 fn write_report<T: Sink>(sink: &mut T, report: &[u8]) -> Result<(), RunError>
     ensures bytes { OnOk result (Appends (T.held sink.old) (T.held sink.new) report.now) }
-    ensures passed_on { OnOk result (T.IsPassedOn sink.new) }
+    ensures flushed { OnOk result (T.IsFlushed sink.new) }
     // The sink fails exactly if the result isn't `Ok`, but `Write`.
     ensures unfailed { OnOk result (T.has_failed sink.new ≡ T.has_failed sink.old) }
     ensures failed { OnErr result (T.has_failed sink.new ≡ true) }

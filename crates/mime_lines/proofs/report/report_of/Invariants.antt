@@ -1,7 +1,7 @@
 -- The report on what is left completes the report.
 use Rattle.std.proofs.Common.{◌++◌, ℕ, List, length, string_bytes}
 use Rattle.mime_lines.specs.Report.{ReportsLines, lines_of}
-use Rattle.mime_lines.proofs.report.report_of_bytes.Given as goal
+use Rattle.mime_lines.proofs.report.report_of.Given as goal
 
 abbrev pub invariant-loop-rest : goal.invariant-loop-rest
 invariant-loop-rest l =

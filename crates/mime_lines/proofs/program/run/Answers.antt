@@ -1,6 +1,6 @@
 -- Nothing is written before the report is complete.
 use Rattle.std.proofs.Common.{rules}
-use Rattle.mime_lines.proofs.lines.run.Goals as goal
+use Rattle.mime_lines.proofs.program.run.Goals as goal
 
 pub returns-in_err-input-clause-untouched : goal.returns-in_err-input-clause-untouched
 returns-in_err-input-clause-untouched = search rules
