@@ -1,7 +1,7 @@
 -- The kept text is safe.
 use Rattle.std.proofs.Common.{subst, sym}
 use Rattle.mime.specs.HeaderLaws.{AreHeaderBytes}
-use Rattle.mime_examples.proofs.parameter.header_text.Goals as goal
+use Rattle.mime_examples.proofs.header.header_text.Goals as goal
 
 pub returns-clause-safe : goal.returns-clause-safe
 returns-clause-safe c =
