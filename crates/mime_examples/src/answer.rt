@@ -1,44 +1,40 @@
-//! What to answer for each fault.
+//! What to answer a `Content-Type`.
 
 ghost use Rattle.std.specs.Prelude.{◌≡◌, ◌≢◌, ◌↔◌, ◌⊎◌, Some, None, IfSome, codes};
-ghost use Rattle.mime.specs.Values.{MediaType, Reads, IsAccepted, IsRejected};
+ghost use Rattle.std.specs.Str.{IsUtf8};
+ghost use Rattle.mime.specs.Values.{MediaType};
+ghost use Rattle.mime_http.specs.HttpMediaType.{HttpReads, IsHttpMediaType};
 
-use mime::{Mime, ParseError};
+use mime_http::{FieldError, content_type};
 use std::alloc::Global;
 
-/// The status that answers a `Content-Type` with this fault: 400 if it isn't a media type
+/// The status that answers a `Content-Type` with this error: 400 if it isn't a media type
 /// (RFC 9110, 15.5.1), and 503 if there was no memory to read it (RFC 9110, 15.6.4).
-pub fn status_of(fault: &ParseError) -> u16
-    ensures malformed { (result ≡ 400) ↔ (fault.now ≢ ParseError.NoMemory) }
-    ensures memory { (result ≡ 503) ↔ (fault.now ≡ ParseError.NoMemory) }
+pub fn status_of(error: &FieldError) -> u16
+    ensures malformed { (result ≡ 400) ↔ (error.now ≢ FieldError.NoMemory) }
+    ensures memory { (result ≡ 503) ↔ (error.now ≡ FieldError.NoMemory) }
 {
-    match fault {
-        ParseError::MissingSlash => 400,
-        ParseError::MissingSubtype => 400,
-        ParseError::MissingEqual => 400,
-        ParseError::MissingValue => 400,
-        ParseError::MissingQuote => 400,
-        ParseError::InvalidToken { .. } => 400,
-        ParseError::NoMemory => 503,
+    match error {
+        FieldError::NotUtf8 { .. } | FieldError::Invalid(_) => 400,
+        FieldError::NoMemory => 503,
     }
 }
 
 /// The status that refuses a request by its `Content-Type`, or `None` if that is `application/json`,
 /// whatever its parameters are: 415 for any other media type (RFC 9110, 15.5.16).
-pub fn refusal(alloc: Global, content_type: &str) -> Option<u16>
+pub fn refusal(alloc: Global, value: &[u8]) -> Option<u16>
     // JSON alone is taken.
     ensures taken { result ≡ None
-        → (value : MediaType) × Reads content_type.now value × (value.essence ≡ codes "application/json") }
-    // 400 is answered exactly for what isn't a media type,
-    ensures malformed { (result ≡ Some 400) ↔ IsRejected content_type.now }
-    // 415 only for another media type, and 503 only for a media type.
+        → (media : MediaType) × HttpReads value.now media × (media.essence ≡ codes "application/json") }
+    // 400 is never the answer to a media type,
+    ensures malformed { result ≡ Some 400 → ¬ (IsUtf8 value.now × IsHttpMediaType value.now) }
+    // and 415 is so to another one alone.
     ensures unsupported { result ≡ Some 415
-        → (value : MediaType) × Reads content_type.now value × (value.essence ≢ codes "application/json") }
-    ensures memory { result ≡ Some 503 → IsAccepted content_type.now }
+        → (media : MediaType) × HttpReads value.now media × (media.essence ≢ codes "application/json") }
     // No other status is answered.
     ensures known { IfSome result (λ status. (status ≡ 400) ⊎ ((status ≡ 415) ⊎ (status ≡ 503))) }
 {
-    match Mime::from_str(alloc, content_type) {
+    match content_type(alloc, value) {
         Ok(mime) => {
             if mime.essence_str() == "application/json" {
                 None
@@ -46,6 +42,6 @@ pub fn refusal(alloc: Global, content_type: &str) -> Option<u16>
                 Some(415)
             }
         }
-        Err(error) => Some(status_of(error.fault())),
+        Err(error) => Some(status_of(&error)),
     }
 }

@@ -1,9 +1,10 @@
 //! A struct that holds a media type.
 
 ghost use Rattle.std.specs.Prelude.{◌≡◌, IfOk};
-ghost use Rattle.mime.specs.Values.{Reads};
+ghost use Rattle.mime_http.specs.HttpMediaType.{HttpReads};
 
-use mime::{FromStrError, Mime};
+use mime::Mime;
+use mime_http::{FieldError, content_type};
 use std::alloc::Global;
 
 /// The bytes of a body, and what they are.
@@ -15,17 +16,13 @@ pub struct Document<'a> {
     pub body: &'a [u8],
 }
 
-/// A body with the media type that its `Content-Type` is read as.
+/// A body with the media type that the value of its `Content-Type` is read as.
 ///
 /// # Errors
-/// `FromStrError` has the fault of `content_type`, or says that memory ran out.
-pub fn received<'a>(
-    alloc: Global,
-    content_type: &str,
-    body: &'a [u8],
-) -> Result<Document<'a>, FromStrError>
-    ensures { IfOk result (λ document. Reads content_type.now document.mime.media × (document.body.now ≡ body.now)) }
+/// Those of [`content_type`].
+pub fn received<'a>(alloc: Global, value: &[u8], body: &'a [u8]) -> Result<Document<'a>, FieldError>
+    ensures { IfOk result (λ document. HttpReads value.now document.mime.media × (document.body.now ≡ body.now)) }
 {
-    let mime = Mime::from_str(alloc, content_type)?;
+    let mime = content_type(alloc, value)?;
     Ok(Document { mime, body })
 }

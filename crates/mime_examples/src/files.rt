@@ -8,10 +8,11 @@ use mime::{
 };
 
 /// The media type of files by their extension.
-static TYPES: [(&str, Atom); 8] = [
+static TYPES: [(&str, Atom); 9] = [
     ("css", TEXT_CSS_UTF_8),
     ("htm", TEXT_HTML_UTF_8),
     ("html", TEXT_HTML_UTF_8),
+    ("jpeg", IMAGE_JPEG),
     ("jpg", IMAGE_JPEG),
     ("json", APPLICATION_JSON),
     ("png", IMAGE_PNG),

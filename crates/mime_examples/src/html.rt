@@ -1,37 +1,23 @@
-//! Does an `Accept` header name HTML?
+//! Does a client accept HTML?
 
-ghost use Rattle.std.specs.Prelude.{◌≡◌, List, ℕ, IfOk};
-ghost use Rattle.std.specs.List.{list_any};
-ghost use Rattle.mime.specs.Cut.{CutItem, Cut};
-ghost use Rattle.mime_examples.specs.Html.{is_html_essence, is_html_item};
+ghost use Rattle.std.specs.Prelude.{◌↔◌, ◌<◌, IsTrue, IfOk, map, codes};
+ghost use Rattle.mime.specs.Values.{MediaType, Reads};
+ghost use Rattle.mime_http.specs.HttpList.{Header, IsHeader};
+ghost use Rattle.mime_http.specs.Ranges.{given_weight};
 
-use mime::{Bad, Mime, MimeIter};
+use mime::TEXT_HTML;
+use mime_http::Accept;
 use std::alloc::{AllocError, Global};
 
-/// Whether an entry is `text/html`, `text/*` or `*/*`, whatever its parameters are.
-fn is_html(mime: &Mime) -> bool
-    ensures { result ≡ is_html_essence mime.now.media.essence }
-{
-    let essence = mime.essence_str();
-    essence == "text/html" || essence == "text/*" || essence == "*/*"
-}
-
-/// Whether some entry of an `Accept` header names HTML (RFC 9110, 12.5.1), whatever its weight is.
+/// Whether the lines of an `Accept` header give HTML a weight above 0 (RFC 9110, 12.5.1): `text/*;q=0.3` does, and
+/// `text/html ; q=0, */*` doesn't.
 ///
 /// # Errors
 /// `AllocError` if memory runs out.
-pub fn names_html(alloc: Global, accept: &str) -> Result<bool, AllocError>
-    // It says whether some item of the header's cut does.
-    ensures { IfOk result (λ yes. (items : List CutItem) × (rest : List ℕ)
-        × Cut accept.now items rest × (yes ≡ list_any is_html_item items)) }
+pub fn accepts_html(alloc: Global, lines: &[&[u8]]) -> Result<bool, AllocError>
+    ensures { IfOk result (λ accepts. (header : Header) × IsHeader (map (λ line. line.now) lines.now) header
+        × (html : MediaType) × Reads (codes "text/html") html × (IsTrue accepts ↔ (0 < given_weight header.ranges html))) }
 {
-    let mut found = false;
-    for item in MimeIter::new(alloc, accept) {
-        match item {
-            Ok(mime) => found |= is_html(&mime),
-            Err(Bad::Piece(_)) => {}
-            Err(Bad::NoMemory) => return Err(AllocError),
-        }
-    }
-    Ok(found)
+    let accept = Accept::from_lines(alloc, lines)?;
+    Ok(accept.weight(&TEXT_HTML.mime()) > 0)
 }

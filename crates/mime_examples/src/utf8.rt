@@ -1,11 +1,15 @@
 //! Is the body UTF-8?
 
-use mime::{CHARSET, FromStrError, Mime, name_eq_str};
+use crate::charset::is_utf8;
+use mime_http::{FieldError, content_type};
 use std::alloc::Global;
 
-/// Whether a `Content-Type` says that the body is in UTF-8.
-pub fn says_utf8(alloc: Global, content_type: &str) -> Result<bool, FromStrError> {
-    let mime = Mime::from_str(alloc, content_type)?;
-    let charset = mime.get_param(CHARSET);
-    Ok(charset.is_some_and(|charset| name_eq_str(&charset, "utf-8")))
+/// Whether the value of a `Content-Type` says that the body is in UTF-8 (RFC 9110, 8.3.2): `text/html ; Charset="UTF-8"` does,
+/// `text/html; charset=utf8` doesn't.
+///
+/// # Errors
+/// Those of [`content_type`].
+pub fn says_utf8(alloc: Global, value: &[u8]) -> Result<bool, FieldError> {
+    let mime = content_type(alloc, value)?;
+    Ok(is_utf8(&mime))
 }

@@ -1,8 +1,9 @@
-//! Tries the library and the recipes: prints what they say of each row of a table, which is standard input.
+//! Tries `mime`, `mime_http` and the recipes: prints what they say of each row of a table, which is standard input.
 #![tactic(auto)]
 
 mod constants;
 mod fields;
+mod http;
 mod items;
 mod recipes;
 mod relations;
@@ -11,7 +12,7 @@ mod short;
 mod values;
 
 use crate::fields::strings_of;
-use crate::rows::show;
+use crate::rows::show_row;
 use std::io;
 use std::io::Read;
 
@@ -37,16 +38,16 @@ fn print_rows(rt: &HostRuntime, table: &str) -> io::Result<()> {
 
 fn print_row(rt: &HostRuntime, out: &mut String, line: &str) -> io::Result<()> {
     rt.println(line)?;
-    show_row(rt, out, line);
+    say(rt, out, line);
     rt.print(out.as_str())
 }
 
 /// Writes what is said of a row, between the lines `now` and `end`.
-fn show_row(rt: &HostRuntime, out: &mut String, line: &str) {
+fn say(rt: &HostRuntime, out: &mut String, line: &str) {
     let (word, fields) = line.split_once('\t').unwrap_or((line, ""));
     let strings = strings_of(rt.alloc(), fields);
     out.clear();
     let _ = rt.println("now");
-    show(rt.alloc(), out, word, strings.as_slice());
+    show_row(rt, out, word, strings.as_slice());
     let _ = rt.println("end");
 }

@@ -1,5 +1,6 @@
-//! What the rows of a table are, and what is said of each. A row is a word and fields, divided by tabs. A `VALUE` is a string that is read,
-//! or the identifier of a constant:
+//! What the rows of a table are, and what is said of each. A row is a word and fields, divided by tabs.
+//!
+//! Of the library, with a `VALUE` for a string that is read, or the identifier of a constant:
 //!
 //! - `read VALUE`, `clone VALUE`, `items STRING`: reads the string, clones what was read, or takes the media types in it;
 //! - `again STRING`: takes those that are left after the first, twice, by a clone of the iterator and by itself;
@@ -13,30 +14,44 @@
 //! - `sets VALUE VALUE`: whether the first is found in sets that have the second;
 //! - `against VALUE STRING`: a value against a string;
 //! - `names NAME NAME`: two names, each a constant, or a string with `~` before it if it ignores case, or else with `=`;
-//! - `recipe NAME STRING STRING`: what a recipe answers to its strings;
 //! - `bytes`, `copies`: the classes of bytes, and the copies of the constants;
 //! - `short_verdicts`: all short strings, by a rule that needs no table.
+//!
+//! Of `mime_http` and of the recipes, a function's name and what it is given: an `Accept` header is a field, whose lines end with line
+//! feeds, and offers are the fields after it. Of these rows each answer has a bar after it.
 //!
 //! What a row does is done between the lines `now` and `end`, without other requests for memory than its own: there
 //! tools/refused_requests refuses and counts them. What it says is printed after them; what there is no memory for is left out.
 
 use crate::constants::{show_bytes, show_copies};
 use crate::fields::string_at;
+use crate::http::{
+    lines_of, show, show_accept, show_accept_in_latin_1, show_best, show_boundary,
+    show_content_type_in_latin_1, show_covers, show_order, show_read, show_text, show_unescaped,
+    show_weight_of, show_weights, show_with_boundary, show_with_charset, show_with_parameter,
+};
 use crate::items::{show_again, show_items, show_list};
-use crate::recipes;
+use crate::recipes::{
+    show_accepts_html, show_bare_of, show_caret_line, show_chosen, show_counts, show_described,
+    show_handler_of, show_has_param, show_is_json, show_is_plain, show_quality_of, show_received,
+    show_status, show_type_of_file, show_whether,
+};
 use crate::relations::{show_against, show_compared, show_names, show_pair, show_sets};
 use crate::short::show_short_verdicts;
-use crate::values::{show_clone, show_found, show_long, show_parts, show_printed, show_read};
+use crate::values::{show_clone, show_found, show_long, show_parse, show_parts, show_printed};
 use mime::MimeIter;
-use std::alloc::Global;
+use mime_examples::answer::{refusal, status_of};
+use mime_examples::callers::{has_suffix, reads_alike};
+use mime_examples::reader::reader_of;
+use mime_examples::utf8::says_utf8;
+use mime_http::{FieldError, content_type, is_boundary};
 
 /// Writes what is said of a row.
-pub(crate) fn show(alloc: Global, out: &mut String, word: &str, strings: &[String]) {
-    let (one, two, three) = (
-        string_at(strings, 0),
-        string_at(strings, 1),
-        string_at(strings, 2),
-    );
+pub(crate) fn show_row(rt: &HostRuntime, out: &mut String, word: &str, strings: &[String]) {
+    let alloc = rt.alloc();
+    let one = string_at(strings, 0);
+    let two = string_at(strings, 1);
+    let three = string_at(strings, 2);
     match word {
         "again" => show_again(alloc, out, one),
         "against" => show_against(alloc, out, one, two),
@@ -52,12 +67,48 @@ pub(crate) fn show(alloc: Global, out: &mut String, word: &str, strings: &[Strin
         "pair" => show_pair(alloc, out, one, two),
         "parts" => show_parts(alloc, out, one),
         "print" => show_printed(alloc, out, one),
-        "read" => show_read(alloc, out, one),
-        "recipe" => recipes::show(alloc, out, one, two, three),
+        "read" => show_parse(alloc, out, one),
         "sets" => show_sets(alloc, out, one, two),
         "short_verdicts" => show_short_verdicts(alloc, out),
-        _ => {
-            let _ = out.push_str("no such row\n");
-        }
+
+        "accept" => show_accept(alloc, out, &lines_of(alloc, one)),
+        "accept in Latin-1" => show_accept_in_latin_1(alloc, out, one),
+        "best" => show_best(alloc, out, strings),
+        "boundary" => show_boundary(alloc, out, one),
+        "content_type" => show_read(out, content_type(alloc, one.as_bytes())),
+        "content_type in Latin-1" => show_content_type_in_latin_1(alloc, out, one),
+        "covers" => show_covers(alloc, out, one, two),
+        "is_boundary" => show(out, &is_boundary(one.as_bytes())),
+        "order" => show_order(alloc, out, strings),
+        "unescape" => show_unescaped(alloc, out, one, two),
+        "weight" => show_weights(alloc, out, strings),
+        "weight_of" => show_weight_of(alloc, out, one),
+        "with_boundary" => show_with_boundary(alloc, out, one, two),
+        "with_charset" => show_with_charset(alloc, out, one, two),
+        "with_parameter" => show_with_parameter(alloc, out, one, two, three),
+
+        "accepts_html" => show_accepts_html(alloc, out, one),
+        "bare_of" => show_bare_of(alloc, out, one),
+        "caret_line" => show_caret_line(alloc, out, one),
+        "chosen" => show_chosen(alloc, out, strings),
+        "count" => show_counts(rt, out, strings),
+        "described" => show_described(alloc, out, one),
+        "handler_of" => show_handler_of(alloc, out, one),
+        "has_param" => show_has_param(alloc, out, one, two),
+        "has_suffix" => show_whether(out, has_suffix(alloc, one)),
+        "is_json" => show_is_json(alloc, out, one),
+        "is_plain" => show_is_plain(alloc, out, one),
+        "quality_of" => show_quality_of(alloc, out, one),
+        "reader_of" => show_text(out, Some(reader_of(one))),
+        "reads_alike" => show_whether(out, reads_alike(alloc, one)),
+        "received" => show_received(alloc, out, one, two),
+        "refusal" => show_status(out, refusal(alloc, one.as_bytes())),
+        "says_utf8" => show_whether(out, says_utf8(alloc, one.as_bytes())),
+        "status_of no memory" => show(out, &status_of(&FieldError::NoMemory)),
+        "type_of_file" => show_type_of_file(out, one),
+        _ => show_text(out, None),
+    }
+    if !out.ends_with('\n') {
+        let _ = out.push('\n');
     }
 }

@@ -29,13 +29,24 @@ pub(crate) fn value_or_fault(alloc: Global, out: &mut String, field: &str) -> Op
     }
 }
 
+/// The media type that a string is read as; if there is none, it writes so.
+pub(crate) fn read_or_not(alloc: Global, out: &mut String, text: &str) -> Option<Mime> {
+    match Mime::from_str(alloc, text) {
+        Ok(mime) => Some(mime),
+        Err(_) => {
+            let _ = out.push_str("not read|");
+            None
+        }
+    }
+}
+
 /// Writes a media type.
 pub(crate) fn show_media_type(out: &mut String, mime: &Mime) {
     let _ = writeln!(out, "ok {mime}");
 }
 
 /// Shows what a string is read as.
-pub(crate) fn show_read(alloc: Global, out: &mut String, field: &str) {
+pub(crate) fn show_parse(alloc: Global, out: &mut String, field: &str) {
     let Some(mime) = value_or_fault(alloc, out, field) else {
         return;
     };

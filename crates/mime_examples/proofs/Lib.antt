@@ -1,4 +1,0 @@
--- What the proofs of several functions cite.
-pub mod Contents
-pub mod Places
-pub mod PlacesAgain

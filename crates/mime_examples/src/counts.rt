@@ -1,0 +1,35 @@
+//! A map keyed by media type.
+
+ghost use Rattle.std.specs.Prelude.{◌+◌, Some, OnOk, min, unwrap_or};
+ghost use Rattle.std.specs.HashMap.{get, Updates};
+
+use mime::Mime;
+use std::alloc::AllocError;
+use std::collections::HashMap;
+use std::hash::RandomState;
+use std::io;
+
+/// How often each media type came. Its keys come from requests, so it is seeded at random: nobody can choose them so that they collide.
+pub type Counts = HashMap<Mime, u64, RandomState>;
+
+/// No media type has come yet.
+///
+/// # Errors
+/// An error of the system's source of random bytes.
+pub fn no_counts(rt: &HostRuntime) -> io::Result<Counts> {
+    let keys = RandomState::new(rt)?;
+    Ok(HashMap::with_hasher(rt.alloc(), keys))
+}
+
+/// Counts a media type that came. `TEXT/HTML;Charset="UTF-8"` counts as `text/html; charset=utf-8`.
+///
+/// # Errors
+/// `AllocError` if memory runs out.
+pub fn count(counts: &mut Counts, mime: Mime) -> Result<(), AllocError>
+    ensures { OnOk result (Updates ⟦<Mime as PartialEq>⟧.eq counts.old counts.new mime
+        (Some (min (unwrap_or (get ⟦<Mime as PartialEq>⟧.eq counts.old mime) 0 + 1) u64.MAX))) }
+{
+    let count = counts.entry(mime)?.or_insert(0);
+    *count = count.saturating_add(1);
+    Ok(())
+}

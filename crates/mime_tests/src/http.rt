@@ -1,0 +1,202 @@
+//! What `mime_http` says of headers. An answer is written with a bar after it.
+
+use crate::fields::string_at;
+use crate::values::read_or_not;
+use mime::Mime;
+use mime_http::{
+    Accept, FieldError, boundary, content_type, covers, unescape, weight_of, with_boundary,
+    with_charset, with_parameter,
+};
+use std::alloc::{AllocError, Global};
+use std::fmt::{Display, Write};
+
+/// Shows one answer.
+pub(crate) fn show<T: Display>(out: &mut String, answer: &T) {
+    let _ = write!(out, "{answer}|");
+}
+
+/// Shows a text, or that there is none.
+pub(crate) fn show_text(out: &mut String, answer: Option<&str>) {
+    let _ = out.push_str(answer.unwrap_or("none"));
+    let _ = out.push('|');
+}
+
+/// Bytes as a text.
+pub(crate) fn shown(bytes: &[u8]) -> &str {
+    str::from_utf8(bytes).unwrap_or("not text")
+}
+
+/// The lines that a field stands for: each but the last ends with a line feed, which the last may have, too. An empty field has none.
+pub(crate) fn lines_of(alloc: Global, field: &str) -> Vec<&[u8]> {
+    let mut lines = Vec::new(alloc);
+    for line in field.lines() {
+        let _ = lines.push(line.as_bytes());
+    }
+    lines
+}
+
+/// The bytes of a text in ISO 8859-1, which has one byte for each character.
+fn latin_1(alloc: Global, text: &str) -> Vec<u8> {
+    let mut bytes = Vec::new(alloc);
+    for character in text.chars() {
+        let _ = bytes.push(u8::try_from(character).unwrap_or(b'?'));
+    }
+    bytes
+}
+
+/// The media types of the fields after the first.
+pub(crate) fn offers_of(alloc: Global, strings: &[String]) -> Vec<Mime> {
+    let mut offers = Vec::new(alloc);
+    for at in 1..strings.len() {
+        if let Ok(offer) = Mime::from_str(alloc, string_at(strings, at)) {
+            let _ = offers.push(offer);
+        }
+    }
+    offers
+}
+
+/// Shows the media type of a value, or why there is none.
+pub(crate) fn show_read(out: &mut String, read: Result<Mime, FieldError>) {
+    match read {
+        Ok(mime) => show(out, &mime),
+        Err(error) => show(out, &error),
+    }
+}
+
+pub(crate) fn show_content_type_in_latin_1(alloc: Global, out: &mut String, text: &str) {
+    show_read(out, content_type(alloc, &latin_1(alloc, text)));
+}
+
+/// Shows the ranges of a header's lines, and then its bad entries.
+pub(crate) fn show_accept(alloc: Global, out: &mut String, lines: &[&[u8]]) {
+    if let Ok(accept) = Accept::from_lines(alloc, lines) {
+        show_ranges(out, accept.ranges());
+        show_bad(out, accept.bad());
+    }
+}
+
+pub(crate) fn show_accept_in_latin_1(alloc: Global, out: &mut String, text: &str) {
+    show_accept(alloc, out, &[&latin_1(alloc, text)]);
+}
+
+fn show_ranges(out: &mut String, ranges: &[Mime]) {
+    for range in ranges {
+        show(out, range);
+    }
+}
+
+fn show_bad(out: &mut String, bad: &[Vec<u8>]) {
+    show_text(out, Some("bad:"));
+    for entry in bad {
+        show_text(out, Some(shown(entry)));
+    }
+}
+
+/// Shows the weight that a header gives each offer.
+pub(crate) fn show_weights(alloc: Global, out: &mut String, strings: &[String]) {
+    let lines = lines_of(alloc, string_at(strings, 0));
+    if let Ok(accept) = Accept::from_lines(alloc, &lines) {
+        for offer in &offers_of(alloc, strings) {
+            show(out, &accept.weight(offer));
+        }
+    }
+}
+
+/// Shows the position of the best offer.
+pub(crate) fn show_best(alloc: Global, out: &mut String, strings: &[String]) {
+    let lines = lines_of(alloc, string_at(strings, 0));
+    if let Ok(accept) = Accept::from_lines(alloc, &lines) {
+        show_position(out, accept.best(&offers_of(alloc, strings)));
+    }
+}
+
+fn show_position(out: &mut String, position: Option<usize>) {
+    match position {
+        Some(at) => show(out, &at),
+        None => show_text(out, None),
+    }
+}
+
+/// Shows the positions of the offers that a header accepts, the best first.
+pub(crate) fn show_order(alloc: Global, out: &mut String, strings: &[String]) {
+    let lines = lines_of(alloc, string_at(strings, 0));
+    if let Ok(accept) = Accept::from_lines(alloc, &lines) {
+        show_positions(out, accept.order(alloc, &offers_of(alloc, strings)));
+    }
+}
+
+fn show_positions(out: &mut String, order: Result<Vec<usize>, AllocError>) {
+    if let Ok(order) = order {
+        for at in &order {
+            show(out, at);
+        }
+    }
+}
+
+pub(crate) fn show_covers(alloc: Global, out: &mut String, range: &str, offer: &str) {
+    let Some(range) = read_or_not(alloc, out, range) else {
+        return;
+    };
+    let Some(offer) = read_or_not(alloc, out, offer) else {
+        return;
+    };
+    show(out, &covers(&range, &offer));
+}
+
+pub(crate) fn show_weight_of(alloc: Global, out: &mut String, range: &str) {
+    if let Some(range) = read_or_not(alloc, out, range) {
+        show(out, &weight_of(&range));
+    }
+}
+
+/// Shows what a value means, with what another value means added to it.
+pub(crate) fn show_unescaped(alloc: Global, out: &mut String, value: &str, other: &str) {
+    let mut buffer = Vec::new(alloc);
+    let _ = unescape(value, &mut buffer);
+    let _ = unescape(other, &mut buffer);
+    show_text(out, Some(shown(&buffer)));
+}
+
+pub(crate) fn show_boundary(alloc: Global, out: &mut String, field: &str) {
+    let Some(mime) = read_or_not(alloc, out, field) else {
+        return;
+    };
+    match boundary(alloc, &mime) {
+        Ok(Some(boundary)) => show_text(out, Some(shown(&boundary))),
+        Ok(None) => show_text(out, None),
+        Err(_) => (),
+    }
+}
+
+/// Shows a media type that was made.
+fn show_made(out: &mut String, made: Result<Option<Mime>, AllocError>) {
+    match made {
+        Ok(Some(mime)) => show(out, &mime),
+        Ok(None) => show_text(out, None),
+        Err(_) => (),
+    }
+}
+
+pub(crate) fn show_with_boundary(alloc: Global, out: &mut String, field: &str, boundary: &str) {
+    if let Some(mime) = read_or_not(alloc, out, field) {
+        show_made(out, with_boundary(alloc, &mime, boundary));
+    }
+}
+
+pub(crate) fn show_with_charset(alloc: Global, out: &mut String, field: &str, charset: &str) {
+    if let Some(mime) = read_or_not(alloc, out, field) {
+        show_made(out, with_charset(alloc, &mime, charset));
+    }
+}
+
+pub(crate) fn show_with_parameter(
+    alloc: Global,
+    out: &mut String,
+    field: &str,
+    name: &str,
+    value: &str,
+) {
+    if let Some(mime) = read_or_not(alloc, out, field) {
+        show_made(out, with_parameter(alloc, &mime, name, value));
+    }
+}
