@@ -1,5 +1,5 @@
 //! Media types in HTTP headers, as HTTP writes them (RFC 9110): a `Content-Type`, an `Accept` header and its weights,
-//! and a form's boundary.
+//! the boundary of a multipart body, and parameters to be written.
 #![tactic(auto)]
 
 mod accept;
