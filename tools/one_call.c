@@ -1,3 +1,4 @@
+/* SPDX-License-Identifier: MIT */
 /* Makes a call of include/mime.h on standard input, 1 MiB at most, and prints how many bytes of stack it used: `one_call CALL`. The
  * call that is named has the input as each of its strings; mime_equal compares it with a good one, too. tools/c_calls builds it, and has
  * valgrind count its instructions. */
