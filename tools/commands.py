@@ -2,7 +2,6 @@
 programs; and what counts."""
 
 import contextlib
-import fcntl
 import functools
 import hashlib
 import os
@@ -20,7 +19,7 @@ TOP = os.path.dirname(os.path.dirname(os.path.realpath(__file__)))
 # Where the crates lie with the proofs that `rt check` keeps. `check` names a copy, since rt ci keeps none.
 PROVED = os.environ.get("PROVED") or TOP
 # What passed in earlier runs: a file each, with a checksum of all that it rests on. A fresh clone has none.
-KEPT = f"{TOP}/out/kept"
+KEPT, BEGAN = f"{TOP}/out/kept", time.time_ns()
 # The seconds that rt may take for one command, and a program for one input. Both take far less.
 RT_SECONDS, PROGRAM_SECONDS = 20 * 60, 60
 
@@ -104,23 +103,33 @@ def kit():
     return run_ok("rt", "version")
 
 
-@functools.cache
-def checksum(*paths):
-    """A checksum of the kit, of these files of the repository, and of all in these folders except documents, edits and what was built."""
-    found = hashlib.sha256(kit().encode())
+def files_of(paths):
+    """These files of the repository, and all in these folders but documents, mutants of rt ci and what was built."""
     for path in sorted({*paths}):
         files = [f"{TOP}/{path}"] if os.path.isfile(f"{TOP}/{path}") else sorted(files_in(f"{TOP}/{path}"))
         if not files:
             raise OSError(f"there is no {path}")
-        for it in files:
-            found.update(f"{os.path.relpath(it, TOP)} {hashlib.sha256(Path(it).read_bytes()).hexdigest()}\n".encode())
-    return found.hexdigest()
+        yield from files
 
 
 def files_in(folder):
     for at, folders, files in os.walk(folder):
-        folders[:] = {*folders} - {"out", "__pycache__"}
+        folders[:] = {*folders} - {"__pycache__", "out" if at == TOP or os.path.dirname(at) in (TOP, f"{TOP}/crates") else ""}
         yield from (f"{at}/{it}" for it in files if not it.endswith((".md", ".edit")))
+
+
+@functools.cache
+def checksum(*paths):
+    """A checksum of the kit and of these files and folders, by their names and contents."""
+    found = hashlib.sha256(kit().encode())
+    for it in files_of(paths):
+        found.update(f"{os.path.relpath(it, TOP)} {hashlib.sha256(Path(it).read_bytes()).hexdigest()}\n".encode())
+    return found.hexdigest()
+
+
+def is_touched(paths):
+    """Whether one of these files was changed since the tool began, even if it was changed back."""
+    return checksum.__wrapped__(*paths) != checksum(*paths) or any(os.lstat(it).st_ctime_ns > BEGAN for it in files_of(paths))
 
 
 def kept(name, paths, more=""):
@@ -132,10 +141,10 @@ def kept(name, paths, more=""):
 
 
 def keep(name, text, paths, more=""):
-    """Keeps what was said of a thing that passed, unless a file that it rests on has changed meanwhile."""
+    """Keeps what was said of a thing that passed, unless a file that it rests on was touched meanwhile."""
     rests_on = f"{checksum(*paths)} {hashlib.sha256(more.encode()).hexdigest()}"
     with contextlib.suppress(OSError):
-        if checksum.__wrapped__(*paths) == checksum(*paths):
+        if not is_touched(paths):
             write(f"{KEPT}/{name}.new", f"{rests_on}\n{text}")
             os.replace(f"{KEPT}/{name}.new", f"{KEPT}/{name}")
 
@@ -143,25 +152,12 @@ def keep(name, text, paths, more=""):
 def need(what, *packages):
     """Installs Debian's packages that have a command or a file, if it is missing. If it still is then, that is an error."""
     is_there, names = lambda: shutil.which(what) or os.path.exists(what), " ".join(packages)
-    if is_there():
-        return
-    with _alone():
-        if not is_there():
-            print(f"{what} is missing: apt-get installs {names}", flush=True)
-            text, _ = output(["sh", "-c", f"apt-get update -qq; apt-get install -y -qq --no-install-recommends {names}"])
+    if not is_there():
+        print(f"{what} is missing: apt-get installs {names}", flush=True)
+        waiting = "-o DPkg::Lock::Timeout=600 -o APT::Update::Lock::Timeout=600 -qq"
+        text, _ = output(["sh", "-c", f"apt-get update {waiting}; apt-get install {waiting} -y --no-install-recommends {names}"])
         if not is_there():
             raise OSError(f"{what} is needed, and could not be installed: install it (on Debian: {names})\n{text[-600:]}")
-
-
-@contextlib.contextmanager
-def _alone():
-    """Waits until no other tool installs anything."""
-    folder = os.open(tempfile.gettempdir(), os.O_RDONLY)
-    fcntl.flock(folder, fcntl.LOCK_EX)
-    try:
-        yield
-    finally:
-        os.close(folder)
 
 
 def instructions(words, given):
@@ -203,17 +199,36 @@ def write(path, text):
     Path(path).write_text(text, encoding="utf-8")
 
 
-def copied(crates, room, top=TOP, without=("out",)):
-    """Copies crates of a repository, without their folders of these names, and the files that tell rt of them."""
-    for it in crates:
-        shutil.copytree(f"{top}/crates/{it}", f"{room}/crates/{it}", ignore=shutil.ignore_patterns(*without), copy_function=_linked)
+def crates():
+    """Each crate of crates.txt, with the libraries that its line names."""
+    lines = (line.partition(":") for line in text_of("crates.txt").split("\n") if line and line[0] != "#")
+    return {name.split()[0]: libraries.split() for name, _, libraries in lines}
+
+
+def below(crate):
+    """A crate, and the repository's libraries that it stands on, the lowest first."""
+    return [*dict.fromkeys(name for it in crates()[crate] for name in below(it)), crate]
+
+
+def is_library(crate):
+    return any(crate in libraries for libraries in crates().values())
+
+
+def tracked():
+    """The files of the repository that git doesn't ignore."""
+    return [it for it in run_ok("git", "ls-files", "-co", "--exclude-standard").split("\n") if os.path.isfile(f"{TOP}/{it}")]
+
+
+def copied(names, room, top=TOP, without=("out",)):
+    """Copies crates, without their folders of these names, and the files that tell rt of them."""
+    for it in names:
+        shutil.copytree(f"{top}/crates/{it}", f"{room}/crates/{it}", ignore=shutil.ignore_patterns(*without), copy_function=linked)
     shutil.copy(f"{TOP}/HANDLES", room)
-    there = os.listdir(f"{room}/crates")
-    write(f"{room}/crates.txt", "".join(f"{it}\n" for it in text_of("crates.txt").split("\n") if re.split("[ :]", it)[0] in there))
+    write(f"{room}/crates.txt", "".join(f"{it}\n" for it in text_of("crates.txt").split("\n") if re.split("[ :]", it)[0] in names))
     return room
 
 
-def _linked(file, to):
+def linked(file, to):
     """Copies a file, or gives a proof a second name, since rt replaces such a file and writes into none."""
     with contextlib.suppress(OSError):
         if file.endswith(".oantt"):
@@ -223,15 +238,24 @@ def _linked(file, to):
 
 @functools.cache
 def program(crate, backend="llvm", room=None):
-    """The program of a crate as a compiler builds it. Within `check` it is the one that rt ci proved; otherwise rt proves and builds it,
-    unless it is up to date. There both compilers' programs have the same path, so the other one's is built in a copy in the room."""
-    of_gate = f"{TOP}/crates/{crate}/out/{crate}{'.by-rattle' if backend == 'rattle' else ''}"
-    if PROVED != TOP and os.path.exists(of_gate):
-        return of_gate
-    top = TOP if backend == "llvm" else copied(["mime", crate], f"{room}/{crate}", without=())
+    """The program of a crate as a compiler builds it: that which rt ci proved, or which was built from the same sources. Otherwise rt
+    proves and builds it. There both compilers' programs have the same path, so the other one's is built in a copy in the room."""
+    made = f"{TOP}/crates/{crate}/out/{crate}{'.by-rattle' if backend == 'rattle' else ''}"
+    if is_current(made):
+        return made
+    top = TOP if backend == "llvm" else copied(below(crate), f"{room}/{crate}", without=())
     made = f"{top}/crates/{crate}/out/{crate}"
     print(f"rt proves and builds {crate} by the compiler {backend}, as far as it isn't up to date", flush=True)
     text, _ = output(["sh", "-c", f"rm -f out/{crate}; rt run --backend {backend}"], f"{top}/crates/{crate}")
     if not os.path.exists(made):
         raise OSError(f"{crate} can't be built:\n{text[-3000:]}")
+    if not is_touched(["crates.txt", "HANDLES", "crates"]):
+        write(f"{made}.sources", run_ok("tools/sources"))
     return made
+
+
+def is_current(made):
+    """Whether a program was built from the sources as they are, by their contents."""
+    with contextlib.suppress(OSError):
+        return os.path.exists(made) and Path(f"{made}.sources").read_text(encoding="utf-8") == run_ok("tools/sources")
+    return False

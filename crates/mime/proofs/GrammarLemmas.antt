@@ -1,4 +1,4 @@
--- Lemmas on the grammar: syntax trees, the texts that begin them, and what a refused text lacks.
+-- Lemmas on the grammar: syntax trees, the texts that begin them, and what a rejected text lacks.
 pub mod Content
 pub mod Begun
 pub mod Spelling

@@ -18,7 +18,7 @@ use Rattle.mime.specs.Difference.{FirstDifference}
 use Rattle.mime.specs.Inner.Blocks.{difference_bit, mask_of, first_position}
 use Rattle.mime.proofs.BlocksLemmas.{position-found, all_pass}
 
--- two numbers have no bit together exactly where neither has one
+-- two numbers have no bit together exactly if neither has one
 pub together : (n m : ℕ) (P Q Whole : Type 0) → (n ≡ 0) ↔ P → (m ≡ 0) ↔ Q → (P → Q → Whole) → (Whole → P × Q) → (bit_or n m ≡ 0) ↔ Whole
 together n m P Q Whole first second whole parts = (
   λ none. whole (first.0 (omega (arith, le_or_l n m))) (second.0 (omega (arith, le_or_r n m))),
@@ -157,7 +157,7 @@ module _ (a b : List ℕ) (from : ℕ) (before : take from (lowered a) ≡ take 
       at : (text : List ℕ) → get_or (take (length text - from) (drop from text)) n 0 ≡ get_or text (from + n) 0
       at text = ap (λ t. get_or t n 0) (take_rest text from) ∙ get_or-drop from text n 0
 
--- texts of one length are the same ignoring ASCII case exactly where none is found
+-- texts of one length are the same ignoring ASCII case exactly if none is found
 pub none_found : (a b : List ℕ) (found : Option ℕ) (none : Bool) → is_some found ≡ not none → length a ≡ length b
     → IfSome found (FirstDifference a b) → (found ≡ None → length a ≡ length b → lowered a ≡ lowered b)
     → IsTrue none ↔ (lowered a ≡ lowered b)

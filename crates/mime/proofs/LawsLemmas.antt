@@ -1,3 +1,4 @@
 -- Laws on which no code rests.
-pub mod Callers
-pub mod Headers
+pub mod Written
+pub mod Keys
+pub mod Utf8Prefixes

@@ -2,8 +2,8 @@
 -- character after it, which can't follow it, is passed.
 use Rattle.std.specs.Prelude.{◌≡◌, ◌≢◌, ℕ, ◌+◌, Bool, ◌&&◌, nat_le, IsTrue, IsFalse, List, [], ◌∷◌, ◌++◌, length, ⊤}
 use Rattle.std.specs.List.{list_all}
-use Rattle.mime.specs.Values.{MediaType, Reads, IsRefused}
-use Rattle.mime.specs.Refusals.{IsViable, IsLongestPrefix}
+use Rattle.mime.specs.Values.{MediaType, Reads, IsRejected}
+use Rattle.mime.specs.Faults.{IsViable, IsLongestPrefix}
 
 -- a byte from 128 to 191: in valid UTF-8 one that begins no character
 abbrev pub is_following_byte : ℕ → Bool
@@ -33,15 +33,15 @@ pub data CutItem : Type 0 where
 -- the items of a piece: the value that it is read as, or itself as a bad piece, or none if it is empty
 pub data ItemsOf (piece : List ℕ) : List CutItem → Type 0 where
   is_read : (value : MediaType) → Reads piece value → ItemsOf piece (good piece value ∷ [])
-  is_refused : IsRefused piece → piece ≢ [] → ItemsOf piece (bad piece ∷ [])
+  is_rejected : IsRejected piece → piece ≢ [] → ItemsOf piece (bad piece ∷ [])
   is_empty : piece ≡ [] → ItemsOf piece []
 
 -- the items of a text in order, and the rest of the text, which is unfinished or empty
 pub data Cut : List ℕ → List CutItem → List ℕ → Type 0 where
   -- an accepted text is one item, and leaves no rest
   whole : (text : List ℕ) (value : MediaType) → Reads text value → Cut text (good text value ∷ []) []
-  -- a viable refused text has no item, and is the rest
-  unfinished : (text : List ℕ) → IsViable text → IsRefused text → Cut text [] text
+  -- a viable rejected text has no item, and is the rest
+  unfinished : (text : List ℕ) → IsViable text → IsRejected text → Cut text [] text
   -- any other text has the items of its longest viable prefix, and then those of what is left after the character
   goes_on : (text piece character left : List ℕ) (first items : List CutItem) (rest : List ℕ)
       → IsSplit text piece character left → ItemsOf piece first → Cut left items rest → Cut text (first ++ items) rest

@@ -1,8 +1,8 @@
 -- The laws of the cut, and of whole runs: what the calls of `next` on a `MimeIter` give, up to the first `None`.
 use Rattle.std.specs.Prelude.{◌≡◌, ◌≢◌, ◌⊎◌, ℕ, Bool, ◌||◌, ◌==◌, IsTrue, List, [], ◌∷◌, ◌++◌, map, Result, Ok, Err, codes}
 use Rattle.std.specs.List.{AllByRecursion}
-use Rattle.mime.specs.Values.{MediaType, Reads, IsAccepted, IsRefused, OwnedMedia}
-use Rattle.mime.specs.Refusals.{IsViable, IsUnclosed}
+use Rattle.mime.specs.Values.{MediaType, Reads, IsAccepted, IsRejected, OwnedMedia}
+use Rattle.mime.specs.Faults.{IsViable, IsUnclosed}
 use Rattle.std.specs.Char.{IsScalar, encode_utf8}
 use Rattle.std.specs.Str.{IsUtf8}
 use Rattle.mime.specs.Bytes.{comma_byte, space_byte}
@@ -21,16 +21,16 @@ OneCut =
     → (items : List CutItem) × (rest : List ℕ) × Cut text items rest
     × ((others : List CutItem) (left : List ℕ) → Cut text others left → (others ≡ items) × (left ≡ rest))
 
--- what an item is: a good piece is read as its value, and a bad one is viable, refused and not empty
+-- what an item is: a good piece is read as its value, and a bad one is viable, rejected and not empty
 abbrev pub IsItem : CutItem → Type 0
 IsItem (good piece value) = Reads piece value
-IsItem (bad piece) = IsViable piece × IsRefused piece × (piece ≢ [])
+IsItem (bad piece) = IsViable piece × IsRejected piece × (piece ≢ [])
 
--- Each item of a cut is a piece that is read as its value, or a viable refused one that isn't empty. The rest is viable and refused.
+-- Each item of a cut is a piece that is read as its value, or a viable rejected one that isn't empty. The rest is viable and rejected.
 abbrev pub CutHasItems : Type 0
 CutHasItems =
     (text : List ℕ) (items : List CutItem) (rest : List ℕ) → Cut text items rest
-    → AllByRecursion IsItem items × IsViable rest × IsRefused rest
+    → AllByRecursion IsItem items × IsViable rest × IsRejected rest
 
 -- the text of the pieces, with the character after each, and of the last piece
 abbrev pub text_of_pieces : List (List ℕ × List ℕ) → List ℕ → List ℕ

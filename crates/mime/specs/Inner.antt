@@ -1,5 +1,7 @@
--- the private pages: what the code and its proofs say on the way; no public contract names them
-pub mod ReaderState
+-- The private pages: what the code and its proofs say on the way. Of their names a public contract has one, `HashInput.media_input`:
+-- which bytes a hasher is fed isn't promised, and the laws of the hash say what is.
+pub mod ByteClasses
+pub mod Remaining
 pub mod Quoted
 pub mod Scanning
 pub mod Blocks

@@ -3,10 +3,10 @@ use Rattle.std.specs.Prelude.{◌≡◌, ◌≢◌, ℕ, ◌+◌, ◌<◌, ◌�
 use Rattle.std.specs.Str.{IsUtf8, IsCharBoundary}
 use Rattle.mime.specs.Bytes.{slash_byte, plus_byte}
 use Rattle.mime.specs.Grammar.{SyntaxTree, text_of, IsWellFormed}
-use Rattle.mime.specs.Values.{MediaType, Reads, IsAccepted, IsRefused, lowered, type_of, subtype_of, suffix_of}
+use Rattle.mime.specs.Values.{MediaType, Reads, IsAccepted, IsRejected, lowered, type_of, subtype_of, suffix_of}
 use Rattle.mime.specs.Comparison.{Same, Before, TextIs}
 use Rattle.mime.specs.Difference.{DifferInValue}
-use Rattle.mime.specs.Refusals.{IsViable, IsLongestPrefix, Lacks, IsFault}
+use Rattle.mime.specs.Faults.{IsViable, IsLongestPrefix, Lacks, IsFault}
 use Rattle.mime.specs.Items.{Item, IsFirstAccepted}
 use Rattle.mime.specs.declared.scan.fault.ParseError.{ParseError}
 
@@ -18,9 +18,9 @@ OneTree = (first second : SyntaxTree) → IsWellFormed first → IsWellFormed se
 abbrev pub OneReading : Type 0
 OneReading = (text : List ℕ) (first second : MediaType) → Reads text first → Reads text second → first ≡ second
 
--- A text is accepted or refused.
-abbrev pub AcceptedOrRefused : Type 0
-AcceptedOrRefused = (text : List ℕ) → IsAccepted text ⊎ IsRefused text
+-- A text is accepted or rejected.
+abbrev pub AcceptedOrRejected : Type 0
+AcceptedOrRejected = (text : List ℕ) → IsAccepted text ⊎ IsRejected text
 
 -- The empty text is viable.
 abbrev pub EmptyIsViable : Type 0
@@ -34,24 +34,24 @@ PrefixOfViableIsViable = (prefix more : List ℕ) → IsViable (prefix ++ more) 
 abbrev pub AcceptedIsViable : Type 0
 AcceptedIsViable = (text : List ℕ) → IsAccepted text → IsViable text
 
--- A viable refused text lacks exactly one of five things: the completion of that one makes it an accepted text.
+-- A viable rejected text lacks exactly one of five things: the completion of that one makes it an accepted text.
 abbrev pub OneCompletion : Type 0
 OneCompletion =
-    (text : List ℕ) → IsViable text → IsRefused text
+    (text : List ℕ) → IsViable text → IsRejected text
     → (fault : ParseError) × Lacks text fault × ((other : ParseError) → Lacks text other → other ≡ fault)
 
--- A text that lacks something is refused.
-abbrev pub CompletedIsRefused : Type 0
-CompletedIsRefused = (text : List ℕ) (fault : ParseError) → Lacks text fault → IsRefused text
+-- A text that lacks something is rejected.
+abbrev pub CompletedIsRejected : Type 0
+CompletedIsRejected = (text : List ℕ) (fault : ParseError) → Lacks text fault → IsRejected text
 
--- A text that isn't viable is refused, whatever follows it.
+-- A text that isn't viable is rejected, whatever follows it.
 abbrev pub NoCompletion : Type 0
-NoCompletion = (text more : List ℕ) → ¬ (IsViable text) → IsRefused (text ++ more)
+NoCompletion = (text more : List ℕ) → ¬ (IsViable text) → IsRejected (text ++ more)
 
--- A refused text has exactly one fault.
+-- A rejected text has exactly one fault.
 abbrev pub OneFault : Type 0
 OneFault =
-    (text : List ℕ) → IsRefused text
+    (text : List ℕ) → IsRejected text
     → (fault : ParseError) × IsFault text fault × ((other : ParseError) → IsFault text other → other ≡ fault)
 
 -- A text has exactly one longest viable prefix.
@@ -117,7 +117,7 @@ abbrev pub HaveSameParts : MediaType → MediaType → Type 0
 HaveSameParts first second =
     (type_of first ≡ type_of second) × (subtype_of first ≡ subtype_of second) × (suffix_of first ≡ suffix_of second)
 
--- Two values that were read have the same essence exactly where they have the same type, subtype and suffix.
+-- Two values that were read have the same essence exactly if they have the same type, subtype and suffix.
 abbrev pub SameEssence : Type 0
 SameEssence =
     (one other : List ℕ) (first second : MediaType) → Reads one first → Reads other second
@@ -138,13 +138,13 @@ OneOrder = (first second : MediaType) → OneOf first second
 abbrev pub BeforeIsTransitive : Type 0
 BeforeIsTransitive = (first second third : MediaType) → Before first second → Before second third → Before first third
 
--- A text is equal to a value without parameters exactly where the text, lowercased, is the kept text.
+-- A text is equal to a value without parameters exactly if the text, lowercased, is the kept text.
 abbrev pub BareTextIs : Type 0
 BareTextIs =
     (text : List ℕ) (value : MediaType) → Reads text value → value.pairs ≡ []
     → (other : List ℕ) → TextIs value other ↔ (lowered other ≡ value.kept)
 
--- A value is equal to the kept text of a value that was read exactly where the two values are equal.
+-- A value is equal to the kept text of a value that was read exactly if the two values are equal.
 abbrev pub KeptTextIs : Type 0
 KeptTextIs = (text : List ℕ) (value : MediaType) → Reads text value → (other : MediaType) → TextIs other value.kept ↔ Same other value
 

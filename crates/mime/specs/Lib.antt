@@ -4,7 +4,7 @@ pub mod Grammar
 pub mod Values
 pub mod Comparison
 pub mod Difference
-pub mod Refusals
+pub mod Faults
 pub mod Printed
 pub mod Names
 pub mod Atoms

@@ -21,7 +21,7 @@ abbrev pub IsFirstItem : List ℕ → CutItem → List ℕ → Type 0
 IsFirstItem text item left = (items : List CutItem) (rest : List ℕ) → Cut left items rest → Cut text (item ∷ items) rest
 
 -- the first item of the text's cut is a media type that needs memory
-pub record NeedsMemory (text : List ℕ) : Type 0 where
+pub record FirstNeedsMemory (text : List ℕ) : Type 0 where
   pub piece : List ℕ
   pub value : MediaType
   pub items : List CutItem
@@ -40,7 +40,7 @@ GivesItem old (Some (Ok mime)) new =
     (piece : List ℕ) × IsFirstItem old.left (good piece mime.media) new.left
     × (piece ≡ codes "*/*" → mime.fixed ≡ true) × (new.out_of_memory ≡ old.out_of_memory)
 GivesItem old (Some (Err (Piece piece))) new = IsFirstItem old.left (bad piece.now) new.left × (new.out_of_memory ≡ old.out_of_memory)
-GivesItem old (Some (Err NoMemory)) new = NeedsMemory old.left × HasEnded new × (new.out_of_memory ≡ true)
+GivesItem old (Some (Err NoMemory)) new = FirstNeedsMemory old.left × HasEnded new × (new.out_of_memory ≡ true)
 
 -- one call of `next` makes the old iterator the new one, and returns the result
 pub record IsNext (old : Iteration) (result : Option (Result OwnedMedia Bad)) (new : Iteration) : Type 0 where

@@ -97,9 +97,9 @@ pub record Reads (text : List ℕ) (value : MediaType) : Type 0 where
 abbrev pub IsAccepted : List ℕ → Type 0
 IsAccepted text = (value : MediaType) × Reads text value
 
--- the text is refused: it is read as no value
-abbrev pub IsRefused : List ℕ → Type 0
-IsRefused text = ¬ (IsAccepted text)
+-- the text is rejected: it is read as no value
+abbrev pub IsRejected : List ℕ → Type 0
+IsRejected text = ¬ (IsAccepted text)
 
 -- the parts of a value: the type, the subtype without its suffix, and the suffix if there is one
 abbrev pub type_of : MediaType → List ℕ

@@ -10,8 +10,9 @@ use crate::scan::Positions;
 use crate::value::Mime;
 use std::fmt;
 
-/// A constant media type (RFC 7231, 3.1.1.1): [`Atom::mime`] returns it as a [`Mime`], [`Atom::text`] as a
-/// string. It can be matched and copied, and never allocates: `TEXT_PLAIN.mime()` is the media type `text/plain`.
+/// A constant media type (RFC 7231, 3.1.1.1): [`Atom::mime`] returns it as a [`Mime`], [`Atom::text`] as a string. It
+/// can be matched and copied, and never allocates: `TEXT_PLAIN.mime()` is the media type `text/plain`. It has no order:
+/// order the media types.
 ///
 /// Each constant of the crate's root, such as [`TEXT_PLAIN`](crate::TEXT_PLAIN), is the variant of its name, so a
 /// `match` can name it:
@@ -31,7 +32,7 @@ use std::fmt;
 ///
 /// IANA's registry of media types (RFC 6838) says what most of them mean. Those with a `*` are media ranges
 /// (RFC 7231, 5.3.2).
-#[derive(Clone, Copy, PartialEq, Eq, PartialOrd, Ord, Hash)]
+#[derive(Clone, Copy, PartialEq, Eq, Hash)]
 #[allow(non_camel_case_types)]
 pub enum Atom {
     /// `*/*`
@@ -165,15 +166,15 @@ impl Atom {
         (text, positions)
     }
 
-    /// The constant as a string: `text/plain` for `TEXT_PLAIN`.
+    /// Returns the constant as a string: `text/plain` for `TEXT_PLAIN`.
     pub fn text(self) -> &'static str
         ensures { result.now ≡ atom_text self }
     {
         self.constant().0
     }
 
-    /// The media type (RFC 7231, 3.1.1.1). Neither this nor cloning the result allocates. `TEXT_PLAIN_UTF_8.mime()` is
-    /// equal to the media type read from `text/plain;charset="utf-8"`.
+    /// Returns the media type (RFC 7231, 3.1.1.1). Neither this nor cloning the result allocates.
+    /// `TEXT_PLAIN_UTF_8.mime()` is equal to the media type read from `text/plain;charset="utf-8"`.
     pub fn mime(self) -> Mime
         ensures reads { Reads (atom_text self) result.media }
         ensures kept { result.media.kept ≡ atom_text self }

@@ -1,7 +1,7 @@
 //! The classes of bytes (RFC 7231, 3.1.1.1; RFC 7230, 3.2.6).
 
 ghost use Rattle.std.specs.Prelude.{◌≡◌};
-ghost use Rattle.mime.specs.Inner.ReaderState.{is_token_except_plus};
+ghost use Rattle.mime.specs.Inner.ByteClasses.{is_token_except_plus};
 ghost use Rattle.mime.specs.Grammar.{is_space};
 ghost use Rattle.mime.specs.Bytes.{is_token_byte, is_quoted_byte, is_quoted_text_byte};
 
@@ -32,7 +32,7 @@ static KINDS: [u8; 256] = [
     Q, Q, Q, Q, Q, Q, Q, Q, Q, Q, Q, Q, Q, Q, Q, Q, Q, Q, Q, Q, Q, Q, Q, Q, Q, Q, Q, Q, Q, Q, Q, Q,
 ];
 
-/// Whether a byte may occur in a token: a type, a subtype, a parameter's name, an unquoted value
+/// Returns `true` if a byte may occur in a token: a type, a subtype, a parameter's name, an unquoted value
 /// (tchar of RFC 7230, 3.2.6). `is_token(b'+')` is true, `is_token(b' ')` is false.
 #[inline(always)]
 pub fn is_token(b: u8) -> bool
@@ -57,7 +57,7 @@ pub(crate) fn is_space(b: u8) -> bool
     b == b' ' || b == b'\t'
 }
 
-/// Whether a byte may follow a backslash in a quoted value (the second byte of a quoted-pair of
+/// Returns `true` if a byte may follow a backslash in a quoted value (the second byte of a quoted-pair of
 /// RFC 7230, 3.2.6): the tab, and any byte from 32 on except 127. `is_quoted_byte(b'"')` is true.
 #[inline(always)]
 pub fn is_quoted_byte(b: u8) -> bool
@@ -66,8 +66,8 @@ pub fn is_quoted_byte(b: u8) -> bool
     KINDS[b as usize] >= B
 }
 
-/// Whether a byte may occur in a quoted value without a backslash before it (qdtext of RFC 7230, 3.2.6): any byte
-/// that may follow a backslash, except the quote and the backslash. `is_quoted_text_byte(b';')` is true.
+/// Returns `true` if a byte may occur in a quoted value without a backslash before it (qdtext of RFC 7230, 3.2.6): any
+/// byte that may follow a backslash, except the quote and the backslash. `is_quoted_text_byte(b';')` is true.
 #[inline(always)]
 pub fn is_quoted_text_byte(b: u8) -> bool
     ensures { result ≡ is_quoted_text_byte b }

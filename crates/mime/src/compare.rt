@@ -11,6 +11,7 @@ ghost use Rattle.mime.specs.declared.compare.Compared.TheVariants.{Equal, Differ
 use crate::blocks::BLOCK;
 use crate::bytes::is_space;
 use crate::ignoring_case::{eq_ignore_ascii_case, first_difference};
+use crate::name::constants::CHARSET;
 use crate::scan::{ByteReader, Positions, Verdict, scan};
 use crate::value::Mime;
 use crate::value::pairs::Pairs;
@@ -46,7 +47,7 @@ fn is_pair(name: &str, value: &str, other_name: &str, other_value: &str) -> bool
     if !eq_str_ignore_ascii_case(name, other_name) {
         return false;
     }
-    if name == "charset" {
+    if name == CHARSET.text {
         eq_str_ignore_ascii_case(value, other_value)
     } else {
         value == other_value
@@ -167,8 +168,8 @@ fn eq_other_text(mime: &Mime, s: &str) -> bool
     }
 }
 
-/// Whether a string is read as a value equal to `mime` and, if `mime` has no parameter, has no semicolon (RFC 7231,
-/// 3.1.1.1). It doesn't allocate.
+/// Returns `true` if a string is read as a value equal to `mime` and, if `mime` has no parameter, has no semicolon
+/// (RFC 7231, 3.1.1.1). It doesn't allocate.
 ///
 /// `TEXT/PLAIN;charset="UTF-8"; ` is `TEXT_PLAIN_UTF_8.mime()`. But `text/plain;` isn't `TEXT_PLAIN.mime()`, though
 /// it is read as an equal value: a media type without parameters isn't equal to a string with a semicolon.

@@ -12,7 +12,7 @@ use std::alloc::{AllocError, Global};
 use std::fmt;
 use std::marker::Model;
 
-/// Why an item of a [`MimeIter`] isn't a media type (lists of them: RFC 7231, 5.3.2).
+/// Why an item of a [`MimeIter`] isn't a media type.
 #[derive(Clone, Copy, PartialEq, Eq, Debug)]
 pub enum Bad<'a> {
     /// This piece of the string isn't a media type, as `invalid` in `invalid, a/b`.
@@ -69,7 +69,7 @@ fn read_piece<'a>(text: &'a str, from: u128) -> ReadPiece<'a>
     }
 }
 
-/// The media types of a string one by one, as those of an `Accept` header (RFC 7231, 5.3.2): the good
+/// An iterator over the media types of a string, as those of an `Accept` header (RFC 7231, 5.3.2): the good
 /// entries of a list, and the pieces of it that aren't media types.
 ///
 /// The string is cut into the longest pieces that some media type begins with. Each ends before a
@@ -105,7 +105,7 @@ impl<'a> Model for MimeIter<'a> {
 }
 
 impl<'a> MimeIter<'a> {
-    /// An iterator over the media types of `s`, such as `text/html, */*;q=0.8`. Nothing is read yet, and it
+    /// Creates an iterator over the media types of `s`, such as `text/html, */*;q=0.8`. Nothing is read yet, and it
     /// doesn't allocate.
     pub fn new(alloc: Global, s: &'a str) -> MimeIter<'a>
         ensures text { result.text ≡ s.now }
@@ -122,7 +122,7 @@ impl<'a> MimeIter<'a> {
         }
     }
 
-    /// The number of bytes read so far, from the start of the string: 43 for all of
+    /// Returns the number of bytes read so far, from the start of the string: 43 for all of
     /// `application/json, invalid, application/json`, which are 16, 7 and 16 bytes and 4 skipped
     /// characters. It is never more than the string's length in bytes.
     pub fn steps(&self) -> u128
@@ -150,7 +150,7 @@ impl<'a> MimeIter<'a> {
     }
 }
 
-/// Makes an iterator that goes on from the same position, with the same count of steps: after the first item of
+/// Returns an iterator that goes on from the same position, with the same count of steps: after the first item of
 /// `a/b, c/d` both yield `c/d`. It always succeeds, and doesn't allocate.
 impl<'a> Clone for MimeIter<'a> {
     ghost is_clone = { λ iter copy. copy ≡ iter };

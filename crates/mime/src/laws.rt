@@ -2,7 +2,8 @@
 //! `name_constants` returns the constant names. docs/LAWS.md lists all claims, docs/RULES.md says what viable,
 //! accepted and cut mean.
 
-ghost use Rattle.std.specs.Prelude.{◌≡◌, ◌↔◌, IsTrue, map};
+ghost use Rattle.std.specs.Borrow.{Bor};
+ghost use Rattle.std.specs.Prelude.{◌≡◌, ◌↔◌, IsTrue, List, ℕ, map};
 ghost use Rattle.std.specs.Cmp.Lexicographic.{slice_cmp};
 ghost use Rattle.std.specs.List.{list_all};
 ghost use Rattle.std.specs.Ordering.{ordering_then, bool_cmp, nat_cmp};
@@ -16,7 +17,7 @@ ghost use Rattle.mime.specs.Laws.{
   PrefixOfViableIsViable,
   AcceptedIsViable,
   OneCompletion,
-  CompletedIsRefused,
+  CompletedIsRejected,
   NoCompletion,
   OneFault,
   OneLongestPrefix,
@@ -33,7 +34,7 @@ ghost use Rattle.mime.specs.Laws.{
   HasAnswer,
   IsDecided,
   FirstDifferenceDecides,
-  AcceptedOrRefused,
+  AcceptedOrRejected,
   EssenceIsParts,
   SameEssence,
 };
@@ -53,6 +54,7 @@ use std::hash::Hash;
 
 /// A string is spelled by at most one well-formed tree: `a/b;p=x` only by the one with type `a`, subtype `b` and a
 /// plain parameter (RFC 7231, 3.1.1.1).
+#[tactic(auto, using(crate::proofs::GrammarLemmas::Readings::one_tree))]
 pub fn one_tree()
     ensures { OneTree }
 {}
@@ -63,35 +65,40 @@ pub fn one_reading()
 {}
 
 /// A string is accepted or rejected: `a/b` is accepted, and `a` is rejected.
-pub fn accepted_or_refused()
-    ensures { AcceptedOrRefused }
+pub fn accepted_or_rejected()
+    ensures { AcceptedOrRejected }
 {}
 
 /// The empty string is viable: `a/b` begins with it.
+#[tactic(auto, using(crate::proofs::GrammarLemmas::Viability::empty_is_viable))]
 pub fn empty_is_viable()
     ensures { EmptyIsViable }
 {}
 
 /// A prefix of a viable text is viable: `a/b;p`, since `a/b;p="` is.
+#[tactic(auto, using(crate::proofs::GrammarLemmas::Viability::prefix_of_viable_is_viable))]
 pub fn prefix_of_viable_is_viable()
     ensures { PrefixOfViableIsViable }
 {}
 
 /// An accepted text is viable: `a/b`, for one.
+#[tactic(auto, using(crate::proofs::GrammarLemmas::Viability::accepted_is_viable))]
 pub fn accepted_is_viable()
     ensures { AcceptedIsViable }
 {}
 
 /// Exactly one of five things is missing from a viable rejected text, and its completion makes the string an accepted
 /// one: `a/b;p` lacks an equals sign, and `a/b;p=x` is accepted.
+#[tactic(auto, using(crate::proofs::GrammarLemmas::Faults::one_completion))]
 pub fn one_completion()
     ensures { OneCompletion }
 {}
 
 /// A string that lacks a slash, a subtype, an equals sign, a value or a closing quote is rejected: `text/`, which lacks
 /// a subtype.
-pub fn completed_is_refused()
-    ensures { CompletedIsRefused }
+#[tactic(auto, using(crate::proofs::GrammarLemmas::Faults::completed_is_rejected))]
+pub fn completed_is_rejected()
+    ensures { CompletedIsRejected }
 {}
 
 /// Nothing makes a string that isn't viable an accepted one: `a b` is rejected, whatever follows it.
@@ -100,16 +107,19 @@ pub fn no_completion()
 {}
 
 /// A rejected text has exactly one fault: that of `text/;` is its byte at position 5, counted from 0.
+#[tactic(auto, using(crate::proofs::GrammarLemmas::Faults::one_fault))]
 pub fn one_fault()
     ensures { OneFault }
 {}
 
 /// A string has exactly one longest viable prefix: that of `a/b c` is `a/b`.
+#[tactic(auto, using(crate::proofs::GrammarLemmas::Faults::one_longest_prefix))]
 pub fn one_longest_prefix()
     ensures { OneLongestPrefix }
 {}
 
 /// The longest viable prefix of a string of valid UTF-8 ends between characters: that of `a/bé` before the `é`.
+#[tactic(auto, using(crate::proofs::GrammarLemmas::Characters::prefix_ends_between_characters))]
 pub fn prefix_ends_between_characters()
     ensures { PrefixEndsBetweenCharacters }
 {}
@@ -126,13 +136,15 @@ pub fn plus_is_last()
     ensures { PlusIsLast }
 {}
 
-/// The kept text of a value that was read is read as the value: `a/b;p=X`, which is kept of `A/B;P=X`.
+/// The kept text of a value that was read is read as the value: `a/b;p=X`, the kept text of `A/B;P=X`.
+#[tactic(auto, using(crate::proofs::ValueLemmas::KeptText::kept_is_read))]
 pub fn kept_is_read()
     ensures { KeptIsRead }
 {}
 
 /// The essence of a value that was read is read as the value without its parameters: `text/html` as the value of
 /// `text/html; charset=utf-8` without its charset.
+#[tactic(auto, using(crate::proofs::LawsLemmas::Written::essence_is_read))]
 pub fn essence_is_read()
     ensures { EssenceIsRead }
 {}
@@ -159,12 +171,14 @@ pub fn kept_is_safe()
 /// The essence of a value that was read, with `; `, a token, an equals sign and quoted content in its quotes after
 /// it, is read as the value with that parameter alone: `a/b; P="X"` as `a/b` with the parameter `p`, whose value is
 /// `X` (RFC 7231, 3.1.1.1).
+#[tactic(auto, using(crate::proofs::LawsLemmas::Written::parameter_is_read))]
 pub fn parameter_is_read()
     ensures { ParameterIsRead }
 {}
 
 /// Of two values exactly one of these is true: the first comes before the second, they are equal, or the second comes
 /// before the first. `a/b` comes before `a/b;p=1`, and that before `a/c`.
+#[tactic(auto, using(crate::proofs::ValueLemmas::Traits::one_order))]
 pub fn one_order()
     ensures { OneOrder }
 {}
@@ -181,7 +195,7 @@ pub fn bare_text_is()
 {}
 
 /// A value is equal to the kept text of a value that was read exactly if the two values are equal: that of
-/// `a/b; p="x"` to the string `a/b;p=x`, which is kept of `A/B;P=x`.
+/// `a/b; p="x"` to the string `a/b;p=x`, the kept text of `A/B;P=x`.
 pub fn kept_text_is()
     ensures { KeptTextIs }
 {}
@@ -193,9 +207,10 @@ pub fn one_answer<K: ParamKey>(key: &K)
     ensures least { HasAnswer (K.Accepts key.now) }
 {}
 
-/// It is decided whether a `TextKey` accepts a name, and whether a `Name` does: `TextKey("P")` accepts `p`, and not
-/// `q`.
+/// It is decided whether a string as a key accepts a name, whether a `TextKey` does, and whether a `Name` does: `"P"`
+/// accepts `p`, and not `q`.
 pub fn keys_decide()
+    ensures string { (key : Bor (List ℕ)) → IsDecided (⟦<&'static str as ParamKey>⟧.Accepts key) }
     ensures text { (key : TextKey) → IsDecided (⟦<TextKey<'static> as ParamKey>⟧.Accepts key) }
     ensures name { (key : Name) → IsDecided (⟦<Name<'static> as ParamKey>⟧.Accepts key) }
 {}
@@ -218,6 +233,7 @@ pub fn equal_values_feed_the_same()
 /// What values feed a hasher is prefix-free: what a value feeds is never a prefix of what an unequal one feeds, so a
 /// pair of a value and a string feeds what no other pair does. `a/bx` with `c` and `a/b` with `xc` feed different
 /// bytes.
+#[tactic(auto, using(crate::proofs::ValueLemmas::Hash::hash_is_prefix_free))]
 pub fn hash_is_prefix_free()
     ensures { IsPrefixFree ⟦<Mime as Hash>⟧.hash_input }
 {}
@@ -230,40 +246,47 @@ pub fn first_difference_decides()
 {}
 
 /// A string has exactly one cut: that of `a/b, e, c/d` has the items `a/b`, the bad piece `e`, and `c/d`.
+#[tactic(auto, using(crate::proofs::CutLemmas::Containment::one_cut))]
 pub fn one_cut()
     ensures { OneCut }
 {}
 
 /// Each item of a cut is a piece that is read as its value, or a bad piece, which is viable, rejected and not empty.
 /// The rest is viable and rejected: over `a/b, e, c` the items are `a/b` and the bad piece `e`, and the rest is `c`.
+#[tactic(auto, using(crate::proofs::CutLemmas::Containment::cut_has_items))]
 pub fn cut_has_items()
     ensures { CutHasItems }
 {}
 
 /// A string is pieces, a character after each, and a last piece, which is accepted or the rest of the
 /// text's cut: `e,a/b` is the piece `e`, a comma, and the last piece `a/b`.
+#[tactic(auto, using(crate::proofs::CutLemmas::Containment::cut_writes_text))]
 pub fn cut_writes_text()
     ensures { CutWritesText }
 {}
 
 /// In a string of valid UTF-8, what is skipped after a piece is one character: both bytes of the `é` of `a/bé`.
+#[tactic(auto, using(crate::proofs::GrammarLemmas::Characters::passes_one_character))]
 pub fn passes_one_character()
     ensures { PassesOneCharacter }
 {}
 
 /// A string takes exactly one number of steps: `a/b,c/d` takes 7, one for each byte.
+#[tactic(auto, using(crate::proofs::CutLemmas::Containment::one_count))]
 pub fn one_count()
     ensures { OneCount }
 {}
 
 /// A comma ends whatever precedes it, unless that is an open quoted value, and what comes after it
 /// is cut as it is alone: `e f, a/b` has the item `a/b`, as `a/b` alone has.
+#[tactic(auto, using(crate::proofs::CutLemmas::Containment::comma_contains))]
 pub fn comma_contains()
     ensures { CommaContains }
 {}
 
 /// Values that were read come back from their kept texts with a comma and a space between them, and
 /// nothing else does: `a/b, c/d` gives `a/b` and `c/d`.
+#[tactic(auto, using(crate::proofs::CutLemmas::Containment::joined_comes_back))]
 pub fn joined_comes_back()
     ensures { JoinedComesBack }
 {}
@@ -271,12 +294,14 @@ pub fn joined_comes_back()
 /// A list as HTTP writes it (RFC 7230, 7) is cut into its elements, and nothing else: accepted texts with a comma
 /// between each and the next, and with spaces, tabs and further commas after each comma and before the first.
 /// `a/b, ,\tc/d` is cut into `a/b` and `c/d`.
+#[tactic(auto, using(crate::proofs::CutLemmas::Containment::http_list_is_cut))]
 pub fn http_list_is_cut()
     ensures { HttpListIsCut }
 {}
 
 /// A run of a `MimeIter` yields the items of the cut: over `a/b, e, c/d` two media types and a bad piece. `NoMemory`
 /// may be yielded for a media type other than `*/*`, and ends the run.
+#[tactic(auto, using(crate::proofs::IterLemmas::run_gives_cut))]
 pub fn run_gives_cut()
     ensures { RunGivesCut }
 {}
@@ -293,7 +318,7 @@ pub fn printed_list_comes_back()
     ensures { PrintedListComesBack }
 {}
 
-/// The constant names, in the order of their table, from `*` on. Each has its text, ignores case, and holds no
+/// Returns the constant names, in the order of their table, from `*` on. Each has its text, ignores case, and holds no
 /// ASCII capital.
 pub fn name_constants() -> [Name<'static>; 38]
     ensures texts { map name_text result ≡ name_table }

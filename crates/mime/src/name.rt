@@ -23,7 +23,7 @@ pub struct Name<'a> {
 }
 
 impl<'a> Name<'a> {
-    /// The name's text: `TEXT.as_str()` is `"text"`. It is borrowed from what the name borrows from, so it may
+    /// Returns the name's text: `TEXT.as_str()` is `"text"`. It is borrowed from what the name borrows from, so it may
     /// outlive the `Name`.
     pub fn as_str(&self) -> &'a str
         ensures { result.now ≡ self.now.text.now }
@@ -52,9 +52,8 @@ impl fmt::Debug for Name<'_> {
     }
 }
 
-/// Whether a name is equal to the string `s`: ignoring ASCII case if the name does, else
-/// byte for byte (RFC 7231, 3.1.1.1). `name_eq_str(&TEXT, "Text")` is true; the boundary `ABC` isn't `abc`.
-/// It doesn't allocate.
+/// Returns `true` if a name is equal to the string `s`: ignoring ASCII case if the name does, else byte for byte (RFC
+/// 7231, 3.1.1.1). `name_eq_str(&TEXT, "Text")` is true; the boundary `ABC` isn't `abc`. It doesn't allocate.
 #[inline]
 pub fn name_eq_str(name: &Name<'_>, s: &str) -> bool
     ensures { IsTrue result ↔ NameIs name.now.text.now name.now.ignores_case s.now }
@@ -68,7 +67,7 @@ pub trait ParamKey: Drop {
     /// The names that the key accepts, by text and flag.
     ghost Accepts: { Self → List ℕ → Bool → Type 0 };
 
-    /// Whether the key accepts a parameter's name: `TextKey("P")` accepts `p`. `get_param` passes the name in
+    /// Returns `true` if the key accepts a parameter's name: `TextKey("P")` accepts `p`. `get_param` passes the name in
     /// lowercase, with the flag `true`.
     fn accepts(&self, name: Name<'_>) -> bool
         ensures { IsTrue result ↔ Accepts self.now name.entry.text.now name.entry.ignores_case };

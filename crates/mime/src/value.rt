@@ -3,7 +3,7 @@
 ghost use Rattle.std.specs.Prelude.{◌≡◌, ◌≢◌, true, IfOk, IfErr, IsOk, IfSome, codes, option_map, length};
 ghost use Rattle.std.specs.List.{AllByRecursion};
 ghost use Rattle.mime.specs.Values.{Reads, IsAccepted, lowered, type_of, subtype_of, suffix_of};
-ghost use Rattle.mime.specs.Refusals.{Explains};
+ghost use Rattle.mime.specs.Faults.{Explains};
 ghost use Rattle.mime.specs.Items.{items_of, name_seen, name_text, IsLowIf, IsLowItem, IsFirstAccepted};
 ghost use Rattle.mime.specs.Inner.Scanning.{HasPositions};
 ghost use Rattle.mime.specs.Inner.KeptText.{IsKept, media_of, AreLowPairs};
@@ -81,7 +81,7 @@ impl Mime {
     /// there, as 5 for `text/;`. Reporting a fault doesn't allocate. [`ParseError::NoMemory`] is returned only
     /// for a media type, and never for `*/*`.
     pub fn from_str(alloc: Global, s: &str) -> Result<Mime, FromStrError>
-        // The result has the value that the string is read as.
+        // The result is the value of the string.
         ensures read { IfOk result (λ mime. Reads s.now mime.media) }
         // An error is the fault of a rejected string, or says that memory ran out for an accepted one.
         ensures explained { IfErr result (λ error. Explains s.now error) }
@@ -142,7 +142,7 @@ impl Mime {
         }
     }
 
-    /// The type, in lowercase: `text` for `Text/Plain` (RFC 7231, 3.1.1.1).
+    /// Returns the type, in lowercase: `text` for `Text/Plain` (RFC 7231, 3.1.1.1).
     pub fn type_(&self) -> Name<'_>
         ensures text { result.text.now ≡ type_of self.now.media }
         ensures flag { result.ignores_case ≡ true }
@@ -154,7 +154,7 @@ impl Mime {
         }
     }
 
-    /// The subtype without its suffix, in lowercase: `svg` in `image/svg+xml`, `b+c` in
+    /// Returns the subtype without its suffix, in lowercase: `svg` in `image/svg+xml`, `b+c` in
     /// `a/b+c+d` (RFC 6838, 4.2.8).
     pub fn subtype(&self) -> Name<'_>
         ensures text { result.text.now ≡ subtype_of self.now.media }
@@ -169,7 +169,7 @@ impl Mime {
         }
     }
 
-    /// The suffix, after the subtype's last `+` that isn't its first byte, in lowercase:
+    /// Returns the suffix, after the subtype's last `+` that isn't its first byte, in lowercase:
     /// `xml` in `image/svg+xml`, the empty string in `a/b+`, and `None` in `a/+xml` (RFC 6838, 4.2.8).
     pub fn suffix(&self) -> Option<Name<'_>>
         ensures text { option_map name_text result ≡ suffix_of self.now.media }
@@ -183,7 +183,7 @@ impl Mime {
         })
     }
 
-    /// The essence, in lowercase: the type and the subtype with its suffix, `image/svg+xml` for
+    /// Returns the essence, in lowercase: the type and the subtype with its suffix, `image/svg+xml` for
     /// `Image/SVG+XML; q=1` (RFC 7231, 3.1.1.1).
     pub fn essence_str(&self) -> &str
         ensures { result.now ≡ self.now.media.essence }
@@ -195,7 +195,7 @@ impl Mime {
         }
     }
 
-    /// The kept text, which is what is printed. If there is a parameter, it is the whole string that was
+    /// Returns the kept text, which is what is printed. If there is a parameter, it is the whole string that was
     /// read, with type, subtype, parameter names and charset in lowercase; else it is the essence.
     /// That of `a/b;P=X; ` is `a/b;p=X; `. It is read as an equal value with the same kept text.
     pub fn as_str(&self) -> &str
@@ -205,9 +205,8 @@ impl Mime {
         self.text.as_str()
     }
 
-    /// The parameters, in order of appearance and with duplicates, as pairs of a name and a value
-    /// without its quotes (RFC 7231, 3.1.1.1): `p` with `1` and `p` with `;` for `a/b;p=1;P=";"`.
-    /// Backslashes stay: the value of `a/b;p="\"x"` is `\"x`.
+    /// Returns an iterator over the parameters, in order of appearance and with duplicates, as pairs of a name and a
+    /// value without its quotes (RFC 7231, 3.1.1.1): `p` with `1` and `p` with `;` for `a/b;p=1;P=";"`.
     pub fn params(&self) -> Params<'_>
         ensures items { result ≡ items_of self.now.media.pairs }
         ensures low { AllByRecursion IsLowItem result }
@@ -233,14 +232,19 @@ impl Mime {
         self.positions.pair_count
     }
 
-    /// The value of the first parameter whose name the key accepts, or `None` if it accepts no name:
+    /// Returns the value of the first parameter whose name the key accepts, or `None` if it accepts no name:
     /// `TextKey("P")` finds `1` in `a/b;p=1;P=2`, and `CHARSET` finds `utf-8` in
     /// `text/html; Charset="UTF-8"` (RFC 7231, 3.1.1.1). The value is without its quotes. Backslashes stay: that of
     /// `a/b;p="\"x"` is `\"x`. It doesn't allocate.
+    #[inline(always)]
     pub fn get_param<K: ParamKey>(&self, key: K) -> Option<Name<'_>>
         ensures found { IsFirstAccepted (K.Accepts key) (items_of self.now.media.pairs) (option_map name_seen result) }
         ensures low { IfSome result (λ name. IsLowIf name.ignores_case name.text.now) }
     {
+        // Most media types have no parameter.
+        if self.param_count() == 0 {
+            return None;
+        }
         for (name, value) in self.params() {
             if key.accepts(name) {
                 return Some(value);

@@ -8,17 +8,17 @@ use Rattle.std.proofs.lemmas.Bool.{cases_lt, cases_Bool, true≢false}
 use Rattle.std.proofs.lemmas.Str.{IsUtf8-from_is_utf8, is_utf8-from_IsUtf8}
 use Rattle.mime.specs.Values.{MediaType, Reads}
 use Rattle.mime.specs.Comparison.{Same, media_cmp}
-use Rattle.mime.specs.Refusals.{IsFault, Explains}
+use Rattle.mime.specs.Faults.{IsFault, Explains}
 use Rattle.mime.specs.declared.scan.fault.ParseError.{ParseError}
 use Rattle.mime.specs.declared.scan.fault.ParseError.TheVariants.{NoMemory}
 use Rattle.mime.proofs.GrammarLemmas.Faults.{one_fault}
-use Rattle.mime.proofs.ValueLemmas.Reading.{refused-from_fault, Explains-from_fault}
+use Rattle.mime.proofs.ValueLemmas.Reading.{rejected-from_fault, Explains-from_fault}
 use Rattle.mime.proofs.GrammarLemmas.Readings.{one_reading}
 use Rattle.mime.proofs.ValueLemmas.Traits.{eq_by_cmp-tells, eq_by_cmp-same}
 use Rattle.mime.specs.Cut.{CutItem}
-use Rattle.mime.proofs.CutLemmas.Cuts.{accepted_or_refused, has_cut, cut_unique}
+use Rattle.mime.proofs.CutLemmas.Cuts.{accepted_or_rejected, has_cut, cut_unique}
 use Rattle.mime_c.specs.Strings.{strings, texts_of, item_texts, written}
-use Rattle.mime_c.specs.Answers.{number_of, nothing, found_of, found_of_fault, Fails, is_refused, is_not_text, ReadsTo, is_read, fails, has_no_room, ListsTo, is_listed, has_no_memory, Compares, are_read, first_fails, second_fails}
+use Rattle.mime_c.specs.Answers.{number_of, nothing, found_of, found_of_fault, Fails, is_rejected, is_not_text, ReadsTo, is_read, fails, has_no_room, ListsTo, is_listed, has_no_memory, Compares, are_read, first_fails, second_fails}
 use Rattle.mime_c.specs.Answers as answers
 use Rattle.mime_c.specs.Laws.{HasOne, ReadsToOne, ListsToOne, ComparesAsOne}
 use Rattle.mime_c.specs.declared.MimeFound.{MimeFound}
@@ -42,19 +42,19 @@ its_fault text fault is = λ same. omega (arith, same)
 module _ {text : List ℕ} where
   -- a text that is read doesn't fail,
   not_both : {media : MediaType} {n : ℕ} {found : MimeFound} → IsUtf8 text → Reads text media → n ≢ MIME_NO_MEMORY → ¬ (Fails text n found)
-  not_both {media} utf8 reads some (is_refused fault too why) = refused-from_fault text fault (is_fault text fault why some) (media, reads)
+  not_both {media} utf8 reads some (is_rejected fault too why) = rejected-from_fault text fault (is_fault text fault why some) (media, reads)
   not_both utf8 reads some (is_not_text isnt) = isnt utf8
 
   -- and another fails in one way
   one_failure : {n m : ℕ} {found other : MimeFound} → n ≢ MIME_NO_MEMORY → m ≢ MIME_NO_MEMORY → Fails text n found → Fails text m other
       → (m ≡ n) × (other ≡ found)
-  one_failure h k (is_refused one utf8 why) (is_refused two too again) =
+  one_failure h k (is_rejected one utf8 why) (is_rejected two too again) =
       let is = is_fault text one why h in
-      let only = (one_fault text (refused-from_fault text one is)).2 in
+      let only = (one_fault text (rejected-from_fault text one is)).2 in
       let same = only two (is_fault text two again k) ∙ sym (only one is) in
       (ap number_of same, ap found_of_fault same)
-  one_failure h k (is_refused one utf8 why) (is_not_text isnt) = absurd (isnt utf8)
-  one_failure h k (is_not_text isnt) (is_refused one utf8 why) = absurd (isnt utf8)
+  one_failure h k (is_rejected one utf8 why) (is_not_text isnt) = absurd (isnt utf8)
+  one_failure h k (is_not_text isnt) (is_rejected one utf8 why) = absurd (isnt utf8)
   one_failure h k (is_not_text isnt) (is_not_text too) = (refl, refl)
 
 -- a text is read as a media type, or fails
@@ -62,8 +62,8 @@ given_or_failed : (text : List ℕ) → ((media : MediaType) × IsUtf8 text × R
     ⊎ ((answer : ℕ) × (found : MimeFound) × (answer ≢ MIME_NO_MEMORY) × Fails text answer found)
 given_or_failed text = ⊎_elim
     (λ utf8. ⊎_elim (λ accepted. inl (accepted.0, utf8, accepted.1))
-    (λ refused. let only = one_fault text refused in
-    inr (_, _, its_fault text only.0 only.1, is_refused only.0 utf8 (Explains-from_fault text only.0 only.1))) (accepted_or_refused text))
+    (λ rejected. let only = one_fault text rejected in
+    inr (_, _, its_fault text only.0 only.1, is_rejected only.0 utf8 (Explains-from_fault text only.0 only.1))) (accepted_or_rejected text))
     (λ isnt. inr (_, _, (λ same. omega (arith, same)), is_not_text isnt)) (utf8_or_not text)
 
 -- an outcome is the one, if any two are the same

@@ -4,13 +4,13 @@ use Rattle.std.specs.Str.{IsUtf8}
 use Rattle.mime.specs.Bytes.{is_token_byte}
 use Rattle.mime.specs.Grammar.{no_list}
 use Rattle.mime.specs.Values.{MediaType, Reads}
-use Rattle.mime.specs.Refusals.{Explains}
+use Rattle.mime.specs.Faults.{Explains}
 use Rattle.mime.specs.Cut.{CutItem, good, Cut, whole}
 use Rattle.mime.specs.declared.scan.fault.ParseError.TheVariants.{NoMemory}
-use Rattle.mime.proofs.GrammarLemmas.Readings.{refused-from_walk}
+use Rattle.mime.proofs.GrammarLemmas.Readings.{rejected-from_walk}
 use Rattle.mime.proofs.CutLemmas.Cuts.{cut_unique}
 use Rattle.mime_c.specs.Strings.{strings, ComeBack, texts_of, item_texts, written}
-use Rattle.mime_c.specs.Answers.{nothing, Fails, is_refused, is_not_text, ReadsTo, is_read, fails, has_no_room, NeedsMemory, ListsTo, is_listed, has_no_memory, Compares, are_read, first_fails, second_fails}
+use Rattle.mime_c.specs.Answers.{nothing, Fails, is_rejected, is_not_text, ReadsTo, is_read, fails, has_no_room, NeedsMemory, ListsTo, is_listed, has_no_memory, Compares, are_read, first_fails, second_fails}
 use Rattle.mime_c.specs.Answers as answers
 use Rattle.mime_c.specs.Laws.{HasOne}
 use Rattle.mime_c.specs.declared.MimeFound.{MimeFound}
@@ -23,8 +23,8 @@ use Rattle.mime_c.proofs.OneOutcome.{reads_to_one, lists_to_one, compares_as_one
 -- if a text fails for want of memory, it is a media type other than `*/*`, and nothing is found;
 fails_for_memory : {text : List ℕ} {n : ℕ} {found : MimeFound} → n ≡ MIME_NO_MEMORY → Fails text n found
     → (found ≡ nothing) × IsUtf8 text × Explains text NoMemory
-fails_for_memory is (is_refused NoMemory utf8 why) = (refl, utf8, why)
-fails_for_memory is (is_refused fault utf8 why) = absurd (omega (arith, is))
+fails_for_memory is (is_rejected NoMemory utf8 why) = (refl, utf8, why)
+fails_for_memory is (is_rejected fault utf8 why) = absurd (omega (arith, is))
 fails_for_memory is (is_not_text isnt) = absurd (omega (arith, is))
 
 -- `mime_read` writes nothing then;
@@ -82,7 +82,7 @@ no_memory_for_star old new found reads = (reads_for_memory refl reads).3.1 refl
 
 e_needs_none : (old new : List ℕ) (found : MimeFound) → ¬ (ReadsTo (codes "e") old MIME_NO_MEMORY new found)
 unfolding is_token_byte
-e_needs_none old new found reads = refused-from_walk (codes "e") _ refl refl (reads_for_memory refl reads).3.0
+e_needs_none old new found reads = rejected-from_walk (codes "e") _ refl refl (reads_for_memory refl reads).3.0
 
 module _ (isnt : ¬ (IsUtf8 (255 ∷ []))) where
   not_text_needs_none : (old new : List ℕ) (found : MimeFound) → ¬ (ReadsTo (255 ∷ []) old MIME_NO_MEMORY new found)
@@ -95,8 +95,8 @@ module _ (isnt : ¬ (IsUtf8 (255 ∷ []))) where
 
 -- a failure has another answer
 no_failure_is_ok : {text : List ℕ} {n : ℕ} {found : MimeFound} → n ≡ MIME_OK → ¬ (Fails text n found)
-no_failure_is_ok is (is_refused NoMemory utf8 why) = omega (arith, is)
-no_failure_is_ok is (is_refused fault utf8 why) = omega (arith, is)
+no_failure_is_ok is (is_rejected NoMemory utf8 why) = omega (arith, is)
+no_failure_is_ok is (is_rejected fault utf8 why) = omega (arith, is)
 no_failure_is_ok is (is_not_text isnt) = omega (arith, is)
 
 -- the strings that are written are those of the text's media type, and of its items, and their texts come back: none has a 0

@@ -6,7 +6,7 @@ use Rattle.mime.specs.Grammar.{Parameter, plain, quoted, Parameters, blank, fina
 use Rattle.mime.specs.Values.{MediaType, Reads, pair_of, pairs_of_list, pairs_of_tail, essence_of, kept_text}
 use Rattle.mime.specs.Inner.Scanning.{positions_of}
 use Rattle.mime.specs.Inner.KeptText.{kept_text_of}
-use Rattle.mime.specs.Cut.{CutItem, ItemsOf, is_read, is_refused, is_empty, Cut, whole, unfinished, goes_on}
+use Rattle.mime.specs.Cut.{CutItem, ItemsOf, is_read, is_rejected, is_empty, Cut, whole, unfinished, goes_on}
 use Rattle.mime.proofs.LowercaseLemmas.{length-lowered}
 use Rattle.mime.proofs.ValueLemmas.Utf8.{length-in_part}
 use Rattle.mime.proofs.ValueLemmas.KeptText.{text_of-essence, length-essence_of, value_of_low, value_of-lowering, keeps-tree, kept-in_part}
@@ -87,7 +87,7 @@ texts_fit text media reads = (lengths_of text media reads).1
 
 room-items : (piece : List ℕ) (items : List CutItem) → ItemsOf piece items → length (strings (item_texts items)) ≤ length piece + 2
 room-items piece items (is_read media reads) = omega (arith, length-strings (MIME_GOOD ∷ media.kept) [], (lengths_of piece media reads).0)
-room-items piece items (is_refused refused some) = omega (arith, length-strings (MIME_BAD ∷ piece) [])
+room-items piece items (is_rejected rejected some) = omega (arith, length-strings (MIME_BAD ∷ piece) [])
 room-items piece items (is_empty none) = omega arith
 
 pub strings_of_items : (items others : List CutItem)
@@ -99,7 +99,7 @@ pub items_fit : (text : List ℕ) (items : List CutItem) (rest : List ℕ) → C
 items_fit text items rest (whole t media reads) =
     let lengths = lengths_of t media reads in
     omega (arith, length-strings (MIME_GOOD ∷ media.kept) [], lengths.0, lengths.2)
-items_fit text items rest (unfinished t viable refused) = omega arith
+items_fit text items rest (unfinished t viable rejected) = omega arith
 items_fit text items rest (goes_on t piece character left first others end split of_piece cut) =
     let size = split-size t piece character left split in
     let all = ap length (strings_of_items first others) in

@@ -117,7 +117,7 @@ module _ {text old now left : List ℕ} {at : ℕ} (lists : Lists text old now a
       rw (lists.wrote.there, lists.wrote.end) (is_listed lists.before rest room utf8 cut (items_come_back text lists.before rest cut))
 
   -- or there was no memory for one
-  pub lists-no_memory : runs.NeedsMemory left → ListsTo text old MIME_NO_MEMORY now 0
+  pub lists-no_memory : runs.FirstNeedsMemory left → ListsTo text old MIME_NO_MEMORY now 0
   lists-no_memory needs = has_no_memory now room utf8 (record {
     before = lists.before;
     piece = needs.piece;

@@ -3,7 +3,7 @@ use Rattle.std.specs.Prelude.{◌≢◌, ℕ, ◌+◌, ◌*◌, ◌<◌, ◌≤�
 use Rattle.std.specs.Str.{IsUtf8}
 use Rattle.mime.specs.Values.{MediaType, Reads, type_of, subtype_of}
 use Rattle.mime.specs.Comparison.{Same}
-use Rattle.mime.specs.Refusals.{Explains}
+use Rattle.mime.specs.Faults.{Explains}
 use Rattle.mime.specs.Cut.{CutItem, good, Cut}
 use Rattle.mime.specs.declared.scan.fault.ParseError.{ParseError}
 use Rattle.mime.specs.declared.scan.fault.ParseError.TheVariants.{MissingSlash, MissingSubtype, MissingEqual, MissingValue, MissingQuote, InvalidToken, NoMemory}
@@ -47,7 +47,7 @@ found_of media = record {
 
 -- why a text isn't read as a media type: the answer, and what is found
 pub data Fails (text : List ℕ) : ℕ → MimeFound → Type 0 where
-  is_refused : (fault : ParseError) → IsUtf8 text → Explains text fault → Fails text (number_of fault) (found_of_fault fault)
+  is_rejected : (fault : ParseError) → IsUtf8 text → Explains text fault → Fails text (number_of fault) (found_of_fault fault)
   is_not_text : ¬ (IsUtf8 text) → Fails text MIME_NOT_UTF8 nothing
 
 -- `mime_read` of a text, with the caller's buffer: the answer, what the buffer holds then, and what is found

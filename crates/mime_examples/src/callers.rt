@@ -2,7 +2,7 @@
 
 ghost use Rattle.std.specs.Prelude.{◌≡◌, List, ℕ, Bool, true, Option, is_some, IfOk, IfErr};
 ghost use Rattle.mime.specs.Values.{MediaType, Reads, suffix_of};
-ghost use Rattle.mime.specs.Refusals.{Explains};
+ghost use Rattle.mime.specs.Faults.{Explains};
 ghost use Rattle.mime.specs.Names.{NameIs};
 ghost use Rattle.mime.specs.Items.{items_of, IsFirstAccepted};
 

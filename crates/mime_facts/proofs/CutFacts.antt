@@ -2,14 +2,14 @@
 use Rattle.std.proofs.Common.{◌≡◌, ℕ, true, false, List, [], ◌∷◌, length, map, refl, ap, subst, arith, codes}
 use Rattle.std.proofs.lemmas.Bool.{true≢false, false≢true}
 use Rattle.mime.specs.Bytes.{is_token_byte}
-use Rattle.mime.specs.Values.{IsAccepted, IsRefused}
-use Rattle.mime.specs.Refusals.{IsViable}
-use Rattle.mime.specs.Cut.{is_following_byte, BeginsCharacter, IsCharacter, IsSplit, CutItem, good, bad, ItemsOf, is_read, is_refused, is_empty, Cut, whole, unfinished, goes_on, Pieces, last, next, steps_of, TakesSteps}
+use Rattle.mime.specs.Values.{IsAccepted, IsRejected}
+use Rattle.mime.specs.Faults.{IsViable}
+use Rattle.mime.specs.Cut.{is_following_byte, BeginsCharacter, IsCharacter, IsSplit, CutItem, good, bad, ItemsOf, is_read, is_rejected, is_empty, Cut, whole, unfinished, goes_on, Pieces, last, next, steps_of, TakesSteps}
 use Rattle.mime.specs.CutLaws.{IsItem, text_of_pieces, items_of_rest, joined, IsRead, kept_item}
 use Rattle.mime.proofs.GrammarLemmas.Begun.{in_type}
-use Rattle.mime.proofs.CutLemmas.Cuts.{empty-refused, split-not_viable, split-from_dead, split_unique, items_of_unique, cut_unique, takes_unique}
+use Rattle.mime.proofs.CutLemmas.Cuts.{empty-rejected, split-not_viable, split-from_dead, split_unique, items_of_unique, cut_unique, takes_unique}
 use Rattle.mime.proofs.ValueLemmas.KeptText.{kept_is_read}
-use Rattle.mime.proofs.GrammarLemmas.Readings.{refused-from_walk}
+use Rattle.mime.proofs.GrammarLemmas.Readings.{rejected-from_walk}
 use Rattle.mime_facts.proofs.ValueFacts.{differ, plain_value, reads_capitals, keeps_no_capitals}
 use Rattle.mime.proofs.GrammarLemmas.Viability.{viable-from_walk, accepted_is_viable}
 
@@ -44,21 +44,21 @@ split_at_comma =
 split_nowhere_else : ¬ (IsSplit (codes "e,A/B") [] (codes "e") (codes ",A/B"))
 split_nowhere_else is = differ [] (codes "e") refl (split_unique _ _ _ _ _ _ _ is split_at_comma).piece
 
--- `e` is refused
-pub e_is_refused : IsRefused (codes "e")
+-- `e` is rejected
+pub e_is_rejected : IsRejected (codes "e")
 unfolding is_token_byte
-e_is_refused = refused-from_walk (codes "e") (in_type (codes "e")) refl refl
+e_is_rejected = rejected-from_walk (codes "e") (in_type (codes "e")) refl refl
 
 -- although it may still become a media type
 pub e_is_viable : IsViable (codes "e")
 unfolding is_token_byte
 e_is_viable = viable-from_walk (codes "e") (in_type (codes "e")) refl
 
--- a good piece is read as its value, and a bad one is viable, refused and not empty
+-- a good piece is read as its value, and a bad one is viable, rejected and not empty
 items_of_cuts : IsItem (good (codes "A/B") plain_value) × IsItem (bad (codes "e")) × ¬ (IsItem (bad (codes "A/B"))) × ¬ (IsItem (bad []))
 items_of_cuts = (
   reads_capitals,
-  (e_is_viable, e_is_refused, differ (codes "e") [] refl),
+  (e_is_viable, e_is_rejected, differ (codes "e") [] refl),
   (λ is. is.1 (plain_value, reads_capitals)),
   λ is. is.2 refl,
 )
@@ -69,12 +69,12 @@ not_read_so is = keeps_no_capitals is
 
 -- a bad piece is its own item, and not an empty one
 pub item_of_e : ItemsOf (codes "e") (bad (codes "e") ∷ [])
-item_of_e = is_refused e_is_refused (differ (codes "e") [] refl)
+item_of_e = is_rejected e_is_rejected (differ (codes "e") [] refl)
 
 -- an empty piece has none
 no_item_of_empty : (piece : List ℕ) (items : List CutItem) → ItemsOf piece items → piece ≡ [] → items ≡ []
-no_item_of_empty piece items (is_read value reads) none = absurd (empty-refused (subst IsAccepted none (value, reads)))
-no_item_of_empty piece items (is_refused is some) none = absurd (some none)
+no_item_of_empty piece items (is_read value reads) none = absurd (empty-rejected (subst IsAccepted none (value, reads)))
+no_item_of_empty piece items (is_rejected is some) none = absurd (some none)
 no_item_of_empty piece items (is_empty is) none = refl
 
 not_without_item : ¬ (ItemsOf (codes "e") [])
@@ -97,7 +97,7 @@ nothing_left cut = absurd (omega (arith, ap length (cut_unique _ _ _ cut_of_list
 
 -- a text that may still become a media type is a rest
 pub rest_of_text : Cut (codes "e") [] (codes "e")
-rest_of_text = unfinished (codes "e") e_is_viable e_is_refused
+rest_of_text = unfinished (codes "e") e_is_viable e_is_rejected
 
 no_item_yet : ¬ (Cut (codes "e") (bad (codes "e") ∷ []) [])
 no_item_yet cut = absurd (omega (arith, ap length (cut_unique _ _ _ rest_of_text _ _ cut).0))

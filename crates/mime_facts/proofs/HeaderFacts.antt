@@ -5,9 +5,9 @@ use Rattle.std.proofs.lemmas.Bool.{false≢true}
 use Rattle.std.specs.List.{list_any}
 use Rattle.mime.specs.Bytes.{is_token_byte, is_quoted_byte}
 use Rattle.mime.specs.Grammar.{IsContent}
-use Rattle.mime.specs.Values.{MediaType, Reads, IsAccepted, IsRefused, type_of, subtype_of}
+use Rattle.mime.specs.Values.{MediaType, Reads, IsAccepted, IsRejected, type_of, subtype_of}
 use Rattle.mime.specs.Items.{IsFirstAccepted}
-use Rattle.mime.specs.Laws.{AcceptedOrRefused, suffix_text, EssenceIsParts, HaveSameParts, SameEssence, IsDecided, HasAnswer}
+use Rattle.mime.specs.Laws.{AcceptedOrRejected, suffix_text, EssenceIsParts, HaveSameParts, SameEssence, IsDecided, HasAnswer}
 use Rattle.mime.specs.HeaderLaws.{AreHeaderBytes, IsSafePair, IsSafe, KeptIsSafe, text_with_parameter, with_parameter, ParameterIsRead}
 use Rattle.mime.specs.Cut.{good, Cut, whole}
 use Rattle.mime.specs.CutLaws.{is_separator, IsHttpList, no_element, separated, one_element, more_elements, HttpListIsCut}
@@ -19,12 +19,12 @@ use Rattle.mime_facts.proofs.CutFacts.{no_item_left_out}
 use Rattle.mime_facts.proofs.StandardFacts.{media, plus_twice}
 use Rattle.mime_facts.proofs.ValueFacts.{differ, plain_value, reads_capitals, exact_item}
 
--- ---- accepted and refused
+-- ---- accepted and rejected
 
-refused_text : AcceptedOrRefused → ¬ (IsAccepted (codes "e")) → IsRefused (codes "e")
-refused_text law no_value = by (law (codes "e"))
+rejected_text : AcceptedOrRejected → ¬ (IsAccepted (codes "e")) → IsRejected (codes "e")
+rejected_text law no_value = by (law (codes "e"))
   where
-    by : IsAccepted (codes "e") ⊎ IsRefused (codes "e") → IsRefused (codes "e")
+    by : IsAccepted (codes "e") ⊎ IsRejected (codes "e") → IsRejected (codes "e")
     by (inl accepted) = absurd (no_value accepted)
     by (inr is) = is
 
@@ -131,7 +131,7 @@ two_elements =
 one_of_two : IsHttpList (codes ",A/B") (good (codes "A/B") plain_value ∷ [])
 one_of_two = separated 44 _ _ refl (one_element (codes "A/B") plain_value reads_capitals)
 
--- it has no other elements, and no refused ones
+-- it has no other elements, and no rejected ones
 no_such_list : ¬ (IsHttpList (codes "A/B") []) × ¬ (IsHttpList (codes "e,A/B") (good (codes "A/B") plain_value ∷ []))
 no_such_list = (
   (λ list. absurd (cc (cut_unique _ _ _ (whole (codes "A/B") plain_value reads_capitals) _ _ (http_list_is_cut _ _ list)).0)),

@@ -8,11 +8,11 @@ use Rattle.std.specs.Iterator.{Drains}
 use Rattle.std.specs.Str.{IsUtf8, IsCharBoundary}
 use Rattle.mime.specs.Bytes.{is_token_byte, plus_byte}
 use Rattle.mime.specs.Grammar.{no_list, SyntaxTree, text_of, IsWellFormed}
-use Rattle.mime.specs.Values.{MediaType, OwnedMedia, Reads, IsAccepted, IsRefused}
+use Rattle.mime.specs.Values.{MediaType, OwnedMedia, Reads, IsAccepted, IsRejected}
 use Rattle.mime.specs.Comparison.{Same, Before, TextIs}
-use Rattle.mime.specs.Refusals.{IsViable, IsLongestPrefix, Lacks, IsFault}
+use Rattle.mime.specs.Faults.{IsViable, IsLongestPrefix, Lacks, IsFault}
 use Rattle.mime.specs.Items.{IsFirstAccepted}
-use Rattle.mime.specs.Laws.{OneTree, OneReading, EmptyIsViable, PrefixOfViableIsViable, AcceptedIsViable, OneCompletion, CompletedIsRefused, NoCompletion, OneFault, OneLongestPrefix, PrefixEndsBetweenCharacters, IsViableInUtf8, IsLongestPrefixInUtf8, PrefixIsInUtf8, HasNoPlusFrom, PlusIsLast, KeptIsRead, EssenceIsRead, OneOrder, BeforeIsTransitive, BareTextIs, KeptTextIs, IsDecided, OneAnswer, FirstDifferenceDecides}
+use Rattle.mime.specs.Laws.{OneTree, OneReading, EmptyIsViable, PrefixOfViableIsViable, AcceptedIsViable, OneCompletion, CompletedIsRejected, NoCompletion, OneFault, OneLongestPrefix, PrefixEndsBetweenCharacters, IsViableInUtf8, IsLongestPrefixInUtf8, PrefixIsInUtf8, HasNoPlusFrom, PlusIsLast, KeptIsRead, EssenceIsRead, OneOrder, BeforeIsTransitive, BareTextIs, KeptTextIs, IsDecided, OneAnswer, FirstDifferenceDecides}
 use Rattle.mime.specs.Cut.{CutItem, good, bad, Cut, Pieces, TakesSteps}
 use Rattle.mime.specs.CutLaws.{OneCut, CutHasItems, text_of_pieces, CutWritesText, OneCount, CommaContains, JoinedComesBack, PassesOneCharacter, AreGiven, RunGivesCut, CommaContainsOnRuns, PrintedListComesBack}
 use Rattle.mime.specs.Runs.{Iteration, IsNext}
@@ -22,8 +22,8 @@ use Rattle.mime.specs.declared.scan.fault.ParseError.TheVariants.{MissingSlash, 
 use Rattle.mime.proofs.ValueLemmas.Hash.{utf8_bytes}
 use Rattle.mime.proofs.ValueLemmas.KeptText.{kept_is_read}
 use Rattle.mime_facts.proofs.ComparisonFacts.{quoted_x, plain_x, plain_y, other_value, reads_quoted, letters_reach_the_value}
-use Rattle.mime_facts.proofs.CutFacts.{e_is_refused, e_is_viable, list_items, cut_of_list, rest_of_text, split_at_comma, read_value}
-use Rattle.mime_facts.proofs.RefusalFacts.{e_lacks_slash, e_is_closed}
+use Rattle.mime_facts.proofs.CutFacts.{e_is_rejected, e_is_viable, list_items, cut_of_list, rest_of_text, split_at_comma, read_value}
+use Rattle.mime_facts.proofs.FaultFacts.{e_lacks_slash, e_is_closed}
 use Rattle.mime_facts.proofs.StandardFacts.{media, tree_from_parts, plus_twice, lowered_parts, no_subtype, space_in_type}
 use Rattle.mime_facts.proofs.ValueFacts.{plain_value, reads_capitals, exact_item, charset_item}
 
@@ -60,7 +60,7 @@ reads_kept_text law = law (codes "A/B") plain_value reads_capitals
 reads_essence : EssenceIsRead → Reads (codes "text/plain") (media (codes "text/plain") 4 None [] (codes "text/plain"))
 reads_essence law = law _ _ lowered_parts
 
--- ---- viable and refused texts
+-- ---- viable and rejected texts
 
 empty : EmptyIsViable → IsViable []
 empty law = law
@@ -73,24 +73,24 @@ accepted law = law (codes "A/B") (plain_value, reads_capitals)
 
 completion : OneCompletion → (fault : ParseError) → Lacks (codes "e") fault → fault ≡ MissingSlash
 completion law fault lacks =
-    let one = law (codes "e") e_is_viable e_is_refused in one.2 fault lacks ∙ sym (one.2 MissingSlash e_lacks_slash)
+    let one = law (codes "e") e_is_viable e_is_rejected in one.2 fault lacks ∙ sym (one.2 MissingSlash e_lacks_slash)
 
 -- and there is one
 some_completion : OneCompletion → (fault : ParseError) × Lacks (codes "e") fault
-some_completion law = let one = law (codes "e") e_is_viable e_is_refused in (one.0, one.1)
+some_completion law = let one = law (codes "e") e_is_viable e_is_rejected in (one.0, one.1)
 
-completed : CompletedIsRefused → IsRefused (codes "text/")
+completed : CompletedIsRejected → IsRejected (codes "text/")
 completed law = law (codes "text/") MissingSubtype no_subtype
 
-not_completed : NoCompletion → ¬ (IsViable (codes "a b")) → IsRefused (codes "a b/c")
+not_completed : NoCompletion → ¬ (IsViable (codes "a b")) → IsRejected (codes "a b/c")
 not_completed law not_viable = law (codes "a b") (codes "/c") not_viable
 
-fault_of_text : OneFault → IsRefused (codes "a b") → (fault : ParseError) → IsFault (codes "a b") fault → fault ≡ InvalidToken 1 32
-fault_of_text law refused fault is =
-    let one = law (codes "a b") refused in one.2 fault is ∙ sym (one.2 (InvalidToken 1 32) space_in_type)
+fault_of_text : OneFault → IsRejected (codes "a b") → (fault : ParseError) → IsFault (codes "a b") fault → fault ≡ InvalidToken 1 32
+fault_of_text law rejected fault is =
+    let one = law (codes "a b") rejected in one.2 fault is ∙ sym (one.2 (InvalidToken 1 32) space_in_type)
 
-some_fault : OneFault → IsRefused (codes "a b") → (fault : ParseError) × IsFault (codes "a b") fault
-some_fault law refused = let one = law (codes "a b") refused in (one.0, one.1)
+some_fault : OneFault → IsRejected (codes "a b") → (fault : ParseError) × IsFault (codes "a b") fault
+some_fault law rejected = let one = law (codes "a b") rejected in (one.0, one.1)
 
 some_prefix : OneLongestPrefix → (count : ℕ) × IsLongestPrefix (codes "a b") count
 some_prefix law = let one = law (codes "a b") in (one.0, one.1)
@@ -193,7 +193,7 @@ cut_of_text law items rest cut =
     (first.0 ∙ sym second.0, first.1 ∙ sym second.1)
 
 items_of_text : CutHasItems → (text piece rest : List ℕ) → Cut text (bad piece ∷ []) rest
-    → IsViable piece × IsRefused piece × (piece ≢ []) × IsViable rest × IsRefused rest
+    → IsViable piece × IsRejected piece × (piece ≢ []) × IsViable rest × IsRejected rest
 items_of_text law text piece rest cut =
     let is = law text (bad piece ∷ []) rest cut in (is.0.0.0, is.0.0.1, is.0.0.2, is.1, is.2)
 

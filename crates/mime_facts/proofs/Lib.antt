@@ -3,7 +3,7 @@ pub mod StandardFacts
 pub mod GrammarFacts
 pub mod ValueFacts
 pub mod ComparisonFacts
-pub mod RefusalFacts
+pub mod FaultFacts
 pub mod CutFacts
 pub mod RunFacts
 pub mod LawFacts

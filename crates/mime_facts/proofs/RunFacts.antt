@@ -6,7 +6,7 @@ use Rattle.mime.specs.Bytes.{is_token_byte}
 use Rattle.mime.specs.Grammar.{no_list}
 use Rattle.mime.specs.Values.{MediaType, OwnedMedia, Reads}
 use Rattle.mime.specs.Cut.{CutItem, good, bad, Cut, whole, goes_on}
-use Rattle.mime.specs.Runs.{Iteration, HasEnded, IsFirstItem, NeedsMemory, HasNoItem, GivesItem, IsNext}
+use Rattle.mime.specs.Runs.{Iteration, HasEnded, IsFirstItem, FirstNeedsMemory, HasNoItem, GivesItem, IsNext}
 use Rattle.mime.specs.CutLaws.{AreGiven, none_left, a_value, a_piece, no_memory}
 use Rattle.mime.specs.declared.iter.Bad.{Bad}
 use Rattle.mime.specs.declared.iter.Bad.TheVariants.{Piece, NoMemory}
@@ -59,7 +59,7 @@ no_items : HasNoItem (codes "e") × ¬ (HasNoItem (codes "e,A/B"))
 no_items = ((codes "e", rest_of_text), λ none. absurd (omega (arith, ap length (cut_unique _ _ _ cut_of_list _ _ none.1).0)))
 
 -- `A/B` needs memory
-needs_memory : NeedsMemory (codes "A/B")
+needs_memory : FirstNeedsMemory (codes "A/B")
 needs_memory = record {
   piece = codes "A/B";
   value = plain_value;
@@ -70,11 +70,11 @@ needs_memory = record {
 }
 
 -- a bad piece needs no memory
-bad_needs_none : ¬ (NeedsMemory (codes "e,A/B"))
+bad_needs_none : ¬ (FirstNeedsMemory (codes "e,A/B"))
 bad_needs_none needs = absurd (cc (cut_unique _ _ _ cut_of_list _ _ needs.cut).0)
 
 -- `*/*` needs no memory
-star_needs_none : ¬ (NeedsMemory (codes "*/*"))
+star_needs_none : ¬ (FirstNeedsMemory (codes "*/*"))
 star_needs_none needs = needs.not_star (star_piece _ _ _ _ needs.cut)
 
 -- ---- a call

@@ -1,10 +1,10 @@
--- Texts with what they are read as or why they are refused, by computation: a wrong rule does not check.
+-- Texts with what they are read as or why they are rejected, by computation: a wrong rule does not check.
 use Rattle.std.proofs.Common.{◌≡◌, ℕ, List, [], ◌∷◌, ◌++◌, Option, Some, None, refl, codes, arith, lit<}
 use Rattle.mime.specs.Bytes.{is_token_byte, is_quoted_byte}
 use Rattle.mime.specs.Grammar.{no_byte, plain, quoted, blank, final, more, Tail, no_list, listed, SyntaxTree, text_of, IsWellFormed}
 use Rattle.mime.specs.Values.{MediaType, value_of, Reads}
 use Rattle.mime.specs.Difference.{DifferInValue}
-use Rattle.mime.specs.Refusals.{IsFault}
+use Rattle.mime.specs.Faults.{IsFault}
 use Rattle.mime.specs.declared.atoms.Atom.TheVariants.{TEXT_JAVASCRIPT}
 use Rattle.mime.specs.declared.atoms.TheConstants.{TEXT_JAVSCRIPT}
 use Rattle.mime.specs.declared.scan.fault.ParseError.TheVariants.{MissingSlash, MissingSubtype, MissingEqual, MissingValue, MissingQuote, InvalidToken}
@@ -125,7 +125,7 @@ spaces_after_quotes =
 old_spelling : TEXT_JAVSCRIPT ≡ TEXT_JAVASCRIPT
 old_spelling = refl
 
--- ---- refused texts
+-- ---- rejected texts
 
 -- the fault of a text that ends in its type
 pub slash_fault-from_walk : (text top : List ℕ) → walk text ≡ Some (in_type top) → IsFault text MissingSlash

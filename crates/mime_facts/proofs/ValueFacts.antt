@@ -8,7 +8,7 @@ use Rattle.std.specs.Fmt.{digits}
 use Rattle.std.specs.Str.{bytes_eq}
 use Rattle.mime.specs.Bytes.{is_token_byte}
 use Rattle.mime.specs.Grammar.{plain, quoted, blank, final, more, no_list, listed, SyntaxTree}
-use Rattle.mime.specs.Values.{MediaType, lowered, is_charset, lowered_value, lowered_parameter, lowered_list, lowered_tail, lowered_tree, pair_of, pairs_of_list, pairs_of_tail, last_plus, essence_of, kept_text, Reads, IsAccepted, IsRefused, type_of, subtype_of, suffix_of}
+use Rattle.mime.specs.Values.{MediaType, lowered, is_charset, lowered_value, lowered_parameter, lowered_list, lowered_tail, lowered_tree, pair_of, pairs_of_list, pairs_of_tail, last_plus, essence_of, kept_text, Reads, IsAccepted, IsRejected, type_of, subtype_of, suffix_of}
 use Rattle.mime.specs.Items.{Item, item_of, items_of, IsLowIf, IsLowItem, IsFirstAccepted, item_seen, name_seen, name_text}
 use Rattle.mime.specs.Names.{NameIs, name_table}
 use Rattle.mime.specs.Atoms.{atom_text}
@@ -98,10 +98,10 @@ pub keeps_no_capitals : ¬ (Reads (codes "A/B") (media (codes "a/b") 1 None [] (
 keeps_no_capitals other =
     differ (codes "a/b") (codes "A/B") refl (ap (λ (v : MediaType). v.kept) (one_reading _ _ _ reads_capitals other))
 
--- an accepted text isn't refused, and a text with a space in its type is
-accepted_and_refused : IsAccepted (codes "A/B") × ¬ (IsRefused (codes "A/B")) × IsRefused (codes "a b") × ¬ (IsAccepted (codes "a b"))
+-- an accepted text isn't rejected, and a text with a space in its type is
+accepted_and_rejected : IsAccepted (codes "A/B") × ¬ (IsRejected (codes "A/B")) × IsRejected (codes "a b") × ¬ (IsAccepted (codes "a b"))
 unfolding is_token_byte
-accepted_and_refused = (
+accepted_and_rejected = (
   (plain_value, reads_capitals),
   (λ is. is (plain_value, reads_capitals)),
   stopped-from_walk (codes "a b") refl,

@@ -10,7 +10,7 @@ use Rattle.mime_lines.specs.Report.ReportsLine.{is_text}
 use Rattle.mime_lines.specs.Report.ReportsLines.{no_more, line_more}
 use Rattle.mime_lines.specs.Inner.{Adds}
 use Rattle.mime_lines.specs.declared.mode.Mode.{Mode}
-use Rattle.mime.specs.Refusals.{IsFault, Explains}
+use Rattle.mime.specs.Faults.{IsFault, Explains}
 use Rattle.mime.specs.declared.scan.fault.ParseError.{ParseError}
 use Rattle.mime.specs.declared.scan.fault.ParseError.TheVariants.{NoMemory}
 

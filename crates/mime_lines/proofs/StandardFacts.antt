@@ -7,11 +7,11 @@ use Rattle.std.specs.Prelude.{Some, None}
 use Rattle.std.specs.Str.{IsUtf8}
 use Rattle.mime.specs.Bytes.{is_token_byte}
 use Rattle.mime.specs.Grammar.{no_list}
-use Rattle.mime.specs.Values.{MediaType, Reads, IsRefused}
-use Rattle.mime.specs.Refusals.{IsFault, IsViable}
+use Rattle.mime.specs.Values.{MediaType, Reads, IsRejected}
+use Rattle.mime.specs.Faults.{IsFault, IsViable}
 use Rattle.mime.specs.Printed.{error_text}
 use Rattle.mime.specs.Cut.{good, bad}
-use Rattle.mime.specs.Laws.{OneReading, OneFault, CompletedIsRefused, AcceptedIsViable}
+use Rattle.mime.specs.Laws.{OneReading, OneFault, CompletedIsRejected, AcceptedIsViable}
 use Rattle.mime.specs.CutLaws.{OneCut}
 use Rattle.mime.specs.declared.scan.fault.ParseError.{ParseError}
 use Rattle.mime.specs.declared.scan.fault.ParseError.TheVariants.{InvalidToken}
@@ -19,7 +19,7 @@ use Rattle.mime_lines.specs.declared.mode.Mode.{Mode}
 use Rattle.mime_lines.specs.declared.error.RunError.TheVariants.{Read, Write, TooLong, NoMemory}
 use Rattle.mime_lines.specs.Program.{limit, mode_named, stop_text}
 use Rattle.mime_lines.specs.Report.{lines_of, row, suffix_row, param_rows, value_rows, item_rows, ReportsText, ReportsLine, ReportsLines, IsReportOf}
-use Rattle.mime_lines.specs.Report.ReportsText.{read, refused, listed}
+use Rattle.mime_lines.specs.Report.ReportsText.{read, rejected, listed}
 use Rattle.mime_lines.specs.Report.ReportsLine.{not_text, is_text}
 use Rattle.mime_lines.specs.Report.ReportsLines.{no_more, line_more}
 use lib.Utf8.{encode}
@@ -111,24 +111,24 @@ report_of_line = line_more (is_text (codes "a/b", (refl, refl)) (read text_value
 report_of_bytes : (mode : Mode) → ¬ (IsUtf8 (255 ∷ [])) → ReportsLine mode (255 ∷ []) (codes "not text\n")
 report_of_bytes mode not_utf8 = not_text not_utf8
 
--- a text with a fault is refused
-refused_by_laws : CompletedIsRefused → AcceptedIsViable → (text : List ℕ) (fault : ParseError) → IsFault text fault → IsRefused text
-refused_by_laws completed viable text (InvalidToken pos byte) dead = λ accepted.
+-- a text with a fault is rejected
+rejected_by_laws : CompletedIsRejected → AcceptedIsViable → (text : List ℕ) (fault : ParseError) → IsFault text fault → IsRejected text
+rejected_by_laws completed viable text (InvalidToken pos byte) dead = λ accepted.
     dead.prefix.longest (length text) (slice_get_within text pos byte dead.there) (omega arith)
     (subst IsViable (sym (take-length text)) (viable text accepted))
-refused_by_laws completed viable text fault lacks = completed text fault lacks
+rejected_by_laws completed viable text fault lacks = completed text fault lacks
 
 -- the report on a text is one
-one_report : OneReading → OneFault → CompletedIsRefused → AcceptedIsViable → OneCut → (mode : Mode) (text first second : List ℕ)
+one_report : OneReading → OneFault → CompletedIsRejected → AcceptedIsViable → OneCut → (mode : Mode) (text first second : List ℕ)
     → ReportsText mode text first → ReportsText mode text second → first ≡ second
 one_report reading one completed viable cut mode text first second (read value reads) (read other again) =
     ap value_rows (reading text value other reads again)
-one_report reading one completed viable cut mode text first second (read value reads) (refused fault is) =
-    absurd (refused_by_laws completed viable text fault is (value, reads))
-one_report reading one completed viable cut mode text first second (refused fault is) (read value reads) =
-    absurd (refused_by_laws completed viable text fault is (value, reads))
-one_report reading one completed viable cut mode text first second (refused fault is) (refused other also) =
-    let only = one text (refused_by_laws completed viable text fault is) in
+one_report reading one completed viable cut mode text first second (read value reads) (rejected fault is) =
+    absurd (rejected_by_laws completed viable text fault is (value, reads))
+one_report reading one completed viable cut mode text first second (rejected fault is) (read value reads) =
+    absurd (rejected_by_laws completed viable text fault is (value, reads))
+one_report reading one completed viable cut mode text first second (rejected fault is) (rejected other also) =
+    let only = one text (rejected_by_laws completed viable text fault is) in
     ap (λ it. row (codes "bad ") (error_text it)) (only.2 fault is ∙ sym (only.2 other also))
 one_report reading one completed viable cut mode text first second (listed items rest is) (listed others left also) =
     let only = cut text in ap item_rows ((only.3 items rest is).0 ∙ sym (only.3 others left also).0)

@@ -3,7 +3,7 @@ use Rattle.std.specs.Prelude.{ℕ, List, [], ◌∷◌, ◌++◌, Option, Some, 
 use Rattle.std.specs.List.{onto_first}
 use Rattle.std.specs.Str.{IsUtf8}
 use Rattle.mime.specs.Values.{MediaType, type_of, subtype_of, suffix_of, Reads}
-use Rattle.mime.specs.Refusals.{IsFault}
+use Rattle.mime.specs.Faults.{IsFault}
 use Rattle.mime.specs.Printed.{error_text}
 use Rattle.mime.specs.Cut.{CutItem, good, bad, Cut}
 use Rattle.mime.specs.declared.scan.fault.ParseError.{ParseError}
@@ -47,7 +47,7 @@ item_rows (item ∷ items) = item_row item ++ item_rows items
 -- what is written of a text: in mode `Parts` the rows of its value, or its fault; in mode `List` the rows of its cut's items
 pub data ReportsText : Mode → List ℕ → List ℕ → Type 0 where
   read : {text : List ℕ} (value : MediaType) → Reads text value → ReportsText Mode.Parts text (value_rows value)
-  refused : {text : List ℕ} (fault : ParseError) → IsFault text fault → ReportsText Mode.Parts text (row (codes "bad ") (error_text fault))
+  rejected : {text : List ℕ} (fault : ParseError) → IsFault text fault → ReportsText Mode.Parts text (row (codes "bad ") (error_text fault))
   listed : {text : List ℕ} (items : List CutItem) (rest : List ℕ) → Cut text items rest → ReportsText Mode.List text (item_rows items)
 
 -- what is written of a line: that it isn't UTF-8, or the report on its text

@@ -22,6 +22,8 @@ use Rattle.mime.proofs.ValueLemmas.KeptText.{text_of-essence, take-essence, leng
 use Rattle.mime.proofs.LowercaseLemmas.{lowered-append, length-lowered, length-tail_lowered, pairs_of_tail-lowered, list_all-lowered}
 use Rattle.mime.proofs.GrammarLemmas.Readings.{one_reading}
 use Rattle.mime.proofs.CompareLemmas.OtherCase.{case_read, case_read-count, case_read-lone_charset}
+use Rattle.mime.specs.Comparison.{Same}
+use Rattle.mime.specs.Laws.{KeptTextIs}
 
 -- ---- what an accepted text with parameters is read as
 
@@ -92,7 +94,7 @@ pub record TextParts (value : MediaType) (text : List ℕ) : Type 0 where
   pub pairs : value.pairs ≡ map lowered_pair (pairs_within (length value.pairs) (drop (length value.essence + 1) text))
   pub accepted : IsAcceptedAt text (length value.essence) (length value.pairs)
 
--- a text is equal to a value with pairs exactly where it has these parts
+-- a text is equal to a value with pairs exactly if it has these parts
 pub text_is-by_parts : (kept text : List ℕ) (value : MediaType) → Reads kept value → value.pairs ≢ []
     → TextIs value text ↔ TextParts value text
 text_is-by_parts kept text value reads some =
@@ -205,7 +207,7 @@ text_is-from_lowered text kept value reads none is =
       bare = λ _. sym (HasNoSemicolon-lowered text) ∙ ap (list_all _) (is ∙ sym essence) ∙ HasNoSemicolon-lowered (essence_of tree) ∙ bare;
     }
 
--- a text is equal to a value without pairs exactly where, lowercased, it is the kept text
+-- a text is equal to a value without pairs exactly if, lowercased, it is the kept text
 pub text_is-bare : (kept : List ℕ) (value : MediaType) → Reads kept value → value.pairs ≡ []
     → (text : List ℕ) → TextIs value text ↔ (lowered text ≡ value.kept)
 text_is-bare kept value reads none text =
@@ -218,7 +220,7 @@ text_is-bare kept value reads none text =
       λ low. text_is-from_lowered text kept value reads none low,
     )
 
--- a text is a value without parameters exactly where it is the kept text ignoring ASCII case
+-- a text is a value without parameters exactly if it is the kept text ignoring ASCII case
 pub text_is-kept_case : (kept text : List ℕ) (value : MediaType) → Reads kept value → kept ≡ value.kept → value.pairs ≡ []
     → TextIs value text ↔ (lowered kept ≡ lowered text)
 text_is-kept_case kept text value reads is none =
@@ -226,3 +228,22 @@ text_is-kept_case kept text value reads is none =
     let essence = is ∙ kept-essence value kept reads (ap length none) in
     let low : lowered kept ≡ value.kept = ap lowered essence ∙ read-low_essence kept value reads ∙ sym essence ∙ is in
     (λ at. low ∙ sym (told.0 at), λ at. told.1 (sym at ∙ low))
+
+-- the kept text of a value without parameters has no semicolon
+kept-no_semicolon : (text : List ℕ) (value : MediaType) → Reads text value → value.pairs ≡ [] → HasNoSemicolon value.kept
+kept-no_semicolon text value reads none =
+    let is = kept-essence value text reads (ap length none) in
+    let low = read-low_essence text value reads in
+    (text_is-from_lowered value.kept text value reads none (ap lowered is ∙ low)).bare none
+
+-- a value is equal to the kept text of a value that was read exactly if the two values are equal
+pub kept_text_is : KeptTextIs
+kept_text_is text value reads other = (
+  λ is. subst (Same other) (one_reading value.kept is.read value is.reads (kept_is_read text value reads)) is.same,
+  λ same. record {
+    read = value;
+    reads = kept_is_read text value reads;
+    same = same;
+    bare = λ none. kept-no_semicolon text value reads (sym same.1 ∙ none);
+  },
+)

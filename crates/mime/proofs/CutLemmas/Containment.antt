@@ -5,22 +5,45 @@ use Rattle.std.proofs.lemmas.Bool.{and_parts, cond-false}
 use Rattle.std.proofs.lemmas.Bool.Decides.{nat_tests}
 use Rattle.mime.proofs.GrammarLemmas.Begun.{Begun, in_type, grow, walk}
 use Rattle.mime.proofs.GrammarLemmas.Characters.{following-low, foreign-from_high, IsForeign, IsOpen, grow-foreign}
-use Rattle.mime.proofs.CutLemmas.Cuts.{Following, following_of, split-size, split-from_dead, items-from_refused, split_inv, empty-cut, has_cut, cut_unique, takes_unique}
+use Rattle.mime.proofs.CutLemmas.Cuts.{Following, following_of, split-size, split-from_dead, items-from_rejected, split_inv, split-piece, empty-rejected, empty-cut, has_cut, cut_unique, takes_unique}
 use Rattle.mime.proofs.ValueLemmas.KeptText.{kept_is_read}
-use Rattle.mime.proofs.GrammarLemmas.Viability.{walk-from_viable, lacks-from_walk, accepted_is_viable, prefix_of_viable_is_viable}
+use Rattle.mime.proofs.GrammarLemmas.Viability.{empty_is_viable, walk-from_viable, lacks-from_walk, accepted_is_viable, prefix_of_viable_is_viable}
 use Rattle.std.specs.Prelude.{IsTrue, map, MatchOption}
 use Rattle.std.specs.List.{list_all, AllByRecursion}
 use Rattle.mime.specs.Bytes.{is_token_byte, comma_byte, space_byte}
 use Rattle.mime.specs.Values.{MediaType, IsAccepted}
-use Rattle.mime.specs.Refusals.{IsViable, IsUnclosed}
+use Rattle.mime.specs.Faults.{IsViable, IsUnclosed}
 use Rattle.mime.specs.declared.scan.fault.ParseError.TheVariants.{MissingQuote}
-use Rattle.mime.proofs.GrammarLemmas.Faults.{completed_is_refused}
-use Rattle.mime.specs.Cut.{is_following_byte, BeginsCharacter, IsCharacter, IsSplit, CutItem, good, ItemsOf, is_read, is_empty, Cut, whole, unfinished, goes_on, last, next, steps_of, TakesSteps}
-use Rattle.mime.specs.CutLaws.{OneCut, CutWritesText, OneCount, items_of_rest, CommaContains, joined, IsRead, kept_item, JoinedComesBack, is_separator, IsHttpList, no_element, separated, one_element, more_elements, HttpListIsCut}
+use Rattle.mime.proofs.GrammarLemmas.Faults.{completed_is_rejected}
+use Rattle.mime.specs.Cut.{is_following_byte, BeginsCharacter, IsCharacter, IsSplit, CutItem, good, ItemsOf, is_read, is_rejected, is_empty, Cut, whole, unfinished, goes_on, last, next, steps_of, TakesSteps}
+use Rattle.mime.specs.CutLaws.{OneCut, CutWritesText, IsItem, CutHasItems, OneCount, items_of_rest, CommaContains, joined, IsRead, kept_item, JoinedComesBack, is_separator, IsHttpList, no_element, separated, one_element, more_elements, HttpListIsCut}
 
 -- a text has exactly one cut
 pub one_cut : OneCut
 one_cut text = let found = has_cut text in (found.items, found.rest, found.cut, cut_unique text found.items found.rest found.cut)
+
+-- ---- items
+
+-- items that are followed by others
+are_items-append : (items others : List CutItem) → AllByRecursion IsItem items → AllByRecursion IsItem others
+    → AllByRecursion IsItem (items ++ others)
+are_items-append [] others are more = more
+are_items-append (item ∷ items) others are more = (are.0, are_items-append items others are.1 more)
+
+-- the items of a viable piece
+are_items-of : (piece : List ℕ) (items : List CutItem) → IsViable piece → ItemsOf piece items → AllByRecursion IsItem items
+are_items-of piece items viable (is_read value reads) = (reads, tt)
+are_items-of piece items viable (is_rejected is some) = ((viable, is, some), tt)
+are_items-of piece items viable (is_empty none) = tt
+
+-- each item of a cut is one
+pub cut_has_items : CutHasItems
+cut_has_items text items rest (whole t value reads) = ((reads, tt), empty_is_viable, empty-rejected)
+cut_has_items text items rest (unfinished t viable is) = (tt, viable, is)
+cut_has_items text items rest (goes_on t p c l first others r split of_piece cut) =
+    let viable = subst IsViable (split-piece t p c l split) split.prefix.viable in
+    let more = cut_has_items l others r cut in
+    (are_items-append first others (are_items-of p first viable of_piece) more.0, more.1, more.2)
 
 -- ---- pieces
 
@@ -98,7 +121,7 @@ comma-split text bytes rest viable closed =
 
 -- an accepted text isn't open
 accepted-closed : (text : List ℕ) → IsAccepted text → ¬ (IsUnclosed text)
-accepted-closed text accepted unclosed = completed_is_refused text MissingQuote unclosed accepted
+accepted-closed text accepted unclosed = completed_is_rejected text MissingQuote unclosed accepted
 
 -- a prefix of a viable text is viable
 take-viable : (text : List ℕ) (k n : ℕ) → k ≤ n → IsViable (take n text) → IsViable (take k text)
@@ -146,7 +169,7 @@ pub comma_contains : CommaContains
 comma_contains before after items others rest end (whole t v reads) closed cut =
     comma-cut t after (good t v ∷ []) others end (accepted_is_viable t (v, reads)) (accepted-closed t (v, reads)) (is_read v reads) cut
 comma_contains before after items others rest end (unfinished t viable is) closed cut =
-    comma-cut t after (items_of_rest t) others end viable closed (items-from_refused t is) cut
+    comma-cut t after (items_of_rest t) others end viable closed (items-from_rejected t is) cut
 comma_contains before after items others rest end (goes_on t p c l first own r split of_piece inner) closed cut =
     subst (λ i. Cut (t ++ (comma_byte ∷ after)) i end) (sym (append_assoc first own (items_of_rest r ++ others)))
     (goes_on (t ++ (comma_byte ∷ after)) p c (l ++ (comma_byte ∷ after)) first (own ++ (items_of_rest r ++ others)) end

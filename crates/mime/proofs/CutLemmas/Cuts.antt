@@ -4,13 +4,13 @@ use Rattle.std.proofs.Math.Seq.{take-append_seam, drop-append_seam, take-length}
 use Rattle.std.proofs.lemmas.Bool.{and_parts}
 use Rattle.std.specs.Prelude.{IsTrue, ◌&&◌}
 use Rattle.std.specs.List.{list_all, prefix_len}
-use Rattle.mime.specs.Values.{IsAccepted, IsRefused}
-use Rattle.mime.specs.Refusals.{IsViable}
+use Rattle.mime.specs.Values.{IsAccepted, IsRejected}
+use Rattle.mime.specs.Faults.{IsViable}
 use Rattle.mime.proofs.GrammarLemmas.Begun.{Begun, in_type, grow, walk, tree_of}
-use Rattle.mime.proofs.GrammarLemmas.Readings.{one_reading, refused-from_walk, stopped-from_walk}
+use Rattle.mime.proofs.GrammarLemmas.Readings.{one_reading, rejected-from_walk, stopped-from_walk}
 use Rattle.mime.proofs.GrammarLemmas.Viability.{by_option, accepted-from_complete, viable-from_walk, prefix-from_walk, prefix_unique, accepted_is_viable, empty_is_viable, stop-from_walk}
 use Rattle.mime.specs.CutLaws.{items_of_rest}
-use Rattle.mime.specs.Cut.{is_following_byte, BeginsCharacter, IsCharacter, IsSplit, CutItem, good, ItemsOf, is_read, is_refused, is_empty, Cut, whole, unfinished, goes_on, Pieces, last, next, steps_of, TakesSteps}
+use Rattle.mime.specs.Cut.{is_following_byte, BeginsCharacter, IsCharacter, IsSplit, CutItem, good, ItemsOf, is_read, is_rejected, is_empty, Cut, whole, unfinished, goes_on, Pieces, last, next, steps_of, TakesSteps}
 
 -- ---- a character
 
@@ -104,12 +104,12 @@ split-from_dead prefix bytes b begun rest walked dead = record {
 
 -- ---- which rule a text takes
 
--- a text is accepted or refused
-pub accepted_or_refused : (text : List ℕ) → IsAccepted text ⊎ IsRefused text
-accepted_or_refused text =
+-- a text is accepted or rejected
+pub accepted_or_rejected : (text : List ℕ) → IsAccepted text ⊎ IsRejected text
+accepted_or_rejected text =
     by_option (walk text) (λ stopped. inr (stopped-from_walk text stopped))
     (λ begun walked.
-    by_option (tree_of begun) (λ is. inr (refused-from_walk text begun walked is))
+    by_option (tree_of begun) (λ is. inr (rejected-from_walk text begun walked is))
     (λ tree is. inl (accepted-from_complete text begun tree walked is)))
 
 -- a text that can't be walked is split
@@ -127,12 +127,12 @@ split-from_walk text stopped =
 -- ---- a text has a cut
 
 -- the empty text is no media type,
-pub empty-refused : IsRefused []
-empty-refused = refused-from_walk [] (in_type []) refl refl
+pub empty-rejected : IsRejected []
+empty-rejected = rejected-from_walk [] (in_type []) refl refl
 
 -- the empty text has no item
 pub empty-cut : Cut [] [] []
-empty-cut = unfinished [] empty_is_viable empty-refused
+empty-cut = unfinished [] empty_is_viable empty-rejected
 
 -- the cut of a text, whichever it is
 pub record HasCut (text : List ℕ) : Type 0 where
@@ -140,15 +140,15 @@ pub record HasCut (text : List ℕ) : Type 0 where
   pub rest : List ℕ
   pub cut : Cut text items rest
 
--- a refused piece is a bad piece, or empty
-pub items-from_refused : (piece : List ℕ) → IsRefused piece → ItemsOf piece (items_of_rest piece)
-items-from_refused [] is = is_empty refl
-items-from_refused (b ∷ piece) is = is_refused is (λ e. absurd (omega (arith, ap length e)))
+-- a rejected piece is a bad piece, or empty
+pub items-from_rejected : (piece : List ℕ) → IsRejected piece → ItemsOf piece (items_of_rest piece)
+items-from_rejected [] is = is_empty refl
+items-from_rejected (b ∷ piece) is = is_rejected is (λ e. absurd (omega (arith, ap length e)))
 
 -- the items of a piece, whichever they are
 has_items : (piece : List ℕ) → (first : List CutItem) × ItemsOf piece first
 has_items piece =
-    ⊎_elim (λ accepted. (_, is_read accepted.0 accepted.1)) (λ is. (_, items-from_refused piece is)) (accepted_or_refused piece)
+    ⊎_elim (λ accepted. (_, is_read accepted.0 accepted.1)) (λ is. (_, items-from_rejected piece is)) (accepted_or_rejected piece)
 
 cut_within : (n : ℕ) (text : List ℕ) → length text < n → HasCut text
 cut_within zero text below = absurd (omega arith)
@@ -162,7 +162,7 @@ cut_within (suc n) text below =
     record { items = _; rest = _; cut = goes_on text p c l first.0 others.items others.rest split first.1 others.cut })
     (λ begun walked.
     ⊎_elim (λ accepted. record { items = _; rest = _; cut = whole text accepted.0 accepted.1 })
-    (λ is. record { items = _; rest = _; cut = unfinished text (viable-from_walk text begun walked) is }) (accepted_or_refused text))
+    (λ is. record { items = _; rest = _; cut = unfinished text (viable-from_walk text begun walked) is }) (accepted_or_rejected text))
 
 pub has_cut : (text : List ℕ) → HasCut text
 has_cut text = cut_within (suc (length text)) text (omega arith)
@@ -172,13 +172,13 @@ has_cut text = cut_within (suc (length text)) text (omega arith)
 -- a piece has one list of items
 pub items_of_unique : (piece : List ℕ) (one two : List CutItem) → ItemsOf piece one → ItemsOf piece two → one ≡ two
 items_of_unique piece one two (is_read v reads) (is_read w again) = ap (λ x. good piece x ∷ []) (one_reading piece v w reads again)
-items_of_unique piece one two (is_read v reads) (is_refused is some) = absurd (is (v, reads))
-items_of_unique piece one two (is_read v reads) (is_empty e) = absurd (empty-refused (subst IsAccepted e (v, reads)))
-items_of_unique piece one two (is_refused is some) (is_read w again) = absurd (is (w, again))
-items_of_unique piece one two (is_refused is some) (is_refused too also) = refl
-items_of_unique piece one two (is_refused is some) (is_empty e) = absurd (some e)
-items_of_unique piece one two (is_empty e) (is_read w again) = absurd (empty-refused (subst IsAccepted e (w, again)))
-items_of_unique piece one two (is_empty e) (is_refused is some) = absurd (some e)
+items_of_unique piece one two (is_read v reads) (is_rejected is some) = absurd (is (v, reads))
+items_of_unique piece one two (is_read v reads) (is_empty e) = absurd (empty-rejected (subst IsAccepted e (v, reads)))
+items_of_unique piece one two (is_rejected is some) (is_read w again) = absurd (is (w, again))
+items_of_unique piece one two (is_rejected is some) (is_rejected too also) = refl
+items_of_unique piece one two (is_rejected is some) (is_empty e) = absurd (some e)
+items_of_unique piece one two (is_empty e) (is_read w again) = absurd (empty-rejected (subst IsAccepted e (w, again)))
+items_of_unique piece one two (is_empty e) (is_rejected is some) = absurd (some e)
 items_of_unique piece one two (is_empty e) (is_empty f) = refl
 
 -- a split text's cut: the items of its piece, and then those of what is left

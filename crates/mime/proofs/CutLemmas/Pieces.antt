@@ -8,10 +8,10 @@ use Rattle.std.proofs.lemmas.Str.{IsCharBoundary-from_rest}
 use Rattle.std.specs.Prelude.{IsTrue, IsFalse, ◌&&◌}
 use Rattle.std.specs.List.{list_all}
 use Rattle.std.specs.Str.{IsUtf8, IsCharBoundary}
-use Rattle.mime.specs.Values.{IsAccepted, IsRefused}
-use Rattle.mime.specs.Refusals.{IsViable, IsLongestPrefix, IsDeadAt}
-use Rattle.mime.specs.Cut.{is_following_byte, BeginsCharacter, IsCharacter, IsSplit, CutItem, good, bad, ItemsOf, is_read, is_refused, is_empty, Cut, whole, unfinished, goes_on, TakesSteps}
-use Rattle.mime.specs.Inner.ReaderState.{Remaining}
+use Rattle.mime.specs.Values.{IsAccepted, IsRejected}
+use Rattle.mime.specs.Faults.{IsViable, IsLongestPrefix, IsDeadAt}
+use Rattle.mime.specs.Cut.{is_following_byte, BeginsCharacter, IsCharacter, IsSplit, CutItem, good, bad, ItemsOf, is_read, is_rejected, is_empty, Cut, whole, unfinished, goes_on, TakesSteps}
+use Rattle.mime.specs.Inner.Remaining.{Remaining}
 use Rattle.mime.specs.Inner.Scanning.{HasPositions, Judges, Scans}
 use Rattle.mime.specs.Inner.BetweenCalls.{IsUnderWay, IsFirstPiece, ReadsPiece}
 use Rattle.mime.specs.declared.scan.fault.ParseError.{ParseError}
@@ -19,8 +19,8 @@ use Rattle.mime.specs.declared.scan.Positions.{Positions}
 use Rattle.mime.specs.declared.scan.Verdict.{Verdict}
 use Rattle.mime.specs.declared.scan.Verdict.TheVariants.{Accepted, Unfinished, Stopped}
 use Rattle.mime.proofs.GrammarLemmas.Characters.{following-low, prefix_ends_between_characters}
-use Rattle.mime.proofs.CutLemmas.Cuts.{empty-refused, empty-cut, split-size, cut_unique, takes-split, takes-viable, takes-empty}
-use Rattle.mime.proofs.ValueLemmas.Reading.{accepted-from_positions, refused-from_fault}
+use Rattle.mime.proofs.CutLemmas.Cuts.{empty-rejected, empty-cut, split-size, cut_unique, takes-split, takes-viable, takes-empty}
+use Rattle.mime.proofs.ValueLemmas.Reading.{accepted-from_positions, rejected-from_fault}
 use Rattle.mime.proofs.GrammarLemmas.Viability.{accepted_is_viable}
 
 -- ---- the first character of a text
@@ -93,7 +93,7 @@ pub passes-whole : (text : List ℕ) (positions : Positions) (steps : ℕ) → J
 passes-whole text positions steps (is, has) =
     let accepted = accepted-from_positions text positions has in
     record {
-      empty = λ none. absurd (empty-refused (subst IsAccepted none accepted));
+      empty = λ none. absurd (empty-rejected (subst IsAccepted none accepted));
       item = λ some. (
         has,
         λ value reads items rest cut.
@@ -111,7 +111,7 @@ pub passes-unfinished : (text : List ℕ) (fault : ParseError) (steps : ℕ) →
 passes-unfinished text fault steps (is, fault_is, viable) = record {
   empty = λ e. record {
     carries = λ some. absurd (some refl);
-    ends = λ end. (text, unfinished text viable (refused-from_fault text fault fault_is));
+    ends = λ end. (text, unfinished text viable (rejected-from_fault text fault fault_is));
   };
   item = λ some. absurd (some refl);
   less = λ some. some;
@@ -120,7 +120,7 @@ passes-unfinished text fault steps (is, fault_is, viable) = record {
 
 -- a character that can't follow ends the piece
 passes-split : (text piece character left : List ℕ) (positions : Option Positions) → IsSplit text piece character left
-    → MatchOption positions (IsRefused piece) (λ p. HasPositions piece p) → ReadsPiece text piece positions left (length piece + 1)
+    → MatchOption positions (IsRejected piece) (λ p. HasPositions piece p) → ReadsPiece text piece positions left (length piece + 1)
 passes-split text piece character left positions split is =
     let size = split-size text piece character left split in
     record {
@@ -140,9 +140,9 @@ passes-split text piece character left positions split is =
         → Cut text (first ++ items) rest
     on first of_piece items rest cut = goes_on text piece character left first items rest split of_piece cut
 
-    first : (positions : Option Positions) → MatchOption positions (IsRefused piece) (λ p. HasPositions piece p) → piece ≢ []
+    first : (positions : Option Positions) → MatchOption positions (IsRejected piece) (λ p. HasPositions piece p) → piece ≢ []
         → IsFirstPiece text piece positions left
-    first None is some = on (bad piece ∷ []) (is_refused is some)
+    first None is some = on (bad piece ∷ []) (is_rejected is some)
     first (Some p) has some = (has, λ value reads. on (good piece value ∷ []) (is_read value reads))
 
 -- a text may be cut in what follows a position where it may be cut after that position
@@ -168,7 +168,7 @@ pub passes-stopped : (text piece left : List ℕ) (steps at end byte : ℕ) (pos
     → Judges text steps (Stopped byte positions) → at ≡ steps - 1 → piece ≡ take at text → left ≡ drop end text
     → (at + 1 ≤ length text → at + 1 ≤ end) → IsCharBoundary text end → ((i : ℕ) → at + 1 ≤ i → i < end → ¬ (IsCharBoundary text i))
     → ReadsPiece text piece positions left steps
-passes-stopped text piece left steps at end byte positions (given, dead_at, refused) is_at is_piece is_left past border near =
+passes-stopped text piece left steps at end byte positions (given, dead_at, rejected) is_at is_piece is_left past border near =
     let dead = subst (λ n. IsDeadAt text n byte) (sym is_at) dead_at in
     let size : length (take at text) ≡ at = length-take-le at text dead.prefix.within in
     let there : at < length text = slice_get_within text at byte dead.there in
@@ -180,4 +180,4 @@ passes-stopped text piece left steps at end byte positions (given, dead_at, refu
       spelled = sym (take-append-drop at text) ∙ ap (λ t. take at text ++ t) (after.1 ∙ ap (λ t. after.0 ++ t) (sym is_left));
       prefix = subst (IsLongestPrefix text) (sym size) dead.prefix;
       is_character = subst (IsCharacter after.0) (sym is_left) after.2;
-    }) (rw is_at refused)))
+    }) (rw is_at rejected)))

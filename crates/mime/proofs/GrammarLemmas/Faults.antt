@@ -1,4 +1,4 @@
--- Each refused text has one fault, and a viable one has one completion.
+-- Each rejected text has one fault, and a viable one has one completion.
 use Rattle.std.proofs.Common.{◌≡◌, ℕ, ◌+◌, ◌<◌, ◌≤◌, Bool, false, List, [], ◌∷◌, ◌++◌, length, drop, Some, None, refl, sym, ap, ◌∙◌, arith, append-nil, length-append, codes}
 use Rattle.std.proofs.Math.Seq.{drop-append_seam}
 use Rattle.std.proofs.lemmas.Bool.{false≢true, and_parts}
@@ -11,10 +11,10 @@ use Rattle.std.specs.Option.{option_and_then}
 use Rattle.mime.specs.Bytes.{is_token_byte, is_quoted_byte, slash_byte, equals_byte}
 use Rattle.mime.specs.Inner.Quoted.{takes_all, awaits_after}
 use Rattle.mime.proofs.GrammarLemmas.Content.{takes_all-any}
-use Rattle.mime.specs.Values.{IsRefused}
-use Rattle.mime.specs.Refusals.{IsLongestPrefix, EndsIn, Lacks, IsDeadAt, IsFault}
+use Rattle.mime.specs.Values.{IsRejected}
+use Rattle.mime.specs.Faults.{IsLongestPrefix, EndsIn, Lacks, IsDeadAt, IsFault}
 use Rattle.mime.proofs.GrammarLemmas.Begun.{Closed, Begun, in_type, in_subtype, in_list, ListState, in_name, in_value, in_quotes, list_at, walk, tree_of, lacking}
-use Rattle.mime.specs.Laws.{OneCompletion, CompletedIsRefused, OneFault, OneLongestPrefix}
+use Rattle.mime.specs.Laws.{OneCompletion, CompletedIsRejected, OneFault, OneLongestPrefix}
 use Rattle.mime.specs.declared.scan.fault.ParseError.{ParseError}
 use Rattle.mime.specs.declared.scan.fault.ParseError.TheVariants.{MissingSlash, MissingSubtype, MissingEqual, MissingValue, MissingQuote, InvalidToken}
 use Rattle.mime.proofs.GrammarLemmas.Spelling.{before_equals, begun-from_walk, spelled-from_walk, text-in_subtype, text-in_value}
@@ -128,9 +128,9 @@ lacks_own text (in_list top sub list) walked = at list.position list.closed walk
         completes_not = not_completes-open top sub closed n name content
     at other closed walked = own-by_fault text _ walked never nor never nor never
 
--- a text that a completion makes an accepted one is refused
-pub completed_is_refused : CompletedIsRefused
-completed_is_refused text fault lacks accepted =
+-- a text that a completion makes an accepted one is rejected
+pub completed_is_rejected : CompletedIsRejected
+completed_is_rejected text fault lacks accepted =
     let found = walk-accepted text accepted in
     none-some found.1 (sym (lacks_own text found.0 found.2.0 fault lacks).1 ∙ found.2.1)
 
@@ -140,17 +140,17 @@ lacks_unique text first second one two =
     let reached = walk-from_viable text (viable-from_lacks text first one) in
     (lacks_own text reached.0 reached.1 first one).0 ∙ sym (lacks_own text reached.0 reached.1 second two).0
 
--- a refused text that can be walked lacks what the state at its end says
-lacks-from_refused : (text : List ℕ) (begun : Begun) → walk text ≡ Some begun → IsRefused text → Lacks text (lacking begun)
-lacks-from_refused text begun walked refused =
+-- a rejected text that can be walked lacks what the state at its end says
+lacks-from_rejected : (text : List ℕ) (begun : Begun) → walk text ≡ Some begun → IsRejected text → Lacks text (lacking begun)
+lacks-from_rejected text begun walked rejected =
     by_option (tree_of begun) (lacks-from_walk text begun walked)
-    (λ tree complete. absurd (refused (accepted-from_complete text begun tree walked complete)))
+    (λ tree complete. absurd (rejected (accepted-from_complete text begun tree walked complete)))
 
--- exactly one completion makes a viable refused text an accepted one
+-- exactly one completion makes a viable rejected text an accepted one
 pub one_completion : OneCompletion
-one_completion text viable refused =
+one_completion text viable rejected =
     let reached = walk-from_viable text viable in
-    let lacks = lacks-from_refused text reached.0 reached.1 refused in
+    let lacks = lacks-from_rejected text reached.0 reached.1 rejected in
     (lacking reached.0, lacks, λ other lacks_too. lacks_unique text other (lacking reached.0) lacks_too lacks)
 
 -- ---- the fault
@@ -177,14 +177,14 @@ fault_unique text other (InvalidToken pos byte) one two =
     absurd (not_viable-at_dead text pos byte two (viable-from_lacks text other one))
 fault_unique text first second one two = lacks_unique text first second one two
 
--- a refused text has exactly one fault
+-- a rejected text has exactly one fault
 pub one_fault : OneFault
-one_fault text refused =
+one_fault text rejected =
     let found : (fault : ParseError) × IsFault text fault =
     by_option (walk text)
     (λ stopped.
     let stop = stop-from_walk (in_type []) text stopped in (InvalidToken (length stop.prefix) stop.byte, dead-from_stop text stop))
-    (λ begun walked. (lacking begun, fault-from_lacks text (lacking begun) (lacks-from_refused text begun walked refused))) in
+    (λ begun walked. (lacking begun, fault-from_lacks text (lacking begun) (lacks-from_rejected text begun walked rejected))) in
     (found.0, found.1, λ other is. fault_unique text other found.0 is found.1)
 
 -- a text has exactly one longest viable prefix

@@ -5,7 +5,7 @@ use Rattle.std.proofs.lemmas.Option.{same_Some, none-some, MatchOption-at_some}
 use Rattle.std.specs.Option.{option_and_then, option_map}
 use Rattle.mime.specs.Bytes.{is_token_byte, slash_byte, semicolon_byte, equals_byte, quote_byte}
 use Rattle.mime.specs.Grammar.{Parameter, plain, quoted, Parameters, blank, final, more, Tail, no_list, listed, SyntaxTree, AreSpaces, text_of_parameter, text_of_list, text_of, IsToken, IsContent, IsParameter, AreParameters, IsTail, IsWellFormed}
-use Rattle.mime.specs.Values.{MediaType, value_of, Reads, IsAccepted, IsRefused}
+use Rattle.mime.specs.Values.{MediaType, value_of, Reads, IsAccepted, IsRejected}
 use Rattle.mime.specs.Inner.Quoted.{continues}
 use Rattle.mime.proofs.GrammarLemmas.Content.{content-taken, content-closed}
 use Rattle.mime.proofs.GrammarLemmas.Begun.{Closed, Begun, in_type, in_subtype, in_list, BegunList, ListState, in_spaces, in_name, in_value, in_quotes, after_quotes, begun_list, list_at, at_state, close, grow, grow_list, grow_state, walk, walk_from, walk_list, with_closed, ended_list, tree_of, walk_by-step, walk_by-append_some, walk_from-in_list, walk-type, walk_from-subtype, walk_list-spaces, walk_list-name, walk_list-value, walk_list-open, walk_list-after_quotes}
@@ -174,14 +174,14 @@ walk-accepted text accepted =
     let found = walk-text_of reads.tree reads.well_formed in
     (found.0, reads.tree, (ap walk (sym reads.spelled) ∙ found.1.0, found.1.1))
 
--- a text that may not end where it ends is refused
-pub refused-from_walk : (text : List ℕ) (begun : Begun) → walk text ≡ Some begun → tree_of begun ≡ None → IsRefused text
-refused-from_walk text begun walked unfinished accepted =
+-- a text that may not end where it ends is rejected
+pub rejected-from_walk : (text : List ℕ) (begun : Begun) → walk text ≡ Some begun → tree_of begun ≡ None → IsRejected text
+rejected-from_walk text begun walked unfinished accepted =
     let found = walk-accepted text accepted in
     let same : found.0 ≡ begun = same_Some found.0 begun (sym found.2.0 ∙ walked) in
     none-some found.1 (sym unfinished ∙ ap tree_of (sym same) ∙ found.2.1)
 
--- a text that can't be walked is refused
-pub stopped-from_walk : (text : List ℕ) → walk text ≡ None → IsRefused text
+-- a text that can't be walked is rejected
+pub stopped-from_walk : (text : List ℕ) → walk text ≡ None → IsRejected text
 stopped-from_walk text stopped accepted =
     let found = walk-accepted text accepted in none-some found.0 (sym stopped ∙ found.2.0)

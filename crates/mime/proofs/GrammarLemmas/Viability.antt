@@ -7,8 +7,8 @@ use Rattle.std.specs.Prelude.{IsTrue, MatchOption, is_some}
 use Rattle.std.specs.Option.{option_and_then, option_map}
 use Rattle.mime.specs.Bytes.{is_token_byte, is_quoted_byte, quote_byte}
 use Rattle.mime.specs.Grammar.{SyntaxTree}
-use Rattle.mime.specs.Values.{value_of, IsAccepted, IsRefused}
-use Rattle.mime.specs.Refusals.{IsViable, IsLongestPrefix, completion_of, Lacks, IsDeadAt, IsFault}
+use Rattle.mime.specs.Values.{value_of, IsAccepted, IsRejected}
+use Rattle.mime.specs.Faults.{IsViable, IsLongestPrefix, completion_of, Lacks, IsDeadAt, IsFault}
 use Rattle.mime.proofs.GrammarLemmas.Begun.{Closed, Begun, in_type, in_subtype, in_list, ListState, in_name, in_value, in_quotes, list_at, grow, walk, walk_from, tree_of, lacking, lacking_list, walk_by-step, walk_by-append, walk_by-append_some, walk_from-in_list, walk_list-open}
 use Rattle.mime.specs.Laws.{EmptyIsViable, PrefixOfViableIsViable, AcceptedIsViable}
 use Rattle.mime.specs.declared.scan.fault.ParseError.{ParseError}
@@ -197,9 +197,9 @@ not_viable-at_dead text pos byte dead viable =
     dead.prefix.longest (length text) (slice_get_within text pos byte dead.there) (omega arith)
     (subst IsViable (sym (take-length text)) viable)
 
--- a text with a byte at fault is refused
-pub refused-at_dead : (text : List ℕ) (pos byte : ℕ) → IsDeadAt text pos byte → IsRefused text
-refused-at_dead text pos byte dead accepted = not_viable-at_dead text pos byte dead (accepted_is_viable text accepted)
+-- a text with a byte at fault is rejected
+pub rejected-at_dead : (text : List ℕ) (pos byte : ℕ) → IsDeadAt text pos byte → IsRejected text
+rejected-at_dead text pos byte dead accepted = not_viable-at_dead text pos byte dead (accepted_is_viable text accepted)
 
 -- where a walk stops
 pub record Stop (start : Begun) (text : List ℕ) : Type 0 where

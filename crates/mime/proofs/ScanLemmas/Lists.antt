@@ -5,7 +5,7 @@ use Rattle.std.specs.Option.{option_to_list}
 use Rattle.std.proofs.lemmas.Bool.{and_from, cond-true, cond-false}
 use Rattle.mime.specs.Bytes.{is_token_byte, equals_byte, quote_byte, semicolon_byte}
 use Rattle.mime.specs.Values.{last_plus}
-use Rattle.mime.specs.Inner.ReaderState.{Remaining}
+use Rattle.mime.specs.Inner.Remaining.{Remaining}
 use Rattle.mime.specs.declared.scan.Positions.{Positions}
 use Rattle.mime.specs.declared.scan.Verdict.{Verdict}
 use Rattle.mime.specs.Inner.Scanning.{Given, GivesFirst, Passes, positions_of, before_list, ScansList, Scans, PassesContent}

@@ -8,7 +8,8 @@ use Rattle.std.proofs.lemmas.List.Folds.{list_all-append}
 use Rattle.mime.specs.Bytes.{is_token_byte, is_quoted_byte, is_quoted_text_byte, plus_byte, backslash_byte}
 use Rattle.mime.specs.Inner.Quoted.{awaits_next, takes, takes_all, awaits_after, IsOpenContent, continues}
 use Rattle.mime.specs.Values.{last_plus}
-use Rattle.mime.specs.Inner.ReaderState.{Remaining, is_token_except_plus}
+use Rattle.mime.specs.Inner.Remaining.{Remaining}
+use Rattle.mime.specs.Inner.ByteClasses.{is_token_except_plus}
 use Rattle.mime.specs.Inner.Scanning.{Given, GivesFirst, Passes, PassesContent, PassesSubtype}
 use Rattle.mime.proofs.BytesLemmas.{list_all-wider}
 use Rattle.mime.proofs.GrammarLemmas.Content.{takes-backslash, takes_all-text, awaits_after-text, awaits_after-append, takes_all-append, not_taken}

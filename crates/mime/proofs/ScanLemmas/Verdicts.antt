@@ -3,8 +3,8 @@ use Rattle.std.proofs.Common.{◌≡◌, ℕ, ◌+◌, ◌-◌, List, [], ◌∷
 use Rattle.std.specs.Option.{option_map}
 use Rattle.std.proofs.lemmas.List.{take_at}
 use Rattle.mime.specs.Grammar.{Parameter, Parameters, more, listed, SyntaxTree, text_of}
-use Rattle.mime.specs.Values.{pairs_of_list, IsRefused}
-use Rattle.mime.specs.Inner.ReaderState.{Remaining}
+use Rattle.mime.specs.Values.{pairs_of_list, IsRejected}
+use Rattle.mime.specs.Inner.Remaining.{Remaining}
 use Rattle.mime.specs.Inner.Scanning.{Given, positions_of, HasPositions, Judges, before_list, ScansList, Scans}
 use Rattle.mime.specs.declared.scan.Positions.{Positions}
 use Rattle.mime.specs.declared.scan.fault.ParseError.{ParseError}
@@ -12,7 +12,7 @@ use Rattle.mime.specs.declared.scan.Verdict.{Verdict}
 use Rattle.mime.specs.declared.scan.Verdict.TheVariants.{Accepted, Unfinished, Stopped}
 use Rattle.mime.proofs.GrammarLemmas.Begun.{Begun, in_type, in_list, BegunList, begun_list, grow, grow_list, walk, walk_from, walk_list, with_closed, list_at_end, tree_of, lacking, lacking_list, walk_by-append_some, walk_from-in_list}
 use Rattle.mime.proofs.ScanLemmas.Passing.{given_then, given_whole}
-use Rattle.mime.proofs.GrammarLemmas.Readings.{accepted-from_walk, refused-from_walk, walk-head}
+use Rattle.mime.proofs.GrammarLemmas.Readings.{accepted-from_walk, rejected-from_walk, walk-head}
 use Rattle.mime.proofs.GrammarLemmas.Viability.{lacks-from_walk, viable-from_walk, dead-from_walk}
 use Rattle.mime.proofs.GrammarLemmas.Faults.{fault-from_lacks}
 
@@ -80,8 +80,8 @@ judged text begun (Some tree) w e = (refl, has_positions text begun tree w e)
 
 -- the text before a byte that leads nowhere is judged by the tree that it makes, if any
 judged_before : (text : List ℕ) (begun : Begun) (tree : Option SyntaxTree) → walk text ≡ Some begun → tree_of begun ≡ tree
-    → MatchOption (option_map positions_of tree) (IsRefused text) (λ positions. HasPositions text positions)
-judged_before text begun None w e = refused-from_walk text begun w e
+    → MatchOption (option_map positions_of tree) (IsRejected text) (λ positions. HasPositions text positions)
+judged_before text begun None w e = rejected-from_walk text begun w e
 judged_before text begun (Some tree) w e = has_positions text begun tree w e
 
 -- the scanner's answer where it stops, at the end or at a byte that leads nowhere

@@ -16,7 +16,7 @@ use Rattle.mime.specs.HashLaws.{IsReadInUtf8, IsPrefixFree}
 use Rattle.mime.proofs.BytesLemmas.{list_all-parts, list_all-wider, is_other, AreTokenBytes-from_token, are_other-token}
 use Rattle.mime.proofs.LowercaseLemmas.{IsToken-lowered, list_all-lowered, lowered_value-either}
 use Rattle.mime.specs.Inner.Blocks.{before_byte, after_byte}
-use Rattle.mime.proofs.ValueLemmas.ListText.{ended, before_to, after_to}
+use Rattle.mime.proofs.ValueLemmas.ListText.{ended, before_byte-run, after_byte-run}
 use Rattle.std.proofs.lemmas.Bool.{cases_lt}
 use Rattle.std.proofs.lemmas.Str.{encode_ascii}
 use Rattle.mime.proofs.ValueLemmas.Utf8.{high_bytes}
@@ -66,8 +66,8 @@ lowered_bytes text all = list_all-lowered (is_other 255) (λ b. grind (arith, na
 -- two runs up to the first byte 255 are the same, and so is what follows
 first_end : (xs ys m n : List ℕ) → AreTextBytes xs → AreTextBytes ys → xs ++ (255 ∷ m) ≡ ys ++ (255 ∷ n) → (xs ≡ ys) × (m ≡ n)
 first_end xs ys m n one other same = (
-  sym (before_to 255 xs (255 ∷ m) m one (ended m)) ∙ ap (before_byte 255) same ∙ before_to 255 ys (255 ∷ n) n other (ended n),
-  sym (after_to 255 xs (255 ∷ m) m one (ended m)) ∙ ap (after_byte 255) same ∙ after_to 255 ys (255 ∷ n) n other (ended n),
+  sym (before_byte-run 255 xs (255 ∷ m) m one (ended m)) ∙ ap (before_byte 255) same ∙ before_byte-run 255 ys (255 ∷ n) n other (ended n),
+  sym (after_byte-run 255 xs (255 ∷ m) m one (ended m)) ∙ ap (after_byte 255) same ∙ after_byte-run 255 ys (255 ∷ n) n other (ended n),
 )
 
 -- ---- the values that are read

@@ -40,9 +40,9 @@ position_to byte (x ∷ run) follow rest all nothing =
     cond-true (is_other byte x) _ 0 parts.0 ∙ omega (arith, position_to byte run [] [] parts.1 nothing)
 
 -- the text before it
-pub before_to : (byte : ℕ) (run follow rest : List ℕ) → list_all (is_other byte) run ≡ true → IsFollow byte follow rest
+pub before_byte-run : (byte : ℕ) (run follow rest : List ℕ) → list_all (is_other byte) run ≡ true → IsFollow byte follow rest
     → before_byte byte (run ++ follow) ≡ run
-before_to byte run follow rest all follows = take_at run follow _ (omega (arith, position_to byte run follow rest all follows))
+before_byte-run byte run follow rest all follows = take_at run follow _ (omega (arith, position_to byte run follow rest all follows))
 
 -- what is left after a run and a byte
 pub drop_past : (byte : ℕ) (run follow rest : List ℕ) (n : ℕ) → IsFollow byte follow rest → length run ≡ n → drop (n + 1) (run ++ follow) ≡ rest
@@ -54,9 +54,9 @@ drop_past byte run follow rest n follows long =
     past follow rest (ended _) = refl
 
 -- the text after it
-pub after_to : (byte : ℕ) (run follow rest : List ℕ) → list_all (is_other byte) run ≡ true → IsFollow byte follow rest
+pub after_byte-run : (byte : ℕ) (run follow rest : List ℕ) → list_all (is_other byte) run ≡ true → IsFollow byte follow rest
     → after_byte byte (run ++ follow) ≡ rest
-after_to byte run follow rest all follows =
+after_byte-run byte run follow rest all follows =
     drop_past byte run follow rest _ follows (omega (arith, position_to byte run follow rest all follows))
 
 -- a plain value is cut up to the semicolon or the end
@@ -69,7 +69,7 @@ cut_value-plain whole name (v ∷ value) follow rest all follows =
     let first = and_parts (is_token_byte v) (list_all is_token_byte value) all in
     let others = are_other-token semicolon_byte semicolon_is_no_token (v ∷ value) all in
     cond-false (v == quote_byte) _ _ (token_byte-not v quote_byte quote_is_no_token first.0)
-    ∙ cc (before_to semicolon_byte (v ∷ value) follow rest others follows, after_to semicolon_byte (v ∷ value) follow rest others follows)
+    ∙ cc (before_byte-run semicolon_byte (v ∷ value) follow rest others follows, after_byte-run semicolon_byte (v ∷ value) follow rest others follows)
 
 -- a quoted value is cut up to its closing quote
 cut_value-quoted : (whole : ℕ) (name content n follow rest : List ℕ) → IsContent content → AreSpaces n → IsFollow semicolon_byte follow rest
@@ -82,7 +82,7 @@ cut_value-quoted whole name content n follow rest is white follows =
     let after_quote : after_content bytes ≡ n ++ follow = drop_past quote_byte content _ _ (content_len bytes) (ended _) (sym position) in
     let after : after_byte semicolon_byte (after_content bytes) ≡ rest =
     ap (after_byte semicolon_byte) after_quote
-    ∙ after_to semicolon_byte n follow rest (are_other is_space semicolon_byte refl n white) follows in
+    ∙ after_byte-run semicolon_byte n follow rest (are_other is_space semicolon_byte refl n white) follows in
     cc
 
 -- the spaces before a name are cut off
@@ -101,8 +101,8 @@ cut_of-named n name after white is =
     let others = are_other-token equals_byte equals_is_no_token name (AreTokenBytes-from_token name is) in
     rw (
       without_spaces-token n name (equals_byte ∷ after) white is,
-      before_to equals_byte name (equals_byte ∷ after) after others (ended after),
-      after_to equals_byte name (equals_byte ∷ after) after others (ended after),
+      before_byte-run equals_byte name (equals_byte ∷ after) after others (ended after),
+      after_byte-run equals_byte name (equals_byte ∷ after) after others (ended after),
     )
 
 -- the text before the value of a parameter

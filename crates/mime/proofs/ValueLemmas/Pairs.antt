@@ -102,9 +102,9 @@ awaits_next-not_backslash true b other = refl
 awaits_next-not_backslash false b other = ne_eqb b backslash_byte other
 
 -- a byte that is no quote closes nothing
-not_quote-closes_not : (awaiting : Bool) (b : ℕ) → b == quote_byte ≡ false → not awaiting && b == quote_byte ≡ false
-not_quote-closes_not true b other = refl
-not_quote-closes_not false b other = other
+closes-not_at_other : (awaiting : Bool) (b : ℕ) → b == quote_byte ≡ false → not awaiting && b == quote_byte ≡ false
+closes-not_at_other true b other = refl
+closes-not_at_other false b other = other
 
 -- the first quote closes, if no byte is awaited at it: if no backslash precedes it
 first_quote : (awaiting : Bool) (text : List ℕ) (n : ℕ) → n ≡ position_or_len (λ b. b == quote_byte) text → (n ≡ 0 → awaiting ≡ false)
@@ -120,7 +120,7 @@ first_quote awaiting (b ∷ text) n e free before = go (first_quote (awaits_next
     go after true quote (suc n) e free before = absurd (omega (arith, e))
     go after false other zero e free before = absurd (omega (arith, e))
     go after false other (suc n) e free before =
-        cond-false (not awaiting && b == quote_byte) _ _ (not_quote-closes_not awaiting b other)
+        cond-false (not awaiting && b == quote_byte) _ _ (closes-not_at_other awaiting b other)
         ∙ ap suc (after n (omega (arith, e)) (λ none. awaits_next-not_backslash awaiting b (before 0 (ap suc (sym none))))
         (λ m same. before (suc m) (ap suc same)))
 

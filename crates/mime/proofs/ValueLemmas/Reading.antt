@@ -3,8 +3,8 @@ use Rattle.std.proofs.Common.{◌≡◌, ℕ, List, [], ◌∷◌, refl, sym, ap
 use Rattle.std.specs.Prelude.{◌≢◌, Result, Ok, Err, IfErr, codes, unwrap_or}
 use Rattle.mime.specs.Bytes.{is_token_byte, space_byte}
 use Rattle.mime.specs.Grammar.{SyntaxTree, no_list, plain, final, Tail, listed, text_of, IsToken, IsTail}
-use Rattle.mime.specs.Values.{value_of, IsAccepted, IsRefused, lowered_tree}
-use Rattle.mime.specs.Refusals.{IsFault, Explains}
+use Rattle.mime.specs.Values.{value_of, IsAccepted, IsRejected, lowered_tree}
+use Rattle.mime.specs.Faults.{IsFault, Explains}
 use Rattle.mime.specs.Inner.Scanning.{HasPositions, positions_of}
 use Rattle.mime.specs.Inner.KeptText.{IsKept, kept_positions, positions_in}
 use Rattle.mime.specs.declared.scan.fault.ParseError.{ParseError}
@@ -12,8 +12,8 @@ use Rattle.mime.specs.declared.scan.fault.ParseError.TheVariants.{InvalidToken, 
 use Rattle.mime.specs.declared.scan.Positions.{Positions}
 use Rattle.mime.proofs.GrammarLemmas.Readings.{one_tree}
 use Rattle.mime.proofs.ValueLemmas.KeptText.{reads_as}
-use Rattle.mime.proofs.GrammarLemmas.Viability.{refused-at_dead}
-use Rattle.mime.proofs.GrammarLemmas.Faults.{completed_is_refused}
+use Rattle.mime.proofs.GrammarLemmas.Viability.{rejected-at_dead}
+use Rattle.mime.proofs.GrammarLemmas.Faults.{completed_is_rejected}
 use Rattle.mime.specs.Atoms.{atom_text}
 use Rattle.mime.specs.declared.atoms.Atom.{Atom}
 use Rattle.mime.specs.declared.atoms.Atom.TheVariants.{STAR_STAR}
@@ -28,12 +28,12 @@ pub Explains-no_memory : {T : Type 0} (text : List ℕ) (result : Result T Parse
 Explains-no_memory text (Ok value) accepted memory = tt
 Explains-no_memory text (Err error) accepted memory = subst (Explains text) (sym memory.0) (accepted, memory.1)
 
--- a text with a fault is refused
-pub refused-from_fault : (text : List ℕ) (fault : ParseError) → IsFault text fault → IsRefused text
-refused-from_fault text (InvalidToken pos byte) fault = refused-at_dead text pos byte fault
-refused-from_fault text other fault = completed_is_refused text other fault
+-- a text with a fault is rejected
+pub rejected-from_fault : (text : List ℕ) (fault : ParseError) → IsFault text fault → IsRejected text
+rejected-from_fault text (InvalidToken pos byte) fault = rejected-at_dead text pos byte fault
+rejected-from_fault text other fault = completed_is_rejected text other fault
 
--- a fault explains a refusal
+-- a fault explains a fault
 pub Explains-from_fault : (text : List ℕ) (fault : ParseError) → IsFault text fault → Explains text fault
 Explains-from_fault text NoMemory fault = absurd fault.0
 Explains-from_fault text other fault = fault

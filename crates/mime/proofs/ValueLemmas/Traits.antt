@@ -18,7 +18,7 @@ use Rattle.std.proofs.lemmas.Bool.{true≢false}
 use Rattle.std.proofs.lemmas.Bool.Decides.{same_from_decides}
 use Rattle.mime.proofs.BytesLemmas.{cons_parts}
 
--- an order finds one thing less than another exactly where that comes before, and finds them equal exactly where they are the same
+-- an order finds one thing less than another exactly if that comes before, and finds them equal exactly if they are the same
 abbrev Finds : {X : Type 0} → (X → X → Ordering) → (X → X → Type 0) → Type 0
 Finds {X} cmp IsLess = (x y : X) → (cmp x y ≡ Less) ↔ IsLess x y
 
@@ -101,7 +101,7 @@ Before-transitive x y z first second =
     subst (λ o. MatchOrdering o (Before x z) (Same x z) (Before z x))
     (media_cmp_total.trans x y z ((finds_media x y).1 first) ((finds_media y z).1 second)) (tells_media x z)
 
--- two values are equal exactly where the order finds them equal
+-- two values are equal exactly if the order finds them equal
 pub eq_by_cmp-tells : (x y : MediaType) → IsTrue (eq_by_cmp media_cmp x y) ↔ Same x y
 eq_by_cmp-tells x y = (same_from_cmp x y, λ same. ap is_eq (equal-media x y same))
 

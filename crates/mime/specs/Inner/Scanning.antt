@@ -4,12 +4,12 @@ use Rattle.std.specs.Option.{option_to_list}
 use Rattle.std.specs.List.{list_all}
 use Rattle.mime.specs.Bytes.{is_token_byte}
 use Rattle.mime.specs.Grammar.{blank, Tail, no_list, listed, SyntaxTree, text_of, IsToken, IsWellFormed}
-use Rattle.mime.specs.Values.{last_plus, pairs_of_tail, IsRefused}
-use Rattle.mime.specs.Refusals.{IsViable, IsDeadAt, IsFault}
+use Rattle.mime.specs.Values.{last_plus, pairs_of_tail, IsRejected}
+use Rattle.mime.specs.Faults.{IsViable, IsDeadAt, IsFault}
 use Rattle.mime.specs.declared.scan.Positions.{Positions}
 use Rattle.mime.specs.declared.scan.Verdict.{Verdict}
 use Rattle.mime.specs.declared.scan.Verdict.TheVariants.{Accepted, Unfinished, Stopped}
-use Rattle.mime.specs.Inner.ReaderState.{Remaining}
+use Rattle.mime.specs.Inner.Remaining.{Remaining}
 use Rattle.mime.specs.Inner.Quoted.{IsOpenContent, continues}
 
 -- the bytes of a run and the one after it, if any, were given
@@ -53,7 +53,7 @@ abbrev pub Judges : List ℕ → ℕ → Verdict → Type 0
 Judges text count (Accepted positions) = (count ≡ length text) × HasPositions text positions
 Judges text count (Unfinished fault) = (count ≡ length text) × IsFault text fault × IsViable text
 Judges text count (Stopped byte positions) = (0 < count) × IsDeadAt text (count - 1) byte
-    × MatchOption positions (IsRefused (take (count - 1) text)) (λ p. HasPositions (take (count - 1) text) p)
+    × MatchOption positions (IsRejected (take (count - 1) text)) (λ p. HasPositions (take (count - 1) text) p)
 
 -- the scanner's answer, with the bytes that it took
 pub record Scans (old new : Remaining) (verdict : Verdict) : Type 0 where

@@ -1,4 +1,4 @@
-//! The names that are met most. Each ignores case, and has no ASCII capital.
+//! Common names. Each ignores case, and has no ASCII capital.
 
 use crate::name::Name;
 

@@ -101,7 +101,7 @@ impl FromStrError {
         FromStrError { fault }
     }
 
-    /// The fault (RFC 7231, 3.1.1.1), with positions in bytes from 0. That of `text/;` is
+    /// Returns the fault (RFC 7231, 3.1.1.1), with positions in bytes from 0. That of `text/;` is
     /// `InvalidToken { pos: 5, byte: b';' }`.
     pub fn fault(&self) -> &ParseError
         ensures { result.now ≡ self.now }

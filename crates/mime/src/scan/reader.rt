@@ -14,7 +14,7 @@ pub(crate) struct ByteReader<'a> {
 
 impl<'a> Model for ByteReader<'a> {
     ghost use Rattle.std.specs.Prelude.{◌-◌, ◌≤◌, length};
-    ghost use Rattle.mime.specs.Inner.ReaderState.{Remaining};
+    ghost use Rattle.mime.specs.Inner.Remaining.{Remaining};
 
     ghost Value = { Remaining };
 

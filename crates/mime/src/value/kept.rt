@@ -9,6 +9,7 @@ ghost use Rattle.mime.specs.Inner.KeptText.{with_pairs_lowered, kept_positions, 
 
 use crate::blocks::Suffix;
 use crate::ignoring_case::eq_ignore_ascii_case;
+use crate::name::constants::CHARSET;
 use crate::scan::Positions;
 use crate::value::pairs::cut;
 use std::alloc::{AllocError, Global};
@@ -31,7 +32,7 @@ fn has_capital(text: &str) -> bool
 fn names_charset(name: &str) -> bool
     ensures { result ≡ is_charset name.now }
 {
-    eq_ignore_ascii_case(name.as_bytes(), b"charset")
+    eq_ignore_ascii_case(name.as_bytes(), CHARSET.text.as_bytes())
 }
 
 /// Lowercases the bytes from one position up to another.

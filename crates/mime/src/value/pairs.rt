@@ -20,7 +20,7 @@ pub(crate) struct Pair<'a> {
     pub(crate) name: &'a str,
     /// The position of the value in the list, in bytes from 0: after the opening quote of a quoted one.
     pub(crate) value_start: usize,
-    /// The value without its quotes; backslashes stay: `\"x` for `"\"x"`.
+    /// The value without its quotes.
     pub(crate) value: &'a str,
     pub(crate) rest: Suffix<'a>,
 }

@@ -7,15 +7,15 @@ ghost use Rattle.mime.specs.Items.{items_of, item_seen};
 ghost use Rattle.mime.specs.Inner.Pairs.{pairs_within};
 
 use crate::name::Name;
+use crate::name::constants::CHARSET;
 use crate::value::pairs::Pairs;
 use std::fmt;
 use std::marker::Model;
 
-/// The parameters of a media type that are left, in order of appearance: an iterator over
-/// pairs of a name and a value. A name ignores case; a value does exactly if its name is `charset`.
-/// That of `a/b;P=X` yields the name `p` with the value `X` (RFC 7231, 3.1.1.1). A value is without its quotes.
-/// Backslashes stay: the value of `a/b;p="\"x"` is `\"x`.
-/// The size hint is exact. The iterator walks the kept text, and doesn't allocate.
+/// An iterator over the parameters of a media type, in order of appearance, as pairs of a name and a value. A name
+/// ignores case; a value does exactly if its name is `charset`. That of `a/b;P=X` yields the name `p` with the value
+/// `X` (RFC 7231, 3.1.1.1). A value is without its quotes. Backslashes stay: the value of `a/b;p="\"x"` is `\"x`. The
+/// size hint is exact. The iterator walks the kept text, and doesn't allocate.
 #[derive(Drop)]
 pub struct Params<'a> {
     pairs: Pairs<'a>,
@@ -49,7 +49,7 @@ impl<'a> Iterator for Params<'a> {
     #[inline(always)]
     fn next(&mut self) -> Option<(Name<'a>, Name<'a>)> {
         let (name, value) = self.pairs.next()?;
-        let ignores_case = name == "charset";
+        let ignores_case = name == CHARSET.text;
         let name = Name {
             text: name,
             ignores_case: true,

@@ -117,7 +117,7 @@ impl Hash for Mime {
     }
 }
 
-/// Makes a copy with the same kept text. It allocates once, and its error says that memory ran out.
+/// Returns a copy with the same kept text. It allocates once, and its error says that memory ran out.
 /// Cloning a constant or `*/*` doesn't allocate.
 impl Clone for Mime {
     ghost is_clone = { λ mime copy. copy ≡ mime };

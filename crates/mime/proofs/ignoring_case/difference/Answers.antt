@@ -21,9 +21,9 @@ abbrev found : ℕ → ℕ → ℕ → ℕ
 found case x y = bool_byte (not (nat_eq (bit_and (bit_xor x y) (255 - case)) 0))
 
 -- of a letter and any byte: tried on all
-of_letter : (x y : ℕ) → x < 256 → y < 256 → letter x ≡ true → found 32 x y ≡ difference_bit x y
+found-of_letter : (x y : ℕ) → x < 256 → y < 256 → letter x ≡ true → found 32 x y ≡ difference_bit x y
 unfolding letter
-of_letter x y fits fits_too is =
+found-of_letter x y fits fits_too is =
     let row : ℕ → Bool = λ x. list_all (λ y. nat_eq (found 32 x y) (difference_bit x y)) (range_with_len 0 256) in
     let all = ap (λ t. cond t (row x) true) (sym is) ∙ at_byte (λ x. cond (letter x) (row x) true) x fits refl in
     eqb-true _ _ (at_byte (λ y. nat_eq (found 32 x y) (difference_bit x y)) y fits_too all)
@@ -49,8 +49,8 @@ as_bit true = refl
 as_bit false = refl
 
 -- of a byte that is no letter and any byte
-of_no_letter : (x y : ℕ) → x < 256 → y < 256 → letter x ≡ false → found 0 x y ≡ difference_bit x y
-of_no_letter x y fits fits_too is =
+found-of_no_letter : (x y : ℕ) → x < 256 → y < 256 → letter x ≡ false → found 0 x y ≡ difference_bit x y
+found-of_no_letter x y fits fits_too is =
     let all : bit_and (bit_xor x y) 255 ≡ bit_xor x y =
     eqb-true _ _ (at_byte (λ z. nat_eq (bit_and z 255) z) (bit_xor x y) (xor_lt 8 x y fits fits_too) refl) in
     let same = same_from_decides (nat_eq (bit_and (bit_xor x y) 255) 0) (nat_eq (to_ascii_lowercase x) (to_ascii_lowercase y)) (
@@ -65,10 +65,10 @@ returns c =
     c.from.ensures ∙ elim c.if-is_ascii_lowercase.branch [
       | then-is_ascii_lowercase w ↦
           ap (λ case. found case c.args.x c.args.y) w.case-is
-          ∙ of_letter c.args.x c.args.y c.ranges.x.fits c.ranges.y.fits
+          ∙ found-of_letter c.args.x c.args.y c.ranges.x.fits c.ranges.y.fits
           (sym c.is_ascii_lowercase.ensures.value ∙ w.if-is_ascii_lowercase.true)
       | else-is_ascii_lowercase w ↦
           ap (λ case. found case c.args.x c.args.y) w.case-is
-          ∙ of_no_letter c.args.x c.args.y c.ranges.x.fits c.ranges.y.fits
+          ∙ found-of_no_letter c.args.x c.args.y c.ranges.x.fits c.ranges.y.fits
           (sym c.is_ascii_lowercase.ensures.value ∙ w.if-is_ascii_lowercase.false)
     ]

@@ -1,4 +1,4 @@
--- Texts whose last and first blocks reach over the whole are equal exactly where those are.
+-- Texts whose last and first blocks reach over the whole are equal exactly if those are.
 use Rattle.std.proofs.Common.{◌-◌, length, take, drop, ap, arith}
 use Rattle.mime.specs.Values.{lowered}
 use Rattle.mime.proofs.LowercaseLemmas.{lowered-take}

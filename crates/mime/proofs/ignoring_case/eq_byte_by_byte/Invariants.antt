@@ -1,4 +1,4 @@
--- What the pairs of bytes so far say: none differs exactly where the bytes are equal ignoring ASCII case.
+-- What the pairs of bytes so far say: none differs exactly if the bytes are equal ignoring ASCII case.
 use Rattle.std.proofs.Common.{◌-◌, ◌≡◌, ◌↔◌, ◌≤◌, length, take}
 use Rattle.mime.specs.Values.{lowered}
 use Rattle.mime.proofs.ignoring_case.eq_byte_by_byte.Given as goal

@@ -1,4 +1,4 @@
--- Texts are equal ignoring ASCII case exactly where no first difference is found.
+-- Texts are equal ignoring ASCII case exactly if no first difference is found.
 use Rattle.mime.proofs.IgnoringCaseLemmas.{none_found}
 use Rattle.mime.proofs.ignoring_case.eq_ignore_ascii_case.Goals as goal
 

@@ -1,4 +1,4 @@
--- A text is equal to a value without parameters exactly where, lowercased, it is the kept text.
+-- A text is equal to a value without parameters exactly if, lowercased, it is the kept text.
 use Rattle.mime.proofs.CompareLemmas.Parts.{text_is-bare}
 use Rattle.mime.proofs.laws.bare_text_is.Goals as goal
 

@@ -1,5 +1,5 @@
--- A value is equal to a kept text exactly where the two values are equal.
-use Rattle.mime.proofs.LawsLemmas.Callers.{kept_text_is}
+-- A value is equal to a kept text exactly if the two values are equal.
+use Rattle.mime.proofs.CompareLemmas.Parts.{kept_text_is}
 use Rattle.mime.proofs.laws.kept_text_is.Goals as goal
 
 pub returns : goal.returns

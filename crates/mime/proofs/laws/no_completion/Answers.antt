@@ -1,4 +1,4 @@
--- A text that isn't viable is refused, whatever follows it.
+-- A text that isn't viable is rejected, whatever follows it.
 use Rattle.mime.proofs.laws.no_completion.Goals as goal
 
 pub returns : goal.returns

@@ -1,5 +1,5 @@
 -- At most one answer, and one where the key decides.
-use Rattle.mime.proofs.LawsLemmas.Callers.{one_answer, has_answer}
+use Rattle.mime.proofs.LawsLemmas.Keys.{one_answer, has_answer}
 use Rattle.mime.proofs.laws.one_answer.Goals as goal
 
 pub returns-clause-most : goal.returns-clause-most

@@ -3,7 +3,8 @@ use Rattle.std.proofs.Common.{◌≡◌, ◌+◌, ◌-◌, length, Some, None}
 use Rattle.std.specs.Prelude.{if◌then◌else◌, ◌==◌}
 use Rattle.std.specs.Option.{option_to_list}
 use Rattle.mime.specs.Bytes.{is_token_byte}
-use Rattle.mime.specs.Inner.ReaderState.{Remaining, is_token_except_plus}
+use Rattle.mime.specs.Inner.Remaining.{Remaining}
+use Rattle.mime.specs.Inner.ByteClasses.{is_token_except_plus}
 use Rattle.mime.specs.Inner.Scanning.{Passes}
 use Rattle.mime.specs.Values.{last_plus}
 use Rattle.mime.proofs.ScanLemmas.Passing.{Passing}

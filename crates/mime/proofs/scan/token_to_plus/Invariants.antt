@@ -1,6 +1,6 @@
 -- The token bytes so far, without a plus.
 use Rattle.std.proofs.Common.{length}
-use Rattle.mime.specs.Inner.ReaderState.{is_token_except_plus}
+use Rattle.mime.specs.Inner.ByteClasses.{is_token_except_plus}
 use Rattle.mime.proofs.ScanLemmas.Passing.{Passing}
 use Rattle.mime.proofs.scan.token_to_plus.Given as goal
 

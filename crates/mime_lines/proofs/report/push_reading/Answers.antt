@@ -1,7 +1,7 @@
 -- A text is read, or has a fault.
 use Rattle.std.proofs.Common.{◌∙◌}
 use Rattle.mime_lines.specs.Report.{ReportsText}
-use Rattle.mime_lines.specs.Report.ReportsText.{read, refused}
+use Rattle.mime_lines.specs.Report.ReportsText.{read, rejected}
 use Rattle.mime_lines.specs.declared.mode.Mode.{Mode}
 use Rattle.mime_lines.proofs.Rows.{reported, fault-explained}
 use Rattle.mime_lines.proofs.report.push_reading.Goals as goal
@@ -15,4 +15,4 @@ returns-in_default c =
     let fault =
     fault-explained c.args.text.now c.in-Err.error c.in-Err.ensures.explained
     (λ want. c.in_default.not-NoMemory (c.fault.ensures ∙ want)) in
-    reported (ReportsText Mode.Parts c.args.text.now) _ _ _ _ (refused c.in-Err.error fault) c.writeln.ensures.bytes
+    reported (ReportsText Mode.Parts c.args.text.now) _ _ _ _ (rejected c.in-Err.error fault) c.writeln.ensures.bytes

@@ -1,7 +1,7 @@
 -- The scanner's verdict is what the call answers.
 use Rattle.std.proofs.Common.{sym, rules}
-use Rattle.mime.proofs.ValueLemmas.Reading.{accepted-from_positions, Explains-from_fault, Explains-no_memory, refused-from_fault, star-accepted}
-use Rattle.mime.proofs.GrammarLemmas.Viability.{refused-at_dead}
+use Rattle.mime.proofs.ValueLemmas.Reading.{accepted-from_positions, Explains-from_fault, Explains-no_memory, rejected-from_fault, star-accepted}
+use Rattle.mime.proofs.GrammarLemmas.Viability.{rejected-at_dead}
 use Rattle.mime.proofs.value.Mime.from_str.Goals as goal
 
 pub returns-in-Accepted-clause-explained : goal.returns-in-Accepted-clause-explained
@@ -11,19 +11,19 @@ returns-in-Accepted-clause-explained c =
 
 pub returns-in-Unfinished-clause-accepted : goal.returns-in-Unfinished-clause-accepted
 returns-in-Unfinished-clause-accepted c = λ accepted.
-    absurd (refused-from_fault _ _ (rw c.new-reader.ensures.left at c.in-Unfinished.ensures.judged.1) accepted)
+    absurd (rejected-from_fault _ _ (rw c.new-reader.ensures.left at c.in-Unfinished.ensures.judged.1) accepted)
 
 pub returns-in-Unfinished-clause-star : goal.returns-in-Unfinished-clause-star
 returns-in-Unfinished-clause-star c = λ star.
-    absurd (refused-from_fault _ _ (rw c.new-reader.ensures.left at c.in-Unfinished.ensures.judged.1) (star-accepted _ star))
+    absurd (rejected-from_fault _ _ (rw c.new-reader.ensures.left at c.in-Unfinished.ensures.judged.1) (star-accepted _ star))
 
 pub returns-in-Stopped-clause-accepted : goal.returns-in-Stopped-clause-accepted
 returns-in-Stopped-clause-accepted c = λ accepted.
-    absurd (refused-at_dead _ _ _ (rw c.new-reader.ensures.left at c.in-Stopped.ensures.judged.1) accepted)
+    absurd (rejected-at_dead _ _ _ (rw c.new-reader.ensures.left at c.in-Stopped.ensures.judged.1) accepted)
 
 pub returns-in-Stopped-clause-star : goal.returns-in-Stopped-clause-star
 returns-in-Stopped-clause-star c = λ star.
-    absurd (refused-at_dead _ _ _ (rw c.new-reader.ensures.left at c.in-Stopped.ensures.judged.1) (star-accepted _ star))
+    absurd (rejected-at_dead _ _ _ (rw c.new-reader.ensures.left at c.in-Stopped.ensures.judged.1) (star-accepted _ star))
 
 pub returns-in-Unfinished-clause-explained : goal.returns-in-Unfinished-clause-explained
 returns-in-Unfinished-clause-explained c =

@@ -1,4 +1,4 @@
--- No capital was found exactly where lowercasing leaves the bytes so far as they are.
+-- No capital was found exactly if lowercasing leaves the bytes so far as they are.
 use Rattle.std.proofs.Common.{◌≡◌, take}
 use Rattle.std.specs.Bool.{Decides}
 use Rattle.std.specs.Prelude.{not}

@@ -1,0 +1,66 @@
+-- The longest viable prefix of a text of valid UTF-8 can be completed to a text of valid UTF-8.
+use Rattle.std.proofs.Common.{◌≡◌, ℕ, List, [], ◌++◌, take, Some, None, refl, sym, subst, append-nil, ⊎_elim, codes, ◌<◌, arith}
+use Rattle.std.proofs.lemmas.Str.{IsUtf8-append, IsUtf8-take}
+use Rattle.std.specs.Prelude.{MatchOption}
+use Rattle.std.specs.Str.{IsUtf8}
+use Rattle.mime.specs.Values.{IsAccepted}
+use Rattle.mime.specs.Faults.{IsViable, IsLongestPrefix, completion_of, Lacks}
+use Rattle.mime.specs.Laws.{IsViableInUtf8, IsLongestPrefixInUtf8, PrefixIsInUtf8}
+use Rattle.mime.specs.declared.scan.fault.ParseError.{ParseError}
+use Rattle.mime.specs.declared.scan.fault.ParseError.TheVariants.{MissingSlash, MissingSubtype, MissingEqual, MissingValue, MissingQuote}
+use Rattle.mime.proofs.GrammarLemmas.Characters.{prefix_ends_between_characters}
+use Rattle.mime.proofs.CutLemmas.Cuts.{accepted_or_rejected}
+use Rattle.mime.proofs.GrammarLemmas.Faults.{one_completion, one_longest_prefix}
+use lib.Utf8.{encode}
+
+-- what completes a text is ASCII
+completion-utf8 : (fault : ParseError) → MatchOption (completion_of fault) (Unit {0}) IsUtf8
+unfolding encode
+completion-utf8 MissingSlash = (codes "x/x", (refl, refl))
+completion-utf8 MissingSubtype = (codes "x", (refl, refl))
+completion-utf8 MissingEqual = (codes "=x", (refl, refl))
+completion-utf8 MissingValue = (codes "x", (refl, refl))
+completion-utf8 MissingQuote = (codes "x\"", (refl, refl))
+completion-utf8 other = tt
+
+-- with it a text of valid UTF-8 stays one
+completed_in_utf8 : (prefix : List ℕ) (fault : ParseError) → IsUtf8 prefix → Lacks prefix fault → IsViableInUtf8 prefix
+completed_in_utf8 prefix fault utf8 lacks =
+    (elim (completion_of fault) as (λ o. MatchOption o (Unit {0}) IsUtf8 → MatchOption o ⊥ (λ more. IsAccepted (prefix ++ more))
+    → IsViableInUtf8 prefix) [
+      | None ↦ λ ascii completed. absurd completed
+      | Some more ↦ λ ascii completed. (more, IsUtf8-append prefix more utf8 ascii, completed)
+    ]) (completion-utf8 fault) lacks.0
+
+-- a viable text of valid UTF-8 is completed to one
+viable-in_utf8 : (prefix : List ℕ) → IsUtf8 prefix → IsViable prefix → IsViableInUtf8 prefix
+viable-in_utf8 prefix utf8 viable =
+    ⊎_elim
+    (λ accepted. ([], subst IsUtf8 (sym (append-nil prefix)) utf8, subst IsAccepted (sym (append-nil prefix)) accepted))
+    (λ is. let lacks = one_completion prefix viable is in completed_in_utf8 prefix lacks.0 utf8 lacks.1)
+    (accepted_or_rejected prefix)
+
+-- the longest viable prefix is completed to a text of valid UTF-8
+prefix-in_utf8 : (text : List ℕ) (count : ℕ) → IsUtf8 text → IsLongestPrefix text count → IsLongestPrefixInUtf8 text count
+prefix-in_utf8 text count utf8 prefix = record {
+  within = prefix.within;
+  viable = viable-in_utf8 (take count text)
+      (IsUtf8-take text count utf8 (prefix_ends_between_characters text count utf8 prefix)) prefix.viable;
+  longest = λ n above within viable. prefix.longest n above within (viable.0, viable.2);
+}
+
+-- a text has one prefix that is completed to a text of valid UTF-8
+prefix_in_utf8-unique : (text : List ℕ) (m n : ℕ) → IsLongestPrefixInUtf8 text m → IsLongestPrefixInUtf8 text n → m ≡ n
+prefix_in_utf8-unique text m n first second =
+    let not_below : ¬ (m < n) = λ below. first.longest n below second.within second.viable in
+    let not_above : ¬ (n < m) = λ above. second.longest m above first.within first.viable in
+    omega arith
+
+-- the two fronts are the same
+pub prefix_is_in_utf8 : PrefixIsInUtf8
+prefix_is_in_utf8 text count utf8 = (
+  prefix-in_utf8 text count utf8,
+  λ other.
+      let one = one_longest_prefix text in
+      subst (IsLongestPrefix text) (prefix_in_utf8-unique text one.0 count (prefix-in_utf8 text one.0 utf8 one.1) other) one.1,
+)

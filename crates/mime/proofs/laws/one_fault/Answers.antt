@@ -1,6 +1,0 @@
--- A refused text has exactly one fault.
-use Rattle.mime.proofs.GrammarLemmas.Faults.{one_fault}
-use Rattle.mime.proofs.laws.one_fault.Goals as goal
-
-pub returns : goal.returns
-returns c = one_fault

@@ -1,0 +1,108 @@
+-- Texts for which each definition of a fault is true, and others for which it is false.
+use Rattle.std.proofs.Common.{◌≡◌, ℕ, List, [], ◌∷◌, length, get_or, Some, None, refl, sym, ap, ◌∙◌, arith, length-append, codes}
+use Rattle.std.proofs.Math.Seq.{get_or-append_seam}
+use Rattle.std.proofs.lemmas.Option.{same_Some}
+use Rattle.mime.specs.Bytes.{is_token_byte}
+use Rattle.mime.specs.Faults.{IsViable, IsLongestPrefix, completion_of, last_byte_of, EndsIn, Lacks, IsUnclosed, IsDeadAt, IsFault, Explains}
+use Rattle.mime.specs.declared.scan.fault.ParseError.{ParseError}
+use Rattle.mime.specs.declared.scan.fault.ParseError.TheVariants.{MissingSlash, MissingSubtype, MissingEqual, MissingValue, MissingQuote, InvalidToken, NoMemory}
+use Rattle.mime.proofs.GrammarLemmas.Faults.{one_fault, completed_is_rejected, fault-from_lacks}
+use Rattle.mime.proofs.GrammarLemmas.Readings.{stopped-from_walk, rejected-from_walk}
+use Rattle.mime_facts.proofs.StandardFacts.{slash_fault-from_walk, no_slash, no_subtype, no_equals, no_value, no_quote, space_in_type}
+use Rattle.mime_facts.proofs.ValueFacts.{differ, plain_value, reads_capitals}
+use Rattle.mime.proofs.GrammarLemmas.Viability.{accepted_is_viable, not_viable-at_dead, prefix_unique, viable-from_lacks}
+
+-- what lacks something is viable, and what has a byte at fault isn't
+viable_texts : IsViable (codes "A/B") × IsViable (codes "a/b;p") × ¬ (IsViable (codes "a b"))
+viable_texts = (
+  accepted_is_viable _ (plain_value, reads_capitals),
+  viable-from_lacks (codes "a/b;p") MissingEqual no_equals,
+  not_viable-at_dead _ 1 32 space_in_type,
+)
+
+-- the longest viable prefix of `a b` has one byte, and no other number of them
+prefix_of_type : IsLongestPrefix (codes "a b") 1 × ¬ (IsLongestPrefix (codes "a b") 0) × ¬ (IsLongestPrefix (codes "a b") 2)
+prefix_of_type = (
+  space_in_type.prefix,
+  (λ is. is.longest 1 (omega arith) (omega arith) space_in_type.prefix.viable),
+  λ is. space_in_type.prefix.longest 2 (omega arith) (omega arith) is.viable,
+)
+
+-- what completes a text, and what it must end in
+completions :
+    (completion_of MissingSlash ≡ Some (codes "x/x"))
+    × (completion_of MissingSubtype ≡ Some (codes "x"))
+    × (completion_of MissingEqual ≡ Some (codes "=x"))
+    × (completion_of MissingValue ≡ Some (codes "x"))
+    × (completion_of MissingQuote ≡ Some (codes "x\""))
+    × (completion_of (InvalidToken 1 32) ≡ None)
+    × (completion_of NoMemory ≡ None)
+    × (last_byte_of MissingSubtype ≡ Some 47)
+    × (last_byte_of MissingValue ≡ Some 61)
+    × (last_byte_of MissingEqual ≡ None)
+completions = (refl, refl, refl, refl, refl, refl, refl, refl, refl, refl)
+
+-- the last byte of a text of two
+ends_in_slash : EndsIn (codes "a/") 47
+ends_in_slash = (codes "a", refl)
+
+ends_in_no_letter : ¬ (EndsIn (codes "a/") 97)
+ends_in_no_letter (prefix, is) =
+    let size : length prefix ≡ 1 = omega (arith, ap length is, length-append prefix (97 ∷ [])) in
+    let at : get_or (codes "a/") (length prefix) 0 ≡ 97 = ap (λ t. get_or t (length prefix) 0) is ∙ get_or-append_seam prefix 97 [] 0 in
+    absurd (omega (arith, sym (ap (λ n. get_or (codes "a/") n 0) size) ∙ at))
+
+-- a text that lacks something lacks nothing else
+lacks_alone : (text : List ℕ) (fault other : ParseError) → Lacks text fault → Lacks text other → fault ≡ other
+lacks_alone text fault other lacks also =
+    let one = one_fault text (completed_is_rejected text fault lacks) in
+    one.2 fault (fault-from_lacks text fault lacks) ∙ sym (one.2 other (fault-from_lacks text other also))
+
+-- a lone type lacks its slash
+pub e_lacks_slash : Lacks (codes "e") MissingSlash
+unfolding is_token_byte
+e_lacks_slash = slash_fault-from_walk (codes "e") (codes "e") refl
+
+-- a lone type has no open quotes
+pub e_is_closed : ¬ (IsUnclosed (codes "e"))
+e_is_closed is = absurd (cc (lacks_alone (codes "e") MissingSlash MissingQuote e_lacks_slash is))
+
+-- what lacks a subtype ends in its slash, and what lacks a value ends in its equals sign; an accepted text lacks nothing
+what_is_lacking :
+    Lacks (codes "text/") MissingSubtype
+    × ¬ (Lacks (codes "text/") MissingValue)
+    × ¬ (Lacks (codes "a/b;p=") MissingSubtype)
+    × ¬ (Lacks (codes "A/B") MissingSlash)
+unfolding is_token_byte
+what_is_lacking = (
+  no_subtype,
+  (λ is. absurd (cc (lacks_alone (codes "text/") MissingSubtype MissingValue no_subtype is))),
+  (λ is. absurd (cc (lacks_alone (codes "a/b;p=") MissingValue MissingSubtype no_value is))),
+  λ is. stopped-from_walk (codes "A/Bx/x") refl is.0,
+)
+
+-- a quote that a backslash pairs closes no value
+unclosed : IsUnclosed (codes "a/b;p=\"\\\"") × ¬ (IsUnclosed (codes "a/b;p"))
+unclosed = (no_quote, λ is. absurd (cc (lacks_alone (codes "a/b;p") MissingEqual MissingQuote no_equals is)))
+
+-- the byte at fault and its position
+dead : IsDeadAt (codes "a b") 1 32 × ¬ (IsDeadAt (codes "a b") 1 33) × ¬ (IsDeadAt (codes "a b") 2 98)
+dead = (
+  space_in_type,
+  (λ is. absurd (omega (arith, same_Some 32 33 is.there))),
+  λ is. absurd (omega (arith, prefix_unique _ 2 1 is.prefix space_in_type.prefix)),
+)
+
+-- each rejected text has its fault alone, and none of them is `NoMemory`
+faults : IsFault (codes "invalid") MissingSlash × ¬ (IsFault (codes "a b") MissingSlash) × ¬ (IsFault (codes "A/B") NoMemory)
+faults =
+    (no_slash, (λ is. not_viable-at_dead (codes "a b") 1 32 space_in_type (viable-from_lacks (codes "a b") MissingSlash is)), λ is. is.0)
+
+-- memory may run out for an accepted text alone, and not for `*/*`
+memory : Explains (codes "A/B") NoMemory × ¬ (Explains (codes "*/*") NoMemory) × ¬ (Explains (codes "text/") NoMemory)
+unfolding is_token_byte
+memory = (
+  ((plain_value, reads_capitals), differ (codes "A/B") (codes "*/*") refl),
+  (λ is. is.1 refl),
+  λ is. rejected-from_walk (codes "text/") _ refl refl is.0,
+)
