@@ -1,136 +1,87 @@
-"""What bench/run measures, in groups, and the most that each row may cost."""
+"""The rows of bench/run's table."""
 
+import os
 import random
-import re
 from collections import namedtuple
-from itertools import cycle, islice
 
-from commands import text_of
-
-# An operation on a text, or on two; its goals, as a ratio to the Rust crate's instructions, or in instructions a byte; and whether both
-# crates answer differently, as docs/DIFFERENCES.md says.
-Row = namedtuple("Row", "label operation text goal other byte_goal differs", defaults=[None, "", None, False])
+# What a row is called; its operation, of driver.rs; its lines, and those beside them; the most that the ratio to the other side may be, and
+# the most instructions; whether the two sides return different sums; and the same text, only shorter, if costs are a byte.
+Row = namedtuple("Row", "label operation text other ratio most differs short", defaults=["", None, None, False, ""])
 
 
-def parameters(count):
-    return "text/plain" + "".join(f"; name{number:05}=value{number:05}" for number in range(count))
+def shuffled(name):
+    """The lines of a file beside this one, in a random order that is always the same."""
+    with open(f"{os.path.dirname(os.path.realpath(__file__))}/{name}", encoding="ascii") as file:
+        lines = file.read().splitlines()
+    random.Random(1).shuffle(lines)
+    return lines
 
 
-def accept(count):
-    """An Accept header of so many entries, as browsers send them."""
-    return ", ".join(islice(cycle(["text/html", "application/xhtml+xml", "application/xml;q=0.9", "image/webp", "*/*;q=0.8"]), count))
-
-
-PLAIN, CHARSET, SHORT, QUOTED = "text/plain", "text/plain; charset=utf-8", "a/b;q=0.9", 'a/b; p="x;y"; q="z"'
-TWO, HUNDRED = "multipart/form-data; charset=BASE64; boundary=ABCDEFG", parameters(100)
-TWO_QUOTED, TWO_LOWERED = 'multipart/form-data;charset=BASE64;boundary="ABCDEFG"', TWO.replace("BASE64", "base64")
-BROKEN = "text/html, invalid, application/xml;q=0.9, te xt, */*;q=0.8, invalid, application/xhtml+xml, te xt, image/webp, invalid"
-NAMES = {CHARSET: "a charset", TWO: "two parameters", HUNDRED: "a hundred"}
-# Values of headers, and those that are one media type.
-HEADERS = text_of("bench/headers").splitlines()
-CONTENTS = [it for it in HEADERS if not re.search(r", |,[a-z*]", it)]
-
-
-def row(label, operation, text, *more, **named):
-    return Row(label.format(NAMES.get(text, text)), operation, text, *more, **named)
-
-
-def mixed():
-    """Real media types in random order. Every second is compared with itself, and the others with the next."""
-    lines = random.Random(1).choices(CONTENTS, k=256)
-    text, other = "\n".join(lines), "\n".join(lines[(at + at % 2) % 256] for at in range(256))
-    for label, operation in (("read", "read"), ("walk the parameters", "walk"), ("equality", "eq"),
-                             ("order", "cmp"), ("hash in a map", "fold"), ("mime_eq_str", "eq_str"), ("clone and drop", "clone"),
-                             ("print", "print")):
-        yield Row(label, f"mixed_{operation}", text, other=other, differs=label in ("equality", "mime_eq_str"))
-
-
-def reading():
-    for text, goal in ((PLAIN, 0.86), (CHARSET, 0.52), ("IMAGE/X-Thing+XML", 0.80), (TWO, 0.50), (QUOTED, 0.30), (HUNDRED, 0.40),
-                       ("*/*", 1.20)):
-        yield row("{}", "read", text, goal)
-    yield row("text/pl(in, rejected", "read", "text/pl(in", 0.84)
-    yield row("an open quoted value of 1,000 bytes, rejected", "read", 'a/b; p="' + "x" * 1_000)
-    yield row("a quoted value of 1,000 bytes, in pairs", "read", 'a/b; p="' + "\\x" * 500 + '"')
-    for length, goal in ((100, None), (10_000, 0.48), (1_000_000, None)):
-        yield row(f"a subtype of {length:,} bytes", "read", "text/" + "x" * length, goal)
-        yield row(f"a value of {length:,} bytes", "read", "a/b; p=" + "x" * length)
-    yield row("10,000 parameters", "read", parameters(10_000))
-
-
-def looking_up():
-    for label, text, goal, name in (("charset, alone", CHARSET, 0.55, "charset"), ("charset, first of two", TWO, 0.55, "charset"),
-                                    ("boundary, second of two", TWO, 0.55, "boundary"), ("missing among two", TWO, 0.90, "missing"),
-                                    ("name00099 in a hundred", HUNDRED, 0.55, "name00099"),
-                                    ("missing in a hundred", HUNDRED, 0.90, "missing")):
-        yield row(label, "look_up", text, goal, name)
-
-
-def walking():
-    for text, goal in ((CHARSET, 2.70), (TWO, 1.25), (QUOTED, 1.30), (HUNDRED, 1.25)):
-        yield row("{}", "walk", text, goal)
-    for count in (1_000, 10_000):
-        yield row(f"{count:,} parameters", "walk", parameters(count), 1.25)
-    for length in (1_000, 1_000_000):
-        yield row(f"a value of {length:,} bytes", "walk", "a/b; p=" + "x" * length, byte_goal=0.80)
-    for what, ten in (("plain", "xxxxxxxxxx"), ("a pair in ten", "xxxxxxxx\\x"), ("in pairs", "\\x" * 5)):
-        yield row(f"a quoted value of 1,000 bytes, {what}", "walk", f'a/b; p="{ten * 100}"', byte_goal=0.80)
+TYPES, ACCEPTS = shuffled("content_types"), shuffled("accept_headers")
+TEXT = "\n".join(TYPES)
+# Every second is compared with itself, and each other one with the next.
+BESIDE = "\n".join(TYPES[at | 1] for at in range(len(TYPES)))
 
 
 def values():
-    for text, otherwise, equal, equal_otherwise, order, hashed in (
-            (PLAIN, "TEXT/PLAIN", 0.30, 0.50, 0.60, 1.75), (CHARSET, 'TEXT/PLAIN;CHARSET="UTF-8"', 0.30, 0.50, 0.60, 2.80),
-            (TWO, TWO_QUOTED, 0.30, 0.50, 0.60, 3.30), (HUNDRED, HUNDRED.replace("; ", ";"), 0.60, None, 2.30, None)):
-        yield row("equality, the same string: {}", "eq", text, equal, text)
-        yield row("equality, written otherwise: {}", "eq", text, equal_otherwise, otherwise)
-        yield row("order, the same string: {}", "cmp", text, order, text)
-        yield row("order, written otherwise: {}", "cmp", text, None, otherwise, differs=text != PLAIN)
-        yield row("hash: {}", "hash", text, hashed)
-        yield row("hash in a map: {}", "fold", text)
-        yield row("clone and drop: {}", "clone", text, 0.80)
-        yield row("print: {}", "print", text, 0.75)
-    yield row("clone and drop: {}", "clone", "*/*", 0.80)
-    yield row("a constant as a value", "atom", PLAIN)
-
-
-def against():
-    for value, *cases in (
-            (PLAIN, ("kept text", 0.30, PLAIN), ("in capitals", 0.30, PLAIN.upper()), ("another type", 1.00, "next/plain"),
-             ("rejected near its end", 0.30, "text/pl(in")),
-            (CHARSET, ("kept text", 0.60, CHARSET), ("in capitals", 1.20, CHARSET.upper()), ("another type", 1.20, f"n{CHARSET[1:]}"),
-             ("another charset", 1.20, f"{CHARSET[:-1]}9"), ("rejected near its end", 1.10, f"{CHARSET[:-2]}(8"),
-             ("with quotes, no space", 1.10, 'text/plain;charset="utf-8"')),
-            (TWO, ("kept text", 0.60, TWO_LOWERED), ("in capitals", 1.10, TWO.upper(), True), ("another type", 1.10, f"n{TWO_LOWERED[1:]}"),
-             ("another boundary", 1.10, f"{TWO_LOWERED[:-1]}X", True), ("rejected near its end", 1.10, f"{TWO_LOWERED[:-2]}(G", True),
-             ("with quotes, no space", 1.10, TWO_QUOTED.replace("BASE64", "base64"))),
-            (SHORT, ("kept text", 0.60, SHORT), ("in capitals", 1.10, SHORT.upper()), ("another weight", 1.10, "a/b;q=0.8", True),
-             ("with a space", 1.10, "a/b; q=0.9"))):
-        for label, goal, other, *differs in cases:
-            yield row(f"{{}}: {label}", "eq_str", value, goal, other, differs=any(differs))
-    for name in ("application-octet-stream", "charset"):
-        yield row("the name {}, in capitals", "name_eq", name, None, name.upper())
+    yield Row("read", "read", TEXT)
+    yield Row("read, then look up \"charset\"", "read_and_look_up", TEXT, ratio=0.75)
+    yield Row("look up \"charset\"", "look_up_charset_str", TEXT, ratio=1.0)
+    yield Row("look up \"level\", which none has", "look_up_missing", TEXT, ratio=1.0)
+    yield Row("look up CHARSET", "look_up_charset", TEXT, ratio=2.0)
+    yield Row("look up BOUNDARY", "look_up_boundary", TEXT, ratio=2.0)
+    yield Row("walk the parameters", "walk", TEXT)
+    yield Row("type, subtype and suffix", "parts", TEXT)
+    yield Row("essence", "essence", TEXT)
+    yield Row("equality", "eq", TEXT, BESIDE, differs=True)
+    yield Row("equality with a string", "eq_str", TEXT, BESIDE, differs=True)
+    yield Row("order", "cmp", TEXT, BESIDE)
+    yield Row("hash in a map", "hash", TEXT)
+    yield Row("clone and drop", "clone", TEXT)
+    yield Row("print", "print", TEXT)
+    yield Row("four constants as values", "atom", "a/b")
 
 
 def lists():
-    for label, text, goal in (("an Accept header of five entries", accept(5), 0.58), ("of fifty", accept(50), 0.60),
-                              ("of ten, every second broken", BROKEN, None), ("10,000 commas", "," * 10_000, None),
-                              ("1,000 times é", "é" * 1_000, None)):
-        yield row(label, "items", text, goal)
+    yield Row("the media types of an Accept header", "items", "\n".join(ACCEPTS))
+
+
+def strings():
+    two = "multipart/form-data; charset=BASE64; boundary=ABCDEFG"
+    hundred = "text/plain" + "".join(f"; name{it:05}=value{it:05}" for it in range(100))
+    for text in ("text/plain", "text/plain; charset=utf-8", two, "*/*"):
+        yield Row(text, "read", text)
+    yield Row("a hundred parameters, 2,110 bytes", "read", hundred)
+    yield Row("text/pl(in, rejected", "read", "text/pl(in")
+
+
+# The Rust crate rejects these.
+REJECTED = ("read: pairs \\\"", "walk: pairs \\\"")
+
+
+def long(label, operation, make):
+    """A row of a text that is so many bytes long, about."""
+    return Row(label, operation, make(65_536), differs=label in REJECTED, short=make(2_048))
+
+
+def texts():
+    """A value that ends, or goes on, only after 64 KB."""
+    kinds = (("pairs \\\"", lambda n: 'a/b;p="' + '\\"' * (n // 2) + '"'), ("pairs \\\\", lambda n: 'a/b;p="' + "\\\\" * (n // 2) + '"'),
+             ("spaces", lambda n: "a/b;" + " " * n + "p=x"), ("parameters ;p=x", lambda n: "a/b" + ";p=x" * (n // 4)))
+    for operation, what in (("read", "read"), ("look_up_missing", "look up \"level\""), ("walk", "walk")):
+        for label, make in kinds:
+            yield long(f"{what}: {label}", operation, make)
+    yield long("read: a subtype", "read", lambda n: "a/" + "x" * n)
+    for label, make in (("quotes", lambda n: '"' * n), ("commas", lambda n: "," * n), ("semicolons", lambda n: "a/b" + ";" * n),
+                        ("spaces", lambda n: "a/b," + " " * n + "c/d"), ("backslashes", lambda n: 'a/b;p="' + "\\" * n)):
+        yield long(f"list: {label}", "items", make)
 
 
 def calls():
-    for text, goal in ((PLAIN, None), (CHARSET, 1.00), (TWO, 1.00), (QUOTED, 1.00), (HUNDRED, 1.00), ("text/pl(in", None)):
-        yield row("mime_read: {}", "call_read", text, goal)
-    yield row("mime_list: an Accept header of five entries", "call_items", accept(5))
-    for text in (PLAIN, CHARSET, TWO):
-        yield row("mime_equal, without spaces: {}", "call_is", text, None, text.replace("; ", ";"))
+    yield Row("mime_read", "call_read", TEXT)
+    yield Row("mime_equal", "call_equal", TEXT, BESIDE, differs=True)
+    yield Row("mime_list, of an Accept header", "call_items", "\n".join(ACCEPTS))
 
 
-MIXED = "256 real media types in random order"
-GROUPS = {MIXED: mixed, "Reading": reading, "Looking a parameter up": looking_up, "Walking the parameters": walking, "Values": values,
-          "A value against a string": against, "The media types of a list": lists, "Calls from C": calls}
-# The rows that the picture has.
-PICTURED = [*((MIXED, it.label, f"{it.label}, mixed") for it in mixed()), ("Reading", PLAIN, f"read {PLAIN}"),
-            ("Reading", "a charset", f"read {CHARSET}"), ("Reading", "a hundred", "read a hundred parameters"),
-            ("Reading", "text/pl(in, rejected", "reject text/pl(in"),
-            ("The media types of a list", "an Accept header of five entries", "an Accept header of five")]
+GROUPS = {"256 Content-Type values in random order": values, "256 Accept headers in random order": lists, "Reading one string": strings,
+          "Texts of 64 KB: instructions and nanoseconds a byte": texts, "The calls from C, on the same values and headers": calls}

@@ -1,6 +1,6 @@
 #!/usr/bin/env python3
 """Draws docs/grammar.svg: the grammar's lines in docs/RULES.md as a railroad diagram, where each way along the lines is a text that the
-rule takes. Its ground is white, so that it is legible in dark mode, too. bench/bars.py draws with it."""
+rule takes. Its ground is white, so that it is legible in dark mode, too."""
 
 import re
 import sys

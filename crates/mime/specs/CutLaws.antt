@@ -81,7 +81,7 @@ JoinedComesBack = (values : List MediaType) → AllByRecursion IsRead values →
 abbrev pub is_separator : ℕ → Bool
 is_separator b = is_space b || b == comma_byte
 
--- a list as HTTP writes it, and its elements (RFC 7230, 7), where no white space separates an element from the comma after it
+-- a list as HTTP writes it, and its elements (RFC 7230, 7), with no whitespace between an element and the comma after it
 pub data IsHttpList : List ℕ → List CutItem → Type 0 where
   -- the empty text has no element
   no_element : IsHttpList [] []

@@ -1,4 +1,4 @@
--- How a text is rejected: which texts may still become a media type, up to where a text may, and its one fault.
+-- Why a text is rejected: which texts may still become a media type, the longest prefix of a text that may, and its one fault.
 use Rattle.std.specs.Prelude.{◌≡◌, ◌≢◌, ℕ, ◌<◌, ◌≤◌, List, [], ◌∷◌, ◌++◌, length, take, slice_get, Option, Some, None, MatchOption, codes, ⊤}
 use Rattle.mime.specs.Bytes.{slash_byte, equals_byte}
 use Rattle.mime.specs.Values.{IsAccepted}

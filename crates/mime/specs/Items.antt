@@ -27,7 +27,7 @@ items_of pairs = map item_of pairs
 abbrev pub IsLowIf : Bool → List ℕ → Type 0
 IsLowIf ignores_case text = ignores_case ≡ true → lowered text ≡ text
 
--- an item's name and its value have no ASCII capitals where their flags say that they ignore case
+-- an item's name and its value have no ASCII capitals if their flags say that they ignore case
 abbrev pub IsLowItem : Item → Type 0
 IsLowItem item = IsLowIf item.name_ignores_case item.name × IsLowIf item.value_ignores_case item.value
 

@@ -101,7 +101,7 @@ without_parameters value = record value { pairs = []; kept = value.essence }
 abbrev pub EssenceIsRead : Type 0
 EssenceIsRead = (text : List ℕ) (value : MediaType) → Reads text value → Reads value.essence (without_parameters value)
 
--- a plus and the suffix, or nothing where there is none
+-- a plus and the suffix, or nothing if there is none
 abbrev pub suffix_text : Option (List ℕ) → List ℕ
 suffix_text None = []
 suffix_text (Some suffix) = plus_byte ∷ suffix

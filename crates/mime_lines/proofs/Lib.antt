@@ -1,4 +1,4 @@
-mod StandardFacts
+mod ProgramFacts
 mod LineCuts
 mod ReadingOn
 mod Rows

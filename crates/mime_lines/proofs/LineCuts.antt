@@ -1,10 +1,9 @@
 -- How lines are cut off one by one.
-use Rattle.std.proofs.Common.{suc, min, ◌-◌, ◌≡◌, ℕ, ◌+◌, ◌<◌, ◌≤◌, Bool, true, false, cond, not, List, [], ◌∷◌, ◌++◌, length, take, drop, refl, ap, sym, ◌∙◌, arith, nat_eq, Some, slice_get, ◌||◌, zero-add, length-drop}
-use Rattle.std.proofs.lemmas.List.{take-append-drop, take_all, drop_all, drop-drop, length-take-le}
+use Rattle.std.proofs.Common.{suc, min, ◌-◌, ◌≡◌, ℕ, ◌+◌, ◌<◌, ◌≤◌, Bool, true, false, cond, not, List, [], ◌∷◌, ◌++◌, length, take, drop, refl, ap, sym, ◌∙◌, arith, nat_eq, ◌||◌, zero-add, length-drop}
+use Rattle.std.proofs.lemmas.List.{take-append-drop, drop-drop, length-take-le}
 use Rattle.std.proofs.lemmas.Bool.{true≢false}
 use Rattle.std.specs.List.{list_any, position_or_len, onto_first}
 use Rattle.std.proofs.lemmas.List.Sums.{prefix_len-le-length}
-use Rattle.mime.proofs.BytesLemmas.{slice_get-first_position}
 use Rattle.mime_lines.specs.Report.{lines_of}
 use Rattle.std.proofs.lemmas.Grind.{common_steps}
 
@@ -35,23 +34,6 @@ lines_of-first [] h = absurd (omega arith)
 lines_of-first (b ∷ bytes) h =
     prefix-lines (nat_eq b 10) (position_or_len (λ b. nat_eq b 10) bytes) b bytes (lines_of-first bytes)
     (λ e. omega (arith, prefix_len-le-length (λ b. not (nat_eq b 10)) bytes))
-
--- a line that ends before the end of the bytes ends with byte 10
-pub line_end-found : (bytes : List ℕ) (end : ℕ) → end ≡ position_or_len (λ b. nat_eq b 10) bytes → end < length bytes
-    → slice_get bytes end ≡ Some 10
-line_end-found bytes end is within = slice_get-first_position 10 bytes end is within
-
--- the first line, and the lines after its end, if these are known
-pub lines_of-cut : (bytes prefix rest : List ℕ) (end : ℕ) → 0 < length bytes → end ≡ position_or_len (λ b. nat_eq b 10) bytes
-    → prefix ≡ take end bytes → rest ≡ drop (end + 1) bytes → lines_of bytes ≡ prefix ∷ lines_of rest
-lines_of-cut bytes prefix rest end some is prefix_is rest_is =
-    lines_of-first bytes some ∙ ap (λ n. take n bytes ∷ lines_of (drop (n + 1) bytes)) (sym is) ∙ cc (prefix_is, rest_is)
-
--- bytes in which no line ends are one line
-pub lines_of-last : (bytes : List ℕ) (end : ℕ) → 0 < length bytes → end ≡ position_or_len (λ b. nat_eq b 10) bytes → length bytes ≤ end
-    → lines_of bytes ≡ bytes ∷ []
-lines_of-last bytes end some is past =
-    lines_of-cut bytes bytes [] end some is (sym (take_all end bytes past)) (sym (drop_all (end + 1) bytes (omega arith)))
 
 -- the bytes after a position that may be the end
 pub drop-beyond : (n : ℕ) (xs : List ℕ) → drop (n + 1) xs ≡ take (length xs - min (n + 1) (length xs)) (drop (min (n + 1) (length xs)) xs)

@@ -34,8 +34,8 @@ pub trait Sink {
     ghost held: { Self → Option (List ℕ) };
     /// Whether a call has failed.
     ghost has_failed: { Self → Bool };
-    /// Whether all that was written is passed on; true if the sink doesn't say.
-    ghost IsPassedOn: { Self → Type 0 } = { λ _. ⊤ };
+    /// Whether all that was written is flushed; true if the sink doesn't say.
+    ghost IsFlushed: { Self → Type 0 } = { λ _. ⊤ };
 
     /// Writes all of the bytes. After a failure it isn't known how many were written.
     fn write_all(&mut self, bytes: &[u8]) -> Result<(), Failed>
@@ -44,11 +44,11 @@ pub trait Sink {
         ensures failed { OnErr result (has_failed self.new ≡ true) }
         ensures unfailed { OnOk result (has_failed self.new ≡ has_failed self.old) };
 
-    /// Passes on all that was written: what a buffer still holds goes to its file.
+    /// Flushes all that was written: what a buffer still holds goes to its file.
     fn flush(&mut self) -> Result<(), Failed>
         ensures bytes { Keeps (held self.old) (held self.new) }
-        // Nothing else says that all is passed on.
-        ensures passed_on { OnOk result (IsPassedOn self.new) }
+        // Nothing else says that all is flushed.
+        ensures flushed { OnOk result (IsFlushed self.new) }
         // A failure sets this flag, and nothing else changes it.
         ensures failed { OnErr result (has_failed self.new ≡ true) }
         ensures unfailed { OnOk result (has_failed self.new ≡ has_failed self.old) };

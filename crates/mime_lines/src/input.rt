@@ -100,18 +100,3 @@ pub(crate) fn first_line(input: &[u8]) -> (&[u8], &[u8])
     let next = (end + 1).min(input.len());
     (&input[..end], &input[next..])
 }
-
-/// The first line of a nonempty string, and the rest after its line feed. Both are valid UTF-8, since a line feed is an
-/// ASCII byte.
-pub(crate) fn first_text_line(text: &str) -> (&str, &str)
-    requires { 0 < length text.now }
-    ensures lines { lines_of text.now ≡ result.0.now ∷ lines_of result.1.now }
-    ensures shorter { length result.1.now < length text.now }
-{
-    let end = line_end(text.as_bytes());
-    if end < text.len() {
-        (&text[..end], &text[end + 1..])
-    } else {
-        (text, "")
-    }
-}

@@ -10,16 +10,16 @@ mod device;
 mod error;
 mod input;
 pub mod laws;
-mod lines;
 mod mode;
+mod program;
 mod report;
 #[cfg(test)]
 mod tests;
 
 pub use crate::device::{Device, Failed, Sink, Source};
 pub use crate::error::RunError;
-pub use crate::lines::run;
 pub use crate::mode::Mode;
+pub use crate::program::run;
 use std::env;
 use std::env::Args;
 use std::process::ExitCode;

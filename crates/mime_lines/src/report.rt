@@ -6,37 +6,13 @@ ghost use Rattle.mime_lines.specs.Report.{row, suffix_row, param_rows, value_row
 ghost use Rattle.mime_lines.specs.Report.{ReportsText, ReportsLine, IsReportOf};
 ghost use Rattle.mime_lines.specs.Inner.{Adds};
 
-use crate::input::{first_line, first_text_line};
+use crate::input::first_line;
 use crate::mode::Mode;
 use mime::{Bad, Mime, MimeIter, ParseError};
 use std::alloc::{AllocError, Global};
 
-/// The report on an input. If all of it is valid UTF-8, so are its lines, which needn't be validated one by one.
+/// The report on an input, whose lines are validated one by one.
 pub(crate) fn report_of(alloc: Global, input: &[u8], mode: Mode) -> Result<String, AllocError>
-    ensures { IfOk result (λ report. IsReportOf mode input.now (string_bytes report)) }
-{
-    match str::from_utf8(input) {
-        Ok(text) => report_of_text(alloc, text, mode),
-        Err(_) => report_of_bytes(alloc, input, mode),
-    }
-}
-
-/// The report on an input that is valid UTF-8.
-fn report_of_text(alloc: Global, text: &str, mode: Mode) -> Result<String, AllocError>
-    ensures { IfOk result (λ report. IsReportOf mode text.now (string_bytes report)) }
-{
-    let mut report = String::new(alloc);
-    let mut rest = text;
-    while !rest.is_empty() {
-        let (line, more) = first_text_line(rest);
-        push_text(alloc, &mut report, line, mode)?;
-        rest = more;
-    }
-    Ok(report)
-}
-
-/// The report on any input, whose lines are validated one by one.
-fn report_of_bytes(alloc: Global, input: &[u8], mode: Mode) -> Result<String, AllocError>
     ensures { IfOk result (λ report. IsReportOf mode input.now (string_bytes report)) }
 {
     let mut report = String::new(alloc);
@@ -70,8 +46,8 @@ fn push_text(alloc: Global, report: &mut String, text: &str, mode: Mode) -> Resu
     }
 }
 
-/// Adds the rows of the media type that a string is, or a row with its fault. It isn't inlined: both loops over the lines
-/// call it.
+/// Adds the rows of the media type that a string is, or a row with its fault. It isn't inlined: in the loop over
+/// the lines the scanner's loops get slower.
 #[inline(never)]
 fn push_reading(alloc: Global, report: &mut String, text: &str) -> Result<(), AllocError>
     ensures { OnOk result (Adds (ReportsText Mode.Parts text.now) (string_bytes report.old) (string_bytes report.new)) }
@@ -90,11 +66,12 @@ fn push_items(alloc: Global, report: &mut String, text: &str) -> Result<(), Allo
     ensures { OnOk result (Adds (ReportsText Mode.List text.now) (string_bytes report.old) (string_bytes report.new)) }
 {
     for item in MimeIter::new(alloc, text) {
-        match item {
-            Ok(mime) => push_row(report, "ok ", mime.as_str())?,
-            Err(Bad::Piece(piece)) => push_row(report, "bad ", piece)?,
-            Err(Bad::NoMemory) => return Err(AllocError),
-        }
+        let added = match &item {
+            Ok(mime) => push_row(report, "ok ", mime.as_str()),
+            Err(Bad::Piece(piece)) => push_row(report, "bad ", piece),
+            Err(Bad::NoMemory) => Err(AllocError),
+        };
+        added?;
     }
     Ok(())
 }

@@ -488,7 +488,7 @@ impl Sink for Pending {
 
     ghost has_failed = { λ _. false };
 
-    ghost IsPassedOn = { λ sink. sink.is_pending ≡ false };
+    ghost IsFlushed = { λ sink. sink.is_pending ≡ false };
 
     fn write_all(&mut self, _bytes: &[u8]) -> Result<(), Failed> {
         self.is_pending = true;
@@ -502,7 +502,7 @@ impl Sink for Pending {
 }
 
 #[test]
-fn passes_on_what_it_writes(rt: HostRuntime) {
+fn flushes_what_it_writes(rt: HostRuntime) {
     for case in CASES {
         let mut source = Device {
             inner: case.input,

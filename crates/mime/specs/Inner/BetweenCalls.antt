@@ -12,12 +12,12 @@ pub record IsUnderWay (text left : List ℕ) (out_of_memory : Bool) (steps : ℕ
   pub few : steps + length left ≤ length text
   pub exact : out_of_memory ≡ false → (n : ℕ) → TakesSteps left n → TakesSteps text (steps + n)
 
--- what an empty piece leaves: the cut of the text, or nothing where that has no item
+-- what an empty piece leaves: the cut of the text, or nothing if that has no item
 pub record PassesOn (text left : List ℕ) : Type 0 where
   pub carries : left ≢ [] → (items : List CutItem) (rest : List ℕ) → Cut left items rest → Cut text items rest
   pub ends : left ≡ [] → HasNoItem text
 
--- the text's first item is this piece: a bad one, or what it is read as where its parts have positions
+-- the text's first item is this piece: a bad one, or what it is read as if its parts have positions
 abbrev pub IsFirstPiece : List ℕ → List ℕ → Option Positions → List ℕ → Type 0
 IsFirstPiece text piece None left = IsFirstItem text (bad piece) left
 IsFirstPiece text piece (Some positions) left =

@@ -23,6 +23,6 @@ IsSuffixOf end whole = end ≡ drop (length whole - length end) whole
 abbrev pub mask_of : ℕ → List ℕ → ℕ
 mask_of byte text = mask_l (map (λ b. b == byte) text)
 
--- 1 where two bytes differ ignoring ASCII case, else 0
+-- 1 if two bytes differ ignoring ASCII case, else 0
 abbrev pub difference_bit : ℕ → ℕ → ℕ
 difference_bit x y = if to_ascii_lowercase x == to_ascii_lowercase y then 0 else 1

@@ -18,7 +18,7 @@ media_of text positions = record {
   kept = text;
 }
 
--- the positions in the kept text: no semicolon where there is no pair
+-- the positions in the kept text: no semicolon if there is no pair
 abbrev pub kept_semicolon : ℕ → Option ℕ → Option ℕ
 kept_semicolon zero semicolon = None
 kept_semicolon (suc pairs) semicolon = semicolon
@@ -43,7 +43,7 @@ kept_text_of pairs None text = lowered text
 kept_text_of zero (Some semicolon) text = lowered (take semicolon text)
 kept_text_of (suc pairs) (Some semicolon) text = with_pairs_lowered (suc pairs) semicolon text
 
--- a pair as it is read: its name in lowercase letters, and its value too where the name is `charset`
+-- a pair as it is read: its name in lowercase letters, and its value too if the name is `charset`
 abbrev pub lowered_pair : List ℕ × List ℕ → List ℕ × List ℕ
 lowered_pair (name, value) = (lowered name, lowered_value name value)
 

@@ -1,0 +1,99 @@
+-- What is added to a header, piece by piece and line by line.
+use Rattle.std.proofs.Common.{◌≡◌, ◌∙◌, refl, sym, ap, subst, ℕ, List, [], ◌∷◌, ◌++◌}
+use Rattle.std.specs.Prelude.{flat_map}
+use Rattle.std.specs.Str.{IsUtf8}
+use Rattle.std.proofs.lemmas.List.{append-nil, append_assoc}
+use Rattle.mime.specs.Values.{MediaType}
+use Rattle.mime_http.specs.HttpMediaType.{HttpReads, IsHttpMediaType}
+use Rattle.mime_http.specs.HttpList.{lines_or_any, trim_start, trim_end, AreSorted, no_text, blank, a_range, a_bad, Header, IsHeader}
+use Rattle.mime_http.specs.Walk.{Adds, AddsLines}
+use Rattle.mime_http.proofs.Cuts.{cut, are_cut, only_cut}
+use Rattle.mime_http.proofs.Trims.{blank_from_trimmed, trimmed_from_blank, utf8_before, utf8_trimmed, http_before, http_trimmed}
+
+module _ (piece : List ℕ) {old new : Header} where
+  pub add_nothing : trim_start piece ≡ [] → new.ranges ≡ old.ranges → new.bad ≡ old.bad → Adds (piece ∷ []) old new
+  add_nothing none ranges bad = record {
+    ranges = [];
+    bad = [];
+    sorted = blank piece [] [] [] (blank_from_trimmed piece none) no_text;
+    now_ranges = ranges ∙ sym (append-nil old.ranges);
+    now_bad = bad ∙ sym (append-nil old.bad);
+  }
+
+  pub add_range : (range : MediaType) → IsUtf8 (trim_start piece) × HttpReads (trim_start piece) range
+      → new.ranges ≡ old.ranges ++ (range ∷ []) → new.bad ≡ old.bad → Adds (piece ∷ []) old new
+  add_range range is ranges bad = record {
+    ranges = range ∷ [];
+    bad = [];
+    sorted = a_range piece range [] [] [] (utf8_before piece is.0) (http_before piece range is.1) no_text;
+    now_ranges = ranges;
+    now_bad = bad ∙ sym (append-nil old.bad);
+  }
+
+  pub add_bad : ¬ (trim_start piece ≡ []) → ¬ (IsUtf8 (trim_start piece) × IsHttpMediaType (trim_start piece)) → new.ranges ≡ old.ranges
+      → new.bad ≡ old.bad ++ (trim_end (trim_start piece) ∷ []) → Adds (piece ∷ []) old new
+  add_bad some isnt ranges bad = record {
+    ranges = [];
+    bad = trim_end (trim_start piece) ∷ [];
+    sorted = a_bad piece [] [] [] (λ white. some (trimmed_from_blank piece white))
+        (λ is. isnt (utf8_trimmed piece is.0, (is.1.0, http_trimmed piece is.1.0 is.1.1))) no_text;
+    now_ranges = ranges ∙ sym (append-nil old.ranges);
+    now_bad = bad;
+  }
+
+sorted_both : {texts more : List (List ℕ)} {ranges others : List MediaType} {bad poor : List (List ℕ)} → AreSorted texts ranges bad
+    → AreSorted more others poor → AreSorted (texts ++ more) (ranges ++ others) (bad ++ poor)
+sorted_both no_text second = second
+sorted_both (blank text texts ranges bad white rest) second = blank text _ _ _ white (sorted_both rest second)
+sorted_both (a_range text range texts ranges bad utf8 reads rest) second = a_range text range _ _ _ utf8 reads (sorted_both rest second)
+sorted_both (a_bad text texts ranges bad some isnt rest) second = a_bad text _ _ _ some isnt (sorted_both rest second)
+
+pub adds_none : (header : Header) → Adds [] header header
+adds_none header =
+    record { ranges = []; bad = []; sorted = no_text; now_ranges = sym (append-nil header.ranges); now_bad = sym (append-nil header.bad) }
+
+pub adds_both : {pieces more : List (List ℕ)} {old now new : Header} → Adds pieces old now → Adds more now new → Adds (pieces ++ more) old new
+adds_both {old = old} first second = record {
+  ranges = first.ranges ++ second.ranges;
+  bad = first.bad ++ second.bad;
+  sorted = sorted_both first.sorted second.sorted;
+  now_ranges = second.now_ranges ∙ (ap (λ x. x ++ second.ranges) first.now_ranges ∙ append_assoc old.ranges first.ranges second.ranges);
+  now_bad = second.now_bad ∙ (ap (λ x. x ++ second.bad) first.now_bad ∙ append_assoc old.bad first.bad second.bad);
+}
+
+-- of all pieces some were added, and these are left
+pub record SoFar (all rest : List (List ℕ)) (old now : Header) : Type 0 where
+  pub before : List (List ℕ)
+  pub whole : before ++ rest ≡ all
+  pub added : Adds before old now
+
+pub none_so_far : (all : List (List ℕ)) (old : Header) → SoFar all all old old
+none_so_far all old = record { before = []; whole = refl; added = adds_none old }
+
+pub some_more : {all rest more : List (List ℕ)} {old now new : Header} → SoFar all (more ++ rest) old now → Adds more now new
+    → SoFar all rest old new
+some_more {rest = rest} {more = more} so_far added = record {
+  before = so_far.before ++ more;
+  whole = append_assoc so_far.before more rest ∙ so_far.whole;
+  added = adds_both so_far.added added;
+}
+
+pub all_added : {all : List (List ℕ)} {old now : Header} → SoFar all [] old now → Adds all old now
+all_added {old = old} {now = now} so_far =
+    subst (λ pieces. Adds pieces old now) (sym (append-nil so_far.before) ∙ so_far.whole) so_far.added
+
+-- lines of which the pieces are cut
+pub lines_added : (lines : List (List ℕ)) {old new : Header} → Adds (flat_map cut lines) old new → AddsLines lines old new
+lines_added lines added = record { pieces = flat_map cut lines; cut = are_cut lines; added = added }
+
+pub pieces_added : {lines : List (List ℕ)} {old new : Header} → AddsLines lines old new → Adds (flat_map cut lines) old new
+pieces_added {old = old} {new = new} lines = subst (λ pieces. Adds pieces old new) (only_cut lines.cut) lines.added
+
+pub is_header : (lines : List (List ℕ)) (header : Header) → Adds (flat_map cut (lines_or_any lines)) (record { ranges = []; bad = [] }) header
+    → IsHeader lines header
+is_header lines header added = record {
+  pieces = flat_map cut (lines_or_any lines);
+  cut = are_cut (lines_or_any lines);
+  sorted = subst (AreSorted (flat_map cut (lines_or_any lines)) header.ranges) (sym added.now_bad)
+      (subst (λ ranges. AreSorted (flat_map cut (lines_or_any lines)) ranges added.bad) (sym added.now_ranges) added.sorted);
+}

@@ -1,0 +1,133 @@
+-- The highest of a list is one of it, and none is higher; so the closest range is the closest.
+use Rattle.std.proofs.Common.{◌≡◌, ◌∙◌, ◌<◌, ◌⊎◌, inl, inr, refl, sym, ap, subst, arith, ⊎_elim, ℕ, zero, suc, Bool, true, false, List, [], ◌∷◌, map, Option, Some, None, is_some}
+use Rattle.std.specs.Prelude.{fold, if◌then◌else◌, Contains, MatchOption}
+use Rattle.std.specs.List.{enumerate_from}
+use Rattle.std.specs.Option.{option_cmp}
+use Rattle.std.specs.Ordering.{is_lt, is_gt, ord_max, nat_cmp, ordering_then, MatchOrdering}
+use Rattle.std.specs.declared.cmp.Ordering.{Ordering}
+use Rattle.std.specs.declared.cmp.Ordering.TheVariants.{Less, Equal, Greater}
+use Rattle.std.specs.Cmp.{IsTotalOrder}
+use Rattle.std.specs.Cmp.Lexicographic.{options_total}
+use Rattle.std.proofs.lemmas.Bool.{true≢false}
+use Rattle.std.proofs.lemmas.Cmp.{ranked, upto, tied_itself}
+use Rattle.mime.specs.Values.{MediaType}
+use Rattle.mime_http.specs.Ranges.{Rank, rank_cmp, closeness, closest}
+use Rattle.mime_http.specs.RangesLaws.{IsAtMost, ClosestIsClosest}
+use Rattle.mime_http.proofs.Highest.{least}
+use Rattle.mime_http.proofs.Ranks.{ranks_total, one_rank}
+
+-- an item of a longer list, and of a mapped one
+pub in_more : {X : Type 0} (y : X) (xs : List X) (x : X) → Contains xs x → Contains (y ∷ xs) x
+in_more y xs x (k, within, is) = (suc k, omega (arith, within), is)
+
+pub in_mapped : {X Y : Type 0} (f : X → Y) (xs : List X) (x : X) → Contains xs x → Contains (map f xs) (f x)
+in_mapped f [] x (k, within, is) = absurd (omega (arith, within))
+in_mapped f (y ∷ xs) x (zero, within, is) = (zero, omega arith, ap f is)
+in_mapped f (y ∷ xs) x (suc k, within, is) = in_more (f y) (map f xs) (f x) (in_mapped f xs x (k, omega (arith, within), is))
+
+pub of_mapped : {X Y : Type 0} (f : X → Y) (xs : List X) (y : Y) → Contains (map f xs) y → (x : X) × Contains xs x × (f x ≡ y)
+of_mapped f [] y (k, within, is) = absurd (omega (arith, within))
+of_mapped f (x ∷ xs) y (zero, within, is) = (x, (zero, omega arith, refl), is)
+of_mapped f (x ∷ xs) y (suc k, within, is) =
+    let found = of_mapped f xs y (k, omega (arith, within), is) in
+    (found.0, in_more x xs found.0 found.1, found.2)
+
+module _ {K : Type 0} {R : K → K → Ordering} (total : IsTotalOrder R) where
+  one_of_two : (m x : K) (b : Bool) → ((if b then m else x) ≡ m) ⊎ ((if b then m else x) ≡ x)
+  one_of_two m x true = inl refl
+  one_of_two m x false = inr refl
+
+  -- the highest is what it began with, or an item
+  pub highest_is_there : (m : K) (xs : List K) → (fold (ord_max R) m xs ≡ m) ⊎ Contains xs (fold (ord_max R) m xs)
+  highest_is_there m [] = inl refl
+  highest_is_there m (x ∷ xs) =
+      ⊎_elim
+      (λ same. ⊎_elim (λ old. inl (same ∙ old)) (λ new. inr (zero, omega arith, sym (same ∙ new))) (one_of_two m x (is_lt (R x m))))
+      (λ there. inr (in_more x xs _ there))
+      (highest_is_there (ord_max R m x) xs)
+
+  no_less_by : (m x : K) (r : Ordering) → R x m ≡ r → is_gt (R x (if is_lt r then m else x)) ≡ false
+  no_less_by m x Less is = ap is_gt is
+  no_less_by m x Equal is = ap is_gt (tied_itself total x)
+  no_less_by m x Greater is = ap is_gt (tied_itself total x)
+
+  -- no item is higher
+  pub none_is_higher : (one : (x y : K) → R x y ≡ Equal → x ≡ y) (m : K) (xs : List K) (x : K) → Contains xs x
+      → is_gt (R x (fold (ord_max R) m xs)) ≡ false
+  none_is_higher one m [] x (k, within, is) = absurd (omega (arith, within))
+  none_is_higher one m (y ∷ xs) x (zero, within, is) =
+      subst (λ z. is_gt (R z (fold (ord_max R) (ord_max R m y) xs)) ≡ false) is
+      (upto total y (ord_max R m y) _ (no_less_by m y (R y m) refl) (least total one (ord_max R m y) xs))
+  none_is_higher one m (y ∷ xs) x (suc k, within, is) = none_is_higher one (ord_max R m y) xs x (k, omega (arith, within), is)
+
+ranks : (x y : ℕ) → MatchOrdering (nat_cmp x y) (x < y) (x ≡ y) (y < x)
+ranks x y = ranked x y (nat_cmp x y) refl
+
+-- what four answers in turn say
+at_most_by : (x y : Rank) (a b c d : Ordering) → MatchOrdering a (x.0 < y.0) (x.0 ≡ y.0) (y.0 < x.0)
+    → MatchOrdering b (x.1 < y.1) (x.1 ≡ y.1) (y.1 < x.1) → MatchOrdering c (x.2 < y.2) (x.2 ≡ y.2) (y.2 < x.2)
+    → MatchOrdering d (x.3 < y.3) (x.3 ≡ y.3) (y.3 < x.3)
+    → is_gt (ordering_then (ordering_then (ordering_then a b) c) d) ≡ false → IsAtMost x y
+at_most_by x y Less b c d first second third fourth low = inl first
+at_most_by x y Greater b c d first second third fourth low = absurd (true≢false low)
+at_most_by x y Equal Less c d first second third fourth low = inr (first, inl second)
+at_most_by x y Equal Greater c d first second third fourth low = absurd (true≢false low)
+at_most_by x y Equal Equal Less d first second third fourth low = inr (first, inr (second, inl third))
+at_most_by x y Equal Equal Greater d first second third fourth low = absurd (true≢false low)
+at_most_by x y Equal Equal Equal Less first second third fourth low = inr (first, inr (second, inr (third, omega (arith, fourth))))
+at_most_by x y Equal Equal Equal Equal first second third fourth low = inr (first, inr (second, inr (third, omega (arith, fourth))))
+at_most_by x y Equal Equal Equal Greater first second third fourth low = absurd (true≢false low)
+
+pub at_most : (x y : Rank) → is_gt (rank_cmp x y) ≡ false → IsAtMost x y
+at_most x y low =
+    at_most_by x y (nat_cmp x.0 y.0) (nat_cmp x.1 y.1) (nat_cmp x.2 y.2) (nat_cmp x.3 y.3) (ranks x.0 y.0) (ranks x.1 y.1) (ranks x.2 y.2)
+    (ranks x.3 y.3) low
+
+one_closeness : (x y : Option Rank) → option_cmp rank_cmp x y ≡ Equal → x ≡ y
+one_closeness None None is = refl
+one_closeness None (Some y) is = absurd (true≢false (ap is_lt is))
+one_closeness (Some x) None is = absurd (true≢false (ap is_gt is))
+one_closeness (Some x) (Some y) is = ap Some (one_rank x y is)
+
+none_by : (x : Option Rank) → is_gt (option_cmp rank_cmp x None) ≡ false → x ≡ None
+none_by None low = refl
+none_by (Some x) low = absurd (true≢false low)
+
+module _ (ranges : List MediaType) (offer : MediaType) where
+  -- no range is closer than the closest
+  none_is_closer : (item : ℕ × MediaType) → Contains (enumerate_from 0 ranges) item
+      → is_gt (option_cmp rank_cmp (closeness offer item) (closest ranges offer)) ≡ false
+  none_is_closer item there =
+      none_is_higher (options_total ranks_total) one_closeness None (map (closeness offer) (enumerate_from 0 ranges)) (closeness offer item)
+      (in_mapped (closeness offer) (enumerate_from 0 ranges) item there)
+
+  when_none : closest ranges offer ≡ None → (item : ℕ × MediaType) → Contains (enumerate_from 0 ranges) item → closeness offer item ≡ None
+  when_none is item there =
+      none_by (closeness offer item)
+      (subst (λ top. is_gt (option_cmp rank_cmp (closeness offer item) top) ≡ false) is (none_is_closer item there))
+
+  when_some : (close : Rank) → closest ranges offer ≡ Some close
+      → ((item : ℕ × MediaType) × Contains (enumerate_from 0 ranges) item × (closeness offer item ≡ Some close))
+      × ((item : ℕ × MediaType) (other : Rank) → Contains (enumerate_from 0 ranges) item → closeness offer item ≡ Some other
+      → IsAtMost other close)
+  when_some close is = (
+    ⊎_elim
+        (λ none. absurd (true≢false (ap is_some (sym is ∙ none))))
+        (λ there. of_mapped (closeness offer) (enumerate_from 0 ranges) (Some close)
+        (subst (Contains (map (closeness offer) (enumerate_from 0 ranges))) is there))
+        (highest_is_there (options_total ranks_total) None (map (closeness offer) (enumerate_from 0 ranges))),
+    λ item other there covers. at_most other close
+        (subst (λ o. is_gt (option_cmp rank_cmp o (Some close)) ≡ false) covers
+        (subst (λ top. is_gt (option_cmp rank_cmp (closeness offer item) top) ≡ false) is (none_is_closer item there))),
+  )
+
+pub closest_is_closest : ClosestIsClosest
+closest_is_closest ranges offer =
+    elim (closest ranges offer) as (λ o. closest ranges offer ≡ o → MatchOption o
+    ((item : ℕ × MediaType) → Contains (enumerate_from 0 ranges) item → closeness offer item ≡ None)
+    (λ close. ((item : ℕ × MediaType) × Contains (enumerate_from 0 ranges) item × (closeness offer item ≡ Some close))
+    × ((item : ℕ × MediaType) (other : Rank) → Contains (enumerate_from 0 ranges) item → closeness offer item ≡ Some other
+    → IsAtMost other close))) [
+      | None ↦ when_none ranges offer
+      | Some close ↦ when_some ranges offer close
+    ] refl

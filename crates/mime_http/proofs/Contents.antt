@@ -1,0 +1,123 @@
+-- The content of quoted strings: what is written for a value, and what needs no backslash.
+use Rattle.std.proofs.Common.{◌≡◌, ◌∙◌, ◌==◌, ℕ, Bool, true, false, List, [], ◌∷◌, ◌++◌, arith, refl, sym, ap, cond, ⊎_elim, append-nil}
+use Rattle.std.specs.Prelude.{◌||◌, ◌&&◌, nat_le, nat_lt}
+use Rattle.std.specs.Char.{to_ascii_lowercase}
+use Rattle.std.specs.List.{list_all}
+use Rattle.std.proofs.lemmas.Bool.{and_parts, and_from, or_parts, cases_Bool, cases_lt}
+use Rattle.std.proofs.lemmas.Bool.Decides.{nat_tests}
+use Rattle.std.proofs.lemmas.Grind.{flat_map-append}
+use Rattle.std.proofs.lemmas.Str.{encode_ascii, encodes-append}
+use Rattle.mime.specs.Bytes.{is_token_byte, is_quoted_byte}
+use Rattle.mime.specs.Grammar.{IsToken, IsContent, no_byte, text_byte, quoted_pair}
+use Rattle.mime.specs.HeaderLaws.{AreHeaderBytes}
+use Rattle.mime.specs.Values.{lowered, is_charset}
+use Rattle.mime.proofs.BytesLemmas.{AreTokenBytes-from_token}
+use Rattle.mime.proofs.ValueLemmas.Utf8.{high_bytes}
+use Rattle.mime_http.specs.Boundary.{is_bchar, IsBoundary}
+use Rattle.mime_http.specs.Unescaped.{unescaped}
+use Rattle.mime_http.specs.Written.{escaped_byte, escaped, WrittenIsMeant}
+use lib.Utf8.{scalar, encode, encodes}
+
+-- whether a byte is written after a backslash
+abbrev pub is_special : ℕ → Bool
+is_special b = b == 34 || b == 92
+
+-- ---- bytes that need no backslash
+
+plain_class : (p : ℕ → Bool) → ((b : ℕ) → p b ≡ true → is_special b ≡ false) → (bytes : List ℕ) → list_all p bytes ≡ true
+    → escaped bytes ≡ bytes
+plain_class p fits [] all = refl
+plain_class p fits (b ∷ bytes) all =
+    let parts = and_parts (p b) (list_all p bytes) all in
+    rw (fits b parts.0) (ap (λ rest. b ∷ rest) (plain_class p fits bytes parts.1))
+
+safe_class : (p : ℕ → Bool) → ((b : ℕ) → p b ≡ true → is_quoted_byte b ≡ true) → (bytes : List ℕ) → list_all p bytes ≡ true
+    → AreHeaderBytes bytes
+safe_class p fits [] all = refl
+safe_class p fits (b ∷ bytes) all =
+    let parts = and_parts (p b) (list_all p bytes) all in
+    and_from (is_quoted_byte b) (list_all is_quoted_byte bytes) (fits b parts.0) (safe_class p fits bytes parts.1)
+
+token_plain : (b : ℕ) → is_token_byte b ≡ true → is_special b ≡ false
+unfolding is_token_byte
+token_plain b is = grind (arith, nat_tests)
+
+token_safe : (b : ℕ) → is_token_byte b ≡ true → is_quoted_byte b ≡ true
+unfolding is_token_byte is_quoted_byte
+token_safe b is = grind (arith, nat_tests)
+
+bchar_safe : (b : ℕ) → is_bchar b ≡ true → is_quoted_byte b ≡ true
+unfolding is_quoted_byte
+bchar_safe b is = grind (arith, nat_tests)
+
+pub token_is_plain : (bytes : List ℕ) → IsToken bytes → escaped bytes ≡ bytes
+token_is_plain bytes token = plain_class is_token_byte token_plain bytes (AreTokenBytes-from_token bytes token)
+
+pub token_is_safe : (bytes : List ℕ) → IsToken bytes → AreHeaderBytes bytes
+token_is_safe bytes token = safe_class is_token_byte token_safe bytes (AreTokenBytes-from_token bytes token)
+
+pub boundary_is_plain : (bytes : List ℕ) → IsBoundary bytes → escaped bytes ≡ bytes
+boundary_is_plain bytes is = plain_class is_bchar (λ b is. grind (arith, nat_tests)) bytes is.all
+
+pub boundary_is_safe : (bytes : List ℕ) → IsBoundary bytes → AreHeaderBytes bytes
+boundary_is_safe bytes is = safe_class is_bchar bchar_safe bytes is.all
+
+-- ---- what is written for a value
+
+-- it is quoted content
+pub content_of_escaped : (value : List ℕ) → AreHeaderBytes value → IsContent (escaped value)
+content_of_escaped [] all = no_byte
+content_of_escaped (b ∷ value) all =
+    let parts = and_parts (is_quoted_byte b) (list_all is_quoted_byte value) all in
+    let rest = content_of_escaped value parts.1 in
+    ⊎_elim (λ special. rw special (quoted_pair b (escaped value) parts.0 rest))
+    (λ plain. rw plain (text_byte b (escaped value) (rw (parts.0, plain) refl) rest)) (cases_Bool (is_special b))
+
+-- it means the value
+meant : (value : List ℕ) → unescaped (escaped value) ≡ value
+meant [] = refl
+meant (b ∷ value) =
+    ⊎_elim (λ special. rw special (ap (λ rest. b ∷ rest) (meant value)))
+    (λ plain.
+    let parts = or_parts (b == 34) (b == 92) plain in
+    rw (parts.0, parts.1, parts.1) (ap (λ rest. b ∷ rest) (meant value))) (cases_Bool (is_special b))
+
+-- lowercasing it is writing the value in lowercase
+lowered_escaped : (value : List ℕ) → lowered (escaped value) ≡ escaped (lowered value)
+lowered_escaped [] = refl
+lowered_escaped (b ∷ value) =
+    let same : is_special (to_ascii_lowercase b) ≡ is_special b = grind (arith, nat_tests) in
+    rw same (⊎_elim (λ special. rw special (ap (λ rest. 92 ∷ to_ascii_lowercase b ∷ rest) (lowered_escaped value)))
+    (λ plain. rw plain (ap (λ rest. to_ascii_lowercase b ∷ rest) (lowered_escaped value))) (cases_Bool (is_special b)))
+
+pub written_is_meant : WrittenIsMeant
+written_is_meant name value =
+    elim (is_charset name) as (λ low. unescaped (cond low (lowered (escaped value)) (escaped value)) ≡ cond low (lowered value) value) [
+      | true ↦ ap unescaped (lowered_escaped value) ∙ meant (lowered value)
+      | false ↦ meant value
+    ]
+
+-- the bytes of a character past ASCII need no backslash
+abbrev is_high : ℕ → Bool
+is_high b = nat_le 128 b && nat_lt b 248
+
+high_plain : (b : ℕ) → is_high b ≡ true → is_special b ≡ false
+high_plain b high = grind (arith, nat_tests)
+
+-- what is written for a character
+pub escaped_character : (c : ℕ) → scalar c ≡ true → escaped (encode c) ≡ cond (is_special c) (92 ∷ []) [] ++ encode c
+escaped_character c is =
+    ⊎_elim (λ ascii. rw (encode_ascii c ascii) (one c))
+    (λ above.
+    let other : is_special c ≡ false = grind (arith, nat_tests) in
+    rw other (plain_class is_high high_plain (encode c) (high_bytes c is above)))
+    (cases_lt c 128)
+  where
+    one : (c : ℕ) → escaped_byte c ++ [] ≡ cond (is_special c) (92 ∷ []) [] ++ (c ∷ [])
+    one c = ⊎_elim (λ special. rw special refl) (λ plain. rw plain refl) (cases_Bool (is_special c))
+
+-- and for one more
+pub escaped_more : (characters : List ℕ) (c : ℕ) → escaped (encodes characters) ++ escaped (encode c) ≡ escaped (encodes (characters ++ (c ∷ [])))
+escaped_more characters c =
+    sym (flat_map-append escaped_byte (encodes characters) (encode c))
+    ∙ ap escaped (ap (λ last. encodes characters ++ last) (sym (append-nil (encode c))) ∙ sym (encodes-append characters (c ∷ [])))

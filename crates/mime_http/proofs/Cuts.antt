@@ -1,0 +1,336 @@
+-- The pieces of lines: lines have exactly one cut, which a function gives.
+use Rattle.std.proofs.Common.{◌≡◌, ◌∙◌, ◌==◌, refl, sym, ap, subst, arith, ℕ, Bool, true, false, suc, List, [], ◌∷◌, ◌++◌, ◌≤◌, ◌<◌, ◌-◌, ◌+◌, length, take, drop, get_or}
+use Rattle.std.specs.Prelude.{⊤, if◌then◌else◌, flat_map}
+use Rattle.std.proofs.lemmas.Bool.Decides.{nat_tests}
+use Rattle.std.proofs.lemmas.List.{append-nil, append_assoc, get_or-drop, length-drop}
+use Rattle.std.proofs.Math.Seq.{take-suc}
+use Rattle.mime_http.specs.declared.list.At.{At}
+use Rattle.mime_http.specs.declared.list.At.TheVariants.{Outside, Equals, Quoted, Paired}
+use Rattle.mime_http.specs.Walk.{after_outside, after, ends}
+use Rattle.mime_http.proofs.Highest.{item_left}
+use Rattle.mime_http.specs.HttpList.{AreBetweenCommas, no_line, line_end, comma, IsInString, string_end, string_byte, string_pair, opens_string, IsPiece, piece_end, piece_byte, piece_string, BeginsPiece}
+use Rattle.mime_http.specs.ListLaws.{OneCut}
+
+-- ---- the cut as a function, from a place on
+
+abbrev pub cut_from : At → List ℕ → List ℕ → List (List ℕ)
+cut_from place piece [] = piece ∷ []
+cut_from place piece (b ∷ bytes) =
+    if ends place b then piece ∷ cut_from Outside [] bytes else cut_from (after place b) (piece ++ (b ∷ [])) bytes
+
+abbrev pub cut : List ℕ → List (List ℕ)
+cut line = cut_from Outside [] line
+
+-- from a place on, bytes lead to a place, and no piece ends in them
+record Passes (from : At) (bytes : List ℕ) (to : At) : Type 0 where
+  same : (piece rest : List ℕ) → cut_from from piece (bytes ++ rest) ≡ cut_from to (piece ++ bytes) rest
+
+passes_none : (place : At) → Passes place [] place
+passes_none place = record { same = λ piece rest. ap (λ e. cut_from place e rest) (sym (append-nil piece)) }
+
+passes_one : (place : At) (b : ℕ) → ends place b ≡ false → Passes place (b ∷ []) (after place b)
+passes_one place b on = record { same = λ piece rest. rw on refl }
+
+passes_both : {p q r : At} {xs ys : List ℕ} → Passes p xs q → Passes q ys r → Passes p (xs ++ ys) r
+passes_both {p} {q} {r} {xs} {ys} first second = record {
+  same = λ piece rest. ap (cut_from p piece) (append_assoc xs ys rest) ∙ (first.same piece (ys ++ rest)
+      ∙ (second.same (piece ++ xs) rest ∙ ap (λ e. cut_from r e rest) (append_assoc piece xs ys)));
+}
+
+passes_to : {p q r : At} {xs : List ℕ} → q ≡ r → Passes p xs q → Passes p xs r
+passes_to {p} {q} {r} {xs} there passes = subst (λ place. Passes p xs place) there passes
+
+-- ---- the places outside strings
+
+abbrev IsOutside : At → Type 0
+IsOutside Outside = ⊤
+IsOutside Equals = ⊤
+IsOutside Quoted = ⊥
+IsOutside Paired = ⊥
+
+goes_on : (place : At) (b : ℕ) → (b == 44) ≡ false → ends place b ≡ false
+goes_on Outside b is = is
+goes_on Equals b is = is
+goes_on Quoted b is = refl
+goes_on Paired b is = refl
+
+comma_ends : (place : At) → IsOutside place → ends place 44 ≡ true
+comma_ends Outside is = refl
+comma_ends Equals is = refl
+comma_ends Quoted is = absurd is
+comma_ends Paired is = absurd is
+
+equals_leads : (place : At) → IsOutside place → after place 61 ≡ Equals
+equals_leads Outside is = refl
+equals_leads Equals is = refl
+equals_leads Quoted is = absurd is
+equals_leads Paired is = absurd is
+
+-- the bytes don't open a string after an equals sign
+abbrev begins_quote : List ℕ → Bool
+begins_quote [] = false
+begins_quote (b ∷ bytes) = b == 34
+
+abbrev Fits : At → List ℕ → Type 0
+Fits Outside bytes = ⊤
+Fits Equals bytes = begins_quote bytes ≡ false
+Fits Quoted bytes = ⊥
+Fits Paired bytes = ⊥
+
+outside : (place : At) (bytes : List ℕ) → Fits place bytes → IsOutside place
+outside Outside bytes is = tt
+outside Equals bytes is = tt
+outside Quoted bytes is = is
+outside Paired bytes is = is
+
+no_quote : (b : ℕ) (bytes : List ℕ) → (b == 61) ≡ true → opens_string (b ∷ bytes) ≡ false → begins_quote bytes ≡ false
+no_quote b [] is opens = refl
+no_quote b (c ∷ bytes) is opens = rw is at opens
+
+after_outside_fits : (b : ℕ) (bytes : List ℕ) → opens_string (b ∷ bytes) ≡ false → Fits (after_outside b) bytes
+after_outside_fits b bytes opens = by_equals (b == 61) refl
+  where
+    by_equals : (e : Bool) → (b == 61) ≡ e → Fits (after_outside b) bytes
+    by_equals true is = rw is (no_quote b bytes is opens)
+    by_equals false is = rw is tt
+
+after_fits : (place : At) (b : ℕ) (bytes : List ℕ) → opens_string (b ∷ bytes) ≡ false → Fits place (b ∷ bytes) → Fits (after place b) bytes
+after_fits Outside b bytes opens fits = after_outside_fits b bytes opens
+after_fits Equals b bytes opens fits = rw fits (after_outside_fits b bytes opens)
+after_fits Quoted b bytes opens fits = absurd fits
+after_fits Paired b bytes opens fits = absurd fits
+
+-- ---- a piece passes from outside strings to outside strings
+
+record Through (from : At) (bytes : List ℕ) : Type 0 where
+  to : At
+  passes : Passes from bytes to
+  is_outside : IsOutside to
+
+in_string : {content : List ℕ} → IsInString content → Passes Quoted content Quoted
+in_string string_end = passes_none Quoted
+in_string (string_byte b content quote backslash rest) =
+    passes_both (passes_to (rw (backslash, quote) refl) (passes_one Quoted b refl)) (in_string rest)
+in_string (string_pair b content rest) = passes_both (passes_one Quoted 92 refl) (passes_both (passes_one Paired b refl) (in_string rest))
+
+opened : (place : At) → IsOutside place → Passes place (61 ∷ 34 ∷ []) Quoted
+opened place is =
+    passes_both (passes_to (equals_leads place is) (passes_one place 61 (goes_on place 61 refl))) (passes_one Equals 34 refl)
+
+through : {piece : List ℕ} → IsPiece piece → (place : At) → Fits place piece → Through place piece
+through piece_end place fits = record { to = place; passes = passes_none place; is_outside = outside place [] fits }
+through (piece_byte b piece no_comma opens rest) place fits =
+    let next = through rest (after place b) (after_fits place b piece opens fits) in
+    record {
+      to = next.to;
+      passes = passes_both (passes_one place b (goes_on place b no_comma)) next.passes;
+      is_outside = next.is_outside;
+    }
+through (piece_string content piece inside rest) place fits =
+    let next = through rest Outside tt in
+    record {
+      to = next.to;
+      passes = passes_both (opened place (outside place _ fits)) (passes_both (in_string inside) (passes_both (passes_one Quoted 34 refl) next.passes));
+      is_outside = next.is_outside;
+    }
+
+-- ---- the only cut
+
+pub cut_of_piece : {piece : List ℕ} → IsPiece piece → cut piece ≡ piece ∷ []
+cut_of_piece {piece} is = ap (cut_from Outside []) (sym (append-nil piece)) ∙ (through is Outside tt).passes.same [] []
+
+some_piece : (place : At) (piece bytes : List ℕ) → 0 < length (cut_from place piece bytes)
+some_piece place piece [] = omega arith
+some_piece place piece (b ∷ bytes) = go (some_piece (after place b) (piece ++ (b ∷ [])) bytes) (ends place b) refl
+  where
+    go : 0 < length (cut_from (after place b) (piece ++ (b ∷ [])) bytes) → (e : Bool) → ends place b ≡ e
+        → 0 < length (cut_from place piece (b ∷ bytes))
+    go rest true is = rw is (omega arith)
+    go rest false is = rw is rest
+
+-- bytes of which none ends a piece begin with such
+cut_of_front : (xs ys : List ℕ) (place : At) (piece : List ℕ) → cut_from place piece (xs ++ ys) ≡ (piece ++ (xs ++ ys)) ∷ []
+    → cut_from place piece xs ≡ (piece ++ xs) ∷ []
+cut_of_front [] ys place piece is = ap (λ p. p ∷ []) (sym (append-nil piece))
+cut_of_front (x ∷ xs) ys place piece is = go (cut_of_front xs ys (after place x) (piece ++ (x ∷ []))) (ends place x) refl
+  where
+    go : (cut_from (after place x) (piece ++ (x ∷ [])) (xs ++ ys) ≡ ((piece ++ (x ∷ [])) ++ (xs ++ ys)) ∷ []
+        → cut_from (after place x) (piece ++ (x ∷ [])) xs ≡ ((piece ++ (x ∷ [])) ++ xs) ∷ [])
+        → (e : Bool) → ends place x ≡ e → cut_from place piece (x ∷ xs) ≡ (piece ++ (x ∷ xs)) ∷ []
+    go rest true end =
+        let two : piece ∷ cut_from Outside [] (xs ++ ys) ≡ (piece ++ (x ∷ (xs ++ ys))) ∷ [] = rw end at is in
+        absurd (omega (arith, some_piece Outside [] (xs ++ ys), ap length two))
+    go rest false on =
+        let one : cut_from (after place x) (piece ++ (x ∷ [])) (xs ++ ys) ≡ (piece ++ (x ∷ (xs ++ ys))) ∷ [] = rw on at is in
+        rw on (rest (one ∙ ap (λ p. p ∷ []) (sym (append_assoc piece (x ∷ []) (xs ++ ys))))
+        ∙ ap (λ p. p ∷ []) (append_assoc piece (x ∷ []) xs))
+
+cut_of_front_piece : (text : List ℕ) → BeginsPiece text → cut text ≡ text ∷ []
+cut_of_front_piece text begins = cut_of_front text begins.0 Outside [] (cut_of_piece begins.1)
+
+pub only_cut : {lines pieces : List (List ℕ)} → AreBetweenCommas IsPiece BeginsPiece lines pieces → pieces ≡ flat_map cut lines
+only_cut no_line = refl
+only_cut (line_end text lines texts begins rest) =
+    ap (λ ps. text ∷ ps) (only_cut rest) ∙ ap (λ c. c ++ flat_map cut lines) (sym (cut_of_front_piece text begins))
+only_cut (comma text line lines texts is rest) =
+    let first = through is Outside tt in
+    let here : cut (text ++ (44 ∷ line)) ≡ text ∷ cut line = first.passes.same [] (44 ∷ line) ∙ rw (comma_ends first.to first.is_outside) refl in
+    ap (λ ps. text ∷ ps) (only_cut rest) ∙ ap (λ c. c ++ flat_map cut lines) (sym here)
+
+-- ---- each line has a cut
+
+abbrev IsCut : List ℕ → List (List ℕ) → Type 0
+IsCut value pieces = AreBetweenCommas IsPiece BeginsPiece (value ∷ []) pieces
+
+record HasCut (value : List ℕ) : Type 0 where
+  pieces : List (List ℕ)
+  is : IsCut value pieces
+
+-- how bytes go on in a string
+data GoesOn : List ℕ → Type 0 where
+  closes : (content rest : List ℕ) → IsInString content → HasCut rest → GoesOn (content ++ (34 ∷ rest))
+  stays_open : (content more : List ℕ) → IsInString (content ++ more) → GoesOn content
+
+record All (bytes : List ℕ) : Type 0 where
+  cut : HasCut bytes
+  equals : HasCut (61 ∷ bytes)
+  string : GoesOn bytes
+  backslash : GoesOn (92 ∷ bytes)
+
+shorter : (b : ℕ) (piece more : List ℕ) → opens_string (b ∷ (piece ++ more)) ≡ false → opens_string (b ∷ piece) ≡ false
+shorter b [] more is = refl
+shorter b (c ∷ piece) more is = is
+
+begins_with : (b : ℕ) (text : List ℕ) → (b == 44) ≡ false → opens_string (b ∷ text) ≡ false → BeginsPiece text → BeginsPiece (b ∷ text)
+begins_with b [] none opens begins = ([], piece_byte b [] none refl piece_end)
+begins_with b (c ∷ text) none opens begins = (begins.0, piece_byte b (c ∷ (text ++ begins.0)) none opens begins.1)
+
+grown : (b : ℕ) {value : List ℕ} {pieces : List (List ℕ)} → (b == 44) ≡ false → opens_string (b ∷ value) ≡ false → IsCut value pieces
+    → HasCut (b ∷ value)
+grown b none opens (line_end text lines texts begins rest) =
+    record { pieces = _; is = line_end (b ∷ text) [] texts (begins_with b text none opens begins) rest }
+grown b none opens (comma text line lines texts is rest) =
+    record { pieces = _; is = comma (b ∷ text) line [] texts (piece_byte b text none (shorter b text _ opens) is) rest }
+
+-- a string before a cut
+with_string : (content : List ℕ) → IsInString content → {value : List ℕ} {pieces : List (List ℕ)} → IsCut value pieces
+    → HasCut (61 ∷ 34 ∷ (content ++ (34 ∷ value)))
+with_string content inside (line_end text lines texts begins rest) = record {
+  pieces = _;
+  is = line_end (61 ∷ 34 ∷ (content ++ (34 ∷ text))) [] texts
+      (begins.0, subst IsPiece (ap (λ x. 61 ∷ 34 ∷ x) (sym (append_assoc content (34 ∷ text) begins.0))) (piece_string content _ inside begins.1))
+      rest;
+}
+with_string content inside (comma text line lines texts is rest) = record {
+  pieces = _;
+  is = subst (λ v. IsCut v ((61 ∷ 34 ∷ (content ++ (34 ∷ text))) ∷ texts))
+      (ap (λ x. 61 ∷ 34 ∷ x) (append_assoc content (34 ∷ text) _))
+      (comma (61 ∷ 34 ∷ (content ++ (34 ∷ text))) line [] texts (piece_string content text inside is) rest);
+}
+
+after_opening : {bytes : List ℕ} → GoesOn bytes → HasCut (61 ∷ 34 ∷ bytes)
+after_opening (closes content rest inside cut) = with_string content inside cut.is
+after_opening (stays_open content more inside) = record {
+  pieces = _;
+  is = line_end (61 ∷ 34 ∷ content) [] [] (
+    more ++ (34 ∷ []),
+    subst IsPiece (ap (λ x. 61 ∷ 34 ∷ x) (append_assoc content more (34 ∷ []))) (piece_string (content ++ more) [] inside piece_end),
+  )
+      no_line;
+}
+
+byte_before : (b : ℕ) {bytes : List ℕ} → (b == 34) ≡ false → (b == 92) ≡ false → GoesOn bytes → GoesOn (b ∷ bytes)
+byte_before b quote backslash (closes content rest inside cut) = closes (b ∷ content) rest (string_byte b content quote backslash inside) cut
+byte_before b quote backslash (stays_open content more inside) =
+    stays_open (b ∷ content) more (string_byte b (content ++ more) quote backslash inside)
+
+pair_before : (b : ℕ) {bytes : List ℕ} → GoesOn bytes → GoesOn (92 ∷ b ∷ bytes)
+pair_before b (closes content rest inside cut) = closes (92 ∷ b ∷ content) rest (string_pair b content inside) cut
+pair_before b (stays_open content more inside) = stays_open (92 ∷ b ∷ content) more (string_pair b (content ++ more) inside)
+
+next_of : (b : ℕ) (bytes : List ℕ) → All bytes → All (b ∷ bytes)
+next_of b bytes rest = record { cut = cut; equals = equals (b == 34) refl; string = string (b == 34) refl (b == 92) refl; backslash = pair_before b rest.string }
+  where
+    cut_by : (c : Bool) → (b == 44) ≡ c → (e : Bool) → (b == 61) ≡ e → HasCut (b ∷ bytes)
+    cut_by true is e equals =
+        let same : b ≡ 44 = grind (arith, nat_tests) in
+        subst (λ x. HasCut (x ∷ bytes)) (sym same) (record { pieces = _; is = comma [] bytes [] _ piece_end rest.cut.is })
+    cut_by false is true equals =
+        let same : b ≡ 61 = grind (arith, nat_tests) in
+        subst (λ x. HasCut (x ∷ bytes)) (sym same) rest.equals
+    cut_by false is false equals = grown b is (none bytes) rest.cut.is
+      where
+        none : (bytes : List ℕ) → opens_string (b ∷ bytes) ≡ false
+        none [] = refl
+        none (c ∷ bytes) = rw equals refl
+
+    cut : HasCut (b ∷ bytes)
+    cut = cut_by (b == 44) refl (b == 61) refl
+
+    equals : (q : Bool) → (b == 34) ≡ q → HasCut (61 ∷ b ∷ bytes)
+    equals true is =
+        let same : b ≡ 34 = grind (arith, nat_tests) in
+        subst (λ x. HasCut (61 ∷ x ∷ bytes)) (sym same) (after_opening rest.string)
+    equals false is = grown 61 refl is cut.is
+
+    string : (q : Bool) → (b == 34) ≡ q → (s : Bool) → (b == 92) ≡ s → GoesOn (b ∷ bytes)
+    string true is s backslash =
+        let same : b ≡ 34 = grind (arith, nat_tests) in
+        subst (λ x. GoesOn (x ∷ bytes)) (sym same) (closes [] bytes string_end rest.cut)
+    string false is true backslash =
+        let same : b ≡ 92 = grind (arith, nat_tests) in
+        subst (λ x. GoesOn (x ∷ bytes)) (sym same) rest.backslash
+    string false is false backslash = byte_before b is backslash rest.string
+
+all_of : (bytes : List ℕ) → All bytes
+all_of [] = record {
+  cut = record { pieces = _; is = line_end [] [] [] ([], piece_end) no_line };
+  equals = record { pieces = _; is = line_end (61 ∷ []) [] [] ([], piece_byte 61 [] refl refl piece_end) no_line };
+  string = stays_open [] [] string_end;
+  backslash = stays_open (92 ∷ []) (0 ∷ []) (string_pair 0 [] string_end);
+}
+all_of (b ∷ bytes) = next_of b bytes (all_of bytes)
+
+-- ---- and so have lines
+
+joined : {line : List ℕ} {pieces lines others : List (List ℕ)} → IsCut line pieces → AreBetweenCommas IsPiece BeginsPiece lines others
+    → AreBetweenCommas IsPiece BeginsPiece (line ∷ lines) (pieces ++ others)
+joined {lines = lines} {others = others} (line_end text _ texts begins no_line) more = line_end text lines others begins more
+joined {lines = lines} {others = others} (comma text line _ texts is rest) more = comma text line lines (texts ++ others) is (joined rest more)
+
+pub are_cut : (lines : List (List ℕ)) → AreBetweenCommas IsPiece BeginsPiece lines (flat_map cut lines)
+are_cut [] = no_line
+are_cut (line ∷ lines) =
+    let has = (all_of line).cut in
+    let same : has.pieces ≡ cut line = only_cut has.is ∙ append-nil (cut line) in
+    subst (λ pieces. AreBetweenCommas IsPiece BeginsPiece (line ∷ lines) (pieces ++ flat_map cut lines)) same (joined has.is (are_cut lines))
+
+pub one_cut : OneCut
+one_cut lines = (flat_map cut lines, are_cut lines, λ other is. only_cut is)
+
+-- ---- the cut of a line from a position on
+
+taken : (value : List ℕ) (start at : ℕ) → start ≤ at → at < length value
+    → take (at - start) (drop start value) ++ (get_or value at 0 ∷ []) ≡ take (at + 1 - start) (drop start value)
+taken value start at from within =
+    let next : suc (at - start) ≡ at + 1 - start = omega (arith, from) in
+    let there : start + (at - start) ≡ at = omega (arith, from) in
+    let same : get_or (drop start value) (at - start) 0 ≡ get_or value at 0 =
+    get_or-drop start value (at - start) 0 ∙ ap (λ i. get_or value i 0) there in
+    ap (λ b. take (at - start) (drop start value) ++ (b ∷ [])) (sym same)
+    ∙ (sym (take-suc (drop start value) (at - start) 0 (omega (arith, length-drop start value, within, from)))
+    ∙ ap (λ n. take n (drop start value)) next)
+
+pub cut_ends : (place : At) (value : List ℕ) (start at : ℕ) → at < length value → ends place (get_or value at 0) ≡ true
+    → cut_from place (take (at - start) (drop start value)) (drop at value)
+    ≡ take (at - start) (drop start value) ∷ cut (drop (at + 1) value)
+cut_ends place value start at within end =
+    ap (cut_from place (take (at - start) (drop start value))) (item_left value at 0 within) ∙ (rw end refl)
+
+pub cut_goes_on : (place : At) (value : List ℕ) (start at : ℕ) → start ≤ at → at < length value
+    → ends place (get_or value at 0) ≡ false
+    → cut_from place (take (at - start) (drop start value)) (drop at value)
+    ≡ cut_from (after place (get_or value at 0)) (take (at + 1 - start) (drop start value)) (drop (at + 1) value)
+cut_goes_on place value start at from within on =
+    ap (cut_from place (take (at - start) (drop start value))) (item_left value at 0 within)
+    ∙ (rw on (ap (λ piece. cut_from (after place (get_or value at 0)) piece (drop (at + 1) value)) (taken value start at from within)))

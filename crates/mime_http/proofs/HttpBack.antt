@@ -1,0 +1,469 @@
+-- What is read is what HTTP writes: bytes that tightening makes a syntax tree's text are a media type as HTTP writes it.
+use Rattle.std.proofs.Common.{◌≡◌, ◌∙◌, ◌==◌, refl, sym, ap, subst, arith, ℕ, Bool, true, false, List, [], ◌∷◌, ◌++◌, length, drop, ◌+◌}
+use Rattle.std.proofs.lemmas.Bool.{and_parts, and_from, true≢false}
+use Rattle.std.proofs.lemmas.Bool.Decides.{nat_tests}
+use Rattle.std.proofs.lemmas.List.{append-nil, append_assoc}
+use Rattle.mime.specs.Bytes.{is_token_byte}
+use Rattle.mime.specs.Grammar.{Parameter, plain, quoted, Parameters, blank, final, more, Tail, no_list, listed, SyntaxTree, is_space, AreSpaces, text_of_parameter, text_of_list, text_of_tail, text_of, AreTokenBytes, IsToken, IsContent, no_byte, text_byte, quoted_pair, IsParameter, AreParameters, IsTail, IsWellFormed}
+use Rattle.mime.specs.Values.{MediaType, lowered, last_plus}
+use Rattle.mime.proofs.BytesLemmas.{AreTokenBytes-from_token}
+use Rattle.mime.proofs.GrammarLemmas.Readings.{one_reading}
+use Rattle.mime_http.specs.declared.tight.Place.{Place}
+use Rattle.mime_http.specs.declared.tight.Place.TheVariants.{Start, Plain, Spaced, Equals, Quoted, Paired, Closed, Semicolon}
+use Rattle.mime_http.specs.Tight.{place_after, added, tight_from, tight}
+use Rattle.mime_http.specs.HttpMediaType.{IsHttpParameter, with_token, with_string, AreHttpParameters, no_more, semicolon, semicolon_and, HttpReads}
+use Rattle.mime_http.specs.HeaderLaws.{ReadIsHttp}
+use Rattle.mime_http.proofs.Places.{IsPlainByte, token_is_plain, TakesToken, of_type, goes_on, of_value, of_name, text_is_no_mark}
+use Rattle.mime_http.proofs.HttpForth.{spaces-append, http_is_read}
+
+-- ---- bytes that come out as they are
+
+-- bytes begin with these, and what follows them comes out as `out`, from a place on
+pub record After (bytes text : List ℕ) (to : Place) (out : List ℕ) : Type 0 where
+  pub rest : List ℕ
+  pub split : bytes ≡ text ++ rest
+  pub left : tight_from to rest ≡ out
+
+pub and_then : {bytes xs mid ys out : List ℕ} {p q : Place} → After bytes xs p mid
+    → ((rest : List ℕ) → tight_from p rest ≡ mid → After rest ys q out) → After bytes (xs ++ ys) q out
+and_then {bytes} {xs} {mid} {ys} first next =
+    let second = next first.rest first.left in
+    record {
+      rest = second.rest;
+      split = first.split ∙ (ap (λ r. xs ++ r) second.split ∙ sym (append_assoc xs ys second.rest));
+      left = second.left;
+    }
+
+pub to_place : {bytes xs out : List ℕ} {p q : Place} → p ≡ q → After bytes xs p out → After bytes xs q out
+to_place {bytes} {xs} {out} there first = subst (λ place. After bytes xs place out) there first
+
+-- what a byte adds, said of what comes out
+said : (place : Place) (b : ℕ) (bytes add out : List ℕ) → added place b ≡ add → tight_from place (b ∷ bytes) ≡ out
+    → add ++ tight_from (place_after place b) bytes ≡ out
+said place b bytes add out is e = ap (λ a. a ++ tight_from (place_after place b) bytes) (sym is) ∙ e
+
+-- a byte that comes out as it is
+kept_back : (place : Place) (b : ℕ) (bytes : List ℕ) (x : ℕ) (out : List ℕ) → added place b ≡ b ∷ []
+    → tight_from place (b ∷ bytes) ≡ x ∷ out → After (b ∷ bytes) (x ∷ []) (place_after place x) out
+kept_back place b bytes x out stays e =
+    let both : b ∷ tight_from (place_after place b) bytes ≡ x ∷ out = said place b bytes (b ∷ []) (x ∷ out) stays e in
+    let first : b ≡ x = cc in
+    let rest : tight_from (place_after place b) bytes ≡ out = cc in
+    record {
+      rest = bytes;
+      split = ap (λ y. y ∷ bytes) first;
+      left = subst (λ y. tight_from (place_after place y) bytes ≡ out) first rest;
+    }
+
+-- within quotes and after them each byte does
+pub any_back : (place : Place) → ((b : ℕ) → added place b ≡ b ∷ []) → (bytes : List ℕ) (x : ℕ) (out : List ℕ)
+    → tight_from place bytes ≡ x ∷ out → After bytes (x ∷ []) (place_after place x) out
+any_back place stays [] x out e = absurd (cc)
+any_back place stays (b ∷ bytes) x out e = kept_back place b bytes x out (stays b) e
+
+-- ---- white space that was left out
+
+-- before a byte that isn't white space or a semicolon it isn't left out
+spaced_other : (bytes : List ℕ) (x : ℕ) (out : List ℕ) → is_space x ≡ false → (x == 59) ≡ false → tight_from Spaced bytes ≡ x ∷ out → ⊥
+spaced_other [] x out no_space no_semicolon e = cc
+spaced_other (b ∷ bytes) x out no_space no_semicolon e = go (spaced_other bytes) (is_space b) refl (b == 59) refl
+  where
+    go : ((y : ℕ) (out : List ℕ) → is_space y ≡ false → (y == 59) ≡ false → tight_from Spaced bytes ≡ y ∷ out → ⊥)
+        → (t : Bool) → is_space b ≡ t → (s : Bool) → (b == 59) ≡ s → ⊥
+    go rest true white s is = rest x out no_space no_semicolon (rw white at e)
+    go rest false other true is =
+        let both : b ∷ tight_from Semicolon bytes ≡ x ∷ out = rw (other, is) at e in
+        let first : b ≡ x = cc in
+        true≢false (sym is ∙ (ap (λ y. y == 59) first ∙ no_semicolon))
+    go rest false other false is =
+        let both : 32 ∷ b ∷ tight_from (place_after Spaced b) bytes ≡ x ∷ out = said Spaced b bytes (32 ∷ b ∷ []) _ (rw (other, is) refl) e in
+        let first : 32 ≡ x = cc in
+        true≢false (ap is_space first ∙ no_space)
+
+-- a byte outside quotes that isn't white space or a semicolon comes out as it is
+pub plain_back : (bytes : List ℕ) (x : ℕ) (out : List ℕ) → is_space x ≡ false → (x == 59) ≡ false
+    → tight_from Plain bytes ≡ x ∷ out → After bytes (x ∷ []) (place_after Plain x) out
+plain_back [] x out no_space no_semicolon e = absurd (cc)
+plain_back (b ∷ bytes) x out no_space no_semicolon e = go (is_space b) refl
+  where
+    go : (t : Bool) → is_space b ≡ t → After (b ∷ bytes) (x ∷ []) (place_after Plain x) out
+    go true white = absurd (spaced_other bytes x out no_space no_semicolon (rw white at e))
+    go false other = kept_back Plain b bytes x out (rw other refl) e
+
+equals_back : (bytes : List ℕ) (x : ℕ) (out : List ℕ) → is_space x ≡ false → (x == 59) ≡ false
+    → tight_from Equals bytes ≡ x ∷ out → After bytes (x ∷ []) (place_after Equals x) out
+equals_back [] x out no_space no_semicolon e = absurd (cc)
+equals_back (b ∷ bytes) x out no_space no_semicolon e = go (is_space b) refl
+  where
+    go : (t : Bool) → is_space b ≡ t → After (b ∷ bytes) (x ∷ []) (place_after Equals x) out
+    go true white = absurd (spaced_other bytes x out no_space no_semicolon (rw white at e))
+    go false other = kept_back Equals b bytes x out (rw other refl) e
+
+-- at the end
+spaced_end_back : (bytes : List ℕ) → tight_from Spaced bytes ≡ [] → AreSpaces bytes
+spaced_end_back [] e = refl
+spaced_end_back (b ∷ bytes) e = go (spaced_end_back bytes) (is_space b) refl (b == 59) refl
+  where
+    go : (tight_from Spaced bytes ≡ [] → AreSpaces bytes) → (t : Bool) → is_space b ≡ t → (s : Bool) → (b == 59) ≡ s → AreSpaces (b ∷ bytes)
+    go rest true white s is = and_from (is_space b) _ white (rest (rw white at e))
+    go rest false other true is =
+        let both : b ∷ tight_from Semicolon bytes ≡ [] = rw (other, is) at e in absurd (cc)
+    go rest false other false is =
+        let both : 32 ∷ b ∷ tight_from (place_after Spaced b) bytes ≡ [] = said Spaced b bytes (32 ∷ b ∷ []) _ (rw (other, is) refl) e in absurd (cc)
+
+plain_end_back : (bytes : List ℕ) → tight_from Plain bytes ≡ [] → AreSpaces bytes
+plain_end_back [] e = refl
+plain_end_back (b ∷ bytes) e = go (is_space b) refl
+  where
+    go : (t : Bool) → is_space b ≡ t → AreSpaces (b ∷ bytes)
+    go true white = and_from (is_space b) _ white (spaced_end_back bytes (rw white at e))
+    go false other =
+        let both : b ∷ tight_from (place_after Plain b) bytes ≡ [] = said Plain b bytes (b ∷ []) _ (rw other refl) e in absurd (cc)
+
+-- before a semicolon, and before the first byte
+record AfterSpaces (bytes : List ℕ) (x : ℕ) (to : Place) (out : List ℕ) : Type 0 where
+  spaces : List ℕ
+  white : AreSpaces spaces
+  rest : List ℕ
+  split : bytes ≡ spaces ++ (x ∷ rest)
+  left : tight_from to rest ≡ out
+
+no_spaces : {bytes : List ℕ} {x : ℕ} {to : Place} {out : List ℕ} → After bytes (x ∷ []) to out → AfterSpaces bytes x to out
+no_spaces first = record { spaces = []; white = refl; rest = first.rest; split = first.split; left = first.left }
+
+one_more : (b : ℕ) {bytes : List ℕ} {x : ℕ} {to : Place} {out : List ℕ} → is_space b ≡ true → AfterSpaces bytes x to out
+    → AfterSpaces (b ∷ bytes) x to out
+one_more b white first = record {
+  spaces = b ∷ first.spaces;
+  white = and_from (is_space b) _ white first.white;
+  rest = first.rest;
+  split = ap (λ r. b ∷ r) first.split;
+  left = first.left;
+}
+
+spaced_semicolon_back : (bytes out : List ℕ) → tight_from Spaced bytes ≡ 59 ∷ out → AfterSpaces bytes 59 Semicolon out
+spaced_semicolon_back [] out e = absurd (cc)
+spaced_semicolon_back (b ∷ bytes) out e = go (spaced_semicolon_back bytes out) (is_space b) refl (b == 59) refl
+  where
+    go : (tight_from Spaced bytes ≡ 59 ∷ out → AfterSpaces bytes 59 Semicolon out)
+        → (t : Bool) → is_space b ≡ t → (s : Bool) → (b == 59) ≡ s → AfterSpaces (b ∷ bytes) 59 Semicolon out
+    go rest true white s is = one_more b white (rest (rw white at e))
+    go rest false other true is = no_spaces (kept_back Spaced b bytes 59 out (rw (other, is) refl) e)
+    go rest false other false is =
+        let both : 32 ∷ b ∷ tight_from (place_after Spaced b) bytes ≡ 59 ∷ out = said Spaced b bytes (32 ∷ b ∷ []) _ (rw (other, is) refl) e in
+        let first : ◌≡◌ {A = ℕ} 32 59 = cc in
+        absurd (omega (arith, first))
+
+plain_semicolon_back : (bytes out : List ℕ) → tight_from Plain bytes ≡ 59 ∷ out → AfterSpaces bytes 59 Semicolon out
+plain_semicolon_back [] out e = absurd (cc)
+plain_semicolon_back (b ∷ bytes) out e = go (is_space b) refl
+  where
+    go : (t : Bool) → is_space b ≡ t → AfterSpaces (b ∷ bytes) 59 Semicolon out
+    go true white = one_more b white (spaced_semicolon_back bytes out (rw white at e))
+    go false other = no_spaces (kept_back Plain b bytes 59 out (rw other refl) e)
+
+start_back : (bytes : List ℕ) (x : ℕ) (out : List ℕ) → tight_from Start bytes ≡ x ∷ out → AfterSpaces bytes x (place_after Start x) out
+start_back [] x out e = absurd (cc)
+start_back (b ∷ bytes) x out e = go (start_back bytes x out) (is_space b) refl
+  where
+    go : (tight_from Start bytes ≡ x ∷ out → AfterSpaces bytes x (place_after Start x) out)
+        → (t : Bool) → is_space b ≡ t → AfterSpaces (b ∷ bytes) x (place_after Start x) out
+    go rest true white = one_more b white (rest (rw white at e))
+    go rest false other = no_spaces (kept_back Start b bytes x out (rw other refl) e)
+
+-- ---- tokens, quoted content, and the white space after it
+
+pub after_plain_byte : {place : Place} → TakesToken place → (b : ℕ) → IsPlainByte b → place_after place b ≡ Plain
+after_plain_byte of_type b is = rw (is.space, is.semicolon, is.equals, is.quote) refl
+after_plain_byte goes_on b is = rw (is.space, is.semicolon, is.equals, is.quote) refl
+after_plain_byte of_value b is = rw (is.space, is.semicolon, is.equals, is.quote) refl
+after_plain_byte of_name b is = rw (is.space, is.semicolon, is.equals, is.quote) refl
+
+token_back : (xs bytes out : List ℕ) → AreTokenBytes xs → tight_from Plain bytes ≡ xs ++ out → After bytes xs Plain out
+token_back [] bytes out all e = record { rest = bytes; split = refl; left = e }
+token_back (x ∷ xs) bytes out all e =
+    let parts = and_parts (is_token_byte x) _ all in
+    let is = token_is_plain x parts.0 in
+    and_then (to_place (after_plain_byte goes_on x is) (plain_back bytes x (xs ++ out) is.space is.semicolon e))
+    (λ rest left. token_back xs rest out parts.1 left)
+
+-- a value that is a token
+value_back : (xs bytes out : List ℕ) → IsToken xs → tight_from Equals bytes ≡ xs ++ out → After bytes xs Plain out
+value_back [] bytes out token e = absurd token
+value_back (x ∷ xs) bytes out token e =
+    let parts = and_parts (is_token_byte x) _ token in
+    let is = token_is_plain x parts.0 in
+    and_then (to_place (after_plain_byte of_value x is) (equals_back bytes x (xs ++ out) is.space is.semicolon e))
+    (λ rest left. token_back xs rest out parts.1 left)
+
+content_back : {content : List ℕ} → IsContent content → (bytes out : List ℕ) → tight_from Quoted bytes ≡ content ++ (34 ∷ out)
+    → After bytes (content ++ (34 ∷ [])) Closed out
+content_back no_byte bytes out e = any_back Quoted (λ b. refl) bytes 34 out e
+content_back (text_byte b content is more_content) bytes out e =
+    let tests = text_is_no_mark b is in
+    and_then (to_place {q = Quoted} (rw (tests.0, tests.1) refl) (any_back Quoted (λ b. refl) bytes b (content ++ (34 ∷ out)) e))
+    (λ rest left. content_back more_content rest out left)
+content_back (quoted_pair b content is more_content) bytes out e =
+    and_then (any_back Quoted (λ b. refl) bytes 92 (b ∷ (content ++ (34 ∷ out))) e)
+    (λ rest left. and_then (any_back Paired (λ b. refl) rest b (content ++ (34 ∷ out)) left)
+    (λ rest left. content_back more_content rest out left))
+
+closed_back : (n bytes out : List ℕ) → AreSpaces n → tight_from Closed bytes ≡ n ++ out → After bytes n Closed out
+closed_back [] bytes out all e = record { rest = bytes; split = refl; left = e }
+closed_back (b ∷ n) bytes out all e =
+    let parts = and_parts (is_space b) _ all in
+    and_then (to_place {q = Closed} (rw parts.0 refl) (any_back Closed (λ b. refl) bytes b (n ++ out) e))
+    (λ rest left. closed_back n rest out parts.1 left)
+
+-- ---- parameters
+
+-- bytes are parameters and white space after them
+record Rest (bytes : List ℕ) : Type 0 where
+  text : List ℕ
+  pairs : List (List ℕ × List ℕ)
+  after : List ℕ
+  is : AreHttpParameters text pairs
+  white : AreSpaces after
+  split : bytes ≡ text ++ after
+
+-- bytes are so after a semicolon with white space around it
+abbrev Goes : List ℕ → Type 0
+Goes bytes = (before after : List ℕ) → AreSpaces before → AreSpaces after → Rest (before ++ (59 ∷ (after ++ bytes)))
+
+goes_end : Goes []
+goes_end before after white also = record {
+  text = before ++ (59 ∷ (after ++ []));
+  pairs = [];
+  after = [];
+  is = semicolon before after [] [] white also no_more;
+  white = refl;
+  split = sym (append-nil _);
+}
+
+goes_space : (b : ℕ) (bytes : List ℕ) → is_space b ≡ true → Goes bytes → Goes (b ∷ bytes)
+goes_space b bytes is goes before after white also =
+    subst Rest (ap (λ x. before ++ (59 ∷ x)) (append_assoc after (b ∷ []) bytes))
+    (goes before (after ++ (b ∷ [])) white (spaces-append after (b ∷ []) also (and_from (is_space b) true is refl)))
+
+goes_semicolon : (bytes : List ℕ) → Goes bytes → Goes (59 ∷ bytes)
+goes_semicolon bytes goes before after white also =
+    let next : Rest (59 ∷ bytes) = goes [] [] refl refl in
+    record {
+      text = before ++ (59 ∷ (after ++ next.text));
+      pairs = next.pairs;
+      after = next.after;
+      is = semicolon before after next.text next.pairs white also next.is;
+      white = next.white;
+      split = ap (λ x. before ++ (59 ∷ (after ++ x))) next.split
+          ∙ sym (append_assoc before _ next.after ∙ ap (λ x. before ++ (59 ∷ x)) (append_assoc after next.text next.after));
+    }
+
+goes_parameter : {text : List ℕ} {pair : List ℕ × List ℕ} → IsHttpParameter text pair → (bytes : List ℕ) → Rest bytes → Goes (text ++ bytes)
+goes_parameter {text} {pair} is bytes next before after white also = record {
+  text = before ++ (59 ∷ (after ++ (text ++ next.text)));
+  pairs = pair ∷ next.pairs;
+  after = next.after;
+  is = semicolon_and before after text next.text pair next.pairs white also is next.is;
+  white = next.white;
+  split = ap (λ x. before ++ (59 ∷ (after ++ (text ++ x)))) next.split
+      ∙ sym (append_assoc before _ next.after ∙ (ap (λ x. before ++ (59 ∷ x)) (append_assoc after _ next.after)
+      ∙ ap (λ x. before ++ (59 ∷ (after ++ x))) (append_assoc text next.text next.after)));
+}
+
+-- what follows a parameter, if it comes out as `out`
+record Continues (out : List ℕ) : Type 0 where
+  plain : (bytes : List ℕ) → tight_from Plain bytes ≡ out → Rest bytes
+  closed : (bytes m : List ℕ) → AreSpaces m → tight_from Closed bytes ≡ m ++ out → Rest bytes
+
+ends : Continues []
+ends = record {
+  plain = λ bytes e. record { text = []; pairs = []; after = bytes; is = no_more; white = plain_end_back bytes e; split = refl };
+  closed = λ bytes m white e.
+      let there = closed_back m bytes [] white e in
+      record {
+        text = [];
+        pairs = [];
+        after = m;
+        is = no_more;
+        white = white;
+        split = there.split ∙ (ap (λ x. m ++ x) (nothing there.rest there.left) ∙ append-nil m);
+      };
+}
+  where
+    nothing : (rest : List ℕ) → tight_from Closed rest ≡ [] → rest ≡ []
+    nothing [] e = refl
+    nothing (b ∷ rest) e = absurd (cc)
+
+goes_on_with : (out : List ℕ) → ((bytes : List ℕ) → tight_from Semicolon bytes ≡ out → Goes bytes) → Continues (59 ∷ out)
+goes_on_with out next = record {
+  plain = λ bytes e.
+      let there = plain_semicolon_back bytes out e in
+      subst Rest (sym there.split) (next there.rest there.left there.spaces [] there.white refl);
+  closed = λ bytes m white e.
+      let there = and_then (closed_back m bytes (59 ∷ out) white e) (λ rest left. any_back Closed (λ b. refl) rest 59 out left) in
+      subst Rest (sym (there.split ∙ append_assoc m (59 ∷ []) there.rest)) (next there.rest there.left m [] white refl);
+}
+
+-- after a semicolon: nothing but white space and semicolons, or these and a name
+blank_back : (bytes n : List ℕ) → AreSpaces n → tight_from Semicolon bytes ≡ n → Goes bytes
+blank_back [] n white e = goes_end
+blank_back (b ∷ bytes) n white e = go (blank_back bytes) n white e (b == 59) refl
+  where
+    go : ((n : List ℕ) → AreSpaces n → tight_from Semicolon bytes ≡ n → Goes bytes) → (n : List ℕ) → AreSpaces n
+        → tight_from Semicolon (b ∷ bytes) ≡ n → (t : Bool) → (b == 59) ≡ t → Goes (b ∷ bytes)
+    go rest n white e true is =
+        let same : b ≡ 59 = grind (arith, nat_tests) in
+        subst (λ x. Goes (x ∷ bytes)) (sym same)
+        (goes_semicolon bytes (rest n white (subst (λ x. tight_from Semicolon (x ∷ bytes) ≡ n) same e)))
+    go rest [] white e false is =
+        let both : b ∷ tight_from (place_after Semicolon b) bytes ≡ [] = said Semicolon b bytes (b ∷ []) _ (rw is refl) e in absurd (cc)
+    go rest (c ∷ n) white e false is =
+        let parts = and_parts (is_space c) _ white in
+        let both : b ∷ tight_from (place_after Semicolon b) bytes ≡ c ∷ n = said Semicolon b bytes (b ∷ []) _ (rw is refl) e in
+        let first : b ≡ c = cc in
+        let others : tight_from (place_after Semicolon b) bytes ≡ n = cc in
+        let space : is_space b ≡ true = ap is_space first ∙ parts.0 in
+        let there : place_after Semicolon b ≡ Semicolon = rw space refl in
+        goes_space b bytes space (rest n parts.1 (subst (λ p. tight_from p bytes ≡ n) there others))
+
+name_back : (bytes n : List ℕ) (x : ℕ) (out : List ℕ) → AreSpaces n → IsPlainByte x → tight_from Semicolon bytes ≡ n ++ (x ∷ out)
+    → ((rest : List ℕ) → tight_from Plain rest ≡ out → Goes (x ∷ rest)) → Goes bytes
+name_back [] n x out white is e named = absurd (some n e)
+  where
+    some : (n : List ℕ) → [] ≡ n ++ (x ∷ out) → ⊥
+    some [] e = cc
+    some (b ∷ n) e = cc
+name_back (b ∷ bytes) n x out white is e named = go (λ n white e. name_back bytes n x out white is e named) n white e (b == 59) refl
+  where
+    go : ((n : List ℕ) → AreSpaces n → tight_from Semicolon bytes ≡ n ++ (x ∷ out) → Goes bytes) → (n : List ℕ) → AreSpaces n
+        → tight_from Semicolon (b ∷ bytes) ≡ n ++ (x ∷ out) → (t : Bool) → (b == 59) ≡ t → Goes (b ∷ bytes)
+    go rest n white e true second =
+        let same : b ≡ 59 = grind (arith, nat_tests) in
+        subst (λ y. Goes (y ∷ bytes)) (sym same)
+        (goes_semicolon bytes (rest n white (subst (λ y. tight_from Semicolon (y ∷ bytes) ≡ n ++ (x ∷ out)) same e)))
+    go rest [] white e false other =
+        let both : b ∷ tight_from (place_after Semicolon b) bytes ≡ x ∷ out = said Semicolon b bytes (b ∷ []) _ (rw other refl) e in
+        let first : b ≡ x = cc in
+        let others : tight_from (place_after Semicolon b) bytes ≡ out = cc in
+        let there : place_after Semicolon b ≡ Plain = ap (place_after Semicolon) first ∙ after_plain_byte of_name x is in
+        subst (λ y. Goes (y ∷ bytes)) (sym first) (named bytes (subst (λ p. tight_from p bytes ≡ out) there others))
+    go rest (c ∷ n) white e false other =
+        let parts = and_parts (is_space c) _ white in
+        let both : b ∷ tight_from (place_after Semicolon b) bytes ≡ c ∷ (n ++ (x ∷ out)) = said Semicolon b bytes (b ∷ []) _ (rw other refl) e in
+        let first : b ≡ c = cc in
+        let others : tight_from (place_after Semicolon b) bytes ≡ n ++ (x ∷ out) = cc in
+        let space : is_space b ≡ true = ap is_space first ∙ parts.0 in
+        let there : place_after Semicolon b ≡ Semicolon = rw space refl in
+        goes_space b bytes space (rest n parts.1 (subst (λ p. tight_from p bytes ≡ n ++ (x ∷ out)) there others))
+
+-- a parameter, and what goes on after it
+parameter_back : (p : Parameter) → IsParameter p → (bytes n out : List ℕ) → AreSpaces n
+    → tight_from Semicolon bytes ≡ n ++ (text_of_parameter p ++ out) → Continues out → Goes bytes
+parameter_back (plain [] value) is bytes n out white e goes = absurd is.0
+parameter_back (plain (x ∷ name) value) is bytes n out white e goes =
+    let parts = and_parts (is_token_byte x) _ is.0 in
+    name_back bytes n x ((name ++ (61 ∷ value)) ++ out) white (token_is_plain x parts.0) e (λ rest left.
+    let there : After rest (name ++ (61 ∷ value)) Plain out =
+    and_then (token_back name rest (61 ∷ (value ++ out)) parts.1 (left ∙ append_assoc name (61 ∷ value) out))
+    (λ rest left. and_then (plain_back rest 61 (value ++ out) refl refl left)
+    (λ rest left. value_back value rest out is.1 left)) in
+    subst Goes (ap (λ r. x ∷ r) (sym there.split))
+    (goes_parameter (with_token (x ∷ name) value is.0 is.1) there.rest (goes.plain there.rest there.left)))
+parameter_back (quoted [] content m) is bytes n out white e goes = absurd is.0
+parameter_back (quoted (x ∷ name) content m) is bytes n out white e goes =
+    let parts = and_parts (is_token_byte x) _ is.0 in
+    name_back bytes n x ((name ++ (61 ∷ 34 ∷ (content ++ (34 ∷ m)))) ++ out) white (token_is_plain x parts.0) e (λ rest left.
+    let there : After rest (name ++ (61 ∷ 34 ∷ (content ++ (34 ∷ [])))) Closed (m ++ out) =
+    and_then (token_back name rest (61 ∷ 34 ∷ (content ++ (34 ∷ (m ++ out)))) parts.1
+    (left ∙ (append_assoc name _ out ∙ ap (λ x. name ++ (61 ∷ 34 ∷ x)) (append_assoc content (34 ∷ m) out))))
+    (λ rest left. and_then (plain_back rest 61 (34 ∷ (content ++ (34 ∷ (m ++ out)))) refl refl left)
+    (λ rest left. and_then (equals_back rest 34 (content ++ (34 ∷ (m ++ out))) refl refl left)
+    (λ rest left. content_back is.1 rest (m ++ out) left))) in
+    subst Goes (ap (λ r. x ∷ r) (sym there.split))
+    (goes_parameter (with_string (x ∷ name) content is.0 is.1) there.rest (goes.closed there.rest m is.2 there.left)))
+
+list_back : (list : Parameters) → AreParameters list → (bytes : List ℕ) → tight_from Semicolon bytes ≡ text_of_list list → Goes bytes
+list_back (blank n) is bytes e = blank_back bytes n is e
+list_back (final n p) is bytes e = parameter_back p is.1 bytes n [] is.0 (e ∙ ap (λ x. n ++ x) (sym (append-nil _))) ends
+list_back (more n p list) is bytes e =
+    parameter_back p is.1 bytes n (59 ∷ text_of_list list) is.0 e (goes_on_with (text_of_list list) (list_back list is.2))
+
+tail_back : (tail : Tail) → IsTail tail → Continues (text_of_tail tail)
+tail_back no_list is = ends
+tail_back (listed list) is = goes_on_with (text_of_list list) (list_back list is)
+
+-- ---- the whole
+
+tree_back : (strict : SyntaxTree) → IsWellFormed strict → (value : List ℕ) → tight value ≡ text_of strict
+    → (media : MediaType) × HttpReads value media
+tree_back strict is value e = go strict.top is.0 e
+  where
+    finish : (x : ℕ) (top : List ℕ) → IsToken (x ∷ top) → (spaces : List ℕ) → AreSpaces spaces → (here : List ℕ) → value ≡ spaces ++ (x ∷ here)
+        → (rest : List ℕ) → here ≡ (top ++ (47 ∷ strict.sub)) ++ rest → Rest rest → (media : MediaType) × HttpReads value media
+    finish x top token spaces white here first rest then end = (
+      record {
+        essence = lowered (x ∷ top) ++ (47 ∷ lowered strict.sub);
+        slash = length (x ∷ top);
+        plus = last_plus (length (x ∷ top) + 2) (drop 1 (lowered strict.sub));
+        pairs = end.pairs;
+        kept = [];
+      },
+      record {
+        before = spaces;
+        top = x ∷ top;
+        sub = strict.sub;
+        parameters = end.text;
+        after = end.after;
+        spelled = sym (first ∙ ap (λ r. spaces ++ (x ∷ r)) (then ∙ (append_assoc top (47 ∷ strict.sub) rest
+            ∙ ap (λ r. top ++ (47 ∷ (strict.sub ++ r))) end.split)));
+        white_before = white;
+        is_top = token;
+        is_sub = is.1;
+        are_parameters = end.is;
+        white_after = end.white;
+        essence = refl;
+        slash = refl;
+        plus = refl;
+      },
+    )
+
+    go : (top : List ℕ) → IsToken top → tight value ≡ top ++ (47 ∷ (strict.sub ++ text_of_tail strict.tail))
+        → (media : MediaType) × HttpReads value media
+    go [] token e = absurd token
+    go (x ∷ top) token e =
+        let parts = and_parts (is_token_byte x) _ token in
+        let here = start_back value x (top ++ (47 ∷ (strict.sub ++ text_of_tail strict.tail))) e in
+        let left = subst (λ p. tight_from p here.rest ≡ top ++ (47 ∷ (strict.sub ++ text_of_tail strict.tail)))
+        (after_plain_byte of_type x (token_is_plain x parts.0)) here.left in
+        let there : After here.rest (top ++ (47 ∷ strict.sub)) Plain (text_of_tail strict.tail) =
+        and_then (token_back top here.rest _ parts.1 left)
+        (λ rest left. and_then (plain_back rest 47 (strict.sub ++ text_of_tail strict.tail) refl refl left)
+        (λ rest left. token_back strict.sub rest (text_of_tail strict.tail) (AreTokenBytes-from_token strict.sub is.1) left)) in
+        finish x top token here.spaces here.white here.rest here.split there.rest there.split
+        ((tail_back strict.tail is.2).plain there.rest there.left)
+
+-- the kept text may be any
+with_kept : {value : List ℕ} {media : MediaType} → HttpReads value media → (kept : List ℕ) → HttpReads value (record media { kept = kept })
+with_kept reads kept = record {
+  before = reads.before;
+  top = reads.top;
+  sub = reads.sub;
+  parameters = reads.parameters;
+  after = reads.after;
+  spelled = reads.spelled;
+  white_before = reads.white_before;
+  is_top = reads.is_top;
+  is_sub = reads.is_sub;
+  are_parameters = reads.are_parameters;
+  white_after = reads.white_after;
+  essence = reads.essence;
+  slash = reads.slash;
+  plus = reads.plus;
+}
+
+-- what is read is what HTTP writes, and the media type is the same
+pub read_is_http : ReadIsHttp
+read_is_http value media reads =
+    let found = tree_back reads.tree reads.well_formed value (sym reads.spelled) in
+    let again = http_is_read value found.0 found.1 in
+    subst (HttpReads value) (one_reading (tight value) (record (found.0) { kept = again.0 }) media again.1 reads) (with_kept found.1 again.0)

@@ -1,0 +1,112 @@
+-- Worked facts of the pages `HttpMediaType` and `HttpFaults`: a value that is read, values that aren't media types, and their faults.
+use Rattle.std.proofs.Common.{◌≡◌, refl, sym, subst, arith, [], ◌∷◌, ◌++◌, None}
+use Rattle.std.specs.Prelude.{codes}
+use Rattle.mime.specs.Bytes.{is_token_byte, is_quoted_byte}
+use Rattle.mime.specs.Values.{IsAccepted}
+use Rattle.mime.specs.declared.scan.fault.ParseError.TheVariants.{MissingSubtype, MissingValue, InvalidToken}
+use Rattle.mime.proofs.GrammarLemmas.Begun.{in_subtype}
+use Rattle.mime.proofs.GrammarLemmas.Viability.{accepted-from_complete, viable-from_walk, dead-from_walk, not_viable-at_dead}
+use Rattle.mime.proofs.GrammarLemmas.Readings.{stopped-from_walk, rejected-from_walk}
+use Rattle.mime.proofs.GrammarLemmas.Content.{IsContent-taken}
+use Rattle.mime_http.specs.Tight.{tight}
+use Rattle.mime_http.specs.HttpMediaType.{with_string, no_more, semicolon, semicolon_and, HttpReads, IsHttpMediaType}
+use Rattle.mime_http.specs.HttpFaults.{IsHttpViable, IsHttpFault}
+use Rattle.mime_http.proofs.HttpFaults.{longest_at, same_last}
+use Rattle.mime_http.proofs.HttpLaws.{accepted_from_http}
+use Rattle.mime_http.proofs.HttpViability.{http_from_accepted, viable_from_tight, tight_from_viable, viable_from_accepted, accepted_from_spaced}
+
+-- ` text/HTML ;; charset="UTF-8" `
+read : HttpReads (codes " text/HTML ;; charset=\"UTF-8\" ")
+    (record { essence = codes "text/html"; slash = 4; plus = None; pairs = (codes "charset", codes "utf-8") ∷ []; kept = [] })
+unfolding is_token_byte is_quoted_byte
+read = record {
+  before = codes " ";
+  top = codes "text";
+  sub = codes "HTML";
+  parameters = codes " ;; charset=\"UTF-8\"";
+  after = codes " ";
+  spelled = refl;
+  white_before = refl;
+  is_top = refl;
+  is_sub = refl;
+  are_parameters = semicolon (codes " ") [] _ _ refl refl
+      (semicolon_and [] (codes " ") (codes "charset=\"UTF-8\"") [] _ [] refl refl
+      (with_string (codes "charset") (codes "UTF-8") refl (IsContent-taken (codes "UTF-8") refl refl)) no_more);
+  white_after = refl;
+  essence = refl;
+  slash = refl;
+  plus = refl;
+}
+
+-- white space around the slash or the equals sign
+no_space_at_slash : ¬ (IsHttpMediaType (codes "a /b"))
+unfolding is_token_byte
+no_space_at_slash is = stopped-from_walk (tight (codes "a /b")) refl (accepted_from_http _ is)
+
+no_space_before_equals : ¬ (IsHttpMediaType (codes "a/b; p =x"))
+unfolding is_token_byte
+no_space_before_equals is = stopped-from_walk (tight (codes "a/b; p =x")) refl (accepted_from_http _ is)
+
+no_space_after_equals : ¬ (IsHttpMediaType (codes "a/b; p= x"))
+unfolding is_token_byte
+no_space_after_equals is = stopped-from_walk (tight (codes "a/b; p= x")) refl (accepted_from_http _ is)
+
+-- a parameter with no semicolon before it, and with no value
+no_semicolon : ¬ (IsHttpMediaType (codes "a/b p=x"))
+unfolding is_token_byte
+no_semicolon is = stopped-from_walk (tight (codes "a/b p=x")) refl (accepted_from_http _ is)
+
+no_value : ¬ (IsHttpMediaType (codes "a/b;p= ;q=x"))
+unfolding is_token_byte
+no_value is = stopped-from_walk (tight (codes "a/b;p= ;q=x")) refl (accepted_from_http _ is)
+
+-- an open quoted string
+not_closed : ¬ (IsHttpMediaType (codes "a/b;p=\"x"))
+unfolding is_token_byte is_quoted_byte
+not_closed is = rejected-from_walk (tight (codes "a/b;p=\"x")) _ refl refl (accepted_from_http _ is)
+
+-- ---- faults
+
+-- `   a/b c`: the `c`, since `   a/b ` is a media type with white space around it; the space isn't
+html : IsAccepted (codes "a/b")
+unfolding is_token_byte
+html = accepted-from_complete (codes "a/b") (in_subtype (codes "a") (codes "b")) _ refl refl
+
+after_space : IsHttpViable (codes "   a/b ")
+after_space = viable_from_accepted (codes "   a/b ") html
+
+at_c : IsHttpFault (codes "   a/b c") (InvalidToken 7 99)
+unfolding is_token_byte
+at_c = record {
+  prefix = longest_at (codes "   a/b ") (codes "c") after_space (λ b bytes e viable.
+      let first : 99 ≡ b = cc in
+      not_viable-at_dead (codes "a/b c") 3 32 (dead-from_walk (codes "a/b") (codes "c") 32 _ refl refl)
+      (tight_from_viable (codes "   a/b c") (subst (λ x. IsHttpViable (codes "   a/b " ++ (x ∷ []))) (sym first) viable)));
+  there = refl;
+}
+
+not_at_space : ¬ (IsHttpFault (codes "   a/b c") (InvalidToken 6 32))
+not_at_space fault = fault.prefix.longest 7 (omega arith) (omega arith) after_space
+
+-- `text `: the space, since nothing goes on so
+at_space : IsHttpFault (codes "text ") (InvalidToken 4 32)
+unfolding is_token_byte
+at_space = record {
+  prefix = longest_at (codes "text") (codes " ") (viable_from_tight (codes "text") tt (viable-from_walk (codes "text") _ refl))
+      (λ b bytes e viable.
+      let first : 32 ≡ b = cc in
+      rejected-from_walk (codes "text") _ refl refl
+      (accepted_from_spaced (codes "text ") refl (subst (λ x. IsHttpViable (codes "text" ++ (x ∷ []))) (sym first) viable)));
+  there = refl;
+}
+
+-- ` text/`: its subtype is missing, and no value
+missing : IsHttpFault (codes " text/") MissingSubtype
+unfolding is_token_byte
+missing = (
+  http_from_accepted (codes " text/x") (accepted-from_complete (codes "text/x") (in_subtype (codes "text") (codes "x")) _ refl refl),
+  (codes " text", refl),
+)
+
+not_missing : ¬ (IsHttpFault (codes " text/") MissingValue)
+not_missing fault = omega (arith, same_last (codes " text") fault.1.0 47 61 fault.1.1)

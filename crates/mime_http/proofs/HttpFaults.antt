@@ -1,0 +1,415 @@
+-- The fault of a value, from that of what is left of it: how far the value goes before it.
+use Rattle.std.proofs.Common.{◌≡◌, ◌∙◌, ◌==◌, refl, sym, ap, subst, arith, ℕ, suc, ◌+◌, ◌-◌, ◌<◌, ◌≤◌, Bool, true, false, List, [], ◌∷◌, ◌++◌, length, length-append, take, Some, ◌⊎◌, inl, inr}
+use Rattle.std.proofs.Math.Seq.{take-append_seam, take-append-add, take-length}
+use Rattle.std.specs.Prelude.{⊤, nat_lt, slice_get}
+use Rattle.std.proofs.lemmas.Bool.Decides.{nat_tests}
+use Rattle.std.proofs.lemmas.List.{append-nil, append_assoc}
+use Rattle.std.proofs.lemmas.Option.{slice_get_within}
+use Rattle.std.proofs.lemmas.Str.{IsUtf8-nil, IsUtf8-take, IsCharBoundary-from_take}
+use Rattle.std.specs.Str.{IsUtf8, IsCharBoundary}
+use Rattle.mime.proofs.BytesLemmas.{boundary_after, slice_get-prefix}
+use Rattle.mime_http.proofs.HttpText.{tight_utf8}
+use Rattle.mime.specs.Grammar.{is_space}
+use Rattle.mime.specs.Values.{IsAccepted}
+use Rattle.mime.specs.Faults.{IsViable, EndsIn, Lacks, IsFault}
+use Rattle.mime.specs.declared.scan.fault.ParseError.{ParseError}
+use Rattle.mime.specs.declared.scan.fault.ParseError.TheVariants.{MissingSlash, MissingSubtype, MissingEqual, MissingValue, MissingQuote, InvalidToken}
+use Rattle.mime.proofs.GrammarLemmas.Viability.{viable-from_lacks, prefix_of_viable_is_viable}
+use Rattle.mime.proofs.GrammarLemmas.Faults.{completed_is_rejected}
+use Rattle.mime_http.specs.declared.tight.Place.{Place}
+use Rattle.mime_http.specs.declared.tight.Place.TheVariants.{Start, Plain, Spaced, Equals, Quoted, Paired, Closed, Semicolon}
+use Rattle.mime_http.specs.declared.fault.Reach.{Reach}
+use Rattle.mime_http.specs.Tight.{place_after, added, tight_from, tight}
+use Rattle.mime_http.specs.Reached.{start, settled_at, reach_after, reach_from, limit_of}
+use Rattle.mime_http.specs.HttpFaults.{IsHttpViable, IsHttpLongestPrefix, HttpLacks, IsHttpFault}
+use Rattle.mime_http.proofs.Places.{place_from, place_from-append, after_value, before_name}
+use Rattle.mime_http.proofs.PlacesAgain.{IsSettled, outside_settled, within_settled, kept_settled, no_space}
+use Rattle.mime_http.proofs.HttpViability.{tight-append, settled_end, goes_on_as, viable_from_tight, tight_from_viable, accepted_from_spaced, viable_from_accepted, prefix_of_http_viable}
+
+-- ---- a place is after white space that was left out, or settled
+
+pub data Kind (place : Place) : Type 0 where
+  spaced : place ≡ Spaced → Kind place
+  settled : IsSettled place → ((before here : ℕ) → settled_at place before here ≡ here) → Kind place
+
+pub kind : (place : Place) → Kind place
+kind Spaced = spaced refl
+kind place = settled tt (λ before here. refl)
+
+pub unspaced : (place : Place) → ¬ (place ≡ Spaced) → IsSettled place
+unspaced Spaced isnt = absurd (isnt refl)
+unspaced place isnt = tt
+
+-- ---- how far a value goes
+
+-- where bytes end but for the white space after them that was left out
+pub data SettledAt : List ℕ → ℕ → Type 0 where
+  here : (front : List ℕ) → IsSettled (place_from Start front) → SettledAt front (length front)
+  back : (front : List ℕ) (c : ℕ) (white : List ℕ) → IsSettled (place_from Start front) → place_from Start (front ++ (c ∷ [])) ≡ Spaced
+      → tight (front ++ (c ∷ [])) ≡ tight front → tight (front ++ (c ∷ white)) ≡ tight front
+      → SettledAt (front ++ (c ∷ white)) (length front)
+
+-- what is known after these bytes
+pub record SoFar (front : List ℕ) (limit : ℕ) (reach : Reach) : Type 0 where
+  pub at : reach.at ≡ length front
+  pub place : place_from Start front ≡ reach.place
+  pub out : length (tight front) + reach.left ≡ limit
+  pub back_to : SettledAt front reach.settled
+
+-- the bytes that the value goes, and why it stops there
+pub record Stops (value : List ℕ) (limit : ℕ) (reach : Reach) : Type 0 where
+  pub front : List ℕ
+  pub after : List ℕ
+  pub split : value ≡ front ++ after
+  pub so_far : SoFar front limit reach
+  pub next : (b : ℕ) (bytes : List ℕ) → after ≡ b ∷ bytes → limit < length (tight (front ++ (b ∷ [])))
+
+-- only white space is left out so, and it adds nothing
+white_adds_nothing : (place : Place) (b : ℕ) → place_after place b ≡ Spaced → (is_space b ≡ true) × (added place b ≡ [])
+white_adds_nothing Quoted b e = absurd (subst IsSettled e (within_settled b))
+white_adds_nothing Paired b e = absurd (subst IsSettled e tt)
+white_adds_nothing Closed b e = absurd (subst IsSettled e (kept_settled after_value b))
+white_adds_nothing Semicolon b e = absurd (subst IsSettled e (kept_settled before_name b))
+white_adds_nothing place b e = go (is_space b) refl
+  where
+    go : (t : Bool) → is_space b ≡ t → (is_space b ≡ true) × (added place b ≡ [])
+    go true white = (white, rw white refl)
+    go false other = absurd (subst IsSettled e (outside_settled place b other))
+
+pub tight_one : (front : List ℕ) (b : ℕ) → tight (front ++ (b ∷ [])) ≡ tight front ++ added (place_from Start front) b
+tight_one front b = tight-append Start front (b ∷ []) ∙ ap (λ x. tight front ++ x) (append-nil _)
+
+more_white : {front : List ℕ} {n : ℕ} → SettledAt front n → (b : ℕ) → place_from Start (front ++ (b ∷ [])) ≡ Spaced
+    → tight (front ++ (b ∷ [])) ≡ tight front → SettledAt (front ++ (b ∷ [])) n
+more_white (here front at_rest) b spaced_there same = back front b [] at_rest spaced_there same same
+more_white (back front c white at_rest first one all) b spaced_there same =
+    let grouped : (front ++ (c ∷ white)) ++ (b ∷ []) ≡ front ++ (c ∷ (white ++ (b ∷ []))) = append_assoc front (c ∷ white) (b ∷ []) in
+    subst (λ x. SettledAt x (length front)) (sym grouped)
+    (back front c (white ++ (b ∷ [])) at_rest first one (ap tight (sym grouped) ∙ (same ∙ all)))
+
+-- one byte further
+step : (front : List ℕ) (limit : ℕ) (reach : Reach) (b : ℕ) → SoFar front limit reach → nat_lt reach.left (length (added reach.place b)) ≡ false
+    → SoFar (front ++ (b ∷ [])) limit (reach_after reach b)
+step front limit reach b is fits = record {
+  at = count;
+  place = there;
+  out =
+      let fewer : length (added reach.place b) ≤ reach.left = grind (arith, nat_tests) in
+      omega (arith, fewer, is.out, ap length same, length-append (tight front) (added reach.place b));
+  back_to = settle (kind (place_after reach.place b));
+}
+  where
+    count : reach.at + 1 ≡ length (front ++ (b ∷ []))
+    count = omega (arith, is.at, length-append front (b ∷ []))
+
+    there : place_from Start (front ++ (b ∷ [])) ≡ place_after reach.place b
+    there = place_from-append Start front (b ∷ []) ∙ ap (λ place. place_after place b) is.place
+
+    same : tight (front ++ (b ∷ [])) ≡ tight front ++ added reach.place b
+    same = tight_one front b ∙ ap (λ place. tight front ++ added place b) is.place
+
+    settle : Kind (place_after reach.place b)
+        → SettledAt (front ++ (b ∷ [])) (settled_at (place_after reach.place b) reach.settled (reach.at + 1))
+    settle (spaced e) =
+        subst (λ place. SettledAt (front ++ (b ∷ [])) (settled_at place reach.settled (reach.at + 1))) (sym e)
+        (more_white is.back_to b (there ∙ e)
+        (same ∙ (ap (λ x. tight front ++ x) (white_adds_nothing reach.place b e).1 ∙ append-nil (tight front))))
+    settle (settled is_settled e) =
+        subst (SettledAt (front ++ (b ∷ []))) (sym (e reach.settled (reach.at + 1) ∙ count))
+        (here (front ++ (b ∷ [])) (subst IsSettled (sym there) is_settled))
+
+stops_from : (bytes front : List ℕ) (limit : ℕ) (reach : Reach) → SoFar front limit reach → Stops (front ++ bytes) limit (reach_from reach bytes)
+stops_from [] front limit reach is =
+    record { front = front; after = []; split = refl; so_far = is; next = λ b bytes e. absurd (cc) }
+stops_from (b ∷ bytes) front limit reach is =
+    go (stops_from bytes (front ++ (b ∷ [])) limit (reach_after reach b)) (nat_lt reach.left (length (added reach.place b))) refl
+  where
+    go : (SoFar (front ++ (b ∷ [])) limit (reach_after reach b)
+        → Stops ((front ++ (b ∷ [])) ++ bytes) limit (reach_from (reach_after reach b) bytes))
+        → (t : Bool) → nat_lt reach.left (length (added reach.place b)) ≡ t → Stops (front ++ (b ∷ bytes)) limit (reach_from reach (b ∷ bytes))
+    go rest true over = rw over (record {
+      front = front;
+      after = b ∷ bytes;
+      split = refl;
+      so_far = is;
+      next = λ c more e.
+          let first : b ≡ c = cc in
+          let longer : reach.left < length (added reach.place b) = grind (arith, nat_tests) in
+          let same = tight_one front b ∙ ap (λ place. tight front ++ added place b) is.place in
+          subst (λ x. limit < length (tight (front ++ (x ∷ [])))) first
+          (omega (arith, longer, is.out, ap length same, length-append (tight front) (added reach.place b)));
+    })
+    go rest false fits =
+        rw fits (subst (λ value. Stops value limit (reach_from (reach_after reach b) bytes)) (append_assoc front (b ∷ []) bytes)
+        (rest (step front limit reach b is fits)))
+
+pub stops : (value : List ℕ) (limit : ℕ) → Stops value limit (reach_from (start limit) value)
+stops value limit =
+    stops_from value [] limit (start limit) (record { at = refl; place = refl; out = omega arith; back_to = here [] tt })
+
+data Snoc : List ℕ → Type 0 where
+  none : Snoc []
+  last : (front : List ℕ) (b : ℕ) → Snoc (front ++ (b ∷ []))
+
+snoc : (xs : List ℕ) → Snoc xs
+snoc [] = none
+snoc (x ∷ xs) = go (snoc xs)
+  where
+    go : {xs : List ℕ} → Snoc xs → Snoc (x ∷ xs)
+    go none = last [] x
+    go (last front b) = last (x ∷ front) b
+
+-- what comes out of the bytes that it goes
+pub goes : {value : List ℕ} {limit : ℕ} {reach : Reach} (stop : Stops value limit reach)
+    → (reach.left ≤ limit) × (take (limit - reach.left) (tight value) ≡ tight stop.front)
+goes {value} {limit} {reach} stop =
+    let count : limit - reach.left ≡ length (tight stop.front) = omega (arith, stop.so_far.out) in (
+      omega (arith, stop.so_far.out),
+      ap (λ n. take n (tight value)) count ∙ (ap (λ v. take (length (tight stop.front)) (tight v)) stop.split
+          ∙ (ap (take (length (tight stop.front))) (tight-append Start stop.front stop.after) ∙ take-append_seam (tight stop.front) _)),
+    )
+
+-- after white space the bytes may be cut
+utf8_to_space : {value : List ℕ} → IsUtf8 value → (front after : List ℕ) → value ≡ front ++ after → place_from Start front ≡ Spaced
+    → IsUtf8 front
+utf8_to_space {value} is front after split spaced_there = go (snoc front) split spaced_there
+  where
+    go : {front : List ℕ} → Snoc front → value ≡ front ++ after → place_from Start front ≡ Spaced → IsUtf8 front
+    go none split spaced_there = IsUtf8-nil
+    go (last front b) split spaced_there =
+        let white = (white_adds_nothing (place_from Start front) b (sym (place_from-append Start front (b ∷ [])) ∙ spaced_there)).0 in
+        let ascii : b < 128 = grind (arith, nat_tests) in
+        let there : slice_get value (length front) ≡ Some b =
+        ap (λ v. slice_get v (length front)) (split ∙ append_assoc front (b ∷ []) after) ∙ slice_get-prefix front b after (length front) refl in
+        let cut : take (length front + 1) value ≡ front ++ (b ∷ []) =
+        ap (take (length front + 1)) (split ∙ append_assoc front (b ∷ []) after) ∙ take-append-add front (b ∷ after) 1 in
+        subst IsUtf8 cut (IsUtf8-take value (length front + 1) is (boundary_after value (length front) b is there ascii))
+
+pub boundary : {value : List ℕ} {limit : ℕ} {reach : Reach} → IsUtf8 value → (stop : Stops value limit reach)
+    → place_from Start stop.front ≡ Spaced → IsCharBoundary (tight value) (limit - reach.left)
+boundary {value} {limit} {reach} is stop spaced_there =
+    let text = tight-append Start stop.front stop.after in
+    IsCharBoundary-from_take (tight value) (limit - reach.left) ((tight_utf8 value).0 is)
+    (omega (
+      arith,
+      stop.so_far.out,
+      ap (λ v. length (tight v)) stop.split,
+      ap length text,
+      length-append (tight stop.front) (tight_from (place_from Start stop.front) stop.after),
+    ))
+    (subst IsUtf8 (sym (goes stop).1) ((tight_utf8 stop.front).0 (utf8_to_space is stop.front stop.after stop.split spaced_there)))
+
+-- ---- the longest beginning that is viable
+
+viable_to_limit : (text : List ℕ) (fault : ParseError) → IsFault text fault → IsViable (take (limit_of text fault) text)
+viable_to_limit text (InvalidToken pos byte) dead = dead.prefix.viable
+viable_to_limit text other lacks = subst IsViable (sym (take-length text)) (viable-from_lacks text other lacks)
+
+not_beyond : (text : List ℕ) (fault : ParseError) → IsFault text fault → (front rest : List ℕ) → text ≡ front ++ rest
+    → limit_of text fault < length front → IsViable front → ⊥
+not_beyond text (InvalidToken pos byte) dead front rest split over viable =
+    dead.prefix.longest (length front) over (omega (arith, ap length split, length-append front rest))
+    (subst IsViable (sym (ap (take (length front)) split ∙ take-append_seam front rest)) viable)
+not_beyond text other lacks front rest split over viable = omega (arith, over, ap length split, length-append front rest)
+
+pub longest_at : (front after : List ℕ) → IsHttpViable front → ((b : ℕ) (bytes : List ℕ) → after ≡ b ∷ bytes → IsHttpViable (front ++ (b ∷ [])) → ⊥)
+    → IsHttpLongestPrefix (front ++ after) (length front)
+longest_at front after viable dies = record {
+  within = omega (arith, length-append front after);
+  viable = subst IsHttpViable (sym (take-append_seam front after)) viable;
+  longest = λ n above within more. beyond after dies n above within more;
+}
+  where
+    beyond : (after : List ℕ) → ((b : ℕ) (bytes : List ℕ) → after ≡ b ∷ bytes → IsHttpViable (front ++ (b ∷ [])) → ⊥)
+        → (n : ℕ) → length front < n → n ≤ length (front ++ after) → IsHttpViable (take n (front ++ after)) → ⊥
+    beyond [] dies n above within more = omega (arith, above, within, length-append front [])
+    beyond (b ∷ bytes) dies n above within more =
+        let k = n - suc (length front) in
+        let is : n ≡ length front + suc k = omega arith in
+        let text : take n (front ++ (b ∷ bytes)) ≡ (front ++ (b ∷ [])) ++ take k bytes =
+        ap (λ i. take i (front ++ (b ∷ bytes))) is ∙ (take-append-add front (b ∷ bytes) (suc k) ∙ sym (append_assoc front (b ∷ []) (take k bytes))) in
+        dies b bytes refl (prefix_of_http_viable (front ++ (b ∷ [])) (take k bytes) (subst IsHttpViable text more))
+
+-- ---- what is missing at the end
+
+none_ends : {X : Type 0} (front : List ℕ) (b : ℕ) → ◌≡◌ {A = List ℕ} [] (front ++ (b ∷ [])) → X
+none_ends [] b e = absurd (cc)
+none_ends (c ∷ front) b e = absurd (cc)
+
+pub same_last : (xs ys : List ℕ) (a b : ℕ) → xs ++ (a ∷ []) ≡ ys ++ (b ∷ []) → a ≡ b
+same_last [] [] a b e = cc
+same_last [] (y ∷ ys) a b e =
+    let rest : ◌≡◌ {A = List ℕ} [] (ys ++ (b ∷ [])) = cc in none_ends ys b rest
+same_last (x ∷ xs) [] a b e =
+    let rest : ◌≡◌ {A = List ℕ} [] (xs ++ (a ∷ [])) = cc in none_ends xs a rest
+same_last (x ∷ xs) (y ∷ ys) a b e =
+    let rest : xs ++ (a ∷ []) ≡ ys ++ (b ∷ []) = cc in same_last xs ys a b rest
+
+-- the places after a slash and after an equals sign, to which no byte leads that is left out
+abbrev pub IsBusy : Place → Type 0
+IsBusy Plain = ⊤
+IsBusy Equals = ⊤
+IsBusy Quoted = ⊤
+IsBusy place = ⊥
+
+pub busy_after : (place : Place) → IsBusy (place_after place 47) × IsBusy (place_after place 61)
+busy_after Start = (tt, tt)
+busy_after Plain = (tt, tt)
+busy_after Spaced = (tt, tt)
+busy_after Equals = (tt, tt)
+busy_after Quoted = (tt, tt)
+busy_after Paired = (tt, tt)
+busy_after Closed = (tt, tt)
+busy_after Semicolon = (tt, tt)
+
+-- a byte that leads there is the last that it adds
+pub record AddsItself (place : Place) (b : ℕ) : Type 0 where
+  pub before : List ℕ
+  pub adds : added place b ≡ before ++ (b ∷ [])
+
+pub adds_itself : (place : Place) (b : ℕ) → IsBusy (place_after place b) → AddsItself place b
+adds_itself Quoted b busy = record { before = []; adds = refl }
+adds_itself Paired b busy = record { before = []; adds = refl }
+adds_itself Closed b busy = record { before = []; adds = refl }
+adds_itself Semicolon b busy = go (b == 59) refl
+  where
+    go : (t : Bool) → (b == 59) ≡ t → AddsItself Semicolon b
+    go true second = absurd (subst IsBusy {y = Semicolon} (rw (no_space b second, second) refl) busy)
+    go false other = record { before = []; adds = rw other refl }
+adds_itself Spaced b busy = go (is_space b) refl (b == 59) refl
+  where
+    go : (t : Bool) → is_space b ≡ t → (s : Bool) → (b == 59) ≡ s → AddsItself Spaced b
+    go true white s is = absurd (subst IsBusy {y = Spaced} (rw white refl) busy)
+    go false other true is = record { before = []; adds = rw (other, is) refl }
+    go false other false is = record { before = 32 ∷ []; adds = rw (other, is) refl }
+adds_itself Start b busy = go (is_space b) refl
+  where
+    go : (t : Bool) → is_space b ≡ t → AddsItself Start b
+    go true white = absurd (subst IsBusy {y = Start} (rw white refl) busy)
+    go false other = record { before = []; adds = rw other refl }
+adds_itself Plain b busy = go (is_space b) refl
+  where
+    go : (t : Bool) → is_space b ≡ t → AddsItself Plain b
+    go true white = absurd (subst IsBusy {y = Spaced} (rw white refl) busy)
+    go false other = record { before = []; adds = rw other refl }
+adds_itself Equals b busy = go (is_space b) refl
+  where
+    go : (t : Bool) → is_space b ≡ t → AddsItself Equals b
+    go true white = absurd (subst IsBusy {y = Spaced} (rw white refl) busy)
+    go false other = record { before = []; adds = rw other refl }
+
+ends_in : (value : List ℕ) (b : ℕ) → ((place : Place) → IsBusy (place_after place b)) → IsSettled (place_from Start value)
+    → EndsIn (tight value) b → EndsIn value b
+ends_in value b busy at_rest (prefix, ends) = go (snoc value) at_rest ends
+  where
+    go : {value : List ℕ} → Snoc value → IsSettled (place_from Start value) → tight value ≡ prefix ++ (b ∷ []) → EndsIn value b
+    go none at_rest ends = none_ends prefix b ends
+    go (last front c) at_rest ends =
+        let there : place_after (place_from Start prefix) b ≡ place_after (place_from Start front) c =
+        sym (place_from-append Start prefix (b ∷ [])) ∙ (ap (place_from Start) (sym ends) ∙ (settled_end (front ++ (c ∷ [])) at_rest
+        ∙ place_from-append Start front (c ∷ []))) in
+        let adds = adds_itself (place_from Start front) c (subst IsBusy there (busy (place_from Start prefix))) in
+        let text : (tight front ++ adds.before) ++ (c ∷ []) ≡ prefix ++ (b ∷ []) =
+        append_assoc (tight front) adds.before (c ∷ []) ∙ (ap (λ x. tight front ++ x) (sym adds.adds) ∙ (sym (tight_one front c) ∙ ends)) in
+        (front, ap (λ x. front ++ (x ∷ [])) (same_last (tight front ++ adds.before) prefix c b text))
+
+-- what is missing from what is left is missing from the value, unless white space was left out at its end
+end_lacks : (value : List ℕ) (fault : ParseError) → IsSettled (place_from Start value) → Lacks (tight value) fault → HttpLacks value fault
+end_lacks value MissingSlash at_rest lacks = (goes_on_as value _ at_rest lacks.0, tt)
+end_lacks value MissingSubtype at_rest lacks =
+    (goes_on_as value _ at_rest lacks.0, ends_in value 47 (λ place. (busy_after place).0) at_rest lacks.1)
+end_lacks value MissingEqual at_rest lacks = (goes_on_as value _ at_rest lacks.0, tt)
+end_lacks value MissingValue at_rest lacks =
+    (goes_on_as value _ at_rest lacks.0, ends_in value 61 (λ place. (busy_after place).1) at_rest lacks.1)
+end_lacks value MissingQuote at_rest lacks = (goes_on_as value _ at_rest lacks.0, tt)
+end_lacks value other at_rest lacks = absurd lacks.0
+
+-- ---- the fault
+
+-- what is at fault at a position, or at the end
+pub record FaultAt (value : List ℕ) (fault : ParseError) (pos : ℕ) : Type 0 where
+  pub prefix : IsHttpLongestPrefix value pos
+  pub end : length value ≤ pos → IsHttpFault value fault
+
+fault_at_end : (value : List ℕ) (fault : ParseError) → IsFault (tight value) fault
+    → length (tight value) ≤ limit_of (tight value) fault → IsSettled (place_from Start value) ⊎ IsAccepted (tight value)
+    → IsHttpFault value fault
+fault_at_end value (InvalidToken pos byte) dead within or =
+    absurd (omega (arith, within, slice_get_within (tight value) pos byte dead.there))
+fault_at_end value other lacks within (inl at_rest) = end_lacks value other at_rest lacks
+fault_at_end value other lacks within (inr is) = absurd (completed_is_rejected (tight value) other lacks is)
+
+record Reached (value : List ℕ) (fault : ParseError) (reach : Reach) (front after : List ℕ) : Type 0 where
+  split : value ≡ front ++ after
+  viable : IsViable (tight front)
+  dies : (b : ℕ) (bytes : List ℕ) → after ≡ b ∷ bytes → IsHttpViable (front ++ (b ∷ [])) → ⊥
+
+reached : (value : List ℕ) (fault : ParseError) (reach : Reach) → IsFault (tight value) fault
+    → (stop : Stops value (limit_of (tight value) fault) reach) → Reached value fault reach stop.front stop.after
+reached value fault reach is stop = record {
+  split = stop.split;
+  viable =
+      let rest = tight_from (place_from Start stop.front) stop.after in
+      let text : take (limit_of (tight value) fault) (tight value) ≡ tight stop.front ++ take reach.left rest =
+      ap (λ n. take n (tight value)) (sym stop.so_far.out) ∙ (ap (take (length (tight stop.front) + reach.left)) (left_of stop.front stop.after stop.split)
+      ∙ take-append-add (tight stop.front) rest reach.left) in
+      prefix_of_viable_is_viable (tight stop.front) (take reach.left rest)
+      (subst IsViable text (viable_to_limit (tight value) fault is));
+  dies = λ b bytes e viable.
+      let split : value ≡ (stop.front ++ (b ∷ [])) ++ bytes =
+      stop.split ∙ (ap (λ x. stop.front ++ x) e ∙ sym (append_assoc stop.front (b ∷ []) bytes)) in
+      not_beyond (tight value) fault is (tight (stop.front ++ (b ∷ []))) _ (left_of (stop.front ++ (b ∷ [])) bytes split)
+      (stop.next b bytes e) (tight_from_viable (stop.front ++ (b ∷ [])) viable);
+}
+  where
+    left_of : (front after : List ℕ) → value ≡ front ++ after → tight value ≡ tight front ++ tight_from (place_from Start front) after
+    left_of front after split = ap tight split ∙ tight-append Start front after
+
+-- where the value goes on or ends, what it goes on with is at fault
+pub fault_here : (value : List ℕ) (fault : ParseError) (reach : Reach) → IsFault (tight value) fault
+    → (stop : Stops value (limit_of (tight value) fault) reach)
+    → IsSettled (place_from Start stop.front) ⊎ IsAccepted (tight stop.front) → FaultAt value fault reach.at
+fault_here value fault reach is stop or =
+    let there = reached value fault reach is stop in
+    record {
+      prefix = subst (λ n. IsHttpLongestPrefix value n) (sym stop.so_far.at)
+          (subst (λ v. IsHttpLongestPrefix v (length stop.front)) (sym stop.split)
+          (longest_at stop.front stop.after (viable or there.viable) there.dies));
+      end = λ over.
+          let none : stop.after ≡ [] =
+          nothing stop.after (omega (arith, over, stop.so_far.at, ap length stop.split, length-append stop.front stop.after)) in
+          let whole : value ≡ stop.front = stop.split ∙ (ap (λ x. stop.front ++ x) none ∙ append-nil stop.front) in
+          fault_at_end value fault is
+          (omega (arith, stop.so_far.out, ap (λ v. length (tight v)) whole))
+          (subst (λ v. IsSettled (place_from Start v) ⊎ IsAccepted (tight v)) (sym whole) or);
+    }
+  where
+    viable : IsSettled (place_from Start stop.front) ⊎ IsAccepted (tight stop.front) → IsViable (tight stop.front) → IsHttpViable stop.front
+    viable (inl at_rest) core = viable_from_tight stop.front at_rest core
+    viable (inr accepted) core = viable_from_accepted stop.front accepted
+
+    nothing : (xs : List ℕ) → length xs ≤ 0 → xs ≡ []
+    nothing [] e = refl
+    nothing (x ∷ xs) e = absurd (omega (arith, e))
+
+-- where it may neither end nor go on, the white space that was left out is
+pub fault_before : (value : List ℕ) (fault : ParseError) (reach : Reach) → IsFault (tight value) fault
+    → (stop : Stops value (limit_of (tight value) fault) reach)
+    → place_from Start stop.front ≡ Spaced → ¬ (IsAccepted (tight stop.front)) → FaultAt value fault reach.settled
+fault_before value fault reach is stop spaced_there rejected =
+    go stop.so_far.back_to spaced_there rejected (reached value fault reach is stop)
+  where
+    go : {front after : List ℕ} {n : ℕ} → SettledAt front n → place_from Start front ≡ Spaced → ¬ (IsAccepted (tight front))
+        → Reached value fault reach front after → FaultAt value fault n
+    go (here front at_rest) spaced_there rejected there = absurd (subst IsSettled spaced_there at_rest)
+    go {after = after} (back front c white at_rest first one all) spaced_there rejected there =
+        let split : value ≡ front ++ (c ∷ (white ++ after)) = there.split ∙ append_assoc front (c ∷ white) after in
+        record {
+          prefix = subst (λ v. IsHttpLongestPrefix v (length front)) (sym split)
+              (longest_at front (c ∷ (white ++ after)) (viable_from_tight front at_rest (subst IsViable all there.viable))
+              (λ b bytes e viable.
+              let same : c ≡ b = cc in
+              let begins = subst (λ x. IsHttpViable (front ++ (x ∷ []))) (sym same) viable in
+              rejected (subst IsAccepted (one ∙ sym all) (accepted_from_spaced (front ++ (c ∷ [])) first begins))));
+          end = λ over. absurd (omega (arith, over, ap length split, length-append front (c ∷ (white ++ after))));
+        }

@@ -1,0 +1,223 @@
+-- What HTTP writes is read: tightened, it is the text of a syntax tree with the same parts.
+use Rattle.std.proofs.Common.{◌≡◌, ◌∙◌, refl, sym, ap, subst, ℕ, List, [], ◌∷◌, ◌++◌}
+use Rattle.std.proofs.lemmas.Bool.{and_parts, and_from}
+use Rattle.std.proofs.lemmas.List.{append-nil, append_assoc}
+use Rattle.std.proofs.lemmas.List.Folds.{list_all-append}
+use Rattle.mime.specs.Grammar.{plain, quoted, Parameters, blank, final, more, Tail, no_list, listed, SyntaxTree, is_space, AreSpaces, text_of_list, text_of_tail, AreParameters, IsTail}
+use Rattle.mime.specs.Values.{value_of, lowered, lowered_value, lowered_list, lowered_tail, pairs_of_list, pairs_of_tail}
+use Rattle.mime_http.specs.declared.tight.Place.TheVariants.{Start, Plain, Spaced, Equals, Quoted, Closed, Semicolon}
+use Rattle.mime_http.specs.Tight.{tight_from, tight}
+use Rattle.mime_http.specs.HttpMediaType.{IsHttpParameter, with_token, with_string, AreHttpParameters, no_more, semicolon, semicolon_and}
+use Rattle.mime_http.specs.HeaderLaws.{HttpIsRead}
+use Rattle.mime_http.proofs.Places.{Leads, one, both, of_type, goes_on, of_value, of_name, token, walk_spaces, after_value, before_name, quoted_content}
+
+-- ---- white space that is left out
+
+spaced_semicolon : (n w : List ℕ) → AreSpaces n → tight_from Spaced (n ++ (59 ∷ w)) ≡ 59 ∷ tight_from Semicolon w
+spaced_semicolon [] w all = refl
+spaced_semicolon (b ∷ n) w all = let parts = and_parts (is_space b) _ all in rw parts.0 (spaced_semicolon n w parts.1)
+
+plain_semicolon : (n w : List ℕ) → AreSpaces n → tight_from Plain (n ++ (59 ∷ w)) ≡ 59 ∷ tight_from Semicolon w
+plain_semicolon [] w all = refl
+plain_semicolon (b ∷ n) w all = let parts = and_parts (is_space b) _ all in rw parts.0 (spaced_semicolon n w parts.1)
+
+spaced_end : (n : List ℕ) → AreSpaces n → tight_from Spaced n ≡ []
+spaced_end [] all = refl
+spaced_end (b ∷ n) all = let parts = and_parts (is_space b) _ all in rw parts.0 (spaced_end n parts.1)
+
+plain_end : (n : List ℕ) → AreSpaces n → tight_from Plain n ≡ []
+plain_end [] all = refl
+plain_end (b ∷ n) all = let parts = and_parts (is_space b) _ all in rw parts.0 (spaced_end n parts.1)
+
+start_spaces : (n w : List ℕ) → AreSpaces n → tight_from Start (n ++ w) ≡ tight_from Start w
+start_spaces [] w all = refl
+start_spaces (b ∷ n) w all = let parts = and_parts (is_space b) _ all in rw parts.0 (start_spaces n w parts.1)
+
+-- ---- what is left of bytes, from a token's end, from a quoted value's end and from a semicolon on
+
+record FromPlain (bytes : List ℕ) (pairs : List (List ℕ × List ℕ)) : Type 0 where
+  tail : Tail
+  is : IsTail tail
+  same : tight_from Plain bytes ≡ text_of_tail tail
+  has : pairs_of_tail (lowered_tail tail) ≡ pairs
+
+record FromClosed (bytes : List ℕ) (pairs : List (List ℕ × List ℕ)) : Type 0 where
+  spaces : List ℕ
+  tail : Tail
+  white : AreSpaces spaces
+  is : IsTail tail
+  same : tight_from Closed bytes ≡ spaces ++ text_of_tail tail
+  has : pairs_of_tail (lowered_tail tail) ≡ pairs
+
+record FromSemicolon (bytes : List ℕ) (pairs : List (List ℕ × List ℕ)) : Type 0 where
+  list : Parameters
+  is : AreParameters list
+  same : tight_from Semicolon bytes ≡ text_of_list list
+  has : pairs_of_list (lowered_list list) ≡ pairs
+
+pub spaces-append : (n m : List ℕ) → AreSpaces n → AreSpaces m → AreSpaces (n ++ m)
+spaces-append n m first second = list_all-append is_space n m ∙ and_from _ _ first second
+
+-- white space before it
+indent : (n bytes : List ℕ) {pairs : List (List ℕ × List ℕ)} → AreSpaces n → FromSemicolon bytes pairs → FromSemicolon (n ++ bytes) pairs
+indent n bytes {pairs} white from = go from.list from.is from.same from.has
+  where
+    kept : Leads Semicolon n n Semicolon
+    kept = walk_spaces before_name n white
+
+    go : (list : Parameters) → AreParameters list → tight_from Semicolon bytes ≡ text_of_list list
+        → pairs_of_list (lowered_list list) ≡ pairs → FromSemicolon (n ++ bytes) pairs
+    go (blank m) is same has = record {
+      list = blank (n ++ m);
+      is = spaces-append n m white is;
+      same = kept.tightly bytes ∙ ap (λ x. n ++ x) same;
+      has = has;
+    }
+    go (final m p) is same has = record {
+      list = final (n ++ m) p;
+      is = (spaces-append n m white is.0, is.1);
+      same = kept.tightly bytes ∙ (ap (λ x. n ++ x) same ∙ sym (append_assoc n m _));
+      has = has;
+    }
+    go (more m p rest) is same has = record {
+      list = more (n ++ m) p rest;
+      is = (spaces-append n m white is.0, is.1, is.2);
+      same = kept.tightly bytes ∙ (ap (λ x. n ++ x) same ∙ sym (append_assoc n m _));
+      has = has;
+    }
+
+-- a parameter, and what is after it
+with_parameter : {text : List ℕ} {pair : List ℕ × List ℕ} → IsHttpParameter text pair → (bytes : List ℕ) {pairs : List (List ℕ × List ℕ)}
+    → FromPlain bytes pairs → FromClosed bytes pairs → FromSemicolon (text ++ bytes) (pair ∷ pairs)
+with_parameter (with_token name value named valued) bytes {pairs} after closed = go after.tail after.is after.same after.has
+  where
+    leads : Leads Semicolon (name ++ (61 ∷ value)) (name ++ (61 ∷ value)) Plain
+    leads = both (token of_name name named) (both (one Plain 61) (token of_value value valued))
+
+    go : (tail : Tail) → IsTail tail → tight_from Plain bytes ≡ text_of_tail tail → pairs_of_tail (lowered_tail tail) ≡ pairs
+        → FromSemicolon ((name ++ (61 ∷ value)) ++ bytes) ((lowered name, lowered_value name value) ∷ pairs)
+    go no_list fine same has = record {
+      list = final [] (plain name value);
+      is = (refl, (named, valued));
+      same = leads.tightly bytes ∙ (ap (λ x. (name ++ (61 ∷ value)) ++ x) same ∙ append-nil _);
+      has = ap (λ ps. (lowered name, lowered_value name value) ∷ ps) has;
+    }
+    go (listed list) fine same has = record {
+      list = more [] (plain name value) list;
+      is = (refl, (named, valued), fine);
+      same = leads.tightly bytes ∙ ap (λ x. (name ++ (61 ∷ value)) ++ x) same;
+      has = ap (λ ps. (lowered name, lowered_value name value) ∷ ps) has;
+    }
+with_parameter (with_string name content named valued) bytes {pairs} after closed =
+    go closed.spaces closed.tail closed.white closed.is closed.same closed.has
+  where
+    leads : Leads Semicolon (name ++ (61 ∷ 34 ∷ (content ++ (34 ∷ [])))) (name ++ (61 ∷ 34 ∷ (content ++ (34 ∷ [])))) Closed
+    leads = both (token of_name name named) (both (one Plain 61) (both (one Equals 34)
+        (both (quoted_content valued) (one Quoted 34))))
+
+    grouped : (out : List ℕ) → (name ++ (61 ∷ 34 ∷ (content ++ (34 ∷ [])))) ++ out ≡ name ++ (61 ∷ 34 ∷ (content ++ (34 ∷ out)))
+    grouped out = append_assoc name _ out ∙ ap (λ x. name ++ (61 ∷ 34 ∷ x)) (append_assoc content (34 ∷ []) out)
+
+    go : (m : List ℕ) (tail : Tail) → AreSpaces m → IsTail tail → tight_from Closed bytes ≡ m ++ text_of_tail tail
+        → pairs_of_tail (lowered_tail tail) ≡ pairs
+        → FromSemicolon ((name ++ (61 ∷ 34 ∷ (content ++ (34 ∷ [])))) ++ bytes) ((lowered name, lowered_value name content) ∷ pairs)
+    go m no_list white fine same has = record {
+      list = final [] (quoted name content m);
+      is = (refl, (named, valued, white));
+      same = leads.tightly bytes ∙ (ap (λ x. (name ++ (61 ∷ 34 ∷ (content ++ (34 ∷ [])))) ++ x) (same ∙ append-nil m) ∙ grouped m);
+      has = ap (λ ps. (lowered name, lowered_value name content) ∷ ps) has;
+    }
+    go m (listed list) white fine same has = record {
+      list = more [] (quoted name content m) list;
+      is = (refl, (named, valued, white), fine);
+      same = leads.tightly bytes ∙ (ap (λ x. (name ++ (61 ∷ 34 ∷ (content ++ (34 ∷ [])))) ++ x) same ∙ (grouped _
+          ∙ (ap (λ x. name ++ (61 ∷ 34 ∷ x)) (sym (append_assoc content (34 ∷ m) _))
+          ∙ sym (append_assoc name (61 ∷ 34 ∷ (content ++ (34 ∷ m))) _))));
+      has = ap (λ ps. (lowered name, lowered_value name content) ∷ ps) has;
+    }
+
+-- ---- from each place, of parameters and the white space after them
+
+record FromAll (bytes : List ℕ) (pairs : List (List ℕ × List ℕ)) : Type 0 where
+  plain : FromPlain bytes pairs
+  closed : FromClosed bytes pairs
+  list : FromSemicolon bytes pairs
+
+-- a semicolon and what is after it
+after_semicolon : (b bytes : List ℕ) {pairs : List (List ℕ × List ℕ)} → AreSpaces b → FromSemicolon bytes pairs
+    → FromAll (b ++ (59 ∷ bytes)) pairs
+after_semicolon b bytes white from = record {
+  plain = record { tail = listed from.list; is = from.is; same = plain_semicolon b bytes white ∙ ap (λ x. 59 ∷ x) from.same; has = from.has };
+  closed =
+      let kept : Leads Closed b b Closed = walk_spaces after_value b white in
+      record {
+        spaces = b;
+        tail = listed from.list;
+        white = white;
+        is = from.is;
+        same = kept.tightly (59 ∷ bytes) ∙ ap (λ x. b ++ (59 ∷ x)) from.same;
+        has = from.has;
+      };
+  list = indent b (59 ∷ bytes) white (record { list = from.list; is = from.is; same = from.same; has = from.has });
+}
+
+forth : {text : List ℕ} {pairs : List (List ℕ × List ℕ)} → AreHttpParameters text pairs → (after : List ℕ) → AreSpaces after
+    → FromAll (text ++ after) pairs
+forth no_more after white = record {
+  plain = record { tail = no_list; is = tt; same = plain_end after white; has = refl };
+  closed =
+      let kept : Leads Closed after after Closed = walk_spaces after_value after white in
+      record {
+        spaces = after;
+        tail = no_list;
+        white = white;
+        is = tt;
+        same = ap (tight_from Closed) (sym (append-nil after)) ∙ kept.tightly [];
+        has = refl;
+      };
+  list =
+      let kept : Leads Semicolon after after Semicolon = walk_spaces before_name after white in
+      record {
+        list = blank after;
+        is = white;
+        same = ap (tight_from Semicolon) (sym (append-nil after)) ∙ (kept.tightly [] ∙ append-nil after);
+        has = refl;
+      };
+}
+forth (semicolon b a rest pairs white_before white_after is) after white =
+    subst (λ bytes. FromAll bytes pairs) (sym (append_assoc b _ after ∙ ap (λ x. b ++ (59 ∷ x)) (append_assoc a rest after)))
+    (after_semicolon b (a ++ (rest ++ after)) white_before (indent a (rest ++ after) white_after (forth is after white).list))
+forth (semicolon_and b a parameter rest pair pairs white_before white_after one is) after white =
+    let next = forth is after white in
+    subst (λ bytes. FromAll bytes (pair ∷ pairs))
+    (sym (append_assoc b _ after ∙ (ap (λ x. b ++ (59 ∷ x)) (append_assoc a _ after)
+    ∙ ap (λ x. b ++ (59 ∷ (a ++ x))) (append_assoc parameter rest after))))
+    (after_semicolon b (a ++ (parameter ++ (rest ++ after))) white_before
+    (indent a _ white_after (with_parameter one (rest ++ after) next.plain next.closed)))
+
+-- a media type as HTTP writes it, tightened, is read as it
+pub http_is_read : HttpIsRead
+http_is_read value media reads =
+    let from = (forth reads.are_parameters reads.after reads.white_after).plain in
+    let top = reads.top in
+    let sub = reads.sub in
+    let strict : SyntaxTree = record { top = top; sub = sub; tail = from.tail } in
+    let leads : Leads Start (top ++ (47 ∷ sub)) (top ++ (47 ∷ sub)) Plain =
+    both (token of_type top reads.is_top) (both (one Plain 47) (token goes_on sub reads.is_sub)) in
+    let same : value_of strict ≡ record media { kept = (value_of strict).kept } = λ i. record {
+      essence = sym reads.essence i;
+      slash = sym reads.slash i;
+      plus = sym reads.plus i;
+      pairs = from.has i;
+      kept = (value_of strict).kept;
+    } in (
+      (value_of strict).kept,
+      record {
+        tree = strict;
+        well_formed = (reads.is_top, reads.is_sub, from.is);
+        spelled = sym (ap tight (sym reads.spelled) ∙ (start_spaces reads.before _ reads.white_before
+            ∙ (ap (tight_from Start) (sym (append_assoc top (47 ∷ sub) _))
+            ∙ (leads.tightly _ ∙ (ap (λ x. (top ++ (47 ∷ sub)) ++ x) from.same ∙ append_assoc top (47 ∷ sub) _)))));
+        valued = same;
+      },
+    )

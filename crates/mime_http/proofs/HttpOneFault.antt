@@ -1,0 +1,136 @@
+-- A value that is no media type has exactly one fault.
+use Rattle.std.proofs.Common.{◌≡◌, ◌∙◌, refl, sym, ap, subst, arith, ℕ, ◌<◌, ◌≤◌, List, [], ◌∷◌, ◌++◌, length, take, ◌⊎◌, inl, inr, ⊎_elim, append_assoc}
+use Rattle.std.proofs.Math.Seq.{take-length}
+use Rattle.std.specs.Prelude.{slice_get, codes}
+use Rattle.std.proofs.lemmas.Bool.{cases_lt}
+use Rattle.std.proofs.lemmas.List.{append-nil}
+use Rattle.std.proofs.lemmas.Option.{same_Some, slice_get_within, slice_get-get_or}
+use Rattle.mime.specs.Values.{IsAccepted}
+use Rattle.mime.specs.Faults.{EndsIn, Lacks, IsFault}
+use Rattle.mime.specs.declared.scan.fault.ParseError.{ParseError}
+use Rattle.mime.specs.declared.scan.fault.ParseError.TheVariants.{MissingSlash, MissingSubtype, MissingEqual, MissingValue, MissingQuote, InvalidToken}
+use Rattle.mime.proofs.CutLemmas.Cuts.{accepted_or_rejected}
+use Rattle.mime.proofs.GrammarLemmas.Faults.{one_fault}
+use Rattle.mime_http.specs.declared.tight.Place.{Place}
+use Rattle.mime_http.specs.declared.tight.Place.TheVariants.{Start, Plain, Spaced, Equals, Quoted, Paired, Closed, Semicolon}
+use Rattle.mime_http.specs.Tight.{place_after, tight_from, tight}
+use Rattle.mime_http.specs.Reached.{start, reach_from, limit_of}
+use Rattle.mime_http.specs.HttpMediaType.{IsHttpMediaType}
+use Rattle.mime_http.specs.HttpFaults.{IsHttpViable, IsHttpLongestPrefix, HttpLacks, IsHttpFault}
+use Rattle.mime_http.specs.HeaderLaws.{OneHttpFault}
+use Rattle.mime_http.proofs.Places.{place_from}
+use Rattle.mime_http.proofs.PlacesAgain.{IsSettled}
+use Rattle.mime_http.proofs.HttpViability.{http_from_accepted, tight_accepted, accepted_from_spaced}
+use Rattle.mime_http.proofs.HttpFaults.{Kind, spaced, settled, kind, stops, IsBusy, busy_after, adds_itself, tight_one, FaultAt, fault_here, fault_before}
+
+-- ---- one at least
+
+rejected_tight : (value : List ℕ) → ¬ (IsHttpMediaType value) → ¬ (IsAccepted (tight value))
+rejected_tight value isnt is = isnt (http_from_accepted value is)
+
+found_at : (value : List ℕ) (fault : ParseError) → IsFault (tight value) fault → (pos : ℕ) × FaultAt value fault pos
+found_at value fault is =
+    let limit = limit_of (tight value) fault in
+    let reach = reach_from (start limit) value in
+    let stop = stops value limit in
+    go (kind (place_from Start stop.front))
+  where
+    go : Kind (place_from Start (stops value (limit_of (tight value) fault)).front) → (pos : ℕ) × FaultAt value fault pos
+    go (settled at_rest e) = (_, fault_here value fault _ is (stops value (limit_of (tight value) fault)) (inl at_rest))
+    go (spaced e) = ⊎_elim
+        (λ yes. (_, fault_here value fault _ is (stops value (limit_of (tight value) fault)) (inr yes)))
+        (λ no. (_, fault_before value fault _ is (stops value (limit_of (tight value) fault)) e no))
+        (accepted_or_rejected (tight (stops value (limit_of (tight value) fault)).front))
+
+found : (value : List ℕ) → ¬ (IsHttpMediaType value) → (fault : ParseError) × IsHttpFault value fault
+found value isnt =
+    let one = one_fault (tight value) (rejected_tight value isnt) in
+    let there = found_at value one.0 one.1 in
+    ⊎_elim
+    (λ within. (InvalidToken there.0 _, record { prefix = there.1.prefix; there = slice_get-get_or value there.0 0 within }))
+    (λ over. (one.0, there.1.end over)) (cases_lt there.0 (length value))
+
+-- ---- one at most
+
+prefix_unique : (value : List ℕ) (m n : ℕ) → IsHttpLongestPrefix value m → IsHttpLongestPrefix value n → m ≡ n
+prefix_unique value m n first second =
+    let not_below : ¬ (m < n) = λ below. first.longest n below second.within second.viable in
+    let not_above : ¬ (n < m) = λ above. second.longest m above first.within first.viable in
+    omega arith
+
+-- a value at a byte of which nothing helps lacks nothing
+dead_lacks_not : {X : Type 0} (value : List ℕ) (pos byte : ℕ) → IsHttpFault value (InvalidToken pos byte) → IsHttpViable value → X
+dead_lacks_not value pos byte dead viable =
+    absurd (dead.prefix.longest (length value) (slice_get_within value pos byte dead.there) (omega arith)
+    (subst IsHttpViable (sym (take-length value)) viable))
+
+-- what completes a value comes out as it is, unless white space was left out before it
+record ComesOut (place : Place) : Type 0 where
+  slash : tight_from place (codes "x/x") ≡ codes "x/x"
+  text : tight_from place (codes "x") ≡ codes "x"
+  equal : tight_from place (codes "=x") ≡ codes "=x"
+  quote : tight_from place (codes "x\"") ≡ codes "x\""
+
+comes_out : (place : Place) → IsSettled place → ComesOut place
+comes_out Start is = record { slash = refl; text = refl; equal = refl; quote = refl }
+comes_out Plain is = record { slash = refl; text = refl; equal = refl; quote = refl }
+comes_out Spaced is = absurd is
+comes_out Equals is = record { slash = refl; text = refl; equal = refl; quote = refl }
+comes_out Quoted is = record { slash = refl; text = refl; equal = refl; quote = refl }
+comes_out Paired is = record { slash = refl; text = refl; equal = refl; quote = refl }
+comes_out Closed is = record { slash = refl; text = refl; equal = refl; quote = refl }
+comes_out Semicolon is = record { slash = refl; text = refl; equal = refl; quote = refl }
+
+ends_too : (value : List ℕ) (b : ℕ) → ((place : Place) → IsBusy (place_after place b)) → EndsIn value b → EndsIn (tight value) b
+ends_too value b busy (front, ends) =
+    let adds = adds_itself (place_from Start front) b (busy (place_from Start front)) in (
+      tight front ++ adds.before,
+      ap tight ends ∙ (tight_one front b ∙ (ap (λ x. tight front ++ x) adds.adds ∙ sym (append_assoc (tight front) adds.before (b ∷ [])))),
+    )
+
+lacks_tight : (value : List ℕ) (fault : ParseError) → IsSettled (place_from Start value) → HttpLacks value fault → Lacks (tight value) fault
+lacks_tight value fault at_rest = go (comes_out (place_from Start value) at_rest) fault
+  where
+    accepted : (more : List ℕ) → tight_from (place_from Start value) more ≡ more → IsHttpMediaType (value ++ more) → IsAccepted (tight value ++ more)
+    accepted more same is = subst (λ x. IsAccepted (tight value ++ x)) same (tight_accepted value more is)
+
+    go : ComesOut (place_from Start value) → (fault : ParseError) → HttpLacks value fault → Lacks (tight value) fault
+    go out MissingSlash lacks = (accepted _ out.slash lacks.0, tt)
+    go out MissingSubtype lacks = (accepted _ out.text lacks.0, ends_too value 47 (λ place. (busy_after place).0) lacks.1)
+    go out MissingEqual lacks = (accepted _ out.equal lacks.0, tt)
+    go out MissingValue lacks = (accepted _ out.text lacks.0, ends_too value 61 (λ place. (busy_after place).1) lacks.1)
+    go out MissingQuote lacks = (accepted _ out.quote lacks.0, tt)
+    go out other lacks = absurd lacks.0
+
+viable_from_lacks : (value : List ℕ) (fault : ParseError) → HttpLacks value fault → IsHttpViable value
+viable_from_lacks value MissingSlash lacks = (_, lacks.0)
+viable_from_lacks value MissingSubtype lacks = (_, lacks.0)
+viable_from_lacks value MissingEqual lacks = (_, lacks.0)
+viable_from_lacks value MissingValue lacks = (_, lacks.0)
+viable_from_lacks value MissingQuote lacks = (_, lacks.0)
+viable_from_lacks value other lacks = absurd lacks.0
+
+lacks_from_http : (value : List ℕ) (fault : ParseError) → ¬ (IsHttpMediaType value) → HttpLacks value fault → Lacks (tight value) fault
+lacks_from_http value fault isnt lacks = go (kind (place_from Start value))
+  where
+    go : Kind (place_from Start value) → Lacks (tight value) fault
+    go (settled at_rest e) = lacks_tight value fault at_rest lacks
+    go (spaced e) =
+        absurd (isnt (http_from_accepted value (accepted_from_spaced value e (viable_from_lacks value fault lacks))))
+
+same_fault : (value : List ℕ) → ¬ (IsHttpMediaType value) → (first second : ParseError) → IsHttpFault value first → IsHttpFault value second
+    → first ≡ second
+same_fault value isnt (InvalidToken pos byte) (InvalidToken place other) one two =
+    let same : pos ≡ place = prefix_unique value pos place one.prefix two.prefix in
+    let bytes : byte ≡ other = same_Some byte other (sym one.there ∙ (ap (slice_get value) same ∙ two.there)) in
+    ap (λ p. InvalidToken p byte) same ∙ ap (λ b. InvalidToken place b) bytes
+same_fault value isnt (InvalidToken pos byte) second one two = dead_lacks_not value pos byte one (viable_from_lacks value second two)
+same_fault value isnt first (InvalidToken pos byte) one two = dead_lacks_not value pos byte two (viable_from_lacks value first one)
+same_fault value isnt first second one two =
+    let core = one_fault (tight value) (rejected_tight value isnt) in
+    core.2 first (lacks_from_http value first isnt one) ∙ sym (core.2 second (lacks_from_http value second isnt two))
+
+pub one_http_fault : OneHttpFault
+one_http_fault value isnt =
+    let one = found value isnt in
+    (one.0, one.1, λ other is. same_fault value isnt other one.0 is one.1)

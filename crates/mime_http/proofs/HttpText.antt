@@ -1,0 +1,207 @@
+-- Tightening leaves bytes in UTF-8 exactly if they are.
+use Rattle.std.proofs.Common.{◌≡◌, ◌∙◌, ◌==◌, ◌<◌, ◌≤◌, refl, sym, ap, subst, arith, ℕ, zero, suc, true, false, List, [], ◌∷◌, ◌++◌, length, ⊎_elim, length-append}
+use Rattle.std.specs.Prelude.{IsUtf8, ⊤, nat_le, nat_lt, ◌&&◌, ◌↔◌}
+use Rattle.std.specs.List.{list_all}
+use Rattle.std.proofs.lemmas.Bool.{and_parts, cond_both, cases_lt}
+use Rattle.std.proofs.lemmas.Bool.Decides.{nat_tests}
+use Rattle.std.proofs.lemmas.List.{append_assoc}
+use Rattle.std.proofs.lemmas.Str.{IsUtf8-nil, IsUtf8-append, IsUtf8-encode, IsUtf8-from_ascii, encode_ascii, cons_from_encodes, length-encode, len_utf8_bounds}
+use Rattle.std.proofs.lemmas.Str.Ascii.{IsAscii-cons, IsAscii-nil}
+use Rattle.mime.proofs.ValueLemmas.Utf8.{high_bytes}
+use Rattle.mime.specs.Grammar.{is_space}
+use lib.Utf8.{scalars, scalar, encodes, encode}
+use Rattle.mime_http.specs.declared.tight.Place.{Place}
+use Rattle.mime_http.specs.declared.tight.Place.TheVariants.{Start, Plain, Spaced, Equals, Quoted, Paired, Closed, Semicolon}
+use Rattle.mime_http.specs.Tight.{place_after, is_left_out, brought_back, added, tight_from, tight}
+use Rattle.mime_http.proofs.HttpBack.{After, and_then, to_place, plain_back, any_back}
+
+-- ---- ASCII bytes
+
+abbrev pub AreAscii : List ℕ → Type 0
+AreAscii [] = ⊤
+AreAscii (b ∷ bytes) = (b < 128) × AreAscii bytes
+
+ascii-append : (xs ys : List ℕ) → AreAscii xs → AreAscii ys → AreAscii (xs ++ ys)
+ascii-append [] ys first second = second
+ascii-append (b ∷ xs) ys first second = (first.0, ascii-append xs ys first.1 second)
+
+pub put_ascii : (xs ys : List ℕ) → AreAscii xs → IsUtf8 ys → IsUtf8 (xs ++ ys)
+put_ascii [] ys all is = is
+put_ascii (b ∷ xs) ys all is =
+    IsUtf8-append (b ∷ []) (xs ++ ys) (IsUtf8-from_ascii (b ∷ []) (IsAscii-cons b [] all.0 IsAscii-nil)) (put_ascii xs ys all.1 is)
+
+pub drop_ascii : (xs ys : List ℕ) → AreAscii xs → IsUtf8 (xs ++ ys) → IsUtf8 ys
+drop_ascii [] ys all is = is
+drop_ascii (b ∷ xs) ys all is =
+    let cut = cons_from_encodes is.0 (xs ++ ys) b (is.1.1 ∙ ap (λ e. e ++ (xs ++ ys)) (sym (encode_ascii b all.0))) in
+    let parts = and_parts (scalar b) (scalars cut.0) (subst (λ cs. scalars cs ≡ true) cut.1 is.1.0) in
+    drop_ascii xs ys all.1 (cut.0, (parts.1, cut.2))
+
+-- what an ASCII byte adds is ASCII
+brought_ascii : (place : Place) (b : ℕ) → AreAscii (brought_back place b)
+brought_ascii Spaced b = cond_both (b == 59) _ _ AreAscii (λ is. tt) (λ is. (omega arith, tt))
+brought_ascii place b = tt
+
+added_ascii : (place : Place) (b : ℕ) → b < 128 → AreAscii (added place b)
+added_ascii place b is =
+    cond_both (is_left_out place b) _ _ AreAscii (λ out. tt)
+    (λ kept. ascii-append (brought_back place b) (b ∷ []) (brought_ascii place b) (is, tt))
+
+-- ---- bytes past ASCII
+
+record IsHigh (b : ℕ) : Type 0 where
+  space : is_space b ≡ false
+  semicolon : (b == 59) ≡ false
+  equals : (b == 61) ≡ false
+  quote : (b == 34) ≡ false
+  backslash : (b == 92) ≡ false
+
+high : (b : ℕ) → 128 ≤ b → IsHigh b
+high b is = record {
+  space = grind (arith, nat_tests);
+  semicolon = grind (arith, nat_tests);
+  equals = grind (arith, nat_tests);
+  quote = grind (arith, nat_tests);
+  backslash = grind (arith, nat_tests);
+}
+
+-- the places after one
+data Holds : Place → Type 0 where
+  outside : Holds Plain
+  within : Holds Quoted
+
+-- what the first adds
+record First (place : Place) (b : ℕ) : Type 0 where
+  before : List ℕ
+  ascii : AreAscii before
+  adds : added place b ≡ before ++ (b ∷ [])
+  holds : Holds (place_after place b)
+
+first : (place : Place) (b : ℕ) → IsHigh b → First place b
+first Start b is = record { before = []; ascii = tt; adds = rw is.space refl; holds = rw (is.space, is.semicolon, is.equals, is.quote) outside }
+first Plain b is = record { before = []; ascii = tt; adds = rw is.space refl; holds = rw (is.space, is.semicolon, is.equals, is.quote) outside }
+first Spaced b is = record {
+  before = 32 ∷ [];
+  ascii = (omega arith, tt);
+  adds = rw (is.space, is.semicolon) refl;
+  holds = rw (is.space, is.semicolon, is.equals, is.quote) outside;
+}
+first Equals b is = record { before = []; ascii = tt; adds = rw is.space refl; holds = rw (is.space, is.semicolon, is.equals, is.quote) outside }
+first Semicolon b is =
+    record { before = []; ascii = tt; adds = rw is.semicolon refl; holds = rw (is.space, is.semicolon, is.equals, is.quote) outside }
+first Closed b is = record { before = []; ascii = tt; adds = refl; holds = rw (is.space, is.semicolon, is.equals, is.quote) outside }
+first Quoted b is = record { before = []; ascii = tt; adds = refl; holds = rw (is.backslash, is.quote) within }
+first Paired b is = record { before = []; ascii = tt; adds = refl; holds = within }
+
+-- each next
+stays_there : {place : Place} → Holds place → (b : ℕ) → IsHigh b → place_after place b ≡ place
+stays_there outside b is = rw (is.space, is.semicolon, is.equals, is.quote) refl
+stays_there within b is = rw (is.backslash, is.quote) refl
+
+stays_as_it_is : {place : Place} → Holds place → (b : ℕ) → IsHigh b → added place b ≡ b ∷ []
+stays_as_it_is outside b is = rw is.space refl
+stays_as_it_is within b is = refl
+
+abbrev AreHigh : List ℕ → Type 0
+AreHigh bytes = list_all (λ b. nat_le 128 b && nat_lt b 248) bytes ≡ true
+
+high_of : (b : ℕ) → (nat_le 128 b && nat_lt b 248) ≡ true → IsHigh b
+high_of b is = high b (grind (arith, nat_tests))
+
+run : {place : Place} → Holds place → (hs rest : List ℕ) → AreHigh hs → tight_from place (hs ++ rest) ≡ hs ++ tight_from place rest
+run {place} holds [] rest all = refl
+run {place} holds (b ∷ hs) rest all =
+    let parts = and_parts (nat_le 128 b && nat_lt b 248) _ all in
+    let is = high_of b parts.0 in
+    ap (λ a. a ++ tight_from (place_after place b) (hs ++ rest)) (stays_as_it_is holds b is)
+    ∙ (ap (λ p. b ∷ tight_from p (hs ++ rest)) (stays_there holds b is) ∙ ap (λ x. b ∷ x) (run holds hs rest parts.1))
+
+one_back : {place : Place} → Holds place → (bytes : List ℕ) (b : ℕ) (out : List ℕ) → IsHigh b → tight_from place bytes ≡ b ∷ out
+    → After bytes (b ∷ []) (place_after place b) out
+one_back outside bytes b out is e = plain_back bytes b out is.space is.semicolon e
+one_back within bytes b out is e = any_back Quoted (λ b. refl) bytes b out e
+
+run_back : {place : Place} → Holds place → (hs bytes out : List ℕ) → AreHigh hs → tight_from place bytes ≡ hs ++ out
+    → After bytes hs place out
+run_back holds [] bytes out all e = record { rest = bytes; split = refl; left = e }
+run_back holds (b ∷ hs) bytes out all e =
+    let parts = and_parts (nat_le 128 b && nat_lt b 248) _ all in
+    let is = high_of b parts.0 in
+    and_then (to_place (stays_there holds b is) (one_back holds bytes b (hs ++ out) is e))
+    (λ rest left. run_back holds hs rest out parts.1 left)
+
+-- ---- there and back
+
+utf8_tight : (cs : List ℕ) (place : Place) → scalars cs ≡ true → IsUtf8 (tight_from place (encodes cs))
+utf8_tight [] place are = IsUtf8-nil
+utf8_tight (c ∷ cs) place are = ⊎_elim
+    (λ ascii.
+    subst (λ e. IsUtf8 (tight_from place (e ++ encodes cs))) (sym (encode_ascii c ascii))
+    (put_ascii (added place c) _ (added_ascii place c ascii) (utf8_tight cs (place_after place c) parts.1)))
+    (λ above. go (λ p. utf8_tight cs p parts.1) (encode c) (high_bytes c parts.0 above) (IsUtf8-encode c parts.0))
+    (cases_lt c 128)
+  where
+    parts : (scalar c ≡ true) × (scalars cs ≡ true)
+    parts = and_parts (scalar c) (scalars cs) are
+
+    go : ((p : Place) → IsUtf8 (tight_from p (encodes cs))) → (bytes : List ℕ) → AreHigh bytes → IsUtf8 bytes
+        → IsUtf8 (tight_from place (bytes ++ encodes cs))
+    go others [] all utf8 = others place
+    go others (b ∷ hs) all utf8 =
+        let tests = and_parts (nat_le 128 b && nat_lt b 248) _ all in
+        let begins = first place b (high_of b tests.0) in
+        let same : tight_from place (b ∷ (hs ++ encodes cs))
+        ≡ begins.before ++ ((b ∷ hs) ++ tight_from (place_after place b) (encodes cs)) =
+        ap (λ a. a ++ tight_from (place_after place b) (hs ++ encodes cs)) begins.adds
+        ∙ (append_assoc begins.before (b ∷ []) _ ∙ ap (λ x. begins.before ++ (b ∷ x)) (run begins.holds hs (encodes cs) tests.1)) in
+        subst IsUtf8 (sym same)
+        (put_ascii begins.before _ begins.ascii (IsUtf8-append (b ∷ hs) _ utf8 (others (place_after place b))))
+
+utf8_back : (fuel : ℕ) (bytes : List ℕ) (place : Place) → length bytes ≤ fuel → IsUtf8 (tight_from place bytes) → IsUtf8 bytes
+utf8_back fuel [] place fits is = IsUtf8-nil
+utf8_back zero (b ∷ bytes) place fits is = absurd (omega arith)
+utf8_back (suc fuel) (b ∷ bytes) place fits is = ⊎_elim
+    (λ ascii.
+    put_ascii (b ∷ []) bytes (ascii, tt)
+    (utf8_back fuel bytes (place_after place b) (omega arith) (drop_ascii (added place b) _ (added_ascii place b ascii) is)))
+    (λ above.
+    let begins = first place b (high b above) in
+    let same : tight_from place (b ∷ bytes) ≡ begins.before ++ (b ∷ tight_from (place_after place b) bytes) =
+    ap (λ a. a ++ tight_from (place_after place b) bytes) begins.adds ∙ append_assoc begins.before (b ∷ []) _ in
+    let left = drop_ascii begins.before (b ∷ tight_from (place_after place b) bytes) begins.ascii (subst IsUtf8 same is) in
+    by_chars (utf8_back fuel) above begins.holds left.0 left.1.0 left.1.1)
+    (cases_lt b 128)
+  where
+    by_chars : ((bytes : List ℕ) (place : Place) → length bytes ≤ fuel → IsUtf8 (tight_from place bytes) → IsUtf8 bytes)
+        → 128 ≤ b → Holds (place_after place b) → (cs : List ℕ) → scalars cs ≡ true
+        → encodes cs ≡ b ∷ tight_from (place_after place b) bytes → IsUtf8 (b ∷ bytes)
+    by_chars others above holds [] are e = absurd (cc)
+    by_chars others above holds (c ∷ cs) are e =
+        let parts = and_parts (scalar c) (scalars cs) are in
+        go (encode c) refl e (high_bytes c parts.0 (⊎_elim (λ ascii. absurd (low ascii e)) (λ above. above) (cases_lt c 128)))
+      where
+        low : c < 128 → encode c ++ encodes cs ≡ b ∷ tight_from (place_after place b) bytes → ⊥
+        low ascii e =
+            let both : c ∷ encodes cs ≡ b ∷ tight_from (place_after place b) bytes = ap (λ x. x ++ encodes cs) (sym (encode_ascii c ascii)) ∙ e in
+            let same : c ≡ b = cc in
+            omega (arith, same, above)
+
+        go : (hs : List ℕ) → encode c ≡ hs → hs ++ encodes cs ≡ b ∷ tight_from (place_after place b) bytes → AreHigh hs → IsUtf8 (b ∷ bytes)
+        go [] is e all = absurd (omega (arith, ap length is, length-encode c, (len_utf8_bounds c).0))
+        go (h ∷ hs) is e all =
+            let parts = and_parts (scalar c) (scalars cs) are in
+            let tests = and_parts (nat_le 128 h && nat_lt h 248) _ all in
+            let same : h ≡ b = cc in
+            let left : tight_from (place_after place b) bytes ≡ hs ++ encodes cs = cc in
+            let there = run_back holds hs bytes (encodes cs) tests.1 left in
+            let utf8 : IsUtf8 there.rest =
+            others there.rest (place_after place b) (omega (arith, ap length there.split, length-append hs there.rest)) (cs, (parts.1, sym there.left)) in
+            let text : encode c ++ there.rest ≡ b ∷ bytes =
+            ap (λ x. x ++ there.rest) is ∙ (ap (λ x. x ∷ (hs ++ there.rest)) same ∙ ap (λ x. b ∷ x) (sym there.split)) in
+            subst IsUtf8 text (IsUtf8-append (encode c) there.rest (IsUtf8-encode c parts.0) utf8)
+
+pub tight_utf8 : (value : List ℕ) → IsUtf8 value ↔ IsUtf8 (tight value)
+tight_utf8 value = (
+  λ is. subst (λ v. IsUtf8 (tight v)) is.1.1 (utf8_tight is.0 Start is.1.0),
+  λ is. utf8_back (length value) value Start (omega arith) is,
+)

@@ -1,0 +1,250 @@
+-- Which beginnings of a value may still become a media type as HTTP writes it: by the library's walk over what is left of them.
+use Rattle.std.proofs.Common.{◌≡◌, ◌∙◌, ◌==◌, refl, sym, ap, subst, arith, ℕ, Bool, true, false, List, [], ◌∷◌, ◌++◌, Option, Some, None}
+use Rattle.std.specs.Prelude.{⊤, IsTrue, IsFalse, MatchOption, if◌then◌else◌}
+use Rattle.std.specs.Option.{option_map}
+use Rattle.std.proofs.lemmas.Bool.{and_parts, cond_both, false≢true}
+use Rattle.std.proofs.lemmas.Bool.Decides.{nat_tests}
+use Rattle.std.proofs.lemmas.List.{append-nil, append_assoc, append_cancel_left}
+use Rattle.std.proofs.lemmas.Option.{none-some, same_Some, option_and_then_some, MatchOption-at_some}
+use Rattle.mime.specs.Bytes.{is_token_byte, is_quoted_byte}
+use Rattle.mime.specs.Grammar.{SyntaxTree, is_space}
+use Rattle.mime.specs.Values.{IsAccepted}
+use Rattle.mime.specs.Faults.{IsViable}
+use Rattle.mime.specs.Inner.Quoted.{takes, continues, awaits_next, awaits_after}
+use Rattle.mime.proofs.GrammarLemmas.Begun.{Closed as ClosedParameters, Begun, in_type, in_subtype, in_list, ListState, in_spaces, in_name, in_value, in_quotes, after_quotes, grow_state, grow_list, list_at, grow, walk, walk_from, tree_of, walk_by-append}
+use Rattle.mime.proofs.GrammarLemmas.Content.{awaits_after-append}
+use Rattle.mime.proofs.GrammarLemmas.Spelling.{by_class}
+use Rattle.mime.proofs.GrammarLemmas.Readings.{walk-accepted}
+use Rattle.mime.proofs.GrammarLemmas.Viability.{accepted-from_complete}
+use Rattle.mime_http.specs.declared.tight.Place.{Place}
+use Rattle.mime_http.specs.declared.tight.Place.TheVariants.{Start, Plain, Spaced, Equals, Quoted, Paired, Closed, Semicolon}
+use Rattle.mime_http.specs.Tight.{place_after, added, tight_from, tight}
+use Rattle.mime_http.specs.HttpMediaType.{IsHttpMediaType}
+use Rattle.mime_http.specs.HttpFaults.{IsHttpViable}
+use Rattle.mime_http.proofs.Places.{place_from, token_is_plain, of_type, goes_on, of_value, of_name, accepted_stays}
+use Rattle.mime_http.proofs.PlacesAgain.{IsSettled, IsLike, itself, left_after_plain, left_after_equals, ends}
+use Rattle.mime_http.proofs.HttpBack.{after_plain_byte, read_is_http}
+use Rattle.mime_http.proofs.HttpLaws.{accepted_from_http}
+
+-- ---- the place at the end of what the library walks
+
+abbrev place_in_list : ListState → Place
+place_in_list (in_spaces n) = Semicolon
+place_in_list (in_name n name) = Plain
+place_in_list (in_value n name []) = Equals
+place_in_list (in_value n name (v ∷ value)) = Plain
+place_in_list (in_quotes n name content) = if awaits_after false content then Paired else Quoted
+place_in_list (after_quotes n name content m) = Closed
+
+abbrev place_at : Begun → Place
+place_at (in_type []) = Start
+place_at (in_type (t ∷ top)) = Plain
+place_at (in_subtype top sub) = Plain
+place_at (in_list top sub list) = place_in_list list.position
+
+-- the place at the end of a begun tree that a byte makes
+abbrev Leads_to : Place → ℕ → Begun → Type 0
+Leads_to place b next = place_after place b ≡ place_at next
+
+-- a byte that a quoted value takes
+taken : (awaiting : Bool) (b : ℕ) → IsTrue (takes awaiting b)
+    → place_after (if awaiting then Paired else Quoted) b ≡ (if awaits_next awaiting b then Paired else Quoted)
+taken true b is = refl
+taken false b is =
+    let parts = and_parts (is_quoted_byte b) _ is in
+    let other : (b == 34) ≡ false = grind (arith, nat_tests) in
+    rw other refl
+
+-- a quote that it doesn't take
+closes : (awaiting : Bool) → IsFalse (takes awaiting 34) → place_after (if awaiting then Paired else Quoted) 34 ≡ Closed
+unfolding is_quoted_byte
+closes true not_taken = absurd (false≢true (sym not_taken))
+closes false not_taken = refl
+
+grown_list : (closed : ClosedParameters) (position : ListState) (b : ℕ)
+    → MatchOption (grow_state closed position b) (Unit {0}) (λ next. place_after (place_in_list position) b ≡ place_in_list next.position)
+grown_list closed (in_spaces n) b =
+    cond_both (is_space b) _ _ (λ o. MatchOption o (Unit {0}) (λ next. place_after Semicolon b ≡ place_in_list next.position))
+    (λ white. rw white refl)
+    (λ other. cond_both (is_token_byte b) _ _ (λ o. MatchOption o (Unit {0}) (λ next. place_after Semicolon b ≡ place_in_list next.position))
+    (λ yes. after_plain_byte of_name b (token_is_plain b yes)) (λ no. tt))
+grown_list closed (in_name n name) b =
+    by_class (λ b next. place_after Plain b ≡ place_in_list next.position) is_token_byte 61 b _ _
+    (λ yes. after_plain_byte goes_on b (token_is_plain b yes)) (λ no. refl)
+grown_list closed (in_value n name []) b =
+    by_class (λ b next. place_after Equals b ≡ place_in_list next.position) is_token_byte 34 b _ _
+    (λ yes. after_plain_byte of_value b (token_is_plain b yes)) (λ no. refl)
+grown_list closed (in_value n name (v ∷ value)) b =
+    by_class (λ b next. place_after Plain b ≡ place_in_list next.position) is_token_byte 59 b _ _
+    (λ yes. after_plain_byte goes_on b (token_is_plain b yes)) (λ no. refl)
+grown_list closed (in_quotes n name content) b =
+    by_class (λ b next. place_after (place_in_list (in_quotes n name content)) b ≡ place_in_list next.position) (continues content) 34 b _ _
+    (λ yes. taken (awaits_after false content) b yes
+    ∙ ap (λ (t : Bool). if t then Paired else Quoted) (sym (awaits_after-append false content (b ∷ []))))
+    (λ no. closes (awaits_after false content) no)
+grown_list closed (after_quotes n name content m) b =
+    by_class (λ b next. place_after Closed b ≡ place_in_list next.position) is_space 59 b _ _ (λ white. rw white refl) (λ no. refl)
+
+mapped : {X Y : Type 0} (f : X → Y) (P : Y → Type 0) (o : Option X) → MatchOption o (Unit {0}) (λ x. P (f x))
+    → MatchOption (option_map f o) (Unit {0}) P
+mapped f P None is = tt
+mapped f P (Some x) is = is
+
+grown : (begun : Begun) (b : ℕ) → MatchOption (grow begun b) (Unit {0}) (Leads_to (place_at begun) b)
+grown (in_type []) b =
+    cond_both (is_token_byte b) _ _ (λ o. MatchOption o (Unit {0}) (Leads_to Start b))
+    (λ yes. after_plain_byte of_type b (token_is_plain b yes)) (λ no. tt)
+grown (in_type (t ∷ top)) b =
+    by_class (Leads_to Plain) is_token_byte 47 b _ _ (λ yes. after_plain_byte goes_on b (token_is_plain b yes)) (λ no. refl)
+grown (in_subtype top []) b =
+    cond_both (is_token_byte b) _ _ (λ o. MatchOption o (Unit {0}) (Leads_to Plain b))
+    (λ yes. after_plain_byte goes_on b (token_is_plain b yes)) (λ no. tt)
+grown (in_subtype top (s ∷ sub)) b =
+    by_class (Leads_to Plain) is_token_byte 59 b _ _ (λ yes. after_plain_byte goes_on b (token_is_plain b yes)) (λ no. refl)
+grown (in_list top sub list) b =
+    mapped (in_list top sub) (Leads_to (place_in_list list.position) b) (grow_list list b) (grown_list list.closed list.position b)
+
+walked : (begun : Begun) (bytes : List ℕ) (last : Begun) → walk_from begun bytes ≡ Some last → place_from (place_at begun) bytes ≡ place_at last
+walked begun [] last e = ap place_at (same_Some begun last e)
+walked begun (b ∷ bytes) last e =
+    option_and_then_some (λ next. walk_from next bytes) (grow begun b) last e
+    (λ next grew goes.
+    ap (λ place. place_from place bytes) (MatchOption-at_some (Unit {0}) (Leads_to (place_at begun) b) next grew (grown begun b))
+    ∙ walked next bytes last goes)
+
+-- ---- after white space that was left out only a semicolon or the end may follow, and only where the value may end
+
+-- the places after which white space is left out
+abbrev LeavesSpaces : Place → Type 0
+LeavesSpaces Plain = ⊤
+LeavesSpaces Equals = ⊤
+LeavesSpaces place = ⊥
+
+not_in_quotes : (awaiting : Bool) → LeavesSpaces (if awaiting then Paired else Quoted) → ⊥
+not_in_quotes true is = is
+not_in_quotes false is = is
+
+no_space_grows : (begun : Begun) → LeavesSpaces (place_at begun) → grow begun 32 ≡ None
+unfolding is_token_byte
+no_space_grows (in_type []) is = absurd is
+no_space_grows (in_type (t ∷ top)) is = refl
+no_space_grows (in_subtype top []) is = refl
+no_space_grows (in_subtype top (s ∷ sub)) is = refl
+no_space_grows (in_list top sub list) is = ap (option_map (in_list top sub)) (at list.closed list.position is)
+  where
+    at : (closed : ClosedParameters) (position : ListState) → LeavesSpaces (place_in_list position) → grow_state closed position 32 ≡ None
+    at closed (in_spaces n) is = absurd is
+    at closed (in_name n name) is = refl
+    at closed (in_value n name []) is = refl
+    at closed (in_value n name (v ∷ value)) is = refl
+    at closed (in_quotes n name content) is = absurd (not_in_quotes (awaits_after false content) is)
+    at closed (after_quotes n name content m) is = absurd is
+
+-- a semicolon goes on only where the tree may end
+abbrev MayEnd : Begun → Type 0
+MayEnd begun = (tree : SyntaxTree) × (tree_of begun ≡ Some tree)
+
+semicolon_grows : (begun : Begun) → LeavesSpaces (place_at begun) → MatchOption (grow begun 59) (Unit {0}) (λ next. MayEnd begun)
+unfolding is_token_byte
+semicolon_grows (in_type []) is = absurd is
+semicolon_grows (in_type (t ∷ top)) is = tt
+semicolon_grows (in_subtype top []) is = tt
+semicolon_grows (in_subtype top (s ∷ sub)) is = (_, refl)
+semicolon_grows (in_list top sub list) is = at list.closed list.position is
+  where
+    at : (closed : ClosedParameters) (position : ListState) → LeavesSpaces (place_in_list position)
+        → MatchOption (grow (in_list top sub (list_at closed position)) 59) (Unit {0}) (λ next. MayEnd (in_list top sub (list_at closed position)))
+    at closed (in_spaces n) is = absurd is
+    at closed (in_name n name) is = tt
+    at closed (in_value n name []) is = tt
+    at closed (in_value n name (v ∷ value)) is = (_, refl)
+    at closed (in_quotes n name content) is = absurd (not_in_quotes (awaits_after false content) is)
+    at closed (after_quotes n name content m) is = absurd is
+
+ends_there : (begun : Begun) → LeavesSpaces (place_at begun) → (bytes : List ℕ) (last : Begun)
+    → walk_from begun (tight_from Spaced bytes) ≡ Some last → MayEnd last → MayEnd begun
+ends_there begun is [] last e may = subst MayEnd (sym (same_Some begun last e)) may
+ends_there begun is (b ∷ bytes) last e may = go (ends_there begun is bytes last) (is_space b) refl (b == 59) refl
+  where
+    go : (walk_from begun (tight_from Spaced bytes) ≡ Some last → MayEnd last → MayEnd begun)
+        → (t : Bool) → is_space b ≡ t → (s : Bool) → (b == 59) ≡ s → MayEnd begun
+    go rest true white s semicolon = rest (rw white at e) may
+    go rest false other true semicolon =
+        let same : b ≡ 59 = grind (arith, nat_tests) in
+        let goes : walk_from begun (59 ∷ tight_from Semicolon bytes) ≡ Some last =
+        subst (λ x. walk_from begun (tight_from Spaced (x ∷ bytes)) ≡ Some last) same e in
+        option_and_then_some (λ next. walk_from next (tight_from Semicolon bytes)) (grow begun 59) last goes
+        (λ next grew left. MatchOption-at_some (Unit {0}) (λ next. MayEnd begun) next grew (semicolon_grows begun is))
+    go rest false other false semicolon =
+        let put_back : added Spaced b ≡ 32 ∷ b ∷ [] = rw (other, semicolon) refl in
+        let goes : walk_from begun (32 ∷ b ∷ tight_from (place_after Spaced b) bytes) ≡ Some last =
+        ap (λ a. walk_from begun (a ++ tight_from (place_after Spaced b) bytes)) (sym put_back) ∙ e in
+        option_and_then_some (λ next. walk_from next (b ∷ tight_from (place_after Spaced b) bytes)) (grow begun 32) last goes
+        (λ next grew left. absurd (none-some next (sym (no_space_grows begun is) ∙ grew)))
+
+-- ---- what is left of a beginning
+
+pub tight-append : (place : Place) (xs ys : List ℕ) → tight_from place (xs ++ ys) ≡ tight_from place xs ++ tight_from (place_from place xs) ys
+tight-append place [] ys = refl
+tight-append place (b ∷ xs) ys =
+    ap (λ x. added place b ++ x) (tight-append (place_after place b) xs ys)
+    ∙ sym (append_assoc (added place b) (tight_from (place_after place b) xs) _)
+
+-- what is of the grammar if it is accepted without its white space
+pub http_from_accepted : (value : List ℕ) → IsAccepted (tight value) → IsHttpMediaType value
+http_from_accepted value is = (is.0, read_is_http value is.0 is.1)
+
+-- the place at the end of what is left of a beginning
+like_settled : {place like : Place} → IsLike place like → IsSettled place → like ≡ place
+like_settled (itself place settled) is = refl
+like_settled left_after_plain is = absurd is
+like_settled left_after_equals is = absurd is
+
+like_spaced : {place like : Place} → IsLike place like → place ≡ Spaced → LeavesSpaces like
+like_spaced (itself place settled) same = absurd (subst IsSettled same settled)
+like_spaced left_after_plain same = tt
+like_spaced left_after_equals same = tt
+
+pub settled_end : (front : List ℕ) → IsSettled (place_from Start front) → place_from Start (tight front) ≡ place_from Start front
+settled_end front settled = let end = ends front in end.leads.there ∙ like_settled end.is_like settled
+
+-- with no white space left out at its end, a beginning goes on as what is left of it
+pub goes_on_as : (front more : List ℕ) → IsSettled (place_from Start front) → IsAccepted (tight front ++ more)
+    → IsHttpMediaType (front ++ more)
+goes_on_as front more settled is =
+    let end = ends front in
+    let written : tight front ++ tight_from end.like more ≡ tight front ++ more =
+    sym (end.leads.tightly more) ∙ accepted_stays (tight front ++ more) is in
+    let same : tight_from (place_from Start front) more ≡ more =
+    ap (λ place. tight_from place more) (sym (like_settled end.is_like settled)) ∙ append_cancel_left (tight front) _ _ written in
+    http_from_accepted (front ++ more)
+    (subst IsAccepted (sym (tight-append Start front more ∙ ap (λ x. tight front ++ x) same)) is)
+
+pub viable_from_tight : (front : List ℕ) → IsSettled (place_from Start front) → IsViable (tight front) → IsHttpViable front
+viable_from_tight front settled viable = (viable.0, goes_on_as front viable.0 settled viable.1)
+
+pub tight_accepted : (front more : List ℕ) → IsHttpMediaType (front ++ more) → IsAccepted (tight front ++ tight_from (place_from Start front) more)
+tight_accepted front more is = subst IsAccepted (tight-append Start front more) (accepted_from_http (front ++ more) is)
+
+pub tight_from_viable : (front : List ℕ) → IsHttpViable front → IsViable (tight front)
+tight_from_viable front viable = (_, tight_accepted front viable.0 viable.1)
+
+-- with some, it must be a media type itself
+pub accepted_from_spaced : (front : List ℕ) → place_from Start front ≡ Spaced → IsHttpViable front → IsAccepted (tight front)
+accepted_from_spaced front spaced viable =
+    let text = tight front ++ tight_from (place_from Start front) viable.0 in
+    let found = walk-accepted text (tight_accepted front viable.0 viable.1) in
+    let end = ends front in
+    option_and_then_some (λ next. walk_from next (tight_from (place_from Start front) viable.0)) (walk (tight front)) found.0
+    (sym (walk_by-append grow (in_type []) (tight front) _) ∙ found.2.0)
+    (λ begun reached goes.
+    let there : place_at begun ≡ end.like = sym (walked (in_type []) (tight front) begun reached) ∙ end.leads.there in
+    let may = ends_there begun (subst LeavesSpaces (sym there) (like_spaced end.is_like spaced)) viable.0 found.0
+    (subst (λ place. walk_from begun (tight_from place viable.0) ≡ Some found.0) spaced goes) (found.1, found.2.1) in
+    accepted-from_complete (tight front) begun may.0 reached may.1)
+
+pub viable_from_accepted : (front : List ℕ) → IsAccepted (tight front) → IsHttpViable front
+viable_from_accepted front is = ([], subst IsHttpMediaType (sym (append-nil front)) (http_from_accepted front is))
+
+pub prefix_of_http_viable : (front more : List ℕ) → IsHttpViable (front ++ more) → IsHttpViable front
+prefix_of_http_viable front more viable = (more ++ viable.0, subst IsHttpMediaType (append_assoc front more viable.0) viable.1)

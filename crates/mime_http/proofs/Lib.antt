@@ -1,0 +1,26 @@
+-- What the proofs of several functions cite.
+pub mod Adds
+pub mod Closest
+pub mod Contents
+pub mod Cuts
+pub mod Demanded
+pub mod First
+pub mod Highest
+pub mod HttpBack
+pub mod HttpFacts
+pub mod HttpFaults
+pub mod HttpForth
+pub mod HttpLaws
+pub mod HttpOneFault
+pub mod HttpText
+pub mod HttpViability
+pub mod Lists
+pub mod NegotiationFacts
+pub mod Order
+pub mod Others
+pub mod Places
+pub mod PlacesAgain
+pub mod Ranks
+pub mod Trims
+pub mod Written
+pub mod WrittenFacts

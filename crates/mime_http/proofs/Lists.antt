@@ -1,0 +1,183 @@
+-- Lists as HTTP writes them are read as their elements, and what is read with nothing bad are such lists.
+use Rattle.std.proofs.Common.{◌≡◌, ◌∙◌, ◌==◌, refl, sym, ap, subst, arith, ℕ, true, false, List, [], ◌∷◌, ◌++◌}
+use Rattle.std.specs.Prelude.{⊤}
+use Rattle.std.proofs.lemmas.Bool.{and_parts}
+use Rattle.std.proofs.lemmas.Bool.Decides.{nat_tests}
+use Rattle.std.proofs.lemmas.List.{append-nil, append_assoc}
+use Rattle.mime.specs.Bytes.{is_token_byte}
+use Rattle.mime.specs.Grammar.{is_space, AreSpaces, AreTokenBytes, IsToken, IsContent, no_byte, text_byte, quoted_pair}
+use Rattle.mime.specs.Values.{MediaType, IsAccepted}
+use Rattle.mime_http.specs.Tight.{tight}
+use Rattle.mime_http.specs.HttpMediaType.{IsHttpParameter, with_token, with_string, AreHttpParameters, no_more, semicolon, semicolon_and, HttpReads, IsHttpMediaType}
+use Rattle.mime_http.specs.HttpList.{AreBetweenCommas, no_line, line_end, comma, trim_start, trim_end, AreSorted, no_text, blank, a_range, a_bad, IsInString, string_end, string_byte, string_pair, opens_string, IsPiece, piece_end, piece_byte, piece_string, BeginsPiece}
+use Rattle.mime_http.specs.ListLaws.{HttpListsAreRead, ReadAreHttpLists, AreSame, OneHeader, BadIsAlone}
+use Rattle.mime_http.proofs.Places.{token_is_plain, text_is_no_mark}
+use Rattle.mime_http.proofs.HttpLaws.{accepted_from_http, one_http_reading}
+use Rattle.mime_http.proofs.Cuts.{only_cut}
+
+-- ---- what HTTP writes has no comma outside strings
+
+before : (b : ℕ) {piece : List ℕ} → (b == 44) ≡ false → (b == 61) ≡ false → IsPiece piece → IsPiece (b ∷ piece)
+before b {piece} other equals is = piece_byte b piece other (none piece) is
+  where
+    none : (piece : List ℕ) → opens_string (b ∷ piece) ≡ false
+    none [] = refl
+    none (c ∷ piece) = rw equals refl
+
+before_token_bytes : (bytes : List ℕ) {piece : List ℕ} → AreTokenBytes bytes → IsPiece piece → IsPiece (bytes ++ piece)
+before_token_bytes [] all is = is
+before_token_bytes (b ∷ bytes) all is =
+    let parts = and_parts (is_token_byte b) _ all in
+    let marks = token_is_plain b parts.0 in
+    before b marks.comma marks.equals (before_token_bytes bytes parts.1 is)
+
+before_token : (bytes : List ℕ) {piece : List ℕ} → IsToken bytes → IsPiece piece → IsPiece (bytes ++ piece)
+before_token [] token is = absurd token
+before_token (b ∷ bytes) token is = before_token_bytes (b ∷ bytes) token is
+
+before_spaces : (bytes : List ℕ) {piece : List ℕ} → AreSpaces bytes → IsPiece piece → IsPiece (bytes ++ piece)
+before_spaces [] all is = is
+before_spaces (b ∷ bytes) all is =
+    let parts = and_parts (is_space b) _ all in
+    before b (no_comma b parts.0) (no_equals b parts.0) (before_spaces bytes parts.1 is)
+  where
+    no_comma : (b : ℕ) → is_space b ≡ true → (b == 44) ≡ false
+    no_comma b is = grind (arith, nat_tests)
+
+    no_equals : (b : ℕ) → is_space b ≡ true → (b == 61) ≡ false
+    no_equals b is = grind (arith, nat_tests)
+
+before_value : (value : List ℕ) {piece : List ℕ} → IsToken value → IsPiece piece → IsPiece (61 ∷ (value ++ piece))
+before_value [] token is = absurd token
+before_value (b ∷ value) token is =
+    let marks = token_is_plain b (and_parts (is_token_byte b) _ token).0 in
+    piece_byte 61 _ refl marks.quote (before_token (b ∷ value) token is)
+
+content_in_string : {content : List ℕ} → IsContent content → IsInString content
+content_in_string no_byte = string_end
+content_in_string (text_byte b content is rest) =
+    let marks = text_is_no_mark b is in string_byte b content marks.1 marks.0 (content_in_string rest)
+content_in_string (quoted_pair b content is rest) = string_pair b content (content_in_string rest)
+
+before_parameter : {text : List ℕ} {pair : List ℕ × List ℕ} {piece : List ℕ} → IsHttpParameter text pair → IsPiece piece
+    → IsPiece (text ++ piece)
+before_parameter {piece = piece} (with_token name value named valued) is =
+    subst IsPiece (sym (append_assoc name (61 ∷ value) piece)) (before_token name named (before_value value valued is))
+before_parameter {piece = piece} (with_string name content named valued) is =
+    subst IsPiece
+    (sym (append_assoc name (61 ∷ 34 ∷ (content ++ (34 ∷ []))) piece
+    ∙ ap (λ x. name ++ (61 ∷ 34 ∷ x)) (append_assoc content (34 ∷ []) piece)))
+    (before_token name named (piece_string content piece (content_in_string valued) is))
+
+before_semicolon : (white after : List ℕ) {piece : List ℕ} → AreSpaces white → AreSpaces after → IsPiece piece
+    → IsPiece (white ++ (59 ∷ (after ++ piece)))
+before_semicolon white after first second is = before_spaces white first (before 59 refl refl (before_spaces after second is))
+
+before_parameters : {text : List ℕ} {pairs : List (List ℕ × List ℕ)} → AreHttpParameters text pairs → (piece : List ℕ) → IsPiece piece
+    → IsPiece (text ++ piece)
+before_parameters no_more piece is = is
+before_parameters (semicolon white after rest pairs first second all) piece is =
+    subst IsPiece (sym (append_assoc white _ piece ∙ ap (λ x. white ++ (59 ∷ x)) (append_assoc after rest piece)))
+    (before_semicolon white after first second (before_parameters all piece is))
+before_parameters (semicolon_and white after parameter rest pair pairs first second one all) piece is =
+    subst IsPiece
+    (sym (append_assoc white _ piece ∙ (ap (λ x. white ++ (59 ∷ x)) (append_assoc after _ piece)
+    ∙ ap (λ x. white ++ (59 ∷ (after ++ x))) (append_assoc parameter rest piece))))
+    (before_semicolon white after first second (before_parameter one (before_parameters all piece is)))
+
+spaces_are_piece : (white : List ℕ) → AreSpaces white → IsPiece white
+spaces_are_piece white all = subst IsPiece (append-nil white) (before_spaces white all piece_end)
+
+http_is_piece : {value : List ℕ} {media : MediaType} → HttpReads value media → IsPiece value
+http_is_piece reads =
+    subst IsPiece reads.spelled
+    (before_spaces reads.before reads.white_before
+    (before_token reads.top reads.is_top (before 47 refl refl
+    (before_token reads.sub reads.is_sub (before_parameters reads.are_parameters reads.after
+    (spaces_are_piece reads.after reads.white_after))))))
+
+begins : (text : List ℕ) → IsPiece text → BeginsPiece text
+begins text is = ([], subst IsPiece (sym (append-nil text)) is)
+
+-- ---- forth
+
+-- texts of which none is bad have no comma outside strings, so they are pieces
+elements_are_pieces : {lines texts : List (List ℕ)} {media : List MediaType} → AreBetweenCommas (λ text. ⊤) (λ text. ⊤) lines texts
+    → AreSorted texts media [] → AreBetweenCommas IsPiece BeginsPiece lines texts
+elements_are_pieces no_line no_text = no_line
+elements_are_pieces (line_end text lines texts any rest) (blank _ _ _ _ white others) =
+    line_end text lines texts (begins text (spaces_are_piece text white)) (elements_are_pieces rest others)
+elements_are_pieces (line_end text lines texts any rest) (a_range _ _ _ _ _ utf8 reads others) =
+    line_end text lines texts (begins text (http_is_piece reads)) (elements_are_pieces rest others)
+elements_are_pieces (comma text line lines texts any rest) (blank _ _ _ _ white others) =
+    comma text line lines texts (spaces_are_piece text white) (elements_are_pieces rest others)
+elements_are_pieces (comma text line lines texts any rest) (a_range _ _ _ _ _ utf8 reads others) =
+    comma text line lines texts (http_is_piece reads) (elements_are_pieces rest others)
+
+pub http_lists_are_read : HttpListsAreRead
+http_lists_are_read lines media lists =
+    record { pieces = lists.texts; cut = elements_are_pieces lists.between lists.elements; sorted = lists.elements }
+
+-- ---- and back
+
+of_any : {lines texts : List (List ℕ)} → AreBetweenCommas IsPiece BeginsPiece lines texts → AreBetweenCommas (λ text. ⊤) (λ text. ⊤) lines texts
+of_any no_line = no_line
+of_any (line_end text lines texts begins rest) = line_end text lines texts tt (of_any rest)
+of_any (comma text line lines texts is rest) = comma text line lines texts tt (of_any rest)
+
+pub read_are_http_lists : ReadAreHttpLists
+read_are_http_lists lines header is none = record {
+  texts = is.pieces;
+  between = of_any is.cut;
+  elements = subst (AreSorted is.pieces header.ranges) none is.sorted;
+}
+
+-- ---- white space
+
+start_space : (b : ℕ) (bytes : List ℕ) → is_space b ≡ true → tight (b ∷ bytes) ≡ tight bytes
+start_space b bytes is = rw is refl
+
+tight_from_blank : (piece : List ℕ) → AreSpaces piece → tight piece ≡ []
+tight_from_blank [] all = refl
+tight_from_blank (b ∷ piece) all =
+    let parts = and_parts (is_space b) _ all in start_space b piece parts.0 ∙ tight_from_blank piece parts.1
+
+-- ---- pieces are sorted in one way
+
+nothing_is_no_value : ¬ (IsAccepted [])
+nothing_is_no_value is = go is.1.tree.top _ is.1.well_formed.0 is.1.spelled
+  where
+    go : (top rest : List ℕ) → IsToken top → top ++ rest ≡ [] → ⊥
+    go [] rest token e = absurd token
+    go (b ∷ top) rest token e = absurd (cc)
+
+http_is_not_blank : {piece : List ℕ} → AreSpaces piece → ¬ (IsHttpMediaType piece)
+http_is_not_blank {piece} white is =
+    nothing_is_no_value (subst IsAccepted (tight_from_blank piece white) (accepted_from_http piece is))
+
+one_sorting : {texts : List (List ℕ)} {ranges others : List MediaType} {bad poor : List (List ℕ)} → AreSorted texts ranges bad
+    → AreSorted texts others poor → AreSame ranges others × (bad ≡ poor)
+one_sorting no_text no_text = (tt, refl)
+one_sorting (blank text _ _ _ white rest) (blank _ _ _ _ _ more) = one_sorting rest more
+one_sorting (blank text _ _ _ white rest) (a_range _ media _ _ _ _ reads more) = absurd (http_is_not_blank white (media, reads))
+one_sorting (blank text _ _ _ white rest) (a_bad _ _ _ _ not_blank _ more) = absurd (not_blank white)
+one_sorting (a_range text media _ _ _ utf8 reads rest) (blank _ _ _ _ white more) = absurd (http_is_not_blank white (media, reads))
+one_sorting (a_range text media _ _ _ utf8 reads rest) (a_range _ other _ _ _ _ again more) =
+    let same = one_sorting rest more in ((one_http_reading text media other reads again, same.0), same.1)
+one_sorting (a_range text media _ _ _ utf8 reads rest) (a_bad _ _ _ _ _ isnt more) = absurd (isnt (utf8, (media, reads)))
+one_sorting (a_bad text _ _ _ not_blank isnt rest) (blank _ _ _ _ white more) = absurd (not_blank white)
+one_sorting (a_bad text _ _ _ not_blank isnt rest) (a_range _ media _ _ _ utf8 reads more) = absurd (isnt (utf8, (media, reads)))
+one_sorting (a_bad text _ _ _ not_blank isnt rest) (a_bad _ _ _ _ _ _ more) =
+    let same = one_sorting rest more in (same.0, ap (λ x. trim_end (trim_start text) ∷ x) same.1)
+
+pub one_header : OneHeader
+one_header lines header other first second =
+    let same : first.pieces ≡ second.pieces = only_cut first.cut ∙ sym (only_cut second.cut) in
+    one_sorting (subst (λ pieces. AreSorted pieces header.ranges header.bad) same first.sorted) second.sorted
+
+pub bad_is_alone : BadIsAlone
+bad_is_alone piece line lines header is not_blank isnt rest = record {
+  pieces = piece ∷ rest.pieces;
+  cut = comma piece line lines rest.pieces is rest.cut;
+  sorted = a_bad piece rest.pieces header.ranges header.bad not_blank isnt rest.sorted;
+}

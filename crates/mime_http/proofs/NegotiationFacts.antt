@@ -1,0 +1,170 @@
+-- Worked facts of the pages `HttpList`, `Ranges` and `Weight`: what is true of a text, and what is false.
+use Rattle.std.proofs.Common.{◌≡◌, refl, ap, arith, ℕ, true, List, [], ◌∷◌, length, Option, Some, None, is_some}
+use Rattle.std.specs.Prelude.{codes, unwrap_or}
+use Rattle.mime.specs.Values.{MediaType}
+use Rattle.mime_http.specs.HttpList.{IsPiece, trim_start, trim_end}
+use Rattle.mime_http.specs.Ranges.{closeness, given_weight, best_offer, AreInOrder}
+use Rattle.mime_http.specs.Weight.{thousandths_of}
+use Rattle.mime_http.proofs.Cuts.{cut, cut_of_piece}
+use Rattle.mime_http.proofs.First.{best_is_first}
+
+-- ---- weights (RFC 9110, 12.4.2)
+
+half : thousandths_of (codes "0.5") ≡ 500
+half = refl
+
+one : thousandths_of (codes "1.000") ≡ 1000
+one = refl
+
+least : thousandths_of (codes "0.001") ≡ 1
+least = refl
+
+nothing : thousandths_of (codes "0") ≡ 0
+nothing = refl
+
+-- strings that are no weights
+no_whole : thousandths_of (codes ".2") ≡ 200
+no_whole = refl
+
+too_high : thousandths_of (codes "2") ≡ 1000
+too_high = refl
+
+word : thousandths_of (codes "high") ≡ 0
+word = refl
+
+-- ---- pieces
+
+two_pieces : cut (codes "a/b;p=\"x,y\",c/d") ≡ codes "a/b;p=\"x,y\"" ∷ codes "c/d" ∷ []
+two_pieces = refl
+
+hidden_quote : cut (codes "a/b;p=\"\\\",\",c/d") ≡ codes "a/b;p=\"\\\",\"" ∷ codes "c/d" ∷ []
+hidden_quote = refl
+
+-- a string that isn't closed
+open_string : cut (codes "a/b;p=\"x,c/d") ≡ codes "a/b;p=\"x,c/d" ∷ []
+open_string = refl
+
+-- a quote opens a string only right after an equals sign
+quote_alone : cut (codes "a\"b,c\"d") ≡ codes "a\"b" ∷ codes "c\"d" ∷ []
+quote_alone = refl
+
+comma_outside : ¬ (IsPiece (codes "a/b,c/d"))
+comma_outside is = absurd (omega (arith, ap length (cut_of_piece is)))
+
+trimmed : trim_end (trim_start (codes " \t x y ")) ≡ codes "x y"
+trimmed = refl
+
+-- ---- ranges and offers
+
+abbrev of : List ℕ → ℕ → List (List ℕ × List ℕ) → MediaType
+of essence slash pairs = record { essence = essence; slash = slash; plus = None; pairs = pairs; kept = [] }
+
+abbrev q : List ℕ → List ℕ × List ℕ
+q weight = (codes "q", weight)
+
+abbrev html : List (List ℕ × List ℕ) → MediaType
+html pairs = of (codes "text/html") 4 pairs
+
+abbrev plain : List (List ℕ × List ℕ) → MediaType
+plain pairs = of (codes "text/plain") 4 pairs
+
+abbrev json : MediaType
+json = of (codes "application/json") 11 []
+
+abbrev xml : List (List ℕ × List ℕ) → MediaType
+xml pairs = of (codes "application/xml") 11 pairs
+
+abbrev jpeg : MediaType
+jpeg = of (codes "image/jpeg") 5 []
+
+abbrev any : List (List ℕ × List ℕ) → MediaType
+any pairs = of (codes "*/*") 1 pairs
+
+abbrev text : List (List ℕ × List ℕ) → MediaType
+text pairs = of (codes "text/*") 4 pairs
+
+abbrev level : List ℕ → List ℕ × List ℕ
+level value = (codes "level", value)
+
+-- a range demands each of its parameters, with the same value
+covered : is_some (closeness (html (level (codes "1") ∷ level (codes "2") ∷ [])) (0, html (level (codes "1") ∷ []))) ≡ true
+covered = refl
+
+not_covered : closeness (html []) (0, html (level (codes "1") ∷ [])) ≡ None
+not_covered = refl
+
+other_value : closeness (html (level (codes "1") ∷ [])) (0, html (level (codes "2") ∷ [])) ≡ None
+other_value = refl
+
+other_type : closeness jpeg (0, text []) ≡ None
+other_type = refl
+
+-- RFC 9110's own example (12.5.1): `text/*;q=0.3, text/plain;q=0.7, text/plain;format=flowed, text/plain;format=fixed;q=0.4, */*;q=0.5`
+abbrev flowed : List ℕ × List ℕ
+flowed = (codes "format", codes "flowed")
+
+abbrev fixed : List ℕ × List ℕ
+fixed = (codes "format", codes "fixed")
+
+abbrev example : List MediaType
+example =
+    text (q (codes "0.3") ∷ []) ∷ plain (q (codes "0.7") ∷ []) ∷ plain (flowed ∷ []) ∷ plain (fixed ∷ q (codes "0.4") ∷ [])
+    ∷ any (q (codes "0.5") ∷ []) ∷ []
+
+example_flowed : given_weight example (plain (flowed ∷ [])) ≡ 1000
+example_flowed = refl
+
+example_plain : given_weight example (plain []) ≡ 700
+example_plain = refl
+
+example_html : given_weight example (html []) ≡ 300
+example_html = refl
+
+example_jpeg : given_weight example jpeg ≡ 500
+example_jpeg = refl
+
+example_fixed : given_weight example (plain (fixed ∷ [])) ≡ 400
+example_fixed = refl
+
+-- of two weights the first counts, and of ranges as close the higher
+first_weight : given_weight (html (q (codes "0.2") ∷ q (codes "0.9") ∷ []) ∷ []) (html []) ≡ 200
+first_weight = refl
+
+higher_weight : given_weight (html (q (codes "0.2") ∷ []) ∷ html (q (codes "0.9") ∷ []) ∷ html (q (codes "0.5") ∷ []) ∷ []) (html []) ≡ 900
+higher_weight = refl
+
+rejected : given_weight (any [] ∷ html (q (codes "0") ∷ []) ∷ []) (html []) ≡ 0
+rejected = refl
+
+-- `application/json, text/plain, */*`, as axios sends it: the closer range decides
+axios : best_offer (json ∷ plain [] ∷ any [] ∷ []) (html [] ∷ json ∷ []) ≡ Some 1
+axios = refl
+
+-- `text/html;level=2, text/html`: parameters make it closer
+more_parameters : best_offer (html (level (codes "2") ∷ []) ∷ html [] ∷ []) (html [] ∷ html (level (codes "2") ∷ []) ∷ []) ≡ Some 1
+more_parameters = refl
+
+-- `text/plain, */*;q=0.1, text/html`: of ranges as close the earlier decides
+earlier : best_offer (plain [] ∷ any (q (codes "0.1") ∷ []) ∷ html [] ∷ []) (html [] ∷ plain [] ∷ []) ≡ Some 1
+earlier = refl
+
+-- `text/plain, application/xml;q=1, text/plain`: of the same range twice the later counts
+twice : best_offer (plain [] ∷ xml (q (codes "1") ∷ []) ∷ plain [] ∷ []) (xml [] ∷ plain [] ∷ []) ≡ Some 0
+twice = refl
+
+-- alike in all, the first offered is the best
+first_offered : best_offer (any [] ∷ []) (html [] ∷ json ∷ []) ≡ Some 0
+first_offered = refl
+
+none_acceptable : best_offer (json ∷ html (q (codes "0") ∷ []) ∷ []) (html [] ∷ jpeg ∷ []) ≡ None
+none_acceptable = refl
+
+no_offer : best_offer (any [] ∷ []) [] ≡ None
+no_offer = refl
+
+-- no order begins with another than the best
+not_in_order : ¬ (AreInOrder (json ∷ any [] ∷ []) (html [] ∷ json ∷ []) (0 ∷ 1 ∷ []))
+not_in_order are =
+    let same : 1 ≡ 0 =
+    ap (λ (best : Option ℕ). unwrap_or best 0) (best_is_first (json ∷ any [] ∷ []) (html [] ∷ json ∷ []) (0 ∷ 1 ∷ []) are) in
+    absurd (omega (arith, same))

@@ -1,0 +1,182 @@
+-- What is read from a place on: an accepted text is written as it is.
+use Rattle.std.proofs.Common.{◌≡◌, ◌∙◌, ◌==◌, refl, sym, ap, subst, arith, ℕ, true, false, List, [], ◌∷◌, ◌++◌}
+use Rattle.std.proofs.lemmas.Bool.{and_parts}
+use Rattle.std.proofs.lemmas.Bool.Decides.{nat_tests}
+use Rattle.std.proofs.lemmas.List.{append-nil, append_assoc}
+use Rattle.mime.specs.Bytes.{is_token_byte, is_quoted_byte, is_quoted_text_byte}
+use Rattle.mime.specs.Grammar.{Parameter, plain, quoted, Parameters, blank, final, more, Tail, no_list, listed, SyntaxTree, is_space, AreSpaces, text_of_parameter, text_of_list, text_of_tail, text_of, AreTokenBytes, IsToken, IsContent, no_byte, text_byte, quoted_pair, IsParameter, AreParameters, IsTail, IsWellFormed}
+use Rattle.mime.specs.Values.{MediaType, Reads, IsAccepted}
+use Rattle.mime_http.specs.declared.tight.Place.{Place}
+use Rattle.mime_http.specs.declared.tight.Place.TheVariants.{Start, Plain, Equals, Quoted, Paired, Closed, Semicolon}
+use Rattle.mime_http.specs.Tight.{place_after, added, tight_from, tight}
+
+-- the place after bytes
+abbrev pub place_from : Place → List ℕ → Place
+place_from place [] = place
+place_from place (b ∷ bytes) = place_from (place_after place b) bytes
+
+pub place_from-append : (place : Place) (xs ys : List ℕ) → place_from place (xs ++ ys) ≡ place_from (place_from place xs) ys
+place_from-append place [] ys = refl
+place_from-append place (b ∷ xs) ys = place_from-append (place_after place b) xs ys
+
+-- from a place on, bytes are written as these and lead to that place
+pub record Leads (from : Place) (bytes out : List ℕ) (to : Place) : Type 0 where
+  pub there : place_from from bytes ≡ to
+  pub tightly : (rest : List ℕ) → tight_from from (bytes ++ rest) ≡ out ++ tight_from to rest
+
+pub no_bytes : (place : Place) → Leads place [] [] place
+no_bytes place = record { there = refl; tightly = λ rest. refl }
+
+pub one : (place : Place) (b : ℕ) → Leads place (b ∷ []) (added place b) (place_after place b)
+one place b = record { there = refl; tightly = λ rest. refl }
+
+pub both : {p q r : Place} {xs ys out add : List ℕ} → Leads p xs out q → Leads q ys add r
+    → Leads p (xs ++ ys) (out ++ add) r
+both {p} {q} {r} {xs} {ys} {out} {add} first second = record {
+  there = place_from-append p xs ys ∙ (ap (λ place. place_from place ys) first.there ∙ second.there);
+  tightly = λ rest. ap (tight_from p) (append_assoc xs ys rest) ∙ (first.tightly (ys ++ rest)
+      ∙ (ap (λ x. out ++ x) (second.tightly rest) ∙ sym (append_assoc out add (tight_from r rest))));
+}
+
+-- the same, said of other bytes and another place
+pub so : {p q r : Place} {xs out add : List ℕ} → Leads p xs out q → out ≡ add → q ≡ r → Leads p xs add r
+so {p} {q} {r} {xs} {out} {add} leads same there =
+    subst (λ place. Leads p xs add place) there (subst (λ o. Leads p xs o q) same leads)
+
+-- a byte with no role
+pub record IsPlainByte (b : ℕ) : Type 0 where
+  pub space : is_space b ≡ false
+  pub semicolon : (b == 59) ≡ false
+  pub equals : (b == 61) ≡ false
+  pub quote : (b == 34) ≡ false
+  pub comma : (b == 44) ≡ false
+
+pub token_is_plain : (b : ℕ) → is_token_byte b ≡ true → IsPlainByte b
+unfolding is_token_byte
+token_is_plain b is = record {
+  space = grind (arith, nat_tests);
+  semicolon = grind (arith, nat_tests);
+  equals = grind (arith, nat_tests);
+  quote = grind (arith, nat_tests);
+  comma = grind (arith, nat_tests);
+}
+
+-- places at which a token may be
+pub data TakesToken : Place → Type 0 where
+  of_type : TakesToken Start
+  goes_on : TakesToken Plain
+  of_value : TakesToken Equals
+  of_name : TakesToken Semicolon
+
+plain_byte : {place : Place} → TakesToken place → (b : ℕ) → IsPlainByte b → Leads place (b ∷ []) (b ∷ []) Plain
+plain_byte of_type b is = so (one Start b) (rw is.space refl) (rw (is.space, is.semicolon, is.equals, is.quote) refl)
+plain_byte goes_on b is = so (one Plain b) (rw is.space refl) (rw (is.space, is.semicolon, is.equals, is.quote) refl)
+plain_byte of_value b is = so (one Equals b) (rw is.space refl) (rw (is.space, is.semicolon, is.equals, is.quote) refl)
+plain_byte of_name b is = so (one Semicolon b) (rw is.semicolon refl) (rw (is.space, is.semicolon, is.equals, is.quote) refl)
+
+walk_token : (bytes : List ℕ) → AreTokenBytes bytes → Leads Plain bytes bytes Plain
+walk_token [] all = no_bytes Plain
+walk_token (b ∷ bytes) all =
+    let parts = and_parts (is_token_byte b) _ all in
+    both (plain_byte goes_on b (token_is_plain b parts.0)) (walk_token bytes parts.1)
+
+pub token : {place : Place} → TakesToken place → (bytes : List ℕ) → IsToken bytes → Leads place bytes bytes Plain
+token takes [] is = absurd is
+token takes (b ∷ bytes) is =
+    let parts = and_parts (is_token_byte b) _ is in
+    both (plain_byte takes b (token_is_plain b parts.0)) (walk_token bytes parts.1)
+
+-- places after which white space stays
+pub data KeepsSpace : Place → Type 0 where
+  after_value : KeepsSpace Closed
+  before_name : KeepsSpace Semicolon
+
+no_comma : (b : ℕ) → is_space b ≡ true → (b == 44) ≡ false
+no_comma b is = grind (arith, nat_tests)
+
+space_is_no_semicolon : (b : ℕ) → is_space b ≡ true → (b == 59) ≡ false
+space_is_no_semicolon b is = grind (arith, nat_tests)
+
+space : {place : Place} → KeepsSpace place → (b : ℕ) → is_space b ≡ true → Leads place (b ∷ []) (b ∷ []) place
+space after_value b is = so (one Closed b) refl (rw is refl)
+space before_name b is = so (one Semicolon b) (rw (space_is_no_semicolon b is) refl) (rw is refl)
+
+pub walk_spaces : {place : Place} → KeepsSpace place → (bytes : List ℕ) → AreSpaces bytes → Leads place bytes bytes place
+walk_spaces {place} kept [] all = no_bytes place
+walk_spaces kept (b ∷ bytes) all =
+    let parts = and_parts (is_space b) _ all in
+    both (space kept b parts.0) (walk_spaces kept bytes parts.1)
+
+pub text_is_no_mark : (b : ℕ) → is_quoted_text_byte b ≡ true → ((b == 92) ≡ false) × ((b == 34) ≡ false)
+unfolding is_quoted_byte
+text_is_no_mark b is = (grind (arith, nat_tests), grind (arith, nat_tests))
+
+pub quoted_content : {bytes : List ℕ} → IsContent bytes → Leads Quoted bytes bytes Quoted
+quoted_content no_byte = no_bytes Quoted
+quoted_content (text_byte b content is rest) =
+    let tests = text_is_no_mark b is in
+    both (so (one Quoted b) refl (rw (tests.0, tests.1) refl)) (quoted_content rest)
+quoted_content (quoted_pair b content is rest) = both (one Quoted 92) (both (one Paired b) (quoted_content rest))
+
+-- places after a parameter, and at the end of an accepted text
+data EndsParameter : Place → Type 0 where
+  in_token : EndsParameter Plain
+  in_quotes : EndsParameter Closed
+
+data EndsText : Place → Type 0 where
+  in_value : {place : Place} → EndsParameter place → EndsText place
+  in_list : EndsText Semicolon
+
+semicolon : {place : Place} → EndsParameter place → Leads place (59 ∷ []) (59 ∷ []) Semicolon
+semicolon in_token = one Plain 59
+semicolon in_quotes = one Closed 59
+
+-- what is written as it is, from a place on, and ends in one of these
+record Walk (Ends : Place → Type 0) (from : Place) (text : List ℕ) : Type 0 where
+  to : Place
+  leads : Leads from text text to
+  ends : Ends to
+
+parameter : (it : Parameter) → IsParameter it → Walk EndsParameter Semicolon (text_of_parameter it)
+parameter (plain name value) is =
+    record { to = Plain; leads = both (token of_name name is.0) (both (one Plain 61) (token of_value value is.1)); ends = in_token }
+parameter (quoted name content n) is = record {
+  to = Closed;
+  leads = both (token of_name name is.0) (both (one Plain 61) (both (one Equals 34)
+      (both (quoted_content is.1) (both (one Quoted 34) (walk_spaces after_value n is.2)))));
+  ends = in_quotes;
+}
+
+list_walk : (list : Parameters) → AreParameters list → Walk EndsText Semicolon (text_of_list list)
+list_walk (blank n) is = record { to = Semicolon; leads = walk_spaces before_name n is; ends = in_list }
+list_walk (final n it) is =
+    let read = parameter it is.1 in
+    record { to = read.to; leads = both (walk_spaces before_name n is.0) read.leads; ends = in_value read.ends }
+list_walk (more n it list) is =
+    let read = parameter it is.1 in
+    let rest = list_walk list is.2 in
+    record { to = rest.to; leads = both (walk_spaces before_name n is.0) (both read.leads (both (semicolon read.ends) rest.leads)); ends = rest.ends }
+
+tail : (it : Tail) → IsTail it → Walk EndsText Plain (text_of_tail it)
+tail no_list is = record { to = Plain; leads = no_bytes Plain; ends = in_value in_token }
+tail (listed list) is =
+    let rest = list_walk list is in
+    record { to = rest.to; leads = both (one Plain 59) rest.leads; ends = rest.ends }
+
+tree : (it : SyntaxTree) → IsWellFormed it → Walk EndsText Start (text_of it)
+tree it is =
+    let rest = tail it.tail is.2 in
+    record {
+      to = rest.to;
+      leads = both (token of_type it.top is.0) (both (one Plain 47) (both (token goes_on it.sub is.1) rest.leads));
+      ends = rest.ends;
+    }
+
+-- an accepted text is written as it is, and ends outside quotes
+walk_text : {text : List ℕ} {value : MediaType} → Reads text value → Walk EndsText Start text
+walk_text reads = subst (λ text. Walk EndsText Start text) reads.spelled (tree reads.tree reads.well_formed)
+
+pub accepted_stays : (text : List ℕ) → IsAccepted text → tight text ≡ text
+accepted_stays text is =
+    let walk : Walk EndsText Start text = walk_text is.1 in
+    ap tight (sym (append-nil text)) ∙ (walk.leads.tightly [] ∙ append-nil text)

@@ -1,0 +1,165 @@
+-- What was written from a place on is written again.
+use Rattle.std.proofs.Common.{◌≡◌, ◌==◌, refl, sym, subst, arith, ℕ, Bool, true, false, List, [], ◌∷◌, ◌++◌}
+use Rattle.std.specs.Prelude.{⊤, if◌then◌else◌}
+use Rattle.std.proofs.lemmas.Bool.Decides.{nat_tests}
+use Rattle.std.proofs.lemmas.List.{append-nil, append_assoc}
+use Rattle.mime.specs.Grammar.{is_space}
+use Rattle.mime_http.specs.declared.tight.Place.{Place}
+use Rattle.mime_http.specs.declared.tight.Place.TheVariants.{Start, Plain, Spaced, Equals, Quoted, Paired, Closed, Semicolon}
+use Rattle.mime_http.specs.Tight.{after_quote, after_outside, after_within, place_after, added, tight_from, tight}
+use Rattle.mime_http.proofs.Places.{place_from, Leads, both, one, so, no_bytes, KeepsSpace, after_value, before_name}
+
+-- a place after which no white space was left out
+abbrev pub IsSettled : Place → Type 0
+IsSettled Spaced = ⊥
+IsSettled place = ⊤
+
+-- the place at which what was written so far ends: the same, or that before the white space that was left out
+pub data IsLike : Place → Place → Type 0 where
+  itself : (place : Place) → IsSettled place → IsLike place place
+  left_after_plain : IsLike Spaced Plain
+  left_after_equals : IsLike Spaced Equals
+
+after_quote_settled : (place : Place) → IsSettled (after_quote place)
+after_quote_settled Start = tt
+after_quote_settled Plain = tt
+after_quote_settled Spaced = tt
+after_quote_settled Equals = tt
+after_quote_settled Quoted = tt
+after_quote_settled Paired = tt
+after_quote_settled Closed = tt
+after_quote_settled Semicolon = tt
+
+-- a byte other than white space leads to a settled place
+pub outside_settled : (place : Place) (b : ℕ) → is_space b ≡ false → IsSettled (after_outside place b)
+outside_settled place b is = rw is (go (b == 59) (b == 61) (b == 34))
+  where
+    go : (s e q : Bool) → IsSettled (if s then Semicolon else if e then Equals else if q then after_quote place else Plain)
+    go true e q = tt
+    go false true q = tt
+    go false false true = after_quote_settled place
+    go false false false = tt
+
+pub within_settled : (b : ℕ) → IsSettled (after_within b)
+within_settled b = go (b == 92) (b == 34)
+  where
+    go : (s q : Bool) → IsSettled (if s then Paired else if q then Closed else Quoted)
+    go true q = tt
+    go false true = tt
+    go false false = tt
+
+-- what a byte writes is written again from a like place, and leads to one
+record Again (place : Place) (b : ℕ) (like : Place) : Type 0 where
+  to : Place
+  leads : Leads like (added place b) (added place b) to
+  is_like : IsLike (place_after place b) to
+
+written_again : (place : Place) (b : ℕ) → added place b ≡ b ∷ []
+    → IsSettled (place_after place b) → Again place b place
+written_again place b e settled = record {
+  to = place_after place b;
+  leads = subst (λ a. Leads place a a (place_after place b)) (sym e) (so (one place b) e refl);
+  is_like = itself _ settled;
+}
+
+left_out_again : (place like : Place) (b : ℕ) → added place b ≡ [] → IsLike (place_after place b) like
+    → Again place b like
+left_out_again place like b e is =
+    record { to = like; leads = subst (λ a. Leads like a a like) (sym e) (no_bytes like); is_like = is }
+
+pub kept_settled : {place : Place} → KeepsSpace place → (b : ℕ) → IsSettled (place_after place b)
+kept_settled after_value b = go (is_space b) refl
+  where
+    go : (t : Bool) → is_space b ≡ t → IsSettled (place_after Closed b)
+    go true white = rw white tt
+    go false other = outside_settled Closed b other
+kept_settled before_name b = go (is_space b) refl
+  where
+    go : (t : Bool) → is_space b ≡ t → IsSettled (place_after Semicolon b)
+    go true white = rw white tt
+    go false other = outside_settled Semicolon b other
+
+pub no_space : (b : ℕ) → (b == 59) ≡ true → is_space b ≡ false
+no_space b is = grind (arith, nat_tests)
+
+settled_again : (place : Place) → IsSettled place → (b : ℕ) → Again place b place
+settled_again Spaced is b = absurd is
+settled_again Start is b = go (is_space b) refl
+  where
+    go : (t : Bool) → is_space b ≡ t → Again Start b Start
+    go true white = left_out_again Start Start b (rw white refl) (rw white (itself Start tt))
+    go false other = written_again Start b (rw other refl) (outside_settled Start b other)
+settled_again Plain is b = go (is_space b) refl
+  where
+    go : (t : Bool) → is_space b ≡ t → Again Plain b Plain
+    go true white = left_out_again Plain Plain b (rw white refl) (rw white left_after_plain)
+    go false other = written_again Plain b (rw other refl) (outside_settled Plain b other)
+settled_again Equals is b = go (is_space b) refl
+  where
+    go : (t : Bool) → is_space b ≡ t → Again Equals b Equals
+    go true white = left_out_again Equals Equals b (rw white refl) (rw white left_after_equals)
+    go false other = written_again Equals b (rw other refl) (outside_settled Equals b other)
+settled_again Semicolon is b = go (b == 59) refl
+  where
+    go : (t : Bool) → (b == 59) ≡ t → Again Semicolon b Semicolon
+    go true second = left_out_again Semicolon Semicolon b (rw second refl) (rw (no_space b second, second) (itself Semicolon tt))
+    go false other = written_again Semicolon b (rw other refl) (kept_settled before_name b)
+settled_again Closed is b = written_again Closed b refl (kept_settled after_value b)
+settled_again Quoted is b = written_again Quoted b refl (within_settled b)
+settled_again Paired is b = written_again Paired b refl tt
+
+-- the places after which white space is left out
+data LeavesSpace : Place → Type 0 where
+  leaves_plain : LeavesSpace Plain
+  leaves_equals : LeavesSpace Equals
+
+white_held : {like : Place} → LeavesSpace like → Leads like (32 ∷ []) [] Spaced
+white_held leaves_plain = one Plain 32
+white_held leaves_equals = one Equals 32
+
+semicolon_written : {like : Place} → LeavesSpace like → Leads like (59 ∷ []) (59 ∷ []) Semicolon
+semicolon_written leaves_plain = one Plain 59
+semicolon_written leaves_equals = one Equals 59
+
+like_spaced : {like : Place} → LeavesSpace like → IsLike Spaced like
+like_spaced leaves_plain = left_after_plain
+like_spaced leaves_equals = left_after_equals
+
+spaced_again : {like : Place} → LeavesSpace like → (b : ℕ) → Again Spaced b like
+spaced_again {like} leaves b = go (is_space b) refl (b == 59) refl
+  where
+    go : (t : Bool) → is_space b ≡ t → (s : Bool) → (b == 59) ≡ s → Again Spaced b like
+    go true white s is = left_out_again Spaced like b (rw white refl) (rw white (like_spaced leaves))
+    go false other true is =
+        let same : b ≡ 59 = grind (arith, nat_tests) in
+        subst (λ x. Again Spaced x like) (sym same)
+        record { to = Semicolon; leads = semicolon_written leaves; is_like = itself Semicolon tt }
+    go false other false is =
+        let e : added Spaced b ≡ 32 ∷ b ∷ [] = rw (other, is) refl in
+        record {
+          to = place_after Spaced b;
+          leads = subst (λ a. Leads like a a (place_after Spaced b)) (sym e) (so (both (white_held leaves) (one Spaced b)) e refl);
+          is_like = itself _ (outside_settled Spaced b other);
+        }
+
+again : {place like : Place} → IsLike place like → (b : ℕ) → Again place b like
+again (itself place settled) b = settled_again place settled b
+again left_after_plain b = spaced_again leaves_plain b
+again left_after_equals b = spaced_again leaves_equals b
+
+-- what was written of bytes up to a place ends at a like place, and is written again
+pub record Ends (place : Place) (text : List ℕ) : Type 0 where
+  pub like : Place
+  pub leads : Leads Start text text like
+  pub is_like : IsLike place like
+
+ends_from : (bytes : List ℕ) (place like : Place) (out : List ℕ) → Leads Start out out like → IsLike place like
+    → Ends (place_from place bytes) (out ++ tight_from place bytes)
+ends_from [] place like out leads is = subst (Ends place) (sym (append-nil out)) (record { like = like; leads = leads; is_like = is })
+ends_from (b ∷ bytes) place like out leads is =
+    let step : Again place b like = again is b in
+    subst (Ends (place_from (place_after place b) bytes)) (append_assoc out (added place b) (tight_from (place_after place b) bytes))
+    (ends_from bytes (place_after place b) step.to (out ++ added place b) (both leads step.leads) step.is_like)
+
+pub ends : (value : List ℕ) → Ends (place_from Start value) (tight value)
+ends value = ends_from value Start Start [] (no_bytes Start) (itself Start tt)

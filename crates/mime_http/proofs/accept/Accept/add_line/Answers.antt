@@ -1,0 +1,61 @@
+-- A comma outside strings ends a piece, and any other byte goes on with it.
+use Rattle.std.proofs.Common.{arith, ◌≡◌, ◌∙◌, ◌≤◌, ◌-◌, ◌+◌, take, drop, length, sym, subst, refl, ℕ, List, [], ◌∷◌, Ok, Err}
+use Rattle.std.specs.Prelude.{Result, OnOk}
+use Rattle.std.proofs.lemmas.List.{append-nil}
+use Rattle.std.proofs.Math.ListN.{drop_of_length-le}
+use Rattle.mime_http.specs.declared.list.At.TheVariants.{Outside}
+use Rattle.mime_http.specs.HttpList.{Header}
+use Rattle.mime_http.specs.Walk.{Adds, AddsLines}
+use Rattle.mime_http.proofs.Adds.{SoFar, none_so_far, some_more, all_added, lines_added}
+use Rattle.mime_http.proofs.Cuts.{cut_from, cut, cut_ends, cut_goes_on}
+use Rattle.mime_http.proofs.accept.Accept.add_line.Goals as goal
+use Rattle.mime_http.proofs.accept.Accept.add_line.Goals.{then-ends+in_ok-add, else-ends}
+
+nothing_taken : (n : ℕ) (bytes : List ℕ) → n ≡ 0 → take n bytes ≡ []
+nothing_taken n bytes none = rw none refl
+
+pub loop-at-init : goal.loop-at-init
+loop-at-init c = (omega arith, none_so_far (cut c.args.line.now) c.args.self.now)
+
+pub loop-at-preserved : goal.loop-at-preserved
+loop-at-preserved c =
+    let line = c.args.line.now in
+    let at = c.loop-at.at in
+    let start = c.loop-at.start in
+    let place = c.loop-at.place in
+    let So : List (List ℕ) → Header → Type 0 = λ rest now. SoFar (cut line) rest c.args.self.now now in
+    elim c.if-ends.branch [
+      | then-ends+in_ok-add w ↦
+          let left = subst (λ rest. So rest c.loop-at.self) (cut_ends place line start at c.loop-at-test.true (sym c.ends.ensures ∙ w.if-ends.true)) c.loop-at.invariant.1 in
+          let none = nothing_taken (at + 1 - (at + 1)) (drop (at + 1) line) (omega arith) in
+          rw (w.self-is, w.start-is, w.place-is) (
+            omega arith,
+            subst (λ piece. So (cut_from Outside piece (drop (at + 1) line)) w.add.new.self) (sym none) (some_more left w.in_ok-add.ensures),
+          )
+      | else-ends w ↦
+          let step = cut_goes_on place line start at c.loop-at.invariant.0 c.loop-at-test.true (sym c.ends.ensures ∙ w.if-ends.false) in
+          rw (w.self-is, w.start-is, w.place-is) (
+            omega (arith, c.loop-at.invariant.0),
+            subst (λ p. So (cut_from p (take (at + 1 - start) (drop start line)) (drop (at + 1) line)) c.loop-at.self) (sym w.after-place.ensures)
+                (subst (λ rest. So rest c.loop-at.self) step c.loop-at.invariant.1),
+          )
+    ]
+
+when_added : {E X : Type 0} (line : List ℕ) (old now new : Header) (piece : List ℕ) (result : Result X E) → SoFar (cut line) (piece ∷ []) old now
+    → OnOk result (Adds (piece ∷ []) now new) → OnOk result (AddsLines (line ∷ []) old new)
+when_added line old now new piece (Ok x) so_far added =
+    lines_added (line ∷ []) (subst (λ pieces. Adds pieces old new) (sym (append-nil (cut line))) (all_added (some_more so_far added)))
+when_added line old now new piece (Err e) so_far added = added
+
+pub returns : goal.returns
+returns c =
+    let line = c.args.line.now in
+    let at = c.loop-at.at in
+    let start = c.loop-at.start in
+    let past : length line ≤ at = omega arith in
+    let same : at ≡ length line = omega (arith, c.loop-at.auto.at-end, past) in
+    let left : SoFar (cut line) (take (at - start) (drop start line) ∷ []) c.args.self.now c.loop-at.self =
+    subst (λ rest. SoFar (cut line) (cut_from c.loop-at.place (take (at - start) (drop start line)) rest) c.args.self.now c.loop-at.self)
+    (drop_of_length-le line past) c.loop-at.invariant.1 in
+    when_added line c.args.self.now c.loop-at.self c.add-2.new.self _ c.add-2.result
+    (subst (λ n. SoFar (cut line) (take (n - start) (drop start line) ∷ []) c.args.self.now c.loop-at.self) same left) c.add-2.ensures

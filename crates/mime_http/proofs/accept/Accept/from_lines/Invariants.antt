@@ -1,0 +1,12 @@
+-- The lines so far were added.
+use Rattle.std.proofs.Common.{[], map, drop}
+use Rattle.std.specs.Prelude.{flat_map}
+use Rattle.mime_http.specs.HttpList.{lines_or_any}
+use Rattle.mime_http.proofs.Adds.{SoFar}
+use Rattle.mime_http.proofs.Cuts.{cut}
+use Rattle.mime_http.proofs.accept.Accept.from_lines.Given as goal
+
+abbrev pub invariant-loop-line : goal.invariant-loop-line
+invariant-loop-line l =
+    SoFar (flat_map cut (lines_or_any (map (λ line. line.now) l.lines))) (flat_map cut (map (λ line. line.now) (drop l.line-index l.lines)))
+    (record { ranges = []; bad = [] }) l.accept

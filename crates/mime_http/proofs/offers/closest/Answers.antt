@@ -1,0 +1,19 @@
+-- The next range is the first of those that are left.
+use Rattle.std.proofs.Common.{◌∙◌, ◌+◌, ap, sym, drop, map}
+use Rattle.std.specs.Prelude.{fold}
+use Rattle.std.specs.List.{enumerate_from}
+use Rattle.std.specs.Option.{option_cmp}
+use Rattle.std.specs.Ordering.{ord_max}
+use Rattle.mime_http.specs.Ranges.{rank_cmp, closeness}
+use Rattle.mime_http.proofs.Highest.{first_left, mapped_left}
+use Rattle.mime_http.proofs.offers.closest.Goals as goal
+
+pub loop-at-preserved : goal.loop-at-preserved
+loop-at-preserved c =
+    let higher = ord_max (option_cmp rank_cmp) in
+    let close = closeness c.args.offer.now.media in
+    let at = c.loop-at.at in
+    let next = mapped_left (λ range. range.media) c.args.ranges.now at _ (first_left c.args.ranges.now at _ c.loop-at-test.true c.index-ranges-at.is) in
+    ap (λ found. fold higher found (map close (enumerate_from (at + 1) (drop (at + 1) (map (λ range. range.media) c.args.ranges.now)))))
+    (c.max-closest.ensures ∙ ap (higher c.loop-at.closest) c.closeness.ensures)
+    ∙ (sym (ap (λ ranges. fold higher c.loop-at.closest (map close (enumerate_from at ranges))) next) ∙ c.loop-at.invariant)

@@ -1,0 +1,13 @@
+-- The closest so far, and the ranges that are left, give the closest of all.
+use Rattle.std.proofs.Common.{◌≡◌, drop, map}
+use Rattle.std.specs.Prelude.{fold}
+use Rattle.std.specs.List.{enumerate_from}
+use Rattle.std.specs.Option.{option_cmp}
+use Rattle.std.specs.Ordering.{ord_max}
+use Rattle.mime_http.specs.Ranges.{rank_cmp, closeness, closest}
+use Rattle.mime_http.proofs.offers.closest.Given as goal
+
+abbrev pub invariant-loop-at : goal.invariant-loop-at
+invariant-loop-at l =
+    fold (ord_max (option_cmp rank_cmp)) l.closest (map (closeness l.offer.media) (enumerate_from l.at (drop l.at (map (λ range. range.media) l.ranges))))
+    ≡ closest (map (λ range. range.media) l.ranges) l.offer.media

@@ -1,0 +1,28 @@
+-- What is left of an essence is the type exactly if the essence is the type and the end.
+use Rattle.std.proofs.Common.{◌≡◌, ◌∙◌, ◌++◌, List, ℕ, Option, Some, None, bytes_eq, Bor, ap, subst, sym, refl}
+use Rattle.std.specs.Option.{option_eq}
+use Rattle.std.specs.Prelude.{MatchOption}
+use Rattle.std.specs.Str.Pattern.{FindsTextSuffix, StripsSuffix}
+use Rattle.std.proofs.lemmas.Bool.{false_from_ne_true}
+use Rattle.std.proofs.lemmas.Bool.Decides.{same_from_decides}
+use Rattle.std.proofs.lemmas.List.{append_cancel_right}
+use Rattle.std.proofs.lemmas.Slice.Eq.{bytes_eq-Decides}
+use Rattle.mime_http.proofs.range.is_all_of.Goals as goal
+
+-- the test of what is left is the test of the whole
+is_whole : (text end other : List ℕ) (other-borrowed : Bor (List ℕ)) (rest : Option (Bor (List ℕ))) → other-borrowed.now ≡ other
+    → MatchOption rest (FindsTextSuffix end text None) (λ x. StripsSuffix (FindsTextSuffix end) text x.now)
+    → option_eq (λ a b. bytes_eq a.now b.now) rest (Some other-borrowed) ≡ bytes_eq text (other ++ end)
+is_whole text end other b None same none =
+    sym (false_from_ne_true _ (λ is. none other ((bytes_eq-Decides text (other ++ end)).0 is)))
+is_whole text end other b (Some rest) same (n, found, is, long) =
+    let whole : text ≡ rest.now ++ end = subst (λ r. text ≡ r ++ end) (sym is) found.1 in
+    let test = bytes_eq-Decides text (other ++ end) in
+    let part = bytes_eq-Decides rest.now b.now in
+    same_from_decides _ _ part (
+      (λ yes. append_cancel_right _ _ end (sym whole ∙ test.0 yes) ∙ sym same),
+      (λ alike. test.1 (whole ∙ ap (λ r. r ++ end) (alike ∙ same))),
+    )
+
+pub returns : goal.returns
+returns c = c.eq.ensures ∙ is_whole _ _ _ _ _ refl c.strip_suffix.ensures.cases

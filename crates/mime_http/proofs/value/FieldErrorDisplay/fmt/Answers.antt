@@ -1,0 +1,28 @@
+-- The text of the fault follows what is written first.
+use Rattle.std.proofs.Common.{List, ℕ, [], ◌∷◌, ◌++◌, ◌∙◌, sym, ap, subst, refl, codes}
+use Rattle.std.proofs.lemmas.List.Folds.{concat-append}
+use Rattle.std.specs.List.{FoldsTo, concat}
+use Rattle.mime_http.specs.HttpPrinted.{field_error_text}
+use Rattle.mime_http.proofs.value.FieldErrorDisplay.fmt.Goals as goal
+
+-- calls after calls
+joined : {W : Type 0} (took : W → List ℕ → W → Type 0) (w : W) (xs : List (List ℕ)) (v : W) (ys : List (List ℕ)) (u : W)
+    → FoldsTo took w xs v → FoldsTo took v ys u → FoldsTo took w (xs ++ ys) u
+joined took w [] v ys u p q = subst (λ x. FoldsTo took x ys u) (sym p) q
+joined took w (x ∷ xs) v ys u p q = (p.0, p.1, joined took p.0 xs v ys u p.2 q)
+
+pub returns-in_ok-write_str-in-Invalid-clause-styled : goal.returns-in_ok-write_str-in-Invalid-clause-styled
+returns-in_ok-write_str-in-Invalid-clause-styled g c = λ flush ok.
+    let one = c.in_ok-write_str-in-Invalid.ensures.styled flush refl in
+    let two = c.fmt.ensures.styled one.flush ok in
+    record {
+      wrote = record {
+        parts = one.wrote.parts ++ two.wrote.parts;
+        calls = joined g.W.Write.write_str_gives _ one.wrote.parts _ two.wrote.parts _ one.wrote.calls two.wrote.calls;
+        whole =
+            concat-append one.wrote.parts two.wrote.parts ∙ ap (λ t. t ++ concat two.wrote.parts) one.wrote.whole
+            ∙ ap (λ t. codes "mime parse error: " ++ t) two.wrote.whole ∙ ap field_error_text (sym c.in-Invalid.is);
+      };
+      spec = two.spec ∙ one.spec;
+      flush = two.flush;
+    }

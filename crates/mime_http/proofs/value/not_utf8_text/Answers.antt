@@ -1,0 +1,23 @@
+-- The pieces written one by one are the whole text.
+use Rattle.std.proofs.Common.{◌≡◌, List, [], ◌∷◌, ◌++◌, ℕ, sym, ap, ◌∙◌, append-nil, append_assoc}
+use Rattle.std.specs.List.{FoldsTo, concat}
+use Rattle.std.specs.Fmt.{WritesInCalls}
+use Rattle.std.specs.Fmt.InlineText.{inline_text, IsIntact, AppendsIfIntact}
+use Rattle.std.specs.declared.fmt.InlineText.{InlineText}
+use Rattle.mime_http.specs.HttpPrinted.{not_utf8_text as printed}
+use Rattle.mime_http.proofs.value.not_utf8_text.Goals as goal
+
+-- what calls wrote is appended
+appended : {n : ℕ} (text new : InlineText n) (parts : List (List ℕ)) → FoldsTo AppendsIfIntact text parts new → IsIntact text
+    → inline_text new ≡ inline_text text ++ concat parts
+appended text new [] calls intact = ap inline_text (sym calls) ∙ sym (append-nil (inline_text text))
+appended text new (part ∷ parts) (next, takes, calls) intact =
+    let one = takes intact in
+    appended next new parts calls one.0 ∙ ap (λ t. t ++ concat parts) one.1 ∙ append_assoc (inline_text text) part (concat parts)
+
+pub returns : goal.returns
+returns c =
+    let text = c.new-text in
+    let wrote : WritesInCalls AppendsIfIntact text.result (printed c.args.pos) c.write.new.self = c.in_ok-write.ensures.writes in
+    appended text.result c.write.new.self wrote.parts wrote.calls text.ensures.intact
+    ∙ ap (λ t. t ++ concat wrote.parts) text.ensures.text ∙ wrote.whole

@@ -1,0 +1,37 @@
+-- The laws of a header's value: what is read of it after tightening is what HTTP writes, and nothing else.
+use Rattle.std.specs.Prelude.{◌≡◌, ℕ, List, ◌↔◌}
+use Rattle.std.specs.Str.{IsUtf8}
+use Rattle.mime.specs.Values.{MediaType, Reads}
+use Rattle.mime.specs.Comparison.{Same}
+use Rattle.mime.specs.declared.scan.fault.ParseError.{ParseError}
+use Rattle.mime_http.specs.Tight.{tight}
+use Rattle.mime_http.specs.HttpMediaType.{HttpReads, IsHttpMediaType}
+use Rattle.mime_http.specs.HttpFaults.{IsHttpFault}
+
+-- A media type as HTTP writes it, tightened, is read as it; only the kept text may be another.
+abbrev pub HttpIsRead : Type 0
+HttpIsRead =
+    (value : List ℕ) (media : MediaType) → HttpReads value media
+    → (kept : List ℕ) × Reads (tight value) (record media { kept = kept })
+
+-- What is read of a tightened value is what HTTP writes there.
+abbrev pub ReadIsHttp : Type 0
+ReadIsHttp = (value : List ℕ) (media : MediaType) → Reads (tight value) media → HttpReads value media
+
+-- What the library reads is what HTTP writes there.
+abbrev pub PlainIsHttp : Type 0
+PlainIsHttp = (value : List ℕ) (media : MediaType) → Reads value media → HttpReads value media
+
+-- HTTP's grammar spells some values by several trees, but each value is one media type.
+abbrev pub OneHttpReading : Type 0
+OneHttpReading = (value : List ℕ) (first second : MediaType) → HttpReads value first → HttpReads value second → Same first second
+
+-- A value that isn't a media type as HTTP writes it has exactly one fault.
+abbrev pub OneHttpFault : Type 0
+OneHttpFault =
+    (value : List ℕ) → ¬ (IsHttpMediaType value)
+    → (fault : ParseError) × IsHttpFault value fault × ((other : ParseError) → IsHttpFault value other → other ≡ fault)
+
+-- A value is in UTF-8 exactly if it is so tightened.
+abbrev pub TightIsUtf8 : Type 0
+TightIsUtf8 = (value : List ℕ) → IsUtf8 value ↔ IsUtf8 (tight value)

@@ -1,0 +1,43 @@
+-- How a header's value is rejected: which values may still become a media type as HTTP writes it, up to where a value may, and its
+-- one fault. As of a text alone (the library's page `Faults`), with `IsHttpMediaType` for accepted.
+use Rattle.std.specs.Prelude.{◌≡◌, ◌≢◌, ℕ, ◌<◌, ◌≤◌, List, ◌++◌, length, take, slice_get, Some, MatchOption, codes, ⊤}
+use Rattle.std.specs.Str.{IsUtf8, IsValidUpTo}
+use Rattle.mime.specs.Faults.{completion_of, last_byte_of, EndsIn}
+use Rattle.mime.specs.declared.scan.fault.ParseError.{ParseError}
+use Rattle.mime.specs.declared.scan.fault.ParseError.TheVariants.{InvalidToken}
+use Rattle.mime_http.specs.HttpMediaType.{IsHttpMediaType}
+use Rattle.mime_http.specs.declared.value.FieldError.{FieldError}
+use Rattle.mime_http.specs.declared.value.FieldError.TheVariants.{NotUtf8, Invalid, NoMemory}
+
+-- some media type as HTTP writes it begins with these bytes
+abbrev pub IsHttpViable : List ℕ → Type 0
+IsHttpViable prefix = (more : List ℕ) × IsHttpMediaType (prefix ++ more)
+
+-- the longest prefix of the value that is viable has this many bytes
+pub record IsHttpLongestPrefix (value : List ℕ) (count : ℕ) : Type 0 where
+  pub within : count ≤ length value
+  pub viable : IsHttpViable (take count value)
+  pub longest : (n : ℕ) → count < n → n ≤ length value → ¬ (IsHttpViable (take n value))
+
+-- the value lacks what the fault says: with the fault's completion after it, it is a media type as HTTP writes it, and it ends
+-- in the fault's byte, if the fault has one
+abbrev pub HttpLacks : List ℕ → ParseError → Type 0
+HttpLacks value fault =
+    MatchOption (completion_of fault) ⊥ (λ more. IsHttpMediaType (value ++ more))
+    × MatchOption (last_byte_of fault) ⊤ (EndsIn value)
+
+-- the byte just after the longest viable prefix, at position `pos` in bytes from 0, is at fault: nothing after it helps
+pub record IsHttpDeadAt (value : List ℕ) (pos byte : ℕ) : Type 0 where
+  pub prefix : IsHttpLongestPrefix value pos
+  pub there : slice_get value pos ≡ Some byte
+
+-- the fault of a value that is no media type
+abbrev pub IsHttpFault : List ℕ → ParseError → Type 0
+IsHttpFault value (InvalidToken pos byte) = IsHttpDeadAt value pos byte
+IsHttpFault value fault = HttpLacks value fault
+
+-- why reading a value fails: from where on it isn't UTF-8, or by its fault, or out of memory, which never comes for `*/*`
+abbrev pub HttpExplains : List ℕ → FieldError → Type 0
+HttpExplains value (NotUtf8 pos) = ¬ (IsUtf8 value) × IsValidUpTo value pos
+HttpExplains value (Invalid fault) = IsUtf8 value × IsHttpFault value fault
+HttpExplains value NoMemory = IsUtf8 value × (value ≢ codes "*/*")

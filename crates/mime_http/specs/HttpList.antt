@@ -1,0 +1,80 @@
+-- What a header holds whose lines are lists of media types (RFC 9110, 5.6.1.2 and 12.5.1): of a list as HTTP writes it, its elements; and of
+-- any lines at all, the ranges and the bad entries. OWS (5.6.3) is the library's `AreSpaces`.
+use Rattle.std.specs.Prelude.{ℕ, Bool, false, List, [], ◌∷◌, ◌++◌, ◌==◌, ◌&&◌, ⊤, IsFalse, if◌then◌else◌, codes}
+use Rattle.std.specs.List.{list_all}
+use Rattle.std.specs.Str.{IsUtf8}
+use Rattle.mime.specs.Bytes.{comma_byte, equals_byte, quote_byte, backslash_byte}
+use Rattle.mime.specs.Grammar.{is_space, AreSpaces}
+use Rattle.mime.specs.Values.{MediaType}
+use Rattle.mime_http.specs.HttpMediaType.{HttpReads, IsHttpMediaType}
+
+-- the lines of a header that a request has, or else one that accepts everything (12.5.1)
+abbrev pub lines_or_any : List (List ℕ) → List (List ℕ)
+lines_or_any [] = codes "*/*" ∷ []
+lines_or_any (line ∷ lines) = line ∷ lines
+
+-- the texts between commas of lines; each line's last is of the second kind, and the others are of the first
+pub data AreBetweenCommas (Other Last : List ℕ → Type 0) : List (List ℕ) → List (List ℕ) → Type 0 where
+  no_line : AreBetweenCommas Other Last [] []
+  line_end : (text : List ℕ) (lines texts : List (List ℕ)) → Last text → AreBetweenCommas Other Last lines texts
+      → AreBetweenCommas Other Last (text ∷ lines) (text ∷ texts)
+  comma : (text line : List ℕ) (lines texts : List (List ℕ)) → Other text → AreBetweenCommas Other Last (line ∷ lines) texts
+      → AreBetweenCommas Other Last ((text ++ (comma_byte ∷ line)) ∷ lines) (text ∷ texts)
+
+-- bytes without the white space around them
+abbrev pub trim_start : List ℕ → List ℕ
+trim_start [] = []
+trim_start (b ∷ bytes) = if is_space b then trim_start bytes else b ∷ bytes
+
+abbrev pub trim_end : List ℕ → List ℕ
+trim_end [] = []
+trim_end (b ∷ bytes) = if list_all is_space (b ∷ bytes) then [] else b ∷ trim_end bytes
+
+-- what texts are, in their order: white space alone is nothing, OWS media-type OWS in UTF-8 is a range, and any other is bad as a whole
+pub data AreSorted : List (List ℕ) → List MediaType → List (List ℕ) → Type 0 where
+  no_text : AreSorted [] [] []
+  blank : (text : List ℕ) (texts : List (List ℕ)) (ranges : List MediaType) (bad : List (List ℕ)) → AreSpaces text
+      → AreSorted texts ranges bad → AreSorted (text ∷ texts) ranges bad
+  a_range : (text : List ℕ) (range : MediaType) (texts : List (List ℕ)) (ranges : List MediaType) (bad : List (List ℕ)) → IsUtf8 text
+      → HttpReads text range → AreSorted texts ranges bad → AreSorted (text ∷ texts) (range ∷ ranges) bad
+  a_bad : (text : List ℕ) (texts : List (List ℕ)) (ranges : List MediaType) (bad : List (List ℕ)) → ¬ (AreSpaces text)
+      → ¬ (IsUtf8 text × IsHttpMediaType text) → AreSorted texts ranges bad → AreSorted (text ∷ texts) ranges (trim_end (trim_start text) ∷ bad)
+
+-- [ element ] *( OWS "," OWS [ element ] ) on each line, in UTF-8, and the elements, each a media range with its weight
+pub record AreHttpLists (lines : List (List ℕ)) (media : List MediaType) : Type 0 where
+  pub texts : List (List ℕ)
+  pub between : AreBetweenCommas (λ text. ⊤) (λ text. ⊤) lines texts
+  pub elements : AreSorted texts media []
+
+-- what stands between a string's quotes, of any bytes: a backslash hides the byte after it, and no quote is bare
+pub data IsInString : List ℕ → Type 0 where
+  string_end : IsInString []
+  string_byte : (b : ℕ) (content : List ℕ) → IsFalse (b == quote_byte) → IsFalse (b == backslash_byte) → IsInString content
+      → IsInString (b ∷ content)
+  string_pair : (b : ℕ) (content : List ℕ) → IsInString content → IsInString (backslash_byte ∷ b ∷ content)
+
+-- the bytes begin with an equals sign and a quote, which open a string
+abbrev pub opens_string : List ℕ → Bool
+opens_string (b ∷ c ∷ bytes) = b == equals_byte && c == quote_byte
+opens_string bytes = false
+
+-- bytes with no comma outside strings, each of which is closed; and what such bytes begin with, of which a string may be open at the end
+pub data IsPiece : List ℕ → Type 0 where
+  piece_end : IsPiece []
+  piece_byte : (b : ℕ) (piece : List ℕ) → IsFalse (b == comma_byte) → IsFalse (opens_string (b ∷ piece)) → IsPiece piece
+      → IsPiece (b ∷ piece)
+  piece_string : (content piece : List ℕ) → IsInString content → IsPiece piece
+      → IsPiece (equals_byte ∷ quote_byte ∷ (content ++ (quote_byte ∷ piece)))
+
+abbrev pub BeginsPiece : List ℕ → Type 0
+BeginsPiece text = (more : List ℕ) × IsPiece (text ++ more)
+
+-- what is read of a header's lines, which are one list (5.3): each is cut at its commas outside strings, and an open string ends with it
+pub record Header : Type 0 where
+  pub ranges : List MediaType
+  pub bad : List (List ℕ)
+
+pub record IsHeader (lines : List (List ℕ)) (header : Header) : Type 0 where
+  pub pieces : List (List ℕ)
+  pub cut : AreBetweenCommas IsPiece BeginsPiece (lines_or_any lines) pieces
+  pub sorted : AreSorted pieces header.ranges header.bad

@@ -1,0 +1,17 @@
+-- the trusted pages, in reading order
+pub mod HttpMediaType
+pub mod HttpFaults
+pub mod HttpPrinted
+pub mod HttpList
+pub mod Weight
+pub mod Ranges
+pub mod Boundary
+pub mod Unescaped
+pub mod Written
+pub mod HeaderLaws
+pub mod ListLaws
+pub mod RangesLaws
+-- private
+pub mod Tight
+pub mod Reached
+pub mod Walk

@@ -1,0 +1,80 @@
+-- What the ranges of an `Accept` header give a media type, and which offer is the best (RFC 9110, 12.4.2 and 12.5.1).
+use Rattle.std.specs.Prelude.{◌≡◌, ◌⊎◌, ◌↔◌, ◌<◌, ℕ, ◌-◌, Bool, List, ◌++◌, length, Option, Some, None, IsTrue, Contains, option_map, unwrap_or, map, filter, find, fold, position, slice_index_or, not, if◌then◌else◌, ◌==◌, codes}
+use Rattle.std.specs.List.{list_all, enumerate_from, AllPairs}
+use Rattle.std.specs.Option.{option_eq, option_cmp}
+use Rattle.std.specs.Ordering.{is_gt, nat_cmp, on, then_cmp, eq_by_cmp, ord_max}
+use Rattle.std.specs.Str.{bytes_eq}
+use Rattle.std.specs.declared.cmp.Ordering.{Ordering}
+use Rattle.mime.specs.Values.{MediaType, type_of}
+use Rattle.mime_http.specs.Weight.{thousandths_of}
+
+-- the first value under a name, if there is one
+abbrev pub first_value : List ℕ → List (List ℕ × List ℕ) → Option (List ℕ)
+first_value name pairs = option_map (λ pair. pair.1) (find (λ pair. bytes_eq pair.0 name) pairs)
+
+-- a range's weight in thousandths: that of its first `q`, and 1000 without one (12.4.2)
+abbrev pub weight_of : MediaType → ℕ
+weight_of range = unwrap_or (option_map thousandths_of (first_value (codes "q") range.pairs)) 1000
+
+-- how many parts of an offer's essence a range names, if it covers that: `*/*` none, `text/*` the type, `text/html` both
+abbrev pub named_parts : MediaType → MediaType → Option ℕ
+named_parts range offer =
+    if bytes_eq range.essence (codes "*/*") then Some 0 else
+    if bytes_eq range.essence (type_of offer ++ codes "/*") then Some 1 else
+    if bytes_eq range.essence offer.essence then Some 2 else None
+
+-- a range's parameters other than its weight, which an offer must have, with the same values
+abbrev pub demanded : List (List ℕ × List ℕ) → List (List ℕ × List ℕ)
+demanded pairs = filter (λ pair. not (bytes_eq pair.0 (codes "q"))) pairs
+
+abbrev pub has : MediaType → List ℕ × List ℕ → Bool
+has offer pair = option_eq bytes_eq (first_value pair.0 offer.pairs) (Some pair.1)
+
+-- numbers of four places, of which the first that differ decide
+abbrev pub Rank : Type 0
+Rank = ℕ × ℕ × ℕ × ℕ
+
+abbrev pub rank_cmp : Rank → Rank → Ordering
+rank_cmp =
+    then_cmp (then_cmp (then_cmp (on (λ rank. rank.0) nat_cmp) (on (λ rank. rank.1) nat_cmp)) (on (λ rank. rank.2) nat_cmp))
+    (on (λ rank. rank.3) nat_cmp)
+
+-- how closely a range at a position covers an offer, if it does: by the parts that it names, then by the parameters that it demands; of
+-- ranges as close the higher weight counts, and of those the later
+abbrev pub closeness : MediaType → ℕ × MediaType → Option Rank
+closeness offer item =
+    if list_all (has offer) (demanded item.1.pairs)
+    then option_map (λ named. (named, length (demanded item.1.pairs), weight_of item.1, item.0)) (named_parts item.1 offer)
+    else None
+
+abbrev pub closest : List MediaType → MediaType → Option Rank
+closest ranges offer = fold (ord_max (option_cmp rank_cmp)) None (map (closeness offer) (enumerate_from 0 ranges))
+
+-- how an offer ranks: by the weight that the closest range gives it, then by how closely that covers it, then by how early that stands
+abbrev pub merit : List MediaType → MediaType → Rank
+merit ranges offer =
+    unwrap_or (option_map (λ close. (close.2, close.0, close.1, length ranges - close.3)) (closest ranges offer)) (0, 0, 0, 0)
+
+-- the weight that ranges give an offer
+abbrev pub given_weight : List MediaType → MediaType → ℕ
+given_weight ranges offer = (merit ranges offer).0
+
+-- the position of the first offer of the highest rank, if it weighs more than 0
+abbrev pub best_offer : List MediaType → List MediaType → Option ℕ
+best_offer ranges offers =
+    let merits = map (merit ranges) offers in
+    let most = fold (ord_max rank_cmp) (0, 0, 0, 0) merits in
+    if most.0 == 0 then None else position (λ merit. eq_by_cmp rank_cmp merit most) merits
+
+-- an offer comes before another: it ranks higher, or as high and is offered first
+abbrev pub rank_at : List Rank → ℕ → Rank
+rank_at ranks at = slice_index_or ranks at (0, 0, 0, 0)
+
+abbrev pub ComesBefore : List Rank → ℕ → ℕ → Type 0
+ComesBefore ranks at other =
+    IsTrue (is_gt (rank_cmp (rank_at ranks at) (rank_at ranks other))) ⊎ ((rank_at ranks at ≡ rank_at ranks other) × (at < other))
+
+-- the positions of all offers that weigh more than 0, each before those that it comes before
+pub record AreInOrder (ranges offers : List MediaType) (order : List ℕ) : Type 0 where
+  pub best_first : AllPairs (ComesBefore (map (merit ranges) offers)) order
+  pub all : (at : ℕ) → Contains order at ↔ (0 < (rank_at (map (merit ranges) offers) at).0)

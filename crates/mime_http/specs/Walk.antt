@@ -1,0 +1,39 @@
+-- Private: the places of a line at which its cut knows what comes, and what is added to a header.
+use Rattle.std.specs.Prelude.{◌≡◌, ℕ, Bool, false, List, ◌++◌, if◌then◌else◌, ◌==◌}
+use Rattle.mime.specs.Bytes.{comma_byte, equals_byte, quote_byte, backslash_byte}
+use Rattle.mime.specs.Values.{MediaType}
+use Rattle.mime_http.specs.HttpList.{AreBetweenCommas, AreSorted, IsPiece, BeginsPiece, Header}
+use Rattle.mime_http.specs.declared.list.At.{At}
+use Rattle.mime_http.specs.declared.list.At.TheVariants.{Outside, Equals, Quoted, Paired}
+
+-- the place after a byte outside strings
+abbrev pub after_outside : ℕ → At
+after_outside b = if b == equals_byte then Equals else Outside
+
+-- the place after a byte
+abbrev pub after : At → ℕ → At
+after Outside b = after_outside b
+after Equals b = if b == quote_byte then Quoted else after_outside b
+after Quoted b = if b == backslash_byte then Paired else if b == quote_byte then Outside else Quoted
+after Paired b = Quoted
+
+-- whether a byte ends a piece
+abbrev pub ends : At → ℕ → Bool
+ends Outside b = b == comma_byte
+ends Equals b = b == comma_byte
+ends Quoted b = false
+ends Paired b = false
+
+-- a header holds what pieces are after what it held
+pub record Adds (pieces : List (List ℕ)) (old new : Header) : Type 0 where
+  pub ranges : List MediaType
+  pub bad : List (List ℕ)
+  pub sorted : AreSorted pieces ranges bad
+  pub now_ranges : new.ranges ≡ old.ranges ++ ranges
+  pub now_bad : new.bad ≡ old.bad ++ bad
+
+-- and what lines are
+pub record AddsLines (lines : List (List ℕ)) (old new : Header) : Type 0 where
+  pub pieces : List (List ℕ)
+  pub cut : AreBetweenCommas IsPiece BeginsPiece lines pieces
+  pub added : Adds pieces old new

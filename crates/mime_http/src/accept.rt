@@ -1,0 +1,128 @@
+//! An `Accept` header, read once, and what it says of a server's offers.
+
+ghost use Rattle.std.specs.Prelude.{◌≡◌, ◌<◌, [], ◌∷◌, map, length, IfSome, IfOk, OnOk};
+ghost use Rattle.std.specs.Vec.{vec_items};
+ghost use Rattle.mime_http.specs.HttpList.{IsHeader};
+ghost use Rattle.mime_http.specs.Ranges.{given_weight, best_offer, AreInOrder};
+ghost use Rattle.mime_http.specs.Walk.{Adds, AddsLines};
+
+use crate::list::{At, after, ends, read, trim_end, trim_start};
+use crate::offers::{best_of, merit, order_of};
+use mime::Mime;
+use std::alloc::{AllocError, Global};
+use std::marker::Model;
+
+/// What an `Accept` header accepts (RFC 9110, 12.5.1).
+#[derive(Drop)]
+pub struct Accept {
+    ranges: Vec<Mime>,
+    bad: Vec<Vec<u8>>,
+}
+
+impl Model for Accept {
+    ghost use Rattle.std.specs.Prelude.{map};
+    ghost use Rattle.std.specs.Vec.{vec_items};
+    ghost use Rattle.mime_http.specs.HttpList.{Header};
+
+    ghost Value = { Header };
+
+    ghost view = { λ accept. record { ranges = map (λ range. range.media) (vec_items accept.ranges); bad = map vec_items (vec_items accept.bad) } };
+}
+
+impl Accept {
+    /// Adds a piece of a line: white space alone is nothing.
+    fn add(&mut self, alloc: Global, piece: &[u8]) -> Result<(), AllocError>
+        ensures { OnOk result (Adds (piece.now ∷ []) self.old self.new) }
+    {
+        let piece = trim_start(piece);
+        if piece.is_empty() {
+            return Ok(());
+        }
+        match read(alloc, piece)? {
+            Some(range) => self.ranges.push(range)?,
+            None => self.bad.push(trim_end(piece).to_vec(alloc)?)?,
+        }
+        Ok(())
+    }
+
+    /// Adds a line's pieces.
+    fn add_line(&mut self, alloc: Global, line: &[u8]) -> Result<(), AllocError>
+        ensures { OnOk result (AddsLines (line.now ∷ []) self.old self.new) }
+    {
+        let mut start = 0;
+        let mut place = At::Outside;
+        for (at, &byte) in line.iter().enumerate() {
+            if ends(place, byte) {
+                self.add(alloc, &line[start..at])?;
+                start = at + 1;
+                place = At::Outside;
+            } else {
+                place = after(place, byte);
+            }
+        }
+        self.add(alloc, &line[start..])
+    }
+
+    /// The ranges and the bad entries of a header's lines, which are one list (RFC 9110, 5.3). A request without the header, which has no
+    /// line, accepts everything; lines without a range accept nothing.
+    ///
+    /// # Errors
+    /// `AllocError` if memory runs out.
+    pub fn from_lines(alloc: Global, lines: &[&[u8]]) -> Result<Accept, AllocError>
+        ensures { IfOk result (λ accept. IsHeader (map (λ line. line.now) lines.now) accept) }
+    {
+        let mut accept = Accept {
+            ranges: Vec::new(alloc),
+            bad: Vec::new(alloc),
+        };
+        if lines.is_empty() {
+            accept.add(alloc, b"*/*")?;
+        }
+        for line in lines {
+            accept.add_line(alloc, line)?;
+        }
+        Ok(accept)
+    }
+
+    /// The ranges, in the header's order.
+    pub fn ranges(&self) -> &[Mime]
+        ensures { map (λ range. range.media) result.now ≡ self.now.ranges }
+    {
+        &self.ranges
+    }
+
+    /// The entries that are no media ranges, in the header's order, each as it came, without the white space around it.
+    pub fn bad(&self) -> &[Vec<u8>]
+        ensures { map vec_items result.now ≡ self.now.bad }
+    {
+        &self.bad
+    }
+
+    /// The weight of an offer in thousandths: that of the closest range that covers it, of two as close the higher, and 0 without one
+    /// (RFC 9110, 12.5.1).
+    pub fn weight(&self, offer: &Mime) -> u16
+        ensures { result ≡ given_weight self.now.ranges offer.now.media }
+    {
+        merit(&self.ranges, offer).0
+    }
+
+    /// The position of the best of these offers: that of the highest weight, then of the closer range (the parts that it names, then the
+    /// parameters that it demands), then of the range that stands earlier, and then the first offered. It is `None` exactly if each
+    /// weighs 0, so that 406 is the answer (RFC 9110, 15.5.7). It allocates nothing.
+    pub fn best(&self, offers: &[Mime]) -> Option<usize>
+        ensures exact { result ≡ best_offer self.now.ranges (map (λ offer. offer.media) offers.now) }
+        ensures within { IfSome result (λ at. at < length offers.now) }
+    {
+        best_of(&self.ranges, offers)
+    }
+
+    /// The positions of all offers that weigh more than 0, in the order in which `best` takes them.
+    ///
+    /// # Errors
+    /// `AllocError` if memory runs out.
+    pub fn order(&self, alloc: Global, offers: &[Mime]) -> Result<Vec<usize>, AllocError>
+        ensures { IfOk result (λ order. AreInOrder self.now.ranges (map (λ offer. offer.media) offers.now) (vec_items order)) }
+    {
+        order_of(alloc, &self.ranges, offers)
+    }
+}

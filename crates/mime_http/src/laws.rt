@@ -1,0 +1,79 @@
+//! The laws of the definitions, as calls: a caller that calls one can use its law in its own proof.
+
+ghost use Rattle.mime_http.specs.HeaderLaws.{HttpIsRead, ReadIsHttp, PlainIsHttp, OneHttpReading, OneHttpFault, TightIsUtf8};
+ghost use Rattle.mime_http.specs.ListLaws.{OneCut, HttpListsAreRead, ReadAreHttpLists, OneHeader, BadIsAlone};
+ghost use Rattle.mime_http.specs.Written.{WrittenIsMeant};
+ghost use Rattle.mime_http.specs.RangesLaws.{ClosestIsClosest, BestIsFirst};
+
+/// A media type as HTTP writes it is read as it, tightened: `text/html ;; charset=utf-8` as `text/html; charset=utf-8`
+/// (RFC 9110, 8.3.1).
+pub fn http_is_read()
+    ensures { HttpIsRead }
+{}
+
+/// What is read of a tightened value is what HTTP writes: not `a /b`, which stays `a /b` (RFC 9110, 8.3.1).
+pub fn read_is_http()
+    ensures { ReadIsHttp }
+{}
+
+/// What the library `mime` reads is what HTTP writes: `a/b; p=x;`.
+pub fn plain_is_http()
+    ensures { PlainIsHttp }
+{}
+
+/// A value is at most one media type, though several trees spell `a/b; ;p=x`: the second space is after the first semicolon
+/// or before the second.
+pub fn one_http_reading()
+    ensures { OneHttpReading }
+{}
+
+/// A value that is no media type has exactly one fault: that of `   a/b c` is its byte at position 7, counted from 0
+/// (RFC 9110, 8.3.1).
+pub fn one_http_fault()
+    ensures { OneHttpFault }
+{}
+
+/// A value is in UTF-8 exactly if it is so tightened.
+pub fn tight_is_utf8()
+    ensures { TightIsUtf8 }
+{}
+
+/// Lines have exactly one cut into pieces: that of `a/b;p="x,y",c/d` has two.
+pub fn one_cut()
+    ensures { OneCut }
+{}
+
+/// Of lists as HTTP writes them the elements are read, and none is bad: `,a/b ,, c/d;q=0.5` has `a/b` and `c/d;q=0.5` (RFC 9110, 5.6.1.2).
+pub fn http_lists_are_read()
+    ensures { HttpListsAreRead }
+{}
+
+/// Lines of which no entry is bad are lists as HTTP writes them.
+pub fn read_are_http_lists()
+    ensures { ReadAreHttpLists }
+{}
+
+/// The lines of a header determine its ranges and its bad entries.
+pub fn one_header()
+    ensures { OneHeader }
+{}
+
+/// A bad entry before a header's first changes nothing else.
+pub fn bad_is_alone()
+    ensures { BadIsAlone }
+{}
+
+/// The closest range covers the offer, and no other that covers it is closer.
+pub fn closest_is_closest()
+    ensures { ClosestIsClosest }
+{}
+
+/// What is written for a value means the value; that of a `charset` means it in lowercase, as it is read (RFC 9110, 5.6.4).
+pub fn written_is_meant()
+    ensures { WrittenIsMeant }
+{}
+
+/// The best offer is the first in the order of all that weigh more than 0.
+pub fn best_is_first()
+    ensures { BestIsFirst }
+{}

@@ -1,0 +1,99 @@
+//! The cut of a header's line at its commas outside strings, and the media type of a piece.
+
+ghost use Rattle.std.specs.Prelude.{◌≡◌, IfOk, MatchOption};
+ghost use Rattle.std.specs.Str.{IsUtf8};
+ghost use Rattle.mime.specs.Grammar.{is_space};
+ghost use Rattle.mime_http.specs.HttpMediaType.{HttpReads, IsHttpMediaType};
+ghost use Rattle.mime_http.specs.HttpList.{trim_start, trim_end};
+ghost use Rattle.mime_http.specs.Walk.{after_outside, after, ends};
+
+use crate::value::{FieldError, content_type};
+use mime::Mime;
+use std::alloc::{AllocError, Global};
+
+/// Where in a line the next byte is.
+#[derive(Clone, Copy)]
+pub(crate) enum At {
+    /// Outside strings.
+    Outside,
+    /// Right after an equals sign outside strings.
+    Equals,
+    /// In a string.
+    Quoted,
+    /// Right after a backslash in a string.
+    Paired,
+}
+
+/// The place after a byte outside strings.
+fn after_outside(byte: u8) -> At
+    ensures { result ≡ after_outside byte }
+{
+    if byte == b'=' {
+        At::Equals
+    } else {
+        At::Outside
+    }
+}
+
+/// The place after a byte. A quote opens a string only right after an equals sign.
+pub(crate) fn after(at: At, byte: u8) -> At
+    ensures { result ≡ after at byte }
+{
+    match (at, byte) {
+        (At::Quoted, b'\\') => At::Paired,
+        (At::Quoted, b'"') => At::Outside,
+        (At::Quoted | At::Paired, _) | (At::Equals, b'"') => At::Quoted,
+        (At::Outside | At::Equals, _) => after_outside(byte),
+    }
+}
+
+/// Whether a byte ends a piece: a comma outside strings.
+pub(crate) fn ends(at: At, byte: u8) -> bool
+    ensures { result ≡ ends at byte }
+{
+    byte == b',' && matches!(at, At::Outside | At::Equals)
+}
+
+/// Whether a byte is white space (RFC 9110, 5.6.3).
+fn is_space(byte: u8) -> bool
+    ensures { result ≡ is_space byte }
+{
+    byte == b' ' || byte == b'\t'
+}
+
+/// A piece without the white space before it.
+pub(crate) fn trim_start(piece: &[u8]) -> &[u8]
+    ensures { result.now ≡ trim_start piece.now }
+{
+    for (at, &byte) in piece.iter().enumerate() {
+        if !is_space(byte) {
+            return &piece[at..];
+        }
+    }
+    &[]
+}
+
+/// A piece without the white space after it.
+pub(crate) fn trim_end(piece: &[u8]) -> &[u8]
+    ensures { result.now ≡ trim_end piece.now }
+{
+    let mut end = 0;
+    for (at, &byte) in piece.iter().enumerate() {
+        if !is_space(byte) {
+            end = at + 1;
+        }
+    }
+    &piece[..end]
+}
+
+/// The media type of a piece, or `None` if it is bad.
+pub(crate) fn read(alloc: Global, piece: &[u8]) -> Result<Option<Mime>, AllocError>
+    ensures { IfOk result (λ answer. MatchOption answer (¬ (IsUtf8 piece.now × IsHttpMediaType piece.now))
+        (λ mime. IsUtf8 piece.now × HttpReads piece.now mime.media)) }
+{
+    match content_type(alloc, piece) {
+        Ok(mime) => Ok(Some(mime)),
+        Err(FieldError::NoMemory) => Err(AllocError),
+        Err(_) => Ok(None),
+    }
+}

@@ -1,0 +1,139 @@
+//! A parameter written into a media type, as a header then holds it.
+
+ghost use Rattle.std.specs.Prelude.{◌≡◌, ◌++◌, ◌∷◌, [], ◌↔◌, IsTrue, IfOk, IfSome, OnOk, is_some, codes, string_bytes};
+ghost use Rattle.mime.specs.Grammar.{IsToken};
+ghost use Rattle.mime.specs.HeaderLaws.{AreHeaderBytes};
+ghost use Rattle.mime.specs.Values.{lowered, lowered_value};
+ghost use Rattle.mime_http.specs.Boundary.{IsBoundary};
+ghost use Rattle.mime_http.specs.Written.{escaped, is_token_value, text_of_pair, text_of_pairs, others, with_pair};
+
+use crate::multipart::is_boundary;
+use crate::quoted::escape;
+use mime::laws::{kept_is_safe, one_reading};
+use mime::{Mime, is_quoted_byte, is_token, name_eq_str};
+use std::alloc::{AllocError, Global};
+
+/// Whether a string is a token.
+fn is_token_text(text: &str) -> bool
+    ensures { result ≡ is_token_value text.now }
+{
+    for &byte in text.as_bytes() {
+        if !is_token(byte) {
+            return false;
+        }
+    }
+    !text.is_empty()
+}
+
+/// Whether a quoted string can mean this: it has no control character other than the tab.
+fn can_be_quoted(value: &str) -> bool
+    ensures { IsTrue result ↔ AreHeaderBytes value.now }
+{
+    for &byte in value.as_bytes() {
+        if !is_quoted_byte(byte) {
+            return false;
+        }
+    }
+    true
+}
+
+/// Adds a parameter to a text: its value as it is if that is a token, else in quotes.
+fn push_parameter(text: &mut String, name: &str, value: &str) -> Result<(), AllocError>
+    ensures { OnOk result (string_bytes text.new ≡ string_bytes text.old ++ text_of_pair (name.now, value.now)) }
+{
+    let quote = if is_token_text(value) { "" } else { "\"" };
+    text.push_str("; ")?;
+    text.push_str(name)?;
+    text.push_str("=")?;
+    text.push_str(quote)?;
+    text.push_str(value)?;
+    text.push_str(quote)
+}
+
+/// A media type's essence, its parameters of other names, and this one.
+fn text_with(alloc: Global, mime: &Mime, name: &str, content: &str) -> Result<String, AllocError>
+    ensures { IfOk result (λ text. string_bytes text
+        ≡ mime.now.media.essence ++ text_of_pairs (others name.now mime.now.media.pairs ++ ((name.now, content.now) ∷ []))) }
+{
+    // The kept text has the parameters that stay; the rest is the new one with its marks, of which there are five at most.
+    let added = name.len().saturating_add(content.len()).saturating_add(5);
+    let room = mime.as_str().len().saturating_add(added);
+    let mut text = String::with_capacity(alloc, room)?;
+    text.push_str(mime.essence_str())?;
+    for (other, value) in mime.params() {
+        if name_eq_str(&other, name) {
+            continue;
+        }
+        push_parameter(&mut text, other.text, value.text)?;
+    }
+    push_parameter(&mut text, name, content)?;
+    Ok(text)
+}
+
+/// A media type with this parameter in place of those of its name, ignoring ASCII case (RFC 9110, 5.6.6). The other parameters stay as
+/// they are, in their order, and this one comes last.
+///
+/// `None` exactly if the name isn't a token, or the value has a byte that no quoted string can hold: a control character other than
+/// the tab. So nothing can be put into a header by it. The printed value is in quotes only if it isn't a token, and then a backslash
+/// stands before each quote and each backslash in it (5.6.4); [`unescape`](crate::unescape) gives the value back. That of a `charset`
+/// is in lowercase.
+///
+/// `text/html; charset=utf-8` with the parameter `title` and the value `a "b"` is `text/html; charset=utf-8; title="a \"b\""`.
+///
+/// # Errors
+/// `AllocError` if memory runs out.
+pub fn with_parameter(
+    alloc: Global,
+    mime: &Mime,
+    name: &str,
+    value: &str,
+) -> Result<Option<Mime>, AllocError>
+    ensures exact { IfOk result (λ answer. IsTrue (is_some answer) ↔ (IsToken name.now × AreHeaderBytes value.now)) }
+    ensures made { IfOk result (λ answer. IfSome answer
+        (λ made. made.media ≡ with_pair mime.now.media (lowered name.now) (lowered_value name.now (escaped value.now)))) }
+{
+    if !is_token_text(name) || !can_be_quoted(value) {
+        return Ok(None);
+    }
+    let _kept = mime.as_str();
+    kept_is_safe();
+    one_reading();
+    let content = escape(alloc, value)?;
+    let text = text_with(alloc, mime, name, &content)?;
+    match Mime::from_str(alloc, &text) {
+        Ok(made) => Ok(Some(made)),
+        // The text is accepted, so memory ran out.
+        Err(_) => Err(AllocError),
+    }
+}
+
+/// A media type with this charset in place of its own; `None` exactly if the charset isn't a token (RFC 9110, 8.3.2). `text/html` with
+/// the charset `UTF-8` is `text/html; charset=utf-8`.
+///
+/// # Errors
+/// `AllocError` if memory runs out.
+pub fn with_charset(alloc: Global, mime: &Mime, charset: &str) -> Result<Option<Mime>, AllocError>
+    ensures exact { IfOk result (λ answer. IsTrue (is_some answer) ↔ IsToken charset.now) }
+    ensures made { IfOk result (λ answer. IfSome answer (λ made. made.media ≡ with_pair mime.now.media (codes "charset") (lowered charset.now))) }
+{
+    if !is_token_text(charset) {
+        return Ok(None);
+    }
+    with_parameter(alloc, mime, "charset", charset)
+}
+
+/// A media type with this boundary in place of its own, such as one of `multipart/form-data`; `None` exactly if these bytes aren't a
+/// boundary (RFC 2046, 5.1.1). `multipart/mixed` with the boundary `a b` is `multipart/mixed; boundary="a b"`. It may be any media
+/// type, though only those of `multipart` have boundaries.
+///
+/// # Errors
+/// `AllocError` if memory runs out.
+pub fn with_boundary(alloc: Global, mime: &Mime, boundary: &str) -> Result<Option<Mime>, AllocError>
+    ensures exact { IfOk result (λ answer. IsTrue (is_some answer) ↔ IsBoundary boundary.now) }
+    ensures made { IfOk result (λ answer. IfSome answer (λ made. made.media ≡ with_pair mime.now.media (codes "boundary") boundary.now)) }
+{
+    if !is_boundary(boundary.as_bytes()) {
+        return Ok(None);
+    }
+    with_parameter(alloc, mime, "boundary", boundary)
+}

@@ -1,0 +1,48 @@
+//! The content of a quoted string: what it means, and what is written for a value.
+
+ghost use Rattle.std.specs.Prelude.{◌≡◌, ◌++◌, OnOk, IfOk, is_ok, if◌then◌else◌, string_bytes, encode_utf8};
+ghost use Rattle.std.specs.Vec.{vec_items};
+ghost use Rattle.mime_http.specs.Unescaped.{unescaped};
+ghost use Rattle.mime_http.specs.Written.{escaped};
+
+use std::alloc::{AllocError, Global};
+
+/// Adds what a value means to a buffer: each quoted pair as the byte after its backslash (RFC 9110,
+/// 5.6.4). A plain value has no backslash, and means itself.
+///
+/// # Errors
+/// `AllocError` if memory runs out; the buffer is then as it was.
+pub fn unescape(value: &str, buffer: &mut Vec<u8>) -> Result<(), AllocError>
+    ensures { vec_items buffer.new ≡ (if is_ok result then vec_items buffer.old ++ unescaped value.now else vec_items buffer.old) }
+{
+    buffer.reserve(value.len())?;
+    let mut is_paired = false;
+    for &byte in value.as_bytes() {
+        let begins_pair = !is_paired && byte == b'\\';
+        if !begins_pair {
+            buffer.push(byte)?;
+        }
+        is_paired = begins_pair;
+    }
+    Ok(())
+}
+
+/// Adds a character to the content of a quoted string, after a backslash if it is a quote or a backslash.
+fn push_escaped(content: &mut String, c: char) -> Result<(), AllocError>
+    ensures { OnOk result (string_bytes content.new ≡ string_bytes content.old ++ escaped (encode_utf8 c)) }
+{
+    let before = if matches!(c, '"' | '\\') { "\\" } else { "" };
+    content.push_str(before)?;
+    content.push(c)
+}
+
+/// The content of a quoted string that means a value: `\"x` for `"x` (RFC 9110, 5.6.4).
+pub(crate) fn escape(alloc: Global, value: &str) -> Result<String, AllocError>
+    ensures { IfOk result (λ content. string_bytes content ≡ escaped value.now) }
+{
+    let mut content = String::with_capacity(alloc, value.len())?;
+    for c in value.chars() {
+        push_escaped(&mut content, c)?;
+    }
+    Ok(content)
+}

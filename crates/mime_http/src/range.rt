@@ -1,0 +1,107 @@
+//! Does a range cover an offer, and how closely?
+
+ghost use Rattle.std.specs.Prelude.{◌≡◌, ◌++◌, Some, None, length, option_map, is_some, if◌then◌else◌, codes, bytes_eq};
+ghost use Rattle.std.specs.List.{list_all};
+ghost use Rattle.mime.specs.Items.{name_text};
+ghost use Rattle.mime_http.specs.Ranges.{first_value, weight_of, named_parts, demanded, has, closeness};
+
+use crate::weights::thousandths;
+use mime::{Mime, Name};
+
+/// The first value under a name, which is in lowercase.
+pub(crate) fn first_value<'a>(mime: &'a Mime, name: &str) -> Option<Name<'a>>
+    ensures { option_map name_text result ≡ first_value name.now mime.now.media.pairs }
+{
+    mime.get_param(Name {
+        text: name,
+        ignores_case: true,
+    })
+}
+
+/// The weight of a range in thousandths, or 1000 if it has none (RFC 9110, 12.4.2). Of two the first counts.
+pub fn weight_of(range: &Mime) -> u16
+    ensures { result ≡ weight_of range.now.media }
+{
+    match first_value(range, "q") {
+        Some(weight) => thousandths(weight.text),
+        None => 1000,
+    }
+}
+
+/// Whether an essence is `text/*`, for the type `text`.
+fn is_all_of(essence: &str, type_: &str) -> bool
+    ensures { result ≡ bytes_eq essence.now (type_.now ++ codes "/*") }
+{
+    essence.strip_suffix("/*") == Some(type_)
+}
+
+/// How many parts of an offer's essence a range names: 0 for `*/*`, 1 for `text/*`, and 2 for `text/html`; `None` if it doesn't cover it.
+fn named_parts(range: &Mime, offer: &Mime) -> Option<u8>
+    ensures { result ≡ named_parts range.now.media offer.now.media }
+{
+    let essence = range.essence_str();
+    if essence == "*/*" {
+        Some(0)
+    } else if is_all_of(essence, offer.type_().text) {
+        Some(1)
+    } else if essence == offer.essence_str() {
+        Some(2)
+    } else {
+        None
+    }
+}
+
+/// Whether an offer has a parameter, with the same value.
+fn has(offer: &Mime, name: &str, value: &str) -> bool
+    ensures { result ≡ has offer.now.media (name.now, value.now) }
+{
+    match first_value(offer, name) {
+        Some(found) => found.text == value,
+        None => false,
+    }
+}
+
+/// How many parameters a media type has.
+fn param_count(mime: &Mime) -> usize
+    ensures { result ≡ length mime.now.media.pairs }
+{
+    let (count, _) = mime.params().size_hint();
+    count
+}
+
+/// How many parameters a range has other than its weight `q`, before and after it (RFC 9110, 12.5.1); `None` if an offer hasn't all of
+/// them. The range `text/html;level=1` is for `text/html;level=1`, and not for all HTML.
+fn demanded(range: &Mime, offer: &Mime) -> Option<usize>
+    ensures { result ≡ (if list_all (has offer.now.media) (demanded range.now.media.pairs)
+        then Some (length (demanded range.now.media.pairs)) else None) }
+{
+    let most = param_count(range);
+    let mut count = 0;
+    for (name, value) in range.params() {
+        if name.text != "q" {
+            if !has(offer, name.text, value.text) {
+                return None;
+            }
+            count += 1;
+        }
+    }
+    Some(count)
+}
+
+/// How closely a range at a position covers an offer: the parts that it names, the parameters that it demands, its weight, and the
+/// position; `None` if it doesn't.
+pub(crate) fn closeness(range: &Mime, offer: &Mime, at: usize) -> Option<(u8, usize, u16, usize)>
+    ensures { result ≡ closeness offer.now.media (at, range.now.media) }
+{
+    let named = named_parts(range, offer)?;
+    let demanded = demanded(range, offer)?;
+    Some((named, demanded, weight_of(range), at))
+}
+
+/// Whether a range covers an offer: `text/*` covers `text/html`, and `text/html;level=1` covers `text/html;level=1` and not all HTML
+/// (RFC 9110, 12.5.1). A range's weight `q` doesn't matter.
+pub fn covers(range: &Mime, offer: &Mime) -> bool
+    ensures { result ≡ is_some (closeness offer.now.media (0, range.now.media)) }
+{
+    closeness(range, offer, 0).is_some()
+}

@@ -1,0 +1,127 @@
+//! The media type of a header's value, which comes as bytes.
+
+ghost use Rattle.std.specs.Prelude.{◌≡◌, ◌≢◌, codes, Some, IfOk, IfErr, IsOk};
+ghost use Rattle.std.specs.Fmt.InlineText.{inline_text};
+ghost use Rattle.std.specs.Str.{IsUtf8};
+ghost use Rattle.mime.specs.Values.{Reads};
+ghost use Rattle.mime_http.specs.HttpMediaType.{HttpReads, IsHttpMediaType};
+ghost use Rattle.mime_http.specs.HttpFaults.{HttpExplains};
+ghost use Rattle.mime_http.specs.HttpPrinted.{not_utf8_text};
+ghost use Rattle.mime_http.specs.Tight.{tight};
+
+use crate::fault::fault_in;
+use crate::tight::tightened;
+use mime::{Mime, ParseError};
+use std::alloc::Global;
+use std::error::Error;
+use std::fmt;
+use std::fmt::{InlineText, Write};
+
+/// Why no media type was read from a header's value. Positions are in bytes of the value that was given, from 0.
+#[derive(Clone, Copy, PartialEq, Eq, Debug)]
+pub enum FieldError {
+    /// The value isn't valid UTF-8. Nothing was allocated.
+    NotUtf8 {
+        /// The position of the first byte that isn't: the bytes before it are the longest prefix that is.
+        pos: usize,
+    },
+    /// The value isn't a media type, for this fault. It is never `ParseError::NoMemory`.
+    Invalid(ParseError),
+    /// Memory ran out. Never returned for `*/*`.
+    NoMemory,
+}
+
+/// What `NotUtf8` prints, at most 54 bytes. Not written with the caller's formatter, whose width would pad the number.
+fn not_utf8_text(pos: usize) -> Result<InlineText<64>, fmt::Error>
+    ensures { IfOk result (λ text. inline_text text ≡ not_utf8_text pos) }
+{
+    let mut text = InlineText::new();
+    write!(text, "the value isn't UTF-8 at position {pos}")?;
+    Ok(text)
+}
+
+/// Prints `mime parse error: ` and what the fault prints, or `the value isn't UTF-8 at position 7`, or `memory ran out`. A width
+/// and a precision are ignored.
+impl fmt::Display for FieldError {
+    ghost use Rattle.mime_http.specs.HttpPrinted.{field_error_text};
+
+    ghost output = { λ error. Some (field_error_text error) };
+
+    ghost styled_output = { λ error spec. Some (field_error_text error) };
+
+    fn fmt<W: fmt::Write>(&self, f: &mut fmt::Formatter<W>) -> fmt::Result {
+        match self {
+            FieldError::NotUtf8 { pos } => f.write_str(not_utf8_text(*pos)?.as_str()),
+            FieldError::Invalid(fault) => {
+                f.write_str("mime parse error: ")?;
+                fmt::Display::fmt(fault, f)
+            }
+            FieldError::NoMemory => f.write_str("memory ran out"),
+        }
+    }
+}
+
+impl Error for FieldError {}
+
+/// The media type of a value in UTF-8 that the library rejects as it stands.
+fn read_tightened(alloc: Global, value: &[u8]) -> Result<Mime, FieldError>
+    requires utf8 { IsUtf8 value.now }
+    requires other { value.now ≢ codes "*/*" }
+    ensures http { IfOk result (λ mime. HttpReads value.now mime.media) }
+    ensures kept { IfOk result (λ mime. Reads (tight value.now) mime.media) }
+    ensures explained { IfErr result (λ error. HttpExplains value.now error) }
+    ensures accepted { IsHttpMediaType value.now → IfErr result (λ error. error ≡ FieldError.NoMemory) }
+{
+    let Ok(tight) = tightened(alloc, value) else {
+        return Err(FieldError::NoMemory);
+    };
+    let Ok(text) = str::from_utf8(&tight) else {
+        unreachable!()
+    };
+    match Mime::from_str(alloc, text) {
+        Ok(mime) => Ok(mime),
+        Err(error) => match error.fault() {
+            ParseError::NoMemory => Err(FieldError::NoMemory),
+            fault => Err(FieldError::Invalid(fault_in(alloc, value, text, *fault))),
+        },
+    }
+}
+
+/// Reads the media type of a header's value, such as that of a `Content-Type`, from the bytes that a connection gives
+/// (RFC 9110, 8.3.1, with 5.6.3, 5.6.4 and 5.6.6). Accepts what the grammar there allows, with white space around it, if it is
+/// valid UTF-8: white space around semicolons, and empty parameters. A value past ASCII that isn't UTF-8 (obs-text) is rejected.
+///
+/// A value that [`Mime::from_str`] accepts is read as it stands, with one allocation, or none for `*/*`. Another is copied
+/// first, without that white space and those parameters, with one allocation more: ` text/html ;; charset=utf-8` is kept as
+/// `text/html; charset=utf-8`. The values of parameters keep their backslashes.
+///
+/// # Errors
+/// `NotUtf8` for a value that isn't valid UTF-8, before anything is allocated; `Invalid` with the fault of a value that
+/// isn't a media type, at its position in `value`: 7 for `   a/b c`; `NoMemory` if memory runs out, which is never for `*/*`.
+pub fn content_type(alloc: Global, value: &[u8]) -> Result<Mime, FieldError>
+    // The result is the media type that HTTP writes there,
+    ensures http { IfOk result (λ mime. IsUtf8 value.now × HttpReads value.now mime.media) }
+    // with the kept text of the tightened value.
+    ensures kept { IfOk result (λ mime. Reads (tight value.now) mime.media) }
+    // An error is where the value isn't UTF-8, or its fault, or says that memory ran out.
+    ensures explained { IfErr result (λ error. HttpExplains value.now error) }
+    // So what HTTP writes, in UTF-8, is read, or memory ran out,
+    ensures accepted { IsUtf8 value.now → IsHttpMediaType value.now → IfErr result (λ error. error ≡ FieldError.NoMemory) }
+    // and `*/*` is always read.
+    ensures star { value.now ≡ codes "*/*" → IsOk result }
+{
+    let text = match str::from_utf8(value) {
+        Ok(text) => text,
+        Err(error) => {
+            let pos = error.valid_up_to();
+            return Err(FieldError::NotUtf8 { pos });
+        }
+    };
+    match Mime::from_str(alloc, text) {
+        Ok(mime) => Ok(mime),
+        Err(error) => match error.fault() {
+            ParseError::NoMemory => Err(FieldError::NoMemory),
+            _ => read_tightened(alloc, value),
+        },
+    }
+}

@@ -1,0 +1,37 @@
+//! A weight in thousandths.
+
+ghost use Rattle.std.specs.Prelude.{◌≡◌};
+ghost use Rattle.mime_http.specs.Weight.{decimals, thousandths_of};
+
+/// What the digits after a dot are worth in thousandths, as 500 for `5`.
+fn decimals_of(bytes: &[u8]) -> u16
+    ensures { result ≡ decimals 100 bytes.now }
+{
+    let mut unit = 100;
+    let mut sum = 0;
+    for &byte in bytes {
+        if !byte.is_ascii_digit() {
+            return sum;
+        }
+        sum += unit * u16::from(byte - b'0');
+        unit /= 10;
+    }
+    sum
+}
+
+/// A weight in thousandths, as 500 for `0.5`. A string that is no weight counts as the number that it begins with, at most 1, and as 0
+/// without one: `.2` is 200, `2` is 1000 and `high` is 0, as in most libraries.
+pub(crate) fn thousandths(weight: &str) -> u16
+    ensures { result ≡ thousandths_of weight.now }
+{
+    let bytes = weight.as_bytes();
+    for (at, byte) in bytes.iter().enumerate() {
+        match byte {
+            b'0' => {}
+            b'1'..=b'9' => return 1000,
+            b'.' => return decimals_of(&bytes[at + 1..]),
+            _ => return 0,
+        }
+    }
+    0
+}

@@ -1,0 +1,68 @@
+//! One run of the program, from a source to a sink.
+
+ghost use Rattle.std.specs.Prelude.{◌≡◌, ◌≢◌, ℕ, List, ◌≤◌, ◌+◌, length, true, OnOk, OnErr, IfErr};
+ghost use Rattle.std.specs.Io.KnownBytes.{Consumes, Appends, IsAtEnd};
+ghost use Rattle.mime_lines.specs.Program.{limit};
+ghost use Rattle.mime_lines.specs.Report.{IsReportOf};
+
+use crate::device::{Sink, Source};
+use crate::error::RunError;
+use crate::input::read_to_limit;
+use crate::mode::Mode;
+use crate::report::report_of;
+use std::alloc::Global;
+
+/// Reads a source to its end, and then writes the report on what it read to a sink. For `a/b` this is
+/// the three lines `ok a/b`, `type a` and `subtype b` in [`Mode::Parts`], and only `ok a/b` in
+/// [`Mode::List`].
+///
+/// # Errors
+/// `Read` if the source fails, and `Write` if the sink does; no call is made again. `TooLong` if the source
+/// gives more than 1,048,576 bytes. `NoMemory` if memory runs out. The first of these is returned. Only
+/// after `Write` may a part of the report have been written.
+pub fn run<S: Source, T: Sink>(
+    alloc: Global,
+    source: &mut S,
+    sink: &mut T,
+    mode: Mode,
+) -> Result<(), RunError>
+    // A run that succeeds has read bytes to the end of the source, and not more than the limit. It has
+    // written the report on these bytes, nothing else, and flushed it. This also holds of a source or a
+    // sink that doesn't say which bytes it has.
+    ensures whole { OnOk result ((bytes : List ℕ) × (text : List ℕ)
+        × Consumes (S.left source.old) (S.left source.new) bytes × (length bytes ≤ limit)
+        × IsReportOf mode bytes text × Appends (T.held sink.old) (T.held sink.new) text) }
+    ensures end { OnOk result (IsAtEnd (S.left source.new)) }
+    ensures flushed { OnOk result (T.IsFlushed sink.new) }
+    // The source fails if the result is `Read`, the sink if it is `Write`, and otherwise neither does.
+    ensures read { result ≡ Err RunError.Read → S.has_failed source.new ≡ true }
+    ensures write { result ≡ Err RunError.Write → T.has_failed sink.new ≡ true }
+    ensures source_unfailed { result ≢ Err RunError.Read → S.has_failed source.new ≡ S.has_failed source.old }
+    ensures sink_unfailed { result ≢ Err RunError.Write → T.has_failed sink.new ≡ T.has_failed sink.old }
+    // If the result is `TooLong`, the source gave one byte more than the limit.
+    ensures too_long { result ≡ Err RunError.TooLong
+        → (bytes : List ℕ) × Consumes (S.left source.old) (S.left source.new) bytes × (length bytes ≡ limit + 1) }
+    // Nothing is written before the report is complete.
+    ensures untouched { IfErr result (λ error. error ≢ RunError.Write → sink.new ≡ sink.old) }
+{
+    let input = read_to_limit(alloc, source)?;
+    let Ok(report) = report_of(alloc, input.as_slice(), mode) else {
+        return Err(RunError::NoMemory);
+    };
+    write_report(sink, report.as_str().as_bytes())
+}
+
+/// Writes a report to a sink, and flushes it.
+fn write_report<T: Sink>(sink: &mut T, report: &[u8]) -> Result<(), RunError>
+    ensures bytes { OnOk result (Appends (T.held sink.old) (T.held sink.new) report.now) }
+    ensures flushed { OnOk result (T.IsFlushed sink.new) }
+    // The sink fails exactly if the result isn't `Ok`, but `Write`.
+    ensures unfailed { OnOk result (T.has_failed sink.new ≡ T.has_failed sink.old) }
+    ensures failed { OnErr result (T.has_failed sink.new ≡ true) }
+    ensures write { IfErr result (λ error. error ≡ RunError.Write) }
+{
+    if sink.write_all(report).is_err() || sink.flush().is_err() {
+        return Err(RunError::Write);
+    }
+    Ok(())
+}
