@@ -5,7 +5,8 @@
 //! operation returns here, and there. After a zero byte, standard input has the strings that an operation on two takes, one a line.
 //! Without words it is the program `mime_lines` over the Rust crate, written the same way.
 
-use mime::{Mime, Name, APPLICATION_JSON, BOUNDARY, CHARSET, IMAGE_SVG, TEXT_HTML, TEXT_PLAIN_UTF_8};
+use mime::{Mime, Name, APPLICATION_JSON, BOUNDARY, CHARSET, IMAGE_SVG, STAR, TEXT_HTML, TEXT_PLAIN_UTF_8};
+use std::cmp::Reverse;
 use std::fmt::Write as _;
 use std::hash::{DefaultHasher, Hash, Hasher};
 use std::hint::black_box;
@@ -30,6 +31,7 @@ fn slice(text: &str) -> Slice {
 
 /// What an operation is made on: lines, and the media types that they are; those that are rejected are left out.
 struct Given<'a> {
+    text: &'a str,
     texts: Vec<&'a str>,
     others: Vec<&'a str>,
     values: Vec<Mime>,
@@ -79,6 +81,9 @@ const OPERATIONS: &[(&str, Operation)] = &[
     }),
     // The release has no iterator, so this is what its user writes.
     ("items", list_all),
+    // The Rust crate doesn't read header values as HTTP writes them: beside it stands reading a string, here.
+    ("field", |it, rounds| unsafe { mime_bench(0, slice(it.text), slice(""), rounds) }),
+    ("negotiate", |it, rounds| sum(&it.texts, rounds, |text| best(text, &it.against).map_or(0, |at| at + 1))),
 ];
 
 /// The calls from C, each with what it is compared with.
@@ -148,6 +153,36 @@ fn length_found<'a>(mime: &'a Mime, name: impl PartialEq<Name<'a>>) -> usize {
 #[inline(always)]
 fn entries(text: &str) -> impl Iterator<Item = Mime> + '_ {
     text.split(',').filter_map(|entry| entry.trim().parse().ok())
+}
+
+/// The best offer for an Accept header, as a user of the Rust crate writes it: that of the highest weight, then of the closest range, then
+/// of the first range, then the first.
+fn best(text: &str, offers: &[Mime]) -> Option<usize> {
+    let ranges: Vec<(u16, Mime)> = entries(text).map(|range| (weight_of(&range), range)).collect();
+    let merit = |offer| {
+        let covering = ranges.iter().enumerate().filter(|(_, (_, range))| covers(range, offer));
+        covering.map(|(at, (weight, range))| (closeness(range), *weight, Reverse(at))).max()
+    };
+    let merits = offers.iter().enumerate().filter_map(|(at, offer)| merit(offer).map(|merit| (merit, at)));
+    let weighed = merits.map(|((close, weight, range), at)| (weight, close, range, Reverse(at))).filter(|(weight, ..)| *weight > 0);
+    weighed.max().map(|(.., Reverse(at))| at)
+}
+
+/// The weight in thousandths.
+fn weight_of(range: &Mime) -> u16 {
+    range.get_param("q").map_or(1_000, |weight| weight.as_str().parse().map_or(0, |weight: f32| (weight * 1_000.0).round() as u16))
+}
+
+fn covers(range: &Mime, offer: &Mime) -> bool {
+    (range.type_() == STAR || range.type_() == offer.type_())
+        && (range.subtype() == STAR && range.suffix().is_none() || (range.subtype(), range.suffix()) == (offer.subtype(), offer.suffix()))
+        && range.params().filter(|(name, _)| *name != "q").all(|(name, value)| offer.get_param(name) == Some(value))
+}
+
+/// The number of parts that a range names, and that of its parameters.
+fn closeness(range: &Mime) -> (usize, usize) {
+    let named = [range.type_(), range.subtype()].iter().filter(|part| **part != STAR).count();
+    (named, range.params().filter(|(name, _)| *name != "q").count())
 }
 
 /// Adds the report on a line.
@@ -232,7 +267,7 @@ fn main() -> io::Result<()> {
     let lists = [texts, others].map(|it| it.split('\n').collect::<Vec<_>>());
     let [values, against] = [0, 1].map(|at| lists[at].iter().filter_map(|text| read(text)).collect());
     let [lines, other_lines] = lists;
-    let it = Given { texts: lines, others: other_lines, values, against };
+    let it = Given { text: texts, texts: lines, others: other_lines, values, against };
     let at = OPERATIONS.iter().position(|(name, _)| *name == words[1]);
     let call = CALLS.iter().find(|(name, ..)| *name == words[1]);
     let here = |rounds| match at {

@@ -18,7 +18,7 @@ def shuffled(name):
 
 
 TYPES, ACCEPTS = shuffled("content_types"), shuffled("accept_headers")
-TEXT = "\n".join(TYPES)
+TEXT, OFFERS = "\n".join(TYPES), "text/html; charset=utf-8\napplication/json\nimage/webp\ntext/plain"
 # Every second is compared with itself, and each other one with the next.
 BESIDE = "\n".join(TYPES[at | 1] for at in range(len(TYPES)))
 
@@ -40,10 +40,12 @@ def values():
     yield Row("clone and drop", "clone", TEXT)
     yield Row("print", "print", TEXT)
     yield Row("four constants as values", "atom", "a/b")
+    yield Row("content_type, beside from_str here", "field", TEXT, ratio=1.15)
 
 
 def lists():
-    yield Row("the media types of an Accept header", "items", "\n".join(ACCEPTS))
+    yield Row("its media types", "items", "\n".join(ACCEPTS))
+    yield Row("Accept, and the best of four offers", "negotiate", "\n".join(ACCEPTS), OFFERS, ratio=0.70, most=5_500)
 
 
 def strings():
@@ -59,9 +61,9 @@ def strings():
 REJECTED = ("read: pairs \\\"", "walk: pairs \\\"")
 
 
-def long(label, operation, make):
+def long(label, operation, make, other=""):
     """A row of a text that is so many bytes long, about."""
-    return Row(label, operation, make(65_536), differs=label in REJECTED, short=make(2_048))
+    return Row(label, operation, make(65_536), other, differs=label in REJECTED, short=make(2_048))
 
 
 def texts():
@@ -75,6 +77,11 @@ def texts():
     for label, make in (("quotes", lambda n: '"' * n), ("commas", lambda n: "," * n), ("semicolons", lambda n: "a/b" + ";" * n),
                         ("spaces", lambda n: "a/b," + " " * n + "c/d"), ("backslashes", lambda n: 'a/b;p="' + "\\" * n)):
         yield long(f"list: {label}", "items", make)
+        yield long(f"Accept and best: {label}", "negotiate", make, OFFERS)
+    for label, make in (("quotes", lambda n: "a/b" + ';p="x"' * (n // 6)), ("commas", lambda n: 'a/b;p="' + "," * n + '"'),
+                        ("semicolons", lambda n: "a/b" + ";" * n + "p=x"), ("spaces", lambda n: "a/b" + " " * n + ";p=x"),
+                        ("backslashes", lambda n: 'a/b;p="' + "\\" * n + '"')):
+        yield long(f"content_type: {label}", "field", make)
 
 
 def calls():

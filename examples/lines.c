@@ -1,3 +1,4 @@
+/* SPDX-License-Identifier: MIT */
 /* Prints what the program mime_lines prints, by the calls of include/mime.h alone:
  *     cc -Iinclude examples/lines.c out/libmime.a -o lines */
 #define _POSIX_C_SOURCE 200809L

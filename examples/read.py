@@ -1,5 +1,6 @@
 #!/usr/bin/env python3
-"""Reads media types by ctypes: examples/read.py out/libmime.so.0 TEXT.."""
+# SPDX-License-Identifier: MIT
+"""Reads media types by ctypes: examples/read.py LIBRARY TEXT.."""
 import ctypes
 import sys
 
@@ -10,20 +11,49 @@ class Found(ctypes.Structure):
     _fields_ = [*((it, ctypes.c_size_t) for it in ("length", "params", "printed", "slash", "subtype_end", "pos")), ("byte", ctypes.c_uint8)]
 
 
-def read(library, text):
-    """The essence, the parameters as pairs, and the media type as it is printed; or a ValueError with the answer of mime_read."""
-    given, found = text.encode(), Found()
-    out = ctypes.create_string_buffer(2 * len(given) + 2)
-    answer = library.mime_read(given, ctypes.c_size_t(len(given)), out, ctypes.c_size_t(len(out)), ctypes.byref(found))
-    if answer:
-        raise ValueError(f"not a media type: answer {answer}, position {found.pos}")
-    essence, *parts, printed, _ = out.raw[: found.length].decode().split("\0")
-    return essence, list(zip(parts[::2], parts[1::2])), printed
+class Mime:
+    """The calls of a library such as libmime.so.0. A text is a str or bytes. A rejected one is a ValueError."""
+
+    INVALID_BYTE, NO_MEMORY, NOT_ACCEPTABLE = 6, 7, 10
+
+    def __init__(self, path="libmime.so.0"):
+        self.library = ctypes.CDLL(path)
+        self.library.mime_version.restype = self.library.mime_answer_text.restype = ctypes.c_char_p
+        self.version = self.library.mime_version().decode()
+
+    def read(self, text):
+        """The essence, the parameters as pairs, and the printed media type of a header's value, such as that of Content-Type."""
+        out, found = ctypes.create_string_buffer(2 * len(_bytes(text)) + 2), Found()
+        answer = self.library.mime_content_type(*_block(text), out, ctypes.c_size_t(len(out)), ctypes.byref(found))
+        self._check(answer, f" at position {found.pos}" if answer == self.INVALID_BYTE else "")
+        essence, *parts, printed, _ = out.raw[: found.length].decode().split("\0")
+        return essence, list(zip(parts[::2], parts[1::2])), printed
+
+    def best(self, accept, offers):
+        """The best of these offers for an Accept header, or for a request without one if that is None; or None."""
+        best = ctypes.c_size_t()
+        answer = self.library.mime_best(*_block(accept), *_block(", ".join(offers)), ctypes.byref(best))
+        self._check(answer * (answer != self.NOT_ACCEPTABLE))
+        return None if answer else offers[best.value]
+
+    def _check(self, answer, where=""):
+        if answer:
+            raise (MemoryError if answer == self.NO_MEMORY else ValueError)(self.library.mime_answer_text(answer).decode() + where)
+
+
+def _bytes(text):
+    return text.encode() if isinstance(text, str) else text
+
+
+def _block(text):
+    return _bytes(text), ctypes.c_size_t(len(text and _bytes(text) or b""))
 
 
 if __name__ == "__main__":
+    mime = Mime(sys.argv[1])
     for each in sys.argv[2:]:
         try:
-            print(*read(ctypes.CDLL(sys.argv[1]), each))
+            print(*mime.read(each))
         except ValueError as error:
-            print(error)
+            print(f"not a media type: {error}")
+    print(mime.best("text/html;q=.5, application/json", ["text/html", "application/json"]))

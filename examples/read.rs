@@ -1,7 +1,9 @@
-//! Reads media types from an ordinary Rust program:
-//!     rustc -O examples/read.rs -L native=out -l static=mime -o read && ./read TEXT..
+// SPDX-License-Identifier: MIT
+//! Reads media types from an ordinary Rust program, of edition 2021 or later:
+//!     rustc -O --edition 2024 examples/read.rs -L native=out -l static=mime -o read && ./read TEXT..
 
-use std::os::raw::c_char;
+use std::ffi::{CStr, c_char};
+use std::fmt;
 
 /// What `mime_read` finds besides the strings: `struct mime_found` of include/mime.h.
 #[repr(C)]
@@ -16,9 +18,29 @@ struct Found {
     byte: u8,
 }
 
-extern "C" {
+const INVALID_BYTE: u32 = 6;
+
+unsafe extern "C" {
     fn mime_read(text: *const c_char, text_len: usize, out: *mut c_char, out_len: usize, found: *mut Found) -> u32;
+    fn mime_answer_text(answer: u32) -> *const c_char;
 }
+
+/// Why a text isn't read: the answer of `mime_read`, which include/mime.h explains, and of an invalid byte its position.
+#[derive(Debug, PartialEq)]
+pub struct Error {
+    pub answer: u32,
+    pub pos: Option<usize>,
+}
+
+impl fmt::Display for Error {
+    fn fmt(&self, f: &mut fmt::Formatter) -> fmt::Result {
+        // SAFETY: each answer has a text, a constant that ends in a 0.
+        write!(f, "{}", unsafe { CStr::from_ptr(mime_answer_text(self.answer)) }.to_string_lossy())?;
+        self.pos.map_or(Ok(()), |pos| write!(f, " at position {pos}"))
+    }
+}
+
+impl std::error::Error for Error {}
 
 /// A media type: its essence, its parameters, and how it is printed.
 #[derive(Debug)]
@@ -28,14 +50,14 @@ pub struct Media {
     pub printed: String,
 }
 
-/// Reads a media type. An error is the answer of `mime_read`, which include/mime.h explains, and the position of an invalid byte.
-pub fn read(text: &str) -> Result<Media, (u32, usize)> {
+/// Reads a media type.
+pub fn read(text: &str) -> Result<Media, Error> {
     let mut out = vec![0u8; 2 * text.len() + 2];
     let mut found = Found::default();
     // SAFETY: each pointer is to a block of its own of the length given, and none is null.
     let answer = unsafe { mime_read(text.as_ptr().cast(), text.len(), out.as_mut_ptr().cast(), out.len(), &mut found) };
     if answer != 0 {
-        return Err((answer, found.pos));
+        return Err(Error { answer, pos: (answer == INVALID_BYTE).then_some(found.pos) });
     }
     let string = |bytes: &[u8]| String::from_utf8_lossy(bytes).into_owned();
     let mut strings = out[..found.length].split(|&byte| byte == 0).map(string);
@@ -49,6 +71,9 @@ pub fn read(text: &str) -> Result<Media, (u32, usize)> {
 
 fn main() {
     for text in std::env::args().skip(1) {
-        println!("{:?}", read(&text));
+        match read(&text) {
+            Ok(media) => println!("{media:?}"),
+            Err(error) => println!("not a media type: {error}"),
+        }
     }
 }

@@ -1,3 +1,4 @@
+/* SPDX-License-Identifier: MIT */
 /* Makes the calls of include/mime.h on the lines of standard input, and on as many texts near the grammar as the argument says. Each
  * text and each buffer ends where a page begins that can't be touched; requests for memory are counted, and each is refused in turn.
  * tools/c_calls builds it with the sanitizers, and with --wrap for malloc and free. Its status is 1 after the first wrong answer. */
@@ -17,16 +18,22 @@ enum { ROOM = 1 << 20, PAGE = 1 << 12 };
 static size_t requests, largest, refused_at, held, most_held;
 static char *text_end, *out_end, untouched[ROOM];
 
-void *__real_malloc(size_t size);
+void *__real_realloc(void *block, size_t size);
 void __real_free(void *block);
 
-void *__wrap_malloc(size_t size)
+void *__wrap_realloc(void *block, size_t size)
 {
     if (++requests == refused_at)
         return NULL;
     largest = size > largest ? size : largest;
-    most_held = ++held > most_held ? held : most_held;
-    return __real_malloc(size);
+    held += block == NULL;
+    most_held = held > most_held ? held : most_held;
+    return __real_realloc(block, size);
+}
+
+void *__wrap_malloc(size_t size)
+{
+    return __wrap_realloc(NULL, size);
 }
 
 void __wrap_free(void *block)
@@ -166,14 +173,65 @@ static void check_list(const char *text, size_t len)
     CHECK_REFUSED(asked, mime_list(text, len, buffer(room), room, &length) == MIME_NO_MEMORY && length == 0);
 }
 
-/* Whether no two answers have the same text, one that isn't among them included. */
+/* Checks that what a header's value is printed as, or it itself if mime_read reads it, is read alike. */
+static void check_content_type(const char *text, size_t len)
+{
+    static char again[ROOM];
+    struct mime_found found, same;
+    size_t room = 2 * len + 2;
+    uint32_t is = mime_read(text, len, again, sizeof again, &same), refused;
+    count_anew();
+    CHECK(mime_content_type(text, len, buffer(room - 1), room - 1, &found) == MIME_NO_ROOM && has_written(0, room - 1) && requests == 0);
+    char *out = buffer(room);
+    uint32_t answer = mime_content_type(text, len, out, room, &found);
+    size_t asked = requests;
+    CHECK(has_written(found.length, room) && held == 0 && most_held <= 2 && largest <= len);
+    if (answer == MIME_OK && is != MIME_OK)
+        is = mime_read(out + found.printed, strlen(out + found.printed), again, sizeof again, &same);
+    CHECK((answer == MIME_OK) == (is == MIME_OK) && found.pos <= len);
+    if (answer == MIME_OK) {
+        check_strings(text, len, out, found);
+        CHECK(found.length == same.length && memcmp(out, again, found.length) == 0 && found.slash == same.slash);
+    }
+    CHECK(answer != MIME_INVALID_BYTE || (uint8_t)text[found.pos] == found.byte);
+    CHECK_REFUSED(asked, (refused = mime_content_type(text, len, buffer(room), room, &found)) == MIME_NO_MEMORY
+                             ? has_written(0, room) && found.length == 0 : refused == answer && refused != MIME_OK);
+}
+
+static void check_accept(const char *text, size_t len)
+{
+    static const char offers[] = "text/html, image/svg+xml;p=x, a/b";
+    size_t length, bad, best, room = 3 * len + 3, ranges = 0;
+    count_anew();
+    CHECK(mime_accept(text, len, buffer(room - 1), room - 1, &length, &bad) == MIME_NO_ROOM && length + bad == 0 && has_written(0, room - 1));
+    char *out = buffer(room);
+    CHECK(mime_accept(text, len, out, room, &length, &bad) == MIME_OK && has_written(length, room) && held == 0);
+    size_t asked = requests;
+    for (const char *it = out; it < out + length; it = mime_next(it), ranges++) {
+        CHECK(strlen(it) == 4 && strspn(it, "0123456789") == 4 && strcmp(it, "1000") <= 0 && strchr(it + 5, '/') != NULL);
+        for (it = skip(it, 2); *it != 0; it = skip(it, 2))
+            ;
+    }
+    CHECK_REFUSED(asked, mime_accept(text, len, buffer(room), room, &length, &bad) == MIME_NO_MEMORY && has_written(0, room));
+    uint32_t all = bad > 0 ? MIME_BAD_OFFER : ranges > 0 ? MIME_OK : MIME_NOT_ACCEPTABLE;
+    CHECK(mime_best("", 0, text, len, &best) == (bad > 0 ? MIME_BAD_OFFER : MIME_NOT_ACCEPTABLE) && best == 0);
+    count_anew();
+    CHECK(mime_best(NULL, 0, text, len, &best) == all && best == 0 && held == 0);
+    CHECK_REFUSED(requests, mime_best(NULL, 0, text, len, &best) == MIME_NO_MEMORY && best == 0);
+    all = mime_best(text, len, offers, strlen(offers), &best);
+    CHECK(all == MIME_OK ? ranges > 0 && best < 3 : all == MIME_NOT_ACCEPTABLE && best == 0);
+}
+
+/* Whether each answer has its text, alone with these words, one that isn't among them included; and the version is the header's. */
 static int has_texts(void)
 {
-    for (uint32_t one = MIME_OK; one <= MIME_NO_ROOM + 1; one++)
-        for (uint32_t other = MIME_OK; other < one; other++)
-            if (strcmp(mime_answer_text(one), mime_answer_text(other)) == 0)
+    static const char *const words[] = {"no error", "between the type", "a subtype was", "sign (=) was", "a value was", "a quote",
+                                        "token", "memory", "UTF-8", "buffer", "acceptable", "an offer isn't", "unknown"};
+    for (uint32_t one = 0; one < sizeof words / sizeof *words; one++)
+        for (uint32_t other = 0; other < sizeof words / sizeof *words; other++)
+            if ((strstr(mime_answer_text(one), words[other]) != NULL) != (one == other))
                 return 0;
-    return 1;
+    return strcmp(mime_version(), MIME_VERSION) == 0;
 }
 
 static void check(const char *given, size_t len)
@@ -181,6 +239,8 @@ static void check(const char *given, size_t len)
     const char *text = len > 0 ? memcpy(text_end - len, given, len) : NULL;
     check_read(text, len);
     check_list(text, len);
+    check_content_type(text, len);
+    check_accept(text, len);
 }
 
 /* What the texts near the grammar are made of. */
@@ -198,7 +258,7 @@ int main(int argc, char **argv)
     if (blocks == MAP_FAILED || mprotect(text_end, PAGE, PROT_NONE) != 0 || mprotect(out_end, PAGE, PROT_NONE) != 0)
         return 2;
     if (!has_texts())
-        errx(1, "two answers have the same text");
+        errx(1, "an answer has another's text, or the library another version");
     memset(untouched, 'U', sizeof untouched);
     for (ssize_t read; (read = getline(&line, &size, stdin)) > 0; lines++)
         check(line, (size_t)read - (line[read - 1] == '\n'));

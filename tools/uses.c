@@ -1,6 +1,7 @@
-/* Uses of include/mime.h that are ordinary in C and C++: tools/c_calls compiles this file as each, and wants no warning. */
+/* SPDX-License-Identifier: MIT */
+/* Uses of include/mime.h that are ordinary in C and C++: tools/c_calls compiles and links this file as each, and wants no warning. */
 #include "mime.h"
-#ifdef __cplusplus
+#if __cplusplus >= 201103L
 #include <array>
 #endif
 
@@ -8,13 +9,12 @@
 struct calls {
     uint32_t (*mime_read)(const char *, size_t, char *, size_t, struct mime_found *);
     uint32_t (*mime_list)(const char *, size_t, char *, size_t, size_t *);
-    uint32_t (*mime_equal)(const char *, size_t, const char *, size_t, uint8_t *);
 };
 
 uint32_t read_by(const struct calls *calls, const char *text, struct mime_found *found);
 uint32_t read_by(const struct calls *calls, const char *text, struct mime_found *found)
 {
-    const struct calls ours = {mime_read, &mime_list, mime_equal};
+    const struct calls ours = {mime_read, &mime_list};
     char out[64];
     return (calls ? calls : &ours)->mime_read(text, strlen(text), out, sizeof out, found);
 }
@@ -23,8 +23,10 @@ uint32_t read_by(const struct calls *calls, const char *text, struct mime_found 
 uint32_t list_here(const char *text, size_t *length);
 uint32_t list_here(const char *text, size_t *length)
 {
-#ifdef __cplusplus
+#if __cplusplus >= 201103L
     return mime_list(text, strlen(text), std::array<char, 64>().data(), 64, length);
+#elif defined __cplusplus
+    return mime_list(text, 0, NULL, 0, length);
 #else
     return mime_list(text, strlen(text), (char[64]){0, 0}, 64, length);
 #endif
@@ -37,7 +39,7 @@ class Reader {
 
 public:
     explicit Reader(const char *text) : found() { mime_read(text); }
-    uint32_t mime_read(const char *text) { return ::mime_read(text, strlen(text), nullptr, 0, &found); }
+    uint32_t mime_read(const char *text) { return ::mime_read(text, strlen(text), NULL, 0, &found); }
 };
 
 uint32_t read_by_class(const char *text);
@@ -47,20 +49,9 @@ uint32_t read_by_class(const char *text)
 }
 #endif
 
-/* A mock in place of the library's call. */
-uint32_t mime_equal(const char *one, size_t one_len, const char *other, size_t other_len, uint8_t *equal)
-{
-    *equal = one_len == other_len && memcmp(one, other, one_len) == 0;
-    return MIME_OK;
-}
-
-#if MIME_VERSION_MAJOR < 1
-#error "no version"
-#endif
-
 /* The text of an answer and of the version. */
 const char *text_of(uint32_t answer);
 const char *text_of(uint32_t answer)
 {
-    return answer == MIME_OK ? "mime " MIME_VERSION : mime_answer_text(answer);
+    return answer == MIME_OK && MIME_VERSION_MAJOR > 0 ? "mime " MIME_VERSION : mime_answer_text(answer);
 }

@@ -8,6 +8,7 @@ use mime::{
     APPLICATION_JSON, BOUNDARY, CHARSET, IMAGE_SVG, Mime, MimeIter, ParamKey, TEXT_HTML,
     TEXT_PLAIN_UTF_8, TextKey, mime_eq_str,
 };
+use mime_http::{Accept, content_type};
 use std::alloc::Global;
 use std::fmt::Write;
 use std::hash::{FoldHasher, Hash, Hasher};
@@ -59,6 +60,8 @@ pub extern "C" fn mime_bench(
         14 => print(alloc, &values, rounds),
         15 => atom(rounds),
         16 => items(alloc, &texts, rounds),
+        17 => field(alloc, &texts, rounds),
+        18 => negotiate(alloc, &texts, &against, rounds),
         _ => 0,
     }
 }
@@ -221,5 +224,26 @@ fn items(alloc: Global, texts: &[&str], rounds: usize) -> usize {
             }
         }
         length
+    })
+}
+
+/// Reads header values.
+#[inline(never)]
+fn field(alloc: Global, texts: &[&str], rounds: usize) -> usize {
+    sum!(rounds, text in texts => match content_type(alloc, text.as_bytes()) {
+        Ok(mime) => mime.as_str().len(),
+        Err(_) => 0,
+    })
+}
+
+/// Reads an `Accept` header and chooses the best of the offers: its position, counted from 1.
+#[inline(never)]
+fn negotiate(alloc: Global, texts: &[&str], offers: &[Mime], rounds: usize) -> usize {
+    sum!(rounds, text in texts => match Accept::from_lines(alloc, &[text.as_bytes()]) {
+        Ok(accept) => match accept.best(offers) {
+            Some(at) => at.wrapping_add(1),
+            None => 0,
+        },
+        Err(_) => 0,
     })
 }

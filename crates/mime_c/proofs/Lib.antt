@@ -1,6 +1,7 @@
 pub mod NoZero
 pub mod Room
 pub mod Writing
+pub mod HeaderRoom
 pub mod OneOutcome
 mod AnswerFacts
 mod OutcomeFacts

@@ -31,7 +31,7 @@ texts_in-string (b ∷ text) bytes none =
     let other : (b == 0) ≡ false = grind (arith, nat_tests, parts.0) in
     rw other (ap (onto_first b) (texts_in-string text bytes parts.1))
 
-come_back : (texts : List (List ℕ)) → AllByRecursion HasNoZero texts → ComeBack texts
+pub come_back : (texts : List (List ℕ)) → AllByRecursion HasNoZero texts → ComeBack texts
 come_back [] none = refl
 come_back (text ∷ texts) none = texts_in-string text (strings texts) none.0 ∙ ap (λ others. text ∷ others) (come_back texts none.1)
 
@@ -46,7 +46,7 @@ no_zero-viable text viable =
     let walked = walk-from_viable text viable in
     list_all-wider is_quoted_byte (is_other 0) quoted_byte-other text (walked-safe _ walked.0 text walked.1)
 
-no_zero-read : (text : List ℕ) (media : MediaType) → Reads text media → HasNoZero text
+pub no_zero-read : (text : List ℕ) (media : MediaType) → Reads text media → HasNoZero text
 no_zero-read text media reads = no_zero-viable text (accepted_is_viable text (media, reads))
 
 -- no content,
@@ -57,7 +57,7 @@ no_zero-content content (text_byte b rest is others) =
 no_zero-content content (quoted_pair b rest is others) = and_from _ _ (quoted_byte-other b is) (no_zero-content rest others)
 
 -- no name and no value,
-no_zero-pairs : (pairs : List (List ℕ × List ℕ)) (kept : List ℕ) → AllByRecursion IsSafePair pairs → HasNoZero kept
+pub no_zero-pairs : (pairs : List (List ℕ × List ℕ)) (kept : List ℕ) → AllByRecursion IsSafePair pairs → HasNoZero kept
     → AllByRecursion HasNoZero (pair_texts pairs ++ kept ∷ [])
 unfolding is_token_byte
 no_zero-pairs [] kept are none = (none, tt)

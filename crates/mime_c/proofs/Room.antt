@@ -44,7 +44,7 @@ room-kept tree (pair ∷ pairs) = omega arith
 -- ---- the strings of a media type
 
 -- how long a kept text, the strings of a media type and the text that is read as it are
-abbrev Lengths : List ℕ → MediaType → Type 0
+abbrev pub Lengths : List ℕ → MediaType → Type 0
 Lengths text media = (length media.kept ≤ length text) × (length (strings (texts_of media)) ≤ 2 * length text + 2) × (2 < length text)
 
 lengths-low : (text : List ℕ) (tree : SyntaxTree) → length (text_of tree) ≤ length text → 2 < length text → Lengths text (value_of_low tree)
@@ -66,7 +66,7 @@ some-token : (token : List ℕ) → IsToken token → 0 < length token
 some-token [] is = absurd is
 some-token (b ∷ token) is = omega arith
 
-lengths_of : (text : List ℕ) (media : MediaType) → Reads text media → Lengths text media
+pub lengths_of : (text : List ℕ) (media : MediaType) → Reads text media → Lengths text media
 lengths_of text media reads =
     let tree = reads.tree in
     let keeps = keeps-tree tree reads.well_formed in

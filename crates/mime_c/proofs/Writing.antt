@@ -1,14 +1,18 @@
 -- Strings that are written one after another into the caller's buffer.
-use Rattle.std.proofs.Common.{◌≡◌, ℕ, ◌+◌, ◌*◌, ◌<◌, ◌≤◌, List, [], ◌∷◌, ◌++◌, length, refl, sym, ap, ◌∙◌, subst, arith, append_assoc, append-nil, length-append, length-drop}
+use Rattle.std.proofs.Common.{◌≡◌, ℕ, ◌+◌, ◌*◌, ◌<◌, ◌≤◌, List, [], ◌∷◌, ◌++◌, length, take, drop, refl, sym, ap, ◌∙◌, subst, arith, append_assoc, append-nil, length-append, length-take, length-drop, take-append-drop}
 use Rattle.std.specs.Str.{IsUtf8}
+use Rattle.std.proofs.lemmas.List.{take_at, drop_at, drop-drop}
+use Rattle.std.proofs.lemmas.List.Concat.{flat_map-append}
 use Rattle.mime.specs.Items.{Item, items_of}
 use Rattle.mime.specs.Values.{MediaType}
 use Rattle.mime.specs.Cut.{CutItem, Cut}
 use Rattle.mime.specs.Runs.{IsFirstItem, HasNoItem}
 use Rattle.mime.specs.Runs as runs
 use Rattle.mime.proofs.CutLemmas.Cuts.{has_cut}
-use Rattle.mime_c.specs.Strings.{string_of, strings, pair_texts, texts_of, item_text, item_texts}
+use Rattle.mime_c.specs.Strings.{string_of, strings, pair_texts, parts_of, texts_of, item_text, item_texts}
 use Rattle.mime_c.specs.Writing.{HasWritten, Writes}
+use Rattle.mime_c.specs.HeaderAnswers.{four_digits, range_texts, ranges_texts}
+use Rattle.mime_http.specs.Ranges.{weight_of}
 use Rattle.mime_c.specs.Answers.{ListsTo, is_listed, has_no_memory}
 use Rattle.mime_c.specs.declared.TheConstants.{MIME_OK, MIME_NO_MEMORY}
 use Rattle.mime_c.proofs.NoZero.{items_come_back}
@@ -32,14 +36,29 @@ pub record Leaves (old now : List ℕ) (at : ℕ) (left all : List ℕ) : Type 0
   pub wrote : HasWritten old now at prefix
   pub onward : prefix ++ left ≡ all
 
--- at first all are left,
-pub leaves-first : (old all : List ℕ) → Leaves old old 0 all all
-leaves-first old all = record { prefix = []; wrote = record { there = refl; end = refl }; onward = refl }
+-- at first, behind what is before a position, all are left,
+pub leaves-first : (old all : List ℕ) (at : ℕ) → at ≤ length old → Leaves old old at all (take at old ++ all)
+leaves-first old all at within =
+    let end : at ≡ length (take at old) = omega (arith, length-take at old) in
+    record {
+      prefix = take at old;
+      wrote = record { there = sym (take-append-drop at old) ∙ ap (λ n. take at old ++ drop n old) end; end = end };
+      onward = refl;
+    }
+
+-- which fit if there is room for all from there on,
+pub leaves-room : (old all : List ℕ) (at : ℕ) → at + length all ≤ length old → length (take at old ++ all) ≤ length old
+leaves-room old all at room = omega (arith, length-append (take at old) all, length-take at old)
 
 module _ {old now left all : List ℕ} {at : ℕ} (leaves : Leaves old now at left all) where
   -- the next string fits,
   pub leaves-fits : (text more : List ℕ) → left ≡ string_of text ++ more → length all ≤ length old → at + length text < length now
   leaves-fits text more is room = fits leaves.wrote text more (rw (← is, leaves.onward) room)
+
+  -- and so do other bytes that are next,
+  pub leaves-holds : (bytes more : List ℕ) → left ≡ bytes ++ more → length all ≤ length old → at + length bytes ≤ length now
+  leaves-holds bytes more is room =
+      omega (arith, leaves.wrote.end, ap length leaves.wrote.there, ap length leaves.onward, ap length is, room, length-append {A = ℕ}, length-drop {A = ℕ})
 
   -- it is written,
   pub leaves-next : (bytes more new : List ℕ) (end : ℕ) → left ≡ bytes ++ more → Writes now at bytes new end → Leaves old new end more all
@@ -53,31 +72,69 @@ module _ {old now left all : List ℕ} {at : ℕ} (leaves : Leaves old now at le
 pub leaves-last : {old now all : List ℕ} {at : ℕ} → Leaves old now at [] all → HasWritten old now at all
 leaves-last {old} {now} {all} {at} leaves = subst (HasWritten old now at) (sym (append-nil leaves.prefix) ∙ leaves.onward) leaves.wrote
 
--- ---- the texts of a media type
+-- so all are written from the position on,
+pub writes-all : {old now left all : List ℕ} {at end : ℕ} → Leaves old now end left (take at old ++ all) → left ≡ [] → Writes old at all now end
+writes-all {old} {now} {left} {all} {at} {end} leaves none = record {
+  adds = λ older prefix wrote.
+      let last = leaves-last (subst (λ it. Leaves old now end it (take at old ++ all)) none leaves) in
+      let count = length all in
+      let size = length-append prefix all in
+      let before : take at old ≡ prefix = ap (take at) wrote.there ∙ take_at prefix _ at (sym wrote.end) in
+      let behind : drop (length prefix) old ≡ drop (length prefix) older =
+      ap (drop (length prefix)) wrote.there ∙ drop_at prefix _ (length prefix) refl in
+      let after : drop (length (prefix ++ all)) old ≡ drop (length (prefix ++ all)) older =
+      ap (λ n. drop n old) size ∙ sym (drop-drop count (length prefix) old) ∙ ap (drop count) behind ∙ drop-drop count (length prefix) older
+      ∙ ap (λ n. drop n older) (sym size) in
+      record { there = cc (before, after, last.there); end = last.end ∙ ap (λ it. length (it ++ all)) before };
+}
 
--- the names and the values of items, and then the kept text
-abbrev pub given_texts : List Item → List ℕ → List (List ℕ)
-given_texts [] kept = kept ∷ []
-given_texts (item ∷ items) kept = item.name ∷ item.value ∷ given_texts items kept
+-- and the position after them is as many bytes further on
+pub writes-end : {old new bytes : List ℕ} {at end : ℕ} → at ≤ length old → Writes old at bytes new end → end ≡ at + length bytes
+unfolding leaves-first
+writes-end {old} {new} {bytes} {at} within writes =
+    omega (arith, (writes.adds old (take at old) (leaves-first old [] at within).wrote).end, length-append (take at old) bytes, length-take at old)
+
+-- those that are written first are all that is written
+pub wrote-first : {old new bytes : List ℕ} {end : ℕ} → Writes old 0 bytes new end → HasWritten old new end bytes
+wrote-first {old} writes = writes.adds old [] (record { there = refl; end = refl })
+
+-- ---- the parts of a media type
+
+-- the names and the values of items
+abbrev pub given_texts : List Item → List (List ℕ)
+given_texts [] = []
+given_texts (item ∷ items) = item.name ∷ item.value ∷ given_texts items
 
 -- those of the items of pairs are those of the pairs
-given_texts-items_of : (pairs : List (List ℕ × List ℕ)) (kept : List ℕ) → given_texts (items_of pairs) kept ≡ pair_texts pairs ++ kept ∷ []
-given_texts-items_of [] kept = refl
-given_texts-items_of ((name, value) ∷ pairs) kept = ap (λ texts. name ∷ value ∷ texts) (given_texts-items_of pairs kept)
+given_texts-items_of : (pairs : List (List ℕ × List ℕ)) → given_texts (items_of pairs) ≡ pair_texts pairs
+given_texts-items_of [] = refl
+given_texts-items_of ((name, value) ∷ pairs) = ap (λ texts. name ∷ value ∷ texts) (given_texts-items_of pairs)
 
 -- first comes the essence,
 pub given-first : (media : MediaType) (items : List Item) (text : List ℕ) → items ≡ items_of media.pairs → text ≡ media.essence
-    → strings (texts_of media) ≡ string_of text ++ strings (given_texts items media.kept)
-given-first media items text given is = rw (given, is, given_texts-items_of media.pairs media.kept) refl
+    → strings (parts_of media) ≡ string_of text ++ strings (given_texts items)
+given-first media items text given is = rw (given, is, given_texts-items_of media.pairs) refl
 
--- then the name and the value of each item,
-pub given-next : (items more : List Item) (item : Item) (kept name value : List ℕ) → items ≡ item ∷ more → name ≡ item.name
-    → value ≡ item.value → strings (given_texts items kept) ≡ string_of name ++ (string_of value ++ strings (given_texts more kept))
-given-next items more item kept name value next named valued = rw (next, named, valued) refl
+-- and then the name and the value of each item
+pub given-next : (items more : List Item) (item : Item) (name value : List ℕ) → items ≡ item ∷ more → name ≡ item.name
+    → value ≡ item.value → strings (given_texts items) ≡ string_of name ++ (string_of value ++ strings (given_texts more))
+given-next items more item name value next named valued = rw (next, named, valued) refl
 
--- and last the kept text
-pub given-last : (items : List Item) (kept text : List ℕ) → items ≡ [] → text ≡ kept → strings (given_texts items kept) ≡ string_of text ++ []
-given-last items kept text none is = rw (none, is) refl
+-- behind its parts a media type has its kept text
+pub strings_of_texts : (media : MediaType) → strings (texts_of media) ≡ strings (parts_of media) ++ string_of media.kept
+strings_of_texts media = flat_map-append string_of (parts_of media) (media.kept ∷ []) ∙ ap (λ it. strings (parts_of media) ++ it) (append-nil (string_of media.kept))
+
+-- a range has its weight, its parts and an empty string
+pub strings_of_range : (range : MediaType)
+    → strings (range_texts range) ≡ ((four_digits (weight_of range) ++ 0 ∷ []) ++ strings (parts_of range)) ++ 0 ∷ []
+strings_of_range range =
+    let weight = string_of (four_digits (weight_of range)) in
+    ap (λ it. weight ++ it) (flat_map-append string_of (parts_of range) ([] ∷ [])) ∙ sym (append_assoc weight (strings (parts_of range)) (0 ∷ []))
+
+-- and ranges have those of the first, and then those of the others
+pub strings_of_ranges : (range : MediaType) (ranges : List MediaType)
+    → strings (ranges_texts (range ∷ ranges)) ≡ strings (range_texts range) ++ strings (ranges_texts ranges)
+strings_of_ranges range ranges = flat_map-append string_of (range_texts range) (ranges_texts ranges)
 
 -- ---- the items of a list
 

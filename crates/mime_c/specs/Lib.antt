@@ -1,5 +1,6 @@
 pub mod Strings
 pub mod Answers
+pub mod HeaderAnswers
 pub mod Laws
 -- private
 pub mod Writing

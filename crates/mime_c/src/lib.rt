@@ -8,14 +8,20 @@ ghost use Rattle.std.specs.Prelude.{◌≡◌, ◌+◌, ◌<◌, ◌≤◌, ◌�
 ghost use Rattle.std.specs.Str.{IsUtf8};
 ghost use Rattle.mime.specs.Values.{Reads};
 ghost use Rattle.mime.specs.CutLaws.{IsRead};
-ghost use Rattle.mime_c.specs.Strings.{string_of, strings, texts_of, written};
+ghost use Rattle.mime_c.specs.Strings.{string_of, strings, parts_of, texts_of, written};
 ghost use Rattle.mime_c.specs.Writing.{Writes};
 ghost use Rattle.mime_c.specs.Answers.{number_of, found_of_fault, found_of, Fails, ReadsTo, ListsTo, Compares};
+ghost use Rattle.mime_http.specs.HttpMediaType.{HttpReads};
+ghost use Rattle.mime_http.specs.Field.{tight};
+ghost use Rattle.mime_http.specs.HttpList.{IsHeader};
+ghost use Rattle.mime_http.specs.Ranges.{weight_of};
+ghost use Rattle.mime_c.specs.HeaderAnswers.{number_of_error, found_of_error, HeaderReadsTo, four_digits, range_texts, AcceptsTo, lines_of, BestIs};
 
 pub mod laws;
 
 use mime::{Bad, Mime, MimeIter, ParseError};
-use std::alloc::Global;
+use mime_http::{Accept, FieldError, content_type, weight_of};
+use std::alloc::{AllocError, Global};
 
 // The answers of all calls, by the names and numbers of include/mime.h, which says what they mean.
 const MIME_OK: u32 = 0;
@@ -37,6 +43,10 @@ const MIME_NO_MEMORY: u32 = 7;
 const MIME_NOT_UTF8: u32 = 8;
 
 const MIME_NO_ROOM: u32 = 9;
+
+const MIME_NOT_ACCEPTABLE: u32 = 10;
+
+const MIME_BAD_OFFER: u32 = 11;
 
 // The first byte of each string of `mime_list`: of a media type, and of a bad piece.
 const MIME_GOOD: u8 = b'+';
@@ -134,6 +144,27 @@ fn read(alloc: Global, text: &[u8]) -> Result<Mime, Failure>
     }
 }
 
+/// The number of why a header's value isn't read.
+fn number_of_error(error: &FieldError) -> u32
+    ensures { result ≡ number_of_error error.now }
+{
+    match error {
+        FieldError::NotUtf8 { .. } => MIME_NOT_UTF8,
+        FieldError::Invalid(fault) => number_of(fault),
+        FieldError::NoMemory => MIME_NO_MEMORY,
+    }
+}
+
+/// What is found of why a header's value isn't read.
+fn found_of_error(error: &FieldError) -> MimeFound
+    ensures { result ≡ found_of_error error.now }
+{
+    match error {
+        FieldError::Invalid(fault) => found_of_fault(fault),
+        _ => NOTHING,
+    }
+}
+
 /// Copies bytes to a position, and returns the position after them.
 fn copy(out: &mut [u8], at: usize, bytes: &[u8]) -> usize
     requires { at + length bytes.now ≤ length out.old }
@@ -155,25 +186,33 @@ fn put(out: &mut [u8], at: usize, text: &str) -> usize
     copy(out, end, b"\0")
 }
 
+/// Writes the parts of a media type at a position, and returns the position after them.
+fn put_parts(out: &mut [u8], at: usize, mime: &Mime) -> usize
+    requires { at + length (strings (parts_of mime.now.media)) ≤ length out.old }
+    ensures { Writes out.old at (strings (parts_of mime.now.media)) out.new result }
+{
+    let mut end = put(out, at, mime.essence_str());
+    for (name, value) in mime.params() {
+        end = put(out, end, name.as_str());
+        end = put(out, end, value.as_str());
+    }
+    end
+}
+
 /// Writes the strings of a media type, and returns what is found.
-fn put_parts(out: &mut [u8], mime: &Mime) -> MimeFound
+fn put_texts(out: &mut [u8], mime: &Mime) -> MimeFound
     requires read { IsRead mime.now.media }
     requires room { length (strings (texts_of mime.now.media)) ≤ length out.old }
     ensures bytes { out.new ≡ written (strings (texts_of mime.now.media)) out.old }
     ensures found { result ≡ found_of mime.now.media }
 {
-    let params = mime.params();
-    let (count, _) = params.size_hint();
-    let mut at = put(out, 0, mime.essence_str());
-    for (name, value) in params {
-        at = put(out, at, name.as_str());
-        at = put(out, at, value.as_str());
-    }
+    let (count, _) = mime.params().size_hint();
     let slash = mime.type_().as_str().len();
+    let printed = put_parts(out, 0, mime);
     MimeFound {
-        length: put(out, at, mime.as_str()),
+        length: put(out, printed, mime.as_str()),
         params: count,
-        printed: at,
+        printed,
         slash,
         subtype_end: slash + 1 + mime.subtype().as_str().len(),
         ..NOTHING
@@ -198,12 +237,40 @@ pub extern "C" fn mime_read(
     }
     match read(alloc, text) {
         Ok(mime) => {
-            *found = put_parts(out, &mime);
+            *found = put_texts(out, &mime);
             MIME_OK
         }
         Err(failure) => {
             *found = failure.found;
             failure.answer
+        }
+    }
+}
+
+/// Reads a header's value, such as that of a Content-Type, as one media type (RFC 9110, 8.3.1), and writes what
+/// `mime_read` writes of a text to `out`, of at least `2 * text.len() + 2` bytes.
+#[unsafe(no_mangle)]
+#[tactic(auto, using(crate::proofs::HeaderRoom::value_fits))]
+pub extern "C" fn mime_content_type(
+    alloc: Global,
+    text: &[u8],
+    out: &mut [u8],
+    found: &mut MimeFound,
+) -> u32
+    ensures { HeaderReadsTo text.now out.old result out.new found.new }
+{
+    *found = NOTHING;
+    if out.len() / 2 <= text.len() {
+        return MIME_NO_ROOM;
+    }
+    match content_type(alloc, text) {
+        Ok(mime) => {
+            *found = put_texts(out, &mime);
+            MIME_OK
+        }
+        Err(error) => {
+            *found = found_of_error(&error);
+            number_of_error(&error)
         }
     }
 }
@@ -262,4 +329,100 @@ pub extern "C" fn mime_equal(alloc: Global, one: &[u8], other: &[u8], equal: &mu
     };
     *equal = u8::from(first == second);
     MIME_OK
+}
+
+/// A number below 10,000 in four digits.
+fn four_digits(n: u16) -> [u8; 4]
+    ensures { result ≡ four_digits n }
+{
+    [
+        b'0' + (n / 1000) as u8,
+        b'0' + (n / 100 % 10) as u8,
+        b'0' + (n / 10 % 10) as u8,
+        b'0' + (n % 10) as u8,
+    ]
+}
+
+/// Writes the strings of a range at a position, and returns the position after them.
+fn put_range(out: &mut [u8], at: usize, range: &Mime) -> usize
+    requires { at + length (strings (range_texts range.now.media)) ≤ length out.old }
+    ensures { Writes out.old at (strings (range_texts range.now.media)) out.new result }
+{
+    let digits = four_digits(weight_of(range));
+    let end = copy(out, at, &digits);
+    let end = copy(out, end, b"\0");
+    let end = put_parts(out, end, range);
+    copy(out, end, b"\0")
+}
+
+/// Reads a line of an Accept header (RFC 9110, 12.5.1), and writes the strings of each range to `out`, of at least
+/// `3 * text.len() + 3` bytes: its weight in thousandths, as four digits, its parts, and an empty string. `bad` is the
+/// number of the other entries.
+#[unsafe(no_mangle)]
+pub extern "C" fn mime_accept(
+    alloc: Global,
+    text: &[u8],
+    out: &mut [u8],
+    length: &mut usize,
+    bad: &mut usize,
+) -> u32
+    ensures { AcceptsTo text.now out.old result out.new length.new bad.new }
+{
+    *length = 0;
+    *bad = 0;
+    if out.len() / 3 <= text.len() {
+        return MIME_NO_ROOM;
+    }
+    let Ok(accept) = Accept::from_lines(alloc, &[text]) else {
+        return MIME_NO_MEMORY;
+    };
+    let mut at = 0;
+    for range in accept.ranges() {
+        at = put_range(out, at, range);
+    }
+    *length = at;
+    *bad = accept.bad().len();
+    MIME_OK
+}
+
+/// What a header accepts, of one line or of none.
+fn accepted(alloc: Global, is_there: bool, line: &[u8]) -> Result<Accept, AllocError>
+    ensures { IfOk result (λ accept. IsHeader (lines_of is_there line.now) accept) }
+{
+    if is_there {
+        Accept::from_lines(alloc, &[line])
+    } else {
+        Accept::from_lines(alloc, &[])
+    }
+}
+
+/// Sets `best` to the position in a list of offers, such as `text/html, application/json`, of the one that an Accept header
+/// likes best (RFC 9110, 12.5.1). A request without the header, for which `is_there` is false, accepts everything.
+#[unsafe(no_mangle)]
+pub extern "C" fn mime_best(
+    alloc: Global,
+    is_there: bool,
+    accept: &[u8],
+    offers: &[u8],
+    best: &mut usize,
+) -> u32
+    ensures { BestIs is_there accept.now offers.now result best.new }
+{
+    *best = 0;
+    let Ok(offered) = Accept::from_lines(alloc, &[offers]) else {
+        return MIME_NO_MEMORY;
+    };
+    if !offered.bad().is_empty() {
+        return MIME_BAD_OFFER;
+    }
+    let Ok(header) = accepted(alloc, is_there, accept) else {
+        return MIME_NO_MEMORY;
+    };
+    match header.best(offered.ranges()) {
+        Some(at) => {
+            *best = at;
+            MIME_OK
+        }
+        None => MIME_NOT_ACCEPTABLE,
+    }
 }

@@ -1,5 +1,36 @@
-//! Media types in HTTP headers, as HTTP writes them (RFC 9110): a `Content-Type`, an `Accept` header and its weights,
-//! and a form's boundary.
+//! What a server reads in the headers of HTTP, as HTTP writes it (RFC 9110), over the library `mime`, whose `from_str` rejects some
+//! valid values. What it promises are contracts that a prover checks.
+//!
+//! [`content_type`] reads the bytes of a header's value, such as that of a `Content-Type`. [`Accept`] reads the lines of an
+//! `Accept` header, weighs what a server offers, and gives the best offer or all in order; [`covers`] and [`weight_of`] say it of
+//! a range alone. [`with_parameter`], [`with_charset`] and [`with_boundary`] write parameters, [`boundary`] and [`unescape`] read
+//! them. [`laws`] says what holds of all values.
+//!
+//! # Example
+//! Which status refuses a body that isn't JSON? None refuses that of ` application/json ;; charset=utf-8`.
+//!
+//! ```rust
+//! use mime_http::{FieldError, content_type};
+//! use std::alloc::Global;
+//!
+//! /// The status that refuses a request with this `Content-Type`, if one does.
+//! pub fn refusal(alloc: Global, value: &[u8]) -> Option<u16> {
+//!     match content_type(alloc, value) {
+//!         Ok(mime) => (mime.essence_str() != "application/json").then_some(415),
+//!         Err(FieldError::NoMemory) => Some(503),
+//!         Err(_) => Some(400),
+//!     }
+//! }
+//! ```
+//!
+//! # Errors
+//! A value that isn't a media type is rejected with its one fault, at its position in the bytes that were given: what is
+//! missing at its end, or the first byte that no media type has there. White space may follow a media type, so in `a/b c` the `c`
+//! is at fault; in `text ` the space is. Positions count bytes from 0.
+//!
+//! # Standards
+//! Values are those of RFC 9110 (8.3.1, 5.6.3, 5.6.4 and 5.6.6) in UTF-8: bytes past ASCII that aren't (obs-text) are rejected.
+//! A quoted value keeps its backslashes, as in `mime`; [`unescape`] takes them out.
 #![tactic(auto)]
 
 mod accept;

@@ -16,8 +16,8 @@ fn is_boundary_byte(byte: u8) -> bool
     matches!(byte, b'0'..=b'9' | b'A'..=b'Z' | b'a'..=b'z' | b'\'' | b'(' | b')' | b'+' | b'_' | b',' | b'-' | b'.' | b'/' | b':' | b'=' | b'?' | b' ')
 }
 
-/// Whether bytes are a boundary: 1 to 70 of those that RFC 2046 allows, with no space at the end
-/// (5.1.1). `a b` is one, `a ` and `a;b` aren't.
+/// Whether bytes are a boundary: 1 to 70 letters, digits, spaces and marks of `'()+_,-./:=?`, with no space at the end (RFC 2046, 5.1.1).
+/// `a b` is one, `a ` and `a;b` aren't.
 pub fn is_boundary(bytes: &[u8]) -> bool
     ensures { IsTrue result ↔ IsBoundary bytes.now }
 {
@@ -32,8 +32,9 @@ pub fn is_boundary(bytes: &[u8]) -> bool
     }
 }
 
-/// The boundary between the parts of a multipart body, byte for byte as it stands in the body (RFC 2046, 5.1.1): `a b` for
-/// `multipart/mixed; boundary="a b"`. `None` if the type isn't `multipart`, or the first `boundary` is missing or isn't a boundary.
+/// Returns the boundary between the parts of a body of any `multipart` type, byte for byte as it stands in the body (RFC 2046, 5.1.1):
+/// `a b` for `multipart/mixed; boundary="a b"`. `None` exactly if the type isn't `multipart`, there is no parameter `boundary`, or what
+/// the first one means isn't a boundary, as [`is_boundary`] says.
 ///
 /// # Errors
 /// `AllocError` if memory runs out.

@@ -70,15 +70,18 @@ fn text_with(alloc: Global, mime: &Mime, name: &str, content: &str) -> Result<St
     Ok(text)
 }
 
-/// A media type with this parameter in place of those of its name, ignoring ASCII case (RFC 9110, 5.6.6). The other parameters stay as
-/// they are, in their order, and this one comes last.
+/// Returns the media type with this parameter in place of those of its name, ignoring ASCII case (RFC 9110, 5.6.6). The other
+/// parameters stay as they are, in their order, and this one comes last. `text/html; charset=utf-8` with the parameter `title` and the
+/// value `a "b"` is `text/html; charset=utf-8; title="a \"b\""`.
 ///
 /// `None` exactly if the name isn't a token, or the value has a byte that no quoted string can hold: a control character other than
-/// the tab. So nothing can be put into a header by it. The printed value is in quotes only if it isn't a token, and then a backslash
-/// stands before each quote and each backslash in it (5.6.4); [`unescape`](crate::unescape) gives the value back. That of a `charset`
-/// is in lowercase.
+/// the tab. So neither can add a parameter, nor anything else to a header.
 ///
-/// `text/html; charset=utf-8` with the parameter `title` and the value `a "b"` is `text/html; charset=utf-8; title="a \"b\""`.
+/// A value is printed as it is if it is a token. Any other is in quotes, with a backslash before each quote and each backslash (5.6.4);
+/// [`unescape`](crate::unescape) of the parameter's value gives it back, that of a `charset` in lowercase. The others are printed so
+/// too, with the backslashes that they have: `a/b;p="x"` with the parameter `q` and the value `1` is `a/b; p=x; q=1`.
+///
+/// It allocates the value with its backslashes, the text, and what is kept of it.
 ///
 /// # Errors
 /// `AllocError` if memory runs out.
@@ -107,8 +110,8 @@ pub fn with_parameter(
     }
 }
 
-/// A media type with this charset in place of its own; `None` exactly if the charset isn't a token (RFC 9110, 8.3.2). `text/html` with
-/// the charset `UTF-8` is `text/html; charset=utf-8`.
+/// Returns the media type with this charset in place of its own, as [`with_parameter`] writes it; `None` exactly if the charset isn't a
+/// token (RFC 9110, 8.3.2). `text/html` with the charset `UTF-8` is `text/html; charset=utf-8`.
 ///
 /// # Errors
 /// `AllocError` if memory runs out.
@@ -122,9 +125,9 @@ pub fn with_charset(alloc: Global, mime: &Mime, charset: &str) -> Result<Option<
     with_parameter(alloc, mime, "charset", charset)
 }
 
-/// A media type with this boundary in place of its own, such as one of `multipart/form-data`; `None` exactly if these bytes aren't a
-/// boundary (RFC 2046, 5.1.1). `multipart/mixed` with the boundary `a b` is `multipart/mixed; boundary="a b"`. It may be any media
-/// type, though only those of `multipart` have boundaries.
+/// Returns the media type with this boundary in place of its own, as [`with_parameter`] writes it; `None` exactly if these bytes aren't a
+/// boundary (RFC 2046, 5.1.1), as [`is_boundary`] says. `multipart/mixed` with the boundary `a b` is `multipart/mixed; boundary="a b"`.
+/// Any media type is taken, though a boundary means something in those of the type `multipart` alone.
 ///
 /// # Errors
 /// `AllocError` if memory runs out.

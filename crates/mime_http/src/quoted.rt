@@ -7,8 +7,9 @@ ghost use Rattle.mime_http.specs.Written.{escaped};
 
 use std::alloc::{AllocError, Global};
 
-/// Adds what a value means to a buffer: each quoted pair as the byte after its backslash (RFC 9110,
-/// 5.6.4). A plain value has no backslash, and means itself.
+/// Adds what a parameter's value means to a buffer: each backslash and the byte after it as that byte (RFC 9110, 5.6.4). The value
+/// `a\"b` of `a/b; p="a\"b"` means `a"b`; a value without backslashes means itself. It allocates at most once: not at all if the buffer
+/// has room for as many bytes as the value has.
 ///
 /// # Errors
 /// `AllocError` if memory runs out; the buffer is then as it was.

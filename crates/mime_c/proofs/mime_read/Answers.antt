@@ -10,7 +10,7 @@ returns-then-out-text c = has_no_room (omega (arith, c.if-out-text.true))
 pub returns-in-Ok : goal.returns-in-Ok
 returns-in-Ok c =
     let read = c.in-Ok.ensures.read in
-    rw (c.put_parts.ensures.bytes, c.put_parts.ensures.found)
+    rw (c.put_texts.ensures.bytes, c.put_texts.ensures.found)
     (is_read c.in-Ok.mime.media (omega (arith, c.if-out-text.false)) read.0 read.1 (texts_come_back _ _ read.1))
 
 pub returns-in-Err : goal.returns-in-Err

@@ -1,0 +1,71 @@
+-- What the calls for headers answer, and what the caller's buffer and structs hold then.
+use Rattle.std.specs.Prelude.{◌≡◌, ◌≢◌, ℕ, ◌+◌, ◌*◌, ◌/◌, ◌%◌, ◌<◌, ◌≤◌, Bool, List, [], ◌∷◌, ◌++◌, length, if◌then◌else◌, Some, None, flat_map}
+use Rattle.std.specs.Str.{IsUtf8}
+use Rattle.mime.specs.Values.{MediaType, Reads}
+use Rattle.mime_http.specs.HttpMediaType.{HttpReads}
+use Rattle.mime_http.specs.HttpRefusals.{HttpExplains}
+use Rattle.mime_http.specs.HttpList.{Header, IsHeader}
+use Rattle.mime_http.specs.Ranges.{weight_of, best_offer}
+use Rattle.mime_http.specs.Field.{tight}
+use Rattle.mime_http.specs.declared.value.FieldError.{FieldError}
+use Rattle.mime_http.specs.declared.value.FieldError.TheVariants.{NotUtf8, Invalid, NoMemory}
+use Rattle.mime_c.specs.Strings.{strings, ComeBack, parts_of, texts_of, written}
+use Rattle.mime_c.specs.Answers.{number_of, found_of, found_of_fault, nothing}
+use Rattle.mime_c.specs.declared.MimeFound.{MimeFound}
+use Rattle.mime_c.specs.declared.TheConstants.{MIME_OK, MIME_NO_MEMORY, MIME_NOT_UTF8, MIME_NO_ROOM, MIME_NOT_ACCEPTABLE, MIME_BAD_OFFER}
+
+-- the number of why a value isn't read, and what is found: the invalid byte and its position, if it is one
+abbrev pub number_of_error : FieldError → ℕ
+number_of_error (NotUtf8 pos) = MIME_NOT_UTF8
+number_of_error (Invalid fault) = number_of fault
+number_of_error NoMemory = MIME_NO_MEMORY
+
+abbrev pub found_of_error : FieldError → MimeFound
+found_of_error (Invalid fault) = found_of_fault fault
+found_of_error other = nothing
+
+-- `mime_content_type` of a value, with the caller's buffer: the answer, what the buffer holds then, and what is found. What HTTP writes
+-- there is written as `mime_read` writes it, and printed without the white space and the empty parameters that HTTP allows
+pub data HeaderReadsTo (value old : List ℕ) : ℕ → List ℕ → MimeFound → Type 0 where
+  is_value : (media : MediaType) → 2 * length value + 2 ≤ length old → IsUtf8 value → HttpReads value media → Reads (tight value) media
+      → ComeBack (texts_of media)
+      → HeaderReadsTo value old MIME_OK (written (strings (texts_of media)) old) (found_of media)
+  isnt_value : (error : FieldError) → 2 * length value + 2 ≤ length old → HttpExplains value error
+      → HeaderReadsTo value old (number_of_error error) old (found_of_error error)
+  value_has_no_room : length old < 2 * length value + 2 → HeaderReadsTo value old MIME_NO_ROOM old nothing
+
+-- a number below 10,000 in four digits
+abbrev pub four_digits : ℕ → List ℕ
+four_digits n = (48 + n / 1000) ∷ (48 + n / 100 % 10) ∷ (48 + n / 10 % 10) ∷ (48 + n % 10) ∷ []
+
+-- the texts of a range: its weight in thousandths, its parts, and an empty one, which no name of a parameter is
+abbrev pub range_texts : MediaType → List (List ℕ)
+range_texts range = four_digits (weight_of range) ∷ (parts_of range ++ [] ∷ [])
+
+-- those of a header's ranges
+abbrev pub ranges_texts : List MediaType → List (List ℕ)
+ranges_texts ranges = flat_map range_texts ranges
+
+-- `mime_accept` of a line, with the caller's buffer: the answer, what the buffer holds then, how many bytes were written, and how many
+-- entries are bad
+pub data AcceptsTo (line old : List ℕ) : ℕ → List ℕ → ℕ → ℕ → Type 0 where
+  are_ranges : (header : Header) → 3 * length line + 3 ≤ length old → IsHeader (line ∷ []) header → ComeBack (ranges_texts header.ranges)
+      → AcceptsTo line old MIME_OK (written (strings (ranges_texts header.ranges)) old) (length (strings (ranges_texts header.ranges)))
+          (length header.bad)
+  ranges_have_no_memory : 3 * length line + 3 ≤ length old → AcceptsTo line old MIME_NO_MEMORY old 0 0
+  ranges_have_no_room : length old < 3 * length line + 3 → AcceptsTo line old MIME_NO_ROOM old 0 0
+
+-- the lines of a header of one line, or of none
+abbrev pub lines_of : Bool → List ℕ → List (List ℕ)
+lines_of is_there line = if is_there then line ∷ [] else []
+
+-- `mime_best` of a header, which may be missing, and of a list of offers: the answer, and the position of the best, or 0
+pub data BestIs (is_there : Bool) (line offers : List ℕ) : ℕ → ℕ → Type 0 where
+  best_is : (header offered : Header) (at : ℕ) → IsHeader (lines_of is_there line) header → IsHeader (offers ∷ []) offered
+      → offered.bad ≡ [] → best_offer header.ranges offered.ranges ≡ Some at
+      → BestIs is_there line offers MIME_OK at
+  none_is_best : (header offered : Header) → IsHeader (lines_of is_there line) header → IsHeader (offers ∷ []) offered
+      → offered.bad ≡ [] → best_offer header.ranges offered.ranges ≡ None
+      → BestIs is_there line offers MIME_NOT_ACCEPTABLE 0
+  an_offer_is_bad : (offered : Header) → IsHeader (offers ∷ []) offered → offered.bad ≢ [] → BestIs is_there line offers MIME_BAD_OFFER 0
+  best_has_no_memory : BestIs is_there line offers MIME_NO_MEMORY 0
