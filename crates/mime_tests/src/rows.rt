@@ -27,7 +27,7 @@ use crate::constants::{show_bytes, show_copies};
 use crate::fields::string_at;
 use crate::http::{
     lines_of, show, show_accept, show_accept_in_latin_1, show_best, show_boundary,
-    show_content_type_in_latin_1, show_covers, show_order, show_value, show_text, show_unescaped,
+    show_content_type_in_latin_1, show_covers, show_order, show_text, show_unescaped, show_value,
     show_weight_of, show_weights, show_with_boundary, show_with_charset, show_with_parameter,
 };
 use crate::items::{show_again, show_items, show_list};
