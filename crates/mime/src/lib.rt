@@ -6,17 +6,15 @@
 //! are names, the 32 such as [`TEXT_PLAIN_UTF_8`] are media types. [`laws`] says what holds of all of them.
 //!
 //! # Example
-//! Is a body in UTF-8? It is for the `Content-Type` `TEXT/HTML; Charset="UTF-8"`.
+//! Is a body in UTF-8? It is for the media type read from `TEXT/HTML; Charset="UTF-8"`.
 //!
 //! ```rust
-//! use mime::{CHARSET, FromStrError, Mime, name_eq_str};
-//! use std::alloc::Global;
+//! use mime::{CHARSET, Mime, name_eq_str};
 //!
-//! /// Whether a `Content-Type` says that the body is in UTF-8.
-//! pub fn says_utf8(alloc: Global, content_type: &str) -> Result<bool, FromStrError> {
-//!     let mime = Mime::from_str(alloc, content_type)?;
-//!     let charset = mime.get_param(CHARSET);
-//!     Ok(charset.is_some_and(|charset| name_eq_str(&charset, "utf-8")))
+//! /// Whether a media type has the charset UTF-8, as `TEXT/HTML; Charset="UTF-8"` has. Of two charsets the first counts.
+//! pub fn is_utf8(mime: &Mime) -> bool {
+//!     mime.get_param(CHARSET)
+//!         .is_some_and(|charset| name_eq_str(&charset, "utf-8"))
 //! }
 //! ```
 //!

@@ -3,13 +3,12 @@ use Rattle.std.proofs.Common.{◌≡◌, ℕ, ◌+◌, ◌*◌, ◌≤◌, true,
 use Rattle.std.specs.List.{AllByRecursion}
 use Rattle.std.proofs.lemmas.Bool.Decides.{nat_tests}
 use Rattle.mime.specs.Bytes.{comma_byte}
+use Rattle.mime.specs.Laws.{without_parameters}
 use Rattle.mime.specs.Values.{MediaType, Reads}
 use Rattle.mime.proofs.BytesLemmas.{is_other}
-use Rattle.mime.proofs.LawsLemmas.Headers.{kept_is_safe}
-use Rattle.mime.proofs.LawsLemmas.Callers.{essence_is_read}
+use Rattle.mime.proofs.LawsLemmas.Written.{essence_is_read, kept_is_safe}
 use Rattle.mime.proofs.ValueLemmas.KeptText.{kept_is_read}
-use Rattle.mime.specs.Laws.{without_parameters}
-use Rattle.mime_http.specs.Field.{tight}
+use Rattle.mime_http.specs.Tight.{tight}
 use Rattle.mime_http.specs.HttpMediaType.{HttpReads}
 use Rattle.mime_http.specs.HttpList.{AreBetweenCommas, no_line, line_end, comma, AreSorted, no_text, blank, a_range, a_bad, Header, IsHeader}
 use Rattle.mime_http.specs.Ranges.{weight_of}

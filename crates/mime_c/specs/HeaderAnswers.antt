@@ -3,10 +3,10 @@ use Rattle.std.specs.Prelude.{◌≡◌, ◌≢◌, ℕ, ◌+◌, ◌*◌, ◌/�
 use Rattle.std.specs.Str.{IsUtf8}
 use Rattle.mime.specs.Values.{MediaType, Reads}
 use Rattle.mime_http.specs.HttpMediaType.{HttpReads}
-use Rattle.mime_http.specs.HttpRefusals.{HttpExplains}
+use Rattle.mime_http.specs.HttpFaults.{HttpExplains}
 use Rattle.mime_http.specs.HttpList.{Header, IsHeader}
 use Rattle.mime_http.specs.Ranges.{weight_of, best_offer}
-use Rattle.mime_http.specs.Field.{tight}
+use Rattle.mime_http.specs.Tight.{tight}
 use Rattle.mime_http.specs.declared.value.FieldError.{FieldError}
 use Rattle.mime_http.specs.declared.value.FieldError.TheVariants.{NotUtf8, Invalid, NoMemory}
 use Rattle.mime_c.specs.Strings.{strings, ComeBack, parts_of, texts_of, written}

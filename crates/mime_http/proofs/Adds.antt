@@ -3,9 +3,10 @@ use Rattle.std.proofs.Common.{◌≡◌, ◌∙◌, refl, sym, ap, subst, ℕ, L
 use Rattle.std.specs.Prelude.{flat_map}
 use Rattle.std.specs.Str.{IsUtf8}
 use Rattle.std.proofs.lemmas.List.{append-nil, append_assoc}
+use Rattle.mime.specs.Grammar.{AreSpaces}
 use Rattle.mime.specs.Values.{MediaType}
 use Rattle.mime_http.specs.HttpMediaType.{HttpReads, IsHttpMediaType}
-use Rattle.mime_http.specs.HttpList.{lines_or_any, trim_start, trim_end, AreSorted, no_text, blank, a_range, a_bad, Header, IsHeader}
+use Rattle.mime_http.specs.HttpList.{lines_or_any, AreBetweenCommas, IsPiece, BeginsPiece, trim_start, trim_end, AreSorted, no_text, blank, a_range, a_bad, Header, IsHeader}
 use Rattle.mime_http.specs.Walk.{Adds, AddsLines}
 use Rattle.mime_http.proofs.Cuts.{cut, are_cut, only_cut}
 use Rattle.mime_http.proofs.Trims.{blank_from_trimmed, trimmed_from_blank, utf8_before, utf8_trimmed, http_before, http_trimmed}
@@ -97,3 +98,24 @@ is_header lines header added = record {
   sorted = subst (AreSorted (flat_map cut (lines_or_any lines)) header.ranges) (sym added.now_bad)
       (subst (λ ranges. AreSorted (flat_map cut (lines_or_any lines)) ranges added.bad) (sym added.now_ranges) added.sorted);
 }
+
+-- ---- of nothing but white space
+
+-- each piece of nothing is white space
+pub middle_is_blank : (before : List (List ℕ)) (piece : List ℕ) (rest : List (List ℕ)) → AreSorted (before ++ (piece ∷ rest)) [] [] → AreSpaces piece
+middle_is_blank [] piece rest (blank _ _ _ _ white others) = white
+middle_is_blank (text ∷ before) piece rest (blank _ _ _ _ white others) = middle_is_blank before piece rest others
+
+pub left_is_nothing : (before rest : List (List ℕ)) → AreSorted (before ++ rest) [] [] → AreSorted rest [] []
+left_is_nothing [] rest sorted = sorted
+left_is_nothing (text ∷ before) rest (blank _ _ _ _ white others) = left_is_nothing before rest others
+
+pub first_is_nothing : (first rest : List (List ℕ)) → AreSorted (first ++ rest) [] [] → AreSorted first [] []
+first_is_nothing [] rest sorted = no_text
+first_is_nothing (text ∷ first) rest (blank _ _ _ _ white others) = blank text first [] [] white (first_is_nothing first rest others)
+
+pub piece_is_blank : {line piece : List ℕ} {rest pieces : List (List ℕ)} {old now : Header} → SoFar (cut line) (piece ∷ rest) old now
+    → AreBetweenCommas IsPiece BeginsPiece (line ∷ []) pieces → AreSorted pieces [] [] → AreSpaces piece
+piece_is_blank {line} {piece} {rest} so_far are sorted =
+    middle_is_blank so_far.before piece rest
+    (subst (λ all. AreSorted all [] []) (only_cut are ∙ (append-nil (cut line) ∙ sym so_far.whole)) sorted)

@@ -21,6 +21,7 @@ pub mod Others
 pub mod Places
 pub mod PlacesAgain
 pub mod Ranks
+pub mod TightLength
 pub mod Trims
 pub mod Written
 pub mod WrittenFacts

@@ -35,9 +35,7 @@ abbrev pub Rank : Type 0
 Rank = ℕ × ℕ × ℕ × ℕ
 
 abbrev pub rank_cmp : Rank → Rank → Ordering
-rank_cmp =
-    then_cmp (then_cmp (then_cmp (on (λ rank. rank.0) nat_cmp) (on (λ rank. rank.1) nat_cmp)) (on (λ rank. rank.2) nat_cmp))
-    (on (λ rank. rank.3) nat_cmp)
+rank_cmp = then_cmp (then_cmp (then_cmp (on (λ r. r.0) nat_cmp) (on (λ r. r.1) nat_cmp)) (on (λ r. r.2) nat_cmp)) (on (λ r. r.3) nat_cmp)
 
 -- how closely a range at a position covers an offer, if it does: by the parts that it names, then by the parameters that it demands; of
 -- ranges as close the higher weight counts, and of those the later

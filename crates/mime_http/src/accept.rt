@@ -1,8 +1,9 @@
 //! An `Accept` header, read once, and what it says of a server's offers.
 
-ghost use Rattle.std.specs.Prelude.{◌≡◌, ◌<◌, [], ◌∷◌, map, length, IfSome, IfOk, OnOk};
+ghost use Rattle.std.specs.Prelude.{◌≡◌, ◌<◌, ℕ, List, [], ◌∷◌, map, length, IfSome, IsOk, IfOk, OnOk};
 ghost use Rattle.std.specs.Vec.{vec_items};
-ghost use Rattle.mime_http.specs.HttpList.{IsHeader};
+ghost use Rattle.mime.specs.Grammar.{AreSpaces};
+ghost use Rattle.mime_http.specs.HttpList.{AreBetweenCommas, AreSorted, IsPiece, BeginsPiece, IsHeader};
 ghost use Rattle.mime_http.specs.Ranges.{given_weight, best_offer, AreInOrder};
 ghost use Rattle.mime_http.specs.Walk.{Adds, AddsLines};
 
@@ -32,7 +33,8 @@ impl Model for Accept {
 impl Accept {
     /// Adds a piece of a line: white space alone is nothing.
     fn add(&mut self, alloc: Global, piece: &[u8]) -> Result<(), AllocError>
-        ensures { OnOk result (Adds (piece.now ∷ []) self.old self.new) }
+        ensures added { OnOk result (Adds (piece.now ∷ []) self.old self.new) }
+        ensures blank { AreSpaces piece.now → IsOk result }
     {
         let piece = trim_start(piece);
         if piece.is_empty() {
@@ -47,7 +49,9 @@ impl Accept {
 
     /// Adds a line's pieces.
     fn add_line(&mut self, alloc: Global, line: &[u8]) -> Result<(), AllocError>
-        ensures { OnOk result (AddsLines (line.now ∷ []) self.old self.new) }
+        ensures added { OnOk result (AddsLines (line.now ∷ []) self.old self.new) }
+        ensures nothing { (pieces : List (List ℕ)) → AreBetweenCommas IsPiece BeginsPiece (line.now ∷ []) pieces → AreSorted pieces [] []
+            → IsOk result }
     {
         let mut start = 0;
         let mut place = At::Outside;
@@ -63,13 +67,18 @@ impl Accept {
         self.add(alloc, &line[start..])
     }
 
-    /// The ranges and the bad entries of a header's lines, which are one list (RFC 9110, 5.3). A request without the header, which has no
-    /// line, accepts everything; lines without a range accept nothing.
+    /// Reads a header's lines, which are one list (RFC 9110, 5.3 and 12.5.1). Each line is cut at its commas outside quoted values; a
+    /// quoted value that is open ends with its line. A request without the header, which has no line, accepts everything; lines without a
+    /// range accept nothing.
+    ///
+    /// It allocates once for each range, except for `*/*`, and for each bad entry, once more for one that isn't as the library writes
+    /// it, and for the two lists that hold them.
     ///
     /// # Errors
-    /// `AllocError` if memory runs out.
+    /// `AllocError` if memory runs out, which is never for lines that hold nothing but commas and white space.
     pub fn from_lines(alloc: Global, lines: &[&[u8]]) -> Result<Accept, AllocError>
-        ensures { IfOk result (λ accept. IsHeader (map (λ line. line.now) lines.now) accept) }
+        ensures header { IfOk result (λ accept. IsHeader (map (λ line. line.now) lines.now) accept) }
+        ensures nothing { IsHeader (map (λ line. line.now) lines.now) (record { ranges = []; bad = [] }) → IsOk result }
     {
         let mut accept = Accept {
             ranges: Vec::new(alloc),
@@ -99,7 +108,8 @@ impl Accept {
     }
 
     /// The weight of an offer in thousandths: that of the closest range that covers it, of two as close the higher, and 0 without one
-    /// (RFC 9110, 12.5.1).
+    /// (RFC 9110, 12.5.1). It allocates nothing. An offer `application/json` weighs nothing for the range
+    /// `application/json; charset=utf-8`, which demands the parameter.
     pub fn weight(&self, offer: &Mime) -> u16
         ensures { result ≡ given_weight self.now.ranges offer.now.media }
     {
@@ -116,7 +126,8 @@ impl Accept {
         best_of(&self.ranges, offers)
     }
 
-    /// The positions of all offers that weigh more than 0, in the order in which `best` takes them.
+    /// The positions of all offers that weigh more than 0, in the order in which `best` takes them: the first is what `best` gives. It
+    /// allocates for the positions and, while it runs, for what each offer is given.
     ///
     /// # Errors
     /// `AllocError` if memory runs out.

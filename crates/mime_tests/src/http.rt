@@ -56,7 +56,7 @@ pub(crate) fn offers_of(alloc: Global, strings: &[String]) -> Vec<Mime> {
 }
 
 /// Shows the media type of a value, or why there is none.
-pub(crate) fn show_read(out: &mut String, read: Result<Mime, FieldError>) {
+pub(crate) fn show_value(out: &mut String, read: Result<Mime, FieldError>) {
     match read {
         Ok(mime) => show(out, &mime),
         Err(error) => show(out, &error),
@@ -64,7 +64,7 @@ pub(crate) fn show_read(out: &mut String, read: Result<Mime, FieldError>) {
 }
 
 pub(crate) fn show_content_type_in_latin_1(alloc: Global, out: &mut String, text: &str) {
-    show_read(out, content_type(alloc, &latin_1(alloc, text)));
+    show_value(out, content_type(alloc, &latin_1(alloc, text)));
 }
 
 /// Shows the ranges of a header's lines, and then its bad entries.

@@ -38,12 +38,12 @@ fn print_rows(rt: &HostRuntime, table: &str) -> io::Result<()> {
 
 fn print_row(rt: &HostRuntime, out: &mut String, line: &str) -> io::Result<()> {
     rt.println(line)?;
-    say(rt, out, line);
+    show_line(rt, out, line);
     rt.print(out.as_str())
 }
 
 /// Writes what is said of a row, between the lines `now` and `end`.
-fn say(rt: &HostRuntime, out: &mut String, line: &str) {
+fn show_line(rt: &HostRuntime, out: &mut String, line: &str) {
     let (word, fields) = line.split_once('\t').unwrap_or((line, ""));
     let strings = strings_of(rt.alloc(), fields);
     out.clear();

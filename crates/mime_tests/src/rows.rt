@@ -27,7 +27,7 @@ use crate::constants::{show_bytes, show_copies};
 use crate::fields::string_at;
 use crate::http::{
     lines_of, show, show_accept, show_accept_in_latin_1, show_best, show_boundary,
-    show_content_type_in_latin_1, show_covers, show_order, show_read, show_text, show_unescaped,
+    show_content_type_in_latin_1, show_covers, show_order, show_text, show_unescaped, show_value,
     show_weight_of, show_weights, show_with_boundary, show_with_charset, show_with_parameter,
 };
 use crate::items::{show_again, show_items, show_list};
@@ -75,7 +75,7 @@ pub(crate) fn show_row(rt: &HostRuntime, out: &mut String, word: &str, strings: 
         "accept in Latin-1" => show_accept_in_latin_1(alloc, out, one),
         "best" => show_best(alloc, out, strings),
         "boundary" => show_boundary(alloc, out, one),
-        "content_type" => show_read(out, content_type(alloc, one.as_bytes())),
+        "content_type" => show_value(out, content_type(alloc, one.as_bytes())),
         "content_type in Latin-1" => show_content_type_in_latin_1(alloc, out, one),
         "covers" => show_covers(alloc, out, one, two),
         "is_boundary" => show(out, &is_boundary(one.as_bytes())),

@@ -1,12 +1,14 @@
 -- A comma outside strings ends a piece, and any other byte goes on with it.
 use Rattle.std.proofs.Common.{arith, ◌≡◌, ◌∙◌, ◌≤◌, ◌-◌, ◌+◌, take, drop, length, sym, subst, refl, ℕ, List, [], ◌∷◌, Ok, Err}
 use Rattle.std.specs.Prelude.{Result, OnOk}
+use Rattle.std.proofs.lemmas.Bool.{true≢false}
 use Rattle.std.proofs.lemmas.List.{append-nil}
 use Rattle.std.proofs.Math.ListN.{drop_of_length-le}
+use Rattle.mime_http.specs.declared.list.At.{At}
 use Rattle.mime_http.specs.declared.list.At.TheVariants.{Outside}
 use Rattle.mime_http.specs.HttpList.{Header}
 use Rattle.mime_http.specs.Walk.{Adds, AddsLines}
-use Rattle.mime_http.proofs.Adds.{SoFar, none_so_far, some_more, all_added, lines_added}
+use Rattle.mime_http.proofs.Adds.{SoFar, none_so_far, some_more, all_added, lines_added, piece_is_blank}
 use Rattle.mime_http.proofs.Cuts.{cut_from, cut, cut_ends, cut_goes_on}
 use Rattle.mime_http.proofs.accept.Accept.add_line.Goals as goal
 use Rattle.mime_http.proofs.accept.Accept.add_line.Goals.{then-ends+in_ok-add, else-ends}
@@ -30,7 +32,7 @@ loop-at-preserved c =
           let none = nothing_taken (at + 1 - (at + 1)) (drop (at + 1) line) (omega arith) in
           rw (w.self-is, w.start-is, w.place-is) (
             omega arith,
-            subst (λ piece. So (cut_from Outside piece (drop (at + 1) line)) w.add.new.self) (sym none) (some_more left w.in_ok-add.ensures),
+            subst (λ piece. So (cut_from Outside piece (drop (at + 1) line)) w.add.new.self) (sym none) (some_more left w.in_ok-add.ensures.added),
           )
       | else-ends w ↦
           let step = cut_goes_on place line start at c.loop-at.invariant.0 c.loop-at-test.true (sym c.ends.ensures ∙ w.if-ends.false) in
@@ -47,15 +49,28 @@ when_added line old now new piece (Ok x) so_far added =
     lines_added (line ∷ []) (subst (λ pieces. Adds pieces old new) (sym (append-nil (cut line))) (all_added (some_more so_far added)))
 when_added line old now new piece (Err e) so_far added = added
 
-pub returns : goal.returns
-returns c =
+-- at the end the open piece is left
+last_left : (line : List ℕ) (start at : ℕ) (place : At) {old now : Header} → length line ≤ at → at ≤ length line
+    → SoFar (cut line) (cut_from place (take (at - start) (drop start line)) (drop at line)) old now
+    → SoFar (cut line) (take (length line - start) (drop start line) ∷ []) old now
+last_left line start at place {old} {now} past end left =
+    let same : at ≡ length line = omega (arith, end, past) in
+    subst (λ n. SoFar (cut line) (take (n - start) (drop start line) ∷ []) old now) same
+    (subst (λ rest. SoFar (cut line) (cut_from place (take (at - start) (drop start line)) rest) old now) (drop_of_length-le line past) left)
+
+pub returns-clause-added : goal.returns-clause-added
+returns-clause-added c =
+    let left = last_left c.args.line.now c.loop-at.start c.loop-at.at c.loop-at.place (omega arith) c.loop-at.auto.at-end c.loop-at.invariant.1 in
+    when_added c.args.line.now c.args.self.now c.loop-at.self c.add-2.new.self _ c.add-2.result left c.add-2.ensures.added
+
+pub returns-clause-nothing : goal.returns-clause-nothing
+returns-clause-nothing c = λ pieces are sorted.
+    let left = last_left c.args.line.now c.loop-at.start c.loop-at.at c.loop-at.place (omega arith) c.loop-at.auto.at-end c.loop-at.invariant.1 in
+    c.add-2.ensures.blank (piece_is_blank left are sorted)
+
+pub returns-in_err-add-clause-nothing : goal.returns-in_err-add-clause-nothing
+returns-in_err-add-clause-nothing c = λ pieces are sorted.
     let line = c.args.line.now in
-    let at = c.loop-at.at in
-    let start = c.loop-at.start in
-    let past : length line ≤ at = omega arith in
-    let same : at ≡ length line = omega (arith, c.loop-at.auto.at-end, past) in
-    let left : SoFar (cut line) (take (at - start) (drop start line) ∷ []) c.args.self.now c.loop-at.self =
-    subst (λ rest. SoFar (cut line) (cut_from c.loop-at.place (take (at - start) (drop start line)) rest) c.args.self.now c.loop-at.self)
-    (drop_of_length-le line past) c.loop-at.invariant.1 in
-    when_added line c.args.self.now c.loop-at.self c.add-2.new.self _ c.add-2.result
-    (subst (λ n. SoFar (cut line) (take (n - start) (drop start line) ∷ []) c.args.self.now c.loop-at.self) same left) c.add-2.ensures
+    let left = subst (λ rest. SoFar (cut line) rest c.args.self.now c.loop-at.self)
+    (cut_ends c.loop-at.place line c.loop-at.start c.loop-at.at c.loop-at-test.true (sym c.ends.ensures ∙ c.if-ends.true)) c.loop-at.invariant.1 in
+    absurd (true≢false (sym (c.in_err-add.ensures.blank (piece_is_blank left are sorted))))

@@ -1,14 +1,15 @@
 -- The next line's pieces come before those of the lines that are left.
-use Rattle.std.proofs.Common.{arith, ◌≡◌, ◌≢◌, ◌≤◌, refl, [], ◌∷◌, ℕ, List, map, length, subst, sym, ap, codes}
+use Rattle.std.proofs.Common.{arith, ◌≡◌, ◌≢◌, ◌++◌, ◌∙◌, ◌≤◌, refl, [], ◌∷◌, ℕ, List, map, length, subst, sym, ap, codes}
 use Rattle.std.specs.Prelude.{flat_map}
 use Rattle.std.specs.Vec.{vec_items}
+use Rattle.std.proofs.lemmas.Bool.{true≢false}
 use Rattle.std.proofs.lemmas.Grind.{common_steps}
 use Rattle.std.proofs.lemmas.List.{append-nil}
 use Rattle.std.proofs.Math.ListN.{drop_of_length-le}
-use Rattle.mime_http.specs.HttpList.{Header, IsHeader, lines_or_any}
+use Rattle.mime_http.specs.HttpList.{AreSorted, Header, IsHeader, lines_or_any}
 use Rattle.mime_http.specs.Walk.{Adds, AddsLines}
-use Rattle.mime_http.proofs.Adds.{SoFar, none_so_far, some_more, all_added, pieces_added, is_header}
-use Rattle.mime_http.proofs.Cuts.{cut}
+use Rattle.mime_http.proofs.Adds.{SoFar, none_so_far, some_more, all_added, pieces_added, is_header, middle_is_blank, left_is_nothing, first_is_nothing}
+use Rattle.mime_http.proofs.Cuts.{cut, are_cut, only_cut}
 use Rattle.mime_http.proofs.Highest.{item_left}
 use Rattle.mime_http.proofs.accept.Accept.from_lines.Goals as goal
 use Rattle.mime_http.proofs.accept.Accept.from_lines.Goals.{then-is_empty+in_ok-add, else-is_empty}
@@ -40,6 +41,22 @@ module _ {X : Type 0} (f : X → List ℕ) where
   done : (all : List X) (now : Header) → Left all [] now → IsHeader (map f all) now
   done all now left = is_header (map f all) now (all_added left)
 
+  -- of lines that hold nothing each holds nothing, and there is one
+  line_is_nothing : (all rest more : List X) (line : X) (now : Header) → rest ≡ line ∷ more → Left all rest now → IsHeader (map f all) nothing
+      → AreSorted (flat_map cut (f line ∷ [])) [] []
+  line_is_nothing all rest more line now is left holds =
+      let next = subst (λ lines. Left all lines now) is left in
+      let sorted : AreSorted (next.before ++ (cut (f line) ++ flat_map cut (map f more))) [] [] =
+      subst (λ pieces. AreSorted pieces [] []) (only_cut holds.cut ∙ sym next.whole) holds.sorted in
+      subst (λ pieces. AreSorted pieces [] []) (sym (append-nil (cut (f line))))
+      (first_is_nothing (cut (f line)) (flat_map cut (map f more)) (left_is_nothing next.before _ sorted))
+
+  some_line : (lines : List X) → length lines ≡ 0 → ¬ (IsHeader (map f lines) nothing)
+  some_line [] none holds =
+      let sorted : AreSorted (codes "*/*" ∷ []) [] [] = subst (λ pieces. AreSorted pieces [] []) (only_cut holds.cut) holds.sorted in
+      true≢false (sym (middle_is_blank [] (codes "*/*") [] sorted))
+  some_line (line ∷ lines) none holds = absurd (omega (arith, none))
+
 pub loop-line-init : goal.loop-line-init
 loop-line-init c =
     let lines = c.args.lines.now in
@@ -51,7 +68,7 @@ loop-line-init c =
       | then-is_empty+in_ok-add w ↦
           let none : length lines ≡ 0 = grind (arith, common_steps) in
           subst Starts (sym w.accept-is) (of_no_line (λ line. line.now) lines w.add.new.self none
-          (subst (λ start. Adds (codes "*/*" ∷ []) start w.add.new.self) empty w.in_ok-add.ensures))
+          (subst (λ start. Adds (codes "*/*" ∷ []) start w.add.new.self) empty w.in_ok-add.ensures.added))
       | else-is_empty w ↦
           let some : length lines ≢ 0 = λ none. absurd (grind (arith, common_steps)) in
           subst Starts (sym w.accept-is) (subst Starts (sym empty) (of_lines (λ line. line.now) lines some))
@@ -62,11 +79,23 @@ loop-line-preserved c =
     let lines = c.args.lines.now in
     let at = c.loop-line.line-index in
     next (λ line. line.now) lines _ _ _ c.loop-line.accept c.add_line.new.self (item_left lines at _ c.loop-line-test.true)
-    c.loop-line.invariant c.in_ok-add_line.ensures
+    c.loop-line.invariant c.in_ok-add_line.ensures.added
 
-pub returns : goal.returns
-returns c =
+pub returns-clause-header : goal.returns-clause-header
+returns-clause-header c =
     let lines = c.args.lines.now in
     let past : length lines ≤ c.loop-line.line-index = omega arith in
     done (λ line. line.now) lines c.loop-line.accept
     (subst (λ rest. Left (λ line. line.now) lines rest c.loop-line.accept) (drop_of_length-le lines past) c.loop-line.invariant)
+
+pub returns-in_err-add-clause-nothing : goal.returns-in_err-add-clause-nothing
+returns-in_err-add-clause-nothing c = λ holds.
+    let none : length c.args.lines.now ≡ 0 = grind (arith, common_steps) in
+    absurd (some_line (λ line. line.now) c.args.lines.now none holds)
+
+pub returns-in_err-add_line-clause-nothing : goal.returns-in_err-add_line-clause-nothing
+returns-in_err-add_line-clause-nothing c = λ holds.
+    let lines = c.args.lines.now in
+    absurd (true≢false (sym (c.in_err-add_line.ensures.nothing _ (are_cut (_ ∷ []))
+    (line_is_nothing (λ line. line.now) lines _ _ _ c.loop-line.accept (item_left lines c.loop-line.line-index _ c.loop-line-test.true)
+    c.loop-line.invariant holds))))
