@@ -57,8 +57,8 @@ def strings():
     yield Row("text/pl(in, rejected", "read", "text/pl(in")
 
 
-# The Rust crate rejects these.
-REJECTED = ("read: pairs \\\"", "walk: pairs \\\"")
+# The other side rejects these.
+REJECTED = ("read: pairs \\\"", "walk: pairs \\\"", "content_type: semicolons", "content_type: spaces")
 
 
 def long(label, operation, make, other=""):
