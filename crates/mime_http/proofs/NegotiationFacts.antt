@@ -1,15 +1,20 @@
 -- Worked facts of the pages `HttpList`, `Ranges` and `Weight`: what is true of a text, and what is false.
-use Rattle.std.proofs.Common.{◌≡◌, refl, ap, arith, ℕ, true, List, [], ◌∷◌, length, Option, Some, None, is_some, ◌++◌, drop}
-use Rattle.std.specs.Prelude.{◌+◌, codes, unwrap_or}
+use Rattle.std.proofs.Common.{◌≡◌, refl, ap, arith, ℕ, true, List, [], ◌∷◌, length, Option, Some, None, is_some, ◌++◌, drop, sym}
+use Rattle.std.specs.Prelude.{◌+◌, codes, unwrap_or, flat_map}
 use Rattle.std.proofs.lemmas.Str.{IsUtf8-nil}
 use Rattle.mime.specs.Bytes.{is_token_byte}
 use Rattle.mime.specs.Grammar.{AreSpaces, IsToken}
 use Rattle.mime.specs.Values.{MediaType, lowered, last_plus}
-use Rattle.mime_http.specs.HttpMediaType.{HttpReads, no_more}
-use Rattle.mime_http.specs.HttpList.{no_line, line_end, comma, no_text, blank, a_range, AreHttpLists, IsPiece, trim_start, trim_end}
+use Rattle.mime_http.specs.HttpMediaType.{HttpReads, no_more, IsHttpMediaType}
+use Rattle.mime_http.specs.HttpList.{no_line, line_end, comma, no_text, blank, a_range, AreHttpLists, IsPiece, trim_start, trim_end, a_bad, IsHeader}
 use Rattle.mime_http.specs.Ranges.{closeness, given_weight, best_offer, AreInOrder}
 use Rattle.mime_http.specs.Weight.{thousandths_of}
-use Rattle.mime_http.proofs.Cuts.{cut, cut_of_piece}
+use Rattle.mime_http.proofs.Cuts.{cut, cut_of_piece, are_cut}
+use Rattle.std.proofs.lemmas.Bool.{true≢false}
+use Rattle.mime.proofs.GrammarLemmas.Readings.{stopped-from_walk}
+use Rattle.mime_http.specs.Tight.{tight}
+use Rattle.mime_http.proofs.HttpLaws.{accepted_from_http}
+use Rattle.mime_http.proofs.Lists.{one_header, http_lists_are_read}
 use Rattle.mime_http.proofs.First.{best_is_first}
 use Rattle.mime_http.proofs.HttpText.{put_ascii}
 
@@ -209,3 +214,23 @@ two_elements = record {
       (blank (codes " ") _ _ _ refl (a_range (codes "c/d") _ _ _ _ (put_ascii (codes "c/d") [] (omega arith, (omega arith, (omega arith, tt))) IsUtf8-nil)
       (short_read [] (codes "c") (codes "d") [] refl refl refl refl refl (codes "c/d") refl refl) no_text)));
 }
+
+-- a bad entry is bad as a whole, and a line that has one is no such list
+not_media_type : ¬ (IsHttpMediaType (codes " a b"))
+unfolding is_token_byte
+not_media_type is = stopped-from_walk (tight (codes " a b")) refl (accepted_from_http _ is)
+
+bad_entry : IsHeader (codes "c/d, a b" ∷ []) (record { ranges = short (codes "c/d") ∷ []; bad = codes "a b" ∷ [] })
+unfolding is_token_byte
+bad_entry = record {
+  pieces = flat_map cut (codes "c/d, a b" ∷ []);
+  cut = are_cut (codes "c/d, a b" ∷ []);
+  sorted = a_range (codes "c/d") _ _ _ _ (put_ascii (codes "c/d") [] (omega arith, (omega arith, (omega arith, tt))) IsUtf8-nil)
+      (short_read [] (codes "c") (codes "d") [] refl refl refl refl refl (codes "c/d") refl refl)
+      (a_bad (codes " a b") _ _ _ (λ blank. true≢false (sym blank)) (λ is. not_media_type is.1) no_text);
+}
+
+not_a_list : (media : List MediaType) → ¬ (AreHttpLists (codes "c/d, a b" ∷ []) media)
+not_a_list media is =
+    let same = (one_header (codes "c/d, a b" ∷ []) _ _ bad_entry (http_lists_are_read (codes "c/d, a b" ∷ []) media is)).1 in
+    absurd (omega (arith, ap length same))
