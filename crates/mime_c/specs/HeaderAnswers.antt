@@ -51,7 +51,7 @@ ranges_texts ranges = flat_map range_texts ranges
 pub data AcceptsTo (line old : List ℕ) : ℕ → List ℕ → ℕ → ℕ → Type 0 where
   are_ranges : (header : Header) → 3 * length line + 3 ≤ length old → IsHeader (line ∷ []) header → ComeBack (ranges_texts header.ranges)
       → AcceptsTo line old MIME_OK (written (strings (ranges_texts header.ranges)) old) (length (strings (ranges_texts header.ranges)))
-          (length header.bad)
+      (length header.bad)
   ranges_have_no_memory : 3 * length line + 3 ≤ length old → AcceptsTo line old MIME_NO_MEMORY old 0 0
   ranges_have_no_room : length old < 3 * length line + 3 → AcceptsTo line old MIME_NO_ROOM old 0 0
 
