@@ -248,22 +248,22 @@ pub extern "C" fn mime_read(
 }
 
 /// Reads a header's value, such as that of a Content-Type, as one media type (RFC 9110, 8.3.1), and writes what
-/// `mime_read` writes of a text to `out`, of at least `2 * text.len() + 2` bytes.
+/// `mime_read` writes of a text to `out`, of at least `2 * value.len() + 2` bytes.
 #[unsafe(no_mangle)]
 #[tactic(auto, using(crate::proofs::HeaderRoom::value_fits))]
 pub extern "C" fn mime_content_type(
     alloc: Global,
-    text: &[u8],
+    value: &[u8],
     out: &mut [u8],
     found: &mut MimeFound,
 ) -> u32
-    ensures { HeaderReadsTo text.now out.old result out.new found.new }
+    ensures { HeaderReadsTo value.now out.old result out.new found.new }
 {
     *found = NOTHING;
-    if out.len() / 2 <= text.len() {
+    if out.len() / 2 <= value.len() {
         return MIME_NO_ROOM;
     }
-    match content_type(alloc, text) {
+    match content_type(alloc, value) {
         Ok(mime) => {
             *found = put_texts(out, &mime);
             MIME_OK

@@ -30,7 +30,7 @@ loop-range-init c = leaves-first _ _ 0 (omega arith)
 pub put_range-at-requires : goal.put_range-at-requires
 put_range-at-requires c =
     let ranges = c.ranges-range-items.ensures in
-    let fit = ranges_fit c.args.text.now c.in-Ok.accept c.in-Ok.ensures in
+    let fit = ranges_fit c.args.text.now c.in-Ok.accept c.in-Ok.ensures.header in
     let room : length (all_of c.ranges-range-items.result.now) ≤ length c.args.out.now =
     omega (arith, fit, ap (λ all. length (strings (ranges_texts all))) ranges, c.if-out-text.false) in
     leaves-holds c.loop-range.invariant (strings (range_texts c.range-item.result.media)) _
@@ -50,4 +50,4 @@ returns c =
     let wrote = leaves-last (subst (λ left. Leaves c.args.out.now c.loop-range.out c.loop-range.at left (all_of ranges)) none c.loop-range.invariant) in
     let bad : length c.bad.result.now ≡ length header.bad = sym (length-map c.bad.result.now _) ∙ ap length c.bad.ensures in
     rw (wrote.there, wrote.end, bad, c.ranges-range-items.ensures)
-    (are_ranges header (omega (arith, c.if-out-text.false)) c.in-Ok.ensures (ranges_come_back _ header c.in-Ok.ensures))
+    (are_ranges header (omega (arith, c.if-out-text.false)) c.in-Ok.ensures.header (ranges_come_back _ header c.in-Ok.ensures.header))

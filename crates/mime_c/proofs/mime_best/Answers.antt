@@ -25,7 +25,7 @@ pub returns-then-not-is_empty : goal.returns-then-not-is_empty
 returns-then-not-is_empty c =
     let some : c.in-Ok.offered.bad ≢ [] =
     λ none. absurd (grind (arith, nat_tests, length-map c.bad.result.now vec_items, ap length (c.bad.ensures ∙ none), c.if-not-is_empty.ensures)) in
-    an_offer_is_bad c.in-Ok.offered c.in-Ok.ensures some
+    an_offer_is_bad c.in-Ok.offered c.in-Ok.ensures.header some
 
 pub returns-in_default-accepted : goal.returns-in_default-accepted
 returns-in_default-accepted c = best_has_no_memory
@@ -33,11 +33,11 @@ returns-in_default-accepted c = best_has_no_memory
 pub returns-in-Some : goal.returns-in-Some
 returns-in-Some c =
     let none = none_bad c.bad.result.now vec_items (grind (arith, nat_tests, c.if-not-is_empty.ensures)) c.bad.ensures in
-    best_is c.in-Ok-accepted.header c.in-Ok.offered c.in-Some.at c.in-Ok-accepted.ensures c.in-Ok.ensures none
+    best_is c.in-Ok-accepted.header c.in-Ok.offered c.in-Some.at c.in-Ok-accepted.ensures c.in-Ok.ensures.header none
     (chosen c.in-Ok-accepted.header.ranges c.ranges-2.result.now c.ranges-2.ensures c.best.ensures.exact c.in-Some.is)
 
 pub returns : goal.returns
 returns c =
     let none = none_bad c.bad.result.now vec_items (grind (arith, nat_tests, c.if-not-is_empty.ensures)) c.bad.ensures in
-    none_is_best c.in-Ok-accepted.header c.in-Ok.offered c.in-Ok-accepted.ensures c.in-Ok.ensures none
+    none_is_best c.in-Ok-accepted.header c.in-Ok.offered c.in-Ok-accepted.ensures c.in-Ok.ensures.header none
     (chosen c.in-Ok-accepted.header.ranges c.ranges-2.result.now c.ranges-2.ensures c.best.ensures.exact c.in-None.is)
