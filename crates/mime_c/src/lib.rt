@@ -4,7 +4,7 @@
 //! each, into the caller's buffer. The pages `Strings` and `Answers` of `Rattle.mime_c.specs` say which.
 #![tactic(auto)]
 
-ghost use Rattle.std.specs.Prelude.{◌≡◌, ◌+◌, ◌<◌, ◌≤◌, ◌∷◌, length, IfOk, IfErr};
+ghost use Rattle.std.specs.Prelude.{◌≡◌, ◌+◌, ◌<◌, ◌≤◌, ◌∷◌, length, IfOk, IfErr, IsOk};
 ghost use Rattle.std.specs.Str.{IsUtf8};
 ghost use Rattle.mime.specs.Values.{Reads};
 ghost use Rattle.mime.specs.CutLaws.{IsRead};
@@ -15,7 +15,7 @@ ghost use Rattle.mime_http.specs.HttpMediaType.{HttpReads};
 ghost use Rattle.mime_http.specs.Tight.{tight};
 ghost use Rattle.mime_http.specs.HttpList.{IsHeader};
 ghost use Rattle.mime_http.specs.Ranges.{weight_of};
-ghost use Rattle.mime_c.specs.HeaderAnswers.{number_of_error, found_of_error, HeaderReadsTo, four_digits, range_texts, AcceptsTo, lines_of, BestIs};
+ghost use Rattle.mime_c.specs.HeaderAnswers.{number_of_error, found_of_error, HeaderReadsTo, four_digits, range_texts, AcceptsTo, lines_of, HaveNoEntry, BestIs};
 
 pub mod laws;
 
@@ -387,7 +387,8 @@ pub extern "C" fn mime_accept(
 
 /// What a header accepts, of one line or of none.
 fn accepted(alloc: Global, is_there: bool, line: &[u8]) -> Result<Accept, AllocError>
-    ensures { IfOk result (λ accept. IsHeader (lines_of is_there line.now) accept) }
+    ensures header { IfOk result (λ accept. IsHeader (lines_of is_there line.now) accept) }
+    ensures nothing { HaveNoEntry (lines_of is_there line.now) → IsOk result }
 {
     if is_there {
         Accept::from_lines(alloc, &[line])

@@ -1,5 +1,6 @@
 -- Each range is written after those before it, and each answer is what it says.
-use Rattle.std.proofs.Common.{◌≡◌, ℕ, ◌+◌, ◌<◌, ◌≤◌, get_or, List, [], ◌∷◌, ◌++◌, length, map, drop, sym, ap, ◌∙◌, subst, arith}
+use Rattle.std.proofs.Common.{◌≡◌, ℕ, ◌+◌, ◌<◌, ◌≤◌, get_or, List, [], ◌∷◌, ◌++◌, length, map, drop, sym, ap, ◌∙◌, subst, arith, IsOk}
+use Rattle.std.proofs.lemmas.Bool.{true≢false}
 use Rattle.std.proofs.lemmas.List.{length-map, drop_more, drop_all}
 use Rattle.mime.specs.Values.{OwnedMedia}
 use Rattle.mime_c.specs.Strings.{strings}
@@ -22,7 +23,8 @@ pub returns-then-out-text : goal.returns-then-out-text
 returns-then-out-text c = ranges_have_no_room (omega (arith, c.if-out-text.true))
 
 pub returns-in_default : goal.returns-in_default
-returns-in_default c = ranges_have_no_memory (omega (arith, c.if-out-text.false))
+returns-in_default c =
+    ranges_have_no_memory (omega (arith, c.if-out-text.false)) (λ none. true≢false (sym (subst IsOk c.in_default.is (c.from_lines.ensures.nothing none))))
 
 pub loop-range-init : goal.loop-range-init
 loop-range-init c = leaves-first _ _ 0 (omega arith)
