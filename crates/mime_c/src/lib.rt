@@ -352,7 +352,7 @@ fn put_range(out: &mut [u8], at: usize, range: &Mime) -> usize
     let end = copy(out, at, &digits);
     let end = copy(out, end, b"\0");
     let end = put_parts(out, end, range);
-    copy(out, end, b"\0")
+    put(out, end, "")
 }
 
 /// Reads a line of an Accept header (RFC 9110, 12.5.1), and writes the strings of each range to `out`, of at least
