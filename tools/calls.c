@@ -204,7 +204,8 @@ static void check_accept(const char *text, size_t len)
     static const char offers[] = "text/html, image/svg+xml;p=x, a/b";
     size_t length, bad, best, room = 3 * len + 3, ranges = 0;
     count_anew();
-    CHECK(mime_accept(text, len, buffer(room - 1), room - 1, &length, &bad) == MIME_NO_ROOM && length + bad == 0 && has_written(0, room - 1));
+    CHECK(mime_accept(text, len, buffer(room - 1), room - 1, &length, &bad) == MIME_NO_ROOM && length + bad == 0);
+    CHECK(requests == 0 && has_written(0, room - 1));
     char *out = buffer(room);
     CHECK(mime_accept(text, len, out, room, &length, &bad) == MIME_OK && has_written(length, room) && held == 0);
     size_t asked = requests;
