@@ -1,21 +1,19 @@
 -- How many bytes the strings of a header's value are, and that they come back.
-use Rattle.std.proofs.Common.{◌≡◌, ℕ, ◌+◌, ◌*◌, ◌≤◌, true, List, [], ◌∷◌, ◌++◌, length, refl, ap, ◌∙◌, arith, length-append}
+use Rattle.std.proofs.Common.{◌≡◌, ℕ, ◌+◌, ◌*◌, ◌≤◌, List, [], ◌∷◌, ◌++◌, length, refl, ap, ◌∙◌, arith, length-append}
 use Rattle.std.specs.List.{AllByRecursion}
 use Rattle.std.proofs.lemmas.Bool.Decides.{nat_tests}
 use Rattle.mime.specs.Bytes.{comma_byte}
 use Rattle.mime.specs.Laws.{without_parameters}
 use Rattle.mime.specs.Values.{MediaType, Reads}
-use Rattle.mime.proofs.BytesLemmas.{is_other}
 use Rattle.mime.proofs.LawsLemmas.Written.{essence_is_read, kept_is_safe}
 use Rattle.mime.proofs.ValueLemmas.KeptText.{kept_is_read}
 use Rattle.mime_http.specs.Tight.{tight}
 use Rattle.mime_http.specs.HttpMediaType.{HttpReads}
 use Rattle.mime_http.specs.HttpList.{AreBetweenCommas, no_line, line_end, comma, AreSorted, no_text, blank, a_range, a_bad, Header, IsHeader}
-use Rattle.mime_http.specs.Ranges.{weight_of}
 use Rattle.mime_http.proofs.TightLength.{no_longer}
 use Rattle.mime_http.proofs.HttpForth.{http_is_read}
 use Rattle.mime_c.specs.Strings.{string_of, strings, ComeBack, parts_of, texts_of}
-use Rattle.mime_c.specs.HeaderAnswers.{four_digits, range_texts, ranges_texts}
+use Rattle.mime_c.specs.HeaderAnswers.{range_texts, ranges_texts}
 use Rattle.mime_c.proofs.NoZero.{HasNoZero, come_back, no_zero-read, no_zero-pairs}
 use Rattle.mime_c.proofs.Room.{lengths_of, texts_fit}
 use Rattle.mime_c.proofs.Writing.{strings_of_texts, strings_of_range, strings_of_ranges}

@@ -4,4 +4,5 @@ pub mod Writing
 pub mod HeaderRoom
 pub mod OneOutcome
 mod AnswerFacts
+mod HeaderFacts
 mod OutcomeFacts

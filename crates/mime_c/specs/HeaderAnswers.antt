@@ -46,13 +46,17 @@ range_texts range = four_digits (weight_of range) ∷ (parts_of range ++ [] ∷ 
 abbrev pub ranges_texts : List MediaType → List (List ℕ)
 ranges_texts ranges = flat_map range_texts ranges
 
+-- lines without an entry, for which no memory is needed
+abbrev pub HaveNoEntry : List (List ℕ) → Type 0
+HaveNoEntry lines = IsHeader lines (record { ranges = []; bad = [] })
+
 -- `mime_accept` of a line, with the caller's buffer: the answer, what the buffer holds then, how many bytes were written, and how many
 -- entries are bad
 pub data AcceptsTo (line old : List ℕ) : ℕ → List ℕ → ℕ → ℕ → Type 0 where
   are_ranges : (header : Header) → 3 * length line + 3 ≤ length old → IsHeader (line ∷ []) header → ComeBack (ranges_texts header.ranges)
       → AcceptsTo line old MIME_OK (written (strings (ranges_texts header.ranges)) old) (length (strings (ranges_texts header.ranges)))
-          (length header.bad)
-  ranges_have_no_memory : 3 * length line + 3 ≤ length old → AcceptsTo line old MIME_NO_MEMORY old 0 0
+      (length header.bad)
+  ranges_have_no_memory : 3 * length line + 3 ≤ length old → ¬ (HaveNoEntry (line ∷ [])) → AcceptsTo line old MIME_NO_MEMORY old 0 0
   ranges_have_no_room : length old < 3 * length line + 3 → AcceptsTo line old MIME_NO_ROOM old 0 0
 
 -- the lines of a header of one line, or of none
@@ -68,4 +72,4 @@ pub data BestIs (is_there : Bool) (line offers : List ℕ) : ℕ → ℕ → Typ
       → offered.bad ≡ [] → best_offer header.ranges offered.ranges ≡ None
       → BestIs is_there line offers MIME_NOT_ACCEPTABLE 0
   an_offer_is_bad : (offered : Header) → IsHeader (offers ∷ []) offered → offered.bad ≢ [] → BestIs is_there line offers MIME_BAD_OFFER 0
-  best_has_no_memory : BestIs is_there line offers MIME_NO_MEMORY 0
+  best_has_no_memory : ¬ (HaveNoEntry (offers ∷ []) × HaveNoEntry (lines_of is_there line)) → BestIs is_there line offers MIME_NO_MEMORY 0

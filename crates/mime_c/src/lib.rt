@@ -4,7 +4,7 @@
 //! each, into the caller's buffer. The pages `Strings` and `Answers` of `Rattle.mime_c.specs` say which.
 #![tactic(auto)]
 
-ghost use Rattle.std.specs.Prelude.{◌≡◌, ◌+◌, ◌<◌, ◌≤◌, ◌∷◌, length, IfOk, IfErr};
+ghost use Rattle.std.specs.Prelude.{◌≡◌, ◌+◌, ◌<◌, ◌≤◌, ◌∷◌, length, IfOk, IfErr, IsOk};
 ghost use Rattle.std.specs.Str.{IsUtf8};
 ghost use Rattle.mime.specs.Values.{Reads};
 ghost use Rattle.mime.specs.CutLaws.{IsRead};
@@ -15,7 +15,7 @@ ghost use Rattle.mime_http.specs.HttpMediaType.{HttpReads};
 ghost use Rattle.mime_http.specs.Tight.{tight};
 ghost use Rattle.mime_http.specs.HttpList.{IsHeader};
 ghost use Rattle.mime_http.specs.Ranges.{weight_of};
-ghost use Rattle.mime_c.specs.HeaderAnswers.{number_of_error, found_of_error, HeaderReadsTo, four_digits, range_texts, AcceptsTo, lines_of, BestIs};
+ghost use Rattle.mime_c.specs.HeaderAnswers.{number_of_error, found_of_error, HeaderReadsTo, four_digits, range_texts, AcceptsTo, lines_of, HaveNoEntry, BestIs};
 
 pub mod laws;
 
@@ -248,22 +248,22 @@ pub extern "C" fn mime_read(
 }
 
 /// Reads a header's value, such as that of a Content-Type, as one media type (RFC 9110, 8.3.1), and writes what
-/// `mime_read` writes of a text to `out`, of at least `2 * text.len() + 2` bytes.
+/// `mime_read` writes of a text to `out`, of at least `2 * value.len() + 2` bytes.
 #[unsafe(no_mangle)]
 #[tactic(auto, using(crate::proofs::HeaderRoom::value_fits))]
 pub extern "C" fn mime_content_type(
     alloc: Global,
-    text: &[u8],
+    value: &[u8],
     out: &mut [u8],
     found: &mut MimeFound,
 ) -> u32
-    ensures { HeaderReadsTo text.now out.old result out.new found.new }
+    ensures { HeaderReadsTo value.now out.old result out.new found.new }
 {
     *found = NOTHING;
-    if out.len() / 2 <= text.len() {
+    if out.len() / 2 <= value.len() {
         return MIME_NO_ROOM;
     }
-    match content_type(alloc, text) {
+    match content_type(alloc, value) {
         Ok(mime) => {
             *found = put_texts(out, &mime);
             MIME_OK
@@ -352,7 +352,7 @@ fn put_range(out: &mut [u8], at: usize, range: &Mime) -> usize
     let end = copy(out, at, &digits);
     let end = copy(out, end, b"\0");
     let end = put_parts(out, end, range);
-    copy(out, end, b"\0")
+    put(out, end, "")
 }
 
 /// Reads a line of an Accept header (RFC 9110, 12.5.1), and writes the strings of each range to `out`, of at least
@@ -387,7 +387,8 @@ pub extern "C" fn mime_accept(
 
 /// What a header accepts, of one line or of none.
 fn accepted(alloc: Global, is_there: bool, line: &[u8]) -> Result<Accept, AllocError>
-    ensures { IfOk result (λ accept. IsHeader (lines_of is_there line.now) accept) }
+    ensures header { IfOk result (λ accept. IsHeader (lines_of is_there line.now) accept) }
+    ensures nothing { HaveNoEntry (lines_of is_there line.now) → IsOk result }
 {
     if is_there {
         Accept::from_lines(alloc, &[line])

@@ -1,5 +1,6 @@
 -- Each range is written after those before it, and each answer is what it says.
-use Rattle.std.proofs.Common.{◌≡◌, ℕ, ◌*◌, ◌+◌, ◌<◌, ◌≤◌, get_or, List, [], ◌∷◌, ◌++◌, length, map, drop, sym, ap, ◌∙◌, subst, arith}
+use Rattle.std.proofs.Common.{◌≡◌, ℕ, ◌+◌, ◌<◌, ◌≤◌, get_or, List, [], ◌∷◌, ◌++◌, length, map, drop, sym, ap, ◌∙◌, subst, arith, IsOk}
+use Rattle.std.proofs.lemmas.Bool.{true≢false}
 use Rattle.std.proofs.lemmas.List.{length-map, drop_more, drop_all}
 use Rattle.mime.specs.Values.{OwnedMedia}
 use Rattle.mime_c.specs.Strings.{strings}
@@ -22,7 +23,8 @@ pub returns-then-out-text : goal.returns-then-out-text
 returns-then-out-text c = ranges_have_no_room (omega (arith, c.if-out-text.true))
 
 pub returns-in_default : goal.returns-in_default
-returns-in_default c = ranges_have_no_memory (omega (arith, c.if-out-text.false))
+returns-in_default c =
+    ranges_have_no_memory (omega (arith, c.if-out-text.false)) (λ none. true≢false (sym (subst IsOk c.in_default.is (c.from_lines.ensures.nothing none))))
 
 pub loop-range-init : goal.loop-range-init
 loop-range-init c = leaves-first _ _ 0 (omega arith)
@@ -30,7 +32,7 @@ loop-range-init c = leaves-first _ _ 0 (omega arith)
 pub put_range-at-requires : goal.put_range-at-requires
 put_range-at-requires c =
     let ranges = c.ranges-range-items.ensures in
-    let fit = ranges_fit c.args.text.now c.in-Ok.accept c.in-Ok.ensures in
+    let fit = ranges_fit c.args.text.now c.in-Ok.accept c.in-Ok.ensures.header in
     let room : length (all_of c.ranges-range-items.result.now) ≤ length c.args.out.now =
     omega (arith, fit, ap (λ all. length (strings (ranges_texts all))) ranges, c.if-out-text.false) in
     leaves-holds c.loop-range.invariant (strings (range_texts c.range-item.result.media)) _
@@ -50,4 +52,4 @@ returns c =
     let wrote = leaves-last (subst (λ left. Leaves c.args.out.now c.loop-range.out c.loop-range.at left (all_of ranges)) none c.loop-range.invariant) in
     let bad : length c.bad.result.now ≡ length header.bad = sym (length-map c.bad.result.now _) ∙ ap length c.bad.ensures in
     rw (wrote.there, wrote.end, bad, c.ranges-range-items.ensures)
-    (are_ranges header (omega (arith, c.if-out-text.false)) c.in-Ok.ensures (ranges_come_back _ header c.in-Ok.ensures))
+    (are_ranges header (omega (arith, c.if-out-text.false)) c.in-Ok.ensures.header (ranges_come_back _ header c.in-Ok.ensures.header))

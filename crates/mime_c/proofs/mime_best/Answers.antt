@@ -1,6 +1,7 @@
 -- Each answer is what it says.
-use Rattle.std.proofs.Common.{◌≡◌, ◌≢◌, ℕ, List, [], length, map, Option, sym, ap, ◌∙◌, arith}
+use Rattle.std.proofs.Common.{◌≡◌, ◌≢◌, ℕ, List, [], length, map, Option, sym, ap, ◌∙◌, subst, arith, IsOk}
 use Rattle.std.proofs.lemmas.Bool.Decides.{nat_tests}
+use Rattle.std.proofs.lemmas.Bool.{true≢false}
 use Rattle.std.proofs.lemmas.List.{length-map, nil_from_length}
 use Rattle.std.specs.Vec.{vec_items}
 use Rattle.mime.specs.Values.{MediaType, OwnedMedia}
@@ -19,25 +20,25 @@ chosen : (ranges : List MediaType) (offers : List OwnedMedia) {offered : List Me
 chosen ranges offers offered exact is = ap (best_offer ranges) (sym offered) ∙ sym exact ∙ is
 
 pub returns-in_default : goal.returns-in_default
-returns-in_default c = best_has_no_memory
+returns-in_default c = best_has_no_memory (λ none. true≢false (sym (subst IsOk c.in_default.is (c.from_lines.ensures.nothing none.0))))
 
 pub returns-then-not-is_empty : goal.returns-then-not-is_empty
 returns-then-not-is_empty c =
     let some : c.in-Ok.offered.bad ≢ [] =
     λ none. absurd (grind (arith, nat_tests, length-map c.bad.result.now vec_items, ap length (c.bad.ensures ∙ none), c.if-not-is_empty.ensures)) in
-    an_offer_is_bad c.in-Ok.offered c.in-Ok.ensures some
+    an_offer_is_bad c.in-Ok.offered c.in-Ok.ensures.header some
 
 pub returns-in_default-accepted : goal.returns-in_default-accepted
-returns-in_default-accepted c = best_has_no_memory
+returns-in_default-accepted c = best_has_no_memory (λ none. true≢false (sym (subst IsOk c.in_default-accepted.is (c.accepted.ensures.nothing none.1))))
 
 pub returns-in-Some : goal.returns-in-Some
 returns-in-Some c =
     let none = none_bad c.bad.result.now vec_items (grind (arith, nat_tests, c.if-not-is_empty.ensures)) c.bad.ensures in
-    best_is c.in-Ok-accepted.header c.in-Ok.offered c.in-Some.at c.in-Ok-accepted.ensures c.in-Ok.ensures none
+    best_is c.in-Ok-accepted.header c.in-Ok.offered c.in-Some.at c.in-Ok-accepted.ensures.header c.in-Ok.ensures.header none
     (chosen c.in-Ok-accepted.header.ranges c.ranges-2.result.now c.ranges-2.ensures c.best.ensures.exact c.in-Some.is)
 
 pub returns : goal.returns
 returns c =
     let none = none_bad c.bad.result.now vec_items (grind (arith, nat_tests, c.if-not-is_empty.ensures)) c.bad.ensures in
-    none_is_best c.in-Ok-accepted.header c.in-Ok.offered c.in-Ok-accepted.ensures c.in-Ok.ensures none
+    none_is_best c.in-Ok-accepted.header c.in-Ok.offered c.in-Ok-accepted.ensures.header c.in-Ok.ensures.header none
     (chosen c.in-Ok-accepted.header.ranges c.ranges-2.result.now c.ranges-2.ensures c.best.ensures.exact c.in-None.is)

@@ -4,15 +4,15 @@ use Rattle.mime_c.specs.HeaderAnswers.{is_value, isnt_value, value_has_no_room}
 use Rattle.mime_c.proofs.NoZero.{texts_come_back}
 use Rattle.mime_c.proofs.mime_content_type.Goals as goal
 
-pub returns-then-out-text : goal.returns-then-out-text
-returns-then-out-text c = value_has_no_room (omega (arith, c.if-out-text.true))
+pub returns-then-out-value : goal.returns-then-out-value
+returns-then-out-value c = value_has_no_room (omega (arith, c.if-out-value.true))
 
 pub returns-in-Ok : goal.returns-in-Ok
 returns-in-Ok c =
     let http = c.in-Ok.ensures.http in
     let kept = c.in-Ok.ensures.kept in
     rw (c.put_texts.ensures.bytes, c.put_texts.ensures.found)
-    (is_value c.in-Ok.mime.media (omega (arith, c.if-out-text.false)) http.0 http.1 kept (texts_come_back _ _ kept))
+    (is_value c.in-Ok.mime.media (omega (arith, c.if-out-value.false)) http.0 http.1 kept (texts_come_back _ _ kept))
 
 pub returns-in-Err : goal.returns-in-Err
-returns-in-Err c = rw (c.number_of_error.ensures, c.found_of_error.ensures) (isnt_value _ (omega (arith, c.if-out-text.false)) c.in-Err.ensures.explained)
+returns-in-Err c = rw (c.number_of_error.ensures, c.found_of_error.ensures) (isnt_value _ (omega (arith, c.if-out-value.false)) c.in-Err.ensures.explained)

@@ -1,5 +1,5 @@
 -- String after string is written.
-use Rattle.std.proofs.Common.{ℕ, ◌≡◌, refl, ap, ◌∙◌, arith, length, length-append}
+use Rattle.std.proofs.Common.{ℕ, refl, ap, ◌∙◌, arith, length, length-append}
 use Rattle.mime_c.proofs.Writing.{given_texts, leaves-first, leaves-room, leaves-fits, leaves-next, writes-all, given-first, given-next}
 use Rattle.mime_c.specs.Strings.{strings}
 use Rattle.mime_c.proofs.put_parts.Goals as goal

@@ -6,8 +6,8 @@ use Rattle.mime_c.specs.Writing.{Writes}
 use Rattle.mime_c.proofs.Writing.{both_written, writes-end, strings_of_range}
 use Rattle.mime_c.proofs.put_range.Goals as goal
 
-pub copy-requires : goal.copy-requires
-copy-requires c =
+pub put-requires : goal.put-requires
+put-requires c =
     let all = ap length (strings_of_range c.args.range.now.media) in
     let size = length-append (strings (parts_of c.args.range.now.media)) (0 ∷ []) in
     let digits = ap length c.four_digits-digits.ensures in
@@ -24,5 +24,5 @@ returns c =
     let all : ((c.four_digits-digits.result ++ 0 ∷ []) ++ strings (parts_of media)) ++ 0 ∷ [] ≡ strings (range_texts media) =
     ap (λ digits. ((digits ++ 0 ∷ []) ++ strings (parts_of media)) ++ 0 ∷ []) (c.four_digits-digits.ensures ∙ ap four_digits c.weight_of.ensures)
     ∙ sym (strings_of_range media) in
-    subst (λ bytes. Writes c.args.out.now c.args.at bytes c.copy.new.out c.copy.result) all
-    (both_written _ _ _ _ _ _ _ _ parts c.copy.ensures.writes)
+    subst (λ bytes. Writes c.args.out.now c.args.at bytes c.put.new.out c.put.result) all
+    (both_written _ _ _ _ _ _ _ _ parts c.put.ensures)
