@@ -10,87 +10,58 @@ from html import escape
 sys.dont_write_bytecode = True
 from commands import TOP, text_of, write
 
-MONO = {"font_family": "DejaVu Sans Mono, monospace"}
-# How the grammar's terminals that have names are drawn, and the radius of a bend.
-TERMINALS, R = {"DQUOTE": '"', "SP": "space", "HTAB": "tab"}, 10
-# A part of the diagram: its size to the right, above and below its line, and what draws it from a point on.
+# How the grammar's terminals that have names are drawn.
+TERMINALS = {"DQUOTE": '"', "SP": "space", "HTAB": "tab"}
+# A part of the diagram: its size to the right, above and below its line, and what is drawn. The line itself runs below its boxes.
 Part = namedtuple("Part", "width up down drawn")
+STYLE = ("path, .loop { fill: none } path, rect { stroke: #000; stroke-width: 1.5 } .rule { fill: #fff } .terminal { fill: #e8eef7 } "
+         "text { font: 14px 'DejaVu Sans Mono', monospace } .box { text-anchor: middle } .name { font-weight: bold }")
 
 
-def element(kind, text="", **how):
-    """An element with its attributes, whose names have _ for -."""
-    number = lambda it: f"{it:.1f}".removesuffix(".0")
-    said = "".join(f' {name.replace("_", "-")}="{escape(it) if isinstance(it, str) else number(it)}"' for name, it in how.items())
-    return f"<{kind}{said}>{escape(text, quote=False)}</{kind}>" if text else f"<{kind}{said}/>"
-
-
-def words(x, y, text, size=13, **how):
-    return element("text", text, x=x, y=y, font_size=size, **how)
-
-
-def box(x, y, width, height, **how):
-    return element("rect", x=x, y=y, width=width, height=height, **{"fill": "#fff", "stroke": "#000", "stroke_width": 1.5, **how})
-
-
-def path(at, **how):
-    return element("path", d=at, **{"fill": "none", "stroke": "#000", "stroke_width": 1.5, **how})
-
-
-def picture(width, height, title, *parts):
-    head = (f'<svg xmlns="http://www.w3.org/2000/svg" width="{width:.0f}" height="{height:.0f}" viewBox="0 0 {width:.0f} {height:.0f}" '
-            'font-family="DejaVu Sans, Verdana, sans-serif">')
-    return "\n".join((head, element("title", title), element("rect", width=width, height=height, fill="#fff"), *parts, "</svg>\n"))
+def at(x, y, part):
+    return f'<g transform="translate({x} {y})">{part.drawn}</g>\n'
 
 
 def token(name):
     """A terminal, in a round box, or the name of a rule."""
     text, is_terminal = TERMINALS.get(name, name.strip('"')), name in TERMINALS or name.startswith('"')
-    width, how = 9 * len(text) + 22, {"rx": 15, "fill": "#e8eef7"} if is_terminal else {"rx": 0, "fill": "#fff"}
-    return Part(width, 15, 15, lambda x, y: [box(x, y - 15, width, 30, **how), words(x + width / 2, y + 5, text, 14, text_anchor="middle", **MONO)])
+    width, look = 9 * len(text) + 22, 'class="terminal" rx="15"' if is_terminal else 'class="rule"'
+    shown = f'<text class="box" x="{width / 2:g}" y="5">{escape(text, quote=False)}</text>'
+    return Part(width, 15, 15, f'<rect y="-15" width="{width}" height="30" {look}/>{shown}')
 
 
-def row(items):
+def row(parts):
     """One after another."""
-    def drawn(x, y):
-        for at, it in enumerate(items):
-            if at:
-                yield path(f"M{x} {y}h{2 * R}")
-            yield from it.drawn(x + 2 * R * bool(at), y)
-            x += it.width + 2 * R * bool(at)
-    width = sum(it.width for it in items) + 2 * R * (len(items) - 1)
-    return Part(width, max(it.up for it in items), max(it.down for it in items), drawn) if len(items) > 1 else items[0]
+    drawn, x = "", 0
+    for it in parts:
+        drawn, x = drawn + at(x, 0, it), x + it.width + 20
+    return Part(x - 20, max(it.up for it in parts), max(it.down for it in parts), drawn)
 
 
-def choice(items):
+def way(depth, width):
+    """A way that leaves the line, goes on at a depth below it, or above if it is negative, and comes back."""
+    bend = 10 if depth > 0 else -10
+    down, back = depth - 2 * bend, 2 * bend - depth
+    return f'<path d="M0 0q10 0 10 {bend}v{down}q0 {bend} 10 {bend}h{width}q10 0 10 {-bend}v{back}q0 {-bend} 10 {-bend}"/>'
+
+
+def choice(parts):
     """One of several, each below the one before."""
-    width = max(it.width for it in items) + 4 * R
-    depths = [sum(items[k].down + items[k + 1].up + R for k in range(at)) for at in range(len(items))]
-
-    def drawn(x, y):
-        for it, depth in zip(items, depths):
-            rest = width - 4 * R - it.width
-            yield from it.drawn(x + 2 * R, y + depth)
-            if depth:
-                yield path(f"M{x} {y}q{R} 0 {R} {R}v{depth - 2 * R}q0 {R} {R} {R}")
-                yield path(f"M{x + 2 * R + it.width} {y + depth}h{rest}q{R} 0 {R} {-R}v{2 * R - depth}q0 {-R} {R} {-R}")
-            else:
-                yield path(f"M{x} {y}h{2 * R}M{x + 2 * R + it.width} {y}h{rest + 2 * R}")
-    return Part(width, items[0].up, depths[-1] + items[-1].down, drawn) if len(items) > 1 else items[0]
+    width, drawn, depth = max(it.width for it in parts), at(20, 0, parts[0]), parts[0].down
+    for it in parts[1:]:
+        depth += it.up + 10
+        drawn += way(depth, width) + at(20, depth, it)
+        depth += it.down
+    return Part(width + 40, parts[0].up, depth, drawn) if len(parts) > 1 else parts[0]
 
 
-def optional(item, is_repeated):
+def optional(it, is_repeated):
     """What may be passed by, on a way above it; and repeated, by a way back below it, if it may come more than once."""
-    wide, up, down = item.width, item.up + R + 2, item.down + (R + 2) * is_repeated
-
-    def drawn(x, y):
-        yield from item.drawn(x + 2 * R, y)
-        yield path(f"M{x} {y}h{2 * R}M{x + 2 * R + wide} {y}h{2 * R}")
-        yield path(f"M{x} {y}q{R} 0 {R} {-R}v{2 * R - up}q0 {-R} {R} {-R}h{wide}q{R} 0 {R} {R}v{up - 2 * R}q0 {R} {R} {R}")
-        if is_repeated:
-            back = f"v{down - 2 * R}q0 {R} {-R} {R}h{-wide}q{-R} 0 {-R} {-R}v{2 * R - down}q0 {-R} {R} {-R}"
-            yield path(f"M{x + 2 * R + wide} {y}q{R} 0 {R} {R}{back}")
-            yield path(f"M{x + 2 * R + wide / 2 + 5} {y + down - 5}l-7 5l7 5")
-    return Part(wide + 4 * R, up, down, drawn)
+    up, down, drawn = it.up + 12, it.down, way(-it.up - 12, it.width)
+    if is_repeated:
+        down += 12
+        drawn += f'<rect class="loop" x="10" width="{it.width + 20}" height="{down}" rx="10"/><path d="M{25 + it.width / 2:g} {down - 5}l-7 5l7 5"/>'
+    return Part(it.width + 40, up, down, drawn + at(20, 0, it))
 
 
 def read(tokens):
@@ -110,15 +81,14 @@ def read(tokens):
 
 
 def grammar():
-    parts, y, width = [], 8, 0
+    drawn, y, width = "", 8, 0
     for name, rule in re.findall(r"^ {4}([a-z-]+) += (.+)$", text_of("docs/RULES.md"), re.M):
         it = read(re.findall(r'"[^"]*"|[\w-]+|\*\(|[][()/]', rule))
         y += it.up + 6
-        parts.append(words(10, y + 5, name, 14, font_weight="bold", **MONO))
-        parts.append(path(f"M125 {y - 8}v16M125 {y}h20M{145 + it.width} {y}h20v-8v16"))
-        parts += it.drawn(145, y)
+        drawn += f'<text class="name" x="10" y="{y + 5}">{name}</text><path d="M125 {y - 8}v16m0 -8h{it.width + 40}m0 -8v16"/>\n' + at(145, y, it)
         y, width = y + it.down + 18, max(width, it.width + 180)
-    return picture(width, y, "The grammar of a media type", *parts)
+    return (f'<svg xmlns="http://www.w3.org/2000/svg" width="{width}" height="{y}" viewBox="0 0 {width} {y}">\n<style>{STYLE}</style>\n'
+            f'<title>The grammar of a media type</title>\n<path style="fill: #fff; stroke: none" d="M0 0h{width}v{y}h{-width}z"/>\n{drawn}</svg>\n')
 
 
 if __name__ == "__main__":
