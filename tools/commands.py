@@ -197,21 +197,19 @@ def linked(file, to):
     return shutil.copy2(file, to)
 
 
-@functools.cache
-def program(crate, backend="llvm", room=None):
+def program(crate, backend="llvm"):
     """The program of a crate as a compiler builds it: that which rt ci proved, or which was built from the same sources. Otherwise rt
-    proves and builds it. There both compilers' programs have the same path, so the other one's is built in a copy in the room."""
-    made = f"{TOP}/crates/{crate}/out/{crate}{'.by-rattle' if backend == 'rattle' else ''}"
-    if is_current(made):
-        return made
-    top = TOP if backend == "llvm" else copied(below(crate), f"{room}/{crate}", without=())
-    made = f"{top}/crates/{crate}/out/{crate}"
-    print(f"rt proves and builds {crate} by the compiler {backend}, as far as it isn't up to date", flush=True)
-    text, _ = output(["sh", "-c", f"rm -f out/{crate}; rt run --backend {backend}"], f"{top}/crates/{crate}")
-    if not os.path.exists(made):
-        raise OSError(f"{crate} can't be built:\n{text[-3000:]}")
-    if not is_touched(["crates.txt", "HANDLES", "crates"]):
-        write(f"{made}.sources", run_ok("tools/sources"))
+    proves and builds it."""
+    built = f"{TOP}/crates/{crate}/out/{crate}"
+    made = built if backend == "llvm" else f"{built}.by-rattle"
+    if not is_current(made):
+        print(f"rt proves and builds {crate} by the compiler {backend}, as far as it isn't up to date", flush=True)
+        text, _ = output(["sh", "-c", f"rm -f {built}; rt run --backend {backend}"], f"{TOP}/crates/{crate}")
+        if not os.path.exists(built):
+            raise OSError(f"{crate} can't be built:\n{text[-3000:]}")
+        os.replace(built, made)
+        if not is_touched(["crates.txt", "HANDLES", "crates"]):
+            write(f"{made}.sources", run_ok("tools/sources"))
     return made
 
 
