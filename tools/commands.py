@@ -9,7 +9,6 @@ import re
 import shutil
 import signal
 import subprocess
-import tempfile
 import time
 from collections import namedtuple
 from pathlib import Path
@@ -99,54 +98,43 @@ def _end(number, _frame):
 
 
 @functools.cache
-def kit():
-    return run_ok("rt", "version")
+def tracked():
+    """The files of the repository that git doesn't ignore."""
+    return [it for it in run_ok("git", "ls-files", "-co", "--exclude-standard").split("\n") if os.path.isfile(f"{TOP}/{it}")]
 
 
 def files_of(paths):
-    """These files of the repository, and all in these folders but documents, mutants of rt ci and what was built."""
-    for path in sorted({*paths}):
-        files = [f"{TOP}/{path}"] if os.path.isfile(f"{TOP}/{path}") else sorted(files_in(f"{TOP}/{path}"))
-        if not files:
-            raise OSError(f"there is no {path}")
-        yield from files
-
-
-def files_in(folder):
-    for at, folders, files in os.walk(folder):
-        folders[:] = {*folders} - {"__pycache__", "out" if at == TOP or os.path.dirname(at) in (TOP, f"{TOP}/crates") else ""}
-        yield from (f"{at}/{it}" for it in files if not it.endswith((".md", ".edit")))
+    """These files, and all of these folders but documents and mutants of rt ci."""
+    folders = tuple(f"{it}/" for it in paths)
+    return sorted(it for it in tracked() if it in paths or it.startswith(folders) and not it.endswith((".md", ".edit")))
 
 
 @functools.cache
 def checksum(*paths):
     """A checksum of the kit and of these files and folders, by their names and contents."""
-    found = hashlib.sha256(kit().encode())
+    found = hashlib.sha256(run_ok("rt", "version").encode())
     for it in files_of(paths):
-        found.update(f"{os.path.relpath(it, TOP)} {hashlib.sha256(Path(it).read_bytes()).hexdigest()}\n".encode())
+        found.update(f"{it} {hashlib.sha256(Path(TOP, it).read_bytes()).hexdigest()}\n".encode())
     return found.hexdigest()
 
 
 def is_touched(paths):
     """Whether one of these files was changed since the tool began, even if it was changed back."""
-    return checksum.__wrapped__(*paths) != checksum(*paths) or any(os.lstat(it).st_ctime_ns > BEGAN for it in files_of(paths))
+    return any(os.lstat(f"{TOP}/{it}").st_ctime_ns > BEGAN for it in files_of(paths))
 
 
-def kept(name, paths, more=""):
-    """What was said of a thing when it last passed, if nothing that it rests on has changed since: these files and folders, and more."""
-    rests_on = f"{checksum(*paths)} {hashlib.sha256(more.encode()).hexdigest()}"
+def is_kept(name, paths, more=""):
+    """Whether a thing has passed, and nothing that it rests on has changed since: these files and folders, and more."""
     with contextlib.suppress(OSError):
-        found, _, text = Path(KEPT, name).read_text(encoding="utf-8").partition("\n")
-        return text if found == rests_on else None
+        return Path(KEPT, name).read_text(encoding="utf-8") == f"{checksum(*paths)} {more}"
+    return False
 
 
-def keep(name, text, paths, more=""):
-    """Keeps what was said of a thing that passed, unless a file that it rests on was touched meanwhile."""
-    rests_on = f"{checksum(*paths)} {hashlib.sha256(more.encode()).hexdigest()}"
+def keep(name, paths, more=""):
+    """Keeps that a thing passed, unless a file that it rests on was touched meanwhile."""
     with contextlib.suppress(OSError):
         if not is_touched(paths):
-            write(f"{KEPT}/{name}.new", f"{rests_on}\n{text}")
-            os.replace(f"{KEPT}/{name}.new", f"{KEPT}/{name}")
+            write(f"{KEPT}/{name}", f"{checksum(*paths)} {more}")
 
 
 def need(what, *packages):
@@ -168,24 +156,6 @@ def instructions(words, given):
     if not found:
         raise OSError(f"valgrind counted nothing:\n{text[-600:].decode(errors='replace')}")
     return int(found[1].replace(b",", b""))
-
-
-def refusing_library(room):
-    """tools/refusals/refuse.c, compiled."""
-    need("cc", "gcc", "libc6-dev")
-    run_ok("cc", "-O2", "-shared", "-fPIC", "-o", f"{room}/refuse.so", "tools/refusals/refuse.c")
-    return f"{room}/refuse.so"
-
-
-def refuse(library, words, given, number, **how):
-    """Runs a program with one request for memory refused, or none if the number is 0. Returns its outcome, and for each count its requests,
-    its bytes and whether one was refused. REFUSE_FROM="start" makes the whole run one count."""
-    with tempfile.TemporaryFile() as counts:
-        how = {"LD_PRELOAD": library, "REFUSE": str(number), "REFUSE_COUNT": str(counts.fileno()), **how}
-        words = ["env", "-i", *(f"{name}={value}" for name, value in how.items()), *words]
-        it = run(words, PROGRAM_SECONDS, given, pass_fds=[counts.fileno()])
-        counts.seek(0)
-        return it, [(int(line.split()[0]), int(line.split()[1]), b"refused" in line) for line in counts.read().splitlines()]
 
 
 @functools.cache
@@ -210,15 +180,6 @@ def below(crate):
     return [*dict.fromkeys(name for it in crates()[crate] for name in below(it)), crate]
 
 
-def is_library(crate):
-    return any(crate in libraries for libraries in crates().values())
-
-
-def tracked():
-    """The files of the repository that git doesn't ignore."""
-    return [it for it in run_ok("git", "ls-files", "-co", "--exclude-standard").split("\n") if os.path.isfile(f"{TOP}/{it}")]
-
-
 def copied(names, room, top=TOP, without=("out",)):
     """Copies crates, without their folders of these names, and the files that tell rt of them."""
     for it in names:
@@ -236,21 +197,19 @@ def linked(file, to):
     return shutil.copy2(file, to)
 
 
-@functools.cache
-def program(crate, backend="llvm", room=None):
+def program(crate, backend="llvm"):
     """The program of a crate as a compiler builds it: that which rt ci proved, or which was built from the same sources. Otherwise rt
-    proves and builds it. There both compilers' programs have the same path, so the other one's is built in a copy in the room."""
-    made = f"{TOP}/crates/{crate}/out/{crate}{'.by-rattle' if backend == 'rattle' else ''}"
-    if is_current(made):
-        return made
-    top = TOP if backend == "llvm" else copied(below(crate), f"{room}/{crate}", without=())
-    made = f"{top}/crates/{crate}/out/{crate}"
-    print(f"rt proves and builds {crate} by the compiler {backend}, as far as it isn't up to date", flush=True)
-    text, _ = output(["sh", "-c", f"rm -f out/{crate}; rt run --backend {backend}"], f"{top}/crates/{crate}")
-    if not os.path.exists(made):
-        raise OSError(f"{crate} can't be built:\n{text[-3000:]}")
-    if not is_touched(["crates.txt", "HANDLES", "crates"]):
-        write(f"{made}.sources", run_ok("tools/sources"))
+    proves and builds it."""
+    built = f"{TOP}/crates/{crate}/out/{crate}"
+    made = built if backend == "llvm" else f"{built}.by-rattle"
+    if not is_current(made):
+        print(f"rt proves and builds {crate} by the compiler {backend}, as far as it isn't up to date", flush=True)
+        text, _ = output(["sh", "-c", f"rm -f {built}; rt run --backend {backend}"], f"{TOP}/crates/{crate}")
+        if not os.path.exists(built):
+            raise OSError(f"{crate} can't be built:\n{text[-3000:]}")
+        os.replace(built, made)
+        if not is_touched(["crates.txt", "HANDLES", "crates"]):
+            write(f"{made}.sources", run_ok("tools/sources"))
     return made
 
 
