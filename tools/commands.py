@@ -22,6 +22,8 @@ KEPT, BEGAN = f"{TOP}/out/kept", time.time_ns()
 # The seconds that rt may take for one command, and a program for one input. Both take far less.
 RT_SECONDS, PROGRAM_SECONDS = 20 * 60, 60
 
+# What makes each kind of a crate's program, by how its name ends: as LLVM builds it, as Rattle's own compiler does, and its tests.
+KINDS = {"": "rt run --backend llvm", ".by-rattle": "rt run --backend rattle", "_tests": "rt test"}
 # What a command wrote, and its status; the commands that are running, and the signals that told the tool to end.
 Outcome = namedtuple("Outcome", "stdout stderr returncode")
 _running, _signals = set(), []
@@ -180,41 +182,20 @@ def below(crate):
     return [*dict.fromkeys(name for it in crates()[crate] for name in below(it)), crate]
 
 
-def copied(names, room, top=TOP, without=("out",)):
-    """Copies crates, without their folders of these names, and the files that tell rt of them."""
-    for it in names:
-        shutil.copytree(f"{top}/crates/{it}", f"{room}/crates/{it}", ignore=shutil.ignore_patterns(*without), copy_function=linked)
-    shutil.copy(f"{TOP}/HANDLES", room)
-    write(f"{room}/crates.txt", "".join(f"{it}\n" for it in text_of("crates.txt").split("\n") if re.split("[ :]", it)[0] in names))
-    return room
-
-
-def linked(file, to):
-    """Copies a file, or gives a proof a second name, since rt replaces such a file and writes into none."""
-    with contextlib.suppress(OSError):
-        if file.endswith(".oantt"):
-            return os.link(file, to)
-    return shutil.copy2(file, to)
-
-
-def program(crate, backend="llvm"):
-    """The program of a crate as a compiler builds it: that which rt ci proved, or which was built from the same sources. Otherwise rt
+@functools.cache
+def program(crate, kind=""):
+    """The program of a crate as LLVM builds it, or of another kind, that rt ci proved or that was built from the same sources. Otherwise rt
     proves and builds it."""
-    built = f"{TOP}/crates/{crate}/out/{crate}"
-    made = built if backend == "llvm" else f"{built}.by-rattle"
-    if not is_current(made):
-        print(f"rt proves and builds {crate} by the compiler {backend}, as far as it isn't up to date", flush=True)
-        text, _ = output(["sh", "-c", f"rm -f {built}; rt run --backend {backend}"], f"{TOP}/crates/{crate}")
-        if not os.path.exists(built):
-            raise OSError(f"{crate} can't be built:\n{text[-3000:]}")
-        os.replace(built, made)
-        if not is_touched(["crates.txt", "HANDLES", "crates"]):
-            write(f"{made}.sources", run_ok("tools/sources"))
-    return made
-
-
-def is_current(made):
-    """Whether a program was built from the sources as they are, by their contents."""
+    made = f"{TOP}/crates/{crate}/out/{crate}{kind}"
     with contextlib.suppress(OSError):
-        return os.path.exists(made) and Path(f"{made}.sources").read_text(encoding="utf-8") == run_ok("tools/sources")
-    return False
+        if os.path.exists(made) and Path(f"{made}.sources").read_text(encoding="utf-8") == run_ok("tools/sources"):
+            return made
+    built, command = made.removesuffix(".by-rattle"), KINDS[kind]
+    print(f"{command} proves and builds a program of {crate}, as far as it isn't up to date", flush=True)
+    text, _ = output(["sh", "-c", f"rm -f {built}; {command}"], f"{TOP}/crates/{crate}")
+    if not os.path.exists(built):
+        raise OSError(f"{crate} can't be built:\n{text[-3000:]}")
+    os.replace(built, made)
+    if not is_touched(["crates.txt", "HANDLES", "crates"]):
+        write(f"{made}.sources", run_ok("tools/sources"))
+    return made
