@@ -1,15 +1,11 @@
-"""What the tools share: commands with time limits, none of which outlives its tool; what passed in earlier runs; copies of crates;
-programs; and what counts."""
+"""What the tools share: commands with time limits, none of which outlives its tool; what passed in earlier runs; and programs."""
 
-import contextlib
 import functools
-import hashlib
 import os
 import re
 import shutil
 import signal
 import subprocess
-import time
 from collections import namedtuple
 from pathlib import Path
 from subprocess import DEVNULL, PIPE, STDOUT
@@ -18,7 +14,7 @@ TOP = os.path.dirname(os.path.dirname(os.path.realpath(__file__)))
 # Where the crates lie with the proofs that `rt check` keeps. `check` names a copy, since rt ci keeps none.
 PROVED = os.environ.get("PROVED") or TOP
 # What passed in earlier runs: a file each, with a checksum of all that it rests on. A fresh clone has none.
-KEPT, BEGAN = f"{TOP}/out/kept", time.time_ns()
+KEPT = f"{TOP}/out/kept"
 # The seconds that rt may take for one command, and a program for one input. Both take far less.
 RT_SECONDS, PROGRAM_SECONDS = 20 * 60, 60
 
@@ -62,14 +58,13 @@ def run_ok(*words, folder=TOP, given=None):
 
 def is_right(tool, command, is_wanted, folder=TOP, **how):
     """Whether a shell command succeeds and writes what is wanted."""
-    began = time.monotonic()
     try:
         text, status = output(["bash", "-euo", "pipefail", "-c", command], folder, **how)
     except TimeoutError as error:
         text, status = str(error), 1
     well = not status and bool(is_wanted(text))
     wrong = "" if well else f", and not as wanted: {command}\n{text[-3000:]}"
-    print(f"{tool}: {command.splitlines()[-1][:60]}: {time.monotonic() - began:.0f} s{wrong}", flush=True)
+    print(f"{tool}: {command.splitlines()[-1][:60]}: {'right' if well else 'FAILED'}{wrong}", flush=True)
     return well
 
 
@@ -105,49 +100,30 @@ def tracked():
     return [it for it in run_ok("git", "ls-files", "-co", "--exclude-standard").split("\n") if os.path.isfile(f"{TOP}/{it}")]
 
 
-def files_of(paths):
-    """These files, and all of these folders but documents and mutants of rt ci."""
-    folders = tuple(f"{it}/" for it in paths)
-    return sorted(it for it in tracked() if it in paths or it.startswith(folders) and not it.endswith((".md", ".edit")))
-
-
 @functools.cache
 def checksum(*paths):
-    """A checksum of the kit and of these files and folders, by their names and contents."""
-    found = hashlib.sha256(run_ok("rt", "version").encode())
-    for it in files_of(paths):
-        found.update(f"{it} {hashlib.sha256(Path(TOP, it).read_bytes()).hexdigest()}\n".encode())
-    return found.hexdigest()
+    """A checksum of the kit, and of these files and folders as far as git doesn't ignore them."""
+    files = 'git ls-files -coz --exclude-standard -- "$@" | LC_ALL=C sort -z | xargs -0 sha256sum'
+    return run_ok("sh", "-c", f"(rt version; {files}) | sha256sum", "sh", *paths)
 
 
-def is_touched(paths):
-    """Whether one of these files was changed since the tool began, even if it was changed back."""
-    return any(os.lstat(f"{TOP}/{it}").st_ctime_ns > BEGAN for it in files_of(paths))
-
-
-def is_kept(name, paths, more=""):
+def is_kept(name, paths, more):
     """Whether a thing has passed, and nothing that it rests on has changed since: these files and folders, and more."""
-    with contextlib.suppress(OSError):
-        return Path(KEPT, name).read_text(encoding="utf-8") == f"{checksum(*paths)} {more}"
-    return False
+    return os.path.exists(f"{KEPT}/{name}") and Path(KEPT, name).read_text(encoding="utf-8") == checksum(*paths) + more
 
 
-def keep(name, paths, more=""):
-    """Keeps that a thing passed, unless a file that it rests on was touched meanwhile."""
-    with contextlib.suppress(OSError):
-        if not is_touched(paths):
-            write(f"{KEPT}/{name}", f"{checksum(*paths)} {more}")
+def keep(name, paths, more):
+    """Keeps that a thing passed, unless a file that it rests on has changed meanwhile."""
+    if checksum.__wrapped__(*paths) == checksum(*paths):
+        write(f"{KEPT}/{name}", checksum(*paths) + more)
 
 
 def need(what, *packages):
-    """Installs Debian's packages that have a command or a file, if it is missing. If it still is then, that is an error."""
-    is_there, names = lambda: shutil.which(what) or os.path.exists(what), " ".join(packages)
-    if not is_there():
-        print(f"{what} is missing: apt-get installs {names}", flush=True)
+    """Installs Debian's packages that have a command or a file, if it is missing."""
+    if not (shutil.which(what) or os.path.exists(what)):
+        print(f"{what} is missing: apt-get installs {' '.join(packages)}", flush=True)
         waiting = "-o DPkg::Lock::Timeout=600 -o APT::Update::Lock::Timeout=600 -qq"
-        text, _ = output(["sh", "-c", f"apt-get update {waiting}; apt-get install {waiting} -y --no-install-recommends {names}"])
-        if not is_there():
-            raise OSError(f"{what} is needed, and could not be installed: install it (on Debian: {names})\n{text[-600:]}")
+        run_ok("sh", "-c", f"apt-get update {waiting}; apt-get install {waiting} -y --no-install-recommends {' '.join(packages)}")
 
 
 def instructions(words, given):
@@ -162,7 +138,6 @@ def instructions(words, given):
 
 @functools.cache
 def text_of(path):
-    """The text of a file of the repository."""
     return Path(TOP, path).read_bytes().decode()
 
 
@@ -171,31 +146,25 @@ def write(path, text):
     Path(path).write_text(text, encoding="utf-8")
 
 
-def crates():
-    """Each crate of crates.txt, with the libraries that its line names."""
-    lines = (line.partition(":") for line in text_of("crates.txt").split("\n") if line and line[0] != "#")
-    return {name.split()[0]: libraries.split() for name, _, libraries in lines}
-
-
 def below(crate):
-    """A crate, and the repository's libraries that it stands on, the lowest first."""
-    return [*dict.fromkeys(name for it in crates()[crate] for name in below(it)), crate]
+    """A crate, and the repository's libraries that its line of crates.txt names, the lowest first."""
+    libraries = re.search(rf"(?m)^{crate}\b[^:\n]*:(.*)", text_of("crates.txt"))[1].split()
+    return [*dict.fromkeys(name for it in libraries for name in below(it)), crate]
 
 
 @functools.cache
 def program(crate, kind=""):
     """The program of a crate as LLVM builds it, or of another kind, that rt ci proved or that was built from the same sources. Otherwise rt
     proves and builds it."""
-    made = f"{TOP}/crates/{crate}/out/{crate}{kind}"
-    with contextlib.suppress(OSError):
-        if os.path.exists(made) and Path(f"{made}.sources").read_text(encoding="utf-8") == run_ok("tools/sources"):
-            return made
+    made, sources = f"{TOP}/crates/{crate}/out/{crate}{kind}", run_ok("tools/sources")
+    if all(map(os.path.exists, (made, f"{made}.sources"))) and Path(f"{made}.sources").read_text(encoding="utf-8") == sources:
+        return made
     built, command = made.removesuffix(".by-rattle"), KINDS[kind]
     print(f"{command} proves and builds a program of {crate}, as far as it isn't up to date", flush=True)
     text, _ = output(["sh", "-c", f"rm -f {built}; {command}"], f"{TOP}/crates/{crate}")
     if not os.path.exists(built):
         raise OSError(f"{crate} can't be built:\n{text[-3000:]}")
     os.replace(built, made)
-    if not is_touched(["crates.txt", "HANDLES", "crates"]):
-        write(f"{made}.sources", run_ok("tools/sources"))
+    if run_ok("tools/sources") == sources:
+        write(f"{made}.sources", sources)
     return made

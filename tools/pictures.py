@@ -14,8 +14,8 @@ from commands import TOP, text_of, write
 TERMINALS = {"DQUOTE": '"', "SP": "space", "HTAB": "tab"}
 # A part of the diagram: its size to the right, above and below its line, and what is drawn. The line itself runs below its boxes.
 Part = namedtuple("Part", "width up down drawn")
-STYLE = ("path, .loop { fill: none } path, rect { stroke: #000; stroke-width: 1.5 } .rule { fill: #fff } .terminal { fill: #e8eef7 } "
-         "text { font: 14px 'DejaVu Sans Mono', monospace } .box { text-anchor: middle } .name { font-weight: bold }")
+STYLE = ("rect { fill: #fff } .terminal { fill: #e8eef7 } path, .loop { fill: none } path, rect { stroke: #000; stroke-width: 1.5 } "
+         ".ground { stroke: none } text { font: 14px 'DejaVu Sans Mono', monospace; text-anchor: middle } .name { text-anchor: start }")
 
 
 def at(x, y, part):
@@ -25,9 +25,9 @@ def at(x, y, part):
 def token(name):
     """A terminal, in a round box, or the name of a rule."""
     text, is_terminal = TERMINALS.get(name, name.strip('"')), name in TERMINALS or name.startswith('"')
-    width, look = 9 * len(text) + 22, 'class="terminal" rx="15"' if is_terminal else 'class="rule"'
-    shown = f'<text class="box" x="{width / 2:g}" y="5">{escape(text, quote=False)}</text>'
-    return Part(width, 15, 15, f'<rect y="-15" width="{width}" height="30" {look}/>{shown}')
+    width, look = 9 * len(text) + 22, 'class="terminal" rx="15" ' if is_terminal else ""
+    shown = f'<text x="{width / 2:g}" y="5">{escape(text, quote=False)}</text>'
+    return Part(width, 15, 15, f'<rect {look}y="-15" width="{width}" height="30"/>{shown}')
 
 
 def row(parts):
@@ -57,11 +57,11 @@ def choice(parts):
 
 def optional(it, is_repeated):
     """What may be passed by, on a way above it; and repeated, by a way back below it, if it may come more than once."""
-    up, down, drawn = it.up + 12, it.down, way(-it.up - 12, it.width)
+    down, drawn = it.down + 12 * is_repeated, way(-it.up - 12, it.width)
     if is_repeated:
-        down += 12
-        drawn += f'<rect class="loop" x="10" width="{it.width + 20}" height="{down}" rx="10"/><path d="M{25 + it.width / 2:g} {down - 5}l-7 5l7 5"/>'
-    return Part(it.width + 40, up, down, drawn + at(20, 0, it))
+        drawn += f'<rect class="loop" x="10" width="{it.width + 20}" height="{down}" rx="10"/>'
+        drawn += f'<path d="M{25 + it.width / 2:g} {down - 5}l-7 5l7 5"/>'
+    return Part(it.width + 40, it.up + 12, down, drawn + at(20, 0, it))
 
 
 def read(tokens):
@@ -85,10 +85,11 @@ def grammar():
     for name, rule in re.findall(r"^ {4}([a-z-]+) += (.+)$", text_of("docs/RULES.md"), re.M):
         it = read(re.findall(r'"[^"]*"|[\w-]+|\*\(|[][()/]', rule))
         y += it.up + 6
-        drawn += f'<text class="name" x="10" y="{y + 5}">{name}</text><path d="M125 {y - 8}v16m0 -8h{it.width + 40}m0 -8v16"/>\n' + at(145, y, it)
+        drawn += f'<text class="name" x="10" y="{y + 5}">{name}</text><path d="M125 {y - 8}v16m0 -8h{it.width + 40}m0 -8v16"/>\n'
+        drawn += at(145, y, it)
         y, width = y + it.down + 18, max(width, it.width + 180)
     return (f'<svg xmlns="http://www.w3.org/2000/svg" width="{width}" height="{y}" viewBox="0 0 {width} {y}">\n<style>{STYLE}</style>\n'
-            f'<title>The grammar of a media type</title>\n<path style="fill: #fff; stroke: none" d="M0 0h{width}v{y}h{-width}z"/>\n{drawn}</svg>\n')
+            f'<title>The grammar of a media type</title>\n<rect class="ground" width="{width}" height="{y}"/>\n{drawn}</svg>\n')
 
 
 if __name__ == "__main__":
