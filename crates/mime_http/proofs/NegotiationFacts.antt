@@ -1,12 +1,22 @@
 -- Worked facts of the pages `HttpList`, `Ranges` and `Weight`: what is true of a text, and what is false.
-use Rattle.std.proofs.Common.{◌≡◌, refl, ap, arith, ℕ, true, List, [], ◌∷◌, length, Option, Some, None, is_some}
-use Rattle.std.specs.Prelude.{codes, unwrap_or}
-use Rattle.mime.specs.Values.{MediaType}
-use Rattle.mime_http.specs.HttpList.{IsPiece, trim_start, trim_end}
+use Rattle.std.proofs.Common.{◌≡◌, refl, ap, arith, ℕ, true, List, [], ◌∷◌, length, Option, Some, None, is_some, ◌++◌, drop, sym}
+use Rattle.std.specs.Prelude.{◌+◌, codes, unwrap_or, flat_map}
+use Rattle.std.proofs.lemmas.Str.{IsUtf8-nil}
+use Rattle.mime.specs.Bytes.{is_token_byte}
+use Rattle.mime.specs.Grammar.{AreSpaces, IsToken}
+use Rattle.mime.specs.Values.{MediaType, lowered, last_plus}
+use Rattle.mime_http.specs.HttpMediaType.{HttpReads, no_more, IsHttpMediaType}
+use Rattle.mime_http.specs.HttpList.{no_line, line_end, comma, no_text, blank, a_range, AreHttpLists, IsPiece, trim_start, trim_end, a_bad, IsHeader}
 use Rattle.mime_http.specs.Ranges.{closeness, given_weight, best_offer, AreInOrder}
 use Rattle.mime_http.specs.Weight.{thousandths_of}
-use Rattle.mime_http.proofs.Cuts.{cut, cut_of_piece}
+use Rattle.mime_http.proofs.Cuts.{cut, cut_of_piece, are_cut}
+use Rattle.std.proofs.lemmas.Bool.{true≢false}
+use Rattle.mime.proofs.GrammarLemmas.Readings.{stopped-from_walk}
+use Rattle.mime_http.specs.Tight.{tight}
+use Rattle.mime_http.proofs.HttpLaws.{accepted_from_http}
+use Rattle.mime_http.proofs.Lists.{one_header, http_lists_are_read}
 use Rattle.mime_http.proofs.First.{best_is_first}
+use Rattle.mime_http.proofs.HttpText.{put_ascii}
 
 -- ---- weights (RFC 9110, 12.4.2)
 
@@ -168,3 +178,59 @@ not_in_order are =
     let same : 1 ≡ 0 =
     ap (λ (best : Option ℕ). unwrap_or best 0) (best_is_first (json ∷ any [] ∷ []) (html [] ∷ json ∷ []) (0 ∷ 1 ∷ []) are) in
     absurd (omega (arith, same))
+
+-- ---- lists, of which this one has two elements among empty ones
+
+abbrev short : List ℕ → MediaType
+short essence = of essence 1 []
+
+short_read : (before top sub after : List ℕ) → AreSpaces before → IsToken top → IsToken sub → AreSpaces after → (slash : 1 ≡ length top)
+    → (essence : List ℕ) → essence ≡ lowered top ++ (47 ∷ lowered sub) → None ≡ last_plus (length top + 2) (drop 1 (lowered sub))
+    → HttpReads (before ++ (top ++ (47 ∷ (sub ++ after)))) (short essence)
+short_read before top sub after first is_top is_sub last slash essence is plus = record {
+  before = before;
+  top = top;
+  sub = sub;
+  parameters = [];
+  after = after;
+  spelled = refl;
+  white_before = first;
+  is_top = is_top;
+  is_sub = is_sub;
+  are_parameters = no_more;
+  white_after = last;
+  essence = is;
+  slash = slash;
+  plus = plus;
+}
+
+two_elements : AreHttpLists (codes ",a/b , ,c/d" ∷ []) (short (codes "a/b") ∷ short (codes "c/d") ∷ [])
+unfolding is_token_byte
+two_elements = record {
+  texts = [] ∷ codes "a/b " ∷ codes " " ∷ codes "c/d" ∷ [];
+  between = comma [] _ [] _ tt (comma (codes "a/b ") _ [] _ tt (comma (codes " ") _ [] _ tt (line_end (codes "c/d") [] [] tt no_line)));
+  elements = blank [] _ _ _ refl (a_range (codes "a/b ") _ _ _ _ (put_ascii (codes "a/b ") [] (omega arith, (omega arith, (omega arith, (omega arith, tt)))) IsUtf8-nil)
+      (short_read [] (codes "a") (codes "b") (codes " ") refl refl refl refl refl (codes "a/b") refl refl)
+      (blank (codes " ") _ _ _ refl (a_range (codes "c/d") _ _ _ _ (put_ascii (codes "c/d") [] (omega arith, (omega arith, (omega arith, tt))) IsUtf8-nil)
+      (short_read [] (codes "c") (codes "d") [] refl refl refl refl refl (codes "c/d") refl refl) no_text)));
+}
+
+-- a bad entry is bad as a whole, and a line that has one is no such list
+not_media_type : ¬ (IsHttpMediaType (codes " a b"))
+unfolding is_token_byte
+not_media_type is = stopped-from_walk (tight (codes " a b")) refl (accepted_from_http _ is)
+
+bad_entry : IsHeader (codes "c/d, a b" ∷ []) (record { ranges = short (codes "c/d") ∷ []; bad = codes "a b" ∷ [] })
+unfolding is_token_byte
+bad_entry = record {
+  pieces = flat_map cut (codes "c/d, a b" ∷ []);
+  cut = are_cut (codes "c/d, a b" ∷ []);
+  sorted = a_range (codes "c/d") _ _ _ _ (put_ascii (codes "c/d") [] (omega arith, (omega arith, (omega arith, tt))) IsUtf8-nil)
+      (short_read [] (codes "c") (codes "d") [] refl refl refl refl refl (codes "c/d") refl refl)
+      (a_bad (codes " a b") _ _ _ (λ blank. true≢false (sym blank)) (λ is. not_media_type is.1) no_text);
+}
+
+not_a_list : (media : List MediaType) → ¬ (AreHttpLists (codes "c/d, a b" ∷ []) media)
+not_a_list media is =
+    let same = (one_header (codes "c/d, a b" ∷ []) _ _ bad_entry (http_lists_are_read (codes "c/d, a b" ∷ []) media is)).1 in
+    absurd (omega (arith, ap length same))
