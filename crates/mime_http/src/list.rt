@@ -39,6 +39,10 @@ fn after_outside(byte: u8) -> At
 pub(crate) fn after(at: At, byte: u8) -> At
     ensures { result ≡ after at byte }
 {
+    // Most bytes are so.
+    if matches!(at, At::Outside) && byte != b'=' {
+        return At::Outside;
+    }
     match (at, byte) {
         (At::Quoted, b'\\') => At::Paired,
         (At::Quoted, b'"') => At::Outside,

@@ -63,7 +63,9 @@ impl fmt::Display for FieldError {
 
 impl Error for FieldError {}
 
-/// The media type of a value in UTF-8 that the library rejects as it stands.
+/// The media type of a value in UTF-8 that the library rejects as it stands. It isn't inlined, so that reading one that it accepts
+/// stays short.
+#[inline(never)]
 fn read_tightened(alloc: Global, value: &[u8]) -> Result<Mime, FieldError>
     requires utf8 { IsUtf8 value.now }
     requires other { value.now ≢ codes "*/*" }
@@ -99,6 +101,7 @@ fn read_tightened(alloc: Global, value: &[u8]) -> Result<Mime, FieldError>
 /// # Errors
 /// `NotUtf8` for a value that isn't valid UTF-8, before anything is allocated; `Invalid` with the fault of a value that
 /// isn't a media type, at its position in `value`: 7 for `   a/b c`; `NoMemory` if memory runs out, which is never for `*/*`.
+#[inline(always)]
 pub fn content_type(alloc: Global, value: &[u8]) -> Result<Mime, FieldError>
     // The result is the media type that HTTP writes there,
     ensures http { IfOk result (λ mime. IsUtf8 value.now × HttpReads value.now mime.media) }
