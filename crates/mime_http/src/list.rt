@@ -54,7 +54,7 @@ pub(crate) fn ends(at: At, byte: u8) -> bool
     byte == b',' && matches!(at, At::Outside | At::Equals)
 }
 
-/// Whether a byte outside strings neither ends a piece nor is an equals sign, as most aren't.
+/// Whether a byte outside strings changes nothing: any but a comma and an equals sign.
 pub(crate) fn goes_on(at: At, byte: u8) -> bool
     ensures piece { result ≡ true → ends at byte ≡ false }
     ensures place { result ≡ true → after at byte ≡ at }
