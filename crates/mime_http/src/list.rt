@@ -1,6 +1,6 @@
 //! The cut of a header's line at its commas outside strings, and the media type of a piece.
 
-ghost use Rattle.std.specs.Prelude.{◌≡◌, IfOk, MatchOption};
+ghost use Rattle.std.specs.Prelude.{◌≡◌, true, false, IfOk, MatchOption};
 ghost use Rattle.std.specs.Str.{IsUtf8};
 ghost use Rattle.mime.specs.Grammar.{is_space};
 ghost use Rattle.mime_http.specs.HttpMediaType.{HttpReads, IsHttpMediaType};
@@ -52,6 +52,14 @@ pub(crate) fn ends(at: At, byte: u8) -> bool
     ensures { result ≡ ends at byte }
 {
     byte == b',' && matches!(at, At::Outside | At::Equals)
+}
+
+/// Whether a byte outside strings changes nothing: any but a comma and an equals sign.
+pub(crate) fn goes_on(at: At, byte: u8) -> bool
+    ensures piece { result ≡ true → ends at byte ≡ false }
+    ensures place { result ≡ true → after at byte ≡ at }
+{
+    matches!(at, At::Outside) && byte != b',' && byte != b'='
 }
 
 /// Whether a byte is white space (RFC 9110, 5.6.3).

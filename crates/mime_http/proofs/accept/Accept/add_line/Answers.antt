@@ -1,5 +1,5 @@
 -- A comma outside strings ends a piece, and any other byte goes on with it.
-use Rattle.std.proofs.Common.{arith, ◌≡◌, ◌∙◌, ◌≤◌, ◌-◌, ◌+◌, take, drop, length, sym, subst, refl, ℕ, List, [], ◌∷◌, Ok, Err}
+use Rattle.std.proofs.Common.{arith, ◌≡◌, ◌∙◌, ◌≤◌, ◌<◌, ◌-◌, ◌+◌, take, drop, get_or, length, false, sym, subst, refl, ℕ, List, [], ◌∷◌, Ok, Err}
 use Rattle.std.specs.Prelude.{Result, OnOk}
 use Rattle.std.proofs.lemmas.Bool.{true≢false}
 use Rattle.std.proofs.lemmas.List.{append-nil}
@@ -7,7 +7,7 @@ use Rattle.std.proofs.Math.ListN.{drop_of_length-le}
 use Rattle.mime_http.specs.declared.list.At.{At}
 use Rattle.mime_http.specs.declared.list.At.TheVariants.{Outside}
 use Rattle.mime_http.specs.HttpList.{Header}
-use Rattle.mime_http.specs.Walk.{Adds, AddsLines}
+use Rattle.mime_http.specs.Walk.{after, ends, Adds, AddsLines}
 use Rattle.mime_http.proofs.Adds.{SoFar, none_so_far, some_more, all_added, lines_added, piece_is_blank}
 use Rattle.mime_http.proofs.Cuts.{cut_from, cut, cut_ends, cut_goes_on}
 use Rattle.mime_http.proofs.accept.Accept.add_line.Goals as goal
@@ -16,8 +16,24 @@ use Rattle.mime_http.proofs.accept.Accept.add_line.Goals.{then-ends+in_ok-add, e
 nothing_taken : (n : ℕ) (bytes : List ℕ) → n ≡ 0 → take n bytes ≡ []
 nothing_taken n bytes none = rw none refl
 
+-- a byte that ends no piece goes on with the open one
+open_goes_on : (line : List ℕ) (start at : ℕ) (place : At) {next : At} {old now : Header} → next ≡ after place (get_or line at 0)
+    → start ≤ at → at < length line → ends place (get_or line at 0) ≡ false
+    → SoFar (cut line) (cut_from place (take (at - start) (drop start line)) (drop at line)) old now
+    → (start ≤ at + 1) × SoFar (cut line) (cut_from next (take (at + 1 - start) (drop start line)) (drop (at + 1) line)) old now
+open_goes_on line start at place {next} {old} {now} is from within on left = (
+  omega (arith, from),
+  subst (λ p. SoFar (cut line) (cut_from p (take (at + 1 - start) (drop start line)) (drop (at + 1) line)) old now) (sym is)
+      (subst (λ rest. SoFar (cut line) rest old now) (cut_goes_on place line start at from within on) left),
+)
+
 pub loop-at-init : goal.loop-at-init
 loop-at-init c = (omega arith, none_so_far (cut c.args.line.now) c.args.self.now)
+
+pub loop-at-preserved-then-goes_on : goal.loop-at-preserved-then-goes_on
+loop-at-preserved-then-goes_on c =
+    open_goes_on c.args.line.now c.loop-at.start c.loop-at.at c.loop-at.place (sym (c.if-goes_on.ensures.place refl)) c.loop-at.invariant.0
+    c.loop-at-test.true (c.if-goes_on.ensures.piece refl) c.loop-at.invariant.1
 
 pub loop-at-preserved : goal.loop-at-preserved
 loop-at-preserved c =
@@ -35,12 +51,8 @@ loop-at-preserved c =
             subst (λ piece. So (cut_from Outside piece (drop (at + 1) line)) w.add.new.self) (sym none) (some_more left w.in_ok-add.ensures.added),
           )
       | else-ends w ↦
-          let step = cut_goes_on place line start at c.loop-at.invariant.0 c.loop-at-test.true (sym c.ends.ensures ∙ w.if-ends.false) in
-          rw (w.self-is, w.start-is, w.place-is) (
-            omega (arith, c.loop-at.invariant.0),
-            subst (λ p. So (cut_from p (take (at + 1 - start) (drop start line)) (drop (at + 1) line)) c.loop-at.self) (sym w.after-place.ensures)
-                (subst (λ rest. So rest c.loop-at.self) step c.loop-at.invariant.1),
-          )
+          rw (w.self-is, w.start-is, w.place-is) (open_goes_on line start at place w.after-place.ensures c.loop-at.invariant.0
+          c.loop-at-test.true (sym c.ends.ensures ∙ w.if-ends.false) c.loop-at.invariant.1)
     ]
 
 when_added : {E X : Type 0} (line : List ℕ) (old now new : Header) (piece : List ℕ) (result : Result X E) → SoFar (cut line) (piece ∷ []) old now
