@@ -17,20 +17,13 @@ static void call(void)
     struct mime_found found;
     size_t length, bad;
     uint8_t equal;
-    if (strcmp(name, "mime_read") == 0)
-        mime_read(text, len, out, sizeof out, &found);
-    if (strcmp(name, "mime_list") == 0)
-        mime_list(text, len, out, sizeof out, &length);
-    if (strcmp(name, "mime_content_type") == 0)
-        mime_content_type(text, len, out, sizeof out, &found);
-    if (strcmp(name, "mime_accept") == 0)
-        mime_accept(text, len, out, sizeof out, &length, &bad);
-    if (strcmp(name, "mime_best") == 0)
-        mime_best(text, len, "text/html, a/b", 14, &length);
-    if (strcmp(name, "mime_equal") == 0) {
-        mime_equal(text, len, text, len, &equal);
-        mime_equal("a/b", 3, text, len, &equal);
-    }
+#define IF_NAMED(call) if (strcmp(name, #call) == 0)
+    IF_NAMED(mime_read) mime_read(text, len, out, sizeof out, &found);
+    IF_NAMED(mime_list) mime_list(text, len, out, sizeof out, &length);
+    IF_NAMED(mime_content_type) mime_content_type(text, len, out, sizeof out, &found);
+    IF_NAMED(mime_accept) mime_accept(text, len, out, sizeof out, &length, &bad);
+    IF_NAMED(mime_best) mime_best(text, len, "text/html, a/b", 14, &length);
+    IF_NAMED(mime_equal) mime_equal(text, len, text, len, &equal), mime_equal("a/b", 3, text, len, &equal);
 }
 
 int main(int argc, char **argv)

@@ -3,11 +3,8 @@
 #include "mime.h"
 
 /* A member with the name of a call, and the address of one. */
-struct calls {
-    uint32_t (*mime_read)(const char *, size_t, char *, size_t, struct mime_found *);
-};
+struct calls { uint32_t (*mime_read)(const char *, size_t, char *, size_t, struct mime_found *); };
 
-const char *value_of(const char *text, char *out, size_t out_len, const char *name);
 const char *value_of(const char *text, char *out, size_t out_len, const char *name)
 {
     const struct calls ours = {mime_read};
