@@ -29,7 +29,7 @@ def values():
     yield Row("look up \"charset\"", "look_up_charset_str", TEXT, ratio=1.0)
     yield Row("look up \"level\", which none has", "look_up_missing", TEXT, ratio=1.0)
     yield Row("look up CHARSET", "look_up_charset", TEXT, ratio=2.0)
-    yield Row("look up BOUNDARY", "look_up_boundary", TEXT, ratio=2.0)
+    yield Row("look up BOUNDARY", "look_up_boundary", TEXT)
     yield Row("walk the parameters", "walk", TEXT)
     yield Row("type, subtype and suffix", "parts", TEXT)
     yield Row("essence", "essence", TEXT)
