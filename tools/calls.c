@@ -182,7 +182,8 @@ static void check_content_type(const char *text, size_t len)
     size_t room = 2 * len + 2;
     uint32_t is = mime_read(text, len, again, sizeof again, &same), refused;
     count_anew();
-    CHECK(mime_content_type(text, len, buffer(room - 1), room - 1, &found) == MIME_NO_ROOM && has_written(0, room - 1) && requests == 0);
+    for (size_t small = len < 100 ? 0 : room - 1; small < room; small++)
+        CHECK(mime_content_type(text, len, buffer(small), small, &found) == MIME_NO_ROOM && has_written(0, small) && requests == 0);
     char *out = buffer(room);
     uint32_t answer = mime_content_type(text, len, out, room, &found);
     size_t asked = requests;
@@ -204,8 +205,8 @@ static void check_accept(const char *text, size_t len)
     static const char offers[] = "text/html, image/svg+xml;p=x, a/b";
     size_t length, bad, best, room = 3 * len + 3, ranges = 0;
     count_anew();
-    CHECK(mime_accept(text, len, buffer(room - 1), room - 1, &length, &bad) == MIME_NO_ROOM && length + bad == 0);
-    CHECK(requests == 0 && has_written(0, room - 1));
+    for (size_t small = len < 100 ? 0 : room - 1; small < room; small++)
+        CHECK(mime_accept(text, len, buffer(small), small, &length, &bad) == MIME_NO_ROOM && length + bad + requests == 0 && has_written(0, small));
     char *out = buffer(room);
     CHECK(mime_accept(text, len, out, room, &length, &bad) == MIME_OK && has_written(length, room) && held == 0);
     size_t asked = requests;

@@ -1,7 +1,6 @@
 /* SPDX-License-Identifier: MIT */
 /* Uses of include/mime.h that are ordinary in C and C++: tools/c_calls compiles and links this file as each, and wants no warning. */
 #include "mime.h"
-
 /* A member with the name of a call, and the address of one. */
 struct calls { uint32_t (*mime_read)(const char *, size_t, char *, size_t, struct mime_found *); };
 
