@@ -1,0 +1,280 @@
+//! Values and headers of 2 to 64 KB, such as a client may send on purpose.
+
+use crate::digest::Digest;
+use crate::random::Random;
+use crate::texts::Text;
+use mime::{BOUNDARY, Bad, CHARSET, Mime, MimeIter, TEXT_PLAIN_UTF_8, mime_eq_str};
+use mime_http::{Accept, content_type};
+use std::alloc::{AllocError, Global};
+use std::hash::{FoldHasher, Hash, Hasher};
+
+/// How a long string begins, what it repeats, and how it ends.
+struct Shape {
+    start: &'static str,
+    unit: &'static str,
+    end: &'static str,
+}
+
+/// Values of a `Content-Type`.
+static VALUES: [Shape; 17] = [
+    Shape {
+        start: "a/#;p=\"",
+        unit: "\\\"",
+        end: "\"",
+    },
+    Shape {
+        start: "a/#;p=\"",
+        unit: "\\\\",
+        end: "\"; charset=utf-8",
+    },
+    Shape {
+        start: "a/#;p=\"",
+        unit: "\\x",
+        end: "\"",
+    },
+    Shape {
+        start: "a/#;",
+        unit: " ",
+        end: "p=x",
+    },
+    Shape {
+        start: "a/#",
+        unit: ";p=x",
+        end: "",
+    },
+    Shape {
+        start: "a/#",
+        unit: ";",
+        end: "p=x",
+    },
+    Shape {
+        start: "a/#",
+        unit: " ",
+        end: ";p=x",
+    },
+    Shape {
+        start: "a/#",
+        unit: "x",
+        end: "",
+    },
+    Shape {
+        start: "a/#",
+        unit: "+x",
+        end: "",
+    },
+    Shape {
+        start: "a/#;boundary=",
+        unit: "y",
+        end: "",
+    },
+    Shape {
+        start: "a/#;boundary=\"",
+        unit: ",",
+        end: "\"",
+    },
+    Shape {
+        start: "a/#;p=\"",
+        unit: "é",
+        end: "\"",
+    },
+    Shape {
+        start: "a/#",
+        unit: "; name=value",
+        end: "; charset=utf-8",
+    },
+    Shape {
+        start: "A/#",
+        unit: "; Name=Value",
+        end: "; Charset=UTF-8",
+    },
+    Shape {
+        start: "a/#; charset=utf-8; p=\"x",
+        unit: " x",
+        end: "",
+    },
+    Shape {
+        start: "a/#;p=",
+        unit: "x",
+        end: ",",
+    },
+    Shape {
+        start: "a/#",
+        unit: " ; p=x",
+        end: " ; p",
+    },
+];
+
+/// Lists, as those of an `Accept` header.
+static LISTS: [Shape; 12] = [
+    Shape {
+        start: "a/#,",
+        unit: "a/b;q=0.5,",
+        end: "",
+    },
+    Shape {
+        start: "a/#",
+        unit: ", text/html;level=1;q=0.5",
+        end: "",
+    },
+    Shape {
+        start: "a/#",
+        unit: ", */*;q=0.1;x=\"a,b\"",
+        end: "",
+    },
+    Shape {
+        start: "a/#",
+        unit: ", bad",
+        end: "",
+    },
+    Shape {
+        start: "a/#",
+        unit: ", text/ html",
+        end: "",
+    },
+    Shape {
+        start: "a/#",
+        unit: ",",
+        end: "",
+    },
+    Shape {
+        start: "a/#,",
+        unit: "\"",
+        end: "",
+    },
+    Shape {
+        start: "a/#;p=\"",
+        unit: "\\",
+        end: "",
+    },
+    Shape {
+        start: "a/#,",
+        unit: ";",
+        end: "",
+    },
+    Shape {
+        start: "a/#,",
+        unit: " ",
+        end: "c/d",
+    },
+    Shape {
+        start: "a/#,b/c;p=\"",
+        unit: "\\\"",
+        end: "",
+    },
+    Shape {
+        start: "a/#",
+        unit: " ; q=0.5 , text/html",
+        end: "",
+    },
+];
+
+static OFFERS: [&str; 4] = [
+    "text/html; charset=utf-8",
+    "application/json",
+    "text/html;level=1",
+    "a/b",
+];
+
+/// Three strings of each shape, of 2 to 64 KB.
+fn texts_of(alloc: Global, shapes: &[Shape], random: &mut Random) -> Result<Vec<Text>, AllocError> {
+    let mut texts = Vec::new(alloc);
+    for (at, shape) in shapes.iter().enumerate() {
+        for (size, least) in [1900, 7500, 30_000].iter().enumerate() {
+            let size_of = *least + random.below(*least);
+            let number = at.wrapping_mul(3).wrapping_add(size);
+            let Shape { start, unit, end } = *shape;
+            texts.push(Text::long(alloc, start, unit, end, size_of, number, random)?)?;
+        }
+    }
+    Ok(texts)
+}
+
+/// What looks at all of a value.
+fn look_up(alloc: Global, mime: &Mime, digest: &mut Digest) -> Result<(), AllocError> {
+    digest.text(mime.as_str());
+    digest.found(mime.get_param(CHARSET));
+    digest.found(mime.get_param(BOUNDARY));
+    digest.found(mime.get_param("level"));
+    let mut hasher = FoldHasher::default();
+    mime.hash(&mut hasher);
+    let constant = TEXT_PLAIN_UTF_8.mime();
+    digest.flag(*mime < constant);
+    digest.flag(mime_eq_str(mime, "text/plain; charset=utf-8"));
+    let copy = mime.clone()?;
+    digest.flag(copy == *mime && hasher.finish() != 1);
+    let mut count = 0;
+    for (name, value) in mime.params() {
+        count = value.text.len().wrapping_add(name.text.len()) ^ count;
+    }
+    digest.number(count);
+    Ok(())
+}
+
+fn read_value(alloc: Global, value: &[u8], digest: &mut Digest) -> Result<(), AllocError> {
+    match content_type(alloc, value) {
+        Ok(mime) => look_up(alloc, &mime, digest),
+        Err(error) => {
+            digest.field_error(&error);
+            Ok(())
+        }
+    }
+}
+
+/// What a header accepts, with its best offer.
+fn read_header(
+    alloc: Global,
+    line: &[u8],
+    offers: &[Mime],
+    digest: &mut Digest,
+) -> Result<(), AllocError> {
+    let accept = Accept::from_lines(alloc, &[line])?;
+    digest.number(accept.ranges().len());
+    for bad in accept.bad() {
+        digest.number(bad.len());
+    }
+    digest.number(accept.best(offers).unwrap_or(99));
+    if let Some(offer) = offers.first() {
+        digest.number(accept.weight(offer) as usize);
+    }
+    Ok(())
+}
+
+fn read_list(alloc: Global, list: &str, digest: &mut Digest) {
+    let mut items = MimeIter::new(alloc, list);
+    while let Some(item) = items.next() {
+        match item {
+            Ok(mime) => digest.number(mime.as_str().len()),
+            Err(Bad::Piece(piece)) => digest.number(piece.len()),
+            Err(Bad::NoMemory) => digest.number(9),
+        }
+    }
+    digest.number(usize::try_from(items.steps()).unwrap_or(0));
+}
+
+pub(crate) fn awkward(
+    alloc: Global,
+    random: &mut Random,
+    rounds: u64,
+    digest: &mut Digest,
+) -> Result<(), AllocError> {
+    let mut offers = Vec::new(alloc);
+    for text in &OFFERS {
+        if let Ok(mime) = Mime::from_str(alloc, text) {
+            offers.push(mime)?;
+        }
+    }
+    let mut values = texts_of(alloc, &VALUES, random)?;
+    let mut lists = texts_of(alloc, &LISTS, random)?;
+    for _ in 0..rounds {
+        for text in values.iter_mut() {
+            text.go_on();
+            read_value(alloc, text.bytes(), digest)?;
+        }
+        for text in lists.iter_mut() {
+            text.go_on();
+            read_header(alloc, text.bytes(), &offers, digest)?;
+            read_list(alloc, text.text(), digest);
+        }
+    }
+    Ok(())
+}

@@ -1,0 +1,229 @@
+//! A log of media types is counted, sorted and printed.
+
+use crate::digest::Digest;
+use crate::random::Random;
+use crate::texts::Text;
+use mime::{Bad, Mime, MimeIter};
+use std::alloc::{AllocError, Global};
+use std::collections::{BTreeMap, HashMap};
+use std::fmt::Write;
+
+/// How many values a log has.
+const VALUES: usize = 8192;
+
+/// How many lines.
+const LINES: usize = 16_384;
+
+/// The writings of a value. They differ elsewhere than in the mark and in the case of the first four letters, which tell its occurrences
+/// apart.
+static WRITINGS: [[&str; 3]; 9] = [
+    [
+        "text/#; charset=utf-8",
+        "text/#;charset=utf-8",
+        "text/#; Charset=\"UTF-8\"",
+    ],
+    [
+        "application/#+json",
+        "application/#+json;",
+        "application/#+JSON",
+    ],
+    ["image/#", "image/#; ", "image/#;"],
+    ["application/#", "application/#;", "application/# "],
+    ["text/x-#", "text/x-#;", "text/X-#"],
+    [
+        "application/vnd.acme.#+xml; version=2",
+        "application/vnd.acme.#+xml;version=2",
+        "application/vnd.acme.#+xml; version=\"2\"",
+    ],
+    [
+        "multipart/form-data; boundary=----WebKitFormBoundary#",
+        "multipart/form-data;boundary=----WebKitFormBoundary#",
+        "multipart/form-data; boundary=\"----WebKitFormBoundary#\"",
+    ],
+    [
+        "audio/#; codecs=\"mp4a.40.2, avc1\"",
+        "audio/#;codecs=\"mp4a.40.2, avc1\"",
+        "audio/#;  Codecs=\"mp4a.40.2, avc1\"",
+    ],
+    [
+        "text/#; format=flowed; charset=us-ascii",
+        "text/#;format=flowed;charset=us-ascii",
+        "text/#; format=flowed; Charset=US-ASCII",
+    ],
+];
+
+/// A value's strings, and how often it came in this log.
+#[derive(Drop)]
+struct Value {
+    writings: [Text; 3],
+    came: u32,
+}
+
+impl Value {
+    fn of(alloc: Global, number: usize, random: &mut Random) -> Result<Value, AllocError> {
+        let [first, second, third] = WRITINGS[random.below(9)];
+        let writings = [
+            Text::of(alloc, first, number, random)?,
+            Text::of(alloc, second, number, random)?,
+            Text::of(alloc, third, number, random)?,
+        ];
+        Ok(Value { writings, came: 0 })
+    }
+
+    /// Begins the next log.
+    fn go_on(&mut self) {
+        for text in self.writings.iter_mut() {
+            text.capitalize(0);
+            text.go_on();
+        }
+        self.came = 0;
+    }
+
+    /// The next writing, which isn't the same twice in one log.
+    fn next(&mut self) -> &str {
+        let came = self.came;
+        self.came = came.wrapping_add(1);
+        let text = &mut self.writings[(came % 3) as usize];
+        if came >= 3 {
+            text.capitalize(came / 3);
+        }
+        text.text()
+    }
+}
+
+/// The media types of a log, and how often each came.
+#[derive(Drop)]
+struct Counts {
+    hashed: HashMap<Mime, u64>,
+    ordered: BTreeMap<Mime, u64>,
+}
+
+fn count_hashed(counts: &mut HashMap<Mime, u64>, mime: Mime) -> Result<u64, AllocError> {
+    let count = counts.entry(mime)?.or_insert(0);
+    *count = count.wrapping_add(1);
+    Ok(*count)
+}
+
+fn count_ordered(counts: &mut BTreeMap<Mime, u64>, mime: Mime) -> Result<u64, AllocError> {
+    let count = counts.entry(mime)?.or_insert(0);
+    *count = count.wrapping_add(1);
+    Ok(*count)
+}
+
+/// Counts a line.
+fn count(
+    alloc: Global,
+    counts: &mut Counts,
+    text: &str,
+    at: usize,
+    digest: &mut Digest,
+) -> Result<(), AllocError> {
+    let mime = match Mime::from_str(alloc, text) {
+        Ok(mime) => mime,
+        Err(error) => {
+            digest.fault(error.fault());
+            return Ok(());
+        }
+    };
+    let count = if at % 8 == 0 {
+        count_ordered(&mut counts.ordered, mime)?
+    } else {
+        count_hashed(&mut counts.hashed, mime)?
+    };
+    digest.number(count as usize);
+    Ok(())
+}
+
+/// Adds the media types of a list.
+fn add_list(alloc: Global, list: &str, digest: &mut Digest) {
+    let mut items = MimeIter::new(alloc, list);
+    while let Some(item) = items.next() {
+        match item {
+            Ok(mime) => digest.text(mime.as_str()),
+            Err(Bad::Piece(piece)) => digest.text(piece),
+            Err(Bad::NoMemory) => digest.number(9),
+        }
+    }
+    digest.number(usize::try_from(items.steps()).unwrap_or(0));
+}
+
+/// Adds what was counted, sorted and printed.
+fn add_counts(alloc: Global, counts: &Counts, digest: &mut Digest) -> Result<(), AllocError> {
+    let mut sorted = Vec::with_capacity(alloc, counts.hashed.len())?;
+    for (mime, count) in counts.hashed.iter() {
+        sorted.push((mime.clone()?, *count))?;
+    }
+    sorted.sort()?;
+    let mut report = String::new(alloc);
+    for (mime, count) in &sorted {
+        writeln!(report, "{count} {mime}")?;
+    }
+    for (mime, count) in counts.ordered.iter() {
+        writeln!(report, "{count} {mime}")?;
+    }
+    digest.text(report.as_str());
+    Ok(())
+}
+
+/// Adds a string to a list.
+fn push_entry(list: &mut String, text: &str) -> Result<(), AllocError> {
+    if !list.is_empty() {
+        list.push_str(", ")?;
+    }
+    list.push_str(text)
+}
+
+/// The position of a value, taken with skewed frequency: the first are more frequent.
+fn skewed(random: &mut Random) -> usize {
+    let one = random.below(VALUES);
+    one * one / VALUES
+}
+
+/// Each fourth line is an entry of a list of three.
+fn one_log(
+    alloc: Global,
+    values: &mut [Value],
+    random: &mut Random,
+    digest: &mut Digest,
+) -> Result<(), AllocError> {
+    let mut counts = Counts {
+        hashed: HashMap::new(alloc),
+        ordered: BTreeMap::new(alloc),
+    };
+    let mut list = String::new(alloc);
+    for at in 0..LINES {
+        let Some(value) = values.get_mut(skewed(random)) else {
+            continue;
+        };
+        let text = value.next();
+        if at % 4 != 0 {
+            count(alloc, &mut counts, text, at, digest)?;
+            continue;
+        }
+        push_entry(&mut list, text)?;
+        if at % 12 == 0 {
+            add_list(alloc, list.as_str(), digest);
+            list.clear();
+        }
+    }
+    add_counts(alloc, &counts, digest)
+}
+
+pub(crate) fn log(
+    alloc: Global,
+    random: &mut Random,
+    rounds: u64,
+    digest: &mut Digest,
+) -> Result<(), AllocError> {
+    let mut values = Vec::with_capacity(alloc, VALUES)?;
+    for number in 0..VALUES {
+        values.push(Value::of(alloc, number, random)?)?;
+    }
+    for _ in 0..rounds {
+        for value in values.iter_mut() {
+            value.go_on();
+        }
+        one_log(alloc, &mut values, random, digest)?;
+    }
+    Ok(())
+}

@@ -1,0 +1,161 @@
+//! A server chooses what it sends by the `Accept` header of each request.
+
+use crate::digest::Digest;
+use crate::random::Random;
+use crate::texts::{Text, texts_of};
+use mime::Mime;
+use mime_http::Accept;
+use std::alloc::{AllocError, Global};
+
+/// How many headers a round has.
+const COUNT: usize = 2048;
+
+/// What clients send: browsers, API clients, and some entries that are bad.
+static PATTERNS: [&str; 24] = [
+    "*/*, image/#",
+    "*/*;v=#",
+    "application/#, */*",
+    "application/#",
+    "application/json, text/#",
+    "application/json, text/plain, */*;x=#",
+    "application/vnd.github.#+json",
+    "application/vnd.acme+json;version=2, application/#;q=0.5",
+    "application/vnd.#+json;version=1, application/json;q=0.9",
+    "text/html,application/xhtml+xml,application/xml;q=0.9,image/#,image/webp,*/*;q=0.8",
+    "text/html,application/xhtml+xml,application/xml;q=0.9,image/#,image/webp,image/apng,*/*;q=0.8,application/signed-exchange;v=b3;q=0.7",
+    "text/html, application/xhtml+xml, application/xml;q=0.9, text/#;q=0.5, */*;q=0.8",
+    "text/html,application/xhtml+xml,application/xml;q=0.9,*/*;q=0.8,text/#",
+    "image/avif,image/webp,image/apng,image/svg+xml,image/*,*/*;q=0.8,image/#",
+    "image/#,image/png,image/svg+xml,image/*;q=0.8,video/*;q=0.8,*/*;q=0.5",
+    "text/css,text/#;q=0.3,*/*;q=0.1",
+    "text/*;q=0.3, text/html;q=0.7, text/html;level=1, text/html;level=2;q=0.4, text/#;q=0.5",
+    "text/plain; q=0.5, text/html, text/x-dvi; q=0.8, text/#",
+    "application/#; charset=utf-8, application/json; charset=utf-8",
+    "Application/JSON, Text/#;Q=0.5",
+    "text/html ; q=0.5 , text/# ; q=0.4",
+    "text/html, #, */*;q=.2",
+    "json/#, gzip, deflate",
+    "text/#; q=0.5; q=0.1, audio/*; q=0.2, audio/basic",
+];
+
+/// The second line of a header that has two.
+static SECOND: [&str; 2] = ["*/*;q=0.1", "text/plain;q=0.5, */*;q=0.1"];
+
+/// What servers offer.
+static OFFERS: [&[&str]; 6] = [
+    &["text/html", "application/json"],
+    &["application/json", "application/xml", "text/html"],
+    &[
+        "text/html; charset=utf-8",
+        "application/json",
+        "image/webp",
+        "text/plain",
+    ],
+    &["image/avif", "image/webp", "image/png", "image/jpeg"],
+    &[
+        "application/vnd.acme+json;version=1",
+        "application/vnd.acme+json;version=2",
+        "application/json",
+        "text/html;level=1",
+        "text/html;level=2",
+        "text/html",
+    ],
+    &[
+        "text/html",
+        "text/plain",
+        "text/css",
+        "text/csv",
+        "application/json",
+        "application/xml",
+        "application/xhtml+xml",
+        "application/pdf",
+        "image/png",
+        "image/jpeg",
+        "image/svg+xml",
+        "application/octet-stream",
+    ],
+];
+
+/// The media types that a server offers.
+fn offers_of(alloc: Global, texts: &[&str]) -> Result<Vec<Mime>, AllocError> {
+    let mut offers = Vec::new(alloc);
+    for text in texts {
+        if let Ok(mime) = Mime::from_str(alloc, text) {
+            offers.push(mime)?;
+        }
+    }
+    Ok(offers)
+}
+
+fn all_offers(alloc: Global) -> Result<Vec<Vec<Mime>>, AllocError> {
+    let mut all = Vec::new(alloc);
+    for texts in &OFFERS {
+        all.push(offers_of(alloc, texts)?)?;
+    }
+    Ok(all)
+}
+
+/// What a header accepts; each tenth has a second line.
+fn accept_of(alloc: Global, text: &Text, at: usize) -> Result<Accept, AllocError> {
+    let first = text.bytes();
+    if at % 10 == 0 {
+        let second = SECOND[at / 10 % 2];
+        Accept::from_lines(alloc, &[first, second.as_bytes()])
+    } else {
+        Accept::from_lines(alloc, &[first])
+    }
+}
+
+/// Adds what was read.
+fn add_read(accept: &Accept, digest: &mut Digest) {
+    for range in accept.ranges() {
+        digest.text(range.as_str());
+    }
+    for bad in accept.bad() {
+        digest.bytes(bad);
+    }
+}
+
+/// What a server asks of one header: mostly which offer is the best.
+fn choose(
+    alloc: Global,
+    accept: &Accept,
+    offers: &[Mime],
+    at: usize,
+    digest: &mut Digest,
+) -> Result<(), AllocError> {
+    if at % 8 == 0 {
+        for position in &accept.order(alloc, offers)? {
+            digest.number(*position);
+        }
+        return Ok(());
+    }
+    digest.number(accept.best(offers).unwrap_or(99));
+    if at % 8 == 1 {
+        for offer in offers {
+            digest.number(accept.weight(offer) as usize);
+        }
+    }
+    Ok(())
+}
+
+pub(crate) fn negotiation(
+    alloc: Global,
+    random: &mut Random,
+    rounds: u64,
+    digest: &mut Digest,
+) -> Result<(), AllocError> {
+    let mut texts = texts_of(alloc, random, &PATTERNS, COUNT)?;
+    let all = all_offers(alloc)?;
+    for _ in 0..rounds {
+        for (at, text) in texts.iter_mut().enumerate() {
+            text.go_on();
+            let accept = accept_of(alloc, text, at)?;
+            add_read(&accept, digest);
+            if let Some(offers) = all.get(at % 6) {
+                choose(alloc, &accept, offers, at / 6, digest)?;
+            }
+        }
+    }
+    Ok(())
+}

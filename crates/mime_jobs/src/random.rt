@@ -1,0 +1,39 @@
+//! Numbers that a seed decides.
+
+ghost use Rattle.std.specs.Prelude.{◌<◌, length};
+
+/// A generator of numbers, by the method SplitMix64 (Steele, Lea and Flood, 2014).
+#[derive(Drop)]
+pub(crate) struct Random {
+    state: u64,
+}
+
+impl Random {
+    pub(crate) fn new(seed: u64) -> Random {
+        Random { state: seed }
+    }
+
+    pub(crate) fn next(&mut self) -> u64 {
+        self.state = self.state.wrapping_add(0x9e37_79b9_7f4a_7c15);
+        let mut mixed = self.state;
+        mixed = (mixed ^ (mixed >> 30)).wrapping_mul(0xbf58_476d_1ce4_e5b9);
+        mixed = (mixed ^ (mixed >> 27)).wrapping_mul(0x94d0_49bb_1331_11eb);
+        mixed ^ (mixed >> 31)
+    }
+
+    /// A number below another.
+    pub(crate) fn below(&mut self, limit: usize) -> usize
+        requires { 0 < limit }
+        ensures { result < limit }
+    {
+        (self.next() % limit as u64) as usize
+    }
+
+    /// One of some strings.
+    pub(crate) fn one_of<'a>(&mut self, strings: &[&'a str]) -> &'a str
+        requires { 0 < length strings.now }
+    {
+        let at = self.below(strings.len());
+        strings[at]
+    }
+}
