@@ -20,6 +20,8 @@ pub(crate) struct Text {
     bytes: Vec<u8>,
     /// Where the mark begins.
     mark: usize,
+    /// Which letters are capitals.
+    capitals: u32,
 }
 
 /// Adds the mark of a string's number.
@@ -43,15 +45,6 @@ fn count_up(letters: &mut [u8]) {
     }
 }
 
-/// Lowercases a letter, or makes it a capital.
-fn set_case(letter: &mut u8, is_capital: bool) {
-    *letter = if is_capital {
-        letter.to_ascii_uppercase()
-    } else {
-        letter.to_ascii_lowercase()
-    };
-}
-
 impl Text {
     /// A pattern with a mark in place of `#`, and digits in place of each `@`.
     pub(crate) fn of(
@@ -72,7 +65,11 @@ impl Text {
                 _ => bytes.push(byte)?,
             }
         }
-        Ok(Text { bytes, mark })
+        Ok(Text {
+            bytes,
+            mark,
+            capitals: 0,
+        })
     }
 
     /// A pattern, a string over and over up to so many bytes, and another string.
@@ -105,21 +102,25 @@ impl Text {
         }
     }
 
-    /// Makes those of the first four letters and of the mark capitals whose bits are set.
+    /// Makes capitals of those of the first four letters and of the mark whose bits are set, and lowercases the others.
     pub(crate) fn capitalize(&mut self, bits: u32) {
-        let mark = self.mark;
-        let mut left = bits;
-        for at in 0..4 {
-            if let Some(letter) = self.bytes.get_mut(at) {
-                set_case(letter, left % 2 == 1);
+        let mut changed = bits ^ self.capitals;
+        self.capitals = bits;
+        for bit in 0..4 + MARK {
+            if changed == 0 {
+                return;
             }
-            left /= 2;
-        }
-        for at in 0..MARK {
-            if let Some(letter) = self.bytes.get_mut(mark.saturating_add(at)) {
-                set_case(letter, left % 2 == 1);
+            let at = if bit < 4 {
+                bit
+            } else {
+                self.mark.saturating_add(bit - 4)
+            };
+            if changed % 2 == 1
+                && let Some(letter) = self.bytes.get_mut(at)
+            {
+                *letter ^= 0x20;
             }
-            left /= 2;
+            changed /= 2;
         }
     }
 
