@@ -3,8 +3,9 @@
 ghost use Rattle.std.specs.Prelude.{◌≡◌, ◌↔◌, IsTrue, Some, true, refl};
 ghost use Rattle.std.specs.Cmp.{partial_equiv_from_equiv, partial_order_from_total, on_equiv, on_total, eq_by_cmp_equiv};
 ghost use Rattle.std.specs.Fmt.{debug_str, styled_text};
+ghost use Rattle.std.specs.Cmp.Lexicographic.{slice_cmp};
 ghost use Rattle.std.specs.Ordering.{eq_by_cmp, on, as_partial_cmp};
-ghost use Rattle.mime.specs.Comparison.{Same, IsOrderOf, media_cmp};
+ghost use Rattle.mime.specs.Comparison.{Same, IsOrderOf, pair_cmp, media_cmp};
 ghost use Rattle.mime.specs.Inner.HashInput.{media_input, media_input-same};
 ghost use Rattle.mime.specs.Inner.OrderLaws.{media_cmp_total, same_from_cmp};
 
@@ -15,25 +16,31 @@ use std::cmp::Ordering;
 use std::fmt;
 use std::hash::{Hash, Hasher};
 
-/// Whether two values are equal, part by part. Their kept texts may differ: `a/b;p=x` and `a/b;p="x"`. It isn't
-/// inlined: most calls of `eq` end before it.
+/// Whether the parameters of two values are equal. They may be written otherwise: `p=x` and `p="x"`. It isn't inlined:
+/// most calls of `eq` end before it.
 #[inline(never)]
-fn same_parts(first: &Mime, second: &Mime) -> bool
-    ensures { IsTrue result ↔ Same first.now.media second.now.media }
+fn same_pairs(first: &Mime, second: &Mime) -> bool
+    ensures { IsTrue result ↔ (first.now.media.pairs ≡ second.now.media.pairs) }
 {
-    first.essence_str() == second.essence_str() && first.pairs().eq(second.pairs())
+    let pairs = first.pairs();
+    let others = second.pairs();
+    if pairs.are_written_as(&others) {
+        return true;
+    }
+    pairs.eq(others)
 }
 
-/// How two values compare, part by part. It isn't inlined, as `same_parts`.
+/// How the parameters of two values compare. It isn't inlined, as `same_pairs`.
 #[inline(never)]
-fn order_parts(first: &Mime, second: &Mime) -> Ordering
-    ensures { result ≡ media_cmp first.now.media second.now.media }
+fn order_pairs(first: &Mime, second: &Mime) -> Ordering
+    ensures { result ≡ slice_cmp pair_cmp first.now.media.pairs second.now.media.pairs }
 {
-    let order = first.essence_str().cmp(second.essence_str());
-    if order.is_ne() {
-        return order;
+    let pairs = first.pairs();
+    let others = second.pairs();
+    if pairs.are_written_as(&others) {
+        return Ordering::Equal;
     }
-    first.pairs().cmp(second.pairs())
+    pairs.cmp(others)
 }
 
 /// Two values are equal if their essences are the same and so are their parameters, in the same
@@ -51,15 +58,13 @@ impl PartialEq for Mime {
         if self.param_count() != other.param_count() {
             return false;
         }
-        // Equal texts are equal values.
-        if self.as_str() == other.as_str() {
-            return true;
-        }
-        // Without parameters the kept text is the essence, and the essences differ.
-        if self.param_count() == 0 {
+        if self.essence_str() != other.essence_str() {
             return false;
         }
-        same_parts(self, other)
+        if self.param_count() == 0 {
+            return true;
+        }
+        same_pairs(self, other)
     }
 }
 
@@ -95,11 +100,14 @@ impl Ord for Mime {
         ensures computed { result ≡ media_cmp self.now.media other.now.media }
         ensures order { IsOrderOf self.now.media other.now.media result }
     {
-        // Equal texts are equal values.
-        if self.as_str() == other.as_str() {
+        let order = self.essence_str().cmp(other.essence_str());
+        if order.is_ne() {
+            return order;
+        }
+        if self.param_count() == 0 && other.param_count() == 0 {
             return Ordering::Equal;
         }
-        order_parts(self, other)
+        order_pairs(self, other)
     }
 }
 

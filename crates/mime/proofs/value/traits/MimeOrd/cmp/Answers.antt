@@ -1,19 +1,31 @@
--- One text is read as one value, and what the answer says.
-use Rattle.std.proofs.Common.{◌∙◌, sym}
-use Rattle.std.specs.Cmp.Lexicographic.{same_text}
+-- The essences decide, or the pairs, and what the answer says.
+use Rattle.std.proofs.Common.{rules, arith}
+use Rattle.std.proofs.lemmas.List.{nil_from_length}
 use Rattle.std.specs.declared.cmp.Ordering.TheVariants.{Equal}
-use Rattle.mime.proofs.ValueLemmas.Parts.{same_from_text}
-use Rattle.mime.proofs.ValueLemmas.Traits.{equal-media, tells_answer}
+use Rattle.mime.proofs.ValueLemmas.Traits.{tells_answer}
 use Rattle.mime.proofs.value.traits.MimeOrd.cmp.Goals as goal
 
-pub returns-then-eq-clause-computed : goal.returns-then-eq-clause-computed
-returns-then-eq-clause-computed c =
-    sym (equal-media c.args.self.now.media c.args.other.now.media
-    (same_from_text _ _ c.args.self.now.media c.args.other.now.media c.as_str.ensures.reads c.as_str-2.ensures.reads
-    (same_text _ _ (sym c.if-eq.true ∙ c.eq.ensures))))
+pub returns-then-is_ne-clause-computed : goal.returns-then-is_ne-clause-computed
+returns-then-is_ne-clause-computed c = search rules
 
-pub returns-then-eq-clause-order : goal.returns-then-eq-clause-order
-returns-then-eq-clause-order c = tells_answer c.args.self.now.media c.args.other.now.media Equal (returns-then-eq-clause-computed c)
+pub returns-then-is_ne-clause-order : goal.returns-then-is_ne-clause-order
+returns-then-is_ne-clause-order c =
+    tells_answer c.args.self.now.media c.args.other.now.media c.cmp-order.result (search rules)
+
+pub returns-then-param_count-eq0-2-clause-computed : goal.returns-then-param_count-eq0-2-clause-computed
+returns-then-param_count-eq0-2-clause-computed c =
+    let none = nil_from_length c.args.self.now.media.pairs (omega arith) in
+    let other = nil_from_length c.args.other.now.media.pairs (omega arith) in
+    search rules
+
+pub returns-then-param_count-eq0-2-clause-order : goal.returns-then-param_count-eq0-2-clause-order
+returns-then-param_count-eq0-2-clause-order c =
+    let none = nil_from_length c.args.self.now.media.pairs (omega arith) in
+    let other = nil_from_length c.args.other.now.media.pairs (omega arith) in
+    tells_answer c.args.self.now.media c.args.other.now.media Equal (search rules)
+
+pub returns-clause-computed : goal.returns-clause-computed
+returns-clause-computed c = search rules
 
 pub returns-clause-order : goal.returns-clause-order
-returns-clause-order c = tells_answer c.args.self.now.media c.args.other.now.media c.order_parts.result c.order_parts.ensures
+returns-clause-order c = tells_answer c.args.self.now.media c.args.other.now.media c.order_pairs.result (search rules)
