@@ -4,7 +4,7 @@ ghost use Rattle.std.specs.Prelude.{◌≡◌, ◌<◌, map, length, IfSome, IfO
 ghost use Rattle.std.specs.Vec.{vec_items};
 ghost use Rattle.mime_http.specs.Ranges.{closest, merit, best_offer, AreInOrder};
 
-use crate::range::closeness;
+use crate::range::closer;
 use mime::Mime;
 use std::alloc::{AllocError, Global};
 use std::cmp::Reverse;
@@ -15,7 +15,7 @@ fn closest(ranges: &[Mime], offer: &Mime) -> Option<(u8, usize, u16, usize)>
 {
     let mut closest = None;
     for (at, range) in ranges.iter().enumerate() {
-        closest = closest.max(closeness(range, offer, at));
+        closest = closer(closest, range, offer, at);
     }
     closest
 }

@@ -1,9 +1,12 @@
 //! Does a range cover an offer, and how closely?
 
-ghost use Rattle.std.specs.Prelude.{◌≡◌, ◌++◌, Some, None, length, option_map, is_some, if◌then◌else◌, codes, bytes_eq};
+ghost use Rattle.std.specs.Prelude.{◌≡◌, ◌++◌, Some, None, length, option_map, unwrap_or, is_some, if◌then◌else◌, codes, bytes_eq};
 ghost use Rattle.std.specs.List.{list_all};
 ghost use Rattle.mime.specs.Items.{name_text};
-ghost use Rattle.mime_http.specs.Ranges.{first_value, weight_of, named_parts, demanded, has, closeness};
+ghost use Rattle.std.specs.Option.{option_cmp};
+ghost use Rattle.std.specs.Ordering.{ord_max};
+ghost use Rattle.mime_http.specs.Weight.{thousandths_of};
+ghost use Rattle.mime_http.specs.Ranges.{first_value, weight_of, named_parts, demanded, has, rank_cmp, closeness};
 
 use crate::weights::thousandths;
 use mime::{Mime, Name};
@@ -16,6 +19,17 @@ pub(crate) fn first_value<'a>(mime: &'a Mime, name: &str) -> Option<Name<'a>>
         text: name,
         ignores_case: true,
     })
+}
+
+/// The weight that the value of a `q` is, in thousandths, or 1000 without one.
+#[inline]
+fn weight_in(value: Option<&str>) -> u16
+    ensures { result ≡ unwrap_or (option_map (λ text. thousandths_of text.now) value.entry) 1000 }
+{
+    match value {
+        Some(text) => thousandths(text),
+        None => 1000,
+    }
 }
 
 /// The weight of a range in thousandths, or 1000 if it has none (RFC 9110, 12.4.2). Of two the first counts.
@@ -69,33 +83,64 @@ fn param_count(mime: &Mime) -> usize
     count
 }
 
-/// How many parameters a range has other than its weight `q`, before and after it (RFC 9110, 12.5.1); `None` if an offer hasn't all of
-/// them. The range `text/html;level=1` is for `text/html;level=1`, and not for all HTML.
-fn demanded(range: &Mime, offer: &Mime) -> Option<usize>
+/// How many parameters a range has other than its weight `q`, before and after it (RFC 9110, 12.5.1), and that weight; `None` if an offer
+/// hasn't all of them. One walk finds both. It isn't inlined: most ranges have no parameter.
+#[inline(never)]
+fn demanded_among(range: &Mime, offer: &Mime) -> Option<(usize, u16)>
     ensures { result ≡ (if list_all (has offer.now.media) (demanded range.now.media.pairs)
-        then Some (length (demanded range.now.media.pairs)) else None) }
+        then Some (length (demanded range.now.media.pairs), weight_of range.now.media) else None) }
 {
     let most = param_count(range);
     let mut count = 0;
+    let mut weight = None;
     for (name, value) in range.params() {
-        if name.text != "q" {
-            if !has(offer, name.text, value.text) {
-                return None;
-            }
+        if name.text == "q" {
+            weight = weight.or(Some(value.text));
+        } else if has(offer, name.text, value.text) {
             count += 1;
+        } else {
+            return None;
         }
     }
-    Some(count)
+    Some((count, weight_in(weight)))
 }
 
-/// How closely a range at a position covers an offer: the parts that it names, the parameters that it demands, its weight, and the
-/// position; `None` if it doesn't.
-pub(crate) fn closeness(range: &Mime, offer: &Mime, at: usize) -> Option<(u8, usize, u16, usize)>
-    ensures { result ≡ closeness offer.now.media (at, range.now.media) }
+/// How many parameters a range demands of an offer, and its weight; `None` if the offer hasn't all of them. The range
+/// `text/html;level=1` is for `text/html;level=1`, and not for all HTML.
+#[inline]
+fn demanded(range: &Mime, offer: &Mime) -> Option<(usize, u16)>
+    ensures { result ≡ (if list_all (has offer.now.media) (demanded range.now.media.pairs)
+        then Some (length (demanded range.now.media.pairs), weight_of range.now.media) else None) }
 {
-    let named = named_parts(range, offer)?;
-    let demanded = demanded(range, offer)?;
-    Some((named, demanded, weight_of(range), at))
+    if param_count(range) == 0 {
+        return Some((0, 1000));
+    }
+    demanded_among(range, offer)
+}
+
+/// The closer of the closest range so far and of the range at this position, each with the parts that it names, the parameters that it
+/// demands, its weight, and its position. A range that names fewer parts than the closest isn't closer, whatever it demands and weighs.
+#[inline(always)]
+pub(crate) fn closer(
+    closest: Option<(u8, usize, u16, usize)>,
+    range: &Mime,
+    offer: &Mime,
+    at: usize,
+) -> Option<(u8, usize, u16, usize)>
+    ensures { result ≡ ord_max (option_cmp rank_cmp) closest (closeness offer.now.media (at, range.now.media)) }
+{
+    let Some(named) = named_parts(range, offer) else {
+        return closest;
+    };
+    if let Some(close) = closest {
+        if named < close.0 {
+            return closest;
+        }
+    }
+    match demanded(range, offer) {
+        Some((demanded, weight)) => closest.max(Some((named, demanded, weight, at))),
+        None => closest,
+    }
 }
 
 /// Whether a range covers an offer: `text/*` covers `text/html`, and `text/html;level=1` covers `text/html;level=1` and not all HTML
@@ -103,5 +148,5 @@ pub(crate) fn closeness(range: &Mime, offer: &Mime, at: usize) -> Option<(u8, us
 pub fn covers(range: &Mime, offer: &Mime) -> bool
     ensures { result ≡ is_some (closeness offer.now.media (0, range.now.media)) }
 {
-    closeness(range, offer, 0).is_some()
+    closer(None, range, offer, 0).is_some()
 }

@@ -15,5 +15,5 @@ loop-at-preserved c =
     let at = c.loop-at.at in
     let next = mapped_left (λ range. range.media) c.args.ranges.now at _ (first_left c.args.ranges.now at _ c.loop-at-test.true c.index-ranges-at.is) in
     ap (λ found. fold higher found (map close (enumerate_from (at + 1) (drop (at + 1) (map (λ range. range.media) c.args.ranges.now)))))
-    (c.max-closest.ensures ∙ ap (higher c.loop-at.closest) c.closeness.ensures)
+    c.closer-closest.ensures
     ∙ (sym (ap (λ ranges. fold higher c.loop-at.closest (map close (enumerate_from at ranges))) next) ∙ c.loop-at.invariant)
