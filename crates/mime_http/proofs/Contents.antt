@@ -1,9 +1,10 @@
 -- The content of quoted strings: what is written for a value, and what needs no backslash.
-use Rattle.std.proofs.Common.{◌≡◌, ◌∙◌, ◌==◌, ℕ, Bool, true, false, List, [], ◌∷◌, ◌++◌, arith, refl, sym, ap, cond, ⊎_elim, append-nil}
+use Rattle.std.proofs.Common.{◌≡◌, ◌≢◌, ◌∙◌, ◌==◌, ◌<◌, ◌≤◌, ℕ, zero, suc, Bool, true, false, List, [], ◌∷◌, ◌++◌, arith, refl, sym, ap, cond, ⊎_elim, append-nil, append_assoc, ◌+◌, get_or, length, take, drop}
 use Rattle.std.specs.Prelude.{◌||◌, ◌&&◌, nat_le, nat_lt}
 use Rattle.std.specs.Char.{to_ascii_lowercase}
 use Rattle.std.specs.List.{list_all}
-use Rattle.std.proofs.lemmas.Bool.{and_parts, and_from, or_parts, cases_Bool, cases_lt}
+use Rattle.std.proofs.Math.Seq.{take-length, drop-length, take-append-add, drop-append-add}
+use Rattle.std.proofs.lemmas.Bool.{and_parts, and_from, or_parts, cases_Bool, cases_lt, eqb-true, false_from_ne_true}
 use Rattle.std.proofs.lemmas.Bool.Decides.{nat_tests}
 use Rattle.std.proofs.lemmas.Grind.{flat_map-append}
 use Rattle.std.proofs.lemmas.Str.{encode_ascii, encodes-append}
@@ -61,6 +62,34 @@ boundary_is_plain bytes is = plain_class is_bchar (λ b is. grind (arith, nat_te
 
 pub boundary_is_safe : (bytes : List ℕ) → IsBoundary bytes → AreHeaderBytes bytes
 boundary_is_safe bytes is = safe_class is_bchar bchar_safe bytes is.all
+
+-- ---- bytes before the first backslash
+
+-- they mean themselves
+pub unescaped_before : (bytes : List ℕ) (at : ℕ) → at ≤ length bytes → ((i : ℕ) → i < at → get_or bytes i 0 ≢ 92)
+    → unescaped bytes ≡ take at bytes ++ unescaped (drop at bytes)
+unescaped_before bytes zero within none = refl
+unescaped_before [] (suc at) within none = refl
+unescaped_before (b ∷ bytes) (suc at) within none =
+    let other : (b == 92) ≡ false = false_from_ne_true _ (λ is. none 0 (omega arith) (eqb-true b 92 is)) in
+    rw other (ap (λ rest. b ∷ rest) (unescaped_before bytes at (omega (arith, within)) (λ i below. none (suc i) (omega (arith, below)))))
+
+-- without a backslash all do
+pub unescaped_same : (bytes : List ℕ) → ((i : ℕ) → i < length bytes → get_or bytes i 0 ≢ 92) → unescaped bytes ≡ bytes
+unescaped_same bytes none =
+    unescaped_before bytes (length bytes) (omega arith) none
+    ∙ ap (λ rest. take (length bytes) bytes ++ unescaped rest) (drop-length bytes) ∙ append-nil (take (length bytes) bytes) ∙ take-length bytes
+
+-- so do those at the end of a buffer
+pub unescaped_end : (front value : List ℕ) (start at : ℕ) → start ≡ length front → at ≤ length value
+    → ((i : ℕ) → i < at → get_or value i 0 ≢ 92)
+    → take (start + at) (front ++ value) ++ unescaped (drop (start + at) (front ++ value)) ≡ front ++ unescaped value
+unescaped_end front value start at long within none =
+    ap (λ n. take (n + at) (front ++ value) ++ unescaped (drop (n + at) (front ++ value))) long
+    ∙ ap (λ rest. take (length front + at) (front ++ value) ++ unescaped rest) (drop-append-add front value at)
+    ∙ ap (λ part. part ++ unescaped (drop at value)) (take-append-add front value at)
+    ∙ append_assoc front (take at value) (unescaped (drop at value))
+    ∙ ap (λ rest. front ++ rest) (sym (unescaped_before value at within none))
 
 -- ---- what is written for a value
 

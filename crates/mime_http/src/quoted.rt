@@ -1,6 +1,6 @@
 //! The content of a quoted string: what it means, and what is written for a value.
 
-ghost use Rattle.std.specs.Prelude.{◌≡◌, ◌++◌, OnOk, IfOk, is_ok, if◌then◌else◌, string_bytes, encode_utf8};
+ghost use Rattle.std.specs.Prelude.{◌≡◌, ◌++◌, ◌≤◌, OnOk, IfOk, is_ok, if◌then◌else◌, length, take, drop, string_bytes, encode_utf8};
 ghost use Rattle.std.specs.Vec.{vec_items};
 ghost use Rattle.mime_http.specs.Unescaped.{unescaped};
 ghost use Rattle.mime_http.specs.Written.{escaped};
@@ -16,16 +16,32 @@ use std::alloc::{AllocError, Global};
 pub fn unescape(value: &str, buffer: &mut Vec<u8>) -> Result<(), AllocError>
     ensures { vec_items buffer.new ≡ (if is_ok result then vec_items buffer.old ++ unescaped value.now else vec_items buffer.old) }
 {
-    buffer.reserve(value.len())?;
-    let mut is_paired = false;
-    for &byte in value.as_bytes() {
-        let begins_pair = !is_paired && byte == b'\\';
-        if !begins_pair {
-            buffer.push(byte)?;
-        }
-        is_paired = begins_pair;
+    let start = buffer.len();
+    buffer.extend_from_slice(value.as_bytes())?;
+    if let Some(first) = value.find('\\') {
+        let end = unescape_in_place(buffer, start + first);
+        buffer.truncate(end);
     }
     Ok(())
+}
+
+/// Moves what the bytes from this position on mean to that position, and returns where it ends.
+fn unescape_in_place(bytes: &mut [u8], start: usize) -> usize
+    requires { start ≤ length bytes.old }
+    ensures meant { take result bytes.new ≡ take start bytes.old ++ unescaped (drop start bytes.old) }
+    ensures within { result ≤ length bytes.new }
+    ensures long { length bytes.new ≡ length bytes.old }
+{
+    let mut end = start;
+    let mut is_paired = false;
+    for at in start..bytes.len() {
+        let byte = bytes[at];
+        let begins_pair = !is_paired && byte == b'\\';
+        bytes[end] = byte;
+        end += !begins_pair as usize;
+        is_paired = begins_pair;
+    }
+    end
 }
 
 /// Adds a character to the content of a quoted string, after a backslash if it is a quote or a backslash.
