@@ -1,5 +1,5 @@
 -- The content of quoted strings: what is written for a value, and what needs no backslash.
-use Rattle.std.proofs.Common.{◌≡◌, ◌≢◌, ◌∙◌, ◌==◌, ◌<◌, ◌≤◌, ℕ, zero, suc, Bool, true, false, List, [], ◌∷◌, ◌++◌, arith, refl, sym, ap, cond, ⊎_elim, append-nil, append_assoc, ◌+◌, get_or, length, take, drop}
+use Rattle.std.proofs.Common.{◌≡◌, ◌≢◌, ◌∙◌, ◌==◌, ◌<◌, ◌≤◌, ℕ, zero, suc, Bool, true, false, List, [], ◌∷◌, ◌++◌, arith, refl, sym, ap, cond, ⊎_elim, append-nil, append_assoc, ◌+◌, ◌*◌, get_or, length, take, drop}
 use Rattle.std.specs.Prelude.{◌||◌, ◌&&◌, nat_le, nat_lt}
 use Rattle.std.specs.Char.{to_ascii_lowercase}
 use Rattle.std.specs.List.{list_all}
@@ -15,7 +15,7 @@ use Rattle.mime.specs.Values.{lowered, is_charset}
 use Rattle.mime.proofs.BytesLemmas.{AreTokenBytes-from_token}
 use Rattle.mime.proofs.ValueLemmas.Utf8.{high_bytes}
 use Rattle.mime_http.specs.Boundary.{is_bchar, IsBoundary}
-use Rattle.mime_http.specs.Unescaped.{unescaped}
+use Rattle.mime_http.specs.Unescaped.{unescaped, unescaped_from}
 use Rattle.mime_http.specs.Written.{escaped_byte, escaped, WrittenIsMeant}
 use lib.Utf8.{scalar, encode, encodes}
 
@@ -90,6 +90,32 @@ unescaped_end front value start at long within none =
     ∙ ap (λ part. part ++ unescaped (drop at value)) (take-append-add front value at)
     ∙ append_assoc front (take at value) (unescaped (drop at value))
     ∙ ap (λ rest. front ++ rest) (sym (unescaped_before value at within none))
+
+-- a boundary means itself
+pub boundary_means_itself : (bytes : List ℕ) → IsBoundary bytes → unescaped bytes ≡ bytes
+boundary_means_itself bytes is = go bytes is.all
+  where
+    go : (bytes : List ℕ) → list_all is_bchar bytes ≡ true → unescaped bytes ≡ bytes
+    go [] all = refl
+    go (b ∷ bytes) all =
+        let parts = and_parts (is_bchar b) (list_all is_bchar bytes) all in
+        let other : (b == 92) ≡ false = grind (arith, nat_tests, parts.0) in
+        rw other (ap (λ rest. b ∷ rest) (go bytes parts.1))
+
+-- ---- how long a meaning is
+
+-- two bytes stand for each at most, and a backslash at the end for none
+length-unescaped_from : (bytes : List ℕ)
+    → (length bytes ≤ 2 * length (unescaped bytes) + 1) × (length bytes ≤ 2 * length (unescaped_from true bytes))
+length-unescaped_from [] = (omega arith, omega arith)
+length-unescaped_from (b ∷ bytes) =
+    let (plain, paired) = length-unescaped_from bytes in (
+      ⊎_elim (λ is. rw is (omega (arith, paired))) (λ other. rw other (omega (arith, plain))) (cases_Bool (b == 92)),
+      omega (arith, plain),
+    )
+
+pub length-unescaped : (bytes : List ℕ) → length bytes ≤ 2 * length (unescaped bytes) + 1
+length-unescaped bytes = (length-unescaped_from bytes).0
 
 -- ---- what is written for a value
 

@@ -1,19 +1,54 @@
 //! The boundary between the parts of a multipart body.
 
 ghost use Rattle.std.specs.Prelude.{◌≡◌, ◌↔◌, ℕ, List, IsTrue, IfOk, MatchOption};
+ghost use Rattle.std.specs.List.{list_all};
 ghost use Rattle.std.specs.Vec.{vec_items};
 ghost use Rattle.mime_http.specs.Boundary.{is_bchar, IsBoundary, IsBoundaryOf};
+ghost use Rattle.mime_http.specs.Unescaped.{unescaped};
 
 use crate::quoted::unescape;
 use crate::range::first_value;
 use mime::Mime;
 use std::alloc::{AllocError, Global};
 
+/// A byte that may stand in a boundary.
+const Y: bool = true;
+
+/// One that may not.
+const N: bool = false;
+
+/// Which bytes may stand in a boundary.
+static BOUNDARY_BYTES: [bool; 256] = [
+    N, N, N, N, N, N, N, N, N, N, N, N, N, N, N, N, N, N, N, N, N, N, N, N, N, N, N, N, N, N, N, N,
+    Y, N, N, N, N, N, N, Y, Y, Y, N, Y, Y, Y, Y, Y, Y, Y, Y, Y, Y, Y, Y, Y, Y, Y, Y, N, N, Y, N, Y,
+    N, Y, Y, Y, Y, Y, Y, Y, Y, Y, Y, Y, Y, Y, Y, Y, Y, Y, Y, Y, Y, Y, Y, Y, Y, Y, Y, N, N, N, N, Y,
+    N, Y, Y, Y, Y, Y, Y, Y, Y, Y, Y, Y, Y, Y, Y, Y, Y, Y, Y, Y, Y, Y, Y, Y, Y, Y, Y, N, N, N, N, N,
+    N, N, N, N, N, N, N, N, N, N, N, N, N, N, N, N, N, N, N, N, N, N, N, N, N, N, N, N, N, N, N, N,
+    N, N, N, N, N, N, N, N, N, N, N, N, N, N, N, N, N, N, N, N, N, N, N, N, N, N, N, N, N, N, N, N,
+    N, N, N, N, N, N, N, N, N, N, N, N, N, N, N, N, N, N, N, N, N, N, N, N, N, N, N, N, N, N, N, N,
+    N, N, N, N, N, N, N, N, N, N, N, N, N, N, N, N, N, N, N, N, N, N, N, N, N, N, N, N, N, N, N, N,
+];
+
+/// The number of bytes that a boundary has at most.
+const LONGEST: usize = 70;
+
 /// Whether a byte may stand in a boundary.
+#[inline(always)]
 fn is_boundary_byte(byte: u8) -> bool
     ensures { result ≡ is_bchar byte }
 {
-    matches!(byte, b'0'..=b'9' | b'A'..=b'Z' | b'a'..=b'z' | b'\'' | b'(' | b')' | b'+' | b'_' | b',' | b'-' | b'.' | b'/' | b':' | b'=' | b'?' | b' ')
+    BOUNDARY_BYTES[byte as usize]
+}
+
+/// Whether all of these bytes may stand in a boundary.
+fn are_boundary_bytes(bytes: &[u8]) -> bool
+    ensures { result ≡ list_all is_bchar bytes.now }
+{
+    let mut all = true;
+    for &byte in bytes {
+        all &= is_boundary_byte(byte);
+    }
+    all
 }
 
 /// Whether bytes are a boundary: 1 to 70 letters, digits, spaces and marks of `'()+_,-./:=?`, with no space at the end (RFC 2046, 5.1.1).
@@ -21,14 +56,33 @@ fn is_boundary_byte(byte: u8) -> bool
 pub fn is_boundary(bytes: &[u8]) -> bool
     ensures { IsTrue result ↔ IsBoundary bytes.now }
 {
-    for &byte in bytes {
-        if !is_boundary_byte(byte) {
-            return false;
-        }
-    }
     match bytes.last() {
-        Some(last) => bytes.len() <= 70 && *last != b' ',
+        Some(last) => bytes.len() <= LONGEST && *last != b' ' && are_boundary_bytes(bytes),
         None => false,
+    }
+}
+
+/// The boundary that a parameter's value means, if it means one. A value that is too long to mean one asks for no memory, nor does one
+/// that has no backslash and isn't a boundary.
+fn meant_boundary(alloc: Global, value: &str) -> Result<Option<Vec<u8>>, AllocError>
+    ensures { IfOk result (λ answer. MatchOption answer (¬ (IsBoundary (unescaped value.now)))
+        (λ boundary. (vec_items boundary ≡ unescaped value.now) × IsBoundary (unescaped value.now))) }
+{
+    let bytes = value.as_bytes();
+    if is_boundary(bytes) {
+        // It has no backslash, so it means itself.
+        return Ok(Some(bytes.to_vec(alloc)?));
+    }
+    // Two bytes mean one at least, but for a backslash at the end.
+    if bytes.len() > 2 * LONGEST + 1 || !value.contains('\\') {
+        return Ok(None);
+    }
+    let mut boundary = Vec::new(alloc);
+    unescape(value, &mut boundary)?;
+    if is_boundary(&boundary) {
+        Ok(Some(boundary))
+    } else {
+        Ok(None)
     }
 }
 
@@ -48,11 +102,5 @@ pub fn boundary(alloc: Global, mime: &Mime) -> Result<Option<Vec<u8>>, AllocErro
     let Some(value) = first_value(mime, "boundary") else {
         return Ok(None);
     };
-    let mut boundary = Vec::new(alloc);
-    unescape(value.text, &mut boundary)?;
-    if is_boundary(&boundary) {
-        Ok(Some(boundary))
-    } else {
-        Ok(None)
-    }
+    meant_boundary(alloc, value.text)
 }

@@ -1,0 +1,30 @@
+-- A boundary means itself; what is too long means none, and what has no backslash means itself.
+use Rattle.std.proofs.Common.{rules, ◌≡◌, ◌≢◌, ◌∙◌, ◌<◌, ℕ, subst, sym, get_or, length, arith}
+use Rattle.std.proofs.lemmas.Bool.{false≢true}
+use Rattle.std.specs.Vec.{vec_items}
+use Rattle.std.proofs.lemmas.Str.Pattern.{contains_char}
+use Rattle.mime_http.specs.Boundary.{IsBoundary}
+use Rattle.mime_http.proofs.Contents.{boundary_means_itself, length-unescaped, unescaped_same}
+use Rattle.mime_http.proofs.multipart.meant_boundary.Goals as goal
+use Rattle.mime_http.proofs.multipart.meant_boundary.Goals.{then-bytes-via-then-bytes, then-bytes-via-else-bytes+then-not-contains}
+
+pub returns-then-is_boundary : goal.returns-then-is_boundary
+returns-then-is_boundary c =
+    let is : IsBoundary c.args.value.now = search rules in
+    let same = boundary_means_itself c.args.value.now is in
+    let copied : vec_items c.in_ok-to_vec.field-0 ≡ c.args.value.now = search rules in
+    (copied ∙ sym same, subst IsBoundary (sym same) is)
+
+pub returns-then-bytes : goal.returns-then-bytes
+returns-then-bytes c =
+    elim c.then-bytes.branch [
+      | then-bytes-via-then-bytes w ↦ (λ is.
+          absurd (omega (arith, is.most, length-unescaped c.args.value.now, w.if-bytes.true)))
+      | then-bytes-via-else-bytes+then-not-contains w ↦ (λ is.
+          let value = c.args.value.now in
+          let finds = contains_char 92 value w.contains.result w.contains.ensures.cases (omega arith) in
+          let none : (i : ℕ) → i < length value → get_or value i 0 ≢ 92 =
+          λ i below there. false≢true (sym w.if-not-contains.true ∙ finds.1 i below there) in
+          let not_one : ¬ (IsBoundary value) = search rules in
+          not_one (subst IsBoundary (unescaped_same value none) is))
+    ]
