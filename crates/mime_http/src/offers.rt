@@ -1,30 +1,132 @@
 //! What the ranges of an `Accept` header give a server's offers.
 
-ghost use Rattle.std.specs.Prelude.{◌≡◌, ◌<◌, map, length, IfSome, IfOk};
+ghost use Rattle.std.specs.Prelude.{◌≡◌, ◌<◌, None, map, length, IfSome, IfOk};
+ghost use Rattle.std.specs.Option.{option_cmp};
+ghost use Rattle.std.specs.Ordering.{ord_max};
 ghost use Rattle.std.specs.Vec.{vec_items};
-ghost use Rattle.mime_http.specs.Ranges.{closest, merit, best_offer, AreInOrder};
+ghost use Rattle.mime.specs.Values.{type_of};
+ghost use Rattle.mime_http.specs.Ranges.{rank_cmp, closeness, closest, merit, best_offer, AreInOrder};
 
-use crate::range::closer;
+use crate::range::{demanded, named_parts};
 use mime::Mime;
 use std::alloc::{AllocError, Global};
 use std::cmp::Reverse;
+use std::marker::Model;
+
+/// An offer, with the parts of it that each range's essence is compared with.
+#[derive(Clone, Copy)]
+struct Offer<'a> {
+    mime: &'a Mime,
+    essence: &'a str,
+    type_: &'a str,
+    ghost whole: { essence.now ≡ mime.now.media.essence },
+    ghost before_slash: { type_.now ≡ type_of mime.now.media },
+}
+
+impl<'a> Offer<'a> {
+    /// An offer with its parts.
+    #[inline(always)]
+    fn of(mime: &'a Mime) -> Offer<'a>
+        ensures { result.mime.now.media ≡ mime.now.media }
+    {
+        Offer {
+            mime,
+            essence: mime.essence_str(),
+            type_: mime.type_().text,
+        }
+    }
+}
+
+/// How closely the closest range so far covers an offer, if one does: the parts that it names, the parameters that it demands, its
+/// weight, and its position.
+#[derive(Drop)]
+struct Closest {
+    named: Option<u8>,
+    demanded: usize,
+    weight: u16,
+    at: usize,
+}
+
+impl Model for Closest {
+    ghost use Rattle.std.specs.Prelude.{Option, option_map};
+    ghost use Rattle.mime_http.specs.Ranges.{Rank};
+
+    ghost Value = { Option Rank };
+
+    ghost view = { λ closest. option_map (λ named. (named, closest.demanded, closest.weight, closest.at)) closest.named };
+}
+
+impl Closest {
+    /// No range so far.
+    #[inline(always)]
+    fn none() -> Closest
+        ensures { result ≡ None }
+    {
+        Closest {
+            named: None,
+            demanded: 0,
+            weight: 0,
+            at: 0,
+        }
+    }
+
+    /// Looks at the range at this position, which is the closest from here on if it is as close. A range that names fewer parts isn't,
+    /// whatever it demands and weighs.
+    #[inline(always)]
+    fn look_at(&mut self, range: &Mime, offer: Offer<'_>, at: usize)
+        ensures { self.new ≡ ord_max (option_cmp rank_cmp) self.old (closeness offer.entry.mime.now.media (at, range.now.media)) }
+    {
+        let Some(named) = named_parts(range, offer.essence, offer.type_) else {
+            return;
+        };
+        if let Some(most) = self.named {
+            if named < most {
+                return;
+            }
+        }
+        let Some((demanded, weight)) = demanded(range, offer.mime) else {
+            return;
+        };
+        if let Some(most) = self.named {
+            if (named, demanded, weight, at) < (most, self.demanded, self.weight, self.at) {
+                return;
+            }
+        }
+        self.named = Some(named);
+        self.demanded = demanded;
+        self.weight = weight;
+        self.at = at;
+    }
+
+    /// What it is.
+    #[inline(always)]
+    fn found(self) -> Option<(u8, usize, u16, usize)>
+        ensures { result ≡ self }
+    {
+        let named = self.named?;
+        Some((named, self.demanded, self.weight, self.at))
+    }
+}
 
 /// How closely the closest of these ranges covers an offer.
-fn closest(ranges: &[Mime], offer: &Mime) -> Option<(u8, usize, u16, usize)>
+#[inline(always)]
+fn closest_of(ranges: &[Mime], offer: &Mime) -> Option<(u8, usize, u16, usize)>
     ensures { result ≡ closest (map (λ range. range.media) ranges.now) offer.now.media }
 {
-    let mut closest = None;
+    let parts = Offer::of(offer);
+    let mut closest = Closest::none();
     for (at, range) in ranges.iter().enumerate() {
-        closest = closer(closest, range, offer, at);
+        closest.look_at(range, parts, at);
     }
-    closest
+    closest.found()
 }
 
 /// How an offer ranks: by the weight that the closest range gives it, then by how closely that covers it, then by how early that stands.
+#[inline(always)]
 pub(crate) fn merit(ranges: &[Mime], offer: &Mime) -> (u16, u8, usize, usize)
     ensures { result ≡ merit (map (λ range. range.media) ranges.now) offer.now.media }
 {
-    match closest(ranges, offer) {
+    match closest_of(ranges, offer) {
         Some((named, demanded, weight, at)) => (
             weight,
             named,

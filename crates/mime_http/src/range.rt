@@ -3,10 +3,8 @@
 ghost use Rattle.std.specs.Prelude.{◌≡◌, ◌++◌, Some, None, length, option_map, unwrap_or, is_some, if◌then◌else◌, codes, bytes_eq};
 ghost use Rattle.std.specs.List.{list_all};
 ghost use Rattle.mime.specs.Items.{name_text};
-ghost use Rattle.std.specs.Option.{option_cmp};
-ghost use Rattle.std.specs.Ordering.{ord_max};
 ghost use Rattle.mime_http.specs.Weight.{thousandths_of};
-ghost use Rattle.mime_http.specs.Ranges.{first_value, weight_of, named_parts, demanded, has, rank_cmp, closeness};
+ghost use Rattle.mime_http.specs.Ranges.{first_value, weight_of, named_parts, demanded, has, closeness};
 
 use crate::weights::thousandths;
 use mime::{Mime, Name};
@@ -42,23 +40,36 @@ pub fn weight_of(range: &Mime) -> u16
     }
 }
 
-/// Whether an essence is `text/*`, for the type `text`.
+/// Whether an essence is `text/*`, for the type `text`. It isn't inlined: most lengths differ.
+#[inline(never)]
 fn is_all_of(essence: &str, type_: &str) -> bool
     ensures { result ≡ bytes_eq essence.now (type_.now ++ codes "/*") }
 {
     essence.strip_suffix("/*") == Some(type_)
 }
 
-/// How many parts of an offer's essence a range names: 0 for `*/*`, 1 for `text/*`, and 2 for `text/html`; `None` if it doesn't cover it.
-fn named_parts(range: &Mime, offer: &Mime) -> Option<u8>
-    ensures { result ≡ named_parts range.now.media offer.now.media }
+/// Whether two essences are the same. It isn't inlined: most lengths differ.
+#[inline(never)]
+fn is_same(essence: &str, other: &str) -> bool
+    ensures { result ≡ bytes_eq essence.now other.now }
 {
-    let essence = range.essence_str();
-    if essence == "*/*" {
+    essence == other
+}
+
+/// How many parts of an offer's essence a range names: 0 for `*/*`, 1 for `text/*`, and 2 for `text/html`; `None` if it doesn't cover it.
+/// `type_` is the offer's type.
+#[inline(always)]
+pub(crate) fn named_parts(range: &Mime, essence: &str, type_: &str) -> Option<u8>
+    ensures { result ≡ (if bytes_eq range.now.media.essence (codes "*/*") then Some 0 else
+        if bytes_eq range.now.media.essence (type_.now ++ codes "/*") then Some 1 else
+        if bytes_eq range.now.media.essence essence.now then Some 2 else None) }
+{
+    let named = range.essence_str();
+    if named == "*/*" {
         Some(0)
-    } else if is_all_of(essence, offer.type_().text) {
+    } else if named.len() == type_.len() + 2 && is_all_of(named, type_) {
         Some(1)
-    } else if essence == offer.essence_str() {
+    } else if named.len() == essence.len() && is_same(named, essence) {
         Some(2)
     } else {
         None
@@ -108,7 +119,7 @@ fn demanded_among(range: &Mime, offer: &Mime) -> Option<(usize, u16)>
 /// How many parameters a range demands of an offer, and its weight; `None` if the offer hasn't all of them. The range
 /// `text/html;level=1` is for `text/html;level=1`, and not for all HTML.
 #[inline]
-fn demanded(range: &Mime, offer: &Mime) -> Option<(usize, u16)>
+pub(crate) fn demanded(range: &Mime, offer: &Mime) -> Option<(usize, u16)>
     ensures { result ≡ (if list_all (has offer.now.media) (demanded range.now.media.pairs)
         then Some (length (demanded range.now.media.pairs), weight_of range.now.media) else None) }
 {
@@ -118,35 +129,11 @@ fn demanded(range: &Mime, offer: &Mime) -> Option<(usize, u16)>
     demanded_among(range, offer)
 }
 
-/// The closer of the closest range so far and of the range at this position, each with the parts that it names, the parameters that it
-/// demands, its weight, and its position. A range that names fewer parts than the closest isn't closer, whatever it demands and weighs.
-#[inline(always)]
-pub(crate) fn closer(
-    closest: Option<(u8, usize, u16, usize)>,
-    range: &Mime,
-    offer: &Mime,
-    at: usize,
-) -> Option<(u8, usize, u16, usize)>
-    ensures { result ≡ ord_max (option_cmp rank_cmp) closest (closeness offer.now.media (at, range.now.media)) }
-{
-    let Some(named) = named_parts(range, offer) else {
-        return closest;
-    };
-    if let Some(close) = closest {
-        if named < close.0 {
-            return closest;
-        }
-    }
-    match demanded(range, offer) {
-        Some((demanded, weight)) => closest.max(Some((named, demanded, weight, at))),
-        None => closest,
-    }
-}
-
 /// Whether a range covers an offer: `text/*` covers `text/html`, and `text/html;level=1` covers `text/html;level=1` and not all HTML
 /// (RFC 9110, 12.5.1). A range's weight `q` doesn't matter.
 pub fn covers(range: &Mime, offer: &Mime) -> bool
     ensures { result ≡ is_some (closeness offer.now.media (0, range.now.media)) }
 {
-    closer(None, range, offer, 0).is_some()
+    named_parts(range, offer.essence_str(), offer.type_().text).is_some()
+        && demanded(range, offer).is_some()
 }

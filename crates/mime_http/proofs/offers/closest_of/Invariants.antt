@@ -5,7 +5,7 @@ use Rattle.std.specs.List.{enumerate_from}
 use Rattle.std.specs.Option.{option_cmp}
 use Rattle.std.specs.Ordering.{ord_max}
 use Rattle.mime_http.specs.Ranges.{rank_cmp, closeness, closest}
-use Rattle.mime_http.proofs.offers.closest.Given as goal
+use Rattle.mime_http.proofs.offers.closest_of.Given as goal
 
 abbrev pub invariant-loop-at : goal.invariant-loop-at
 invariant-loop-at l =

@@ -6,7 +6,7 @@ use Rattle.std.specs.Option.{option_cmp}
 use Rattle.std.specs.Ordering.{ord_max}
 use Rattle.mime_http.specs.Ranges.{rank_cmp, closeness}
 use Rattle.mime_http.proofs.Highest.{first_left, mapped_left}
-use Rattle.mime_http.proofs.offers.closest.Goals as goal
+use Rattle.mime_http.proofs.offers.closest_of.Goals as goal
 
 pub loop-at-preserved : goal.loop-at-preserved
 loop-at-preserved c =
@@ -15,5 +15,5 @@ loop-at-preserved c =
     let at = c.loop-at.at in
     let next = mapped_left (λ range. range.media) c.args.ranges.now at _ (first_left c.args.ranges.now at _ c.loop-at-test.true c.index-ranges-at.is) in
     ap (λ found. fold higher found (map close (enumerate_from (at + 1) (drop (at + 1) (map (λ range. range.media) c.args.ranges.now)))))
-    c.closer-closest.ensures
+    (c.look_at.ensures ∙ ap (λ media. higher c.loop-at.closest (closeness media (at, c.index-ranges-at.result.media))) c.of-parts.ensures)
     ∙ (sym (ap (λ ranges. fold higher c.loop-at.closest (map close (enumerate_from at ranges))) next) ∙ c.loop-at.invariant)
