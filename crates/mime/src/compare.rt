@@ -1,6 +1,7 @@
 //! Comparing a media type with a string, without allocating.
 
-ghost use Rattle.std.specs.Prelude.{◌≡◌, ◌≢◌, ◌↔◌, IsTrue, Some, [], map};
+ghost use Rattle.std.specs.Prelude.{◌≡◌, ◌≢◌, ◌↔◌, IsTrue, Some, [], map, slice_get};
+ghost use Rattle.mime.specs.Bytes.{semicolon_byte};
 ghost use Rattle.mime.specs.Comparison.{TextIs};
 ghost use Rattle.mime.specs.Difference.{reaches_value, DifferInValue};
 ghost use Rattle.mime.specs.Inner.KeptText.{AreLowPairs, IsLowPair, lowered_pair};
@@ -24,17 +25,24 @@ fn eq_str_ignore_ascii_case(one: &str, other: &str) -> bool
     eq_ignore_ascii_case(one.as_bytes(), other.as_bytes())
 }
 
+/// Whether a string has a semicolon at this position.
+#[inline(always)]
+fn has_semicolon_at(text: &str, position: usize) -> bool
+    ensures { IsTrue result ↔ (slice_get text.now position ≡ Some semicolon_byte) }
+{
+    position < text.len() && text.as_bytes()[position] == b';'
+}
+
 /// Whether a string starts with this essence, ignoring ASCII case, and a semicolon right after it.
 #[inline]
 fn starts_with_essence(essence: &str, text: &str) -> bool
     ensures { IsTrue result ↔ StartsWithEssence essence.now text.now }
 {
     let end = essence.len();
-    let text = text.as_bytes();
-    if end >= text.len() || text[end] != b';' {
+    if !has_semicolon_at(text, end) {
         return false;
     }
-    eq_ignore_ascii_case(essence.as_bytes(), &text[..end])
+    eq_ignore_ascii_case(essence.as_bytes(), &text.as_bytes()[..end])
 }
 
 /// Whether a string's parameter is the kept one, `name` with `value`: ignoring ASCII case in the name, and in the
@@ -180,6 +188,10 @@ pub fn mime_eq_str(mime: &Mime, s: &str) -> bool
     let kept = mime.as_str();
     if mime.param_count() == 0 {
         return eq_str_ignore_ascii_case(kept, s);
+    }
+    // A string with an essence of another length is another value.
+    if !has_semicolon_at(s, mime.essence_str().len()) {
+        return false;
     }
     kept == s || eq_other_text(mime, s)
 }

@@ -109,14 +109,12 @@ fn eq_at_both_ends(a: &[u8], b: &[u8], block: usize) -> bool
     eq_byte_by_byte(&a[last..], &b[last..]) && eq_byte_by_byte(&a[..block], &b[..block])
 }
 
-/// Whether two byte strings are equal ignoring ASCII case. It isn't inlined: it has many callers.
+/// Whether two byte strings of equal length are equal ignoring ASCII case. It isn't inlined: it has many callers.
 #[inline(never)]
-pub(crate) fn eq_ignore_ascii_case(a: &[u8], b: &[u8]) -> bool
+fn eq_of_one_length(a: &[u8], b: &[u8]) -> bool
+    requires same_length { length a.now ≡ length b.now }
     ensures { IsTrue result ↔ (lowered a.now ≡ lowered b.now) }
 {
-    if a.len() != b.len() {
-        return false;
-    }
     if a.len() >= BLOCK {
         return first_difference(a, b).is_none();
     }
@@ -127,4 +125,16 @@ pub(crate) fn eq_ignore_ascii_case(a: &[u8], b: &[u8]) -> bool
         return eq_at_both_ends(a, b, 4);
     }
     eq_byte_by_byte(a, b)
+}
+
+/// Whether two byte strings are equal ignoring ASCII case. The lengths, which decide most calls, are compared in the
+/// caller's code.
+#[inline(always)]
+pub(crate) fn eq_ignore_ascii_case(a: &[u8], b: &[u8]) -> bool
+    ensures { IsTrue result ↔ (lowered a.now ≡ lowered b.now) }
+{
+    if a.len() != b.len() {
+        return false;
+    }
+    eq_of_one_length(a, b)
 }

@@ -81,6 +81,7 @@ pub struct TextKey<'k>(pub &'k str);
 impl ParamKey for TextKey<'_> {
     ghost Accepts = { λ key name ignores_case. NameIs name ignores_case key.0.now };
 
+    #[inline]
     fn accepts(&self, name: Name<'_>) -> bool {
         name_eq_str(&name, self.0)
     }
@@ -91,6 +92,7 @@ impl ParamKey for TextKey<'_> {
 impl ParamKey for &str {
     ghost Accepts = { λ key name ignores_case. NameIs name ignores_case key.now };
 
+    #[inline]
     fn accepts(&self, name: Name<'_>) -> bool {
         name_eq_str(&name, self)
     }
@@ -101,6 +103,7 @@ impl ParamKey for &str {
 impl ParamKey for Name<'_> {
     ghost Accepts = { λ key name ignores_case. (name ≡ key.text.now) × (ignores_case ≡ key.ignores_case) };
 
+    #[inline]
     fn accepts(&self, name: Name<'_>) -> bool {
         name == *self
     }

@@ -245,11 +245,6 @@ impl Mime {
         if self.param_count() == 0 {
             return None;
         }
-        for (name, value) in self.params() {
-            if key.accepts(name) {
-                return Some(value);
-            }
-        }
-        None
+        self.pairs().first_accepted(&key)
     }
 }

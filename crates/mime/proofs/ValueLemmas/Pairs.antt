@@ -1,6 +1,7 @@
 -- What a cut of a list is, and where its quoted content ends.
 use Rattle.std.proofs.Common.{◌≡◌, ◌≢◌, ℕ, zero, suc, ◌+◌, ◌<◌, ◌≤◌, Bool, true, false, List, [], ◌∷◌, ◌++◌, length, get_or, drop, refl, sym, ap, ◌∙◌, ne_eqb, arith, cond, ◌-◌, take, subst, append-nil, append_assoc, length-append}
-use Rattle.std.specs.Prelude.{IsTrue, ◌==◌, ◌&&◌, not}
+use Rattle.std.specs.Prelude.{IsTrue, ◌==◌, ◌&&◌, not, Option, Some, codes}
+use Rattle.std.specs.Str.{bytes_eq}
 use Rattle.std.specs.List.{position_or_len}
 use Rattle.std.proofs.lemmas.List.{drop_more, drop_all, take_at, drop_at, drop-drop, take-append-drop}
 use Rattle.std.proofs.lemmas.Bool.{and_parts, cond-false, eqb-true, true≢false, cond_both}
@@ -11,7 +12,8 @@ use Rattle.mime.proofs.BlocksLemmas.{end_all, end_drop}
 use Rattle.mime.specs.Inner.Quoted.{awaits_next, takes, takes_all, awaits_after, len_from, content_len}
 use Rattle.mime.proofs.GrammarLemmas.Content.{taken-closes_not, content-taken, content-awaits}
 use Rattle.mime.specs.Values.{lowered, lowered_value}
-use Rattle.mime.specs.Inner.Pairs.{PairCut, cut_after_equals, leading_spaces, without_spaces, cut_of, lowered_first, lowered_within}
+use Rattle.mime.specs.Inner.Pairs.{PairCut, cut_after_equals, leading_spaces, without_spaces, cut_of, pairs_within, lowered_first, lowered_within}
+use Rattle.mime.specs.Items.{items_of, IsFirstAccepted}
 use Rattle.mime.proofs.LowercaseLemmas.{lowered_value-either}
 use Rattle.mime.proofs.ValueLemmas.Utf8.{IsLoweredInPart, same, lowercase, in_parts, length-in_part}
 
@@ -235,3 +237,42 @@ lowered_within-in_part (suc count) list =
     let parts = in_parts _ _ _ _ (first_lowered-in_part list lies) (lowered_within-in_part count (cut_of list).rest) in
     subst (λ x. IsLoweredInPart x (lowered_within (suc count) list)) (before_rest-joined list lies)
     (subst (IsLoweredInPart (before_rest list lies ++ (cut_of list).rest)) (sym (lowered_within-first count list lies)) parts)
+
+-- ---- the pairs that are left, and what is looked up in them
+
+-- the first pair, and the others
+pub pairs_within-first : (count : ℕ) (list : List ℕ) → count ≢ 0
+    → pairs_within count list ≡ ((cut_of list).name, (cut_of list).value) ∷ pairs_within (count - 1) (cut_of list).rest
+pairs_within-first zero list some = absurd (some refl)
+pairs_within-first (suc count) list some =
+    ap (λ (left : ℕ). ((cut_of list).name, (cut_of list).value) ∷ pairs_within left (cut_of list).rest) (omega arith)
+
+-- a cut keeps the name that stands before the equals sign
+cut_after_equals-name : (size : ℕ) (name text : List ℕ) → (cut_after_equals size name text).name ≡ name
+cut_after_equals-name size name [] = refl
+cut_after_equals-name size name (b ∷ back) = cond_both (b == quote_byte) _ _ (λ (cut : PairCut). cut.name ≡ name) (λ _. refl) (λ _. refl)
+
+-- the cut of a list by its name and what follows the equals sign
+pub cut_of-by_name : (list text name rest : List ℕ) → text ≡ list → name ≡ before_byte equals_byte (without_spaces list)
+    → rest ≡ after_byte equals_byte (without_spaces list) → cut_after_equals (length text) name rest ≡ cut_of list
+unfolding cut_of
+cut_of-by_name list text name rest text_is name_is rest_is = λ i. cut_after_equals (length (text_is i)) (name_is i) (rest_is i)
+
+-- so the cut has that name
+pub cut_of-name : (list name : List ℕ) → name ≡ before_byte equals_byte (without_spaces list) → name ≡ (cut_of list).name
+unfolding cut_of
+cut_of-name list name is = is ∙ sym (cut_after_equals-name (length list) _ (after_byte equals_byte (without_spaces list)))
+
+-- what is found in a list: the first value, if its name is accepted
+pub found-first : (Accepts : List ℕ → Bool → Type 0) (count : ℕ) (list value : List ℕ) (flag : Bool) → count ≢ 0
+    → Accepts (cut_of list).name true → value ≡ (cut_of list).value → flag ≡ bytes_eq (cut_of list).name (codes "charset")
+    → IsFirstAccepted Accepts (items_of (pairs_within count list)) (Some (value, flag))
+found-first Accepts count list value flag some accepted valued flagged =
+    rw (pairs_within-first count list some) (λ _. cc (valued, flagged), λ other. absurd (other accepted))
+
+-- else what is found in the rest
+pub found-next : (Accepts : List ℕ → Bool → Type 0) (count : ℕ) (list : List ℕ) (found : Option (List ℕ × Bool)) → count ≢ 0
+    → ¬ (Accepts (cut_of list).name true) → IsFirstAccepted Accepts (items_of (pairs_within (count - 1) (cut_of list).rest)) found
+    → IsFirstAccepted Accepts (items_of (pairs_within count list)) found
+found-next Accepts count list found some other rest =
+    rw (pairs_within-first count list some) (λ accepted. absurd (other accepted), λ _. rest)

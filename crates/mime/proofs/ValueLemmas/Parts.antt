@@ -1,5 +1,5 @@
 -- The parts of a value that was read: its plus, where its essence may be cut, what is lowercase, and how many pairs it has.
-use Rattle.std.proofs.Common.{◌≡◌, ℕ, suc, ◌+◌, ◌-◌, ◌<◌, List, map, [], ◌∷◌, ◌++◌, length, drop, Option, Some, None, refl, sym, ap, ◌∙◌, subst, arith, ⊎_elim, zero, ◌≤◌, true, take, lit<}
+use Rattle.std.proofs.Common.{◌≡◌, ◌≢◌, ℕ, Bool, suc, ◌+◌, ◌-◌, ◌<◌, List, map, [], ◌∷◌, ◌++◌, length, drop, Option, Some, None, refl, sym, ap, ◌∙◌, subst, arith, ⊎_elim, zero, ◌≤◌, true, take, lit<}
 use Rattle.std.specs.Prelude.{slice_get, MatchOption, if◌then◌else◌, ◌==◌, unwrap_or, IsUtf8, codes}
 use Rattle.std.specs.Option.{option_or}
 use Rattle.std.proofs.lemmas.Bool.{cond_both, cases_lt, eqb-true, eqb-false}
@@ -14,7 +14,8 @@ use Rattle.std.specs.List.{AllByRecursion}
 use Rattle.std.specs.Str.{IsCharBoundary, bytes_eq}
 use Rattle.std.proofs.lemmas.Str.{IsCharBoundary-end}
 use Rattle.mime.specs.Inner.Pairs.{cut_of, pairs_within}
-use Rattle.mime.specs.Items.{items_of, IsLowItem}
+use Rattle.mime.specs.Items.{items_of, IsLowItem, IsLowIf}
+use Rattle.mime.proofs.ValueLemmas.Pairs.{pairs_within-first}
 use Rattle.mime.specs.Inner.KeptText.{lowered_pair, AreLowPairs, media_of, IsKept}
 use Rattle.mime.specs.Comparison.{Same}
 use Rattle.mime.specs.declared.scan.Positions.{Positions}
@@ -143,6 +144,20 @@ items_of-low [] low = tt
 items_of-low ((name, value) ∷ pairs) (low, others) =
     let parts = low_pair-parts name value low in
     ((λ _. parts.0, λ is. parts.1 (subst (λ n. bytes_eq n (codes "charset") ≡ true) (sym parts.0) is)), items_of-low pairs others)
+
+-- the value of the first pair that is left is in lowercase if it ignores case
+pub first_value-low : (count : ℕ) (list value : List ℕ) (flag : Bool) → count ≢ 0 → AreLowPairs (pairs_within count list)
+    → value ≡ (cut_of list).value → flag ≡ bytes_eq (cut_of list).name (codes "charset") → IsLowIf flag value
+first_value-low count list value flag some low valued flagged =
+    let cut = cut_of list in
+    let items = items_of-low ((cut.name, cut.value) ∷ pairs_within (count - 1) cut.rest)
+    (subst AreLowPairs (pairs_within-first count list some) low) in
+    rw (valued, flagged) items.0.1
+
+-- the pairs after it are low too
+pub rest-low : (count : ℕ) (list : List ℕ) → count ≢ 0 → AreLowPairs (pairs_within count list)
+    → AreLowPairs (pairs_within (count - 1) (cut_of list).rest)
+rest-low count list some low = (subst AreLowPairs (pairs_within-first count list some) low).1
 
 -- as many pairs are cut from a list as the count says
 pub length-pairs_within : (count : ℕ) (list : List ℕ) → length (pairs_within count list) ≡ count

@@ -2,16 +2,20 @@
 
 ghost use Rattle.std.specs.Iterator.{YieldsFirstBy, item_count, UpTo, at_most};
 ghost use Rattle.std.specs.Iterator.SizeHint.{IsWithinCount};
-ghost use Rattle.std.specs.Prelude.{◌≡◌, ◌≤◌, IsTrue, length, slice_get, IfSome, Some};
+ghost use Rattle.std.specs.Prelude.{◌≡◌, ◌≤◌, IsTrue, length, slice_get, IfSome, Some, option_map};
 ghost use Rattle.std.specs.Str.{IsCharBoundary};
-ghost use Rattle.mime.specs.Inner.Blocks.{after_byte, first_position};
-ghost use Rattle.mime.specs.Inner.Pairs.{cut_of, leading_spaces, cut_after_equals, pairs_after, pair_seen};
-ghost use Rattle.mime.specs.Bytes.{quote_byte, semicolon_byte};
+ghost use Rattle.mime.specs.Inner.Blocks.{before_byte, after_byte, first_position};
+ghost use Rattle.mime.specs.Inner.Pairs.{cut_of, leading_spaces, without_spaces, cut_after_equals, pairs_after, pair_seen};
+ghost use Rattle.mime.specs.Bytes.{quote_byte, semicolon_byte, equals_byte};
 ghost use Rattle.mime.specs.Inner.ComparedText.{IsLoneCharset};
 ghost use Rattle.mime.specs.Inner.Quoted.{content_len};
+ghost use Rattle.mime.specs.Inner.KeptText.{AreLowPairs};
+ghost use Rattle.mime.specs.Items.{items_of, name_seen, IsLowIf, IsFirstAccepted};
 
 use crate::blocks::Suffix;
 use crate::bytes::is_space;
+use crate::name::constants::CHARSET;
+use crate::name::{Name, ParamKey};
 use std::marker::Model;
 
 /// The first pair of a list, and the list after its semicolon.
@@ -118,6 +122,15 @@ fn cut_value<'a>(list: usize, name: &'a str, end: &Suffix<'a>) -> Pair<'a>
     }
 }
 
+/// Cuts the first name off a list, with the spaces before it: the name, and what follows its equals sign.
+#[inline(always)]
+fn cut_name<'a>(list: &Suffix<'a>) -> (&'a str, Suffix<'a>)
+    ensures name { result.0.now ≡ before_byte equals_byte (without_spaces list.now) }
+    ensures rest { result.1 ≡ after_byte equals_byte (without_spaces list.now) }
+{
+    list.after(leading_spaces(list.text())).split_at_first(b'=')
+}
+
 /// Cuts the first pair off a list.
 #[tactic(auto, unfolding(crate::specs::Inner::Pairs::cut_of))]
 #[inline(always)]
@@ -127,9 +140,8 @@ pub(crate) fn cut<'a>(list: &Suffix<'a>) -> Pair<'a>
     ensures value { result.value.now ≡ (cut_of list.now).value }
     ensures rest { result.rest ≡ (cut_of list.now).rest }
 {
-    let text = list.text();
-    let (name, rest) = list.after(leading_spaces(text)).split_at_first(b'=');
-    cut_value(text.len(), name, &rest)
+    let (name, rest) = cut_name(list);
+    cut_value(list.text().len(), name, &rest)
 }
 
 /// The pairs of a list that are left, each a name and a value.
@@ -183,6 +195,38 @@ impl<'a> Pairs<'a> {
         ensures { IsTrue result → IsLoneCharset self.now }
     {
         self.left == 1 && self.list.text().as_bytes().starts_with(b" charset=")
+    }
+}
+
+impl<'a> Pairs<'a> {
+    /// The value of the first pair whose name a key accepts. If the last name isn't accepted, its value isn't searched
+    /// for its end.
+    #[inline(always)]
+    pub(crate) fn first_accepted<K: ParamKey>(self, key: &K) -> Option<Name<'a>>
+        requires { AreLowPairs self }
+        ensures found { IsFirstAccepted (K.Accepts key.now) (items_of self.entry) (option_map name_seen result) }
+        ensures low { IfSome result (λ name. IsLowIf name.ignores_case name.text.now) }
+    {
+        let Pairs { mut list, mut left } = self;
+        while left != 0 {
+            let (name, rest) = cut_name(&list);
+            let accepted = key.accepts(Name {
+                text: name,
+                ignores_case: true,
+            });
+            if accepted {
+                return Some(Name {
+                    text: cut_value(list.text().len(), name, &rest).value,
+                    ignores_case: name == CHARSET.text,
+                });
+            }
+            if left == 1 {
+                return None;
+            }
+            list = cut_value(list.text().len(), name, &rest).rest;
+            left -= 1;
+        }
+        None
     }
 }
 
