@@ -1,15 +1,19 @@
 -- What is added to a header, piece by piece and line by line.
-use Rattle.std.proofs.Common.{◌≡◌, ◌∙◌, refl, sym, ap, subst, ℕ, List, [], ◌∷◌, ◌++◌}
+use Rattle.std.proofs.Common.{◌≡◌, ◌∙◌, refl, sym, ap, subst, ℕ, List, [], ◌∷◌, ◌++◌, map}
 use Rattle.std.specs.Prelude.{flat_map}
 use Rattle.std.specs.Str.{IsUtf8}
-use Rattle.std.proofs.lemmas.List.{append-nil, append_assoc}
+use Rattle.std.proofs.lemmas.List.{append-nil, append_assoc, map-append}
 use Rattle.mime.specs.Grammar.{AreSpaces}
 use Rattle.mime.specs.Values.{MediaType}
 use Rattle.mime_http.specs.HttpMediaType.{HttpReads, IsHttpMediaType}
 use Rattle.mime_http.specs.HttpList.{lines_or_any, AreBetweenCommas, IsPiece, BeginsPiece, trim_start, trim_end, AreSorted, no_text, blank, a_range, a_bad, Header, IsHeader}
 use Rattle.mime_http.specs.Walk.{Adds, AddsLines}
 use Rattle.mime_http.proofs.Cuts.{cut, are_cut, only_cut}
-use Rattle.mime_http.proofs.Trims.{blank_from_trimmed, trimmed_from_blank, utf8_before, utf8_trimmed, http_before, http_trimmed}
+use Rattle.mime_http.proofs.Trims.{blank_from_trimmed, trimmed_from_blank, trim_twice, utf8_before, utf8_trimmed, http_before, http_trimmed}
+
+-- what was pushed is last
+pub pushed : {X Y : Type 0} (f : X → Y) (old new : List X) (x : X) (y : Y) → new ≡ old ++ (x ∷ []) → f x ≡ y → map f new ≡ map f old ++ (y ∷ [])
+pushed f old new x y is same = rw is (map-append f old (x ∷ []) ∙ ap (λ z. map f old ++ (z ∷ [])) same)
 
 module _ (piece : List ℕ) {old new : Header} where
   pub add_nothing : trim_start piece ≡ [] → new.ranges ≡ old.ranges → new.bad ≡ old.bad → Adds (piece ∷ []) old new
@@ -41,6 +45,31 @@ module _ (piece : List ℕ) {old new : Header} where
     now_ranges = ranges ∙ sym (append-nil old.ranges);
     now_bad = bad;
   }
+
+-- what a piece adds without the white space before it, it adds
+sorted_before : (piece text : List ℕ) {ranges : List MediaType} {bad : List (List ℕ)} → text ≡ trim_start piece → AreSorted (text ∷ []) ranges bad
+    → AreSorted (piece ∷ []) ranges bad
+sorted_before piece text is (blank _ _ _ _ white rest) =
+    blank piece [] _ _ (blank_from_trimmed piece (sym (trim_twice piece) ∙ (ap trim_start (sym is) ∙ trimmed_from_blank text white))) rest
+sorted_before piece text is (a_range _ range _ _ _ utf8 reads rest) =
+    a_range piece range [] _ _ (utf8_before piece (subst IsUtf8 is utf8)) (http_before piece range (subst (λ t. HttpReads t range) is reads)) rest
+sorted_before piece text {ranges = ranges} is (a_bad _ _ _ bad some isnt rest) =
+    let same : trim_end (trim_start piece) ≡ trim_end (trim_start text) = ap trim_end (sym (ap trim_start is ∙ trim_twice piece)) in
+    subst (λ entry. AreSorted (piece ∷ []) ranges (entry ∷ bad)) same
+    (a_bad piece [] ranges bad (λ white. some (subst AreSpaces (sym (is ∙ trimmed_from_blank piece white)) refl))
+    (λ both. isnt (
+      subst IsUtf8 (sym is) (utf8_trimmed piece both.0),
+      (both.1.0, subst (λ t. HttpReads t both.1.0) (sym is) (http_trimmed piece both.1.0 both.1.1)),
+    )) rest)
+
+pub add_trimmed : (piece text : List ℕ) {old new : Header} → text ≡ trim_start piece → Adds (text ∷ []) old new → Adds (piece ∷ []) old new
+add_trimmed piece text is adds = record {
+  ranges = adds.ranges;
+  bad = adds.bad;
+  sorted = sorted_before piece text is adds.sorted;
+  now_ranges = adds.now_ranges;
+  now_bad = adds.now_bad;
+}
 
 sorted_both : {texts more : List (List ℕ)} {ranges others : List MediaType} {bad poor : List (List ℕ)} → AreSorted texts ranges bad
     → AreSorted more others poor → AreSorted (texts ++ more) (ranges ++ others) (bad ++ poor)

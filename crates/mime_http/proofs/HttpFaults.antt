@@ -147,11 +147,11 @@ pub stops : (value : List ℕ) (limit : ℕ) → Stops value limit (reach_from (
 stops value limit =
     stops_from value [] limit (start limit) (record { at = refl; place = refl; out = omega arith; back_to = here [] tt })
 
-data Snoc : List ℕ → Type 0 where
+pub data Snoc : List ℕ → Type 0 where
   none : Snoc []
   last : (front : List ℕ) (b : ℕ) → Snoc (front ++ (b ∷ []))
 
-snoc : (xs : List ℕ) → Snoc xs
+pub snoc : (xs : List ℕ) → Snoc xs
 snoc [] = none
 snoc (x ∷ xs) = go (snoc xs)
   where
@@ -314,7 +314,7 @@ ends_in value b busy at_rest (prefix, ends) = go (snoc value) at_rest ends
         (front, ap (λ x. front ++ (x ∷ [])) (same_last (tight front ++ adds.before) prefix c b text))
 
 -- what is missing from what is left is missing from the value, unless white space was left out at its end
-end_lacks : (value : List ℕ) (fault : ParseError) → IsSettled (place_from Start value) → Lacks (tight value) fault → HttpLacks value fault
+pub end_lacks : (value : List ℕ) (fault : ParseError) → IsSettled (place_from Start value) → Lacks (tight value) fault → HttpLacks value fault
 end_lacks value MissingSlash at_rest lacks = (goes_on_as value _ at_rest lacks.0, tt)
 end_lacks value MissingSubtype at_rest lacks =
     (goes_on_as value _ at_rest lacks.0, ends_in value 47 (λ place. (busy_after place).0) at_rest lacks.1)

@@ -28,7 +28,7 @@ use Rattle.mime_http.proofs.HttpLaws.{accepted_from_http}
 
 -- ---- the place at the end of what the library walks
 
-abbrev place_in_list : ListState → Place
+abbrev pub place_in_list : ListState → Place
 place_in_list (in_spaces n) = Semicolon
 place_in_list (in_name n name) = Plain
 place_in_list (in_value n name []) = Equals
@@ -36,7 +36,7 @@ place_in_list (in_value n name (v ∷ value)) = Plain
 place_in_list (in_quotes n name content) = if awaits_after false content then Paired else Quoted
 place_in_list (after_quotes n name content m) = Closed
 
-abbrev place_at : Begun → Place
+abbrev pub place_at : Begun → Place
 place_at (in_type []) = Start
 place_at (in_type (t ∷ top)) = Plain
 place_at (in_subtype top sub) = Plain
@@ -85,7 +85,7 @@ grown_list closed (in_quotes n name content) b =
 grown_list closed (after_quotes n name content m) b =
     by_class (λ b next. place_after Closed b ≡ place_in_list next.position) is_space 59 b _ _ (λ white. rw white refl) (λ no. refl)
 
-mapped : {X Y : Type 0} (f : X → Y) (P : Y → Type 0) (o : Option X) → MatchOption o (Unit {0}) (λ x. P (f x))
+pub mapped : {X Y : Type 0} (f : X → Y) (P : Y → Type 0) (o : Option X) → MatchOption o (Unit {0}) (λ x. P (f x))
     → MatchOption (option_map f o) (Unit {0}) P
 mapped f P None is = tt
 mapped f P (Some x) is = is
@@ -104,7 +104,7 @@ grown (in_subtype top (s ∷ sub)) b =
 grown (in_list top sub list) b =
     mapped (in_list top sub) (Leads_to (place_in_list list.position) b) (grow_list list b) (grown_list list.closed list.position b)
 
-walked : (begun : Begun) (bytes : List ℕ) (last : Begun) → walk_from begun bytes ≡ Some last → place_from (place_at begun) bytes ≡ place_at last
+pub walked : (begun : Begun) (bytes : List ℕ) (last : Begun) → walk_from begun bytes ≡ Some last → place_from (place_at begun) bytes ≡ place_at last
 walked begun [] last e = ap place_at (same_Some begun last e)
 walked begun (b ∷ bytes) last e =
     option_and_then_some (λ next. walk_from next bytes) (grow begun b) last e
@@ -115,7 +115,7 @@ walked begun (b ∷ bytes) last e =
 -- ---- after white space that was left out only a semicolon or the end may follow, and only where the value may end
 
 -- the places after which white space is left out
-abbrev LeavesSpaces : Place → Type 0
+abbrev pub LeavesSpaces : Place → Type 0
 LeavesSpaces Plain = ⊤
 LeavesSpaces Equals = ⊤
 LeavesSpaces place = ⊥

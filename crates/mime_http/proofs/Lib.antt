@@ -15,6 +15,7 @@ pub mod HttpOneFault
 pub mod HttpText
 pub mod HttpViability
 pub mod Lists
+pub mod LooseBytes
 pub mod NegotiationFacts
 pub mod Order
 pub mod Others

@@ -31,6 +31,15 @@ trimmed_from_blank [] all = refl
 trimmed_from_blank (b ∷ piece) all =
     let parts = and_parts (is_space b) _ all in rw parts.0 (trimmed_from_blank piece parts.1)
 
+pub trim_twice : (piece : List ℕ) → trim_start (trim_start piece) ≡ trim_start piece
+trim_twice [] = refl
+trim_twice (b ∷ piece) = go (trim_twice piece) (is_space b) refl
+  where
+    go : (trim_start (trim_start piece) ≡ trim_start piece) → (w : Bool) → is_space b ≡ w
+        → trim_start (trim_start (b ∷ piece)) ≡ trim_start (b ∷ piece)
+    go rest true white = rw white rest
+    go rest false other = rw other (rw other refl)
+
 below : (b : ℕ) → is_space b ≡ true → b < 128
 below b is = grind (arith, nat_tests)
 

@@ -13,5 +13,6 @@ pub mod ListLaws
 pub mod RangesLaws
 -- private
 pub mod Tight
+pub mod Loose
 pub mod Reached
 pub mod Walk

@@ -1,15 +1,17 @@
 //! An `Accept` header, read once, and what it says of a server's offers.
 
-ghost use Rattle.std.specs.Prelude.{◌≡◌, ◌<◌, ℕ, List, [], ◌∷◌, map, length, IfSome, IsOk, IfOk, OnOk};
+ghost use Rattle.std.specs.Prelude.{◌≡◌, ◌≢◌, ◌<◌, ℕ, List, [], ◌∷◌, ◌++◌, map, length, IfSome, IsOk, IfOk, OnOk};
 ghost use Rattle.std.specs.Vec.{vec_items};
 ghost use Rattle.mime.specs.Grammar.{AreSpaces};
-ghost use Rattle.mime_http.specs.HttpList.{AreBetweenCommas, AreSorted, IsPiece, BeginsPiece, IsHeader};
+ghost use Rattle.mime.specs.Faults.{Explains};
+ghost use Rattle.mime_http.specs.HttpList.{trim_start, trim_end, AreBetweenCommas, AreSorted, IsPiece, BeginsPiece, IsHeader};
 ghost use Rattle.mime_http.specs.Ranges.{given_weight, best_offer, AreInOrder};
 ghost use Rattle.mime_http.specs.Walk.{Adds, AddsLines};
 
-use crate::list::{At, after, ends, goes_on, read, trim_end, trim_start};
+use crate::list::{At, after, ends, goes_on, trim_end, trim_start};
 use crate::offers::{best_of, merit, order_of};
-use mime::Mime;
+use crate::value::{read_tight, text_of};
+use mime::{Mime, ParseError};
 use std::alloc::{AllocError, Global};
 use std::marker::Model;
 
@@ -31,6 +33,39 @@ impl Model for Accept {
 }
 
 impl Accept {
+    /// Adds an entry that is no media range.
+    fn add_bad(&mut self, alloc: Global, entry: &[u8]) -> Result<(), AllocError>
+        ensures ranges { OnOk result (self.new.ranges ≡ self.old.ranges) }
+        ensures bad { OnOk result (self.new.bad ≡ self.old.bad ++ (trim_end entry.now ∷ [])) }
+    {
+        self.bad.push(trim_end(entry).to_vec(alloc)?)?;
+        Ok(())
+    }
+
+    /// Adds an entry that the library rejects as it stands, for this fault. It isn't inlined, so that adding one that the library accepts
+    /// stays short.
+    #[inline(never)]
+    fn add_rejected(
+        &mut self,
+        alloc: Global,
+        entry: &str,
+        fault: ParseError,
+    ) -> Result<(), AllocError>
+        requires some { entry.now ≢ [] }
+        requires trimmed { trim_start entry.now ≡ entry.now }
+        requires fault { Explains entry.now fault }
+        ensures { OnOk result (Adds (entry.now ∷ []) self.old self.new) }
+    {
+        if let ParseError::NoMemory = fault {
+            return Err(AllocError);
+        }
+        match read_tight(alloc, entry, fault)? {
+            Some(range) => self.ranges.push(range)?,
+            None => self.add_bad(alloc, entry.as_bytes())?,
+        }
+        Ok(())
+    }
+
     /// Adds a piece of a line: white space alone is nothing.
     fn add(&mut self, alloc: Global, piece: &[u8]) -> Result<(), AllocError>
         ensures added { OnOk result (Adds (piece.now ∷ []) self.old self.new) }
@@ -40,9 +75,12 @@ impl Accept {
         if piece.is_empty() {
             return Ok(());
         }
-        match read(alloc, piece)? {
-            Some(range) => self.ranges.push(range)?,
-            None => self.bad.push(trim_end(piece).to_vec(alloc)?)?,
+        let Ok(text) = text_of(piece) else {
+            return self.add_bad(alloc, piece);
+        };
+        match Mime::from_str(alloc, text) {
+            Ok(range) => self.ranges.push(range)?,
+            Err(error) => self.add_rejected(alloc, text, *error.fault())?,
         }
         Ok(())
     }
@@ -75,8 +113,8 @@ impl Accept {
     /// quoted value that is open ends with its line. A request without the header, which has no line, accepts everything; lines without a
     /// range accept nothing.
     ///
-    /// It allocates once for each range, except for `*/*`, and for each bad entry, once more for one that isn't as the library writes
-    /// it, and for the two lists that hold them.
+    /// It allocates once for each range, except for `*/*`, and for each bad entry, once more for one that is copied without white space
+    /// or empty parameters first, as by [`content_type`](crate::content_type), and for the two lists that hold them.
     ///
     /// # Errors
     /// `AllocError` if memory runs out, which is never for lines that hold nothing but commas and white space.

@@ -1,15 +1,9 @@
-//! The cut of a header's line at its commas outside strings, and the media type of a piece.
+//! The cut of a header's line at its commas outside strings, and pieces without the white space around them.
 
-ghost use Rattle.std.specs.Prelude.{◌≡◌, true, false, IfOk, MatchOption};
-ghost use Rattle.std.specs.Str.{IsUtf8};
+ghost use Rattle.std.specs.Prelude.{◌≡◌, true, false};
 ghost use Rattle.mime.specs.Grammar.{is_space};
-ghost use Rattle.mime_http.specs.HttpMediaType.{HttpReads, IsHttpMediaType};
 ghost use Rattle.mime_http.specs.HttpList.{trim_start, trim_end};
 ghost use Rattle.mime_http.specs.Walk.{after_outside, after, ends};
-
-use crate::value::{FieldError, content_type};
-use mime::Mime;
-use std::alloc::{AllocError, Global};
 
 /// Where in a line the next byte is.
 #[derive(Clone, Copy)]
@@ -92,16 +86,4 @@ pub(crate) fn trim_end(piece: &[u8]) -> &[u8]
         }
     }
     &piece[..end]
-}
-
-/// The media type of a piece, or `None` if it is bad.
-pub(crate) fn read(alloc: Global, piece: &[u8]) -> Result<Option<Mime>, AllocError>
-    ensures { IfOk result (λ answer. MatchOption answer (¬ (IsUtf8 piece.now × IsHttpMediaType piece.now))
-        (λ mime. IsUtf8 piece.now × HttpReads piece.now mime.media)) }
-{
-    match content_type(alloc, piece) {
-        Ok(mime) => Ok(Some(mime)),
-        Err(FieldError::NoMemory) => Err(AllocError),
-        Err(_) => Ok(None),
-    }
 }

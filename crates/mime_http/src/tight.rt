@@ -1,9 +1,12 @@
 //! A header's value without what HTTP allows there and the library rejects.
 
-ghost use Rattle.std.specs.Prelude.{◌≡◌, ◌++◌, OnOk, IfOk};
+ghost use Rattle.std.specs.Prelude.{◌≡◌, ◌++◌, OnOk, IfOk, MatchOption};
 ghost use Rattle.std.specs.Vec.{vec_items};
+ghost use Rattle.mime.specs.Faults.{IsFault};
 ghost use Rattle.mime_http.specs.Tight.{after_space, after_outside, place_after, is_left_out, added, tight};
+ghost use Rattle.mime_http.specs.Loose.{ends_in_separator, IsLoose, Stands};
 
+use mime::ParseError;
 use std::alloc::{AllocError, Global};
 
 /// Where in a value the next byte is.
@@ -25,6 +28,15 @@ pub(crate) enum Place {
     Closed,
     /// After a semicolon, and any white space after it.
     Semicolon,
+}
+
+/// The first byte that tightening leaves out of a value.
+#[derive(Clone, Copy)]
+pub(crate) struct Loose {
+    /// Its position.
+    pub(crate) at: usize,
+    /// The place after it.
+    pub(crate) place: Place,
 }
 
 /// The place after white space outside quotes.
@@ -90,15 +102,43 @@ pub(crate) fn push_byte(out: &mut Vec<u8>, place: Place, byte: u8) -> Result<(),
     Ok(())
 }
 
+/// Whether bytes end in a semicolon or white space.
+fn ends_in_separator(bytes: &[u8]) -> bool
+    ensures { result ≡ ends_in_separator bytes.now }
+{
+    matches!(bytes.last(), Some(b';' | b' ' | b'\t'))
+}
+
+/// The first byte that tightening leaves out of a value with this fault. It can only be the byte at fault: if there is none, the
+/// value has the same fault as HTTP writes it.
+pub(crate) fn first_loose(value: &[u8], fault: ParseError) -> Option<Loose>
+    requires { IsFault value.now fault }
+    ensures { MatchOption result (Stands value.now fault) (IsLoose value.now) }
+{
+    let ParseError::InvalidToken { pos, byte } = fault else {
+        return None;
+    };
+    let place = match byte {
+        b' ' | b'\t' if pos == 0 => Place::Start,
+        b' ' | b'\t' => Place::Spaced,
+        b';' if ends_in_separator(&value[..pos]) => Place::Semicolon,
+        _ => return None,
+    };
+    Some(Loose { at: pos, place })
+}
+
 /// The value of a header that has one media type, as the library takes it: without white space around it and before
 /// semicolons, and without empty parameters (RFC 9110, 5.6.6). `text/html ;; q=1` becomes `text/html; q=1`. It is never longer
 /// than the value, so one allocation has room for it.
-pub(crate) fn tightened(alloc: Global, value: &[u8]) -> Result<Vec<u8>, AllocError>
+pub(crate) fn tightened(alloc: Global, value: &[u8], loose: Loose) -> Result<Vec<u8>, AllocError>
+    requires loose { IsLoose value.now loose }
     ensures { IfOk result (λ out. vec_items out ≡ tight value.now) }
 {
     let mut out = Vec::with_capacity(alloc, value.len())?;
-    let mut place = Place::Start;
-    for &byte in value {
+    out.extend_from_slice(&value[..loose.at])?;
+    let mut place = loose.place;
+    let rest = &value[loose.at + 1..];
+    for &byte in rest {
         push_byte(&mut out, place, byte)?;
         place = next(place, byte);
     }

@@ -1,18 +1,19 @@
 //! The media type of a header's value, which comes as bytes.
 
-ghost use Rattle.std.specs.Prelude.{◌≡◌, ◌≢◌, codes, Some, IfOk, IfErr, IsOk, MatchResult};
+ghost use Rattle.std.specs.Prelude.{◌≡◌, ◌≢◌, codes, Some, IfOk, IfErr, IsOk, MatchOption, MatchResult};
 ghost use Rattle.std.specs.Fmt.InlineText.{inline_text};
 ghost use Rattle.std.specs.Str.{IsUtf8, IsValidUpTo, valid_up_to};
 ghost use Rattle.mime.specs.Values.{Reads};
+ghost use Rattle.mime.specs.Faults.{IsFault};
 ghost use Rattle.mime_http.specs.HttpMediaType.{HttpReads, IsHttpMediaType};
 ghost use Rattle.mime_http.specs.HttpFaults.{HttpExplains};
 ghost use Rattle.mime_http.specs.HttpPrinted.{not_utf8_text};
 ghost use Rattle.mime_http.specs.Tight.{tight};
 
 use crate::fault::fault_in;
-use crate::tight::tightened;
+use crate::tight::{first_loose, tightened};
 use mime::{Mime, ParseError};
-use std::alloc::Global;
+use std::alloc::{AllocError, Global};
 use std::error::Error;
 use std::fmt;
 use std::fmt::{InlineText, Write};
@@ -66,7 +67,7 @@ impl Error for FieldError {}
 
 /// The string of these bytes, as `str::from_utf8` gives it, in less time for ASCII, which most values are.
 #[inline(always)]
-fn text_of(value: &[u8]) -> Result<&str, Utf8Error>
+pub(crate) fn text_of(value: &[u8]) -> Result<&str, Utf8Error>
     ensures cases { MatchResult result (λ text. (text.now ≡ value.now) × IsUtf8 value.now)
         (λ error. ¬ (IsUtf8 value.now) × IsValidUpTo value.now (valid_up_to error)) }
 {
@@ -77,28 +78,63 @@ fn text_of(value: &[u8]) -> Result<&str, Utf8Error>
     str::from_utf8(value)
 }
 
-/// The media type of a value in UTF-8 that the library rejects as it stands. It isn't inlined, so that reading one that it accepts
-/// stays short.
+/// The text that is left of a value by tightening.
+fn text_of_tight(tight: &[u8]) -> &str
+    requires { IsUtf8 tight.now }
+    ensures { result.now ≡ tight.now }
+{
+    let Ok(text) = text_of(tight) else {
+        unreachable!()
+    };
+    text
+}
+
+/// The media type of a value that the library rejects as it stands, for this fault, or `None` if HTTP doesn't allow it either.
 #[inline(never)]
-fn read_tightened(alloc: Global, value: &[u8]) -> Result<Mime, FieldError>
-    requires utf8 { IsUtf8 value.now }
+pub(crate) fn read_tight(
+    alloc: Global,
+    value: &str,
+    fault: ParseError,
+) -> Result<Option<Mime>, AllocError>
+    requires { IsFault value.now fault }
+    ensures { IfOk result (λ answer. MatchOption answer (¬ (IsHttpMediaType value.now)) (λ mime. HttpReads value.now mime.media)) }
+{
+    let Some(loose) = first_loose(value.as_bytes(), fault) else {
+        return Ok(None);
+    };
+    let tight = tightened(alloc, value.as_bytes(), loose)?;
+    match Mime::from_str(alloc, text_of_tight(&tight)) {
+        Ok(mime) => Ok(Some(mime)),
+        Err(error) => match error.fault() {
+            ParseError::NoMemory => Err(AllocError),
+            _ => Ok(None),
+        },
+    }
+}
+
+/// The media type of a value that the library rejects as it stands, for this fault, or its fault as HTTP writes it. It isn't inlined, so
+/// that reading a value that the library accepts stays short.
+#[inline(never)]
+fn read_rejected(alloc: Global, value: &str, fault: ParseError) -> Result<Mime, FieldError>
     requires other { value.now ≢ codes "*/*" }
-    ensures http { IfOk result (λ mime. HttpReads value.now mime.media) }
+    requires fault { IsFault value.now fault }
+    ensures http { IfOk result (λ mime. IsUtf8 value.now × HttpReads value.now mime.media) }
     ensures kept { IfOk result (λ mime. Reads (tight value.now) mime.media) }
     ensures explained { IfErr result (λ error. HttpExplains value.now error) }
     ensures accepted { IsHttpMediaType value.now → IfErr result (λ error. error ≡ FieldError.NoMemory) }
 {
-    let Ok(tight) = tightened(alloc, value) else {
+    let Some(loose) = first_loose(value.as_bytes(), fault) else {
+        return Err(FieldError::Invalid(fault));
+    };
+    let Ok(tight) = tightened(alloc, value.as_bytes(), loose) else {
         return Err(FieldError::NoMemory);
     };
-    let Ok(text) = str::from_utf8(&tight) else {
-        unreachable!()
-    };
+    let text = text_of_tight(&tight);
     match Mime::from_str(alloc, text) {
         Ok(mime) => Ok(mime),
         Err(error) => match error.fault() {
             ParseError::NoMemory => Err(FieldError::NoMemory),
-            fault => Err(FieldError::Invalid(fault_in(alloc, value, text, *fault))),
+            fault => Err(FieldError::Invalid(fault_in(alloc, value.as_bytes(), text, *fault))),
         },
     }
 }
@@ -109,8 +145,8 @@ fn read_tightened(alloc: Global, value: &[u8]) -> Result<Mime, FieldError>
 ///
 /// A value that [`Mime::from_str`] accepts is read as it stands, with one allocation, or none for `*/*`. Another is copied
 /// first, without that white space and those parameters, with one allocation more: ` text/html ;; charset=utf-8` is kept as
-/// `text/html; charset=utf-8`. The values of parameters keep their backslashes. Rejecting a value in UTF-8 allocates once, or
-/// twice if a media type and white space stand before its fault, as in `a/b c`, and frees all.
+/// `text/html; charset=utf-8`. The values of parameters keep their backslashes. Rejecting a value allocates nothing if nothing
+/// is left out of it, else once, or twice if a media type and white space stand before its fault, as in `a/b c`, and frees all.
 ///
 /// # Errors
 /// `NotUtf8` for a value that isn't valid UTF-8, before anything is allocated; `Invalid` with the fault of a value that
@@ -139,7 +175,7 @@ pub fn content_type(alloc: Global, value: &[u8]) -> Result<Mime, FieldError>
         Ok(mime) => Ok(mime),
         Err(error) => match error.fault() {
             ParseError::NoMemory => Err(FieldError::NoMemory),
-            _ => read_tightened(alloc, value),
+            fault => read_rejected(alloc, text, *fault),
         },
     }
 }

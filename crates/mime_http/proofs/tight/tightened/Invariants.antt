@@ -5,4 +5,4 @@ use Rattle.mime_http.specs.Tight.{tight_from, tight}
 use Rattle.mime_http.proofs.tight.tightened.Given as goal
 
 abbrev pub invariant-loop-byte : goal.invariant-loop-byte
-invariant-loop-byte l = vec_items l.out ++ tight_from l.place (drop l.byte-index l.value) ≡ tight l.value
+invariant-loop-byte l = vec_items l.out ++ tight_from l.place (drop l.byte-index l.rest) ≡ tight l.value

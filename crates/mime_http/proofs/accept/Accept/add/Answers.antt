@@ -1,66 +1,75 @@
 -- A piece is blank, or its media type or itself was pushed.
-use Rattle.std.proofs.Common.{rules, arith, ◌≡◌, ◌∙◌, ◌==◌, ℕ, Bool, false, refl, sym, ap, [], ◌∷◌, ◌++◌, List, map, length}
+use Rattle.std.proofs.Common.{rules, arith, ◌≡◌, ◌∙◌, ◌==◌, ℕ, Bool, false, refl, sym, ap, subst, [], ◌∷◌, ◌++◌, List, length, Ok, Err}
+use Rattle.std.specs.Prelude.{Result, OnOk}
 use Rattle.std.specs.Str.{IsUtf8}
 use Rattle.std.specs.Vec.{vec_items}
 use Rattle.std.proofs.lemmas.Bool.{true≢false, eq-eqb}
 use Rattle.std.proofs.lemmas.Grind.{common_steps}
-use Rattle.std.proofs.lemmas.List.{map-append, nil_from_length}
+use Rattle.std.proofs.lemmas.List.{nil_from_length}
 use Rattle.mime.specs.Grammar.{AreSpaces}
-use Rattle.mime_http.specs.HttpMediaType.{HttpReads, IsHttpMediaType}
+use Rattle.mime.specs.Values.{Reads}
 use Rattle.mime_http.specs.HttpList.{Header, trim_start, trim_end}
-use Rattle.mime_http.proofs.Adds.{add_nothing, add_range, add_bad}
-use Rattle.mime_http.proofs.Trims.{trimmed_from_blank}
+use Rattle.mime_http.specs.Walk.{Adds}
+use Rattle.mime_http.proofs.Adds.{pushed, add_nothing, add_range, add_bad, add_trimmed}
+use Rattle.mime_http.proofs.HttpLaws.{plain_is_http}
+use Rattle.mime_http.proofs.Trims.{trimmed_from_blank, trim_twice}
 use Rattle.mime_http.proofs.accept.Accept.add.Goals as goal
 
--- what was pushed is last
-pushed : {X Y : Type 0} (f : X → Y) (old new : List X) (x : X) (y : Y) → new ≡ old ++ (x ∷ []) → f x ≡ y → map f new ≡ map f old ++ (y ∷ [])
-pushed f old new x y is same = rw is (map-append f old (x ∷ []) ∙ ap (λ z. map f old ++ (z ∷ [])) same)
+some_left : (trimmed : List ℕ) (empty : Bool) → empty ≡ (length trimmed == 0) → empty ≡ false → ¬ (trimmed ≡ [])
+some_left trimmed empty tells some none = true≢false (sym (tells ∙ eq-eqb (length trimmed) 0 (ap length none)) ∙ some)
 
 never_blank : (piece trimmed : List ℕ) (empty : Bool) → trimmed ≡ trim_start piece → empty ≡ (length trimmed == 0) → empty ≡ false → ¬ (AreSpaces piece)
-never_blank piece trimmed empty is tells some white =
-    let none : length trimmed ≡ 0 = ap length (is ∙ trimmed_from_blank piece white) in
-    true≢false (sym (tells ∙ eq-eqb (length trimmed) 0 none) ∙ some)
+never_blank piece trimmed empty is tells some white = some_left trimmed empty tells some (is ∙ trimmed_from_blank piece white)
+
+-- what isn't UTF-8 is bad
+bad_added : {E X : Type 0} (result : Result X E) (piece : List ℕ) {entry : List ℕ} (old new : Header) → entry ≡ trim_start piece → ¬ (entry ≡ [])
+    → ¬ (IsUtf8 entry) → OnOk result (new.ranges ≡ old.ranges) → OnOk result (new.bad ≡ old.bad ++ (trim_end entry ∷ []))
+    → OnOk result (Adds (piece ∷ []) old new)
+bad_added (Ok x) piece old new is some isnt ranges bad =
+    add_bad piece (λ none. some (is ∙ none)) (λ both. isnt (subst IsUtf8 (sym is) both.0)) ranges
+    (bad ∙ ap (λ e. old.bad ++ (trim_end e ∷ [])) is)
+bad_added (Err e) piece old new is some isnt ranges bad = tt
 
 pub returns-then-is_empty-clause-added : goal.returns-then-is_empty-clause-added
 returns-then-is_empty-clause-added c =
     let none : c.trim_start-piece.result.now ≡ [] = nil_from_length _ (grind (arith, common_steps)) in
     add_nothing c.args.piece.now (sym c.trim_start-piece.ensures ∙ none) refl refl
 
-pub returns-in_ok-push-in-Some-clause-added : goal.returns-in_ok-push-in-Some-clause-added
-returns-in_ok-push-in-Some-clause-added c =
+pub add_rejected-requires-clause-trimmed : goal.add_rejected-requires-clause-trimmed
+add_rejected-requires-clause-trimmed c =
+    subst (λ t. trim_start t ≡ t) (sym (c.in-Ok.ensures.cases.0 ∙ c.trim_start-piece.ensures)) (trim_twice c.args.piece.now)
+
+pub returns-in_default-clause-added : goal.returns-in_default-clause-added
+returns-in_default-clause-added c =
     let piece = c.args.piece.now in
-    let media = c.in-Some.range.media in
-    let is : IsUtf8 (trim_start piece) × HttpReads (trim_start piece) c.in-Some.range.media = search rules in
-    add_range piece media is
-    (pushed (λ range. range.media) (vec_items c.self.inside.ranges) (vec_items c.push.new.self) c.in-Some.range media (search rules) refl
+    let entry : c.trim_start-piece.result.now ≡ trim_start piece = c.trim_start-piece.ensures in
+    bad_added c.add_bad.result piece c.args.self.now c.add_bad.new.self entry (some_left _ _ c.is_empty.ensures c.if-is_empty.false)
+    (λ utf8. c.in_default.ensures.cases.0 utf8) c.add_bad.ensures.ranges c.add_bad.ensures.bad
+
+pub returns-in_default-clause-blank : goal.returns-in_default-clause-blank
+returns-in_default-clause-blank c = λ white.
+    absurd (never_blank c.args.piece.now _ _ c.trim_start-piece.ensures c.is_empty.ensures c.if-is_empty.false white)
+
+pub returns-in_ok-push-in-Ok-from_str-clause-added : goal.returns-in_ok-push-in-Ok-from_str-clause-added
+returns-in_ok-push-in-Ok-from_str-clause-added c =
+    let piece = c.args.piece.now in
+    let media = c.in-Ok-from_str.range.media in
+    let text : c.in-Ok.text.now ≡ trim_start piece = c.in-Ok.ensures.cases.0 ∙ c.trim_start-piece.ensures in
+    let utf8 : IsUtf8 (trim_start piece) = subst IsUtf8 c.trim_start-piece.ensures c.in-Ok.ensures.cases.1 in
+    let read = subst (λ text. Reads text media) text c.in-Ok-from_str.ensures.read in
+    add_range piece media (utf8, plain_is_http (trim_start piece) media read)
+    (pushed (λ range. range.media) (vec_items c.self.inside.ranges) (vec_items c.push.new.self) c.in-Ok-from_str.range media (search rules) refl
     ∙ ap (λ (h : Header). h.ranges ++ (media ∷ [])) c.self.view_is)
     (ap (λ (h : Header). h.bad) c.self.view_is)
 
-pub returns-in_ok-push-in-None-clause-added : goal.returns-in_ok-push-in-None-clause-added
-returns-in_ok-push-in-None-clause-added c =
-    let piece = c.args.piece.now in
-    let isnt : ¬ (IsUtf8 (trim_start piece) × IsHttpMediaType (trim_start piece)) = search rules in
-    let some : ¬ (trim_start piece ≡ []) = λ none.
-    let short : length c.trim_start-piece.result.now ≡ 0 = ap length (c.trim_start-piece.ensures ∙ none) in
-    absurd (grind (arith, common_steps)) in
-    let copied : vec_items c.in_ok-to_vec-in-None.field-0 ≡ trim_end (trim_start piece) = search rules in
-    add_bad piece some isnt
-    (ap (λ (h : Header). h.ranges) c.self.view_is)
-    (pushed vec_items (vec_items c.self.inside.bad) (vec_items c.push-in-None.new.self) c.in_ok-to_vec-in-None.field-0 _ (search rules) copied
-    ∙ ap (λ (h : Header). h.bad ++ (trim_end (trim_start piece) ∷ [])) c.self.view_is)
+pub returns-in_ok-add_rejected-in-Err-clause-added : goal.returns-in_ok-add_rejected-in-Err-clause-added
+returns-in_ok-add_rejected-in-Err-clause-added c =
+    add_trimmed c.args.piece.now c.in-Ok.text.now (c.in-Ok.ensures.cases.0 ∙ c.trim_start-piece.ensures) c.in_ok-add_rejected-in-Err.ensures
 
-pub returns-in_err-range-clause-blank : goal.returns-in_err-range-clause-blank
-returns-in_err-range-clause-blank c = λ white.
+pub returns-in_err-push-in-Ok-from_str-clause-blank : goal.returns-in_err-push-in-Ok-from_str-clause-blank
+returns-in_err-push-in-Ok-from_str-clause-blank c = λ white.
     absurd (never_blank c.args.piece.now _ _ c.trim_start-piece.ensures c.is_empty.ensures c.if-is_empty.false white)
 
-pub returns-in_err-push-in-Some-clause-blank : goal.returns-in_err-push-in-Some-clause-blank
-returns-in_err-push-in-Some-clause-blank c = λ white.
-    absurd (never_blank c.args.piece.now _ _ c.trim_start-piece.ensures c.is_empty.ensures c.if-is_empty.false white)
-
-pub returns-in_err-to_vec-in-None-clause-blank : goal.returns-in_err-to_vec-in-None-clause-blank
-returns-in_err-to_vec-in-None-clause-blank c = λ white.
-    absurd (never_blank c.args.piece.now _ _ c.trim_start-piece.ensures c.is_empty.ensures c.if-is_empty.false white)
-
-pub returns-in_err-push-in-None-clause-blank : goal.returns-in_err-push-in-None-clause-blank
-returns-in_err-push-in-None-clause-blank c = λ white.
+pub returns-in_err-add_rejected-in-Err-clause-blank : goal.returns-in_err-add_rejected-in-Err-clause-blank
+returns-in_err-add_rejected-in-Err-clause-blank c = λ white.
     absurd (never_blank c.args.piece.now _ _ c.trim_start-piece.ensures c.is_empty.ensures c.if-is_empty.false white)

@@ -1,0 +1,459 @@
+-- What tightening does at the fault of a value: it leaves out the byte that is at fault, or nothing, and then the fault stands.
+use Rattle.std.proofs.Common.{◌≡◌, ◌∙◌, ◌==◌, ◌≢◌, refl, sym, ap, subst, arith, ℕ, suc, ◌+◌, ◌-◌, ◌<◌, Bool, true, false, List, [], ◌∷◌, ◌++◌, length, take, drop, get_or, Option, Some, None, length-append}
+use Rattle.std.proofs.Math.Seq.{take-length, take-suc}
+use Rattle.std.specs.Prelude.{MatchOption, slice_get, ⊤, if◌then◌else◌}
+use Rattle.std.specs.Option.{option_map, option_and_then}
+use Rattle.std.proofs.lemmas.Bool.{cond_both, true≢false}
+use Rattle.std.proofs.lemmas.Bool.Decides.{nat_tests}
+use Rattle.std.proofs.lemmas.List.{append-nil, length-take-le, take-append-drop}
+use Rattle.std.proofs.lemmas.Option.{none-some, option_and_then_some, MatchOption-at_some, slice_get_within, get_or_from_slice_get}
+use Rattle.mime.specs.Bytes.{is_token_byte, is_quoted_byte}
+use Rattle.mime.specs.Grammar.{is_space}
+use Rattle.mime.specs.Values.{IsAccepted}
+use Rattle.mime.specs.Faults.{IsViable, IsDeadAt, Lacks, IsFault}
+use Rattle.mime.specs.Inner.Quoted.{takes, continues, awaits_after}
+use Rattle.mime.specs.declared.scan.fault.ParseError.{ParseError}
+use Rattle.mime.specs.declared.scan.fault.ParseError.TheVariants.{InvalidToken}
+use Rattle.mime.proofs.BytesLemmas.{slice_get-prefix}
+use Rattle.mime.proofs.GrammarLemmas.Begun.{Closed as ClosedParameters, Begun, in_type, in_subtype, in_list, ListState, in_spaces, in_name, in_value, in_quotes, after_quotes, grow_state, grow_list, grow, walk, walk_from, walk_by-append_some}
+use Rattle.mime.proofs.GrammarLemmas.Faults.{completed_is_rejected}
+use Rattle.mime.proofs.GrammarLemmas.Spelling.{by_class, spelled-from_walk}
+use Rattle.mime.proofs.GrammarLemmas.Viability.{viable-from_walk, walk-from_viable, viable-from_lacks}
+use Rattle.mime_http.specs.declared.tight.Place.{Place}
+use Rattle.mime_http.specs.declared.tight.Place.TheVariants.{Start, Plain, Spaced, Equals, Quoted, Paired, Closed, Semicolon}
+use Rattle.mime_http.specs.Tight.{after_quote, after_outside, place_after, added, tight_from, tight}
+use Rattle.mime_http.specs.HttpMediaType.{IsHttpMediaType}
+use Rattle.mime_http.specs.HttpFaults.{IsHttpViable, IsHttpLongestPrefix, HttpLacks, IsHttpDeadAt}
+use Rattle.mime_http.specs.Loose.{is_separator, ends_in_separator, IsLoose, Stands}
+use Rattle.mime_http.proofs.Highest.{item_left}
+use Rattle.mime_http.proofs.Places.{place_from, place_from-append, token_is_plain}
+use Rattle.mime_http.proofs.PlacesAgain.{IsSettled}
+use Rattle.mime_http.proofs.HttpLaws.{accepted_from_http}
+use Rattle.mime_http.proofs.HttpViability.{place_in_list, place_at, LeavesSpaces, mapped, walked, tight-append, viable_from_tight, tight_from_viable}
+use Rattle.mime_http.proofs.HttpFaults.{Snoc, none, last, snoc, tight_one, longest_at, end_lacks}
+
+-- ---- a byte with which a begun tree goes on comes out as it is
+
+abbrev ComesOut : Place → ℕ → Type 0
+ComesOut place b = added place b ≡ b ∷ []
+
+token_comes_out : (place : Place) → IsSettled place → (b : ℕ) → is_token_byte b ≡ true → ComesOut place b
+token_comes_out Start at_rest b is = rw (token_is_plain b is).space refl
+token_comes_out Plain at_rest b is = rw (token_is_plain b is).space refl
+token_comes_out Spaced at_rest b is = absurd at_rest
+token_comes_out Equals at_rest b is = rw (token_is_plain b is).space refl
+token_comes_out Quoted at_rest b is = refl
+token_comes_out Paired at_rest b is = refl
+token_comes_out Closed at_rest b is = refl
+token_comes_out Semicolon at_rest b is = rw (token_is_plain b is).semicolon refl
+
+space_is_no_semicolon : (b : ℕ) → is_space b ≡ true → (b == 59) ≡ false
+space_is_no_semicolon b is = grind (arith, nat_tests)
+
+in_quotes_comes_out : (awaiting : Bool) (b : ℕ) → ComesOut (if awaiting then Paired else Quoted) b
+in_quotes_comes_out true b = refl
+in_quotes_comes_out false b = refl
+
+grows_so_in_list : (closed : ClosedParameters) (position : ListState) (b : ℕ)
+    → MatchOption (grow_state closed position b) (Unit {0}) (λ next. ComesOut (place_in_list position) b)
+grows_so_in_list closed (in_spaces n) b =
+    cond_both (is_space b) _ _ (λ o. MatchOption o (Unit {0}) (λ next. ComesOut Semicolon b))
+    (λ white. rw (space_is_no_semicolon b white) refl)
+    (λ other. cond_both (is_token_byte b) _ _ (λ o. MatchOption o (Unit {0}) (λ next. ComesOut Semicolon b))
+    (λ yes. token_comes_out Semicolon tt b yes) (λ no. tt))
+grows_so_in_list closed (in_name n name) b =
+    by_class (λ b next. ComesOut Plain b) is_token_byte 61 b _ _ (λ yes. token_comes_out Plain tt b yes) (λ no. refl)
+grows_so_in_list closed (in_value n name []) b =
+    by_class (λ b next. ComesOut Equals b) is_token_byte 34 b _ _ (λ yes. token_comes_out Equals tt b yes) (λ no. refl)
+grows_so_in_list closed (in_value n name (v ∷ value)) b =
+    by_class (λ b next. ComesOut Plain b) is_token_byte 59 b _ _ (λ yes. token_comes_out Plain tt b yes) (λ no. refl)
+grows_so_in_list closed (in_quotes n name content) b =
+    by_class (λ b next. ComesOut (place_in_list (in_quotes n name content)) b) (continues content) 34 b _ _
+    (λ yes. in_quotes_comes_out (awaits_after false content) b) (λ no. in_quotes_comes_out (awaits_after false content) 34)
+grows_so_in_list closed (after_quotes n name content m) b =
+    by_class (λ b next. ComesOut Closed b) is_space 59 b _ _ (λ white. refl) (λ no. refl)
+
+grows_so : (begun : Begun) (b : ℕ) → MatchOption (grow begun b) (Unit {0}) (λ next. ComesOut (place_at begun) b)
+grows_so (in_type []) b =
+    cond_both (is_token_byte b) _ _ (λ o. MatchOption o (Unit {0}) (λ next. ComesOut Start b))
+    (λ yes. token_comes_out Start tt b yes) (λ no. tt)
+grows_so (in_type (t ∷ top)) b =
+    by_class (λ b next. ComesOut Plain b) is_token_byte 47 b _ _ (λ yes. token_comes_out Plain tt b yes) (λ no. refl)
+grows_so (in_subtype top []) b =
+    cond_both (is_token_byte b) _ _ (λ o. MatchOption o (Unit {0}) (λ next. ComesOut Plain b))
+    (λ yes. token_comes_out Plain tt b yes) (λ no. tt)
+grows_so (in_subtype top (s ∷ sub)) b =
+    by_class (λ b next. ComesOut Plain b) is_token_byte 59 b _ _ (λ yes. token_comes_out Plain tt b yes) (λ no. refl)
+grows_so (in_list top sub list) b =
+    mapped (in_list top sub) (λ next. ComesOut (place_in_list list.position) b) (grow_list list b) (grows_so_in_list list.closed list.position b)
+
+-- so what is walked comes out as it is
+comes_out : (begun : Begun) (bytes : List ℕ) (end : Begun) → walk_from begun bytes ≡ Some end → tight_from (place_at begun) bytes ≡ bytes
+comes_out begun [] end e = refl
+comes_out begun (b ∷ bytes) end e =
+    option_and_then_some (λ next. walk_from next bytes) (grow begun b) end e
+    (λ next grew goes.
+    let out = MatchOption-at_some (Unit {0}) (λ next. ComesOut (place_at begun) b) next grew (grows_so begun b) in
+    let there : place_after (place_at begun) b ≡ place_at next = walked begun (b ∷ []) next (ap (λ o. option_and_then (λ s. walk_from s []) o) grew) in
+    ap (λ a. a ++ tight_from (place_after (place_at begun) b) bytes) out
+    ∙ ap (λ x. b ∷ x) (ap (λ place. tight_from place bytes) there ∙ comes_out next bytes end goes))
+
+-- ---- a byte at fault
+
+-- the walk up to it
+pub record Fault (before : List ℕ) (b : ℕ) : Type 0 where
+  pub viable : IsViable before
+  pub dead : ¬ (IsViable (before ++ (b ∷ [])))
+  pub begun : Begun
+  pub reached : walk before ≡ Some begun
+  pub stops : grow begun b ≡ None
+
+no_way_on : (before : List ℕ) (b : ℕ) (begun : Begun) → walk before ≡ Some begun → ¬ (IsViable (before ++ (b ∷ []))) → (o : Option Begun)
+    → grow begun b ≡ o → o ≡ None
+no_way_on before b begun reached dead None e = refl
+no_way_on before b begun reached dead (Some next) e =
+    absurd (dead (viable-from_walk (before ++ (b ∷ [])) next
+    (walk_by-append_some grow (in_type []) begun before (b ∷ []) reached ∙ ap (option_and_then (λ s. walk_from s [])) e)))
+
+pub fault_of : (before : List ℕ) (b : ℕ) → IsViable before → ¬ (IsViable (before ++ (b ∷ []))) → Fault before b
+fault_of before b viable dead =
+    let found = walk-from_viable before viable in
+    record { viable = viable; dead = dead; begun = found.0; reached = found.1; stops = no_way_on before b found.0 found.1 dead (grow found.0 b) refl }
+
+-- the place there, and what came out before it
+pub there : {before : List ℕ} {b : ℕ} (fault : Fault before b) → place_from Start before ≡ place_at fault.begun
+there {before} fault = walked (in_type []) before fault.begun fault.reached
+
+pub so_far : {before : List ℕ} {b : ℕ} (fault : Fault before b) → tight before ≡ before
+so_far {before} fault = comes_out (in_type []) before fault.begun fault.reached
+
+settled_in_list : (position : ListState) → IsSettled (place_in_list position)
+settled_in_list (in_spaces n) = tt
+settled_in_list (in_name n name) = tt
+settled_in_list (in_value n name []) = tt
+settled_in_list (in_value n name (v ∷ value)) = tt
+settled_in_list (in_quotes n name content) = go (awaits_after false content)
+  where
+    go : (awaiting : Bool) → IsSettled (if awaiting then Paired else Quoted)
+    go true = tt
+    go false = tt
+settled_in_list (after_quotes n name content m) = tt
+
+settled_at : (begun : Begun) → IsSettled (place_at begun)
+settled_at (in_type []) = tt
+settled_at (in_type (t ∷ top)) = tt
+settled_at (in_subtype top sub) = tt
+settled_at (in_list top sub list) = settled_in_list list.position
+
+pub at_rest : {before : List ℕ} {b : ℕ} → Fault before b → IsSettled (place_from Start before)
+at_rest fault = subst IsSettled (sym (there fault)) (settled_at fault.begun)
+
+-- a value is cut at its fault
+record CutAt (value : List ℕ) (pos b : ℕ) : Type 0 where
+  split : take pos value ++ (b ∷ drop (pos + 1) value) ≡ value
+  long : length (take pos value) ≡ pos
+  fault : Fault (take pos value) b
+
+cut_at : (value : List ℕ) (pos b : ℕ) → IsDeadAt value pos b → CutAt value pos b
+cut_at value pos b dead =
+    let within = slice_get_within value pos b dead.there in
+    let here : get_or value pos 0 ≡ b = get_or_from_slice_get value pos b 0 dead.there in
+    let next : take pos value ++ (b ∷ []) ≡ take (pos + 1) value =
+    let one : suc pos ≡ pos + 1 = omega arith in
+    ap (λ x. take pos value ++ (x ∷ [])) (sym here) ∙ (sym (take-suc value pos 0 within) ∙ ap (λ n. take n value) one) in
+    record {
+      split = ap (λ x. take pos value ++ x) (ap (λ x. x ∷ drop (pos + 1) value) (sym here) ∙ sym (item_left value pos 0 within))
+          ∙ take-append-drop pos value;
+      long = length-take-le pos value (omega (arith, within));
+      fault = fault_of (take pos value) b dead.prefix.viable
+          (λ viable. dead.prefix.longest (pos + 1) (omega arith) (omega (arith, within)) (subst IsViable next viable));
+    }
+
+-- left out, if it adds nothing
+leaves_out : (value : List ℕ) (pos b : ℕ) (place : Place) → CutAt value pos b → pos < length value
+    → added (place_from Start (take pos value)) b ≡ [] → place_after (place_from Start (take pos value)) b ≡ place
+    → IsLoose value (record { at = pos; place = place })
+leaves_out value pos b place cut within nothing next =
+    let before = take pos value in
+    let rest = drop (pos + 1) value in
+    let from = place_from Start before in
+    record {
+      within = within;
+      tightly = ap tight (sym cut.split) ∙ (tight-append Start before (b ∷ rest)
+          ∙ (ap (λ x. x ++ tight_from from (b ∷ rest)) (so_far cut.fault)
+          ∙ ap (λ x. before ++ x) (ap (λ a. a ++ tight_from (place_after from b) rest) nothing ∙ ap (λ p. tight_from p rest) next)));
+    }
+
+-- at fault in the value too, if it comes out as it is
+dead_too : (value : List ℕ) (pos b : ℕ) → CutAt value pos b → slice_get value pos ≡ Some b → ComesOut (place_from Start (take pos value)) b
+    → IsHttpDeadAt value pos b
+dead_too value pos b cut here comes =
+    let before = take pos value in
+    let rest = drop (pos + 1) value in
+    let text : tight (before ++ (b ∷ [])) ≡ before ++ (b ∷ []) =
+    tight_one before b ∙ (ap (λ x. x ++ added (place_from Start before) b) (so_far cut.fault) ∙ ap (λ x. before ++ x) comes) in
+    record {
+      prefix = subst (λ n. IsHttpLongestPrefix value n) cut.long
+          (subst (λ v. IsHttpLongestPrefix v (length before)) cut.split
+          (longest_at before (b ∷ rest)
+          (viable_from_tight before (at_rest cut.fault) (subst IsViable (sym (so_far cut.fault)) cut.fault.viable))
+          (λ c bytes e viable.
+          let same : b ≡ c = cc in
+          let begins = subst (λ x. IsHttpViable (before ++ (x ∷ []))) (sym same) viable in
+          cut.fault.dead (subst IsViable text (tight_from_viable (before ++ (b ∷ [])) begins)))));
+      there = here;
+    }
+
+stays_dead : (value : List ℕ) (pos b : ℕ) → CutAt value pos b → slice_get value pos ≡ Some b → ComesOut (place_from Start (take pos value)) b
+    → Stands value (InvalidToken pos b)
+stays_dead value pos b cut here comes =
+    let dead = dead_too value pos b cut here comes in
+    record {
+      rejected = λ is.
+          dead.prefix.longest (length value) (slice_get_within value pos b here) (omega arith)
+          (subst IsHttpViable (sym (take-length value)) ([], subst IsHttpMediaType (sym (append-nil value)) is));
+      is = dead;
+    }
+
+-- ---- white space at fault
+
+-- it isn't one that goes on after a semicolon, or in or after quotes
+space_leaves : (before : List ℕ) (b : ℕ) (begun : Begun) → walk before ≡ Some begun → before ≢ [] → is_space b ≡ true → grow begun b ≡ None
+    → LeavesSpaces (place_at begun)
+unfolding is_quoted_byte
+space_leaves before b (in_type []) reached some white stops = absurd (some (sym (spelled-from_walk before (in_type []) reached)))
+space_leaves before b (in_type (t ∷ top)) reached some white stops = tt
+space_leaves before b (in_subtype top sub) reached some white stops = tt
+space_leaves before b (in_list top sub list) reached some white stops = at list.closed list.position stops
+  where
+    in_quotes_goes : (awaiting : Bool) → takes awaiting b ≡ true
+    in_quotes_goes true = grind (arith, nat_tests)
+    in_quotes_goes false = grind (arith, nat_tests)
+
+    at : (closed : ClosedParameters) (position : ListState) → option_map (in_list top sub) (grow_state closed position b) ≡ None
+        → LeavesSpaces (place_in_list position)
+    at closed (in_spaces n) stops = absurd (none-some _ (sym (rw white at stops)))
+    at closed (in_name n name) stops = tt
+    at closed (in_value n name []) stops = tt
+    at closed (in_value n name (v ∷ value)) stops = tt
+    at closed (in_quotes n name content) stops =
+        let goes = in_quotes_goes (awaits_after false content) in absurd (none-some _ (sym (rw goes at stops)))
+    at closed (after_quotes n name content m) stops = absurd (none-some _ (sym (rw white at stops)))
+
+left_out_after : (place : Place) → LeavesSpaces place → (b : ℕ) → is_space b ≡ true → (added place b ≡ []) × (place_after place b ≡ Spaced)
+left_out_after Plain is b white = (rw white refl, rw white refl)
+left_out_after Equals is b white = (rw white refl, rw white refl)
+left_out_after Start is b white = absurd is
+left_out_after Spaced is b white = absurd is
+left_out_after Quoted is b white = absurd is
+left_out_after Paired is b white = absurd is
+left_out_after Closed is b white = absurd is
+left_out_after Semicolon is b white = absurd is
+
+pub first_space : (value : List ℕ) (b : ℕ) → IsDeadAt value 0 b → is_space b ≡ true → IsLoose value (record { at = 0; place = Start })
+first_space value b dead white =
+    leaves_out value 0 b Start (cut_at value 0 b dead) (slice_get_within value 0 b dead.there) (rw white refl) (rw white refl)
+
+some_before : (value : List ℕ) (pos : ℕ) → 0 < pos → pos < length value → take pos value ≢ []
+some_before value pos some within empty =
+    omega (arith, some, within, length-take-le pos value (omega (arith, within)), ap length empty)
+
+pub later_space : (value : List ℕ) (pos b : ℕ) → IsDeadAt value pos b → 0 < pos → is_space b ≡ true
+    → IsLoose value (record { at = pos; place = Spaced })
+later_space value pos b dead some white =
+    let cut = cut_at value pos b dead in
+    let within = slice_get_within value pos b dead.there in
+    let fault = cut.fault in
+    let leaves = space_leaves (take pos value) b fault.begun fault.reached (some_before value pos some within) white fault.stops in
+    let out = left_out_after (place_from Start (take pos value)) (subst LeavesSpaces (sym (there fault)) leaves) b white in
+    leaves_out value pos b Spaced cut within out.0 out.1
+
+-- ---- a semicolon at fault
+
+-- it isn't one within or after quotes
+abbrev IsBare : Place → Type 0
+IsBare Plain = ⊤
+IsBare Equals = ⊤
+IsBare Semicolon = ⊤
+IsBare place = ⊥
+
+semicolon_is_bare : (before : List ℕ) (begun : Begun) → walk before ≡ Some begun → before ≢ [] → grow begun 59 ≡ None → IsBare (place_at begun)
+unfolding is_quoted_byte
+semicolon_is_bare before (in_type []) reached some stops = absurd (some (sym (spelled-from_walk before (in_type []) reached)))
+semicolon_is_bare before (in_type (t ∷ top)) reached some stops = tt
+semicolon_is_bare before (in_subtype top sub) reached some stops = tt
+semicolon_is_bare before (in_list top sub list) reached some stops = at list.closed list.position stops
+  where
+    in_quotes_goes : (awaiting : Bool) → takes awaiting 59 ≡ true
+    in_quotes_goes true = refl
+    in_quotes_goes false = refl
+
+    at : (closed : ClosedParameters) (position : ListState) → option_map (in_list top sub) (grow_state closed position 59) ≡ None
+        → IsBare (place_in_list position)
+    at closed (in_spaces n) stops = tt
+    at closed (in_name n name) stops = tt
+    at closed (in_value n name []) stops = tt
+    at closed (in_value n name (v ∷ value)) stops = tt
+    at closed (in_quotes n name content) stops =
+        let goes = in_quotes_goes (awaits_after false content) in absurd (none-some _ (sym (rw goes at stops)))
+    at closed (after_quotes n name content m) stops = absurd (none-some _ (sym stops))
+
+-- after a separator it is one after a semicolon
+after_space_bare : (place : Place) (b : ℕ) → is_space b ≡ true → IsBare (place_after place b) → place_after place b ≡ Semicolon
+after_space_bare Start b white bare = absurd (subst IsBare {y = Start} (rw white refl) bare)
+after_space_bare Plain b white bare = absurd (subst IsBare {y = Spaced} (rw white refl) bare)
+after_space_bare Spaced b white bare = absurd (subst IsBare {y = Spaced} (rw white refl) bare)
+after_space_bare Equals b white bare = absurd (subst IsBare {y = Spaced} (rw white refl) bare)
+after_space_bare Quoted b white bare =
+    let quote : (b == 34) ≡ false = grind (arith, nat_tests) in
+    let backslash : (b == 92) ≡ false = grind (arith, nat_tests) in
+    absurd (subst IsBare {y = Quoted} (rw (backslash, quote) refl) bare)
+after_space_bare Paired b white bare = absurd bare
+after_space_bare Closed b white bare = absurd (subst IsBare {y = Closed} (rw white refl) bare)
+after_space_bare Semicolon b white bare = rw white refl
+
+after_semicolon_bare : (place : Place) → IsBare (place_after place 59) → place_after place 59 ≡ Semicolon
+after_semicolon_bare Quoted bare = absurd bare
+after_semicolon_bare Paired bare = absurd bare
+after_semicolon_bare place bare = refl
+
+after_separator : (place : Place) (b : ℕ) → is_separator b ≡ true → IsBare (place_after place b) → place_after place b ≡ Semicolon
+after_separator place b is bare = go (b == 59) refl
+  where
+    go : (t : Bool) → (b == 59) ≡ t → place_after place b ≡ Semicolon
+    go true semicolon =
+        let same : 59 ≡ b = grind (arith, nat_tests) in
+        subst (λ x. place_after place x ≡ Semicolon) same (after_semicolon_bare place (subst (λ x. IsBare (place_after place x)) (sym same) bare))
+    go false other = after_space_bare place b (rw other at is) bare
+
+-- and after another byte it isn't
+abbrev IsOther : Place → Type 0
+IsOther Semicolon = ⊥
+IsOther place = ⊤
+
+after_other : (place : Place) (b : ℕ) → is_separator b ≡ false → IsOther (place_after place b)
+after_other place b is = go place
+  where
+    space : is_space b ≡ false
+    space = grind (arith, nat_tests)
+
+    semicolon : (b == 59) ≡ false
+    semicolon = grind (arith, nat_tests)
+
+    quote : (place : Place) → IsOther (after_quote place)
+    quote Equals = tt
+    quote place = tt
+
+    outside : (place : Place) → IsOther (after_outside place b)
+    outside place = rw (space, semicolon) (choose (b == 61) (b == 34))
+      where
+        choose : (e q : Bool) → IsOther (if e then Equals else if q then after_quote place else Plain)
+        choose true q = tt
+        choose false true = quote place
+        choose false false = tt
+
+    within : (s q : Bool) → IsOther (if s then Paired else if q then Closed else Quoted)
+    within true q = tt
+    within false true = tt
+    within false false = tt
+
+    go : (place : Place) → IsOther (place_after place b)
+    go Quoted = within (b == 92) (b == 34)
+    go Paired = tt
+    go place = outside place
+
+semicolon_comes_out : (place : Place) → IsSettled place → IsOther place → ComesOut place 59
+semicolon_comes_out Spaced at_rest other = absurd at_rest
+semicolon_comes_out Semicolon at_rest other = absurd other
+semicolon_comes_out place at_rest other = refl
+
+last_of : (front : List ℕ) (c : ℕ) → slice_get (front ++ (c ∷ [])) (length (front ++ (c ∷ [])) - 1) ≡ Some c
+last_of front c = slice_get-prefix front c [] _ (omega (arith, length-append front (c ∷ [])))
+
+separated : (before : List ℕ) → before ≢ [] → IsBare (place_from Start before) → ends_in_separator before ≡ true
+    → place_from Start before ≡ Semicolon
+separated before some bare ends = go (snoc before) some bare ends
+  where
+    go : {before : List ℕ} → Snoc before → before ≢ [] → IsBare (place_from Start before) → ends_in_separator before ≡ true
+        → place_from Start before ≡ Semicolon
+    go none some bare ends = absurd (some refl)
+    go (last front c) some bare ends =
+        let on = place_from-append Start front (c ∷ []) in
+        let there = last_of front c in
+        on ∙ after_separator (place_from Start front) c (rw there at ends) (subst IsBare on bare)
+
+not_separated : (before : List ℕ) → ends_in_separator before ≡ false → IsOther (place_from Start before)
+not_separated before ends = go (snoc before) ends
+  where
+    go : {before : List ℕ} → Snoc before → ends_in_separator before ≡ false → IsOther (place_from Start before)
+    go none ends = tt
+    go (last front c) ends =
+        let there = last_of front c in
+        subst IsOther (sym (place_from-append Start front (c ∷ []))) (after_other (place_from Start front) c (rw there at ends))
+
+pub next_semicolon : (value : List ℕ) (pos b : ℕ) → IsDeadAt value pos b → b ≡ 59 → ends_in_separator (take pos value) ≡ true
+    → IsLoose value (record { at = pos; place = Semicolon })
+next_semicolon value pos b dead is ends =
+    let cut = cut_at value pos b dead in
+    let within = slice_get_within value pos b dead.there in
+    let fault = cut.fault in
+    let some : take pos value ≢ [] = λ empty. true≢false (sym ends ∙ ap ends_in_separator empty) in
+    let bare = semicolon_is_bare (take pos value) fault.begun fault.reached some (subst (λ x. grow fault.begun x ≡ None) is fault.stops) in
+    let place = separated (take pos value) some (subst IsBare (sym (there fault)) bare) ends in
+    leaves_out value pos b Semicolon cut within
+    (ap (λ p. added p b) place ∙ ap (added Semicolon) is) (ap (λ p. place_after p b) place ∙ ap (place_after Semicolon) is)
+
+pub first_semicolon : (value : List ℕ) (pos b : ℕ) → IsDeadAt value pos b → b ≡ 59 → ends_in_separator (take pos value) ≡ false
+    → Stands value (InvalidToken pos b)
+first_semicolon value pos b dead is ends =
+    let cut = cut_at value pos b dead in
+    stays_dead value pos b cut dead.there
+    (subst (ComesOut (place_from Start (take pos value))) (sym is)
+    (semicolon_comes_out (place_from Start (take pos value)) (at_rest cut.fault) (not_separated (take pos value) ends)))
+
+-- ---- another byte at fault, or none
+
+other_comes_out : (place : Place) → IsSettled place → (b : ℕ) → is_separator b ≡ false → ComesOut place b
+other_comes_out place at_rest b is = go place at_rest
+  where
+    space : is_space b ≡ false
+    space = grind (arith, nat_tests)
+
+    semicolon : (b == 59) ≡ false
+    semicolon = grind (arith, nat_tests)
+
+    go : (place : Place) → IsSettled place → ComesOut place b
+    go Start at_rest = rw space refl
+    go Plain at_rest = rw space refl
+    go Spaced at_rest = absurd at_rest
+    go Equals at_rest = rw space refl
+    go Quoted at_rest = refl
+    go Paired at_rest = refl
+    go Closed at_rest = refl
+    go Semicolon at_rest = rw semicolon refl
+
+pub other_byte : (value : List ℕ) (pos b : ℕ) → IsDeadAt value pos b → is_separator b ≡ false → Stands value (InvalidToken pos b)
+other_byte value pos b dead is =
+    let cut = cut_at value pos b dead in
+    stays_dead value pos b cut dead.there (other_comes_out (place_from Start (take pos value)) (at_rest cut.fault) b is)
+
+-- what is missing at the end is missing as HTTP writes it
+record Rejected (value : List ℕ) (X : Type 0) : Type 0 where
+  rejected : ¬ (IsHttpMediaType value)
+  also : X
+
+lacks_too : (value : List ℕ) (fault : ParseError) → Lacks value fault → Rejected value (HttpLacks value fault)
+lacks_too value fault lacks =
+    let walk = walk-from_viable value (viable-from_lacks value fault lacks) in
+    let same = comes_out (in_type []) value walk.0 walk.1 in
+    record {
+      rejected = λ is. completed_is_rejected value fault lacks (subst IsAccepted same (accepted_from_http value is));
+      also = end_lacks value fault (subst IsSettled (sym (walked (in_type []) value walk.0 walk.1)) (settled_at walk.0))
+          (subst (λ text. Lacks text fault) (sym same) lacks);
+    }
+
+pub stands_at_end : (value : List ℕ) (fault : ParseError) → ((pos byte : ℕ) → ¬ (fault ≡ InvalidToken pos byte)) → IsFault value fault
+    → Stands value fault
+stands_at_end value (InvalidToken pos byte) other is = absurd (other pos byte refl)
+stands_at_end value fault other is =
+    let lacks = lacks_too value fault is in record { rejected = lacks.rejected; is = lacks.also }
