@@ -72,7 +72,7 @@ half : (b : Bool) (m : ℕ) → (cond b 1 0 + 2 * m) / 2 ≡ m
 half true m = omega arith
 half false m = omega arith
 
-mask-drop : (n : ℕ) (ms : List Bool) → mask_l ms / 2 ^ n ≡ mask_l (drop n ms)
+pub mask-drop : (n : ℕ) (ms : List Bool) → mask_l ms / 2 ^ n ≡ mask_l (drop n ms)
 mask-drop zero ms = div-one (mask_l ms)
 mask-drop (suc n) [] = zero-div (2 ^ suc n)
 mask-drop (suc n) (b ∷ ms) =

@@ -3,6 +3,8 @@
 pub mod ByteClasses
 pub mod Remaining
 pub mod Quoted
+pub mod Members
+pub mod KnownStops
 pub mod Scanning
 pub mod Blocks
 pub mod Pairs

@@ -94,7 +94,7 @@ fn has_shape(positions: Positions, semicolon: usize, count: usize) -> bool
 fn is_accepted_at(text: &str, semicolon: usize, count: usize) -> bool
     ensures { IsTrue result ↔ IsAcceptedAt text.now semicolon count }
 {
-    let mut reader = ByteReader::new(text, 0);
+    let mut reader = ByteReader::by_blocks(text);
     match scan(&mut reader) {
         Verdict::Accepted(positions) => has_shape(positions, semicolon, count),
         _ => false,

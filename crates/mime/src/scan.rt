@@ -11,6 +11,7 @@ ghost use Rattle.mime.specs.Inner.Scanning.{Passes, PassesContent, PassesSubtype
 
 mod fault;
 mod reader;
+mod runs;
 
 use crate::bytes::{is_quoted_byte, is_quoted_text_byte, is_space, is_token, is_token_except_plus};
 pub use crate::scan::fault::{FromStrError, ParseError};
@@ -45,6 +46,7 @@ pub(crate) enum Verdict {
 fn token(reader: &mut ByteReader<'_>) -> Option<u8>
     ensures { Passes is_token_byte reader.old reader.new result }
 {
+    reader.skip_token_bytes();
     while let Some(byte) = reader.next() {
         if !is_token(byte) {
             return Some(byte);
@@ -58,6 +60,7 @@ fn token(reader: &mut ByteReader<'_>) -> Option<u8>
 fn token_to_plus(reader: &mut ByteReader<'_>) -> Option<u8>
     ensures { Passes is_token_except_plus reader.old reader.new result }
 {
+    reader.skip_token_bytes();
     while let Some(byte) = reader.next() {
         if !is_token_except_plus(byte) {
             return Some(byte);
@@ -92,13 +95,22 @@ fn quoted_text(reader: &mut ByteReader<'_>) -> Option<u8>
     None
 }
 
+/// Reads the quoted text at the start of a quoted value, which may be long, and returns the byte that ends it.
+#[inline(always)]
+fn first_quoted_text(reader: &mut ByteReader<'_>) -> Option<u8>
+    ensures { Passes is_quoted_text_byte reader.old reader.new result }
+{
+    reader.skip_quoted_text();
+    quoted_text(reader)
+}
+
 /// Reads a quoted value's content, and returns the byte that ends it: the first quote that no unpaired backslash
 /// precedes, or a byte that may not stand there.
 #[inline(always)]
 fn content(reader: &mut ByteReader<'_>) -> Option<u8>
     ensures { PassesContent reader.old reader.new result }
 {
-    let mut stop = quoted_text(reader);
+    let mut stop = first_quoted_text(reader);
     while stop == Some(b'\\') {
         let paired = reader.next()?;
         if !is_quoted_byte(paired) {

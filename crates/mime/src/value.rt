@@ -90,7 +90,7 @@ impl Mime {
         // `*/*` is always read, and fixed.
         ensures star { s.now ≡ codes "*/*" → IfOk result (λ mime. mime.fixed ≡ true) × IsOk result }
     {
-        let mut reader = ByteReader::new(s, 0);
+        let mut reader = ByteReader::by_blocks(s);
         match scan(&mut reader) {
             Verdict::Accepted(positions) => Mime::of_accepted(alloc, s, positions),
             Verdict::Unfinished(fault) => Err(FromStrError::new(fault)),

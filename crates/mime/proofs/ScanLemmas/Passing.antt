@@ -1,16 +1,17 @@
 -- What a pass over a reader's bytes has given so far, one byte or one run more, and at its end.
-use Rattle.std.proofs.Common.{◌≡◌, ℕ, ◌+◌, ◌<◌, Bool, true, false, eqb, List, [], ◌∷◌, ◌++◌, length, Option, Some, None, refl, sym, ap, ◌∙◌, subst, arith, append_assoc, append-nil, length-append}
+use Rattle.std.proofs.Common.{◌≡◌, ℕ, ◌+◌, ◌<◌, Bool, true, false, eqb, List, [], ◌∷◌, ◌++◌, length, Option, Some, None, refl, sym, ap, ◌∙◌, subst, arith, append_assoc, append-nil, length-append, take, drop, ◌≤◌, length-drop}
 use Rattle.std.specs.Prelude.{IsTrue, IsFalse, not, MatchOption}
 use Rattle.std.specs.List.{list_all}
 use Rattle.std.specs.Option.{option_eq, option_to_list}
 use Rattle.std.proofs.lemmas.Bool.{and_from, and_parts, eqb-true, true≢false, not-true, false_from_ne_true}
 use Rattle.std.proofs.lemmas.List.Folds.{list_all-append}
+use Rattle.std.proofs.lemmas.List.{take-append-drop, drop-drop, length-take-le}
 use Rattle.mime.specs.Bytes.{is_token_byte, is_quoted_byte, is_quoted_text_byte, plus_byte, backslash_byte}
 use Rattle.mime.specs.Inner.Quoted.{awaits_next, takes, takes_all, awaits_after, IsOpenContent, continues}
 use Rattle.mime.specs.Values.{last_plus}
 use Rattle.mime.specs.Inner.Remaining.{Remaining}
 use Rattle.mime.specs.Inner.ByteClasses.{is_token_except_plus}
-use Rattle.mime.specs.Inner.Scanning.{Given, GivesFirst, Passes, PassesContent, PassesSubtype}
+use Rattle.mime.specs.Inner.Scanning.{Given, GivesFirst, Passing, Passes, PassesContent, PassesSubtype}
 use Rattle.mime.proofs.BytesLemmas.{list_all-wider}
 use Rattle.mime.proofs.GrammarLemmas.Content.{takes-backslash, takes_all-text, awaits_after-text, awaits_after-append, takes_all-append, not_taken}
 
@@ -48,11 +49,52 @@ pub stopped_by : (byte : ℕ) (stop : Option ℕ) → option_eq eqb stop (Some b
 stopped_by byte None test = absurd (true≢false (sym test))
 stopped_by byte (Some b) test = ap Some (eqb-true b byte test)
 
--- a run of a class was given so far
-pub record Passing (class : ℕ → Bool) (old now : Remaining) : Type 0 where
-  pub run : List ℕ
-  pub of_class : IsTrue (list_all class run)
-  pub given : Given old now run None
+-- a reader at a position in a text
+abbrev pub reader_at : List ℕ → ℕ → ℕ → Remaining
+reader_at text at before = record { left = drop at text; count = before + at }
+
+-- bytes of the class are skipped
+pub passing_skip : (class : ℕ → Bool) (text : List ℕ) (at n before : ℕ) → at + n ≤ length text → list_all class (take n (drop at text)) ≡ true
+    → Passing class (reader_at text at before) (reader_at text (at + n) before)
+passing_skip class text at n before room all = record {
+  run = take n (drop at text);
+  of_class = all;
+  given = record {
+    bytes = sym (take-append-drop n (drop at text)) ∙ ap (λ t. take n (drop at text) ++ t) (drop-drop n at text);
+    counted = omega (arith, length-take-le n (drop at text) (omega (arith, length-drop at text, room)));
+  };
+}
+
+-- nothing was skipped
+pub passing_none : (class : ℕ → Bool) (now : Remaining) → Passing class now now
+passing_none class now = record { run = []; of_class = refl; given = record { bytes = refl; counted = omega arith } }
+
+-- a run of a class is one of a wider class
+pub passing_wider : {class wider : ℕ → Bool} {old new : Remaining} → ((b : ℕ) → class b ≡ true → wider b ≡ true)
+    → Passing class old new → Passing wider old new
+passing_wider {class} {wider} within p = record {
+  run = p.run;
+  of_class = list_all-wider class wider within p.run p.of_class;
+  given = p.given;
+}
+
+-- a run, and then another one
+pub passing_then : {class : ℕ → Bool} {old mid new : Remaining} → Passing class old mid → Passing class mid new → Passing class old new
+passing_then {class} p q = record {
+  run = p.run ++ q.run;
+  of_class = list_all-append class p.run q.run ∙ and_from _ _ p.of_class q.of_class;
+  given = given_then p.given q.given;
+}
+
+-- a run, and then the longest one
+pub passes_then : {class : ℕ → Bool} {old mid new : Remaining} {stop : Option ℕ} → Passing class old mid → Passes class mid new stop
+    → Passes class old new stop
+passes_then {class} p q = record {
+  run = p.run ++ q.run;
+  of_class = list_all-append class p.run q.run ∙ and_from _ _ p.of_class q.of_class;
+  given = given_then p.given q.given;
+  stopped = q.stopped;
+}
 
 -- one byte more of the class
 abbrev pub passing_more : {class : ℕ → Bool} {old mid new : Remaining} {b : ℕ} → (p : Passing class old mid)
@@ -141,8 +183,11 @@ last_plus-plus at (x ∷ xs) b position p e = rw (last_plus-plus (at + 1) xs b p
 -- ---- a subtype, plus by plus
 
 -- bytes without a plus are token bytes, and keep the last plus
+pub token_byte : (b : ℕ) → is_token_except_plus b ≡ true → is_token_byte b ≡ true
+token_byte b is = (and_parts (is_token_byte b) _ is).0
+
 pub token_run : (xs : List ℕ) → IsTrue (list_all is_token_except_plus xs) → IsTrue (list_all is_token_byte xs)
-token_run = list_all-wider is_token_except_plus is_token_byte (λ b is. (and_parts (is_token_byte b) _ is).0)
+token_run = list_all-wider is_token_except_plus is_token_byte token_byte
 
 no_plus : (at : ℕ) (xs : List ℕ) → IsTrue (list_all is_token_except_plus xs) → last_plus at xs ≡ None
 no_plus at [] all = refl

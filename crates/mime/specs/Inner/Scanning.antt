@@ -21,6 +21,12 @@ pub record Given (old new : Remaining) (run : List ℕ) (stop : Option ℕ) : Ty
 abbrev pub GivesFirst : Remaining → Remaining → Option ℕ → Type 0
 GivesFirst old new first = Given old new [] first × MatchOption first (new.left ≡ []) (λ b. ⊤)
 
+-- a run of a class was passed, perhaps not the longest
+pub record Passing (class : ℕ → Bool) (old now : Remaining) : Type 0 where
+  pub run : List ℕ
+  pub of_class : IsTrue (list_all class run)
+  pub given : Given old now run None
+
 -- the longest run of a class was passed; the byte after it isn't of the class
 pub record Passes (class : ℕ → Bool) (old new : Remaining) (stop : Option ℕ) : Type 0 where
   pub run : List ℕ

@@ -18,7 +18,7 @@ rejected-not_accepted text count (Stopped byte positions) judged other = rejecte
 
 pub returns-in-Accepted : goal.returns-in-Accepted
 returns-in-Accepted c =
-    let has = subst (λ text. HasPositions text c.in-Accepted.positions) c.new-reader.ensures.left c.in-Accepted.ensures.judged.1 in (
+    let has = subst (λ text. HasPositions text c.in-Accepted.positions) c.by_blocks-reader.ensures.left c.in-Accepted.ensures.judged.1 in (
       λ is. let at = c.has_shape.ensures.0 is in
           record { positions = c.in-Accepted.positions; has = has; at = at.0; counted = at.1 },
       λ is. let one = one_positions c.args.text.now c.in-Accepted.positions is.positions has is.has in
@@ -27,5 +27,5 @@ returns-in-Accepted c =
 
 pub returns-in_default : goal.returns-in_default
 returns-in_default c =
-    let judged = rw c.new-reader.ensures.left at c.scan.ensures.judged in
+    let judged = rw c.by_blocks-reader.ensures.left at c.scan.ensures.judged in
     (λ bad. absurd cc, λ is. absurd (rejected-not_accepted _ _ _ judged c.in_default.not-Accepted (accepted-from_positions _ _ is.has)))

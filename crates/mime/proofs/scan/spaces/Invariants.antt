@@ -1,7 +1,7 @@
 -- The spaces so far.
 use Rattle.std.proofs.Common.{length}
 use Rattle.mime.specs.Grammar.{is_space}
-use Rattle.mime.proofs.ScanLemmas.Passing.{Passing}
+use Rattle.mime.specs.Inner.Scanning.{Passing}
 use Rattle.mime.proofs.scan.spaces.Given as goal
 
 abbrev pub invariant-loop-byte : goal.invariant-loop-byte

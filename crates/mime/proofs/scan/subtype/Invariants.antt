@@ -5,9 +5,8 @@ use Rattle.std.specs.Option.{option_to_list}
 use Rattle.mime.specs.Bytes.{is_token_byte}
 use Rattle.mime.specs.Inner.Remaining.{Remaining}
 use Rattle.mime.specs.Inner.ByteClasses.{is_token_except_plus}
-use Rattle.mime.specs.Inner.Scanning.{Passes}
+use Rattle.mime.specs.Inner.Scanning.{Passes, Passing}
 use Rattle.mime.specs.Values.{last_plus}
-use Rattle.mime.proofs.ScanLemmas.Passing.{Passing}
 use Rattle.mime.proofs.scan.subtype.Given as goal
 
 abbrev pub invariant-loop-plus : goal.invariant-loop-plus

@@ -6,33 +6,33 @@ use Rattle.mime.proofs.value.Mime.from_str.Goals as goal
 
 pub returns-in-Accepted-clause-explained : goal.returns-in-Accepted-clause-explained
 returns-in-Accepted-clause-explained c =
-    let has = rw c.new-reader.ensures.left at c.in-Accepted.ensures.judged.1 in
+    let has = rw c.by_blocks-reader.ensures.left at c.in-Accepted.ensures.judged.1 in
     Explains-no_memory _ _ (accepted-from_positions _ _ has) c.of_accepted.ensures.memory
 
 pub returns-in-Unfinished-clause-accepted : goal.returns-in-Unfinished-clause-accepted
 returns-in-Unfinished-clause-accepted c = λ accepted.
-    absurd (rejected-from_fault _ _ (rw c.new-reader.ensures.left at c.in-Unfinished.ensures.judged.1) accepted)
+    absurd (rejected-from_fault _ _ (rw c.by_blocks-reader.ensures.left at c.in-Unfinished.ensures.judged.1) accepted)
 
 pub returns-in-Unfinished-clause-star : goal.returns-in-Unfinished-clause-star
 returns-in-Unfinished-clause-star c = λ star.
-    absurd (rejected-from_fault _ _ (rw c.new-reader.ensures.left at c.in-Unfinished.ensures.judged.1) (star-accepted _ star))
+    absurd (rejected-from_fault _ _ (rw c.by_blocks-reader.ensures.left at c.in-Unfinished.ensures.judged.1) (star-accepted _ star))
 
 pub returns-in-Stopped-clause-accepted : goal.returns-in-Stopped-clause-accepted
 returns-in-Stopped-clause-accepted c = λ accepted.
-    absurd (rejected-at_dead _ _ _ (rw c.new-reader.ensures.left at c.in-Stopped.ensures.judged.1) accepted)
+    absurd (rejected-at_dead _ _ _ (rw c.by_blocks-reader.ensures.left at c.in-Stopped.ensures.judged.1) accepted)
 
 pub returns-in-Stopped-clause-star : goal.returns-in-Stopped-clause-star
 returns-in-Stopped-clause-star c = λ star.
-    absurd (rejected-at_dead _ _ _ (rw c.new-reader.ensures.left at c.in-Stopped.ensures.judged.1) (star-accepted _ star))
+    absurd (rejected-at_dead _ _ _ (rw c.by_blocks-reader.ensures.left at c.in-Stopped.ensures.judged.1) (star-accepted _ star))
 
 pub returns-in-Unfinished-clause-explained : goal.returns-in-Unfinished-clause-explained
 returns-in-Unfinished-clause-explained c =
-    rw c.new.ensures (Explains-from_fault _ _ (rw c.new-reader.ensures.left at c.in-Unfinished.ensures.judged.1))
+    rw c.new.ensures (Explains-from_fault _ _ (rw c.by_blocks-reader.ensures.left at c.in-Unfinished.ensures.judged.1))
 
 pub returns-in-Stopped-clause-explained : goal.returns-in-Stopped-clause-explained
 returns-in-Stopped-clause-explained c =
-    rw (c.new-in-Stopped.ensures, c.position-pos.ensures, sym c.new-reader.ensures.count)
-    (rw c.new-reader.ensures.left at c.in-Stopped.ensures.judged.1)
+    rw (c.new-in-Stopped.ensures, c.position-pos.ensures, sym c.by_blocks-reader.ensures.count)
+    (rw c.by_blocks-reader.ensures.left at c.in-Stopped.ensures.judged.1)
 
 pub returns-in-Accepted-clause-read : goal.returns-in-Accepted-clause-read
 returns-in-Accepted-clause-read c = c.of_accepted.ensures.read

@@ -1,0 +1,12 @@
+-- What a byte reader keeps.
+use Rattle.std.specs.Prelude.{◌≡◌, ℕ, ◌+◌, ◌≤◌, ◌<◌, ◌^◌, List, length, take}
+use Rattle.mime.specs.Inner.Members.{outside}
+use Rattle.mime.specs.declared.scan.runs.TheConstants.{TOKEN_EXCEPT_PLUS}
+
+-- a reader at a position in a text, whose first bytes are known: which of them are no token bytes other than the plus
+pub record IsReader (text : List ℕ) (at before known stops : ℕ) : Type 0 where
+  pub within : at ≤ length text
+  pub fits : before + length text < 2 ^ 128
+  pub few : known ≤ 64
+  pub there : known ≤ length text
+  pub mask : stops ≡ outside TOKEN_EXCEPT_PLUS (take known text)

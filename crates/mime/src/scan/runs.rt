@@ -1,0 +1,166 @@
+//! Runs of bytes of a class, searched blocks of bytes at a time.
+
+ghost use Rattle.std.specs.Prelude.{◌≡◌, ◌+◌, ◌*◌, ◌/◌, ◌-◌, ◌<◌, ◌≤◌, ◌^◌, ◌++◌, IsTrue, length, take, drop};
+ghost use Rattle.std.specs.List.{list_all};
+ghost use Rattle.mime.specs.Inner.Members.{is_member, outside};
+
+use crate::blocks::BLOCK;
+use std::simd::prelude::*;
+
+/// A class of bytes: a byte is a member if the entry for its low four bits and that for its high four bits have a bit
+/// in common.
+pub(crate) struct Class {
+    low: [u8; 16],
+    high: [u8; 16],
+}
+
+/// The bytes of a token other than the plus.
+pub(crate) static TOKEN_EXCEPT_PLUS: Class = Class {
+    low: [
+        232, 252, 248, 252, 252, 252, 252, 252, 248, 248, 244, 80, 208, 84, 244, 112,
+    ],
+    high: [0, 0, 4, 8, 16, 32, 64, 128, 0, 0, 0, 0, 0, 0, 0, 0],
+};
+
+/// The bytes of quoted text.
+pub(crate) static QUOTED_TEXT: Class = Class {
+    low: [
+        254, 254, 250, 254, 254, 254, 254, 254, 254, 255, 254, 254, 222, 254, 254, 126,
+    ],
+    high: [1, 0, 4, 8, 16, 32, 64, 128, 2, 2, 2, 2, 2, 2, 2, 2],
+};
+
+/// How many bytes are searched together at the start of a string: a mask has a bit for each.
+pub(crate) const WINDOW: usize = 64;
+
+/// Half a block.
+const HALF: usize = 8;
+
+/// Which of 16 bytes are outside a class, as a bit mask. The lowest bit is for the first byte.
+#[inline(always)]
+fn outside_in_lanes(bytes: u8x16, class: &Class) -> u64
+    ensures mask { result ≡ outside class.now bytes }
+    ensures few { result < 2 ^ 16 }
+{
+    let low = u8x16::from_slice(&class.low).swizzle_dyn(bytes & u8x16::splat(15));
+    let high = u8x16::from_slice(&class.high).swizzle_dyn(bytes >> u8x16::splat(4));
+    (low & high).simd_eq(u8x16::splat(0)).to_bitmask()
+}
+
+/// Which bytes in the first block of a string are outside a class.
+#[inline(always)]
+fn outside_in_block(text: &[u8], class: &Class) -> u64
+    requires { BLOCK ≤ length text.now }
+    ensures mask { result ≡ outside class.now (take BLOCK text.now) }
+    ensures few { result < 2 ^ 16 }
+{
+    outside_in_lanes(u8x16::from_slice(text), class)
+}
+
+/// Which bytes in the first two blocks of a string are outside a class.
+#[inline(always)]
+fn outside_in_two_blocks(text: &[u8], class: &Class) -> u64
+    requires { BLOCK + BLOCK ≤ length text.now }
+    ensures mask { result ≡ outside class.now (take (BLOCK + BLOCK) text.now) }
+    ensures few { result < 2 ^ 32 }
+{
+    outside_in_block(text, class) + (outside_in_block(&text[BLOCK..], class) << BLOCK)
+}
+
+/// The mask of `size` bytes, from the masks of their first and of their last `part` bytes, which may overlap.
+#[inline(always)]
+fn joined(first: u64, last: u64, part: usize, size: usize) -> u64
+    requires part { part ≤ 32 }
+    requires reach { size ≤ part + part }
+    requires room { part ≤ size }
+    requires first { first < 2 ^ 32 }
+    requires last { last < 2 ^ 32 }
+    ensures { result ≡ first + last / 2 ^ (part + part - size) * 2 ^ part }
+{
+    first + ((last >> (part + part - size)) << part)
+}
+
+/// The first and the last bytes of a string, half a block of each. They may overlap.
+#[inline(always)]
+fn both_ends(text: &[u8]) -> u8x16
+    requires { HALF ≤ length text.now }
+    ensures { result ≡ take HALF text.now ++ drop (length text.now - HALF) text.now }
+{
+    let first = u8x8::from_slice(text);
+    let last = u8x8::from_slice(&text[text.len() - HALF..]);
+    first.shuffle(last, [0, 1, 2, 3, 4, 5, 6, 7, 8, 9, 10, 11, 12, 13, 14, 15])
+}
+
+/// Which bytes of a string are outside a class. It has from half a block to a block.
+#[inline(always)]
+fn outside_in_halves(text: &[u8], class: &Class) -> u64
+    requires room { HALF ≤ length text.now }
+    requires reach { length text.now ≤ BLOCK }
+    ensures { result ≡ outside class.now text.now }
+{
+    let found = outside_in_lanes(both_ends(text), class);
+    joined(found % 256, found / 256, HALF, text.len())
+}
+
+/// Which bytes of a string are outside a class. It has from one block to two.
+#[inline(always)]
+fn outside_in_blocks(text: &[u8], class: &Class) -> u64
+    requires room { BLOCK ≤ length text.now }
+    requires reach { length text.now ≤ BLOCK + BLOCK }
+    ensures { result ≡ outside class.now text.now }
+{
+    let first = outside_in_block(text, class);
+    let last = outside_in_block(&text[text.len() - BLOCK..], class);
+    joined(first, last, BLOCK, text.len())
+}
+
+/// Which bytes of a string are outside a class. It has from two blocks to four.
+#[inline(always)]
+fn outside_in_window(text: &[u8], class: &Class) -> u64
+    requires room { BLOCK + BLOCK ≤ length text.now }
+    requires reach { length text.now ≤ WINDOW }
+    ensures { result ≡ outside class.now text.now }
+{
+    let first = outside_in_two_blocks(text, class);
+    let last = outside_in_two_blocks(&text[text.len() - (BLOCK + BLOCK)..], class);
+    joined(first, last, BLOCK + BLOCK, text.len())
+}
+
+/// The start of a string: how many bytes it has, and which of them are outside a class. That is the whole string, up to
+/// a window, or nothing if it is shorter than half a block.
+#[inline(always)]
+pub(crate) fn outside_at_start(text: &[u8], class: &Class) -> (usize, u64)
+    ensures few { result.0 ≤ WINDOW }
+    ensures within { result.0 ≤ length text.now }
+    ensures mask { result.1 ≡ outside class.now (take result.0 text.now) }
+{
+    let size = text.len();
+    if size < HALF {
+        (0, 0)
+    } else if size < BLOCK {
+        (size, outside_in_halves(text, class))
+    } else if size < BLOCK + BLOCK {
+        (size, outside_in_blocks(text, class))
+    } else {
+        let start = &text[..size.min(WINDOW)];
+        (start.len(), outside_in_window(start, class))
+    }
+}
+
+/// How many bytes at the start of a string are of a class, block by block up to the last one that is whole. It isn't
+/// inlined: few strings are that long.
+#[inline(never)]
+pub(crate) fn run_by_blocks(text: &[u8], class: &Class) -> usize
+    ensures within { result ≤ length text.now }
+    ensures of_class { IsTrue (list_all (is_member class.now) (take result text.now)) }
+{
+    let mut size = 0;
+    while text.len() - size >= BLOCK {
+        let found = outside_in_block(&text[size..], class);
+        if found != 0 {
+            return size + found.trailing_zeros() as usize;
+        }
+        size += BLOCK;
+    }
+    size
+}
