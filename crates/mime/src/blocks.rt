@@ -41,8 +41,9 @@ fn position_in_last_block(whole: &[u8], text: &[u8], byte: u8) -> usize
     }
 }
 
-/// The first position of a byte, or the length if it doesn't occur, searched byte by byte.
-#[inline(always)]
+/// The first position of a byte, or the length if it doesn't occur, searched byte by byte. It isn't inlined: few
+/// strings with parameters are shorter than a block.
+#[inline(never)]
 fn position_by_one(text: &[u8], byte: u8) -> usize
     ensures { result ≡ first_position byte text.now }
 {

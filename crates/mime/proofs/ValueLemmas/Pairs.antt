@@ -1,21 +1,59 @@
 -- What a cut of a list is, and where its quoted content ends.
-use Rattle.std.proofs.Common.{◌≡◌, ◌≢◌, ℕ, zero, suc, ◌+◌, ◌<◌, ◌≤◌, Bool, true, false, List, [], ◌∷◌, ◌++◌, length, get_or, drop, refl, sym, ap, ◌∙◌, ne_eqb, arith, cond, ◌-◌, take, subst, append-nil, append_assoc, length-append}
+use Rattle.std.proofs.Common.{◌≡◌, ◌≢◌, ℕ, zero, suc, ◌+◌, ◌*◌, ◌<◌, ◌≤◌, Bool, true, false, List, [], ◌∷◌, ◌++◌, length, get_or, drop, refl, sym, ap, ◌∙◌, ne_eqb, arith, cond, ◌-◌, take, subst, append-nil, append_assoc, length-append, length-drop}
 use Rattle.std.specs.Prelude.{IsTrue, ◌==◌, ◌&&◌, not, Option, Some, codes}
 use Rattle.std.specs.Str.{bytes_eq}
-use Rattle.std.specs.List.{position_or_len}
-use Rattle.std.proofs.lemmas.List.{drop_more, drop_all, take_at, drop_at, drop-drop, take-append-drop}
-use Rattle.std.proofs.lemmas.Bool.{and_parts, cond-false, eqb-true, true≢false, cond_both}
+use Rattle.std.specs.List.{position_or_len, list_all}
+use Rattle.std.specs.Str.{IsUtf8, IsCharBoundary}
+use Rattle.std.proofs.lemmas.Str.{IsCharBoundary-start, IsCharBoundary-after_ascii}
+use Rattle.std.proofs.lemmas.Bool.Decides.{nat_tests}
+use Rattle.std.proofs.lemmas.List.Sums.{prefix_len_passes, prefix_len-le-length}
+use Rattle.std.proofs.lemmas.List.{drop_more, drop_all, take_at, drop_at, drop-drop, take-append-drop, take_rest, get_or-drop, length-take-le}
+use Rattle.std.proofs.lemmas.Bool.{and_parts, cond-true, cond-false, eqb-true, true≢false, cond_both}
 use Rattle.mime.specs.Bytes.{quote_byte, backslash_byte, equals_byte}
-use Rattle.mime.specs.Grammar.{IsContent}
+use Rattle.mime.specs.Grammar.{IsContent, is_space}
 use Rattle.mime.specs.Inner.Blocks.{first_position, before_byte, after_byte, IsSuffixOf}
 use Rattle.mime.proofs.BlocksLemmas.{end_all, end_drop}
-use Rattle.mime.specs.Inner.Quoted.{awaits_next, takes, takes_all, awaits_after, len_from, content_len}
+use Rattle.mime.specs.Inner.Quoted.{awaits_next, takes, takes_all, awaits_after, len_from, content_len, BeginsWithPairs}
 use Rattle.mime.proofs.GrammarLemmas.Content.{taken-closes_not, content-taken, content-awaits}
 use Rattle.mime.specs.Values.{lowered, lowered_value}
 use Rattle.mime.specs.Inner.Pairs.{PairCut, cut_after_equals, leading_spaces, without_spaces, cut_of, pairs_within, lowered_first, lowered_within}
 use Rattle.mime.specs.Items.{items_of, IsFirstAccepted}
 use Rattle.mime.proofs.LowercaseLemmas.{lowered_value-either}
 use Rattle.mime.proofs.ValueLemmas.Utf8.{IsLoweredInPart, same, lowercase, in_parts, length-in_part}
+
+-- ---- the spaces with which a list begins
+
+-- a run of spaces is passed
+spaces_run : (run after : List ℕ) → list_all is_space run ≡ true → leading_spaces (run ++ after) ≡ length run + leading_spaces after
+spaces_run [] after all = omega arith
+spaces_run (b ∷ run) after all =
+    let parts = and_parts (is_space b) (list_all is_space run) all in
+    cond-true (is_space b) _ _ parts.0 ∙ omega (arith, spaces_run run after parts.1)
+
+-- a block of spaces is passed at once
+pub spaces_past : (list : List ℕ) (count whole : ℕ) → count + leading_spaces (drop count list) ≡ whole → 16 ≤ length list - count
+    → list_all is_space (take 16 (take (length list - count) (drop count list))) ≡ true
+    → count + 16 + leading_spaces (drop (count + 16) list) ≡ whole
+spaces_past list count whole so_far room blank =
+    let rest = drop count list in
+    let all : list_all is_space (take 16 rest) ≡ true = subst (λ t. list_all is_space (take 16 t) ≡ true) (take_rest list count) blank in
+    let size : length (take 16 rest) ≡ 16 = length-take-le 16 rest (omega (arith, room, length-drop count list)) in
+    let joined : leading_spaces rest ≡ 16 + leading_spaces (drop 16 rest) =
+    ap leading_spaces (sym (take-append-drop 16 rest)) ∙ spaces_run (take 16 rest) (drop 16 rest) all
+    ∙ ap (λ n. n + leading_spaces (drop 16 rest)) size in
+    omega (arith, so_far, joined, ap leading_spaces (drop-drop 16 count list))
+
+-- the list may be cut after them
+pub spaces_border : (list : List ℕ) → IsUtf8 list → IsCharBoundary list (leading_spaces list)
+spaces_border list utf8 = go (leading_spaces list) refl
+  where
+    go : (n : ℕ) → n ≡ leading_spaces list → IsCharBoundary list n
+    go zero is = IsCharBoundary-start list utf8
+    go (suc n) is =
+        let space : is_space (get_or list n 0) ≡ true = prefix_len_passes is_space list n 0 (omega (arith, is)) in
+        let after : IsCharBoundary list (n + 1) =
+        IsCharBoundary-after_ascii list n utf8 (omega (arith, is, prefix_len-le-length is_space list)) (grind (arith, nat_tests, space)) in
+        subst (IsCharBoundary list) (omega arith) after
 
 -- ---- the length of content
 
@@ -90,11 +128,35 @@ search_past_last text position whole e within backslash last =
 
 -- in that search a backslash is passed with the byte that it pairs
 pub search_past_pair : (text : List ℕ) (position whole : ℕ) → position + len_from false (drop position text) ≡ whole → position + 1 < length text
-    → get_or text position 0 ≡ backslash_byte
-    → position + 1 + 1 + len_from false (drop (position + 1 + 1) text) ≡ whole
+    → get_or text position 0 ≡ backslash_byte → position + 2 + len_from false (drop (position + 2) text) ≡ whole
 search_past_pair text position whole e within backslash =
     let at = rw backslash at (len_from-at text position (omega arith)) in
-    omega (arith, e, at, ap (len_from true) (drop_more text (position + 1) 0 within))
+    let next : position + 1 + 1 ≡ position + 2 = omega arith in
+    omega (
+      arith,
+      e,
+      at,
+      ap (len_from true) (drop_more text (position + 1) 0 within),
+      ap (λ n. len_from false (drop n text)) next,
+    )
+
+-- in that search a block of pairs is passed at once
+module _ (text : List ℕ) (position whole : ℕ) (so_far : position + len_from false (drop position text) ≡ whole)
+    (block : BeginsWithPairs (take (length text - position) (drop position text))) where
+  pairs_there : BeginsWithPairs (drop position text)
+  pairs_there = subst BeginsWithPairs (take_rest text position) block
+
+  past : (pairs : ℕ) → pairs ≤ 8 → position + 2 * pairs + len_from false (drop (position + 2 * pairs) text) ≡ whole
+  past zero within = subst (λ n. n + len_from false (drop n text) ≡ whole) (omega arith) so_far
+  past (suc pairs) within =
+      let at : get_or text (position + 2 * pairs) 0 ≡ backslash_byte =
+      sym (get_or-drop position text (2 * pairs) 0) ∙ pairs_there.1 pairs (omega (arith, within)) in
+      subst (λ n. n + len_from false (drop n text) ≡ whole) (omega arith)
+      (search_past_pair text (position + 2 * pairs) whole (past pairs (omega (arith, within)))
+      (omega (arith, within, pairs_there.0, length-drop position text)) at)
+
+  pub search_past_block : position + 16 + len_from false (drop (position + 16) text) ≡ whole
+  search_past_block = past 8 (omega arith)
 
 -- ---- the first quote
 
@@ -252,11 +314,13 @@ cut_after_equals-name : (size : ℕ) (name text : List ℕ) → (cut_after_equal
 cut_after_equals-name size name [] = refl
 cut_after_equals-name size name (b ∷ back) = cond_both (b == quote_byte) _ _ (λ (cut : PairCut). cut.name ≡ name) (λ _. refl) (λ _. refl)
 
--- the cut of a list by its name and what follows the equals sign
-pub cut_of-by_name : (list text name rest : List ℕ) → text ≡ list → name ≡ before_byte equals_byte (without_spaces list)
-    → rest ≡ after_byte equals_byte (without_spaces list) → cut_after_equals (length text) name rest ≡ cut_of list
+-- a part of a cut by the name and what follows the equals sign is that of the whole cut
+pub cut_of-part : {X : Type 0} (part : PairCut → X) (list text name back : List ℕ) (x : X) → text ≡ list
+    → name ≡ before_byte equals_byte (without_spaces list) → back ≡ after_byte equals_byte (without_spaces list)
+    → x ≡ part (cut_after_equals (length text) name back) → x ≡ part (cut_of list)
 unfolding cut_of
-cut_of-by_name list text name rest text_is name_is rest_is = λ i. cut_after_equals (length (text_is i)) (name_is i) (rest_is i)
+cut_of-part part list text name back x text_is name_is back_is is =
+    is ∙ (λ i. part (cut_after_equals (length (text_is i)) (name_is i) (back_is i)))
 
 -- so the cut has that name
 pub cut_of-name : (list name : List ℕ) → name ≡ before_byte equals_byte (without_spaces list) → name ≡ (cut_of list).name

@@ -2,17 +2,19 @@
 
 ghost use Rattle.std.specs.Iterator.{YieldsFirstBy, item_count, UpTo, at_most};
 ghost use Rattle.std.specs.Iterator.SizeHint.{IsWithinCount};
-ghost use Rattle.std.specs.Prelude.{◌≡◌, ◌≤◌, IsTrue, length, slice_get, IfSome, Some, option_map};
+ghost use Rattle.std.specs.Prelude.{◌≡◌, ◌↔◌, ◌≤◌, IsTrue, length, take, slice_get, IfSome, Some, option_map};
+ghost use Rattle.std.specs.List.{list_all};
 ghost use Rattle.std.specs.Str.{IsCharBoundary};
 ghost use Rattle.mime.specs.Inner.Blocks.{before_byte, after_byte, first_position};
 ghost use Rattle.mime.specs.Inner.Pairs.{cut_of, leading_spaces, without_spaces, cut_after_equals, pairs_after, pair_seen};
 ghost use Rattle.mime.specs.Bytes.{quote_byte, semicolon_byte, equals_byte};
 ghost use Rattle.mime.specs.Inner.ComparedText.{IsLoneCharset};
-ghost use Rattle.mime.specs.Inner.Quoted.{content_len};
+ghost use Rattle.mime.specs.Grammar.{is_space};
+ghost use Rattle.mime.specs.Inner.Quoted.{content_len, BeginsWithPairs};
 ghost use Rattle.mime.specs.Inner.KeptText.{AreLowPairs};
 ghost use Rattle.mime.specs.Items.{items_of, name_seen, IsLowIf, IsFirstAccepted};
 
-use crate::blocks::Suffix;
+use crate::blocks::{BLOCK, Suffix};
 use crate::bytes::is_space;
 use crate::name::constants::CHARSET;
 use crate::name::{Name, ParamKey};
@@ -29,6 +31,52 @@ pub(crate) struct Pair<'a> {
     pub(crate) rest: Suffix<'a>,
 }
 
+/// Whether a byte string begins with a block of pairs: each second byte of it, from the first on, is a backslash.
+#[inline(always)]
+fn begins_with_pairs(text: &[u8]) -> bool
+    ensures { IsTrue result ↔ BeginsWithPairs text.now }
+{
+    if text.len() < BLOCK {
+        return false;
+    }
+    let mut pair = 0;
+    while pair < BLOCK / 2 {
+        if text[2 * pair] != b'\\' {
+            return false;
+        }
+        pair += 1;
+    }
+    true
+}
+
+/// The length in bytes of a quoted value's content, searched byte by byte, but for blocks of pairs. It isn't inlined:
+/// few values have a backslash before their first quote.
+#[inline(never)]
+fn content_len_past_pairs(text: &[u8]) -> usize
+    ensures { result ≡ content_len text.now }
+{
+    let mut position = 0;
+    while position < text.len() {
+        if text[position] == b'"' {
+            return position;
+        }
+        if text[position] != b'\\' {
+            position += 1;
+            continue;
+        }
+        if begins_with_pairs(&text[position..]) {
+            position += BLOCK;
+            continue;
+        }
+        if position + 1 == text.len() {
+            return position + 1;
+        }
+        // The byte that it pairs closes nothing.
+        position += 2;
+    }
+    position
+}
+
 /// The length in bytes of a quoted value's content, up to its first unpaired quote or the end. `quote` is the
 /// position of the first quote, or the length if there is none.
 #[inline(always)]
@@ -40,18 +88,41 @@ fn content_len(text: &[u8], quote: usize) -> usize
         // No backslash precedes it, so nothing pairs it.
         return quote;
     }
-    let mut position = 0;
-    while position < text.len() {
-        if text[position] == b'"' {
-            return position;
-        }
-        if text[position] == b'\\' && position + 1 < text.len() {
-            // The byte that it pairs closes nothing.
-            position += 1;
-        }
-        position += 1;
+    content_len_past_pairs(text)
+}
+
+/// Whether the first block of a byte string is spaces and tabs.
+#[inline(always)]
+fn is_blank(text: &[u8]) -> bool
+    requires { BLOCK ≤ length text.now }
+    ensures { result ≡ list_all is_space (take BLOCK text.now) }
+{
+    let mut blank = true;
+    let mut at = 0;
+    while at < BLOCK {
+        blank &= is_space(text[at]);
+        at += 1;
     }
-    position
+    blank
+}
+
+/// The number of spaces and tabs with which a byte string begins, counted block by block, and then byte by byte. It
+/// isn't inlined: few lists begin with more than one.
+#[inline(never)]
+fn count_spaces(bytes: &[u8]) -> usize
+    ensures { result ≡ leading_spaces bytes.now }
+{
+    let mut count = 0;
+    while bytes.len() - count >= BLOCK && is_blank(&bytes[count..]) {
+        count += BLOCK;
+    }
+    while count < bytes.len() {
+        if !is_space(bytes[count]) {
+            return count;
+        }
+        count += 1;
+    }
+    count
 }
 
 /// The number of spaces and tabs with which the list begins.
@@ -61,19 +132,14 @@ fn leading_spaces(list: &str) -> usize
     ensures border { IsCharBoundary list.now result }
 {
     let bytes = list.as_bytes();
+    if bytes.is_empty() || bytes[0] > b' ' {
+        return 0;
+    }
     if bytes.len() > 1 && bytes[0] == b' ' && bytes[1] > b' ' {
         // Most lists begin with one space.
         return 1;
     }
-    let mut count = 0;
-    while count < bytes.len() {
-        // One comparison decides most bytes.
-        if bytes[count] > b' ' || !is_space(bytes[count]) {
-            return count;
-        }
-        count += 1;
-    }
-    count
+    count_spaces(bytes)
 }
 
 /// What follows the first semicolon, or an empty suffix. Most suffixes begin with it, or are empty.

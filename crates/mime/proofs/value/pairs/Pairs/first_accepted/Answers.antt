@@ -5,7 +5,7 @@ use Rattle.mime.specs.Inner.Pairs.{PairCut, cut_of, pairs_within}
 use Rattle.mime.specs.Items.{items_of, IsFirstAccepted}
 use Rattle.mime.specs.Inner.KeptText.{AreLowPairs}
 use Rattle.mime.proofs.ValueLemmas.Parts.{first_value-low, rest-low}
-use Rattle.mime.proofs.ValueLemmas.Pairs.{cut_of-by_name, cut_of-name, found-first, found-next}
+use Rattle.mime.proofs.ValueLemmas.Pairs.{cut_of-part, cut_of-name, found-first, found-next}
 use Rattle.mime.proofs.value.pairs.Pairs.first_accepted.Goals as goal
 
 pub loop-left-init : goal.loop-left-init
@@ -16,8 +16,9 @@ returns-then-accepted-clause-low g c =
     let list = c.loop-left.list in
     let cut = c.cut_name-rest in
     let name = cut_of-name list cut.result.0.now cut.ensures.name in
-    let whole = cut_of-by_name list c.text.result.now cut.result.0.now cut.result.1 c.text.ensures cut.ensures.name cut.ensures.rest in
-    let valued : c.cut_value.result.value.now ≡ (cut_of list).value = c.cut_value.ensures.value ∙ ap (λ (p : PairCut). p.value) whole in
+    let valued : c.cut_value.result.value.now ≡ (cut_of list).value =
+    cut_of-part (λ (p : PairCut). p.value) list c.text.result.now cut.result.0.now cut.result.1 _ c.text.ensures cut.ensures.name
+    cut.ensures.rest c.cut_value.ensures.value in
     let flagged : c.eq.result ≡ bytes_eq (cut_of list).name (codes "charset") = c.eq.ensures ∙ ap (λ n. bytes_eq n (codes "charset")) name in
     first_value-low c.loop-left.left list c.cut_value.result.value.now c.eq.result c.loop-left-test.true c.loop-left.invariant.low
     valued flagged
@@ -27,8 +28,9 @@ returns-then-accepted-clause-found g c =
     let list = c.loop-left.list in
     let cut = c.cut_name-rest in
     let name = cut_of-name list cut.result.0.now cut.ensures.name in
-    let whole = cut_of-by_name list c.text.result.now cut.result.0.now cut.result.1 c.text.ensures cut.ensures.name cut.ensures.rest in
-    let valued : c.cut_value.result.value.now ≡ (cut_of list).value = c.cut_value.ensures.value ∙ ap (λ (p : PairCut). p.value) whole in
+    let valued : c.cut_value.result.value.now ≡ (cut_of list).value =
+    cut_of-part (λ (p : PairCut). p.value) list c.text.result.now cut.result.0.now cut.result.1 _ c.text.ensures cut.ensures.name
+    cut.ensures.rest c.cut_value.ensures.value in
     let flagged : c.eq.result ≡ bytes_eq (cut_of list).name (codes "charset") = c.eq.ensures ∙ ap (λ n. bytes_eq n (codes "charset")) name in
     c.loop-left.invariant.decides _
     (found-first (g.K.ParamKey.Accepts c.args.key.now) c.loop-left.left list c.cut_value.result.value.now c.eq.result c.loop-left-test.true
@@ -51,9 +53,9 @@ loop-left-preserved g c =
     let list = c.loop-left.list in
     let cut = c.cut_name-rest in
     let name = cut_of-name list cut.result.0.now cut.ensures.name in
-    let whole = cut_of-by_name list c.text-in-loop-left.result.now cut.result.0.now cut.result.1 c.text-in-loop-left.ensures
-    cut.ensures.name cut.ensures.rest in
-    let rest : c.cut_value-in-loop-left.result.rest ≡ (cut_of list).rest = c.cut_value-in-loop-left.ensures.rest ∙ ap (λ (p : PairCut). p.rest) whole in
+    let rest : c.cut_value-in-loop-left.result.rest ≡ (cut_of list).rest =
+    cut_of-part (λ (p : PairCut). p.rest) list c.text-in-loop-left.result.now cut.result.0.now cut.result.1 _ c.text-in-loop-left.ensures
+    cut.ensures.name cut.ensures.rest c.cut_value-in-loop-left.ensures.rest in
     record {
       decides = λ found is. c.loop-left.invariant.decides found
           (found-next (g.K.ParamKey.Accepts c.args.key.now) c.loop-left.left list found c.loop-left-test.true

@@ -1,7 +1,7 @@
 -- What is left ends where the whole does.
 use Rattle.std.proofs.Common.{◌≡◌, ◌+◌, ◌-◌, false, length, drop}
 use Rattle.mime.specs.Inner.Quoted.{content_len as len_of, len_from}
-use Rattle.mime.proofs.value.pairs.content_len.Given as goal
+use Rattle.mime.proofs.value.pairs.content_len_past_pairs.Given as goal
 
 abbrev pub invariant-loop-position : goal.invariant-loop-position
 invariant-loop-position l = l.position + len_from false (drop l.position l.text) ≡ len_of l.text
