@@ -7,8 +7,8 @@ use Rattle.mime.specs.Grammar.{AreSpaces}
 use Rattle.mime.specs.Values.{MediaType}
 use Rattle.mime_http.specs.HttpMediaType.{HttpReads, IsHttpMediaType}
 use Rattle.mime_http.specs.HttpList.{lines_or_any, AreBetweenCommas, IsPiece, BeginsPiece, trim_start, trim_end, AreSorted, no_text, blank, a_range, a_bad, Header, IsHeader}
-use Rattle.mime_http.specs.Walk.{Adds, AddsLines}
-use Rattle.mime_http.proofs.Cuts.{cut, are_cut, only_cut}
+use Rattle.mime_http.specs.Walk.{cut, Adds, AddsLines}
+use Rattle.mime_http.proofs.Cuts.{are_cut, only_cut}
 use Rattle.mime_http.proofs.Trims.{blank_from_trimmed, trimmed_from_blank, trim_twice, utf8_before, utf8_trimmed, http_before, http_trimmed}
 
 -- what was pushed is last

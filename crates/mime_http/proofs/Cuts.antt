@@ -1,25 +1,15 @@
 -- The pieces of lines: lines have exactly one cut, which a function gives.
-use Rattle.std.proofs.Common.{◌≡◌, ◌∙◌, ◌==◌, refl, sym, ap, subst, arith, ℕ, Bool, true, false, suc, List, [], ◌∷◌, ◌++◌, ◌≤◌, ◌<◌, ◌-◌, ◌+◌, length, take, drop, get_or}
-use Rattle.std.specs.Prelude.{⊤, if◌then◌else◌, flat_map}
+use Rattle.std.proofs.Common.{◌≡◌, ◌∙◌, ◌==◌, refl, sym, ap, subst, arith, ℕ, Bool, true, false, List, [], ◌∷◌, ◌++◌, ◌<◌, length}
+use Rattle.std.specs.Prelude.{⊤, flat_map}
 use Rattle.std.proofs.lemmas.Bool.Decides.{nat_tests}
-use Rattle.std.proofs.lemmas.List.{append-nil, append_assoc, get_or-drop, length-drop}
-use Rattle.std.proofs.Math.Seq.{take-suc}
+use Rattle.std.proofs.lemmas.List.{append-nil, append_assoc}
 use Rattle.mime_http.specs.declared.list.At.{At}
 use Rattle.mime_http.specs.declared.list.At.TheVariants.{Outside, Equals, Quoted, Paired}
-use Rattle.mime_http.specs.Walk.{after_outside, after, ends}
-use Rattle.mime_http.proofs.Highest.{item_left}
+use Rattle.mime_http.specs.Walk.{after_outside, after, ends, cut_from, cut}
 use Rattle.mime_http.specs.HttpList.{AreBetweenCommas, no_line, line_end, comma, IsInString, string_end, string_byte, string_pair, opens_string, IsPiece, piece_end, piece_byte, piece_string, BeginsPiece}
 use Rattle.mime_http.specs.ListLaws.{OneCut}
 
--- ---- the cut as a function, from a place on
-
-abbrev pub cut_from : At → List ℕ → List ℕ → List (List ℕ)
-cut_from place piece [] = piece ∷ []
-cut_from place piece (b ∷ bytes) =
-    if ends place b then piece ∷ cut_from Outside [] bytes else cut_from (after place b) (piece ++ (b ∷ [])) bytes
-
-abbrev pub cut : List ℕ → List (List ℕ)
-cut line = cut_from Outside [] line
+-- ---- from a place on
 
 -- from a place on, bytes lead to a place, and no piece ends in them
 record Passes (from : At) (bytes : List ℕ) (to : At) : Type 0 where
@@ -42,19 +32,19 @@ passes_to {p} {q} {r} {xs} there passes = subst (λ place. Passes p xs place) th
 
 -- ---- the places outside strings
 
-abbrev IsOutside : At → Type 0
+abbrev pub IsOutside : At → Type 0
 IsOutside Outside = ⊤
 IsOutside Equals = ⊤
 IsOutside Quoted = ⊥
 IsOutside Paired = ⊥
 
-goes_on : (place : At) (b : ℕ) → (b == 44) ≡ false → ends place b ≡ false
+pub goes_on : (place : At) (b : ℕ) → (b == 44) ≡ false → ends place b ≡ false
 goes_on Outside b is = is
 goes_on Equals b is = is
 goes_on Quoted b is = refl
 goes_on Paired b is = refl
 
-comma_ends : (place : At) → IsOutside place → ends place 44 ≡ true
+pub comma_ends : (place : At) → IsOutside place → ends place 44 ≡ true
 comma_ends Outside is = refl
 comma_ends Equals is = refl
 comma_ends Quoted is = absurd is
@@ -307,30 +297,3 @@ are_cut (line ∷ lines) =
 
 pub one_cut : OneCut
 one_cut lines = (flat_map cut lines, are_cut lines, λ other is. only_cut is)
-
--- ---- the cut of a line from a position on
-
-taken : (value : List ℕ) (start at : ℕ) → start ≤ at → at < length value
-    → take (at - start) (drop start value) ++ (get_or value at 0 ∷ []) ≡ take (at + 1 - start) (drop start value)
-taken value start at from within =
-    let next : suc (at - start) ≡ at + 1 - start = omega (arith, from) in
-    let there : start + (at - start) ≡ at = omega (arith, from) in
-    let same : get_or (drop start value) (at - start) 0 ≡ get_or value at 0 =
-    get_or-drop start value (at - start) 0 ∙ ap (λ i. get_or value i 0) there in
-    ap (λ b. take (at - start) (drop start value) ++ (b ∷ [])) (sym same)
-    ∙ (sym (take-suc (drop start value) (at - start) 0 (omega (arith, length-drop start value, within, from)))
-    ∙ ap (λ n. take n (drop start value)) next)
-
-pub cut_ends : (place : At) (value : List ℕ) (start at : ℕ) → at < length value → ends place (get_or value at 0) ≡ true
-    → cut_from place (take (at - start) (drop start value)) (drop at value)
-    ≡ take (at - start) (drop start value) ∷ cut (drop (at + 1) value)
-cut_ends place value start at within end =
-    ap (cut_from place (take (at - start) (drop start value))) (item_left value at 0 within) ∙ (rw end refl)
-
-pub cut_goes_on : (place : At) (value : List ℕ) (start at : ℕ) → start ≤ at → at < length value
-    → ends place (get_or value at 0) ≡ false
-    → cut_from place (take (at - start) (drop start value)) (drop at value)
-    ≡ cut_from (after place (get_or value at 0)) (take (at + 1 - start) (drop start value)) (drop (at + 1) value)
-cut_goes_on place value start at from within on =
-    ap (cut_from place (take (at - start) (drop start value))) (item_left value at 0 within)
-    ∙ (rw on (ap (λ piece. cut_from (after place (get_or value at 0)) piece (drop (at + 1) value)) (taken value start at from within)))

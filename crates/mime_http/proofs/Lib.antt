@@ -19,6 +19,7 @@ pub mod LooseBytes
 pub mod NegotiationFacts
 pub mod Order
 pub mod Others
+pub mod Pieces
 pub mod Places
 pub mod PlacesAgain
 pub mod Ranks

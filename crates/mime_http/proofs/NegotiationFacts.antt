@@ -9,7 +9,8 @@ use Rattle.mime_http.specs.HttpMediaType.{HttpReads, no_more, IsHttpMediaType}
 use Rattle.mime_http.specs.HttpList.{no_line, line_end, comma, no_text, blank, a_range, AreHttpLists, IsPiece, trim_start, trim_end, a_bad, IsHeader}
 use Rattle.mime_http.specs.Ranges.{closeness, given_weight, best_offer, AreInOrder}
 use Rattle.mime_http.specs.Weight.{thousandths_of}
-use Rattle.mime_http.proofs.Cuts.{cut, cut_of_piece, are_cut}
+use Rattle.mime_http.specs.Walk.{cut}
+use Rattle.mime_http.proofs.Cuts.{cut_of_piece, are_cut}
 use Rattle.std.proofs.lemmas.Bool.{true≢false}
 use Rattle.mime.proofs.GrammarLemmas.Readings.{stopped-from_walk}
 use Rattle.mime_http.specs.Tight.{tight}

@@ -142,7 +142,7 @@ left_at_start piece = go (list_all is_space piece) refl
     go true all = rw all (sym (all_trimmed piece all))
     go false some = rw some refl
 
-next_taken : (piece : List ℕ) (at : ℕ) → at < length piece → take at piece ++ (get_or piece at 0 ∷ []) ≡ take (at + 1) piece
+pub next_taken : (piece : List ℕ) (at : ℕ) → at < length piece → take at piece ++ (get_or piece at 0 ∷ []) ≡ take (at + 1) piece
 next_taken piece at within =
     let next : suc at ≡ at + 1 = omega arith in sym (take-suc piece at 0 within) ∙ ap (λ n. take n piece) next
 

@@ -1,5 +1,5 @@
--- Private: the places of a line at which its cut knows what comes, and what is added to a header.
-use Rattle.std.specs.Prelude.{◌≡◌, ℕ, Bool, false, List, ◌++◌, if◌then◌else◌, ◌==◌}
+-- Private: the places of a line at which its cut knows what comes, the cut as a function, and what is added to a header.
+use Rattle.std.specs.Prelude.{◌≡◌, ◌<◌, ◌≤◌, ◌||◌, ℕ, Bool, false, List, [], ◌∷◌, ◌++◌, slice_index, if◌then◌else◌, ◌==◌}
 use Rattle.mime.specs.Bytes.{comma_byte, equals_byte, quote_byte, backslash_byte}
 use Rattle.mime.specs.Values.{MediaType}
 use Rattle.mime_http.specs.HttpList.{AreBetweenCommas, AreSorted, IsPiece, BeginsPiece, Header}
@@ -23,6 +23,28 @@ ends Outside b = b == comma_byte
 ends Equals b = b == comma_byte
 ends Quoted b = false
 ends Paired b = false
+
+-- the pieces of a line, from a place on, of which the first begins with these bytes
+abbrev pub cut_from : At → List ℕ → List ℕ → List (List ℕ)
+cut_from place piece [] = piece ∷ []
+cut_from place piece (b ∷ bytes) =
+    if ends place b then piece ∷ cut_from Outside [] bytes else cut_from (after place b) (piece ++ (b ∷ [])) bytes
+
+abbrev pub cut : List ℕ → List (List ℕ)
+cut line = cut_from Outside [] line
+
+-- those after a comma
+abbrev pub cut_after : List ℕ → List (List ℕ)
+cut_after [] = []
+cut_after (b ∷ bytes) = cut bytes
+
+-- whether a byte outside strings may end a piece or open a string
+abbrev pub is_mark : ℕ → Bool
+is_mark b = b == comma_byte || b == quote_byte
+
+-- no byte from a position to another is one
+abbrev pub AreUnmarked : List ℕ → ℕ → ℕ → Type 0
+AreUnmarked bytes from to = (k : ℕ) → from ≤ k → k < to → is_mark (slice_index bytes k) ≡ false
 
 -- a header holds what pieces are after what it held
 pub record Adds (pieces : List (List ℕ)) (old new : Header) : Type 0 where

@@ -8,7 +8,7 @@ ghost use Rattle.mime_http.specs.HttpList.{trim_start, trim_end, AreBetweenComma
 ghost use Rattle.mime_http.specs.Ranges.{given_weight, best_offer, AreInOrder};
 ghost use Rattle.mime_http.specs.Walk.{Adds, AddsLines};
 
-use crate::list::{At, after, ends, goes_on, trim_end, trim_start};
+use crate::list::{piece_len, trim_end, trim_start};
 use crate::offers::{best_of, merit, order_of};
 use crate::value::{read_tight, text_of};
 use mime::{Mime, ParseError};
@@ -59,7 +59,7 @@ impl Accept {
         if let ParseError::NoMemory = fault {
             return Err(AllocError);
         }
-        match read_tight(alloc, entry, fault)? {
+        match read_tight(alloc, entry.as_bytes(), fault)? {
             Some(range) => self.ranges.push(range)?,
             None => self.add_bad(alloc, entry.as_bytes())?,
         }
@@ -91,22 +91,15 @@ impl Accept {
         ensures nothing { (pieces : List (List ℕ)) → AreBetweenCommas IsPiece BeginsPiece (line.now ∷ []) pieces → AreSorted pieces [] []
             → IsOk result }
     {
-        let mut start = 0;
-        let mut place = At::Outside;
-        for (at, &byte) in line.iter().enumerate() {
-            // The short way for most bytes.
-            if goes_on(place, byte) {
-                continue;
-            }
-            if ends(place, byte) {
-                self.add(alloc, &line[start..at])?;
-                start = at + 1;
-                place = At::Outside;
-            } else {
-                place = after(place, byte);
+        let mut left = line;
+        loop {
+            let end = piece_len(left);
+            self.add(alloc, &left[..end])?;
+            match left[end..].split_first() {
+                Some((_comma, rest)) => left = rest,
+                None => return Ok(()),
             }
         }
-        self.add(alloc, &line[start..])
     }
 
     /// Reads a header's lines, which are one list (RFC 9110, 5.3 and 12.5.1). Each line is cut at its commas outside quoted values; a

@@ -93,16 +93,17 @@ fn text_of_tight(tight: &[u8]) -> &str
 #[inline(never)]
 pub(crate) fn read_tight(
     alloc: Global,
-    value: &str,
+    value: &[u8],
     fault: ParseError,
 ) -> Result<Option<Mime>, AllocError>
-    requires { IsFault value.now fault }
+    requires utf8 { IsUtf8 value.now }
+    requires fault { IsFault value.now fault }
     ensures { IfOk result (λ answer. MatchOption answer (¬ (IsHttpMediaType value.now)) (λ mime. HttpReads value.now mime.media)) }
 {
-    let Some(loose) = first_loose(value.as_bytes(), fault) else {
+    let Some(loose) = first_loose(value, fault) else {
         return Ok(None);
     };
-    let tight = tightened(alloc, value.as_bytes(), loose)?;
+    let tight = tightened(alloc, value, loose)?;
     match Mime::from_str(alloc, text_of_tight(&tight)) {
         Ok(mime) => Ok(Some(mime)),
         Err(error) => match error.fault() {
@@ -115,18 +116,19 @@ pub(crate) fn read_tight(
 /// The media type of a value that the library rejects as it stands, for this fault, or its fault as HTTP writes it. It isn't inlined, so
 /// that reading a value that the library accepts stays short.
 #[inline(never)]
-fn read_rejected(alloc: Global, value: &str, fault: ParseError) -> Result<Mime, FieldError>
+fn read_rejected(alloc: Global, value: &[u8], fault: ParseError) -> Result<Mime, FieldError>
+    requires utf8 { IsUtf8 value.now }
     requires other { value.now ≢ codes "*/*" }
     requires fault { IsFault value.now fault }
-    ensures http { IfOk result (λ mime. IsUtf8 value.now × HttpReads value.now mime.media) }
+    ensures http { IfOk result (λ mime. HttpReads value.now mime.media) }
     ensures kept { IfOk result (λ mime. Reads (tight value.now) mime.media) }
     ensures explained { IfErr result (λ error. HttpExplains value.now error) }
     ensures accepted { IsHttpMediaType value.now → IfErr result (λ error. error ≡ FieldError.NoMemory) }
 {
-    let Some(loose) = first_loose(value.as_bytes(), fault) else {
+    let Some(loose) = first_loose(value, fault) else {
         return Err(FieldError::Invalid(fault));
     };
-    let Ok(tight) = tightened(alloc, value.as_bytes(), loose) else {
+    let Ok(tight) = tightened(alloc, value, loose) else {
         return Err(FieldError::NoMemory);
     };
     let text = text_of_tight(&tight);
@@ -134,7 +136,7 @@ fn read_rejected(alloc: Global, value: &str, fault: ParseError) -> Result<Mime, 
         Ok(mime) => Ok(mime),
         Err(error) => match error.fault() {
             ParseError::NoMemory => Err(FieldError::NoMemory),
-            fault => Err(FieldError::Invalid(fault_in(alloc, value.as_bytes(), text, *fault))),
+            fault => Err(FieldError::Invalid(fault_in(alloc, value, text, *fault))),
         },
     }
 }
@@ -175,7 +177,7 @@ pub fn content_type(alloc: Global, value: &[u8]) -> Result<Mime, FieldError>
         Ok(mime) => Ok(mime),
         Err(error) => match error.fault() {
             ParseError::NoMemory => Err(FieldError::NoMemory),
-            fault => read_rejected(alloc, text, *fault),
+            fault => read_rejected(alloc, value, *fault),
         },
     }
 }

@@ -1,14 +1,13 @@
 -- What the library reads as it stands is what HTTP writes, and stays as it is.
-use Rattle.std.proofs.Common.{rules, arith, ◌≡◌, ◌∙◌, [], ◌∷◌, subst, sym}
-use Rattle.std.specs.Prelude.{IfOk, IfErr}
+use Rattle.std.proofs.Common.{rules, arith, ◌≡◌, ◌∙◌, refl, ℕ, List, [], ◌∷◌, subst, sym}
 use Rattle.std.specs.Str.{IsUtf8}
 use Rattle.std.proofs.lemmas.Bool.{true≢false}
 use Rattle.std.proofs.lemmas.Str.{IsUtf8-from_ascii}
 use Rattle.std.proofs.lemmas.Str.Ascii.{IsAscii-cons, IsAscii-nil}
 use Rattle.mime.specs.Values.{Reads}
-use Rattle.mime_http.specs.HttpMediaType.{HttpReads, IsHttpMediaType}
-use Rattle.mime_http.specs.HttpFaults.{HttpExplains}
-use Rattle.mime_http.specs.Tight.{tight}
+use Rattle.mime.specs.Faults.{IsFault, Explains}
+use Rattle.mime.specs.declared.scan.fault.ParseError.{ParseError}
+use Rattle.mime.specs.declared.scan.fault.ParseError.TheVariants.{NoMemory}
 use Rattle.mime_http.proofs.Places.{accepted_stays}
 use Rattle.mime_http.proofs.HttpLaws.{plain_is_http}
 use Rattle.mime_http.proofs.value.content_type.Goals as goal
@@ -34,13 +33,17 @@ returns-in-Ok-from_str-clause-kept c =
     let read = subst (λ text. Reads text c.in-Ok-from_str.mime.media) text c.in-Ok-from_str.ensures.read in
     subst (λ text. Reads text c.in-Ok-from_str.mime.media) (sym (accepted_stays c.args.value.now (_, read))) read
 
-pub returns-in_default : goal.returns-in_default
-returns-in_default c =
+is_fault : (text : List ℕ) (fault : ParseError) → ¬ (fault ≡ NoMemory) → Explains text fault → IsFault text fault
+is_fault text NoMemory other is = absurd (other refl)
+is_fault text fault other is = is
+
+pub read_rejected-requires : goal.read_rejected-requires
+read_rejected-requires c =
     let text : c.in-Ok.text.now ≡ c.args.value.now = search rules in
     record {
-      http = subst (λ value. IfOk c.read_rejected.result (λ mime. IsUtf8 value × HttpReads value mime.media)) text c.read_rejected.ensures.http;
-      kept = subst (λ value. IfOk c.read_rejected.result (λ mime. Reads (tight value) mime.media)) text c.read_rejected.ensures.kept;
-      explained = subst (λ value. IfErr c.read_rejected.result (λ error. HttpExplains value error)) text c.read_rejected.ensures.explained;
-      accepted = λ utf8 is. c.read_rejected.ensures.accepted (subst IsHttpMediaType (sym text) is);
-      star = λ is. absurd (true≢false (sym (c.in-Err-from_str.ensures.star (text ∙ is)).1));
+      utf8 = search rules;
+      other = λ is. absurd (true≢false (sym (c.in-Err-from_str.ensures.star (text ∙ is)).1));
+      fault = subst (λ value. IsFault value c.fault.result.now) text
+          (is_fault c.in-Ok.text.now c.fault.result.now c.in_default.not-NoMemory
+          (subst (Explains c.in-Ok.text.now) (sym c.fault.ensures) c.in-Err-from_str.ensures.explained));
     }

@@ -2,35 +2,36 @@
 use Rattle.std.proofs.Common.{rules, ◌≡◌, ◌∙◌, subst, sym}
 use Rattle.std.specs.Str.{IsUtf8}
 use Rattle.mime.specs.Values.{Reads, IsAccepted}
-use Rattle.mime_http.specs.HttpFaults.{IsHttpFault}
 use Rattle.mime_http.specs.Tight.{tight}
-use Rattle.mime_http.specs.Loose.{Stands}
 use Rattle.mime_http.proofs.HttpBack.{read_is_http}
 use Rattle.mime_http.proofs.HttpLaws.{accepted_from_http}
 use Rattle.mime_http.proofs.HttpText.{tight_utf8}
 use Rattle.mime_http.proofs.value.read_rejected.Goals as goal
 
 pub returns-in_default : goal.returns-in_default
-returns-in_default c =
-    let stands = subst (λ value. Stands value c.args.fault) c.as_bytes.ensures.value c.in_default.ensures in
-    record { http = tt; kept = tt; explained = (c.utf8.value, stands.is); accepted = λ is. absurd (stands.rejected is) }
+returns-in_default c = record {
+  http = tt;
+  kept = tt;
+  explained = (c.requires.utf8, c.in_default.ensures.is);
+  accepted = λ is. absurd (c.in_default.ensures.rejected is);
+}
 
 pub text_of_tight-text-requires : goal.text_of_tight-text-requires
 text_of_tight-text-requires c =
     let left : c.deref.result.now ≡ tight c.args.value.now = search rules in
-    subst IsUtf8 (sym left) ((tight_utf8 c.args.value.now).0 c.utf8.value)
+    subst IsUtf8 (sym left) ((tight_utf8 c.args.value.now).0 c.requires.utf8)
 
 pub returns-in-Ok-from_str-clause-http : goal.returns-in-Ok-from_str-clause-http
 returns-in-Ok-from_str-clause-http c =
     let left : c.text_of_tight-text.result.now ≡ tight c.args.value.now = search rules in
     let read = subst (λ text. Reads text c.in-Ok-from_str.mime.media) left c.in-Ok-from_str.ensures.read in
-    (c.utf8.value, read_is_http c.args.value.now c.in-Ok-from_str.mime.media read)
+    read_is_http c.args.value.now c.in-Ok-from_str.mime.media read
 
 pub returns : goal.returns
 returns c = record {
   http = tt;
   kept = tt;
-  explained = (c.utf8.value, subst (λ value. IsHttpFault value c.fault_in.result) c.as_bytes-in_default-fault.ensures.value c.fault_in.ensures);
+  explained = (c.requires.utf8, c.fault_in.ensures);
   accepted = λ is.
       let left : c.text_of_tight-text.result.now ≡ tight c.args.value.now = search rules in
       absurd (c.in_default-fault.not-NoMemory (c.fault.ensures

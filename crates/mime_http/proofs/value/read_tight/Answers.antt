@@ -3,19 +3,18 @@ use Rattle.std.proofs.Common.{rules, ◌≡◌, ◌∙◌, subst, sym}
 use Rattle.std.specs.Str.{IsUtf8}
 use Rattle.mime.specs.Values.{Reads, IsAccepted}
 use Rattle.mime_http.specs.Tight.{tight}
-use Rattle.mime_http.specs.Loose.{Stands}
 use Rattle.mime_http.proofs.HttpBack.{read_is_http}
 use Rattle.mime_http.proofs.HttpLaws.{accepted_from_http}
 use Rattle.mime_http.proofs.HttpText.{tight_utf8}
 use Rattle.mime_http.proofs.value.read_tight.Goals as goal
 
 pub returns-in_default : goal.returns-in_default
-returns-in_default c = (subst (λ value. Stands value c.args.fault) c.as_bytes.ensures.value c.in_default.ensures).rejected
+returns-in_default c = c.in_default.ensures.rejected
 
 pub text_of_tight-requires : goal.text_of_tight-requires
 text_of_tight-requires c =
     let left : c.deref.result.now ≡ tight c.args.value.now = search rules in
-    subst IsUtf8 (sym left) ((tight_utf8 c.args.value.now).0 c.utf8.value)
+    subst IsUtf8 (sym left) ((tight_utf8 c.args.value.now).0 c.requires.utf8)
 
 pub returns-in-Ok : goal.returns-in-Ok
 returns-in-Ok c =

@@ -25,4 +25,4 @@ returns-in_ok-add_bad-in-None c =
     add_bad entry (λ none. c.requires.some (sym trimmed ∙ none)) (λ both. isnt (subst IsHttpMediaType trimmed both.1))
     c.in_ok-add_bad-in-None.ensures.ranges
     (c.in_ok-add_bad-in-None.ensures.bad
-    ∙ ap (λ e. c.args.self.now.bad ++ (trim_end e ∷ [])) (c.as_bytes.ensures.value ∙ sym trimmed))
+    ∙ ap (λ e. c.args.self.now.bad ++ (trim_end e ∷ [])) (c.as_bytes-in-None.ensures.value ∙ sym trimmed))

@@ -9,7 +9,8 @@ use Rattle.std.proofs.Math.ListN.{drop_of_length-le}
 use Rattle.mime_http.specs.HttpList.{AreSorted, Header, IsHeader, lines_or_any}
 use Rattle.mime_http.specs.Walk.{Adds, AddsLines}
 use Rattle.mime_http.proofs.Adds.{SoFar, none_so_far, some_more, all_added, pieces_added, is_header, middle_is_blank, left_is_nothing, first_is_nothing}
-use Rattle.mime_http.proofs.Cuts.{cut, are_cut, only_cut}
+use Rattle.mime_http.specs.Walk.{cut}
+use Rattle.mime_http.proofs.Cuts.{are_cut, only_cut}
 use Rattle.mime_http.proofs.Highest.{item_left}
 use Rattle.mime_http.proofs.accept.Accept.from_lines.Goals as goal
 use Rattle.mime_http.proofs.accept.Accept.from_lines.Goals.{then-is_empty+in_ok-add, else-is_empty}

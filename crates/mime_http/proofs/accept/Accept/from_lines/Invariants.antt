@@ -3,7 +3,7 @@ use Rattle.std.proofs.Common.{[], map, drop}
 use Rattle.std.specs.Prelude.{flat_map}
 use Rattle.mime_http.specs.HttpList.{lines_or_any}
 use Rattle.mime_http.proofs.Adds.{SoFar}
-use Rattle.mime_http.proofs.Cuts.{cut}
+use Rattle.mime_http.specs.Walk.{cut}
 use Rattle.mime_http.proofs.accept.Accept.from_lines.Given as goal
 
 abbrev pub invariant-loop-line : goal.invariant-loop-line

@@ -1,0 +1,13 @@
+-- Each byte is compared in a lane of its own.
+use Rattle.std.proofs.Common.{ℕ, bit_or}
+use Rattle.std.proofs.lemmas.Simd.{zip2_splat, zip2_of_maps, length-chunk}
+use lib.Lanes.{chunk}
+use Rattle.mime_http.proofs.Pieces.{marks}
+use Rattle.mime_http.proofs.list.marks_in_block.Goals as goal
+
+pub returns : goal.returns
+returns c =
+    let v = chunk c.args.at 16 c.args.text.now in
+    let long = length-chunk c.args.at 16 c.args.text.now c.requires in
+    marks c.args.text.now c.args.at _ c.requires c.type_inv.text
+    (zip2_of_maps bit_or _ _ v (zip2_splat {Y = ℕ} _ v 16 44 long) (zip2_splat {Y = ℕ} _ v 16 34 long))
