@@ -8,7 +8,7 @@ use Rattle.std.proofs.lemmas.Bool.{and_parts, and_from, or_parts, cases_Bool, ca
 use Rattle.std.proofs.lemmas.Bool.Decides.{nat_tests}
 use Rattle.std.proofs.lemmas.Grind.{flat_map-append}
 use Rattle.std.proofs.lemmas.Str.{encode_ascii, encodes-append}
-use Rattle.mime.specs.Bytes.{is_token_byte, is_quoted_byte}
+use Rattle.mime.specs.Bytes.{is_token_byte, is_quoted_byte, is_quoted_text_byte}
 use Rattle.mime.specs.Grammar.{IsToken, IsContent, no_byte, text_byte, quoted_pair}
 use Rattle.mime.specs.HeaderLaws.{AreHeaderBytes}
 use Rattle.mime.specs.Values.{lowered, is_charset}
@@ -25,7 +25,7 @@ is_special b = b == 34 || b == 92
 
 -- ---- bytes that need no backslash
 
-plain_class : (p : ℕ → Bool) → ((b : ℕ) → p b ≡ true → is_special b ≡ false) → (bytes : List ℕ) → list_all p bytes ≡ true
+pub plain_class : (p : ℕ → Bool) → ((b : ℕ) → p b ≡ true → is_special b ≡ false) → (bytes : List ℕ) → list_all p bytes ≡ true
     → escaped bytes ≡ bytes
 plain_class p fits [] all = refl
 plain_class p fits (b ∷ bytes) all =
@@ -39,17 +39,25 @@ safe_class p fits (b ∷ bytes) all =
     let parts = and_parts (p b) (list_all p bytes) all in
     and_from (is_quoted_byte b) (list_all is_quoted_byte bytes) (fits b parts.0) (safe_class p fits bytes parts.1)
 
-token_plain : (b : ℕ) → is_token_byte b ≡ true → is_special b ≡ false
+pub token_plain : (b : ℕ) → is_token_byte b ≡ true → is_special b ≡ false
 unfolding is_token_byte
 token_plain b is = grind (arith, nat_tests)
 
-token_safe : (b : ℕ) → is_token_byte b ≡ true → is_quoted_byte b ≡ true
+pub token_safe : (b : ℕ) → is_token_byte b ≡ true → is_quoted_byte b ≡ true
 unfolding is_token_byte is_quoted_byte
 token_safe b is = grind (arith, nat_tests)
 
 bchar_safe : (b : ℕ) → is_bchar b ≡ true → is_quoted_byte b ≡ true
 unfolding is_quoted_byte
 bchar_safe b is = grind (arith, nat_tests)
+
+pub text_plain : (b : ℕ) → is_quoted_text_byte b ≡ true → is_special b ≡ false
+text_plain b is = grind (arith, nat_tests, (and_parts (is_quoted_byte b) _ is).1)
+
+pub bchar_text : (b : ℕ) → is_bchar b ≡ true → is_quoted_text_byte b ≡ true
+bchar_text b is =
+    let plain : is_special b ≡ false = grind (arith, nat_tests) in
+    rw (bchar_safe b is, plain) refl
 
 pub token_is_plain : (bytes : List ℕ) → IsToken bytes → escaped bytes ≡ bytes
 token_is_plain bytes token = plain_class is_token_byte token_plain bytes (AreTokenBytes-from_token bytes token)

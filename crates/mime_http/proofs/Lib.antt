@@ -5,6 +5,7 @@ pub mod Contents
 pub mod Cuts
 pub mod Demanded
 pub mod First
+pub mod Forms
 pub mod Highest
 pub mod HttpBack
 pub mod HttpFacts

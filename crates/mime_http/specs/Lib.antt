@@ -16,3 +16,4 @@ pub mod Tight
 pub mod Loose
 pub mod Reached
 pub mod Walk
+pub mod Forms

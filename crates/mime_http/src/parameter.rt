@@ -1,16 +1,18 @@
 //! A parameter written into a media type, as a header then holds it.
 
-ghost use Rattle.std.specs.Prelude.{◌≡◌, ◌++◌, ◌∷◌, [], ◌↔◌, IsTrue, IfOk, IfSome, OnOk, is_some, codes, string_bytes};
+ghost use Rattle.std.specs.Prelude.{◌≡◌, ◌++◌, ◌↔◌, IsTrue, IfOk, IfSome, OnOk, is_some, if◌then◌else◌, codes, string_bytes};
 ghost use Rattle.mime.specs.Grammar.{IsToken};
 ghost use Rattle.mime.specs.HeaderLaws.{AreHeaderBytes};
 ghost use Rattle.mime.specs.Values.{lowered, lowered_value};
 ghost use Rattle.mime_http.specs.Boundary.{IsBoundary};
-ghost use Rattle.mime_http.specs.Written.{escaped, is_token_value, text_of_pair, text_of_pairs, others, with_pair};
+ghost use Rattle.mime_http.specs.Forms.{form_of, text_in};
+ghost use Rattle.mime_http.specs.Written.{escaped, is_token_value, text_of_pairs, others, with_pair};
+ghost use Rattle.mime_http.specs.declared.quoted.Form.TheVariants.{Token, Quoted};
 
 use crate::multipart::is_boundary;
-use crate::quoted::escape;
+use crate::quoted::{Form, form_of, push_escaped};
 use mime::laws::{kept_is_safe, one_reading};
-use mime::{Mime, is_quoted_byte, is_token, name_eq_str};
+use mime::{Mime, is_token, name_eq_str};
 use std::alloc::{AllocError, Global};
 
 /// Whether a string is a token.
@@ -25,49 +27,92 @@ fn is_token_text(text: &str) -> bool
     !text.is_empty()
 }
 
-/// Whether a quoted string can mean this: it has no control character other than the tab.
-fn can_be_quoted(value: &str) -> bool
-    ensures { IsTrue result ↔ AreHeaderBytes value.now }
+/// How a value is written that needs no backslashes but those that it has.
+fn form_of_content(content: &str) -> Form
+    ensures { result ≡ (if is_token_value content.now then Token else Quoted) }
 {
-    for &byte in value.as_bytes() {
-        if !is_quoted_byte(byte) {
-            return false;
-        }
+    if is_token_text(content) {
+        Form::Token
+    } else {
+        Form::Quoted
     }
-    true
 }
 
-/// Adds a parameter to a text: its value as it is if that is a token, else in quotes.
-fn push_parameter(text: &mut String, name: &str, value: &str) -> Result<(), AllocError>
-    ensures { OnOk result (string_bytes text.new ≡ string_bytes text.old ++ text_of_pair (name.now, value.now)) }
+/// Adds a parameter in this form to a text.
+fn push_parameter(text: &mut String, name: &str, value: &str, form: Form) -> Result<(), AllocError>
+    ensures { OnOk result (string_bytes text.new ≡ string_bytes text.old ++ text_in form name.now value.now) }
 {
-    let quote = if is_token_text(value) { "" } else { "\"" };
-    text.push_str("; ")?;
+    text.push(';')?;
+    text.push(' ')?;
     text.push_str(name)?;
-    text.push_str("=")?;
-    text.push_str(quote)?;
-    text.push_str(value)?;
-    text.push_str(quote)
+    text.push('=')?;
+    match form {
+        Form::Token => text.push_str(value),
+        Form::Quoted => {
+            text.push('"')?;
+            text.push_str(value)?;
+            text.push('"')
+        }
+        Form::Escaped => {
+            text.push('"')?;
+            push_escaped(text, value)?;
+            text.push('"')
+        }
+    }
 }
 
 /// A media type's essence, its parameters of other names, and this one.
-fn text_with(alloc: Global, mime: &Mime, name: &str, content: &str) -> Result<String, AllocError>
+fn text_with(
+    alloc: Global,
+    mime: &Mime,
+    name: &str,
+    value: &str,
+    form: Form,
+) -> Result<String, AllocError>
     ensures { IfOk result (λ text. string_bytes text
-        ≡ mime.now.media.essence ++ text_of_pairs (others name.now mime.now.media.pairs ++ ((name.now, content.now) ∷ []))) }
+        ≡ mime.now.media.essence ++ (text_of_pairs (others name.now mime.now.media.pairs) ++ text_in form name.now value.now)) }
 {
+    let content = match form {
+        Form::Token | Form::Quoted => value.len(),
+        Form::Escaped => value.len().saturating_mul(2),
+    };
     // The kept text has the parameters that stay; the rest is the new one with its marks, of which there are five at most.
-    let added = name.len().saturating_add(content.len()).saturating_add(5);
+    let added = name.len().saturating_add(content).saturating_add(5);
     let room = mime.as_str().len().saturating_add(added);
     let mut text = String::with_capacity(alloc, room)?;
     text.push_str(mime.essence_str())?;
-    for (other, value) in mime.params() {
+    for (other, kept) in mime.params() {
         if name_eq_str(&other, name) {
             continue;
         }
-        push_parameter(&mut text, other.text, value.text)?;
+        push_parameter(&mut text, other.text, kept.text, form_of_content(kept.text))?;
     }
-    push_parameter(&mut text, name, content)?;
+    push_parameter(&mut text, name, value, form)?;
     Ok(text)
+}
+
+/// The media type with this parameter in place of those of its name.
+fn mime_with(
+    alloc: Global,
+    mime: &Mime,
+    name: &str,
+    value: &str,
+    form: Form,
+) -> Result<Mime, AllocError>
+    requires named { IsToken name.now }
+    requires safe { AreHeaderBytes value.now }
+    requires fits { form ≡ form_of value.now }
+    ensures { IfOk result (λ made. made.media ≡ with_pair mime.now.media (lowered name.now) (lowered_value name.now (escaped value.now))) }
+{
+    let _kept = mime.as_str();
+    kept_is_safe();
+    one_reading();
+    let text = text_with(alloc, mime, name, value, form)?;
+    match Mime::from_str(alloc, &text) {
+        Ok(made) => Ok(made),
+        // The text is accepted, so memory ran out.
+        Err(_) => Err(AllocError),
+    }
 }
 
 /// Returns the media type with this parameter in place of those of its name, ignoring ASCII case (RFC 9110, 5.6.6). The other
@@ -81,7 +126,7 @@ fn text_with(alloc: Global, mime: &Mime, name: &str, content: &str) -> Result<St
 /// [`unescape`](crate::unescape) of the parameter's value gives it back, that of a `charset` in lowercase. The others are printed so
 /// too, with the backslashes that they have: `a/b;p="x"` with the parameter `q` and the value `1` is `a/b; p=x; q=1`.
 ///
-/// It allocates the value with its backslashes, the text, and what is kept of it.
+/// It allocates the text, and what is kept of it.
 ///
 /// # Errors
 /// `AllocError` if memory runs out.
@@ -95,18 +140,12 @@ pub fn with_parameter(
     ensures made { IfOk result (λ answer. IfSome answer
         (λ made. made.media ≡ with_pair mime.now.media (lowered name.now) (lowered_value name.now (escaped value.now)))) }
 {
-    if !is_token_text(name) || !can_be_quoted(value) {
+    if !is_token_text(name) {
         return Ok(None);
     }
-    let _kept = mime.as_str();
-    kept_is_safe();
-    one_reading();
-    let content = escape(alloc, value)?;
-    let text = text_with(alloc, mime, name, &content)?;
-    match Mime::from_str(alloc, &text) {
-        Ok(made) => Ok(Some(made)),
-        // The text is accepted, so memory ran out.
-        Err(_) => Err(AllocError),
+    match form_of(value) {
+        Some(form) => Ok(Some(mime_with(alloc, mime, name, value, form)?)),
+        None => Ok(None),
     }
 }
 
@@ -122,7 +161,7 @@ pub fn with_charset(alloc: Global, mime: &Mime, charset: &str) -> Result<Option<
     if !is_token_text(charset) {
         return Ok(None);
     }
-    with_parameter(alloc, mime, "charset", charset)
+    Ok(Some(mime_with(alloc, mime, "charset", charset, Form::Token)?))
 }
 
 /// Returns the media type with this boundary in place of its own, as [`with_parameter`] writes it; `None` exactly if these bytes aren't a
@@ -138,5 +177,6 @@ pub fn with_boundary(alloc: Global, mime: &Mime, boundary: &str) -> Result<Optio
     if !is_boundary(boundary.as_bytes()) {
         return Ok(None);
     }
-    with_parameter(alloc, mime, "boundary", boundary)
+    let form = form_of_content(boundary);
+    Ok(Some(mime_with(alloc, mime, "boundary", boundary, form)?))
 }

@@ -1,11 +1,14 @@
 //! The content of a quoted string: what it means, and what is written for a value.
 
-ghost use Rattle.std.specs.Prelude.{◌≡◌, ◌++◌, ◌≤◌, OnOk, IfOk, is_ok, if◌then◌else◌, length, take, drop, string_bytes, encode_utf8};
+ghost use Rattle.std.specs.Prelude.{◌≡◌, ◌∷◌, [], ◌++◌, ◌≤◌, ◌+◌, None, Some, OnOk, is_ok, if◌then◌else◌, length, take, drop, string_bytes};
+ghost use Rattle.std.specs.List.{list_all, prefix_len};
 ghost use Rattle.std.specs.Vec.{vec_items};
+ghost use Rattle.mime.specs.Bytes.{is_quoted_byte};
+ghost use Rattle.mime_http.specs.Forms.{kind_of, is_plain, form_of};
 ghost use Rattle.mime_http.specs.Unescaped.{unescaped};
 ghost use Rattle.mime_http.specs.Written.{escaped};
 
-use std::alloc::{AllocError, Global};
+use std::alloc::AllocError;
 
 /// Adds what a parameter's value means to a buffer: each backslash and the byte after it as that byte (RFC 9110, 5.6.4). The value
 /// `a\"b` of `a/b; p="a\"b"` means `a"b`; a value without backslashes means itself. It allocates at most once: not at all if the buffer
@@ -44,22 +47,121 @@ fn unescape_in_place(bytes: &mut [u8], start: usize) -> usize
     end
 }
 
-/// Adds a character to the content of a quoted string, after a backslash if it is a quote or a backslash.
-fn push_escaped(content: &mut String, c: char) -> Result<(), AllocError>
-    ensures { OnOk result (string_bytes content.new ≡ string_bytes content.old ++ escaped (encode_utf8 c)) }
-{
-    let before = if matches!(c, '"' | '\\') { "\\" } else { "" };
-    content.push_str(before)?;
-    content.push(c)
+/// How a value is written (RFC 9110, 5.6.4 and 5.6.6).
+#[derive(Clone, Copy)]
+pub(crate) enum Form {
+    /// As it is, since it is a token.
+    Token,
+    /// As it is, in quotes.
+    Quoted,
+    /// In quotes, with a backslash before each quote and each backslash.
+    Escaped,
 }
 
-/// The content of a quoted string that means a value: `\"x` for `"x` (RFC 9110, 5.6.4).
-pub(crate) fn escape(alloc: Global, value: &str) -> Result<String, AllocError>
-    ensures { IfOk result (λ content. string_bytes content ≡ escaped value.now) }
+/// A byte that may stand in no quoted string.
+const N: u8 = 0;
+
+/// One that may stand there after a backslash: a quote or a backslash.
+const B: u8 = 1;
+
+/// One that may stand there as it is, and in no token.
+const Q: u8 = 3;
+
+/// One that may stand in a token, too.
+const T: u8 = 7;
+
+/// The kind of each byte. Its lowest bit says that the byte may be in a value, the next one that it needs no backslash, and the third
+/// that it needs no quotes.
+static KINDS: [u8; 256] = [
+    N, N, N, N, N, N, N, N, N, Q, N, N, N, N, N, N, N, N, N, N, N, N, N, N, N, N, N, N, N, N, N, N,
+    Q, T, B, T, T, T, T, T, Q, Q, T, T, Q, T, T, Q, T, T, T, T, T, T, T, T, T, T, Q, Q, Q, Q, Q, Q,
+    Q, T, T, T, T, T, T, T, T, T, T, T, T, T, T, T, T, T, T, T, T, T, T, T, T, T, T, Q, B, Q, T, T,
+    T, T, T, T, T, T, T, T, T, T, T, T, T, T, T, T, T, T, T, T, T, T, T, T, T, T, T, Q, T, Q, T, N,
+    Q, Q, Q, Q, Q, Q, Q, Q, Q, Q, Q, Q, Q, Q, Q, Q, Q, Q, Q, Q, Q, Q, Q, Q, Q, Q, Q, Q, Q, Q, Q, Q,
+    Q, Q, Q, Q, Q, Q, Q, Q, Q, Q, Q, Q, Q, Q, Q, Q, Q, Q, Q, Q, Q, Q, Q, Q, Q, Q, Q, Q, Q, Q, Q, Q,
+    Q, Q, Q, Q, Q, Q, Q, Q, Q, Q, Q, Q, Q, Q, Q, Q, Q, Q, Q, Q, Q, Q, Q, Q, Q, Q, Q, Q, Q, Q, Q, Q,
+    Q, Q, Q, Q, Q, Q, Q, Q, Q, Q, Q, Q, Q, Q, Q, Q, Q, Q, Q, Q, Q, Q, Q, Q, Q, Q, Q, Q, Q, Q, Q, Q,
+];
+
+/// How many bytes are looked at before it is seen whether one may stand in no quoted string.
+const BLOCK: usize = 64;
+
+/// The kind of a byte.
+#[inline(always)]
+fn kind_of_byte(byte: u8) -> u8
+    ensures { result ≡ kind_of (byte ∷ []) }
 {
-    let mut content = String::with_capacity(alloc, value.len())?;
-    for c in value.chars() {
-        push_escaped(&mut content, c)?;
+    KINDS[byte as usize]
+}
+
+/// The bits that the kinds of all bytes of a block have.
+#[inline(always)]
+fn kind_of_block(block: &[u8]) -> u8
+    ensures { result ≡ kind_of block.now }
+{
+    let mut kind = T;
+    for &byte in block {
+        kind &= kind_of_byte(byte);
     }
-    Ok(content)
+    kind
+}
+
+/// The bits that the kinds of all bytes of a value have.
+fn kind_of(value: &[u8]) -> u8
+    ensures { result ≡ kind_of value.now }
+{
+    let mut kind = T;
+    let mut left = value;
+    while !left.is_empty() && kind != N {
+        let (block, rest) = left.split_at(BLOCK.min(left.len()));
+        kind &= kind_of_block(block);
+        left = rest;
+    }
+    kind
+}
+
+/// How a value is written; `None` if no quoted string can mean it, since it has a control character other than the tab.
+pub(crate) fn form_of(value: &str) -> Option<Form>
+    ensures { result ≡ (if list_all is_quoted_byte value.now then Some (form_of value.now) else None) }
+{
+    let kind = kind_of(value.as_bytes());
+    if kind == N {
+        None
+    } else if kind == B {
+        Some(Form::Escaped)
+    } else if kind == Q || value.is_empty() {
+        Some(Form::Quoted)
+    } else {
+        Some(Form::Token)
+    }
+}
+
+/// The position of the first quote or backslash from this position on, or the length if there is none.
+#[inline(always)]
+fn special_from(value: &str, from: usize) -> usize
+    requires { from ≤ length value.now }
+    ensures { result ≡ from + prefix_len is_plain (drop from value.now) }
+{
+    let bytes = value.as_bytes();
+    let mut at = from;
+    while at < bytes.len() && kind_of_byte(bytes[at]) != B {
+        at += 1;
+    }
+    at
+}
+
+/// Adds the content of a quoted string that means a value: `\"x` for `"x` (RFC 9110, 5.6.4).
+pub(crate) fn push_escaped(text: &mut String, value: &str) -> Result<(), AllocError>
+    ensures { OnOk result (string_bytes text.new ≡ string_bytes text.old ++ escaped value.now) }
+{
+    let mut left = value;
+    let mut run = special_from(left, 0);
+    while run < left.len() {
+        text.push_str(&left[..run])?;
+        text.push('\\')?;
+        left = &left[run..];
+        // The byte after the backslash, and those before the next one that needs it.
+        run = special_from(left, 1);
+    }
+    text.push_str(left)
 }

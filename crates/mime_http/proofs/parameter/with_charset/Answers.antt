@@ -1,26 +1,30 @@
--- A token is safe, and needs no backslash.
-use Rattle.std.proofs.Common.{rules, ◌∙◌, ap, refl, codes}
-use Rattle.std.proofs.lemmas.Option.{IfSome_then}
-use Rattle.std.proofs.lemmas.Result.{IfOk-weaker}
-use Rattle.mime.specs.Bytes.{is_token_byte}
-use Rattle.mime.specs.Grammar.{IsToken}
+-- A token is safe, and needs no quotes and no backslash.
+use Rattle.std.proofs.Common.{rules, ◌≡◌, ◌∙◌, ap, refl, sym, codes, true, if◌then◌else◌}
+use Rattle.mime.specs.Bytes.{is_token_byte, is_quoted_text_byte}
 use Rattle.mime.specs.Values.{lowered}
-use Rattle.mime_http.specs.Written.{with_pair}
+use Rattle.mime_http.specs.Written.{escaped, is_token_value, with_pair}
+use Rattle.mime_http.specs.declared.quoted.Form.TheVariants.{Token, Quoted, Escaped}
+use Rattle.std.specs.List.{list_all}
 use Rattle.mime_http.proofs.Contents.{token_is_plain, token_is_safe}
 use Rattle.mime_http.proofs.Written.{token_from_test}
 use Rattle.mime_http.proofs.parameter.with_charset.Goals as goal
 
-pub returns-clause-exact : goal.returns-clause-exact
+pub mime_with-requires-clause-named : goal.mime_with-requires-clause-named
 unfolding is_token_byte
-returns-clause-exact c =
-    let token : IsToken c.args.charset.now = token_from_test c.args.charset.now (search rules) in
-    IfOk-weaker c.with_parameter.result _ _ (λ answer exact. (λ some. token, λ is. exact.1 (refl, token_is_safe c.args.charset.now token)))
-    c.with_parameter.ensures.exact
+mime_with-requires-clause-named c = refl
+
+pub mime_with-requires-clause-safe : goal.mime_with-requires-clause-safe
+mime_with-requires-clause-safe c = token_is_safe c.args.charset.now (token_from_test c.args.charset.now (search rules))
+
+pub mime_with-requires-clause-fits : goal.mime_with-requires-clause-fits
+mime_with-requires-clause-fits c =
+    let token : is_token_value c.args.charset.now ≡ true = search rules in
+    ap (λ is. if is then Token else (if list_all is_quoted_text_byte c.args.charset.now then Quoted else Escaped)) (sym token)
 
 pub returns-clause-made : goal.returns-clause-made
+unfolding is_token_byte
 returns-clause-made c =
-    let token : IsToken c.args.charset.now = token_from_test c.args.charset.now (search rules) in
-    let plain = token_is_plain c.args.charset.now token in
-    IfOk-weaker c.with_parameter.result _ _
-    (λ answer made. IfSome_then answer made (λ mime is. is ∙ ap (λ bytes. with_pair c.args.mime.now.media (codes "charset") (lowered bytes)) plain))
-    c.with_parameter.ensures.made
+    let charset = c.args.charset.now in
+    let plain = token_is_plain charset (token_from_test charset (search rules)) in
+    let made : c.in_ok-mime_with.field-0.media ≡ with_pair c.args.mime.now.media (codes "charset") (lowered (escaped charset)) = search rules in
+    made ∙ ap (λ bytes. with_pair c.args.mime.now.media (codes "charset") (lowered bytes)) plain

@@ -1,17 +1,44 @@
--- A backslash is added before a quote and a backslash.
-use Rattle.std.proofs.Common.{rules, ◌≡◌, ◌∙◌, cond, [], ◌∷◌, ◌++◌, ap, sym, append_assoc, string_bytes, encode_utf8}
-use Rattle.std.specs.Result.{OnOk}
-use Rattle.std.proofs.lemmas.Result.{on_ok_weaker}
-use Rattle.mime_http.proofs.Contents.{is_special, escaped_character}
+-- Each backslash is added before the byte that needs it.
+use Rattle.std.proofs.Common.{rules, ◌≡◌, ◌<◌, ◌∙◌, ◌∷◌, ◌++◌, ◌+◌, [], false, get_or, ap, arith, string_bytes, take, drop, length}
+use Rattle.std.specs.List.{prefix_len}
+use Rattle.std.proofs.lemmas.List.{get_or-drop}
+use Rattle.std.proofs.lemmas.List.Sums.{prefix_len-le-length, prefix_len_stops}
+use Rattle.mime_http.specs.Forms.{is_plain}
+use Rattle.mime_http.specs.Written.{escaped}
+use Rattle.mime_http.proofs.Forms.{run_written, more_written, next_end}
 use Rattle.mime_http.proofs.quoted.push_escaped.Goals as goal
 
-pub returns : goal.returns
-returns c =
-    let before : c.if-matches.before.now ≡ cond (is_special c.args.c) (92 ∷ []) [] = search rules in
-    let added : string_bytes c.push_str.new.self ≡ string_bytes c.args.content.now ++ c.if-matches.before.now = search rules in
-    let pushed : OnOk c.push.result (string_bytes c.push.new.self ≡ string_bytes c.push_str.new.self ++ encode_utf8 c.args.c) = search rules in
-    let last = encode_utf8 c.args.c in
-    on_ok_weaker c.push.result
-    (λ is. is ∙ ap (λ bytes. bytes ++ last) added ∙ append_assoc (string_bytes c.args.content.now) c.if-matches.before.now last
-    ∙ ap (λ bytes. string_bytes c.args.content.now ++ bytes) (ap (λ bytes. bytes ++ last) before ∙ sym (escaped_character c.args.c c.ranges.c.0)))
-    pushed
+pub loop-run-init : goal.loop-run-init
+loop-run-init c =
+    let value = c.args.value.now in
+    let run : c.special_from-run.result ≡ prefix_len is_plain value = search rules in (
+      c.utf8.value,
+      rw run (record {
+        added = ap (λ rest. string_bytes c.args.text.now ++ rest) (run_written value);
+        within = prefix_len-le-length is_plain value;
+        special = λ within. prefix_len_stops is_plain value 0 within;
+      }),
+    )
+
+pub loop-run-preserved : goal.loop-run-preserved
+loop-run-preserved c =
+    let left = c.loop-run.left.now in
+    let run = c.loop-run.run in
+    let bytes = c.range_from-left.result.now in
+    let end = c.special_from-run-in-loop-run.result in
+    let are : bytes ≡ drop run left = c.range_from-left.ensures.value in
+    let some : 0 < length bytes = search rules in
+    let first : get_or bytes 0 0 ≡ get_or left run 0 =
+    ap (λ bytes. get_or bytes 0 0) are ∙ get_or-drop run left 0 0 ∙ ap (λ n. get_or left n 0) (omega arith) in
+    let special : is_plain (get_or bytes 0 0) ≡ false = ap is_plain first ∙ c.loop-run.invariant.1.special c.loop-run-test.true in
+    let is_end : end ≡ 1 + prefix_len is_plain (drop 1 bytes) = search rules in
+    let next = next_end bytes end some is_end in
+    let pushed : string_bytes c.push.new.self ≡ (string_bytes c.loop-run.text ++ take run left) ++ (92 ∷ []) = search rules in (
+      c.range_from-left.utf8,
+      record {
+        added = ap (λ text. text ++ (take end bytes ++ escaped (drop end bytes))) pushed
+            ∙ more_written (string_bytes c.loop-run.text) left bytes _ run end are some special is_end c.loop-run.invariant.1.added;
+        within = next.0;
+        special = next.1;
+      },
+    )

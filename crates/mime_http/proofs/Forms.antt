@@ -1,0 +1,236 @@
+-- The kinds of a value's bytes, and the form in which it is written.
+use Rattle.std.proofs.Common.{◌≡◌, ◌≢◌, ◌∙◌, ◌==◌, ◌<◌, ◌≤◌, ℕ, suc, Bool, true, false, List, [], ◌∷◌, ◌++◌, arith, refl, sym, ap, subst, ⊎_elim, drop, get_or, take, length, append-nil, append_assoc, ◌+◌}
+use Rattle.std.specs.Prelude.{◌&&◌, bit_and, not, codes, if◌then◌else◌}
+use Rattle.std.specs.List.{list_all, prefix_len}
+use Rattle.std.specs.Int.Bits.{and_zero_l}
+use Rattle.std.proofs.Math.Seq.{drop-cons}
+use Rattle.std.proofs.lemmas.List.{take_more}
+use Rattle.std.proofs.lemmas.List.Sums.{prefix_len-le-length, prefix_len_stops}
+use Rattle.std.proofs.lemmas.Bool.{and_parts, and_from, eqb-true, cases_Bool, false≢true, false_from_ne_true}
+use Rattle.std.proofs.lemmas.Bool.Decides.{nat_tests}
+use Rattle.std.proofs.lemmas.List.Folds.{list_all-append}
+use Rattle.mime.specs.Bytes.{is_token_byte, is_quoted_byte, is_quoted_text_byte}
+use Rattle.mime_http.specs.Forms.{kind_from, kind_of, is_plain, form_of, marks, content, text_in}
+use Rattle.mime_http.specs.declared.quoted.Form.{Form}
+use Rattle.mime_http.specs.declared.quoted.Form.TheVariants.{Token, Quoted, Escaped}
+use Rattle.mime_http.proofs.Written.{token_from_test}
+use Rattle.mime.proofs.BytesLemmas.{list_all-wider, AreTokenBytes-from_token}
+use Rattle.mime_http.proofs.Contents.{is_special, token_plain, token_safe, token_is_plain, plain_class, text_plain, bchar_text}
+use Rattle.mime_http.specs.Boundary.{is_bchar, IsBoundary}
+use Rattle.mime_http.specs.Written.{escaped, is_token_value, quote_of, text_of_pair}
+
+-- ---- bits
+
+-- a test of both Booleans
+both : (Bool → Bool) → Bool
+both p = p true && p false
+
+at : (p : Bool → Bool) → both p ≡ true → (b : Bool) → p b ≡ true
+unfolding both
+at p is true = (and_parts (p true) (p false) is).0
+at p is false = (and_parts (p true) (p false) is).1
+
+-- the bits of two kinds
+and_kinds : (t q e t2 q2 e2 : Bool) → bit_and (kind_from t q e) (kind_from t2 q2 e2) ≡ kind_from (t && t2) (q && q2) (e && e2)
+unfolding both
+and_kinds t q e t2 q2 e2 =
+    eqb-true _ _
+    (at (λ e2. bit_and (kind_from t q e) (kind_from t2 q2 e2) == kind_from (t && t2) (q && q2) (e && e2))
+    (at (λ q2. both (λ e2. bit_and (kind_from t q e) (kind_from t2 q2 e2) == kind_from (t && t2) (q && q2) (e && e2)))
+    (at (λ t2. both (λ q2. both (λ e2. bit_and (kind_from t q e) (kind_from t2 q2 e2) == kind_from (t && t2) (q && q2) (e && e2))))
+    (at (λ e. both (λ t2. both (λ q2. both (λ e2. bit_and (kind_from t q e) (kind_from t2 q2 e2) == kind_from (t && t2) (q && q2) (e && e2)))))
+    (at (λ q. both (λ e. both (λ t2. both (λ q2. both (λ e2. bit_and (kind_from t q e) (kind_from t2 q2 e2) == kind_from (t && t2) (q && q2) (e && e2))))))
+    (at (λ t. both (λ q. both (λ e. both (λ t2. both (λ q2. both (λ e2. bit_and (kind_from t q e) (kind_from t2 q2 e2) == kind_from (t && t2) (q && q2) (e && e2)))))))
+    refl t) q) e) t2) q2) e2)
+
+-- the kind of joined bytes
+pub kind_of-append : (xs ys : List ℕ) → kind_of (xs ++ ys) ≡ bit_and (kind_of xs) (kind_of ys)
+kind_of-append xs ys =
+    (λ i. kind_from (list_all-append is_token_byte xs ys i) (list_all-append is_quoted_text_byte xs ys i) (list_all-append is_quoted_byte xs ys i))
+    ∙ sym (and_kinds (list_all is_token_byte xs) (list_all is_quoted_text_byte xs) (list_all is_quoted_byte xs)
+    (list_all is_token_byte ys) (list_all is_quoted_text_byte ys) (list_all is_quoted_byte ys))
+
+-- the kind of the bytes so far and one more
+pub kind_of_more : (xs : List ℕ) (i : ℕ) → i < length xs → bit_and (kind_of (take i xs)) (kind_of (get_or xs i 0 ∷ [])) ≡ kind_of (take (i + 1) xs)
+kind_of_more xs i within =
+    sym (kind_of-append (take i xs) (get_or xs i 0 ∷ [])) ∙ ap kind_of (sym (take_more xs i 0 within))
+
+-- ---- the kind of a value, block by block
+
+-- the bytes seen so far, those that are left, and the kind of the former
+pub record Seen (value : List ℕ) (kind : ℕ) (left : List ℕ) : Type 0 where
+  pub bytes : List ℕ
+  pub split : bytes ++ left ≡ value
+  pub is : kind ≡ kind_of bytes
+
+pub none_seen : (value : List ℕ) → Seen value 7 value
+none_seen value = record { bytes = []; split = refl; is = refl }
+
+pub block_seen : {value : List ℕ} {kind : ℕ} {left : List ℕ} → Seen value kind left → (block rest : List ℕ) → left ≡ block ++ rest
+    → Seen value (bit_and kind (kind_of block)) rest
+block_seen seen block rest is = record {
+  bytes = seen.bytes ++ block;
+  split = append_assoc seen.bytes block rest ∙ ap (λ left. seen.bytes ++ left) (sym is) ∙ seen.split;
+  is = ap (λ kind. bit_and kind (kind_of block)) seen.is ∙ sym (kind_of-append seen.bytes block);
+}
+
+pub all_seen : {value : List ℕ} {kind : ℕ} {left : List ℕ} → Seen value kind left → left ≡ [] → kind ≡ kind_of value
+all_seen seen ended = seen.is ∙ ap kind_of (sym (append-nil seen.bytes) ∙ ap (λ left. seen.bytes ++ left) (sym ended) ∙ seen.split)
+
+-- a byte that no quoted string can hold decides
+pub bad_seen : {value : List ℕ} {kind : ℕ} {left : List ℕ} → Seen value kind left → kind ≡ 0 → kind ≡ kind_of value
+bad_seen {left = left} seen bad =
+    bad ∙ sym (and_zero_l (kind_of left)) ∙ ap (λ kind. bit_and kind (kind_of left)) (sym bad ∙ seen.is)
+    ∙ sym (kind_of-append seen.bytes left) ∙ ap kind_of seen.split
+
+-- ---- bytes before the first quote or backslash
+
+-- a quote and a backslash have a kind of their own
+special_kind : (b : ℕ) → is_plain b ≡ false → kind_of (b ∷ []) ≡ 1
+unfolding is_token_byte is_quoted_byte
+special_kind b special =
+    ⊎_elim (λ quote. subst (λ b. kind_of (b ∷ []) ≡ 1) (sym (eqb-true b 34 quote)) refl)
+    (λ other. subst (λ b. kind_of (b ∷ []) ≡ 1) (sym (eqb-true b 92 (grind (arith, nat_tests, special, other)))) refl)
+    (cases_Bool (b == 34))
+
+pub plain_from_kind : (b : ℕ) → kind_of (b ∷ []) ≢ 1 → is_plain b ≡ true
+plain_from_kind b other = ⊎_elim (λ plain. plain) (λ special. absurd (other (special_kind b special))) (cases_Bool (is_plain b))
+
+-- one more
+pub plain_more : (bytes : List ℕ) (n : ℕ) → n < length bytes → is_plain (get_or bytes n 0) ≡ true
+    → n + prefix_len is_plain (drop n bytes) ≡ (n + 1) + prefix_len is_plain (drop (n + 1) bytes)
+plain_more bytes n within plain =
+    let next : suc n ≡ n + 1 = omega arith in
+    ap (λ rest. n + prefix_len is_plain rest) (drop-cons bytes n 0 within) ∙ rw plain (omega arith)
+    ∙ ap (λ m. (n + 1) + prefix_len is_plain (drop m bytes)) next
+
+-- ---- what is written, run by run
+
+-- a run stands as it is
+pub run_written : (bytes : List ℕ) → take (prefix_len is_plain bytes) bytes ++ escaped (drop (prefix_len is_plain bytes) bytes) ≡ escaped bytes
+run_written [] = refl
+run_written (b ∷ bytes) =
+    ⊎_elim (λ special. rw special (rw special refl))
+    (λ plain.
+    let longer : prefix_len is_plain (b ∷ bytes) ≡ suc (prefix_len is_plain bytes) = rw plain (omega arith) in
+    let same : escaped (b ∷ bytes) ≡ b ∷ escaped bytes = rw plain refl in
+    ap (λ n. take n (b ∷ bytes) ++ escaped (drop n (b ∷ bytes))) longer ∙ ap (λ rest. b ∷ rest) (run_written bytes) ∙ sym same)
+    (cases_Bool (is_special b))
+
+-- a backslash is written before a byte that needs it, and both before the next run
+byte_written : (bytes : List ℕ) (end : ℕ) → 0 < length bytes → is_plain (get_or bytes 0 0) ≡ false
+    → end ≡ 1 + prefix_len is_plain (drop 1 bytes) → escaped bytes ≡ 92 ∷ (take end bytes ++ escaped (drop end bytes))
+byte_written [] end some special is = absurd (omega (arith, some))
+byte_written (b ∷ bytes) end some special is =
+    let longer : end ≡ suc (prefix_len is_plain bytes) = omega (arith, is) in
+    ⊎_elim (λ needs. rw needs (ap (λ rest. 92 ∷ b ∷ rest) (sym (run_written bytes))
+    ∙ sym (ap (λ n. 92 ∷ (take n (b ∷ bytes) ++ escaped (drop n (b ∷ bytes)))) longer)))
+    (λ plain. absurd (false≢true (sym special ∙ ap not plain))) (cases_Bool (is_special b))
+
+pub more_written : (text left bytes whole : List ℕ) (run end : ℕ) → bytes ≡ drop run left → 0 < length bytes
+    → is_plain (get_or bytes 0 0) ≡ false → end ≡ 1 + prefix_len is_plain (drop 1 bytes)
+    → text ++ (take run left ++ escaped (drop run left)) ≡ whole
+    → ((text ++ take run left) ++ (92 ∷ [])) ++ (take end bytes ++ escaped (drop end bytes)) ≡ whole
+more_written text left bytes whole run end are some special is_end is =
+    append_assoc (text ++ take run left) (92 ∷ []) _
+    ∙ append_assoc text (take run left) _
+    ∙ ap (λ rest. text ++ (take run left ++ rest)) (sym (byte_written bytes end some special is_end) ∙ ap escaped are)
+    ∙ is
+
+-- the next run ends at the end or before a byte that needs a backslash
+pub next_end : (bytes : List ℕ) (end : ℕ) → 0 < length bytes → end ≡ 1 + prefix_len is_plain (drop 1 bytes)
+    → (end ≤ length bytes) × (end < length bytes → is_plain (get_or bytes end 0) ≡ false)
+next_end [] end some is = absurd (omega (arith, some))
+next_end (b ∷ bytes) end some is =
+    let longer : end ≡ suc (prefix_len is_plain bytes) = omega (arith, is) in (
+      omega (arith, is, prefix_len-le-length is_plain bytes),
+      λ within.
+          ap (λ n. is_plain (get_or (b ∷ bytes) n 0)) longer
+          ∙ prefix_len_stops is_plain bytes 0 (omega (arith, within, is)),
+    )
+
+-- ---- tokens
+
+-- if the bits don't say that a backslash or quotes are needed, neither is
+token_from_bits : (t q e : Bool) → (t ≡ true → q ≡ true) → (q ≡ true → e ≡ true) → kind_from t q e ≢ 0 → kind_from t q e ≢ 1
+    → kind_from t q e ≢ 3 → (t ≡ true) × (e ≡ true)
+token_from_bits true true true plain fits n b q = (refl, refl)
+token_from_bits true true false plain fits n b q = absurd (false≢true (fits refl))
+token_from_bits true false e plain fits n b q = absurd (false≢true (plain refl))
+token_from_bits false true true plain fits n b q = absurd (q refl)
+token_from_bits false true false plain fits n b q = absurd (false≢true (fits refl))
+token_from_bits false false true plain fits n b q = absurd (b refl)
+token_from_bits false false false plain fits n b q = absurd (n refl)
+
+pub token_from_kind : (value : List ℕ) → 0 < length value → kind_of value ≢ 0 → kind_of value ≢ 1 → kind_of value ≢ 3
+    → (is_token_value value ≡ true) × (list_all is_quoted_byte value ≡ true)
+token_from_kind [] some = absurd (omega (arith, some))
+token_from_kind (b ∷ bytes) some =
+    token_from_bits (list_all is_token_byte (b ∷ bytes)) (list_all is_quoted_text_byte (b ∷ bytes)) (list_all is_quoted_byte (b ∷ bytes))
+    (list_all-wider is_token_byte is_quoted_text_byte (λ b token. rw (token_safe b token, token_plain b token) refl) (b ∷ bytes))
+    (list_all-wider is_quoted_text_byte is_quoted_byte (λ b text. (and_parts (is_quoted_byte b) _ text).0) (b ∷ bytes))
+
+-- ---- what is written in a form
+
+text_as : (form : Form) (name value content_bytes : List ℕ) → content form value ≡ content_bytes → marks form ≡ quote_of content_bytes
+    → text_in form name value ≡ text_of_pair (name, content_bytes)
+text_as form name value bytes between sides = λ i. codes "; " ++ (name ++ (61 ∷ (sides i ++ (between i ++ sides i))))
+
+-- a token is in the first form, and other content in the second
+as_token : (bytes : List ℕ) → is_token_value bytes ≡ true → [] ≡ quote_of bytes
+as_token bytes token = ap (λ is. if is then [] else (34 ∷ [])) (sym token)
+
+in_quotes : (bytes : List ℕ) → is_token_value bytes ≡ false → 34 ∷ [] ≡ quote_of bytes
+in_quotes bytes other = ap (λ is. if is then [] else (34 ∷ [])) (sym other)
+
+-- content that is kept is written as it is
+pub kept_text : (name bytes : List ℕ) → text_in (if is_token_value bytes then Token else Quoted) name bytes ≡ text_of_pair (name, bytes)
+kept_text name bytes =
+    ⊎_elim (λ token.
+    ap (λ is. text_in (if is then Token else Quoted) name bytes) token ∙ text_as Token name bytes bytes refl (as_token bytes token))
+    (λ other.
+    ap (λ is. text_in (if is then Token else Quoted) name bytes) other ∙ text_as Quoted name bytes bytes refl (in_quotes bytes other))
+    (cases_Bool (is_token_value bytes))
+
+-- what is a token with backslashes is one without
+tokens_from_escaped : (value : List ℕ) → list_all is_token_byte (escaped value) ≡ true → list_all is_token_byte value ≡ true
+unfolding is_token_byte
+tokens_from_escaped [] all = refl
+tokens_from_escaped (b ∷ value) all =
+    ⊎_elim (λ special. absurd (false≢true (rw special at all)))
+    (λ plain.
+    let parts = and_parts (is_token_byte b) (list_all is_token_byte (escaped value)) (rw plain at all) in
+    and_from (is_token_byte b) (list_all is_token_byte value) parts.0 (tokens_from_escaped value parts.1))
+    (cases_Bool (is_special b))
+
+token_from_escaped : (value : List ℕ) → is_token_value (escaped value) ≡ true → is_token_value value ≡ true
+token_from_escaped [] token = token
+token_from_escaped (b ∷ value) token =
+    tokens_from_escaped (b ∷ value) (AreTokenBytes-from_token (escaped (b ∷ value)) (token_from_test (escaped (b ∷ value)) token))
+
+-- a value is written in its form
+pub form_text : (name value : List ℕ) → text_in (form_of value) name value ≡ text_of_pair (name, escaped value)
+form_text name value =
+    ⊎_elim (λ token.
+    let same = token_is_plain value (token_from_test value token) in
+    ap (λ is. text_in (if is then Token else (if list_all is_quoted_text_byte value then Quoted else Escaped)) name value) token
+    ∙ text_as Token name value (escaped value) (sym same) (as_token value token ∙ sym (ap quote_of same)))
+    (λ other.
+    ap (λ is. text_in (if is then Token else (if list_all is_quoted_text_byte value then Quoted else Escaped)) name value) other
+    ∙ ⊎_elim (λ plain.
+    let same = plain_class is_quoted_text_byte text_plain value plain in
+    ap (λ is. text_in (if is then Quoted else Escaped) name value) plain
+    ∙ text_as Quoted name value (escaped value) (sym same) (in_quotes value other ∙ sym (ap quote_of same)))
+    (λ special.
+    let no_token = false_from_ne_true (is_token_value (escaped value))
+    (λ token. false≢true (sym other ∙ token_from_escaped value token)) in
+    ap (λ is. text_in (if is then Quoted else Escaped) name value) special
+    ∙ text_as Escaped name value (escaped value) refl (in_quotes (escaped value) no_token))
+    (cases_Bool (list_all is_quoted_text_byte value)))
+    (cases_Bool (is_token_value value))
+
+-- a boundary is in a form without backslashes
+pub boundary_form : (bytes : List ℕ) → IsBoundary bytes → form_of bytes ≡ (if is_token_value bytes then Token else Quoted)
+boundary_form bytes is =
+    ap (λ plain. if is_token_value bytes then Token else (if plain then Quoted else Escaped))
+    (list_all-wider is_bchar is_quoted_text_byte bchar_text bytes is.all)

@@ -1,0 +1,17 @@
+-- What was added so far, then the bytes that need no backslash or have it, and then what is written for the others, are the whole.
+use Rattle.std.proofs.Common.{◌≡◌, ◌++◌, ◌≤◌, ◌<◌, ◌-◌, false, length, take, drop, get_or, string_bytes}
+use denote.Text.{Utf8}
+use denote.Shadow.{shadow}
+use Rattle.mime_http.specs.Forms.{is_plain}
+use Rattle.mime_http.specs.Written.{escaped}
+use Rattle.mime_http.proofs.quoted.push_escaped.Given as goal
+
+abbrev pub invariant-loop-run : goal.invariant-loop-run
+invariant-loop-run l = shadow (Utf8 l.left) × record {
+  added : string_bytes l.text ++ (take l.run l.left ++ escaped (drop l.run l.left)) ≡ string_bytes l.fn.text ++ escaped l.value;
+  within : l.run ≤ length l.left;
+  special : l.run < length l.left → is_plain (get_or l.left l.run 0) ≡ false;
+}
+
+abbrev pub decreases-loop-run : goal.decreases-loop-run
+decreases-loop-run l = length l.left - l.run

@@ -1,0 +1,38 @@
+-- How a value is written: with quotes and backslashes, or without.
+use Rattle.std.specs.Prelude.{ℕ, Bool, List, [], ◌∷◌, ◌++◌, ◌+◌, ◌||◌, ◌==◌, not, if◌then◌else◌, codes}
+use Rattle.std.specs.List.{list_all}
+use Rattle.mime.specs.Bytes.{is_token_byte, is_quoted_byte, is_quoted_text_byte, equals_byte, quote_byte, backslash_byte}
+use Rattle.mime_http.specs.Written.{escaped, is_token_value}
+use Rattle.mime_http.specs.declared.quoted.Form.{Form}
+use Rattle.mime_http.specs.declared.quoted.Form.TheVariants.{Token, Quoted, Escaped}
+
+-- the bits of a kind: no quotes are needed, no backslash is needed, and a quoted string can hold it
+abbrev pub kind_from : Bool → Bool → Bool → ℕ
+kind_from token text quoted = (if token then 4 else 0) + ((if text then 2 else 0) + (if quoted then 1 else 0))
+
+-- the kind that all of these bytes have
+abbrev pub kind_of : List ℕ → ℕ
+kind_of bytes = kind_from (list_all is_token_byte bytes) (list_all is_quoted_text_byte bytes) (list_all is_quoted_byte bytes)
+
+-- whether a byte of a quoted string needs no backslash
+abbrev pub is_plain : ℕ → Bool
+is_plain b = not (b == quote_byte || b == backslash_byte)
+
+-- how a value is written that a quoted string can mean
+abbrev pub form_of : List ℕ → Form
+form_of value = if is_token_value value then Token else (if list_all is_quoted_text_byte value then Quoted else Escaped)
+
+-- what stands on both sides of a value, and the value between
+abbrev pub marks : Form → List ℕ
+marks Token = []
+marks Quoted = quote_byte ∷ []
+marks Escaped = quote_byte ∷ []
+
+abbrev pub content : Form → List ℕ → List ℕ
+content Token value = value
+content Quoted value = value
+content Escaped value = escaped value
+
+-- a parameter in this form after a semicolon and a space
+abbrev pub text_in : Form → List ℕ → List ℕ → List ℕ
+text_in form name value = codes "; " ++ (name ++ (equals_byte ∷ (marks form ++ (content form value ++ marks form))))
