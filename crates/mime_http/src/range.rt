@@ -7,16 +7,26 @@ ghost use Rattle.mime_http.specs.Weight.{thousandths_of};
 ghost use Rattle.mime_http.specs.Ranges.{first_value, weight_of, named_parts, demanded, has, closeness};
 
 use crate::weights::thousandths;
-use mime::{Mime, Name};
+use mime::{Mime, Name, ParamKey};
+
+/// A key that accepts this name, byte for byte. Parameters' names are in lowercase.
+#[derive(Clone, Copy)]
+struct Exactly<'k>(&'k str);
+
+impl ParamKey for Exactly<'_> {
+    ghost Accepts = { λ key name ignores_case. name ≡ key.0.now };
+
+    #[inline(always)]
+    fn accepts(&self, name: Name<'_>) -> bool {
+        name.text == self.0
+    }
+}
 
 /// The first value under a name, which is in lowercase.
 pub(crate) fn first_value<'a>(mime: &'a Mime, name: &str) -> Option<Name<'a>>
     ensures { option_map name_text result ≡ first_value name.now mime.now.media.pairs }
 {
-    mime.get_param(Name {
-        text: name,
-        ignores_case: true,
-    })
+    mime.get_param(Exactly(name))
 }
 
 /// The weight that the value of a `q` is, in thousandths, or 1000 without one.
@@ -116,6 +126,26 @@ fn demanded_among(range: &Mime, offer: &Mime) -> Option<(usize, u16)>
     Some((count, weight_in(weight)))
 }
 
+/// The same of a range with one parameter, as most that have any.
+#[inline(never)]
+fn demanded_alone(range: &Mime, offer: &Mime) -> Option<(usize, u16)>
+    requires { length range.now.media.pairs ≡ 1 }
+    ensures { result ≡ (if list_all (has offer.now.media) (demanded range.now.media.pairs)
+        then Some (length (demanded range.now.media.pairs), weight_of range.now.media) else None) }
+{
+    let Some((name, value)) = range.params().next() else {
+        return None;
+    };
+    if name.text == "q" {
+        return Some((0, thousandths(value.text)));
+    }
+    if has(offer, name.text, value.text) {
+        Some((1, 1000))
+    } else {
+        None
+    }
+}
+
 /// How many parameters a range demands of an offer, and its weight; `None` if the offer hasn't all of them. The range
 /// `text/html;level=1` is for `text/html;level=1`, and not for all HTML.
 #[inline]
@@ -123,10 +153,11 @@ pub(crate) fn demanded(range: &Mime, offer: &Mime) -> Option<(usize, u16)>
     ensures { result ≡ (if list_all (has offer.now.media) (demanded range.now.media.pairs)
         then Some (length (demanded range.now.media.pairs), weight_of range.now.media) else None) }
 {
-    if param_count(range) == 0 {
-        return Some((0, 1000));
+    match param_count(range) {
+        0 => Some((0, 1000)),
+        1 => demanded_alone(range, offer),
+        _ => demanded_among(range, offer),
     }
-    demanded_among(range, offer)
 }
 
 /// Whether a range covers an offer: `text/*` covers `text/html`, and `text/html;level=1` covers `text/html;level=1` and not all HTML

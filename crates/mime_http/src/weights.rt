@@ -25,6 +25,10 @@ pub(crate) fn thousandths(weight: &str) -> u16
     ensures { result ≡ thousandths_of weight.now }
 {
     let bytes = weight.as_bytes();
+    // Most weights have one decimal.
+    if let [b'0', b'.', tenths @ b'0'..=b'9'] = bytes {
+        return 100 * u16::from(*tenths - b'0');
+    }
     for (at, byte) in bytes.iter().enumerate() {
         match byte {
             b'0' => {}

@@ -1,5 +1,5 @@
--- A look-up by a name that ignores case finds the first value under it.
-use Rattle.std.proofs.Common.{◌≡◌, List, [], ◌∷◌, ℕ, Bool, true, Option, Some, None, bytes_eq, refl, sym, ap, ◌∙◌, ⊎_elim}
+-- A look-up by a name finds the first value under it.
+use Rattle.std.proofs.Common.{◌≡◌, List, [], ◌∷◌, ℕ, Bool, Option, Some, None, bytes_eq, sym, ap, ◌∙◌, ⊎_elim}
 use Rattle.std.specs.Prelude.{option_map}
 use Rattle.std.proofs.lemmas.Bool.{cases_Bool, true≢false}
 use Rattle.std.proofs.lemmas.Slice.Eq.{bytes_eq-Decides}
@@ -15,14 +15,14 @@ text_of_seen None value is = ap (option_map (λ seen. seen.0)) is
 text_of_seen (Some name) value is = ap (option_map (λ seen. seen.0)) is
 
 first_is : (name : List ℕ) (found : Option Name) (pairs : List (List ℕ × List ℕ))
-    → IsFirstAccepted (λ text flag. (text ≡ name) × (flag ≡ true)) (items_of pairs) (option_map name_seen found)
+    → IsFirstAccepted (λ text flag. text ≡ name) (items_of pairs) (option_map name_seen found)
     → option_map name_text found ≡ first_value name pairs
 first_is name found [] is = text_of_seen found None is
 first_is name found (pair ∷ pairs) is =
     let test = bytes_eq-Decides pair.0 name in
     ⊎_elim
-    (λ yes. rw yes (text_of_seen found _ (is.0 (test.0 yes, refl))))
-    (λ no. rw no (first_is name found pairs (is.1 (λ accepted. absurd (true≢false (sym (test.1 accepted.0) ∙ no))))))
+    (λ yes. rw yes (text_of_seen found _ (is.0 (test.0 yes))))
+    (λ no. rw no (first_is name found pairs (is.1 (λ accepted. absurd (true≢false (sym (test.1 accepted) ∙ no))))))
     (cases_Bool (bytes_eq pair.0 name))
 
 pub returns : goal.returns
