@@ -38,12 +38,6 @@ first (pair ∷ more) item next is = record {
   after = sym (ap (drop 1) is);
 }
 
--- after the item of the one pair there is none
-pub none_after : (pairs : List (List ℕ × List ℕ)) (item : Item) (next : List Item) → items_of pairs ≡ item ∷ next → length pairs ≡ 1 → next ≡ []
-none_after [] item next is one = absurd (omega (arith, one))
-none_after (pair ∷ []) item next is one = sym (ap (drop 1) is)
-none_after (pair ∷ other ∷ more) item next is one = absurd (omega (arith, one))
-
 skipped : {rest more : List (List ℕ × List ℕ)} {pair : List ℕ × List ℕ} → rest ≡ pair ∷ more → is_weight pair.0 ≡ true
     → demanded rest ≡ demanded more
 skipped is weight = rw is (rw weight refl)

@@ -1,8 +1,9 @@
 //! Does a range cover an offer, and how closely?
 
-ghost use Rattle.std.specs.Prelude.{◌≡◌, ◌++◌, Some, None, length, option_map, unwrap_or, is_some, if◌then◌else◌, codes, bytes_eq};
+ghost use Rattle.std.specs.Prelude.{◌≡◌, ◌++◌, Some, None, length, drop, option_map, unwrap_or, is_some, if◌then◌else◌, codes, bytes_eq};
 ghost use Rattle.std.specs.List.{list_all};
 ghost use Rattle.mime.specs.Items.{name_text};
+ghost use Rattle.mime.specs.Values.{Reads};
 ghost use Rattle.mime_http.specs.Weight.{thousandths_of};
 ghost use Rattle.mime_http.specs.Ranges.{first_value, weight_of, named_parts, demanded, has, closeness};
 
@@ -126,24 +127,13 @@ fn demanded_among(range: &Mime, offer: &Mime) -> Option<(usize, u16)>
     Some((count, weight_in(weight)))
 }
 
-/// The same of a range with one parameter, as most that have any.
-#[inline(never)]
-fn demanded_alone(range: &Mime, offer: &Mime) -> Option<(usize, u16)>
-    requires { length range.now.media.pairs ≡ 1 }
-    ensures { result ≡ (if list_all (has offer.now.media) (demanded range.now.media.pairs)
-        then Some (length (demanded range.now.media.pairs), weight_of range.now.media) else None) }
+/// What follows the essence in a media type's kept text: the parameters, with the semicolon before them.
+#[inline(always)]
+fn after_essence(mime: &Mime) -> &[u8]
+    ensures after { result.now ≡ drop (length mime.now.media.essence) mime.now.media.kept }
+    ensures reads { Reads mime.now.media.kept mime.now.media }
 {
-    let Some((name, value)) = range.params().next() else {
-        return None;
-    };
-    if name.text == "q" {
-        return Some((0, thousandths(value.text)));
-    }
-    if has(offer, name.text, value.text) {
-        Some((1, 1000))
-    } else {
-        None
-    }
+    &mime.as_str().as_bytes()[mime.essence_str().len()..]
 }
 
 /// How many parameters a range demands of an offer, and its weight; `None` if the offer hasn't all of them. The range
@@ -153,11 +143,14 @@ pub(crate) fn demanded(range: &Mime, offer: &Mime) -> Option<(usize, u16)>
     ensures { result ≡ (if list_all (has offer.now.media) (demanded range.now.media.pairs)
         then Some (length (demanded range.now.media.pairs), weight_of range.now.media) else None) }
 {
-    match param_count(range) {
-        0 => Some((0, 1000)),
-        1 => demanded_alone(range, offer),
-        _ => demanded_among(range, offer),
+    if param_count(range) == 0 {
+        return Some((0, 1000));
     }
+    // Most weights are written so, after nothing else.
+    if let [b';', b'q', b'=', b'0', b'.', tenths @ b'0'..=b'9'] = after_essence(range) {
+        return Some((0, 100 * u16::from(*tenths - b'0')));
+    }
+    demanded_among(range, offer)
 }
 
 /// Whether a range covers an offer: `text/*` covers `text/html`, and `text/html;level=1` covers `text/html;level=1` and not all HTML
