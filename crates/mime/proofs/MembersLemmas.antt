@@ -1,86 +1,90 @@
--- Classes of bytes by two tables: the mask of the bytes outside one, and runs of those inside.
-use Rattle.std.proofs.Common.{◌≡◌, ◌≢◌, ℕ, ◌+◌, ◌*◌, ◌-◌, ◌/◌, ◌%◌, ◌^◌, ◌<◌, ◌≤◌, suc, Bool, true, false, not, cond, eqb, leb, List, [], ◌∷◌, ◌++◌, map, length, take, drop, replicate, get_or, refl, sym, ap, ◌∙◌, subst, arith, inl, inr, length-drop, length-append, w8, Fits, bit_and}
-use Rattle.std.specs.Prelude.{◌||◌}
+-- Classes of bytes by ranges: the mask of the bytes outside one, and runs of those inside.
+use Rattle.std.proofs.Common.{◌≡◌, ◌≢◌, ℕ, ◌+◌, ◌*◌, ◌-◌, ◌/◌, ◌%◌, ◌^◌, ◌<◌, ◌≤◌, suc, Bool, true, false, not, cond, List, [], ◌∷◌, ◌++◌, map, length, take, drop, replicate, refl, sym, ap, ◌∙◌, subst, arith, inl, inr, length-drop, length-append, bit_and}
+use Rattle.std.specs.Prelude.{◌||◌, ◌&&◌, nat_lt}
 use Rattle.std.specs.List.{list_all, prefix_len, range_with_len}
-use Rattle.std.specs.Simd.Lanes.{mask_l, zip2, Each1, top}
-use Rattle.std.proofs.lemmas.List.{length-map, drop-map, drop-take, drop-drop, take-take, take_rest, take_all, take_at, drop_at, take-append-drop, length-take-le, map-append, get_or_past}
+use Rattle.std.specs.Simd.Lanes.{mask_l, zip2, top}
+use Rattle.std.proofs.lemmas.List.{length-map, drop-map, drop-take, drop-drop, take-take, take_rest, take_all, take_at, drop_at, take-append-drop, length-take-le, map-append}
 use Rattle.std.proofs.lemmas.List.Folds.{list_all-append}
 use Rattle.std.proofs.lemmas.List.Sums.{prefix_len-le-length}
-use Rattle.std.proofs.lemmas.Simd.{swz_l, SwzOk, map-map, SwzOk-from_below, zip2_splat, zip2_of_maps, bitmask_splat, mask_l-lt, trailing_mask_l, leading_from_mask_l}
-use Rattle.std.proofs.lemmas.Bool.{and_from, lt-leb, cases_lt, eq-eqb, not-true, true≢false}
+use Rattle.std.proofs.lemmas.Simd.{map-map, zip2_splat, zip2_splat_left, zip2_of_maps, mask_l-lt, mask_l-mod, trailing_mask_l, leading_from_mask_l}
+use Rattle.std.proofs.lemmas.Bool.{and_from, lt-ltb, cases_lt, not-true, true≢false}
+use Rattle.std.proofs.Math.Bool.{or-true}
 use Rattle.std.proofs.Math.Nat.{pow-suc, mul_comm, mul_assoc, mul-le-mul_left, pow-le-pow_right, div-le_self}
 use Rattle.std.proofs.Math.Seq.{take-add}
-use lib.Bits.{and_le_r}
+use Rattle.std.proofs.lemmas.Nat.{le_or_l}
+use Rattle.std.specs.Int.Bits.{bit_or}
 use lib.Count.{count_trailing_zeros}
 use Rattle.mime.proofs.BlocksLemmas.{mask-drop}
 use Rattle.mime.proofs.BytesLemmas.{at_byte}
 use Rattle.mime.specs.Bytes.{is_token_byte, is_quoted_byte, is_quoted_text_byte}
 use Rattle.mime.specs.Inner.ByteClasses.{is_token_except_plus}
-use Rattle.mime.specs.Inner.Members.{is_outside, is_member, outside}
+use Rattle.mime.specs.Inner.Members.{is_outside_range, is_outside, is_member, outside}
 use Rattle.mime.specs.declared.scan.runs.Class.{Class}
+use Rattle.mime.specs.declared.scan.runs.Range.{Range}
 use Rattle.mime.specs.declared.scan.runs.TheConstants.{TOKEN_EXCEPT_PLUS, QUOTED_TEXT}
 
 -- ---- a vector
 
--- the entries of a table at positions that are computed byte by byte
-swz-map : (t : List ℕ) (g : ℕ → ℕ) (v : List ℕ) (i : ℕ) → i + length v ≤ 16 → Each1 (λ b. g b < 16) v
-    → swz_l w8 16 t i (map g v) ≡ map (λ b. get_or t (g b) 0) v
-swz-map t g [] i room small = refl
-swz-map t g (b ∷ v) i room small =
-    let near : leb 128 (g b) ≡ false = lt-leb 128 (g b) (omega (arith, small.0)) in
-    let at : 16 * (i / 16) + g b ≡ g b = omega (arith, room) in
-    rw (near, at, swz-map t g v (suc i) (omega (arith, room)) small.1) refl
+-- a lane of a comparison has all bits, or none
+abbrev lane : Bool → ℕ
+lane t = cond t (2 ^ 8 - 1) 0
 
--- the low four bits of each byte, and its high four bits, are positions in a table
-low_bits : (v : List ℕ) → Each1 (λ b. bit_and b 15 < 16) v
-low_bits [] = tt
-low_bits (b ∷ v) = (omega (arith, and_le_r b 15), low_bits v)
+or_lane : (s t : Bool) → bit_or (lane s) (lane t) ≡ lane (s || t)
+or_lane false false = refl
+or_lane false true = refl
+or_lane true false = refl
+or_lane true true = refl
 
-high_bits : (v : List ℕ) → Each1 (Fits w8) v → Each1 (λ b. b / 16 < 16) v
-high_bits [] fits = tt
-high_bits (b ∷ v) fits = (omega (arith, fits.0.fits), high_bits v fits.1)
+and_lane : (s t : Bool) → bit_and (lane s) (lane t) ≡ lane (s && t)
+and_lane false false = refl
+and_lane false true = refl
+and_lane true false = refl
+and_lane true true = refl
 
--- a vector's entries in a table
-module _ (op : ℕ → ℕ → ℕ) (by : ℕ) (v : List ℕ) (long : length v ≡ 16) (small : Each1 (λ b. op b by < 16) v) where
-  are : zip2 op v (replicate 16 by) ≡ map (λ b. op b by) v
-  are = zip2_splat op v 16 by long
+top_lane : (t : Bool) → top 7 (lane t) ≡ t
+top_lane false = refl
+top_lane true = refl
 
-  each : (vs : List ℕ) → Each1 (λ b. op b by < 16) vs → Each1 (λ j. j < 16) (map (λ b. op b by) vs)
-  each [] none = tt
-  each (b ∷ vs) some = (some.0, each vs some.1)
+-- whether a vector's lanes are outside a range, as it is computed
+abbrev range_lanes : List ℕ → ℕ → ℕ → List ℕ
+range_lanes v first last =
+    zip2 bit_or (zip2 (λ a b. lane (nat_lt a b)) v (replicate 16 first)) (zip2 (λ a b. lane (nat_lt a b)) (replicate 16 last) v)
 
-  may_look_up : SwzOk w8 16 16 0 (zip2 op v (replicate 16 by))
-  may_look_up =
-      subst (SwzOk w8 16 16 0) (sym are)
-      (SwzOk-from_below w8 16 1 16 0 (map (λ b. op b by) v) refl (omega (arith, long, length-map v (λ b. op b by))) (each v small))
+range_of_map : (f : ℕ → ℕ) (range : Range) (v vs : List ℕ) → length vs ≡ 16 → v ≡ map f vs
+    → range_lanes v range.first range.last ≡ map (λ b. lane (is_outside_range range (f b))) vs
+range_of_map f range v vs long is =
+    let size : length v ≡ 16 = ap length is ∙ (length-map vs f ∙ long) in
+    let below = zip2_splat (λ a b. lane (nat_lt a b)) v 16 range.first size ∙ (ap (map (λ a. lane (nat_lt a range.first))) is ∙ map-map (λ a. lane (nat_lt a range.first)) f vs) in
+    let above = zip2_splat_left (λ a b. lane (nat_lt a b)) range.last 16 v size ∙ (ap (map (λ a. lane (nat_lt range.last a))) is ∙ map-map (λ a. lane (nat_lt range.last a)) f vs) in
+    zip2_of_maps bit_or (λ b. lane (nat_lt (f b) range.first)) (λ b. lane (nat_lt range.last (f b))) vs below above
+    ∙ (λ i. map (λ b. or_lane (nat_lt (f b) range.first) (nat_lt range.last (f b)) i) vs)
 
-  looked_up : (t : List ℕ) → length t ≡ 16 → swz_l w8 16 (take 16 t) 0 (zip2 op v (replicate 16 by)) ≡ map (λ b. get_or t (op b by) 0) v
-  looked_up t size =
-      ap (λ u. swz_l w8 16 u 0 (zip2 op v (replicate 16 by))) (take_all 16 t (omega (arith, size)))
-      ∙ ap (swz_l w8 16 t 0) are ∙ swz-map t (λ b. op b by) v 0 (omega (arith, long)) small
-
-pub low_ok : (v : List ℕ) → length v ≡ 16 → SwzOk w8 16 16 0 (zip2 bit_and v (replicate 16 15))
-low_ok v long = may_look_up bit_and 15 v long (low_bits v)
-
-pub high_ok : (v : List ℕ) → length v ≡ 16 → Each1 (Fits w8) v → SwzOk w8 16 16 0 (zip2 (λ a b. a / 2 ^ b) v (replicate 16 4))
-high_ok v long fits = may_look_up (λ a b. a / 2 ^ b) 4 v long (high_bits v fits)
+-- a vector as a map of itself
+same_lanes : (vs : List ℕ) → vs ≡ map (λ b. b) vs
+same_lanes [] = refl
+same_lanes (b ∷ vs) = ap (λ bs. b ∷ bs) (same_lanes vs)
 
 -- the mask of a vector, as it is computed
-pub outside-lanes : (class : Class) (v : List ℕ) → length v ≡ 16 → Each1 (Fits w8) v → length class.low ≡ 16 → length class.high ≡ 16
-    → mask_l (map (top 7) (zip2 (λ a b. cond (eqb a b) (2 ^ 8 - 1) 0)
-    (zip2 bit_and (swz_l w8 16 (take 16 class.low) 0 (zip2 bit_and v (replicate 16 15)))
-    (swz_l w8 16 (take 16 class.high) 0 (zip2 (λ a b. a / 2 ^ b) v (replicate 16 4)))) (replicate 16 0))) % 2 ^ 64
+pub outside-lanes : (class : Class) (v : List ℕ) → length v ≡ 16
+    → mask_l (map (top 7) (zip2 bit_and
+    (zip2 bit_and (range_lanes (zip2 bit_or v (replicate 16 class.fold)) class.folded.first class.folded.last)
+    (range_lanes v class.second.first class.second.last)) (range_lanes v class.third.first class.third.last))) % 2 ^ 64
     ≡ outside class v
-outside-lanes class v long fits low_long high_long =
-    let low = looked_up bit_and 15 v long (low_bits v) class.low low_long in
-    let high = looked_up (λ a b. a / 2 ^ b) 4 v long (high_bits v fits) class.high high_long in
-    let both : ℕ → ℕ = λ b. bit_and (get_or class.low (bit_and b 15) 0) (get_or class.high (b / 16) 0) in
-    let lanes : zip2 bit_and (swz_l w8 16 (take 16 class.low) 0 (zip2 bit_and v (replicate 16 15)))
-    (swz_l w8 16 (take 16 class.high) 0 (zip2 (λ a b. a / 2 ^ b) v (replicate 16 4))) ≡ map both v =
-    zip2_of_maps bit_and _ _ v low high in
-    ap (λ xs. mask_l (map (top 7) (zip2 (λ a b. cond (eqb a b) (2 ^ 8 - 1) 0) xs (replicate 16 0))) % 2 ^ 64) lanes
-    ∙ bitmask_splat w8 eqb (map both v) 16 0 (length-map v both ∙ long) (omega arith)
-    ∙ ap mask_l (map-map (λ x. eqb x 0) both v)
+outside-lanes class v long =
+    let folded = range_of_map (λ b. bit_or b class.fold) class.folded _ v long (zip2_splat bit_or v 16 class.fold long) in
+    let second = range_of_map (λ b. b) class.second v v long (same_lanes v) in
+    let third = range_of_map (λ b. b) class.third v v long (same_lanes v) in
+    let one : ℕ → Bool = λ b. is_outside_range class.folded (bit_or b class.fold) in
+    let two : ℕ → Bool = λ b. is_outside_range class.second b in
+    let three : ℕ → Bool = λ b. is_outside_range class.third b in
+    let both : zip2 bit_and _ _ ≡ map (λ b. lane (one b && two b)) v =
+    zip2_of_maps bit_and (λ b. lane (one b)) (λ b. lane (two b)) v folded second ∙ (λ i. map (λ b. and_lane (one b) (two b) i) v) in
+    let all : zip2 bit_and _ _ ≡ map (λ b. lane (is_outside class b)) v =
+    zip2_of_maps bit_and (λ b. lane (one b && two b)) (λ b. lane (three b)) v both third
+    ∙ (λ i. map (λ b. and_lane (one b && two b) (three b) i) v) in
+    ap (λ xs. mask_l (map (top 7) xs) % 2 ^ 64) all
+    ∙ ap (λ xs. mask_l xs % 2 ^ 64) (map-map (top 7) (λ b. lane (is_outside class b)) v ∙ (λ i. map (λ b. top_lane (is_outside class b) i) v))
+    ∙ mask_l-mod (map (is_outside class) v) 64 (omega (arith, length-map v (is_outside class), long))
 
 -- ---- masks that are joined
 
@@ -251,25 +255,30 @@ module _ (class : Class) (text : List ℕ) (at known stops : ℕ) (is : stops �
 
 -- ---- the classes
 
+-- what is past all ranges is outside
+past_range : (range : Range) (b : ℕ) → range.last < b → is_outside_range range b ≡ true
+past_range range b past = rw (lt-ltb range.last b past) (or-true (nat_lt b range.first))
+
 -- a byte is a member only if its class has it: tried on all bytes
-in_tables : (class : Class) (wider : ℕ → Bool) → length class.high ≡ 16
+in_ranges : (class : Class) (wider : ℕ → Bool) → class.folded.last < 256 → class.second.last < 256 → class.third.last < 256
     → list_all (λ b. is_outside class b || wider b) (range_with_len 0 256) ≡ true → (b : ℕ) → is_member class b ≡ true → wider b ≡ true
-in_tables class wider size all b member =
+in_ranges class wider one two three all b member =
     elim (cases_lt b 256) [
       | inl within ↦ ap (λ t. t || wider b) (sym (not-true _ member)) ∙ at_byte (λ x. is_outside class x || wider x) b within all
       | inr past ↦
-          let none = get_or_past class.high (b / 16) 0 (omega (arith, size, past)) in
-          let outside : is_outside class b ≡ true =
-          eq-eqb _ 0 (ap (bit_and (get_or class.low (bit_and b 15) 0)) none ∙ omega (arith, and_le_r (get_or class.low (bit_and b 15) 0) 0)) in
+          let folded = past_range class.folded (bit_or b class.fold) (omega (arith, one, past, le_or_l b class.fold)) in
+          let second = past_range class.second b (omega (arith, two, past)) in
+          let third = past_range class.third b (omega (arith, three, past)) in
+          let outside : is_outside class b ≡ true = rw (folded, second, third) refl in
           absurd (true≢false (sym member ∙ ap not outside))
     ]
 
 -- the members of the class of token bytes other than the plus are such bytes
 pub are_token_bytes : (b : ℕ) → is_member TOKEN_EXCEPT_PLUS b ≡ true → is_token_except_plus b ≡ true
 unfolding is_token_byte
-are_token_bytes = in_tables TOKEN_EXCEPT_PLUS is_token_except_plus refl refl
+are_token_bytes = in_ranges TOKEN_EXCEPT_PLUS is_token_except_plus (omega arith) (omega arith) (omega arith) refl
 
 -- the members of the class of quoted text are bytes of quoted text
 pub are_quoted_text : (b : ℕ) → is_member QUOTED_TEXT b ≡ true → is_quoted_text_byte b ≡ true
 unfolding is_quoted_byte
-are_quoted_text = in_tables QUOTED_TEXT is_quoted_text_byte refl refl
+are_quoted_text = in_ranges QUOTED_TEXT is_quoted_text_byte (omega arith) (omega arith) (omega arith) refl

@@ -7,27 +7,55 @@ ghost use Rattle.mime.specs.Inner.Members.{is_member, outside};
 use crate::blocks::BLOCK;
 use std::simd::prelude::*;
 
-/// A class of bytes: a byte is a member if the entry for its low four bits and that for its high four bits have a bit
-/// in common.
-pub(crate) struct Class {
-    low: [u8; 16],
-    high: [u8; 16],
+/// A range of bytes, from its first to its last.
+#[derive(Clone, Copy)]
+pub(crate) struct Range {
+    first: u8,
+    last: u8,
 }
 
-/// The bytes of a token other than the plus.
+/// A class of bytes: those in one of three ranges. The first is of bytes whose bits of `fold` are set, as 32 is set in
+/// lowercase letters: so letters of either case are in one range.
+#[derive(Clone, Copy)]
+pub(crate) struct Class {
+    fold: u8,
+    folded: Range,
+    second: Range,
+    third: Range,
+}
+
+/// The bytes that tokens mostly have: letters, digits, hyphens and dots.
 pub(crate) static TOKEN_EXCEPT_PLUS: Class = Class {
-    low: [
-        232, 252, 248, 252, 252, 252, 252, 252, 248, 248, 244, 80, 208, 84, 244, 112,
-    ],
-    high: [0, 0, 4, 8, 16, 32, 64, 128, 0, 0, 0, 0, 0, 0, 0, 0],
+    fold: 0x20,
+    folded: Range {
+        first: b'a',
+        last: b'z',
+    },
+    second: Range {
+        first: b'0',
+        last: b'9',
+    },
+    third: Range {
+        first: b'-',
+        last: b'.',
+    },
 };
 
-/// The bytes of quoted text.
+/// The bytes of quoted text in ASCII, but for the tab.
 pub(crate) static QUOTED_TEXT: Class = Class {
-    low: [
-        254, 254, 250, 254, 254, 254, 254, 254, 254, 255, 254, 254, 222, 254, 254, 126,
-    ],
-    high: [1, 0, 4, 8, 16, 32, 64, 128, 2, 2, 2, 2, 2, 2, 2, 2],
+    fold: 0,
+    folded: Range {
+        first: b'#',
+        last: b'[',
+    },
+    second: Range {
+        first: b']',
+        last: b'~',
+    },
+    third: Range {
+        first: b' ',
+        last: b'!',
+    },
 };
 
 /// How many bytes are searched together at the start of a string: a mask has a bit for each.
@@ -36,15 +64,27 @@ pub(crate) const WINDOW: usize = 64;
 /// Half a block.
 const HALF: usize = 8;
 
-/// Which of 16 bytes are outside a class, as a bit mask. The lowest bit is for the first byte.
+/// Which of 16 bytes are outside a class, as a bit mask. The lowest bit is for the first byte. Comparisons alone are a
+/// few instructions on every processor; a look-up by shuffled bytes isn't on the oldest ones.
 #[inline(always)]
 fn outside_in_lanes(bytes: u8x16, class: &Class) -> u64
     ensures mask { result ≡ outside class.now bytes }
     ensures few { result < 2 ^ 16 }
 {
-    let low = u8x16::from_slice(&class.low).swizzle_dyn(bytes & u8x16::splat(15));
-    let high = u8x16::from_slice(&class.high).swizzle_dyn(bytes >> u8x16::splat(4));
-    (low & high).simd_eq(u8x16::splat(0)).to_bitmask()
+    let Class {
+        fold,
+        folded,
+        second,
+        third,
+    } = *class;
+    let low = bytes | u8x16::splat(fold);
+    let no_folded = low.simd_lt(u8x16::splat(folded.first))
+        | low.simd_gt(u8x16::splat(folded.last));
+    let no_second = bytes.simd_lt(u8x16::splat(second.first))
+        | bytes.simd_gt(u8x16::splat(second.last));
+    let no_third = bytes.simd_lt(u8x16::splat(third.first))
+        | bytes.simd_gt(u8x16::splat(third.last));
+    (no_folded & no_second & no_third).to_bitmask()
 }
 
 /// Which bytes in the first block of a string are outside a class.
