@@ -1,9 +1,10 @@
 //! The boundary between the parts of a multipart body.
 
-ghost use Rattle.std.specs.Prelude.{◌≡◌, ◌↔◌, ℕ, List, IsTrue, IfOk, MatchOption};
+ghost use Rattle.std.specs.Prelude.{◌≡◌, ◌↔◌, ℕ, List, Some, IsTrue, IfOk, MatchOption, codes, option_map};
 ghost use Rattle.std.specs.List.{list_all};
 ghost use Rattle.std.specs.Vec.{vec_items};
 ghost use Rattle.mime_http.specs.Boundary.{is_bchar, IsBoundary, IsBoundaryOf};
+ghost use Rattle.mime_http.specs.Ranges.{first_value};
 ghost use Rattle.mime_http.specs.Unescaped.{unescaped};
 
 use crate::quoted::unescape;
@@ -86,6 +87,20 @@ fn meant_boundary(alloc: Global, value: &str) -> Result<Option<Vec<u8>>, AllocEr
     }
 }
 
+/// The boundary that the first parameter `boundary` means, if it means one. It isn't inlined: most media types aren't `multipart`.
+#[inline(never)]
+fn first_boundary(alloc: Global, mime: &Mime) -> Result<Option<Vec<u8>>, AllocError>
+    ensures { IfOk result (λ answer. MatchOption answer
+        ((bytes : List ℕ) → option_map unescaped (first_value (codes "boundary") mime.now.media.pairs) ≡ Some bytes → ¬ (IsBoundary bytes))
+        (λ boundary. (option_map unescaped (first_value (codes "boundary") mime.now.media.pairs) ≡ Some (vec_items boundary))
+        × IsBoundary (vec_items boundary))) }
+{
+    match first_value(mime, "boundary") {
+        Some(value) => meant_boundary(alloc, value.text),
+        None => Ok(None),
+    }
+}
+
 /// Returns the boundary between the parts of a body of any `multipart` type, byte for byte as it stands in the body (RFC 2046, 5.1.1):
 /// `a b` for `multipart/mixed; boundary="a b"`. `None` exactly if the type isn't `multipart`, there is no parameter `boundary`, or what
 /// the first one means isn't a boundary, as [`is_boundary`] says.
@@ -99,8 +114,5 @@ pub fn boundary(alloc: Global, mime: &Mime) -> Result<Option<Vec<u8>>, AllocErro
     if mime.type_().text != "multipart" {
         return Ok(None);
     }
-    let Some(value) = first_value(mime, "boundary") else {
-        return Ok(None);
-    };
-    meant_boundary(alloc, value.text)
+    first_boundary(alloc, mime)
 }
