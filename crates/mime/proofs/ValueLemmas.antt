@@ -4,6 +4,7 @@ pub mod Pairs
 pub mod ListText
 pub mod KeptText
 pub mod Parts
+pub mod Places
 pub mod Reading
 pub mod Traits
 pub mod Hash

@@ -12,5 +12,6 @@ pub mod KeptText
 pub mod ComparedText
 pub mod OrderLaws
 pub mod HashInput
+pub mod KeptPlaces
 pub mod KeptBytes
 pub mod BetweenCalls

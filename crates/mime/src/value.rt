@@ -7,27 +7,33 @@ ghost use Rattle.mime.specs.Faults.{Explains};
 ghost use Rattle.mime.specs.Items.{items_of, name_seen, name_text, IsLowIf, IsLowItem, IsFirstAccepted};
 ghost use Rattle.mime.specs.Inner.Scanning.{HasPositions};
 ghost use Rattle.mime.specs.Inner.KeptText.{IsKept, media_of, AreLowPairs};
-ghost use Rattle.mime.specs.Inner.KeptBytes.{bytes_of};
+ghost use Rattle.mime.specs.Inner.KeptBytes.{bytes_of, is_fixed};
 
 mod hashing;
 mod kept;
 pub(crate) mod pairs;
 mod params;
+mod places;
+mod short;
 mod traits;
 
 use crate::name::{Name, ParamKey};
 use crate::scan::{ByteReader, FromStrError, ParseError, Positions, Verdict, scan};
-use crate::value::kept::keep;
+use crate::value::kept::{keep, positions_in_kept};
 use crate::value::pairs::Pairs;
 pub use crate::value::params::Params;
+use crate::value::places::Places;
+use crate::value::short::{SHORT, ShortText};
 use std::alloc::Global;
 use std::marker::Model;
 
-/// The kept text of a media type: static for `*/*` and the constants, else allocated.
+/// The kept text of a media type: static for `*/*` and the constants, in the value itself if a short string was read,
+/// else allocated. `Short` is last: it is told first from the others, which are laid out alike.
 #[derive(Drop)]
 enum Text {
     Fixed(&'static str),
     Owned(String),
+    Short(ShortText),
 }
 
 impl Text {
@@ -38,6 +44,7 @@ impl Text {
         match self {
             Text::Fixed(text) => text,
             Text::Owned(text) => text.as_str(),
+            Text::Short(text) => text.as_str(),
         }
     }
 }
@@ -50,7 +57,7 @@ impl Text {
 #[derive(Drop)]
 pub struct Mime {
     text: Text,
-    positions: Positions,
+    places: Places,
 }
 
 impl Model for Mime {
@@ -59,17 +66,18 @@ impl Model for Mime {
     ghost Value = { OwnedMedia };
 
     ghost use Rattle.mime.specs.Inner.KeptBytes.{bytes_of, is_fixed};
+    ghost use Rattle.mime.specs.Inner.KeptPlaces.{positions_at};
     ghost use Rattle.mime.specs.Inner.KeptText.{media_of, IsKept};
 
-    ghost view = { λ mime. record { media = media_of (bytes_of mime.text) mime.positions; fixed = is_fixed mime.text } };
+    ghost view = { λ mime. record { media = media_of (bytes_of mime.text) (positions_at mime.places); fixed = is_fixed mime.text } };
 
-    ghost invariant = { λ mime. IsKept (bytes_of mime.text) mime.positions };
+    ghost invariant = { λ mime. IsKept (bytes_of mime.text) (positions_at mime.places) };
 }
 
 impl Mime {
     /// Reads a media type from the whole of `s` (RFC 7231, 3.1.1.1, with the departures that
-    /// docs/DIFFERENCES.md lists). It allocates once, for the kept text, if `s` is a media type other
-    /// than `*/*`; otherwise it doesn't allocate.
+    /// docs/DIFFERENCES.md lists). It allocates once, for the kept text, if `s` is a media type of more than
+    /// 40 bytes; otherwise it doesn't allocate.
     ///
     /// `TEXT/PLAIN; CHARSET=UTF-8; FOO=BAR` is kept as `text/plain; charset=utf-8; foo=BAR`, and
     /// `text/plain; ` as `text/plain`.
@@ -79,7 +87,7 @@ impl Mime {
     /// `MissingSubtype`, `MissingEqual`, `MissingValue` or `MissingQuote`), as `MissingEqual` for `a/b;p`, or
     /// else the position (`InvalidToken`, in bytes, from 0) of the first byte that no media type could have
     /// there, as 5 for `text/;`. Reporting a fault doesn't allocate. [`ParseError::NoMemory`] is returned only
-    /// for a media type, and never for `*/*`.
+    /// for a media type of more than 40 bytes.
     pub fn from_str(alloc: Global, s: &str) -> Result<Mime, FromStrError>
         // The result is the value of the string.
         ensures read { IfOk result (λ mime. Reads s.now mime.media) }
@@ -114,17 +122,28 @@ impl Mime {
         ensures star { s.now ≡ codes "*/*" → IfOk result (λ mime. mime.fixed ≡ true) }
     {
         if s == "*/*" {
-            return Ok(Mime {
-                text: Text::Fixed("*/*"),
-                positions,
-            });
+            return Ok(Mime::fixed("*/*", positions));
+        }
+        let kept = positions_in_kept(positions);
+        if s.len() <= SHORT {
+            return Ok(Mime::of_kept(Text::Short(ShortText::keep(s, positions)), kept));
         }
         match keep(alloc, s, positions) {
-            Ok((text, positions)) => Ok(Mime {
-                text: Text::Owned(text),
-                positions,
-            }),
+            Ok(text) => Ok(Mime::of_kept(Text::Owned(text), kept)),
             Err(_) => Err(FromStrError::new(ParseError::NoMemory)),
+        }
+    }
+
+    /// The media type of a text in kept form, with the positions of its parts.
+    #[inline(always)]
+    fn of_kept(text: Text, positions: Positions) -> Mime
+        requires { IsKept (bytes_of text) positions }
+        ensures media { result.media ≡ media_of (bytes_of text) positions }
+        ensures fixed { result.fixed ≡ is_fixed text }
+    {
+        Mime {
+            text,
+            places: Places::of(positions),
         }
     }
 
@@ -136,10 +155,7 @@ impl Mime {
         ensures reads { Reads text.now result.media }
         ensures fixed { result.fixed ≡ true }
     {
-        Mime {
-            text: Text::Fixed(text),
-            positions,
-        }
+        Mime::of_kept(Text::Fixed(text), positions)
     }
 
     /// Returns the type, in lowercase: `text` for `Text/Plain` (RFC 7231, 3.1.1.1).
@@ -149,7 +165,7 @@ impl Mime {
         ensures low { lowered result.text.now ≡ result.text.now }
     {
         Name {
-            text: &self.text.as_str()[..self.positions.slash],
+            text: &self.text.as_str()[..self.places.slash],
             ignores_case: true,
         }
     }
@@ -162,9 +178,9 @@ impl Mime {
         ensures low { lowered result.text.now ≡ result.text.now }
     {
         let essence = self.essence_str();
-        let end = self.positions.plus.unwrap_or(essence.len());
+        let end = self.places.plus().unwrap_or(essence.len());
         Name {
-            text: &essence[self.positions.slash + 1..end],
+            text: &essence[self.places.slash + 1..end],
             ignores_case: true,
         }
     }
@@ -176,7 +192,7 @@ impl Mime {
         ensures flag { IfSome result (λ name. name.ignores_case ≡ true) }
         ensures low { IfSome result (λ name. lowered name.text.now ≡ name.text.now) }
     {
-        let plus = self.positions.plus?;
+        let plus = self.places.plus()?;
         Some(Name {
             text: &self.essence_str()[plus + 1..],
             ignores_case: true,
@@ -189,7 +205,7 @@ impl Mime {
         ensures { result.now ≡ self.now.media.essence }
     {
         let text = self.text.as_str();
-        match self.positions.semicolon {
+        match self.places.semicolon() {
             None => text,
             Some(semicolon) => &text[..semicolon],
         }
@@ -221,7 +237,7 @@ impl Mime {
         ensures low { AreLowPairs result }
     {
         let text = self.text.as_str();
-        Pairs::of_text(text, self.positions.semicolon, self.positions.pair_count)
+        Pairs::of_text(text, self.places.semicolon(), self.places.pair_count)
     }
 
     /// The number of parameters.
@@ -229,7 +245,7 @@ impl Mime {
     pub(crate) fn param_count(&self) -> usize
         ensures { result ≡ length self.now.media.pairs }
     {
-        self.positions.pair_count
+        self.places.pair_count
     }
 
     /// Returns the value of the first parameter whose name the key accepts, or `None` if it accepts no name:

@@ -1,12 +1,14 @@
--- The text that a value owns or borrows. A page of its own, since it names a type of the code that cites `KeptText`.
+-- The text that a value keeps. A page of its own, since it names a type of the code that cites `KeptText`.
 use Rattle.std.specs.Prelude.{ℕ, List, Bool, true, false, string_bytes}
 use Rattle.mime.specs.declared.value.Text.{Text}
-use Rattle.mime.specs.declared.value.Text.TheVariants.{Fixed, Owned}
+use Rattle.mime.specs.declared.value.Text.TheVariants.{Fixed, Owned, Short}
 
 abbrev pub bytes_of : Text → List ℕ
 bytes_of (Fixed text) = text.now
 bytes_of (Owned text) = string_bytes text
+bytes_of (Short text) = text
 
 abbrev pub is_fixed : Text → Bool
 is_fixed (Fixed text) = true
 is_fixed (Owned text) = false
+is_fixed (Short text) = false

@@ -14,14 +14,14 @@ use crate::scan::Positions;
 use crate::value::pairs::cut;
 use std::alloc::{AllocError, Global};
 
-/// Whether a string has an ASCII capital.
+/// Whether there is an ASCII capital among bytes.
 #[inline]
-fn has_capital(text: &str) -> bool
-    ensures { IsFalse result ↔ (lowered text.now ≡ text.now) }
+pub(crate) fn has_capital(bytes: &[u8]) -> bool
+    ensures { IsFalse result ↔ (lowered bytes.now ≡ bytes.now) }
 {
     let mut found = false;
     // Without an early exit, several bytes are tested at a time.
-    for byte in text.as_bytes() {
+    for byte in bytes {
         found |= byte.is_ascii_uppercase();
     }
     found
@@ -78,7 +78,7 @@ fn lowercase_pairs(bytes: &mut [u8], list: Suffix<'_>, count: usize)
 /// Lowercases, in a string with `count` pairs, everything up to the semicolon, the names, and the values of `charset`.
 /// `bytes` is a copy of the string's bytes.
 #[inline]
-fn lowercase_text(bytes: &mut [u8], text: &str, semicolon: usize, count: usize)
+pub(crate) fn lowercase_text(bytes: &mut [u8], text: &str, semicolon: usize, count: usize)
     requires same { bytes.old ≡ text.now }
     requires parted { slice_get text.now semicolon ≡ Some semicolon_byte }
     ensures { bytes.new ≡ with_pairs_lowered count semicolon text.now }
@@ -99,7 +99,7 @@ fn keep_pairs(
     requires { slice_get text.now semicolon ≡ Some semicolon_byte }
     ensures { IfOk result (λ kept. string_bytes kept ≡ with_pairs_lowered count semicolon text.now) }
 {
-    if !has_capital(text) {
+    if !has_capital(text.as_bytes()) {
         return String::from_str(alloc, text);
     }
     let mut bytes = Vec::from_slice(alloc, text.as_bytes())?;
@@ -108,30 +108,31 @@ fn keep_pairs(
     Ok(unsafe { String::from_utf8_unchecked(bytes) })
 }
 
-/// The kept text of an accepted string, and the positions in it. An empty parameter list is dropped.
+/// The positions of the parts in the kept text: an empty parameter list is dropped.
 #[inline(always)]
-pub(crate) fn keep(
-    alloc: Global,
-    text: &str,
-    positions: Positions,
-) -> Result<(String, Positions), AllocError>
-    requires { HasPositions text.now positions }
-    ensures text { IfOk result (λ kept. string_bytes kept.0 ≡ kept_text_of positions.pair_count positions.semicolon text.now) }
-    ensures positions { IfOk result (λ kept. kept.1 ≡ kept_positions positions) }
+pub(crate) fn positions_in_kept(positions: Positions) -> Positions
+    ensures { result ≡ kept_positions positions }
 {
-    let Some(semicolon) = positions.semicolon else {
-        return Ok((text.to_ascii_lowercase(alloc)?, positions));
-    };
     if positions.pair_count != 0 {
-        return Ok((
-            keep_pairs(alloc, text, semicolon, positions.pair_count)?,
-            positions,
-        ));
+        return positions;
     }
-    let essence = text[..semicolon].to_ascii_lowercase(alloc)?;
-    let bare = Positions {
+    Positions {
         semicolon: None,
         ..positions
+    }
+}
+
+/// The kept text of an accepted string. An empty parameter list is dropped.
+#[inline(always)]
+pub(crate) fn keep(alloc: Global, text: &str, positions: Positions) -> Result<String, AllocError>
+    requires { HasPositions text.now positions }
+    ensures { IfOk result (λ kept. string_bytes kept ≡ kept_text_of positions.pair_count positions.semicolon text.now) }
+{
+    let Some(semicolon) = positions.semicolon else {
+        return text.to_ascii_lowercase(alloc);
     };
-    Ok((essence, bare))
+    if positions.pair_count != 0 {
+        return keep_pairs(alloc, text, semicolon, positions.pair_count);
+    }
+    text[..semicolon].to_ascii_lowercase(alloc)
 }

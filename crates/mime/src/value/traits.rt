@@ -125,8 +125,8 @@ impl Hash for Mime {
     }
 }
 
-/// Returns a copy with the same kept text. It allocates once, and its error says that memory ran out.
-/// Cloning a constant or `*/*` doesn't allocate.
+/// Returns a copy with the same kept text. It allocates once if reading the value did, and its error says that memory
+/// ran out. Cloning a constant, `*/*` or a value that was read from at most 40 bytes doesn't allocate.
 impl Clone for Mime {
     ghost is_clone = { λ mime copy. copy ≡ mime };
 
@@ -136,10 +136,11 @@ impl Clone for Mime {
         let text = match &self.text {
             Text::Fixed(text) => Text::Fixed(text),
             Text::Owned(text) => Text::Owned(text.clone()?),
+            Text::Short(text) => Text::Short(text.copy()),
         };
         Ok(Mime {
             text,
-            positions: self.positions,
+            places: self.places,
         })
     }
 }

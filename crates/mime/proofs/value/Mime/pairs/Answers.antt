@@ -2,14 +2,14 @@
 use Rattle.std.proofs.Common.{ap, ◌∙◌, subst}
 use Rattle.mime.specs.Values.{OwnedMedia}
 use Rattle.mime.specs.Inner.KeptText.{AreLowPairs}
-use Rattle.mime.specs.Inner.Pairs.{pairs_after}
 use Rattle.mime.proofs.ValueLemmas.KeptText.{reads-from_kept}
 use Rattle.mime.proofs.ValueLemmas.Parts.{read-low_pairs}
 use Rattle.mime.proofs.value.Mime.pairs.Goals as goal
 
 pub returns-clause-pairs : goal.returns-clause-pairs
 returns-clause-pairs c =
-    c.of_text.ensures ∙ ap (pairs_after _ _) c.as_str-text.ensures ∙ ap (λ (kept : OwnedMedia). kept.media.pairs) c.self.view_is
+    c.of_text.ensures ∙ rw (c.semicolon.ensures, c.as_str-text.ensures)
+    (ap (λ (kept : OwnedMedia). kept.media.pairs) c.self.view_is)
 
 pub returns-clause-low : goal.returns-clause-low
 returns-clause-low c =

@@ -7,7 +7,7 @@ use Rattle.mime.proofs.value.Mime.subtype.Goals as goal
 pub range-requires-clause-start_le_end : goal.range-requires-clause-start_le_end
 range-requires-clause-start_le_end c =
     let is = c.essence_str-essence.ensures ∙ ap (λ kept. kept.media.essence) (sym c.self.view_is) in
-    rw c.unwrap_or-end.ensures (subtype_end _ _ _ _ (reads-from_kept _ _ c.self.invariant) is refl).0
+    rw (c.unwrap_or-end.ensures, c.plus.ensures) (subtype_end _ _ _ _ (reads-from_kept _ _ c.self.invariant) is refl).0
 
 pub range-requires-clause-start_boundary : goal.range-requires-clause-start_boundary
 range-requires-clause-start_boundary c = λ _.
@@ -17,7 +17,7 @@ range-requires-clause-start_boundary c = λ _.
 pub range-requires-clause-end_boundary : goal.range-requires-clause-end_boundary
 range-requires-clause-end_boundary c =
     let is = c.essence_str-essence.ensures ∙ ap (λ kept. kept.media.essence) (sym c.self.view_is) in
-    rw c.unwrap_or-end.ensures (subtype_end _ _ _ _ (reads-from_kept _ _ c.self.invariant) is refl).1
+    rw (c.unwrap_or-end.ensures, c.plus.ensures) (subtype_end _ _ _ _ (reads-from_kept _ _ c.self.invariant) is refl).1
 
 pub returns-clause-low : goal.returns-clause-low
 returns-clause-low c =

@@ -6,4 +6,4 @@ use Rattle.mime.specs.Values.{lowered}
 use Rattle.mime.proofs.value.kept.has_capital.Given as goal
 
 abbrev pub invariant-loop-byte : goal.invariant-loop-byte
-invariant-loop-byte l = Decides (not l.found) (lowered (take l.byte-index l.text) ≡ take l.byte-index l.text)
+invariant-loop-byte l = Decides (not l.found) (lowered (take l.byte-index l.bytes) ≡ take l.byte-index l.bytes)

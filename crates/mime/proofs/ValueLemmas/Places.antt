@@ -1,0 +1,56 @@
+-- A plus or a semicolon is never at position 0, so that a word says its position.
+use Rattle.std.proofs.Common.{◌≡◌, ℕ, zero, suc, ◌+◌, ◌≤◌, List, [], ◌∷◌, length, drop, Option, Some, None, refl, subst, arith}
+use Rattle.std.specs.Prelude.{◌≢◌, IfSome, if◌then◌else◌, ◌==◌, unwrap_or}
+use Rattle.std.specs.Option.{option_or}
+use Rattle.std.proofs.lemmas.Bool.{cond_both}
+use Rattle.mime.specs.Bytes.{plus_byte}
+use Rattle.mime.specs.Grammar.{Tail, no_list, listed}
+use Rattle.mime.specs.Values.{last_plus}
+use Rattle.mime.specs.Inner.Scanning.{HasPositions, semicolon_of}
+use Rattle.mime.specs.Inner.KeptPlaces.{unless_zero}
+use Rattle.mime.specs.Inner.KeptText.{kept_semicolon}
+use Rattle.mime.specs.declared.scan.Positions.{Positions}
+
+-- a position that isn't 0 comes back from its word
+pub unless_zero-unwrap_or : (position : Option ℕ) → position ≢ Some 0 → unless_zero (unwrap_or position 0) ≡ position
+unless_zero-unwrap_or None above = refl
+unless_zero-unwrap_or (Some zero) above = absurd (above refl)
+unless_zero-unwrap_or (Some (suc n)) above = refl
+
+-- the last plus is none of the bytes before those that are searched
+last_plus-from : (at : ℕ) (bytes : List ℕ) → IfSome (last_plus at bytes) (λ plus. at ≤ plus)
+last_plus-from at [] = tt
+last_plus-from at (b ∷ bytes) = with_rest (last_plus (at + 1) bytes) (last_plus-from (at + 1) bytes)
+  where
+    with_rest : (rest : Option ℕ) → IfSome rest (λ plus. at + 1 ≤ plus)
+        → IfSome (option_or rest (if b == plus_byte then Some at else None)) (λ plus. at ≤ plus)
+    with_rest (Some position) above = omega (arith, above)
+    with_rest None above =
+        cond_both (b == plus_byte) (Some at) None (λ found. IfSome found (λ plus. at ≤ plus)) (λ _. omega arith) (λ _. tt)
+
+-- a position from another on isn't 0
+not_zero : (from : ℕ) (found : Option ℕ) → 1 ≤ from → IfSome found (λ position. from ≤ position) → found ≢ Some 0
+not_zero from found above is at_zero = absurd (omega (arith, above, subst (λ f. IfSome f (λ position. from ≤ position)) at_zero is))
+
+-- the semicolon is at the position that is asked about
+semicolon-from : (at : ℕ) (tail : Tail) → IfSome (semicolon_of at tail) (λ semicolon. at ≤ semicolon)
+semicolon-from at no_list = tt
+semicolon-from at (listed list) = omega arith
+
+-- the plus of an accepted text isn't at position 0
+pub plus-not_zero : (text : List ℕ) (positions : Positions) → HasPositions text positions → positions.plus ≢ Some 0
+plus-not_zero text positions has =
+    let top = length has.tree.top in
+    subst (λ (p : Positions). p.plus ≢ Some 0) has.same_positions
+    (not_zero (top + 2) _ (omega arith) (last_plus-from (top + 2) (drop 1 has.tree.sub)))
+
+-- nor is its semicolon
+pub semicolon-not_zero : (text : List ℕ) (positions : Positions) → HasPositions text positions → positions.semicolon ≢ Some 0
+semicolon-not_zero text positions has =
+    let at = length has.tree.top + 1 + length has.tree.sub in
+    subst (λ (p : Positions). p.semicolon ≢ Some 0) has.same_positions (not_zero at _ (omega arith) (semicolon-from at has.tree.tail))
+
+-- nor is the semicolon that is kept
+pub kept_semicolon-not_zero : (pairs : ℕ) (semicolon : Option ℕ) → semicolon ≢ Some 0 → kept_semicolon pairs semicolon ≢ Some 0
+kept_semicolon-not_zero zero semicolon above = λ is. absurd cc
+kept_semicolon-not_zero (suc pairs) semicolon above = above

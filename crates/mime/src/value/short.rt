@@ -1,0 +1,134 @@
+//! A short kept text, which lies in the value itself: making, cloning and dropping it asks for no memory.
+
+ghost use Rattle.std.specs.Prelude.{◌≡◌, ◌≤◌, Some, IsUtf8, length, take, slice_get};
+ghost use Rattle.mime.specs.Bytes.{semicolon_byte};
+ghost use Rattle.mime.specs.Values.{lowered};
+ghost use Rattle.mime.specs.Inner.Scanning.{HasPositions};
+ghost use Rattle.mime.specs.Inner.KeptText.{kept_text_of, with_pairs_lowered};
+
+use crate::scan::Positions;
+use crate::value::kept::{has_capital, lowercase_text};
+use std::marker::Model;
+
+/// The number of bytes that a short text has at most.
+pub(crate) const SHORT: usize = 40;
+
+/// The number of bytes in which a short text is made: a multiple of 16, so that whole vectors are lowercased.
+const BLOCK: usize = 48;
+
+/// A text of at most `SHORT` bytes. Zeros follow it.
+#[derive(Drop)]
+pub(crate) struct ShortText {
+    len: u32,
+    bytes: [u8; SHORT],
+}
+
+impl Model for ShortText {
+    ghost use Rattle.std.specs.Prelude.{ℕ, ◌≤◌, List, take, IsUtf8};
+
+    ghost Value = { List ℕ };
+
+    ghost view = { λ short. take short.len short.bytes };
+
+    ghost invariant = { λ short. (short.len ≤ 40) × IsUtf8 (take short.len short.bytes) };
+}
+
+/// The bytes of a text, with zeros after it.
+#[inline(always)]
+fn padded(text: &str) -> [u8; BLOCK]
+    requires { length text.now ≤ SHORT }
+    ensures { take (length text.now) result ≡ text.now }
+{
+    let mut bytes = [0; BLOCK];
+    bytes[..text.len()].copy_from_slice(text.as_bytes());
+    bytes
+}
+
+/// The bytes of the kept text of a string with `count` pairs, with zeros after them: only what ignores case is lowercased.
+#[inline(always)]
+fn pairs_kept(text: &str, semicolon: usize, count: usize) -> [u8; BLOCK]
+    requires short { length text.now ≤ SHORT }
+    requires parted { slice_get text.now semicolon ≡ Some semicolon_byte }
+    ensures { take (length text.now) result ≡ with_pairs_lowered count semicolon text.now }
+{
+    let mut bytes = padded(text);
+    if has_capital(&bytes) {
+        lowercase_text(&mut bytes[..text.len()], text, semicolon, count);
+    }
+    bytes
+}
+
+impl ShortText {
+    /// The text.
+    #[inline(always)]
+    pub(crate) fn as_str(&self) -> &str
+        ensures { result.now ≡ self.now }
+    {
+        // SAFETY: these bytes are UTF-8: the invariant says so.
+        unsafe { str::from_utf8_unchecked(&self.bytes[..self.len as usize]) }
+    }
+
+    /// A copy of it.
+    #[inline(always)]
+    pub(crate) fn copy(&self) -> ShortText
+        ensures { result ≡ self.now }
+    {
+        ShortText {
+            len: self.len,
+            bytes: self.bytes,
+        }
+    }
+
+    /// The first `len` bytes as a text.
+    #[inline(always)]
+    fn of(block: &[u8; BLOCK], len: usize) -> ShortText
+        requires short { len ≤ SHORT }
+        requires utf8 { IsUtf8 (take len block.now) }
+        ensures { result ≡ take len block.now }
+    {
+        let mut bytes = [0; SHORT];
+        bytes.copy_from_slice(&block[..SHORT]);
+        ShortText {
+            len: len as u32,
+            bytes,
+        }
+    }
+
+    /// A text in lowercase.
+    #[inline(always)]
+    fn lowercased(text: &str) -> ShortText
+        requires { length text.now ≤ SHORT }
+        ensures { result ≡ lowered text.now }
+    {
+        let mut bytes = padded(text);
+        // All of them at once: zeros stay zeros.
+        bytes.make_ascii_lowercase();
+        ShortText::of(&bytes, text.len())
+    }
+
+    /// The kept text of a string with `count` pairs: only what ignores case is lowercased.
+    #[inline(always)]
+    fn with_pairs(text: &str, semicolon: usize, count: usize) -> ShortText
+        requires short { length text.now ≤ SHORT }
+        requires parted { slice_get text.now semicolon ≡ Some semicolon_byte }
+        ensures { result ≡ with_pairs_lowered count semicolon text.now }
+    {
+        ShortText::of(&pairs_kept(text, semicolon, count), text.len())
+    }
+
+    /// The kept text of an accepted string of at most `SHORT` bytes. An empty parameter list is dropped.
+    #[inline(always)]
+    pub(crate) fn keep(text: &str, positions: Positions) -> ShortText
+        requires accepted { HasPositions text.now positions }
+        requires short { length text.now ≤ SHORT }
+        ensures { result ≡ kept_text_of positions.pair_count positions.semicolon text.now }
+    {
+        match positions.semicolon {
+            None => ShortText::lowercased(text),
+            Some(semicolon) if positions.pair_count == 0 => {
+                ShortText::lowercased(&text[..semicolon])
+            }
+            Some(semicolon) => ShortText::with_pairs(text, semicolon, positions.pair_count),
+        }
+    }
+}
