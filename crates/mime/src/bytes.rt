@@ -1,7 +1,7 @@
 //! The classes of bytes (RFC 7231, 3.1.1.1; RFC 7230, 3.2.6).
 
 ghost use Rattle.std.specs.Prelude.{◌≡◌};
-ghost use Rattle.mime.specs.Inner.ByteClasses.{is_token_except_plus};
+ghost use Rattle.mime.specs.Inner.ByteClasses.{is_token_except_plus, is_separator};
 ghost use Rattle.mime.specs.Grammar.{is_space};
 ghost use Rattle.mime.specs.Bytes.{is_token_byte, is_quoted_byte, is_quoted_text_byte};
 
@@ -55,6 +55,14 @@ pub(crate) fn is_space(b: u8) -> bool
     ensures { result ≡ is_space b }
 {
     b == b' ' || b == b'\t'
+}
+
+/// Whether a byte is an ASCII character that begins no media type, as the comma and the space of a list.
+#[inline(always)]
+pub(crate) fn is_separator(b: u8) -> bool
+    ensures { result ≡ is_separator b }
+{
+    b < 128 && !is_token(b)
 }
 
 /// Returns `true` if a byte may follow a backslash in a quoted value (the second byte of a quoted-pair of

@@ -1,12 +1,12 @@
 //! Media types one by one out of a string.
 
-ghost use Rattle.std.specs.Prelude.{◌≡◌, ◌+◌, ◌-◌, ◌<◌, ◌≤◌, ◌^◌, false, length, IfSome, None, ⊤};
+ghost use Rattle.std.specs.Prelude.{◌≡◌, ◌+◌, ◌-◌, ◌<◌, ◌≤◌, ◌^◌, false, [], ◌∷◌, length, IfSome, None, ⊤};
 ghost use Rattle.std.specs.Iterator.{UpTo, at_most};
 ghost use Rattle.std.specs.Iterator.SizeHint.{IsWithinCount};
 ghost use Rattle.mime.specs.Runs.{IsNext};
 ghost use Rattle.mime.specs.Inner.BetweenCalls.{ReadsPiece, IsFound};
 
-use crate::scan::{ByteReader, Positions, Verdict, scan};
+use crate::scan::{ByteReader, Positions, Verdict, scan_after, separators};
 use crate::value::Mime;
 use std::alloc::{AllocError, Global};
 use std::fmt;
@@ -34,15 +34,34 @@ struct ReadPiece<'a> {
     steps: u128,
 }
 
-/// Reads the first piece of a string, and skips the character after it. `from` is the number of bytes read before.
+impl<'a> ReadPiece<'a> {
+    /// No piece: the string was read to its end.
+    #[inline(always)]
+    fn none(steps: u128) -> ReadPiece<'a>
+        ensures piece { result.piece.now ≡ [] }
+        ensures positions { result.positions ≡ None }
+        ensures left { result.left.now ≡ [] }
+        ensures steps { result.steps ≡ steps }
+    {
+        ReadPiece {
+            piece: "",
+            positions: None,
+            left: "",
+            steps,
+        }
+    }
+}
+
+/// Reads the first piece of a string, and skips the character after it. The string's first byte was read already.
 #[inline(always)]
-fn read_piece<'a>(text: &'a str, from: u128) -> ReadPiece<'a>
-    requires { from + length text.now < 2 ^ 128 }
-    ensures reads { ReadsPiece text.now result.piece.now result.positions result.left.now (result.steps - from) }
-    ensures counted { from ≤ result.steps }
+fn read_piece<'a>(text: &'a str, first: u8, reader: &mut ByteReader<'_>) -> ReadPiece<'a>
+    requires first { text.now ≡ first ∷ reader.old.left }
+    requires begun { 0 < reader.old.count }
+    ensures reads { ReadsPiece text.now result.piece.now result.positions result.left.now (result.steps - (reader.old.count - 1)) }
+    ensures counted { reader.old.count - 1 ≤ result.steps }
 {
-    let mut reader = ByteReader::new(text, from);
-    let verdict = scan(&mut reader);
+    let from = reader.count() - 1;
+    let verdict = scan_after(first, reader);
     let steps = reader.count();
     match verdict {
         Verdict::Accepted(positions) => ReadPiece {
@@ -51,12 +70,7 @@ fn read_piece<'a>(text: &'a str, from: u128) -> ReadPiece<'a>
             left: "",
             steps,
         },
-        Verdict::Unfinished(_) => ReadPiece {
-            piece: "",
-            positions: None,
-            left: "",
-            steps,
-        },
+        Verdict::Unfinished(_) => ReadPiece::none(steps),
         Verdict::Stopped(_, positions) => {
             let end = reader.position(from);
             ReadPiece {
@@ -65,6 +79,24 @@ fn read_piece<'a>(text: &'a str, from: u128) -> ReadPiece<'a>
                 left: &text[text.ceil_char_boundary(end + 1)..],
                 steps,
             }
+        }
+    }
+}
+
+/// Skips the ASCII characters at the start of a string that begin no media type, reads the piece after them, and skips
+/// the character after it. `from` is the number of bytes read before.
+#[inline(always)]
+fn read_next_piece<'a>(text: &'a str, from: u128) -> ReadPiece<'a>
+    requires { from + length text.now < 2 ^ 128 }
+    ensures reads { ReadsPiece text.now result.piece.now result.positions result.left.now (result.steps - from) }
+    ensures counted { from ≤ result.steps }
+{
+    let mut reader = ByteReader::new(text, from);
+    match separators(&mut reader) {
+        None => ReadPiece::none(reader.count()),
+        Some(first) => {
+            let start = reader.position(from);
+            read_piece(&text[start..], first, &mut reader)
         }
     }
 }
@@ -139,7 +171,7 @@ impl<'a> MimeIter<'a> {
         ensures { IsFound self.old result self.new }
     {
         while !self.left.is_empty() {
-            let read = read_piece(self.left, self.steps);
+            let read = read_next_piece(self.left, self.steps);
             self.left = read.left;
             self.steps = read.steps;
             if !read.piece.is_empty() {

@@ -3,17 +3,19 @@
 //! A function that reads a part also reads the byte that ends it, and returns that byte, or `None` at the end of the
 //! string.
 
-ghost use Rattle.std.specs.Prelude.{◌+◌, ◌-◌, ◌<◌, ◌^◌, length};
+ghost use Rattle.std.specs.Prelude.{◌+◌, ◌-◌, ◌<◌, ◌≤◌, ◌^◌, length};
 ghost use Rattle.mime.specs.Bytes.{is_token_byte, is_quoted_text_byte};
 ghost use Rattle.mime.specs.Grammar.{is_space};
-ghost use Rattle.mime.specs.Inner.ByteClasses.{is_token_except_plus};
-ghost use Rattle.mime.specs.Inner.Scanning.{Passes, PassesContent, PassesSubtype, ScansList, Scans};
+ghost use Rattle.mime.specs.Inner.ByteClasses.{is_token_except_plus, is_separator};
+ghost use Rattle.mime.specs.Inner.Scanning.{Passes, PassesContent, PassesSubtype, ScansList, Scans, ScansAfter};
 
 mod fault;
 mod reader;
 mod runs;
 
-use crate::bytes::{is_quoted_byte, is_quoted_text_byte, is_space, is_token, is_token_except_plus};
+use crate::bytes::{
+    is_quoted_byte, is_quoted_text_byte, is_separator, is_space, is_token, is_token_except_plus,
+};
 pub use crate::scan::fault::{FromStrError, ParseError};
 pub(crate) use crate::scan::reader::ByteReader;
 
@@ -126,7 +128,7 @@ fn content(reader: &mut ByteReader<'_>) -> Option<u8>
 #[inline(always)]
 fn subtype(reader: &mut ByteReader<'_>, from: u128) -> (Option<usize>, Option<u8>)
     requires begun { from < reader.old.count }
-    requires fits { reader.old.count + length reader.old.left < from + 2 ^ 64 }
+    requires fits { reader.old.count + length reader.old.left ≤ from + 2 ^ 64 }
     ensures { PassesSubtype (reader.old.count - from) reader.old reader.new result }
 {
     // 0 means none yet: position 0 is in the type.
@@ -182,15 +184,27 @@ fn parameters(reader: &mut ByteReader<'_>, before: Positions) -> Verdict
     }
 }
 
-/// Reads a string to its end, or up to and including the first byte that no media type continues with.
+/// Reads the ASCII characters before a media type that begin none, and returns the byte after them.
 #[inline(always)]
-pub(crate) fn scan(reader: &mut ByteReader<'_>) -> Verdict
-    ensures { Scans reader.old reader.new result }
+pub(crate) fn separators(reader: &mut ByteReader<'_>) -> Option<u8>
+    ensures { Passes is_separator reader.old reader.new result }
 {
-    let from = reader.count();
-    let Some(first) = reader.next() else {
-        return Verdict::Unfinished(ParseError::MissingSlash);
-    };
+    while let Some(byte) = reader.next() {
+        if !is_separator(byte) {
+            return Some(byte);
+        }
+    }
+    None
+}
+
+/// Reads a string after its first byte, to its end, or up to and including the first byte that no media type continues
+/// with.
+#[inline(always)]
+pub(crate) fn scan_after(first: u8, reader: &mut ByteReader<'_>) -> Verdict
+    requires { 0 < reader.old.count }
+    ensures { ScansAfter first reader.old reader.new result }
+{
+    let from = reader.count() - 1;
     if !is_token(first) {
         return Verdict::Stopped(first, None);
     }
@@ -220,4 +234,15 @@ pub(crate) fn scan(reader: &mut ByteReader<'_>) -> Verdict
     }
     positions.semicolon = Some(reader.position(from));
     parameters(reader, positions)
+}
+
+/// Reads a string to its end, or up to and including the first byte that no media type continues with.
+#[inline(always)]
+pub(crate) fn scan(reader: &mut ByteReader<'_>) -> Verdict
+    ensures { Scans reader.old reader.new result }
+{
+    match reader.next() {
+        None => Verdict::Unfinished(ParseError::MissingSlash),
+        Some(first) => scan_after(first, reader),
+    }
 }

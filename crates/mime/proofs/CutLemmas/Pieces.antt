@@ -1,13 +1,16 @@
 -- How a text begins: its first character, and its first piece.
-use Rattle.std.proofs.Common.{◌≡◌, ◌≢◌, ℕ, zero, suc, ◌+◌, ◌-◌, ◌<◌, ◌≤◌, false, List, [], ◌∷◌, ◌++◌, length, take, drop, Option, Some, None, MatchOption, refl, sym, ap, ◌∙◌, subst, arith, ⊎_elim, length-drop}
-use Rattle.std.proofs.lemmas.Bool.{cases_Bool}
+use Rattle.std.proofs.Common.{◌≡◌, ◌≢◌, ℕ, zero, suc, ◌+◌, ◌-◌, ◌<◌, ◌≤◌, false, inl, inr, length-append, IsAscii, List, [], ◌∷◌, ◌++◌, length, take, drop, Option, Some, None, MatchOption, refl, sym, ap, ◌∙◌, subst, arith, ⊎_elim, length-drop}
+use Rattle.std.proofs.lemmas.Bool.{cases_Bool, cases_lt, and_parts, not-true, cond-false}
 use Rattle.std.proofs.lemmas.Bool.Decides.{nat_tests}
-use Rattle.std.proofs.lemmas.List.{take-append-drop, length-take-le, drop-drop, get_or-drop}
+use Rattle.std.proofs.lemmas.List.{take-append-drop, length-take-le, drop-drop, get_or-drop, take_at, drop_at}
 use Rattle.std.proofs.lemmas.Option.{slice_get_within}
-use Rattle.std.proofs.lemmas.Str.{IsCharBoundary-from_rest}
-use Rattle.std.specs.Prelude.{IsTrue, IsFalse, ◌&&◌}
+use Rattle.std.proofs.lemmas.Str.{IsCharBoundary-from_rest, IsCharBoundary-from_take, IsUtf8-from_ascii}
+use Rattle.std.proofs.lemmas.Str.Ascii.{IsAscii-cons, IsAscii-nil}
+use Rattle.std.specs.Prelude.{IsTrue, IsFalse, ◌&&◌, nat_lt}
 use Rattle.std.specs.List.{list_all}
 use Rattle.std.specs.Str.{IsUtf8, IsCharBoundary}
+use Rattle.mime.specs.Bytes.{is_token_byte}
+use Rattle.mime.specs.Inner.ByteClasses.{is_separator}
 use Rattle.mime.specs.Values.{IsAccepted, IsRejected}
 use Rattle.mime.specs.Faults.{IsViable, IsLongestPrefix, IsDeadAt}
 use Rattle.mime.specs.Cut.{is_following_byte, BeginsCharacter, IsCharacter, IsSplit, CutItem, good, bad, ItemsOf, is_read, is_rejected, is_empty, Cut, whole, unfinished, goes_on, TakesSteps}
@@ -19,9 +22,10 @@ use Rattle.mime.specs.declared.scan.Positions.{Positions}
 use Rattle.mime.specs.declared.scan.Verdict.{Verdict}
 use Rattle.mime.specs.declared.scan.Verdict.TheVariants.{Accepted, Unfinished, Stopped}
 use Rattle.mime.proofs.GrammarLemmas.Characters.{following-low, prefix_ends_between_characters}
-use Rattle.mime.proofs.CutLemmas.Cuts.{empty-rejected, empty-cut, split-size, cut_unique, takes-split, takes-viable, takes-empty}
+use Rattle.mime.proofs.CutLemmas.Cuts.{empty-rejected, empty-cut, split-size, split-from_dead, cut_unique, takes-split, takes-viable, takes-empty}
+use Rattle.mime.proofs.GrammarLemmas.Begun.{in_type}
 use Rattle.mime.proofs.ValueLemmas.Reading.{accepted-from_positions, rejected-from_fault}
-use Rattle.mime.proofs.GrammarLemmas.Viability.{accepted_is_viable}
+use Rattle.mime.proofs.GrammarLemmas.Viability.{accepted_is_viable, empty_is_viable}
 
 -- ---- the first character of a text
 
@@ -181,3 +185,103 @@ passes-stopped text piece left steps at end byte positions (given, dead_at, reje
       prefix = subst (IsLongestPrefix text) (sym size) dead.prefix;
       is_character = subst (IsCharacter after.0) (sym is_left) after.2;
     }) (rw is_at rejected)))
+
+-- ---- separators before a piece
+
+-- separators, and what follows them
+module _ (rest : List ℕ) (begins : BeginsCharacter rest) where
+  -- after a separator begins a character
+  begins_after : (run : List ℕ) → IsTrue (list_all is_separator run) → BeginsCharacter (run ++ rest)
+  begins_after [] all = begins
+  begins_after (b ∷ run) all =
+      let separator = (and_parts (is_separator b) _ all).0 in grind (arith, nat_tests, separator)
+
+  -- a separator is passed
+  separator_splits : (b : ℕ) (run : List ℕ) → IsTrue (list_all is_separator (b ∷ run)) → IsSplit (b ∷ (run ++ rest)) [] (b ∷ []) (run ++ rest)
+  separator_splits b run all =
+      let parts = and_parts (is_separator b) (list_all is_separator run) all in
+      let other : is_token_byte b ≡ false = not-true _ (and_parts (nat_lt b 128) _ parts.0).1 in
+      split-from_dead [] (run ++ rest) b (in_type [])
+      (record { following = []; left = run ++ rest; spelled = refl; of_class = refl; begins = begins_after run parts.1 }) refl
+      (cond-false (is_token_byte b) _ _ other)
+
+  -- the cut of what follows separators is that of the whole
+  separated-cut : (run : List ℕ) → IsTrue (list_all is_separator run) → (items : List CutItem) (end : List ℕ) → Cut rest items end
+      → Cut (run ++ rest) items end
+  separated-cut [] all items end cut = cut
+  separated-cut (b ∷ run) all items end cut =
+      goes_on (b ∷ (run ++ rest)) [] (b ∷ []) (run ++ rest) [] items end (separator_splits b run all) (is_empty refl)
+      (separated-cut run (and_parts (is_separator b) _ all).1 items end cut)
+
+  -- each separator takes a step
+  separated-steps : (run : List ℕ) → IsTrue (list_all is_separator run) → (n : ℕ) → TakesSteps rest n → TakesSteps (run ++ rest) (length run + n)
+  separated-steps [] all n takes = subst (TakesSteps rest) (omega arith) takes
+  separated-steps (b ∷ run) all n takes =
+      subst (TakesSteps (b ∷ (run ++ rest))) (omega arith)
+      (takes-split (b ∷ (run ++ rest)) [] (b ∷ []) (run ++ rest) (length run + n) (separator_splits b run all)
+      (separated-steps run (and_parts (is_separator b) _ all).1 n takes))
+
+  -- the first piece of what follows separators is that of the whole
+  separated-first : (run : List ℕ) → IsTrue (list_all is_separator run) → (piece : List ℕ) (positions : Option Positions) (left : List ℕ)
+      → IsFirstPiece rest piece positions left → IsFirstPiece (run ++ rest) piece positions left
+  separated-first run all piece None left first = λ items end cut. separated-cut run all _ end (first items end cut)
+  separated-first run all piece (Some positions) left (has, first) =
+      (has, λ value reads items end cut. separated-cut run all _ end (first value reads items end cut))
+
+  -- a piece is read after separators
+  pub separated-piece : (run : List ℕ) → IsTrue (list_all is_separator run) → (piece : List ℕ) (positions : Option Positions) (left : List ℕ)
+      (steps : ℕ) → ReadsPiece rest piece positions left steps → ReadsPiece (run ++ rest) piece positions left (length run + steps)
+  separated-piece run all piece positions left steps reads =
+      let size = length-append run rest in
+      record {
+        empty = λ none.
+            let on = reads.empty none in
+            record {
+              carries = λ some items end cut. separated-cut run all items end (on.carries some items end cut);
+              ends = λ end. let no_item = on.ends end in (no_item.0, separated-cut run all [] no_item.0 no_item.1);
+            };
+        item = λ some. separated-first run all piece positions left (reads.item some);
+        less = λ some.
+            elim (cases_lt 0 (length rest)) [
+              | inl longer ↦ omega (arith, reads.less longer, size)
+              | inr none ↦ omega (arith, none, reads.under_way.few, some)
+            ];
+        under_way = record {
+          few = omega (arith, reads.under_way.few, size);
+          exact = λ fed n takes.
+              subst (TakesSteps (run ++ rest)) (omega arith) (separated-steps run all (steps + n) (reads.under_way.exact fed n takes));
+        };
+      }
+
+-- nothing is read of the empty text
+pub passes-nothing : ReadsPiece [] [] None [] 0
+passes-nothing = record {
+  empty = λ none. record { carries = λ some. absurd (some refl); ends = λ end. ([], empty-cut) };
+  item = λ some. absurd (some refl);
+  less = λ some. some;
+  under_way = under_way-viable [] empty_is_viable;
+}
+
+-- separators are ASCII
+separators_are_ascii : (run : List ℕ) → IsTrue (list_all is_separator run) → IsAscii run
+separators_are_ascii [] all = IsAscii-nil
+separators_are_ascii (b ∷ run) all =
+    let parts = and_parts (is_separator b) (list_all is_separator run) all in
+    IsAscii-cons b run (grind (arith, nat_tests, parts.0)) (separators_are_ascii run parts.1)
+
+-- a text may be cut after separators
+pub separators-boundary : (text run rest : List ℕ) → IsUtf8 text → text ≡ run ++ rest → IsTrue (list_all is_separator run)
+    → IsCharBoundary text (length run)
+separators-boundary text run rest utf8 is all =
+    IsCharBoundary-from_take text (length run) utf8 (omega (arith, ap length is, length-append run rest))
+    (subst IsUtf8 (sym (ap (take (length run)) is ∙ take_at run rest (length run) refl)) (IsUtf8-from_ascii run (separators_are_ascii run all)))
+
+-- what follows separators begins with a character
+pub separators-begins : (text run rest : List ℕ) → IsUtf8 text → text ≡ run ++ rest → IsTrue (list_all is_separator run)
+    → BeginsCharacter rest
+separators-begins text run [] utf8 is all = tt
+separators-begins text run (b ∷ rest) utf8 is all =
+    let border = separators-boundary text run (b ∷ rest) utf8 is all in
+    not_following b rest
+    (subst (λ t. IsCharBoundary t 0) (ap (drop (length run)) is ∙ drop_at run (b ∷ rest) (length run) refl)
+    (border_in_rest text (length run) 0 (subst (IsCharBoundary text) (omega arith) border)))

@@ -1,7 +1,11 @@
--- A class of bytes that only the scanner has.
-use Rattle.std.specs.Prelude.{ℕ, Bool, ◌&&◌, ◌==◌, not}
+-- Classes of bytes that only the scanner has.
+use Rattle.std.specs.Prelude.{ℕ, Bool, ◌&&◌, ◌==◌, not, nat_lt}
 use Rattle.mime.specs.Bytes.{is_token_byte, plus_byte}
 
 -- a byte of a token other than the plus
 abbrev pub is_token_except_plus : ℕ → Bool
 is_token_except_plus b = is_token_byte b && not (b == plus_byte)
+
+-- an ASCII byte that begins no media type
+abbrev pub is_separator : ℕ → Bool
+is_separator b = nat_lt b 128 && not (is_token_byte b)

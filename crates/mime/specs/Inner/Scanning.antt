@@ -66,6 +66,10 @@ pub record Scans (old new : Remaining) (verdict : Verdict) : Type 0 where
   pub counted : old.count ≤ new.count
   pub judged : Judges old.left (new.count - old.count) verdict
 
+-- the scanner's answer on what a reader gave from this first byte on
+abbrev pub ScansAfter : ℕ → Remaining → Remaining → Verdict → Type 0
+ScansAfter first old new verdict = (start : Remaining) → GivesFirst start old (Some first) → Scans start new verdict
+
 -- quoted content was passed, and the byte that ends it
 pub record PassesContent (old new : Remaining) (stop : Option ℕ) : Type 0 where
   pub run : List ℕ

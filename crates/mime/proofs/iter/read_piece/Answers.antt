@@ -1,12 +1,24 @@
 -- The scanner's verdict says how a text begins.
-use Rattle.std.proofs.Common.{◌∙◌, take, ap, arith}
+use Rattle.std.proofs.Common.{◌∙◌, ◌-◌, Some, length, take, ap, arith, refl}
+use Rattle.std.proofs.lemmas.Option.{slice_get_within}
+use Rattle.mime.specs.Inner.Remaining.{Remaining}
+use Rattle.mime.specs.Inner.Scanning.{GivesFirst}
 use Rattle.mime.proofs.CutLemmas.Pieces.{judged-from_scan, stopped-boundary, passes-whole, passes-unfinished, passes-stopped}
+use Rattle.mime.proofs.iter.read_piece.Goals.{Start}
 use Rattle.mime.proofs.iter.read_piece.Goals as goal
+
+-- the reader before the text's first byte
+abbrev start : Start → Remaining
+start c = record { left = c.args.text.now; count = c.args.reader.now.count - 1 }
+
+first_given : (c : Start) → GivesFirst (start c) c.args.reader.now (Some c.args.first)
+first_given c = (record { bytes = c.requires.first; counted = omega (arith, c.requires.begun) }, tt)
 
 pub range-requires-clause-end_boundary : goal.range-requires-clause-end_boundary
 range-requires-clause-end_boundary c =
+    let here = (goal.at.range-requires-clause-end_boundary c).Start in
     let judged =
-    judged-from_scan _ _ _ _ _ _ c.in-Stopped.ensures c.new-reader.ensures.left c.new-reader.ensures.count c.count-steps.ensures.count in
+    judged-from_scan _ _ _ _ _ _ (c.in-Stopped.ensures (start here) (first_given here)) refl refl c.count-steps.ensures.count in
     (stopped-boundary _ _ _ _ _ c.utf8.text judged (omega (arith, c.position-end.ensures, c.count-steps.ensures.count))).0
 
 -- what is left begins at a character
@@ -15,18 +27,60 @@ range_from-requires c = λ _. c.ceil_char_boundary.ensures.boundary
 
 pub returns-in-Accepted-clause-reads : goal.returns-in-Accepted-clause-reads
 returns-in-Accepted-clause-reads c =
+    let here = (goal.at.returns-in-Accepted-clause-reads c).Start in
     passes-whole _ _ _
-    (judged-from_scan _ _ _ _ _ _ c.in-Accepted.ensures c.new-reader.ensures.left c.new-reader.ensures.count c.count-steps.ensures.count)
+    (judged-from_scan _ _ _ _ _ _ (c.in-Accepted.ensures (start here) (first_given here)) refl refl c.count-steps.ensures.count)
 
 pub returns-in-Unfinished-clause-reads : goal.returns-in-Unfinished-clause-reads
 returns-in-Unfinished-clause-reads c =
-    passes-unfinished _ _ _
-    (judged-from_scan _ _ _ _ _ _ c.in-Unfinished.ensures c.new-reader.ensures.left c.new-reader.ensures.count c.count-steps.ensures.count)
+    let here = (goal.at.returns-in-Unfinished-clause-reads c).Start in
+    rw (c.none.ensures.piece, c.none.ensures.positions, c.none.ensures.left, c.none.ensures.steps)
+    (passes-unfinished _ _ _
+    (judged-from_scan _ _ _ _ _ _ (c.in-Unfinished.ensures (start here) (first_given here)) refl refl c.count-steps.ensures.count))
 
 pub returns-in-Stopped-clause-reads : goal.returns-in-Stopped-clause-reads
 returns-in-Stopped-clause-reads c =
+    let here = (goal.at.returns-in-Stopped-clause-reads c).Start in
     let next = c.ceil_char_boundary.ensures in
     passes-stopped _ _ _ _ _ _ _ _
-    (judged-from_scan _ _ _ _ _ _ c.in-Stopped.ensures c.new-reader.ensures.left c.new-reader.ensures.count c.count-steps.ensures.count)
+    (judged-from_scan _ _ _ _ _ _ (c.in-Stopped.ensures (start here) (first_given here)) refl refl c.count-steps.ensures.count)
     (omega (arith, c.position-end.ensures, c.count-steps.ensures.count))
     (c.range.ensures.value ∙ ap (λ n. take n c.args.text.now) (omega arith)) c.range_from.ensures.value next.bound next.boundary next.nearest
+
+pub position-end-requires-clause-given : goal.position-end-requires-clause-given
+position-end-requires-clause-given c =
+    let here = (goal.at.position-end-requires-clause-given c).Start in
+    omega (arith, (c.in-Stopped.ensures (start here) (first_given here)).judged.0, c.count-from.ensures.count)
+
+pub position-end-requires-clause-fits : goal.position-end-requires-clause-fits
+position-end-requires-clause-fits c =
+    let here = (goal.at.position-end-requires-clause-fits c).Start in
+    let scans = c.in-Stopped.ensures (start here) (first_given here) in
+    omega (
+      arith,
+      slice_get_within c.args.text.now _ _ scans.judged.1.there,
+      scans.counted,
+      ap length c.requires.first,
+      c.count-from.ensures.fits,
+      c.count-from.ensures.count,
+    )
+
+pub returns-in-Accepted-clause-counted : goal.returns-in-Accepted-clause-counted
+returns-in-Accepted-clause-counted c =
+    let here = (goal.at.returns-in-Accepted-clause-counted c).Start in
+    omega (arith, (c.in-Accepted.ensures (start here) (first_given here)).counted, c.count-steps.ensures.count)
+
+pub returns-in-Unfinished-clause-counted : goal.returns-in-Unfinished-clause-counted
+returns-in-Unfinished-clause-counted c =
+    let here = (goal.at.returns-in-Unfinished-clause-counted c).Start in
+    omega (
+      arith,
+      (c.in-Unfinished.ensures (start here) (first_given here)).counted,
+      c.count-steps.ensures.count,
+      c.none.ensures.steps,
+    )
+
+pub returns-in-Stopped-clause-counted : goal.returns-in-Stopped-clause-counted
+returns-in-Stopped-clause-counted c =
+    let here = (goal.at.returns-in-Stopped-clause-counted c).Start in
+    omega (arith, (c.in-Stopped.ensures (start here) (first_given here)).counted, c.count-steps.ensures.count)

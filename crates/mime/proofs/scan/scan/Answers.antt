@@ -1,133 +1,14 @@
--- Each way out of the scanner.
-use Rattle.std.proofs.Common.{◌≡◌, ℕ, sym, ap, refl, ◌∙◌, ◌+◌, ◌∷◌, [], length, Some, None, arith, ne_eqb, eq-eqb}
-use Rattle.std.proofs.lemmas.Bool.{cond-true, cond-false}
-use Rattle.mime.specs.Bytes.{slash_byte, semicolon_byte}
-use Rattle.mime.specs.Values.{last_plus}
-use Rattle.mime.specs.declared.scan.Positions.{Positions}
-use Rattle.mime.specs.Inner.Scanning.{positions_of, before_list}
-use Rattle.mime.proofs.GrammarLemmas.Begun.{in_type, in_subtype}
-use Rattle.mime.proofs.ScanLemmas.Passing.{given_sum}
-use Rattle.mime.proofs.ScanLemmas.Verdicts.{Reaches, reaches_run, reaches_byte, scans_at}
-use Rattle.mime.proofs.ScanLemmas.Lists.{none_walked, type_walked, subtype_walked, Subtyped, essence_is, scans_list}
-use Rattle.mime.proofs.scan.scan.Goals.{After-position-slash, After-subtype-plus}
+-- The first byte is read, and then what follows it.
+use Rattle.std.proofs.Common.{arith, refl, None}
+use Rattle.mime.proofs.ScanLemmas.Verdicts.{scans_at}
+use Rattle.mime.proofs.ScanLemmas.Lists.{none_walked}
 use Rattle.mime.proofs.scan.scan.Goals as goal
 
-pub returns-in_default : goal.returns-in_default
-returns-in_default c = scans_at None (none_walked c.in_default.ensures) c.in_default.ensures.1 refl
-
-pub returns-then-not-is_token : goal.returns-then-not-is_token
-returns-then-not-is_token c =
-    scans_at None (none_walked c.in-Some.ensures) (cond-false _ _ _ (sym c.is_token.ensures ∙ c.if-not-is_token.true)) refl
-
 pub returns-in-None : goal.returns-in-None
-returns-in-None c =
-    scans_at None (type_walked c.in-Some.ensures (sym c.is_token.ensures ∙ c.if-not-is_token.false) c.in-None.ensures)
-    c.in-None.ensures.stopped refl
+returns-in-None c = scans_at None (none_walked c.in-None.ensures) c.in-None.ensures.1 refl
 
-pub returns-in-Some-token : goal.returns-in-Some-token
-returns-in-Some-token c =
-    scans_at None (type_walked c.in-Some.ensures (sym c.is_token.ensures ∙ c.if-not-is_token.false) c.in-Some-token.ensures)
-    (cond-false _ _ _ c.in-Some-token.ensures.stopped ∙ cond-false _ _ _ (ne_eqb _ slash_byte c.in-Some-token.byte-test.1)) refl
+pub scan_after-requires : goal.scan_after-requires
+scan_after-requires c = omega (arith, c.in-Some.ensures.0.counted)
 
--- the slash after the type, and its position
-slashed : (c : After-position-slash)
-    → Reaches (in_type []) c.args.reader.now c.token.new.reader None (in_subtype (c.in-Some.first ∷ c.in-Some-eq47.ensures.run) [])
-slashed c =
-    reaches_byte (type_walked c.in-Some.ensures (sym c.is_token.ensures ∙ c.if-not-is_token.false) c.in-Some-eq47.ensures)
-    (cond-false _ _ _ c.in-Some-eq47.ensures.stopped ∙ cond-true _ _ _ (eq-eqb _ slash_byte c.in-Some-eq47.field-0-test))
-
-slash_is : (c : After-position-slash) → c.position-slash.result ≡ length (c.in-Some.first ∷ c.in-Some-eq47.ensures.run)
-slash_is c =
-    omega (arith, c.position-slash.ensures, c.count-from.ensures.count, c.in-Some.ensures.0.counted, c.in-Some-eq47.ensures.given.counted)
-
--- what is counted and left after the slash
-slash_sum : (c : After-position-slash)
-    → c.token.new.reader.count + length c.token.new.reader.left ≡ c.args.reader.now.count + length c.args.reader.now.left
-slash_sum c = given_sum c.in-Some-eq47.ensures.given ∙ given_sum c.in-Some.ensures.0
-
-pub position-slash-requires-clause-fits : goal.position-slash-requires-clause-fits
-position-slash-requires-clause-fits c =
-    omega
-    (arith, given_sum c.in-Some-eq47.ensures.given, given_sum c.in-Some.ensures.0, c.count-from.ensures.fits, c.count-from.ensures.count)
-
-pub returns-in_default-next : goal.returns-in_default-next
-returns-in_default-next c =
-    scans_at None (reaches_run (slashed (goal.at.returns-in_default-next c).After-position-slash) c.in_default-next.ensures.0 refl)
-    c.in_default-next.ensures.1 refl
-
-pub returns-then-not-is_token-2 : goal.returns-then-not-is_token-2
-returns-then-not-is_token-2 c =
-    scans_at None (reaches_run (slashed (goal.at.returns-then-not-is_token-2 c).After-position-slash) c.in-Some-next.ensures.0 refl)
-    (cond-false _ _ _ (sym c.is_token-2.ensures ∙ c.if-not-is_token-2.true)) refl
-
-pub subtype-plus-requires-clause-fits : goal.subtype-plus-requires-clause-fits
-subtype-plus-requires-clause-fits c =
-    let sum = slash_sum (goal.at.subtype-plus-requires-clause-fits c).After-position-slash in
-    omega (arith, sum, given_sum c.in-Some-next.ensures.0, c.count-from.ensures.fits, c.count-from.ensures.count)
-
--- the subtype
-subtyped : (c : After-subtype-plus)
-    → Reaches (in_type []) c.args.reader.now c.token.new.reader None (in_subtype (c.in-Some.first ∷ c.in-Some-eq47.ensures.run) [])
-    → Subtyped (c.in-Some.first ∷ c.in-Some-eq47.ensures.run) c.in-Some-next.first c.subtype-plus.result.0 c.args.reader.now
-    c.subtype-plus.new.reader c.subtype-plus.result.1
-subtyped c slash =
-    let first = c.in-Some.ensures.0.counted in
-    let others = c.in-Some-eq47.ensures.given.counted in
-    let next = c.in-Some-next.ensures.0.counted in
-    record {
-      others = c.subtype-plus.ensures.passes.run;
-      walked =
-          subtype_walked slash c.in-Some-next.ensures (sym c.is_token-2.ensures ∙ c.if-not-is_token-2.false) c.subtype-plus.ensures.passes;
-      stopped = c.subtype-plus.ensures.passes.stopped;
-      plussed =
-          c.subtype-plus.ensures.plus
-          ∙ ap (λ at. last_plus at c.subtype-plus.ensures.passes.run)
-          (omega (arith, first, others, next, c.count-from.ensures.count));
-      counted = omega (arith, first, others, next, c.subtype-plus.ensures.passes.given.counted);
-    }
-
-pub returns-in-None-stop : goal.returns-in-None-stop
-returns-in-None-stop c =
-    let here = goal.at.returns-in-None-stop c in
-    let s = rw c.in-None-stop.is at (subtyped here.After-subtype-plus (slashed here.After-position-slash)) in
-    scans_at (Some _) s.walked s.stopped
-    (ap Some (essence_is _ _ (c.in-Some.first ∷ c.in-Some-eq47.ensures.run) s.others (slash_is here.After-position-slash) s.plussed))
-
-pub returns-in-Some-stop : goal.returns-in-Some-stop
-returns-in-Some-stop c =
-    let here = goal.at.returns-in-Some-stop c in
-    let s = rw c.in-Some-stop.is at (subtyped here.After-subtype-plus (slashed here.After-position-slash)) in
-    scans_at (Some _) s.walked
-    (cond-false _ _ _ s.stopped ∙ cond-false _ _ _ (ne_eqb _ semicolon_byte (rw c.in-Some-stop.is at c.in-Some-stop.byte-test.1)))
-    (ap Some (essence_is _ _ (c.in-Some.first ∷ c.in-Some-eq47.ensures.run) s.others (slash_is here.After-position-slash) s.plussed))
-
--- what is counted and left after the subtype
-subtype_sum : (c : After-subtype-plus)
-    → c.subtype-plus.new.reader.count + length c.subtype-plus.new.reader.left ≡ c.args.reader.now.count + length c.args.reader.now.left
-subtype_sum c =
-    given_sum c.subtype-plus.ensures.passes.given ∙ given_sum c.in-Some-next.ensures.0
-    ∙ given_sum c.in-Some-eq47.ensures.given ∙ given_sum c.in-Some.ensures.0
-
-pub position-requires-clause-fits : goal.position-requires-clause-fits
-position-requires-clause-fits c =
-    let sum = subtype_sum (goal.at.position-requires-clause-fits c).After-subtype-plus in
-    omega (arith, sum, c.count-from.ensures.fits, c.count-from.ensures.count)
-
-pub parameters-requires : goal.parameters-requires
-parameters-requires c =
-    let sum = subtype_sum (goal.at.parameters-requires c).After-subtype-plus in
-    omega (arith, sum, c.count-from.ensures.fits, c.count-from.ensures.count)
-
-pub returns : goal.returns
-returns c =
-    let here = goal.at.returns c in
-    let s = rw c.in-Some-eq59.is at (subtyped here.After-subtype-plus (slashed here.After-position-slash)) in
-    let sub = c.in-Some-next.first ∷ s.others in
-    scans_list
-    (reaches_byte s.walked
-    (cond-false _ _ _ s.stopped ∙ cond-true _ _ _ (eq-eqb _ semicolon_byte (rw c.in-Some-eq59.field-0-is at c.in-Some-eq59.field-0-test))))
-    (ap (λ (positions : Positions). record positions { semicolon = Some c.position.result })
-    (essence_is _ _ (c.in-Some.first ∷ c.in-Some-eq47.ensures.run) s.others (slash_is here.After-position-slash) s.plussed)
-    ∙ ap (λ (at : ℕ). record (positions_of (before_list (c.in-Some.first ∷ c.in-Some-eq47.ensures.run) sub)) { semicolon = Some at })
-    (omega (arith, s.counted, c.position.ensures, c.count-from.ensures.count)))
-    c.parameters.ensures
+pub returns-in-Some : goal.returns-in-Some
+returns-in-Some c = c.scan_after.ensures _ c.in-Some.ensures

@@ -8,8 +8,8 @@ loop-self-init c = (subst (IsLooking _) (sym c.self.view_is) (looking-first _), 
 
 pub loop-self-preserved : goal.loop-self-preserved
 loop-self-preserved c =
-    looking-more _ _ _ _ _ _ c.loop-self.invariant (search (rules, c.is_empty.ensures, c.loop-self-test.true)) c.read_piece-read.ensures.reads
-    c.read_piece-read.ensures.counted (search (rules, c.is_empty-in-loop-self.ensures, c.if-not-is_empty.false))
+    looking-more _ _ _ _ _ _ c.loop-self.invariant (search (rules, c.is_empty.ensures, c.loop-self-test.true)) c.read_next_piece-read.ensures.reads
+    c.read_next_piece-read.ensures.counted (search (rules, c.is_empty-in-loop-self.ensures, c.if-not-is_empty.false))
 
 pub loop-self-smaller : goal.loop-self-smaller
 loop-self-smaller c = search rules
@@ -19,9 +19,9 @@ returns c = found-none _ _ c.loop-self.invariant (search (rules, c.is_empty.ensu
 
 pub returns-then-not-is_empty : goal.returns-then-not-is_empty
 returns-then-not-is_empty c =
-    found-some _ _ _ _ _ _ c.loop-self.invariant (search (rules, c.is_empty.ensures, c.loop-self-test.true)) c.read_piece-read.ensures.reads
-    c.read_piece-read.ensures.counted (search (rules, c.is_empty-in-loop-self.ensures))
+    found-some _ _ _ _ _ _ c.loop-self.invariant (search (rules, c.is_empty.ensures, c.loop-self-test.true)) c.read_next_piece-read.ensures.reads
+    c.read_next_piece-read.ensures.counted (search (rules, c.is_empty-in-loop-self.ensures))
 
 pub invariant_of-self-then-not-is_empty : goal.invariant_of-self-then-not-is_empty
 invariant_of-self-then-not-is_empty c =
-    sound-after_piece _ _ _ c.loop-self.invariant.1 c.read_piece-read.ensures.reads.under_way c.read_piece-read.ensures.counted
+    sound-after_piece _ _ _ c.loop-self.invariant.1 c.read_next_piece-read.ensures.reads.under_way c.read_next_piece-read.ensures.counted
