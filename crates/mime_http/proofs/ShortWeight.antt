@@ -7,7 +7,7 @@ use Rattle.std.specs.Char.{is_ascii_digit}
 use Rattle.std.proofs.Math.Seq.{drop-append_seam}
 use Rattle.std.proofs.lemmas.List.{append_assoc, length-append}
 use Rattle.mime.specs.Bytes.{is_token_byte}
-use Rattle.mime.specs.Grammar.{plain, final, listed, SyntaxTree, text_of_tail, text_of, IsToken, IsWellFormed}
+use Rattle.mime.specs.Grammar.{plain, final, listed, SyntaxTree, AreSpaces, text_of_tail, text_of, IsToken, IsWellFormed}
 use Rattle.mime.specs.Values.{MediaType, Reads, value_of, essence_of, lowered_tree}
 use Rattle.mime_http.specs.Weight.{thousandths_of}
 use Rattle.mime_http.specs.Ranges.{first_value, demanded, has}
@@ -60,42 +60,59 @@ zero_and_dot : (last : Bool) → last ≡ true → (is_token_byte 48 && (is_toke
 unfolding is_token_byte
 zero_and_dot last is = rw is refl
 
--- the tree with this weight in place of the parameters
-abbrev with_weight : SyntaxTree → ℕ → SyntaxTree
-with_weight tree d = record { top = tree.top; sub = tree.sub; tail = listed (final [] (plain (113 ∷ []) (48 ∷ 46 ∷ d ∷ []))) }
+-- the tree with this weight in place of the parameters, after these spaces
+abbrev with_weight : SyntaxTree → List ℕ → ℕ → SyntaxTree
+with_weight tree n d = record { top = tree.top; sub = tree.sub; tail = listed (final n (plain (113 ∷ []) (48 ∷ 46 ∷ d ∷ []))) }
 
 -- which is well formed as well
-weight_is_well_formed : (tree : SyntaxTree) (d : ℕ) → IsWellFormed tree → is_ascii_digit d ≡ true → IsWellFormed (with_weight tree d)
-weight_is_well_formed tree d fine digit = (fine.0, fine.1, (refl, (name_is_token, zero_and_dot (is_token_byte d) (digit_is_token d digit))))
+weight_is_well_formed : (tree : SyntaxTree) (n : List ℕ) (d : ℕ) → IsWellFormed tree → AreSpaces n → is_ascii_digit d ≡ true
+    → IsWellFormed (with_weight tree n d)
+weight_is_well_formed tree n d fine spaces digit =
+    (fine.0, fine.1, (spaces, (name_is_token, zero_and_dot (is_token_byte d) (digit_is_token d digit))))
 
 -- after which the weight is the only parameter, since a text is read in one way
-pub weight_alone : (kept : List ℕ) (media : MediaType) (d : ℕ) → Reads kept media
-    → drop (length media.essence) kept ≡ 59 ∷ 113 ∷ 61 ∷ 48 ∷ 46 ∷ d ∷ [] → is_ascii_digit d ≡ true
+pub weight_alone : (media : MediaType) (rest n : List ℕ) (d : ℕ) → Reads media.kept media → rest ≡ drop (length media.essence) media.kept
+    → rest ≡ 59 ∷ (n ++ (113 ∷ 61 ∷ 48 ∷ 46 ∷ d ∷ [])) → AreSpaces n → is_ascii_digit d ≡ true
     → media.pairs ≡ (113 ∷ [], 48 ∷ 46 ∷ d ∷ []) ∷ []
-weight_alone kept media d reads ends digit =
-    let tail : text_of_tail reads.tree.tail ≡ 59 ∷ 113 ∷ 61 ∷ 48 ∷ 46 ∷ d ∷ [] = sym (after_is_tail kept media reads) ∙ ends in
-    let spelled : text_of (with_weight reads.tree d) ≡ kept =
-    front_and_tail (with_weight reads.tree d) ∙ (ap (λ t. front_of reads.tree ++ t) (sym tail) ∙ sym (kept_is kept media reads)) in
-    let again : Reads kept (value_of (with_weight reads.tree d)) = record {
-      tree = with_weight reads.tree d;
-      well_formed = weight_is_well_formed reads.tree d reads.well_formed digit;
+weight_alone media rest n d reads after is spaces digit =
+    let tail : text_of_tail reads.tree.tail ≡ 59 ∷ (n ++ (113 ∷ 61 ∷ 48 ∷ 46 ∷ d ∷ [])) =
+    sym (after_is_tail media.kept media reads) ∙ (sym after ∙ is) in
+    let spelled : text_of (with_weight reads.tree n d) ≡ media.kept =
+    front_and_tail (with_weight reads.tree n d) ∙ (ap (λ t. front_of reads.tree ++ t) (sym tail) ∙ sym (kept_is media.kept media reads)) in
+    let again : Reads media.kept (value_of (with_weight reads.tree n d)) = record {
+      tree = with_weight reads.tree n d;
+      well_formed = weight_is_well_formed reads.tree n d reads.well_formed spaces digit;
       spelled = spelled;
       valued = refl;
     } in
-    ap (λ value. value.pairs) (one_reading kept media (value_of (with_weight reads.tree d)) reads again)
+    ap (λ value. value.pairs) (one_reading media.kept media (value_of (with_weight reads.tree n d)) reads again)
 
 -- so it demands nothing else
-pub demands_nothing : (offer media : MediaType) (rest : List ℕ) → Reads media.kept media → rest ≡ drop (length media.essence) media.kept
-    → length rest ≡ 6 → HasBytesAt rest 0 (59 ∷ 113 ∷ 61 ∷ 48 ∷ 46 ∷ []) → is_ascii_digit (get_or rest 5 0) ≡ true
-    → found_of 0 (Some (48 ∷ 46 ∷ get_or rest 5 0 ∷ []))
+demands_nothing : (offer media : MediaType) (d : ℕ) → media.pairs ≡ (113 ∷ [], 48 ∷ 46 ∷ d ∷ []) ∷ []
+    → found_of 0 (Some (48 ∷ 46 ∷ d ∷ []))
     ≡ (if list_all (has offer) (demanded media.pairs) then found_of (length (demanded media.pairs)) (first_value (codes "q") media.pairs) else None)
-demands_nothing offer media rest reads after long bytes digit =
-    let d = get_or rest 5 0 in
-    let whole : rest ≡ 59 ∷ 113 ∷ 61 ∷ 48 ∷ 46 ∷ d ∷ [] =
-    text_from_reads rest (59 ∷ 113 ∷ 61 ∷ 48 ∷ 46 ∷ d ∷ []) long (bytes.0, (bytes.1.0, (bytes.1.1.0, (bytes.1.1.1.0, (bytes.1.1.1.1.0, (refl, tt)))))) in
-    let pairs = weight_alone media.kept media d reads (sym after ∙ whole) digit in
-    rw pairs refl
+demands_nothing offer media d pairs = rw pairs refl
+
+-- both ways in which the weight is written
+module _ (offer media : MediaType) (rest : List ℕ) (reads : Reads media.kept media) (after : rest ≡ drop (length media.essence) media.kept) where
+  pub at_once : length rest ≡ 6 → HasBytesAt rest 0 (59 ∷ 113 ∷ 61 ∷ 48 ∷ 46 ∷ []) → is_ascii_digit (get_or rest 5 0) ≡ true
+      → found_of 0 (Some (48 ∷ 46 ∷ get_or rest 5 0 ∷ []))
+      ≡ (if list_all (has offer) (demanded media.pairs) then found_of (length (demanded media.pairs)) (first_value (codes "q") media.pairs) else None)
+  at_once long bytes digit =
+      let d = get_or rest 5 0 in
+      let whole : rest ≡ 59 ∷ 113 ∷ 61 ∷ 48 ∷ 46 ∷ d ∷ [] =
+      text_from_reads rest _ long (bytes.0, (bytes.1.0, (bytes.1.1.0, (bytes.1.1.1.0, (bytes.1.1.1.1.0, (refl, tt)))))) in
+      demands_nothing offer media d (weight_alone media rest [] d reads after whole refl digit)
+
+  pub after_a_space : length rest ≡ 7 → HasBytesAt rest 0 (59 ∷ 32 ∷ 113 ∷ 61 ∷ 48 ∷ 46 ∷ []) → is_ascii_digit (get_or rest 6 0) ≡ true
+      → found_of 0 (Some (48 ∷ 46 ∷ get_or rest 6 0 ∷ []))
+      ≡ (if list_all (has offer) (demanded media.pairs) then found_of (length (demanded media.pairs)) (first_value (codes "q") media.pairs) else None)
+  after_a_space long bytes digit =
+      let d = get_or rest 6 0 in
+      let whole : rest ≡ 59 ∷ 32 ∷ 113 ∷ 61 ∷ 48 ∷ 46 ∷ d ∷ [] =
+      text_from_reads rest _ long (bytes.0, (bytes.1.0, (bytes.1.1.0, (bytes.1.1.1.0, (bytes.1.1.1.1.0, (bytes.1.1.1.1.1.0, (refl, tt))))))) in
+      demands_nothing offer media d (weight_alone media rest (32 ∷ []) d reads after whole refl digit)
 
 -- a weight of one decimal in thousandths
-pub one_decimal : (d : ℕ) → is_ascii_digit d ≡ true → thousandths_of (48 ∷ 46 ∷ d ∷ []) ≡ 100 * (d - 48)
-one_decimal d digit = rw digit (omega arith)
+pub one_decimal : (d weight : ℕ) → is_ascii_digit d ≡ true → weight ≡ 100 * (d - 48) → weight ≡ thousandths_of (48 ∷ 46 ∷ d ∷ [])
+one_decimal d weight digit is = rw digit (omega (arith, is))

@@ -7,7 +7,7 @@ ghost use Rattle.mime.specs.Values.{Reads};
 ghost use Rattle.mime_http.specs.Weight.{thousandths_of};
 ghost use Rattle.mime_http.specs.Ranges.{first_value, weight_of, named_parts, demanded, has, closeness};
 
-use crate::weights::thousandths;
+use crate::weights::{tenths, thousandths};
 use mime::{Mime, Name, ParamKey};
 
 /// A key that accepts this name, byte for byte. Parameters' names are in lowercase.
@@ -146,11 +146,12 @@ pub(crate) fn demanded(range: &Mime, offer: &Mime) -> Option<(usize, u16)>
     if param_count(range) == 0 {
         return Some((0, 1000));
     }
-    // Most weights are written so, after nothing else.
-    if let [b';', b'q', b'=', b'0', b'.', tenths @ b'0'..=b'9'] = after_essence(range) {
-        return Some((0, 100 * u16::from(*tenths - b'0')));
+    // Most weights are written in one of these ways, after nothing else.
+    match after_essence(range) {
+        [b';', b'q', b'=', b'0', b'.', digit @ b'0'..=b'9'] => Some((0, tenths(*digit))),
+        [b';', b' ', b'q', b'=', b'0', b'.', digit @ b'0'..=b'9'] => Some((0, tenths(*digit))),
+        _ => demanded_among(range, offer),
     }
-    demanded_among(range, offer)
 }
 
 /// Whether a range covers an offer: `text/*` covers `text/html`, and `text/html;level=1` covers `text/html;level=1` and not all HTML

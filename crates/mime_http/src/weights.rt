@@ -1,6 +1,6 @@
 //! A weight in thousandths.
 
-ghost use Rattle.std.specs.Prelude.{◌≡◌};
+ghost use Rattle.std.specs.Prelude.{◌≡◌, ◌≤◌, ◌*◌, ◌-◌};
 ghost use Rattle.mime_http.specs.Weight.{decimals, thousandths_of};
 
 /// What the digits after a dot are worth in thousandths, as 500 for `5`.
@@ -19,6 +19,15 @@ fn decimals_of(bytes: &[u8]) -> u16
     sum
 }
 
+/// What the first digit after a dot is worth in thousandths, as 500 for `5`.
+#[inline(always)]
+pub(crate) fn tenths(digit: u8) -> u16
+    requires { 48 ≤ digit }
+    ensures { result ≡ 100 * (digit - 48) }
+{
+    100 * u16::from(digit - b'0')
+}
+
 /// A weight in thousandths, as 500 for `0.5`. A string that is no weight counts as the number that it begins with, at most 1, and as 0
 /// without one: `.2` is 200, `2` is 1000 and `high` is 0, as in most libraries.
 pub(crate) fn thousandths(weight: &str) -> u16
@@ -26,8 +35,8 @@ pub(crate) fn thousandths(weight: &str) -> u16
 {
     let bytes = weight.as_bytes();
     // Most weights have one decimal.
-    if let [b'0', b'.', tenths @ b'0'..=b'9'] = bytes {
-        return 100 * u16::from(*tenths - b'0');
+    if let [b'0', b'.', digit @ b'0'..=b'9'] = bytes {
+        return tenths(*digit);
     }
     for (at, byte) in bytes.iter().enumerate() {
         match byte {
