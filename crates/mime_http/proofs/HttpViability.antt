@@ -124,7 +124,7 @@ not_in_quotes : (awaiting : Bool) → LeavesSpaces (if awaiting then Paired else
 not_in_quotes true is = is
 not_in_quotes false is = is
 
-no_space_grows : (begun : Begun) → LeavesSpaces (place_at begun) → grow begun 32 ≡ None
+pub no_space_grows : (begun : Begun) → LeavesSpaces (place_at begun) → grow begun 32 ≡ None
 unfolding is_token_byte
 no_space_grows (in_type []) is = absurd is
 no_space_grows (in_type (t ∷ top)) is = refl

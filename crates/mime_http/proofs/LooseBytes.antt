@@ -1,14 +1,15 @@
 -- What tightening does at the fault of a value: it leaves out the byte that is at fault, or nothing, and then the fault stands.
-use Rattle.std.proofs.Common.{◌≡◌, ◌∙◌, ◌==◌, ◌≢◌, refl, sym, ap, subst, arith, ℕ, suc, ◌+◌, ◌-◌, ◌<◌, Bool, true, false, List, [], ◌∷◌, ◌++◌, length, take, drop, get_or, Option, Some, None, length-append}
-use Rattle.std.proofs.Math.Seq.{take-length, take-suc}
+use Rattle.std.proofs.Common.{◌≡◌, ◌∙◌, ◌==◌, ◌≢◌, refl, sym, ap, subst, arith, ℕ, suc, ◌+◌, ◌-◌, ◌<◌, ◌≤◌, Bool, true, false, List, [], ◌∷◌, ◌++◌, length, take, drop, get_or, Option, Some, None, length-append, length-drop}
+use Rattle.std.proofs.Math.Seq.{take-length, take-suc, drop-append_seam}
 use Rattle.std.specs.Prelude.{MatchOption, slice_get, ⊤, if◌then◌else◌}
 use Rattle.std.specs.Option.{option_map, option_and_then}
-use Rattle.std.proofs.lemmas.Bool.{cond_both, true≢false}
+use Rattle.std.proofs.lemmas.Bool.{and_parts, cond_both, true≢false}
 use Rattle.std.proofs.lemmas.Bool.Decides.{nat_tests}
-use Rattle.std.proofs.lemmas.List.{append-nil, length-take-le, take-append-drop}
-use Rattle.std.proofs.lemmas.Option.{none-some, option_and_then_some, MatchOption-at_some, slice_get_within, get_or_from_slice_get}
+use Rattle.std.proofs.lemmas.List.{append-nil, append_assoc, drop-drop, length-take-le, nil_from_length, take-append-drop}
+use Rattle.std.proofs.lemmas.Str.{IsUtf8-take, IsCharBoundary-before_ascii}
+use Rattle.std.proofs.lemmas.Option.{none-some, option_and_then_some, MatchOption-at_some, slice_get_within, slice_get-get_or, get_or_from_slice_get}
 use Rattle.mime.specs.Bytes.{is_token_byte, is_quoted_byte}
-use Rattle.mime.specs.Grammar.{is_space}
+use Rattle.mime.specs.Grammar.{is_space, AreSpaces}
 use Rattle.mime.specs.Values.{IsAccepted}
 use Rattle.mime.specs.Faults.{IsViable, IsDeadAt, Lacks, IsFault}
 use Rattle.mime.specs.Inner.Quoted.{takes, continues, awaits_after}
@@ -18,18 +19,19 @@ use Rattle.mime.proofs.BytesLemmas.{slice_get-prefix}
 use Rattle.mime.proofs.GrammarLemmas.Begun.{Closed as ClosedParameters, Begun, in_type, in_subtype, in_list, ListState, in_spaces, in_name, in_value, in_quotes, after_quotes, grow_state, grow_list, grow, walk, walk_from, walk_by-append_some}
 use Rattle.mime.proofs.GrammarLemmas.Faults.{completed_is_rejected}
 use Rattle.mime.proofs.GrammarLemmas.Spelling.{by_class, spelled-from_walk}
-use Rattle.mime.proofs.GrammarLemmas.Viability.{viable-from_walk, walk-from_viable, viable-from_lacks}
+use Rattle.mime.proofs.GrammarLemmas.Viability.{viable-from_walk, walk-from_viable, viable-from_lacks, prefix_of_viable_is_viable}
 use Rattle.mime_http.specs.declared.tight.Place.{Place}
 use Rattle.mime_http.specs.declared.tight.Place.TheVariants.{Start, Plain, Spaced, Equals, Quoted, Paired, Closed, Semicolon}
 use Rattle.mime_http.specs.Tight.{after_quote, after_outside, place_after, added, tight_from, tight}
 use Rattle.mime_http.specs.HttpMediaType.{IsHttpMediaType}
 use Rattle.mime_http.specs.HttpFaults.{IsHttpViable, IsHttpLongestPrefix, HttpLacks, IsHttpDeadAt}
-use Rattle.mime_http.specs.Loose.{is_separator, ends_in_separator, IsLoose, Stands}
+use Rattle.mime_http.specs.Loose.{is_separator, ends_in_separator, begins_with_semicolon, Stands, Begins, IsLoose}
+use Rattle.mime_http.specs.HttpList.{trim_start}
 use Rattle.mime_http.proofs.Highest.{item_left}
 use Rattle.mime_http.proofs.Places.{place_from, place_from-append, token_is_plain}
 use Rattle.mime_http.proofs.PlacesAgain.{IsSettled}
 use Rattle.mime_http.proofs.HttpLaws.{accepted_from_http}
-use Rattle.mime_http.proofs.HttpViability.{place_in_list, place_at, LeavesSpaces, mapped, walked, tight-append, viable_from_tight, tight_from_viable}
+use Rattle.mime_http.proofs.HttpViability.{place_in_list, place_at, LeavesSpaces, mapped, walked, no_space_grows, tight-append, viable_from_tight, viable_from_accepted, tight_from_viable, accepted_from_spaced, prefix_of_http_viable}
 use Rattle.mime_http.proofs.HttpFaults.{Snoc, none, last, snoc, tight_one, longest_at, end_lacks}
 
 -- ---- a byte with which a begun tree goes on comes out as it is
@@ -169,20 +171,73 @@ cut_at value pos b dead =
           (λ viable. dead.prefix.longest (pos + 1) (omega arith) (omega (arith, within)) (subst IsViable next viable));
     }
 
+-- ---- what is left after it
+
+-- white space after which bytes begin that are not
+split_white : (bytes : List ℕ) → (white : List ℕ) × AreSpaces white × (bytes ≡ white ++ trim_start bytes)
+split_white [] = ([], refl, refl)
+split_white (b ∷ bytes) = go (split_white bytes) (is_space b) refl
+  where
+    go : (white : List ℕ) × AreSpaces white × (bytes ≡ white ++ trim_start bytes) → (w : Bool) → is_space b ≡ w
+        → (white : List ℕ) × AreSpaces white × (b ∷ bytes ≡ white ++ trim_start (b ∷ bytes))
+    go (white, all, same) true is = (b ∷ white, rw is all, rw is (ap (λ x. b ∷ x) same))
+    go (white, all, same) false is = ([], refl, rw is refl)
+
+no_more_white : (bytes : List ℕ) (c : ℕ) (rest : List ℕ) → trim_start bytes ≡ c ∷ rest → is_space c ≡ false
+no_more_white [] c rest e = absurd (cc)
+no_more_white (b ∷ bytes) c rest e = go (no_more_white bytes c rest) (is_space b) refl
+  where
+    go : (trim_start bytes ≡ c ∷ rest → is_space c ≡ false) → (w : Bool) → is_space b ≡ w → is_space c ≡ false
+    go more true is = more (rw is at e)
+    go more false is =
+        let both : b ∷ bytes ≡ c ∷ rest = rw is at e in
+        let first : b ≡ c = cc in
+        subst (λ x. is_space x ≡ false) first is
+
+-- places at which white space is left out, and that it doesn't change
+pub data SkipsWhite : Place → Type 0 where
+  at_start : SkipsWhite Start
+  spaced : SkipsWhite Spaced
+
+skipped : {place : Place} → SkipsWhite place → (white rest : List ℕ) → AreSpaces white → tight_from place (white ++ rest) ≡ tight_from place rest
+skipped skips [] rest all = refl
+skipped at_start (b ∷ white) rest all =
+    let parts = and_parts (is_space b) _ all in rw parts.0 (skipped at_start white rest parts.1)
+skipped spaced (b ∷ white) rest all =
+    let parts = and_parts (is_space b) _ all in rw parts.0 (skipped spaced white rest parts.1)
+
+still_spaced : (white : List ℕ) → AreSpaces white → place_from Spaced white ≡ Spaced
+still_spaced [] all = refl
+still_spaced (b ∷ white) all =
+    let parts = and_parts (is_space b) _ all in rw parts.0 (still_spaced white parts.1)
+
+-- from the end of white space on
+dropped : (value : List ℕ) (n : ℕ) (white rest : List ℕ) → n ≤ length value → drop n value ≡ white ++ rest
+    → drop (length value - length rest) value ≡ rest
+dropped value n white rest within split =
+    let count : n + length white ≡ length value - length rest =
+    omega (arith, within, ap length split, length-append white rest, length-drop n value) in
+    ap (λ m. drop m value) (sym count)
+    ∙ (sym (drop-drop (length white) n value) ∙ (ap (drop (length white)) split ∙ drop-append_seam white rest))
+
+pub after_white : {place : Place} → SkipsWhite place → (value : List ℕ) (n : ℕ) → n ≤ length value
+    → tight_from place (drop n value) ≡ tight_from place (drop (length value - length (trim_start (drop n value))) value)
+after_white {place} skips value n within =
+    let split = split_white (drop n value) in
+    ap (tight_from place) split.2 ∙ (skipped skips split.0 (trim_start (drop n value)) split.1
+    ∙ ap (tight_from place) (sym (dropped value n split.0 (trim_start (drop n value)) within split.2)))
+
 -- left out, if it adds nothing
 leaves_out : (value : List ℕ) (pos b : ℕ) (place : Place) → CutAt value pos b → pos < length value
     → added (place_from Start (take pos value)) b ≡ [] → place_after (place_from Start (take pos value)) b ≡ place
-    → IsLoose value (record { at = pos; place = place })
+    → tight value ≡ take pos value ++ tight_from place (drop (pos + 1) value)
 leaves_out value pos b place cut within nothing next =
     let before = take pos value in
     let rest = drop (pos + 1) value in
     let from = place_from Start before in
-    record {
-      within = within;
-      tightly = ap tight (sym cut.split) ∙ (tight-append Start before (b ∷ rest)
-          ∙ (ap (λ x. x ++ tight_from from (b ∷ rest)) (so_far cut.fault)
-          ∙ ap (λ x. before ++ x) (ap (λ a. a ++ tight_from (place_after from b) rest) nothing ∙ ap (λ p. tight_from p rest) next)));
-    }
+    ap tight (sym cut.split) ∙ (tight-append Start before (b ∷ rest)
+    ∙ (ap (λ x. x ++ tight_from from (b ∷ rest)) (so_far cut.fault)
+    ∙ ap (λ x. before ++ x) (ap (λ a. a ++ tight_from (place_after from b) rest) nothing ∙ ap (λ p. tight_from p rest) next)))
 
 -- at fault in the value too, if it comes out as it is
 dead_too : (value : List ℕ) (pos b : ℕ) → CutAt value pos b → slice_get value pos ≡ Some b → ComesOut (place_from Start (take pos value)) b
@@ -250,23 +305,163 @@ left_out_after Paired is b white = absurd is
 left_out_after Closed is b white = absurd is
 left_out_after Semicolon is b white = absurd is
 
-pub first_space : (value : List ℕ) (b : ℕ) → IsDeadAt value 0 b → is_space b ≡ true → IsLoose value (record { at = 0; place = Start })
-first_space value b dead white =
-    leaves_out value 0 b Start (cut_at value 0 b dead) (slice_get_within value 0 b dead.there) (rw white refl) (rw white refl)
+pub first_space : (value : List ℕ)
+    → IsLoose value (record { kept = 0; from = length value - length (trim_start value); place = Start })
+first_space value =
+    record { within = omega arith; from_within = omega arith; tightly = after_white at_start value 0 (omega arith) }
 
 some_before : (value : List ℕ) (pos : ℕ) → 0 < pos → pos < length value → take pos value ≢ []
 some_before value pos some within empty =
     omega (arith, some, within, length-take-le pos value (omega (arith, within)), ap length empty)
 
-pub later_space : (value : List ℕ) (pos b : ℕ) → IsDeadAt value pos b → 0 < pos → is_space b ≡ true
-    → IsLoose value (record { at = pos; place = Spaced })
-later_space value pos b dead some white =
+record LaterSpace (value : List ℕ) (pos b : ℕ) : Type 0 where
+  cut : CutAt value pos b
+  within : pos < length value
+  leaves : LeavesSpaces (place_at cut.fault.begun)
+  nothing : added (place_from Start (take pos value)) b ≡ []
+  next : place_after (place_from Start (take pos value)) b ≡ Spaced
+
+later : (value : List ℕ) (pos b : ℕ) → IsDeadAt value pos b → 0 < pos → is_space b ≡ true → LaterSpace value pos b
+later value pos b dead some white =
     let cut = cut_at value pos b dead in
     let within = slice_get_within value pos b dead.there in
     let fault = cut.fault in
     let leaves = space_leaves (take pos value) b fault.begun fault.reached (some_before value pos some within) white fault.stops in
     let out = left_out_after (place_from Start (take pos value)) (subst LeavesSpaces (sym (there fault)) leaves) b white in
-    leaves_out value pos b Spaced cut within out.0 out.1
+    record { cut = cut; within = within; leaves = leaves; nothing = out.0; next = out.1 }
+
+pub later_space : (value : List ℕ) (pos b : ℕ) → IsDeadAt value pos b → 0 < pos → is_space b ≡ true
+    → IsLoose value (record { kept = pos; from = length value - length (trim_start (drop (pos + 1) value)); place = Spaced })
+later_space value pos b dead some white =
+    let space = later value pos b dead some white in
+    record {
+      within = omega (arith, space.within);
+      from_within = omega arith;
+      tightly = leaves_out value pos b Spaced space.cut space.within space.nothing space.next
+          ∙ ap (λ x. take pos value ++ x) (after_white spaced value (pos + 1) (omega (arith, space.within)));
+    }
+
+-- ---- what follows white space
+
+below_128 : (b : ℕ) → is_space b ≡ true → b < 128
+below_128 b white = grind (arith, nat_tests)
+
+some_first : (xs : List ℕ) → 0 < length xs → (c : ℕ) × (more : List ℕ) × (xs ≡ c ∷ more)
+some_first [] some = absurd (omega (arith, some))
+some_first (c ∷ more) some = (c, more, refl)
+
+module _ (value : List ℕ) (pos b : ℕ) (space : LaterSpace value pos b) where
+  abbrev begin : List ℕ
+  begin = take pos value
+
+  -- up to the end of the white space, what is before it comes out
+  spaced_there : (white : List ℕ) → AreSpaces white → place_from Start (begin ++ (b ∷ white)) ≡ Spaced
+  spaced_there white all =
+      place_from-append Start begin (b ∷ white) ∙ (ap (λ place. place_from place white) space.next ∙ still_spaced white all)
+
+  comes_alone : (white : List ℕ) → AreSpaces white → tight (begin ++ (b ∷ white)) ≡ begin
+  comes_alone white all =
+      let from = place_from Start begin in
+      let empty : tight_from Spaced white ≡ [] = ap (tight_from Spaced) (sym (append-nil white)) ∙ skipped spaced white [] all in
+      tight-append Start begin (b ∷ white) ∙ (ap (λ x. x ++ tight_from from (b ∷ white)) (so_far space.cut.fault)
+      ∙ (ap (λ x. begin ++ x) (ap (λ a. a ++ tight_from (place_after from b) white) space.nothing
+      ∙ (ap (λ place. tight_from place white) space.next ∙ empty)) ∙ append-nil begin))
+
+  -- a space goes on with nothing
+  no_space_after : ¬ (IsViable (begin ++ (32 ∷ [])))
+  no_space_after viable =
+      let fault = space.cut.fault in
+      let found = walk-from_viable (begin ++ (32 ∷ [])) viable in
+      none-some found.0
+      (sym (walk_by-append_some grow (in_type []) fault.begun begin (32 ∷ []) fault.reached
+      ∙ ap (option_and_then (λ s. walk_from s [])) (no_space_grows fault.begun space.leaves)) ∙ found.1)
+
+  dies_after : (white : List ℕ) → AreSpaces white → (c : ℕ) → is_space c ≡ false → (c == 59) ≡ false
+      → ¬ (IsHttpViable ((begin ++ (b ∷ white)) ++ (c ∷ [])))
+  dies_after white all c other semicolon viable =
+      let front = begin ++ (b ∷ white) in
+      let adds : added Spaced c ≡ 32 ∷ c ∷ [] = rw (other, semicolon) refl in
+      let text : tight (front ++ (c ∷ [])) ≡ (begin ++ (32 ∷ [])) ++ (c ∷ []) =
+      tight_one front c ∙ (ap (λ x. x ++ added (place_from Start front) c) (comes_alone white all)
+      ∙ (ap (λ x. begin ++ x) (ap (λ place. added place c) (spaced_there white all) ∙ adds) ∙ sym (append_assoc begin (32 ∷ []) (c ∷ [])))) in
+      no_space_after (prefix_of_viable_is_viable (begin ++ (32 ∷ [])) (c ∷ []) (subst IsViable text (tight_from_viable (front ++ (c ∷ [])) viable)))
+
+  module _ (here : slice_get value pos ≡ Some b) (below : b < 128) (white rest : List ℕ) (all : AreSpaces white) (split : drop (pos + 1) value ≡ white ++ rest)
+      (other : (c : ℕ) (more : List ℕ) → rest ≡ c ∷ more → (is_space c ≡ false) × ((c == 59) ≡ false)) where
+    abbrev front : List ℕ
+    front = begin ++ (b ∷ white)
+
+    whole : front ++ rest ≡ value
+    whole = append_assoc begin (b ∷ white) rest ∙ (ap (λ x. begin ++ (b ∷ x)) (sym split) ∙ space.cut.split)
+
+    long : length front ≡ length value - length rest
+    long = omega (arith, ap length whole, length-append front rest)
+
+    short : length rest ≤ length value
+    short = omega (arith, ap length whole, length-append front rest)
+
+    dies : (c : ℕ) (more : List ℕ) → rest ≡ c ∷ more → IsHttpViable (front ++ (c ∷ [])) → ⊥
+    dies c more is viable = let tests = other c more is in dies_after white all c tests.0 tests.1 viable
+
+    stops_there : length value - length rest < length value → ¬ (IsHttpMediaType value)
+    stops_there within is =
+        let first = some_first rest (omega (arith, within)) in
+        let text : value ≡ ((front ++ (first.0 ∷ [])) ++ first.1) ++ [] =
+        sym whole ∙ (ap (λ x. front ++ x) first.2 ∙ (sym (append_assoc front (first.0 ∷ []) first.1) ∙ sym (append-nil _))) in
+        dies first.0 first.1 first.2
+        (prefix_of_http_viable (front ++ (first.0 ∷ [])) first.1 ([], subst IsHttpMediaType text is))
+
+    dead_before : ¬ (IsAccepted begin) → IsHttpDeadAt value pos b
+    dead_before rejected = record {
+      prefix = subst (λ n. IsHttpLongestPrefix value n) space.cut.long
+          (subst (λ v. IsHttpLongestPrefix v (length begin)) space.cut.split
+          (longest_at begin (b ∷ drop (pos + 1) value)
+          (viable_from_tight begin (at_rest space.cut.fault) (subst IsViable (sym (so_far space.cut.fault)) space.cut.fault.viable))
+          (λ c bytes e viable.
+          let same : b ≡ c = cc in
+          let begins = subst (λ x. IsHttpViable (begin ++ (x ∷ []))) (sym same) viable in
+          rejected (subst IsAccepted (comes_alone [] refl) (accepted_from_spaced (begin ++ (b ∷ [])) (spaced_there [] refl) begins)))));
+      there = here;
+    }
+
+    dead_after : length value - length rest < length value → IsAccepted begin
+        → IsHttpDeadAt value (length value - length rest) (get_or value (length value - length rest) 0)
+    dead_after within accepted = record {
+      prefix = subst (λ n. IsHttpLongestPrefix value n) long
+          (subst (λ v. IsHttpLongestPrefix v (length front)) whole
+          (longest_at front rest (viable_from_accepted front (subst IsAccepted (sym (comes_alone white all)) accepted)) dies));
+      there = slice_get-get_or value (length value - length rest) 0 within;
+    }
+
+    begins_so : Begins value (InvalidToken pos b) pos (length value - length rest)
+    begins_so = record {
+      within = omega (arith, space.within);
+      utf8 = λ utf8.
+          let ascii : get_or value pos 0 < 128 = omega (arith, get_or_from_slice_get value pos b 0 here, below) in
+          IsUtf8-take value pos utf8 (IsCharBoundary-before_ascii value pos space.within ascii);
+      alone = λ past.
+          let empty : rest ≡ [] = nil_from_length rest (omega (arith, past, short)) in
+          ap tight (sym whole) ∙ (ap (λ x. tight (front ++ x)) empty ∙ (ap tight (append-nil front) ∙ comes_alone white all));
+      rejected = stops_there;
+      before = dead_before;
+      after = dead_after;
+    }
+
+pub begins : (value : List ℕ) (pos b : ℕ) → IsDeadAt value pos b → 0 < pos → is_space b ≡ true
+    → begins_with_semicolon (trim_start (drop (pos + 1) value)) ≡ false
+    → Begins value (InvalidToken pos b) pos (length value - length (trim_start (drop (pos + 1) value)))
+begins value pos b dead some white no_semicolon =
+    let split = split_white (drop (pos + 1) value) in
+    begins_so value pos b (later value pos b dead some white) dead.there (below_128 b white) split.0 (trim_start (drop (pos + 1) value)) split.1 split.2
+    (λ c more is. (no_more_white (drop (pos + 1) value) c more is, other_byte_than c more is))
+  where
+    other_byte_than : (c : ℕ) (more : List ℕ) → trim_start (drop (pos + 1) value) ≡ c ∷ more → (c == 59) ≡ false
+    other_byte_than c more is = go (c == 59) refl
+      where
+        go : (t : Bool) → (c == 59) ≡ t → (c == 59) ≡ false
+        go true semicolon =
+            absurd (true≢false (sym semicolon ∙ (sym (ap begins_with_semicolon is) ∙ no_semicolon)))
+        go false other = other
 
 -- ---- a semicolon at fault
 
@@ -392,7 +587,7 @@ not_separated before ends = go (snoc before) ends
         subst IsOther (sym (place_from-append Start front (c ∷ []))) (after_other (place_from Start front) c (rw there at ends))
 
 pub next_semicolon : (value : List ℕ) (pos b : ℕ) → IsDeadAt value pos b → b ≡ 59 → ends_in_separator (take pos value) ≡ true
-    → IsLoose value (record { at = pos; place = Semicolon })
+    → IsLoose value (record { kept = pos; from = pos + 1; place = Semicolon })
 next_semicolon value pos b dead is ends =
     let cut = cut_at value pos b dead in
     let within = slice_get_within value pos b dead.there in
@@ -400,8 +595,12 @@ next_semicolon value pos b dead is ends =
     let some : take pos value ≢ [] = λ empty. true≢false (sym ends ∙ ap ends_in_separator empty) in
     let bare = semicolon_is_bare (take pos value) fault.begun fault.reached some (subst (λ x. grow fault.begun x ≡ None) is fault.stops) in
     let place = separated (take pos value) some (subst IsBare (sym (there fault)) bare) ends in
-    leaves_out value pos b Semicolon cut within
-    (ap (λ p. added p b) place ∙ ap (added Semicolon) is) (ap (λ p. place_after p b) place ∙ ap (place_after Semicolon) is)
+    record {
+      within = omega (arith, within);
+      from_within = omega (arith, within);
+      tightly = leaves_out value pos b Semicolon cut within
+          (ap (λ p. added p b) place ∙ ap (added Semicolon) is) (ap (λ p. place_after p b) place ∙ ap (place_after Semicolon) is);
+    }
 
 pub first_semicolon : (value : List ℕ) (pos b : ℕ) → IsDeadAt value pos b → b ≡ 59 → ends_in_separator (take pos value) ≡ false
     → Stands value (InvalidToken pos b)

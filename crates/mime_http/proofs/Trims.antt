@@ -1,18 +1,16 @@
 -- A piece without the white space around it.
-use Rattle.std.proofs.Common.{◌≡◌, ◌∙◌, ◌<◌, refl, sym, ap, subst, arith, suc, ℕ, Bool, true, false, List, [], ◌∷◌, ◌++◌, ◌+◌, length, take, drop, get_or}
-use Rattle.std.specs.Prelude.{if◌then◌else◌}
+use Rattle.std.proofs.Common.{◌≡◌, ◌∙◌, ◌<◌, ◌≤◌, refl, sym, ap, subst, arith, suc, ℕ, Bool, true, false, List, [], ◌∷◌, ◌++◌, ◌+◌, ◌-◌, length, take, drop, get_or}
+use Rattle.std.specs.Prelude.{◌&&◌}
 use Rattle.std.specs.List.{list_all}
 use Rattle.std.specs.Str.{IsUtf8}
 use Rattle.std.proofs.lemmas.Bool.{and_parts, true≢false}
 use Rattle.std.proofs.lemmas.Bool.Decides.{nat_tests}
-use Rattle.std.proofs.lemmas.List.{append-nil, append_assoc}
 use Rattle.std.proofs.Math.Seq.{take-suc}
 use Rattle.mime.specs.Bytes.{is_token_byte}
 use Rattle.mime.specs.Grammar.{is_space, AreSpaces, IsToken}
 use Rattle.mime.specs.Values.{MediaType}
 use Rattle.mime_http.specs.HttpMediaType.{HttpReads}
 use Rattle.mime_http.specs.HttpList.{trim_start, trim_end}
-use Rattle.mime_http.proofs.Highest.{item_left}
 use Rattle.mime_http.proofs.HttpText.{put_ascii, drop_ascii}
 use Rattle.mime_http.proofs.Places.{token_is_plain}
 
@@ -39,6 +37,14 @@ trim_twice (b ∷ piece) = go (trim_twice piece) (is_space b) refl
         → trim_start (trim_start (b ∷ piece)) ≡ trim_start (b ∷ piece)
     go rest true white = rw white rest
     go rest false other = rw other (rw other refl)
+
+pub trimmed-le : (piece : List ℕ) → length (trim_start piece) ≤ length piece
+trimmed-le [] = omega arith
+trimmed-le (b ∷ piece) = go (trimmed-le piece) (is_space b) refl
+  where
+    go : length (trim_start piece) ≤ length piece → (w : Bool) → is_space b ≡ w → length (trim_start (b ∷ piece)) ≤ length (b ∷ piece)
+    go rest true white = rw white (omega (arith, rest))
+    go rest false other = rw other (omega arith)
 
 below : (b : ℕ) → is_space b ≡ true → b < 128
 below b is = grind (arith, nat_tests)
@@ -131,54 +137,54 @@ all_trimmed : (bytes : List ℕ) → list_all is_space bytes ≡ true → trim_e
 all_trimmed [] all = refl
 all_trimmed (b ∷ bytes) all = rw all refl
 
--- of bytes up to a position, and those from it on, this is left
-abbrev pub left_at : List ℕ → ℕ → ℕ → List ℕ
-left_at piece end at = if list_all is_space (drop at piece) then take end piece else take at piece ++ trim_end (drop at piece)
-
-pub left_at_start : (piece : List ℕ) → left_at piece 0 0 ≡ trim_end piece
-left_at_start piece = go (list_all is_space piece) refl
-  where
-    go : (w : Bool) → list_all is_space piece ≡ w → (if list_all is_space piece then [] else trim_end piece) ≡ trim_end piece
-    go true all = rw all (sym (all_trimmed piece all))
-    go false some = rw some refl
-
 pub next_taken : (piece : List ℕ) (at : ℕ) → at < length piece → take at piece ++ (get_or piece at 0 ∷ []) ≡ take (at + 1) piece
 next_taken piece at within =
     let next : suc at ≡ at + 1 = omega arith in sym (take-suc piece at 0 within) ∙ ap (λ n. take n piece) next
 
--- a byte stays if it is no white space, or some is left that isn't
-stays_next : (piece : List ℕ) (at : ℕ) → at < length piece → list_all is_space (drop at piece) ≡ false
-    → take at piece ++ trim_end (drop at piece) ≡ take (at + 1) piece ++ trim_end (drop (at + 1) piece)
-stays_next piece at within some =
-    let left = item_left piece at 0 within in
-    let some_left : list_all is_space (get_or piece at 0 ∷ drop (at + 1) piece) ≡ false = subst (λ x. list_all is_space x ≡ false) left some in
-    ap (λ x. take at piece ++ trim_end x) left
-    ∙ (rw some_left (sym (append_assoc (take at piece) (get_or piece at 0 ∷ []) (trim_end (drop (at + 1) piece))))
-    ∙ ap (λ x. x ++ trim_end (drop (at + 1) piece)) (next_taken piece at within))
-
-pub left_after_space : (piece : List ℕ) (end at : ℕ) → at < length piece → is_space (get_or piece at 0) ≡ true
-    → left_at piece end (at + 1) ≡ left_at piece end at
-left_after_space piece end at within white = go (list_all is_space (drop (at + 1) piece)) refl
+-- a byte at the end that is white space is left out
+trim_end-space : (bytes : List ℕ) (b : ℕ) → is_space b ≡ true → trim_end (bytes ++ (b ∷ [])) ≡ trim_end bytes
+trim_end-space [] b white = rw white refl
+trim_end-space (c ∷ bytes) b white = go (trim_end-space bytes b white) (list_all is_space (c ∷ bytes)) refl
   where
-    same : list_all is_space (drop at piece) ≡ list_all is_space (drop (at + 1) piece)
-    same = ap (list_all is_space) (item_left piece at 0 within) ∙ rw white refl
+    same : list_all is_space (c ∷ (bytes ++ (b ∷ []))) ≡ list_all is_space (c ∷ bytes)
+    same = ap (λ t. is_space c && t) (still_all bytes)
+      where
+        still_all : (bytes : List ℕ) → list_all is_space (bytes ++ (b ∷ [])) ≡ list_all is_space bytes
+        still_all [] = rw white refl
+        still_all (d ∷ bytes) = ap (λ t. is_space d && t) (still_all bytes)
 
-    go : (w : Bool) → list_all is_space (drop (at + 1) piece) ≡ w → left_at piece end (at + 1) ≡ left_at piece end at
-    go true all = let before = same ∙ all in rw all (rw before refl)
-    go false some = let before = same ∙ some in rw some (rw before (sym (stays_next piece at within before)))
+    go : trim_end (bytes ++ (b ∷ [])) ≡ trim_end bytes → (w : Bool) → list_all is_space (c ∷ bytes) ≡ w
+        → trim_end (c ∷ (bytes ++ (b ∷ []))) ≡ trim_end (c ∷ bytes)
+    go rest true all = let longer = same ∙ all in rw (longer, all) refl
+    go rest false some = let longer = same ∙ some in rw (longer, some) (ap (λ x. c ∷ x) rest)
 
-pub left_after_other : (piece : List ℕ) (end at : ℕ) → at < length piece → is_space (get_or piece at 0) ≡ false
-    → left_at piece (at + 1) (at + 1) ≡ left_at piece end at
-left_after_other piece end at within other = go (list_all is_space (drop (at + 1) piece)) refl
+-- and else all bytes stay
+trim_end-other : (bytes : List ℕ) (b : ℕ) → is_space b ≡ false → trim_end (bytes ++ (b ∷ [])) ≡ bytes ++ (b ∷ [])
+trim_end-other [] b other = rw other refl
+trim_end-other (c ∷ bytes) b other =
+    let some : list_all is_space (c ∷ (bytes ++ (b ∷ []))) ≡ false = ap (λ t. is_space c && t) (never_all bytes) ∙ nowhere (is_space c) in
+    rw some (ap (λ x. c ∷ x) (trim_end-other bytes b other))
   where
-    before : list_all is_space (drop at piece) ≡ false
-    before = ap (list_all is_space) (item_left piece at 0 within) ∙ rw other refl
+    nowhere : (t : Bool) → (t && false) ≡ false
+    nowhere true = refl
+    nowhere false = refl
 
-    go : (w : Bool) → list_all is_space (drop (at + 1) piece) ≡ w → left_at piece (at + 1) (at + 1) ≡ left_at piece end at
-    go true all =
-        rw all (rw before (sym (stays_next piece at within before
-        ∙ (ap (λ x. take (at + 1) piece ++ x) (all_trimmed (drop (at + 1) piece) all) ∙ append-nil (take (at + 1) piece)))))
-    go false some = rw some (rw before (sym (stays_next piece at within before)))
+    never_all : (bytes : List ℕ) → list_all is_space (bytes ++ (b ∷ [])) ≡ false
+    never_all [] = rw other refl
+    never_all (d ∷ bytes) = ap (λ t. is_space d && t) (never_all bytes) ∙ nowhere (is_space d)
 
-pub left_at_end : (piece : List ℕ) (end at : ℕ) → drop at piece ≡ [] → left_at piece end at ≡ take end piece
-left_at_end piece end at none = rw none refl
+last_taken : (piece : List ℕ) (end : ℕ) → 0 < end → end ≤ length piece → take (end - 1) piece ++ (get_or piece (end - 1) 0 ∷ []) ≡ take end piece
+last_taken piece end some within =
+    let back : end - 1 + 1 ≡ end = omega (arith, some) in
+    next_taken piece (end - 1) (omega (arith, some, within)) ∙ ap (λ n. take n piece) back
+
+pub end_at_space : (piece : List ℕ) (end : ℕ) → 0 < end → end ≤ length piece → is_space (get_or piece (end - 1) 0) ≡ true
+    → trim_end (take (end - 1) piece) ≡ trim_end (take end piece)
+end_at_space piece end some within white =
+    sym (trim_end-space (take (end - 1) piece) (get_or piece (end - 1) 0) white) ∙ ap trim_end (last_taken piece end some within)
+
+pub end_at_other : (piece : List ℕ) (end : ℕ) → 0 < end → end ≤ length piece → is_space (get_or piece (end - 1) 0) ≡ false
+    → take end piece ≡ trim_end (take end piece)
+end_at_other piece end some within other =
+    let last = last_taken piece end some within in
+    sym last ∙ (sym (trim_end-other (take (end - 1) piece) (get_or piece (end - 1) 0) other) ∙ ap trim_end last)

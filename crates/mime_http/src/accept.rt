@@ -33,7 +33,8 @@ impl Model for Accept {
 }
 
 impl Accept {
-    /// Adds an entry that is no media range.
+    /// Adds an entry that is no media range. It isn't inlined: few entries are bad.
+    #[inline(never)]
     fn add_bad(&mut self, alloc: Global, entry: &[u8]) -> Result<(), AllocError>
         ensures ranges { OnOk result (self.new.ranges ≡ self.old.ranges) }
         ensures bad { OnOk result (self.new.bad ≡ self.old.bad ++ (trim_end entry.now ∷ [])) }

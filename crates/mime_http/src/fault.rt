@@ -1,11 +1,12 @@
 //! The fault of a header's value, from that of the tightened value.
 
-ghost use Rattle.std.specs.Prelude.{◌≡◌, ◌↔◌, ◌≤◌, IsTrue, length};
+ghost use Rattle.std.specs.Prelude.{◌≡◌, ◌↔◌, ◌<◌, ◌≤◌, IsTrue, length};
 ghost use Rattle.std.specs.Str.{IsUtf8};
 ghost use Rattle.mime.specs.Values.{IsAccepted};
 ghost use Rattle.mime.specs.Faults.{IsFault};
 ghost use Rattle.mime_http.specs.HttpFaults.{IsHttpLongestPrefix, IsHttpFault};
 ghost use Rattle.mime_http.specs.Tight.{added, tight};
+ghost use Rattle.mime_http.specs.Loose.{Begins};
 ghost use Rattle.mime_http.specs.Reached.{start, reach_from, limit_of};
 
 use crate::tight::{Place, is_dropped, next};
@@ -122,5 +123,31 @@ pub(crate) fn fault_in(alloc: Global, value: &[u8], text: &str, fault: ParseErro
     match value.get(pos) {
         Some(&byte) => ParseError::InvalidToken { pos, byte },
         None => fault,
+    }
+}
+
+/// The fault of a value that goes on at the position `next` after white space at the position `end`, where the library finds this fault.
+pub(crate) fn fault_at_white(
+    alloc: Global,
+    value: &[u8],
+    fault: ParseError,
+    end: usize,
+    next: usize,
+) -> ParseError
+    requires utf8 { IsUtf8 value.now }
+    requires begins { Begins value.now fault end next }
+    requires within { next < length value.now }
+    ensures { IsHttpFault value.now result }
+{
+    let Ok(begin) = str::from_utf8(&value[..end]) else {
+        unreachable!()
+    };
+    if is_accepted(alloc, begin) {
+        ParseError::InvalidToken {
+            pos: next,
+            byte: value[next],
+        }
+    } else {
+        fault
     }
 }

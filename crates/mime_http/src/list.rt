@@ -165,11 +165,9 @@ pub(crate) fn trim_start(piece: &[u8]) -> &[u8]
 pub(crate) fn trim_end(piece: &[u8]) -> &[u8]
     ensures { result.now ≡ trim_end piece.now }
 {
-    let mut end = 0;
-    for (at, &byte) in piece.iter().enumerate() {
-        if !is_space(byte) {
-            end = at + 1;
-        }
+    let mut end = piece.len();
+    while end > 0 && is_space(piece[end - 1]) {
+        end -= 1;
     }
     &piece[..end]
 }

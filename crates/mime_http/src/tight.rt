@@ -1,11 +1,14 @@
 //! A header's value without what HTTP allows there and the library rejects.
 
-ghost use Rattle.std.specs.Prelude.{◌≡◌, ◌++◌, OnOk, IfOk, MatchOption};
+ghost use Rattle.std.specs.Prelude.{◌≡◌, ◌<◌, [], ◌∷◌, ◌++◌, true, length, slice_index, OnOk, IfOk};
 ghost use Rattle.std.specs.Vec.{vec_items};
-ghost use Rattle.mime.specs.Faults.{IsFault};
+ghost use Rattle.mime.specs.Grammar.{is_space};
+ghost use Rattle.mime.specs.Faults.{IsDeadAt, IsFault};
+ghost use Rattle.mime.specs.declared.scan.fault.ParseError.TheVariants.{InvalidToken};
 ghost use Rattle.mime_http.specs.Tight.{after_space, after_outside, place_after, is_left_out, added, tight};
-ghost use Rattle.mime_http.specs.Loose.{ends_in_separator, IsLoose, Stands};
+ghost use Rattle.mime_http.specs.Loose.{ends_in_separator, begins_with_semicolon, IsLoose, IsLeft};
 
+use crate::list::trim_start;
 use mime::ParseError;
 use std::alloc::{AllocError, Global};
 
@@ -30,13 +33,27 @@ pub(crate) enum Place {
     Semicolon,
 }
 
-/// The first byte that tightening leaves out of a value.
+/// How a value goes on after the first byte that tightening leaves out.
 #[derive(Clone, Copy)]
 pub(crate) struct Loose {
-    /// Its position.
-    pub(crate) at: usize,
-    /// The place after it.
+    /// The position of that byte. Those before it come out as they are.
+    pub(crate) kept: usize,
+    /// The position of the first byte after it that may come out.
+    pub(crate) from: usize,
+    /// The place there.
     pub(crate) place: Place,
+}
+
+/// What tightening makes of a value that the library rejects.
+#[derive(Clone, Copy)]
+pub(crate) enum Left {
+    /// Nothing that HTTP allows: the fault stands.
+    Fault,
+    /// What is before the white space at the position `end`, where the fault is. At the position `next` the value ends, or has a byte
+    /// that no media type has after white space.
+    Begin { end: usize, next: usize },
+    /// What comes out if it goes on so.
+    Loose(Loose),
 }
 
 /// The place after white space outside quotes.
@@ -109,22 +126,68 @@ fn ends_in_separator(bytes: &[u8]) -> bool
     matches!(bytes.last(), Some(b';' | b' ' | b'\t'))
 }
 
-/// The first byte that tightening leaves out of a value with this fault. It can only be the byte at fault: if there is none, the
-/// value has the same fault as HTTP writes it.
-pub(crate) fn first_loose(value: &[u8], fault: ParseError) -> Option<Loose>
+/// Whether bytes begin with a semicolon.
+fn begins_with_semicolon(bytes: &[u8]) -> bool
+    ensures { result ≡ begins_with_semicolon bytes.now }
+{
+    matches!(bytes.first(), Some(b';'))
+}
+
+/// What tightening makes of a value whose fault is white space at a position after its first.
+fn left_at_white(value: &[u8], pos: usize) -> Left
+    requires within { pos < length value.now }
+    requires some { 0 < pos }
+    requires fault { IsDeadAt value.now pos (slice_index value.now pos) }
+    requires white { is_space (slice_index value.now pos) ≡ true }
+    ensures { IsLeft value.now (InvalidToken pos (slice_index value.now pos)) result }
+{
+    let rest = trim_start(&value[pos + 1..]);
+    let next = value.len() - rest.len();
+    if begins_with_semicolon(rest) {
+        Left::Loose(Loose {
+            kept: pos,
+            from: next,
+            place: Place::Spaced,
+        })
+    } else {
+        Left::Begin { end: pos, next }
+    }
+}
+
+/// What tightening makes of a value with this fault.
+pub(crate) fn left_of(value: &[u8], fault: ParseError) -> Left
     requires { IsFault value.now fault }
-    ensures { MatchOption result (Stands value.now fault) (IsLoose value.now) }
+    ensures { IsLeft value.now fault result }
 {
     let ParseError::InvalidToken { pos, byte } = fault else {
-        return None;
+        return Left::Fault;
     };
-    let place = match byte {
-        b' ' | b'\t' if pos == 0 => Place::Start,
-        b' ' | b'\t' => Place::Spaced,
-        b';' if ends_in_separator(&value[..pos]) => Place::Semicolon,
-        _ => return None,
-    };
-    Some(Loose { at: pos, place })
+    match byte {
+        b' ' | b'\t' if pos == 0 => Left::Loose(Loose {
+            kept: 0,
+            from: value.len() - trim_start(value).len(),
+            place: Place::Start,
+        }),
+        b' ' | b'\t' => left_at_white(value, pos),
+        b';' if ends_in_separator(&value[..pos]) => Left::Loose(Loose {
+            kept: pos,
+            from: pos + 1,
+            place: Place::Semicolon,
+        }),
+        _ => Left::Fault,
+    }
+}
+
+/// Whether a byte comes out and leads to the same place, as most bytes do.
+fn stays(place: Place, byte: u8) -> bool
+    ensures out { result ≡ true → added place byte ≡ byte ∷ [] }
+    ensures place { result ≡ true → place_after place byte ≡ place }
+{
+    match place {
+        Place::Plain => !matches!(byte, b' ' | b'\t' | b';' | b'='),
+        Place::Quoted => !matches!(byte, b'"' | b'\\'),
+        _ => false,
+    }
 }
 
 /// The value of a header that has one media type, as the library takes it: without white space around it and before
@@ -135,10 +198,15 @@ pub(crate) fn tightened(alloc: Global, value: &[u8], loose: Loose) -> Result<Vec
     ensures { IfOk result (λ out. vec_items out ≡ tight value.now) }
 {
     let mut out = Vec::with_capacity(alloc, value.len())?;
-    out.extend_from_slice(&value[..loose.at])?;
+    out.extend_from_slice(&value[..loose.kept])?;
     let mut place = loose.place;
-    let rest = &value[loose.at + 1..];
+    let rest = &value[loose.from..];
     for &byte in rest {
+        // The short way for most bytes.
+        if stays(place, byte) {
+            out.push(byte)?;
+            continue;
+        }
         push_byte(&mut out, place, byte)?;
         place = next(place, byte);
     }

@@ -3,15 +3,16 @@
 ghost use Rattle.std.specs.Prelude.{◌≡◌, ◌≢◌, codes, Some, IfOk, IfErr, IsOk, MatchOption, MatchResult};
 ghost use Rattle.std.specs.Fmt.InlineText.{inline_text};
 ghost use Rattle.std.specs.Str.{IsUtf8, IsValidUpTo, valid_up_to};
-ghost use Rattle.mime.specs.Values.{Reads};
+ghost use Rattle.mime.specs.Values.{Reads, IsAccepted};
 ghost use Rattle.mime.specs.Faults.{IsFault};
 ghost use Rattle.mime_http.specs.HttpMediaType.{HttpReads, IsHttpMediaType};
 ghost use Rattle.mime_http.specs.HttpFaults.{HttpExplains};
 ghost use Rattle.mime_http.specs.HttpPrinted.{not_utf8_text};
 ghost use Rattle.mime_http.specs.Tight.{tight};
+ghost use Rattle.mime_http.specs.Loose.{Begins};
 
-use crate::fault::fault_in;
-use crate::tight::{first_loose, tightened};
+use crate::fault::{fault_at_white, fault_in};
+use crate::tight::{Left, left_of, tightened};
 use mime::{Mime, ParseError};
 use std::alloc::{AllocError, Global};
 use std::error::Error;
@@ -89,6 +90,20 @@ fn text_of_tight(tight: &[u8]) -> &str
     text
 }
 
+/// The media type of what is left of a value, or `None` if the library rejects it.
+fn read_left(alloc: Global, left: &[u8]) -> Result<Option<Mime>, AllocError>
+    requires { IsUtf8 left.now }
+    ensures { IfOk result (λ answer. MatchOption answer (¬ (IsAccepted left.now)) (λ mime. Reads left.now mime.media)) }
+{
+    match Mime::from_str(alloc, text_of_tight(left)) {
+        Ok(mime) => Ok(Some(mime)),
+        Err(error) => match error.fault() {
+            ParseError::NoMemory => Err(AllocError),
+            _ => Ok(None),
+        },
+    }
+}
+
 /// The media type of a value that the library rejects as it stands, for this fault, or `None` if HTTP doesn't allow it either.
 #[inline(never)]
 pub(crate) fn read_tight(
@@ -100,16 +115,62 @@ pub(crate) fn read_tight(
     requires fault { IsFault value.now fault }
     ensures { IfOk result (λ answer. MatchOption answer (¬ (IsHttpMediaType value.now)) (λ mime. HttpReads value.now mime.media)) }
 {
-    let Some(loose) = first_loose(value, fault) else {
-        return Ok(None);
-    };
-    let tight = tightened(alloc, value, loose)?;
-    match Mime::from_str(alloc, text_of_tight(&tight)) {
-        Ok(mime) => Ok(Some(mime)),
+    match left_of(value, fault) {
+        Left::Fault => Ok(None),
+        Left::Begin { end, next } => {
+            if next < value.len() {
+                return Ok(None);
+            }
+            read_left(alloc, &value[..end])
+        }
+        Left::Loose(loose) => read_left(alloc, &tightened(alloc, value, loose)?),
+    }
+}
+
+/// The media type of a value of which this is left, or its fault as HTTP writes it.
+fn read_tightened(alloc: Global, value: &[u8], left: &[u8]) -> Result<Mime, FieldError>
+    requires utf8 { IsUtf8 value.now }
+    requires other { value.now ≢ codes "*/*" }
+    requires left { left.now ≡ tight value.now }
+    ensures http { IfOk result (λ mime. HttpReads value.now mime.media) }
+    ensures kept { IfOk result (λ mime. Reads (tight value.now) mime.media) }
+    ensures explained { IfErr result (λ error. HttpExplains value.now error) }
+    ensures accepted { IsHttpMediaType value.now → IfErr result (λ error. error ≡ FieldError.NoMemory) }
+{
+    let text = text_of_tight(left);
+    match Mime::from_str(alloc, text) {
+        Ok(mime) => Ok(mime),
         Err(error) => match error.fault() {
-            ParseError::NoMemory => Err(AllocError),
-            _ => Ok(None),
+            ParseError::NoMemory => Err(FieldError::NoMemory),
+            fault => Err(FieldError::Invalid(fault_in(alloc, value, text, *fault))),
         },
+    }
+}
+
+/// The media type of a value of which the bytes before white space are left, if the value ends with the white space.
+fn read_begin(
+    alloc: Global,
+    value: &[u8],
+    fault: ParseError,
+    end: usize,
+    next: usize,
+) -> Result<Mime, FieldError>
+    requires utf8 { IsUtf8 value.now }
+    requires other { value.now ≢ codes "*/*" }
+    requires begins { Begins value.now fault end next }
+    ensures http { IfOk result (λ mime. HttpReads value.now mime.media) }
+    ensures kept { IfOk result (λ mime. Reads (tight value.now) mime.media) }
+    ensures explained { IfErr result (λ error. HttpExplains value.now error) }
+    ensures accepted { IsHttpMediaType value.now → IfErr result (λ error. error ≡ FieldError.NoMemory) }
+{
+    if next < value.len() {
+        let fault = fault_at_white(alloc, value, fault, end, next);
+        return Err(FieldError::Invalid(fault));
+    }
+    match read_left(alloc, &value[..end]) {
+        Ok(Some(mime)) => Ok(mime),
+        Ok(None) => Err(FieldError::Invalid(fault)),
+        Err(_) => Err(FieldError::NoMemory),
     }
 }
 
@@ -125,18 +186,12 @@ fn read_rejected(alloc: Global, value: &[u8], fault: ParseError) -> Result<Mime,
     ensures explained { IfErr result (λ error. HttpExplains value.now error) }
     ensures accepted { IsHttpMediaType value.now → IfErr result (λ error. error ≡ FieldError.NoMemory) }
 {
-    let Some(loose) = first_loose(value, fault) else {
-        return Err(FieldError::Invalid(fault));
-    };
-    let Ok(tight) = tightened(alloc, value, loose) else {
-        return Err(FieldError::NoMemory);
-    };
-    let text = text_of_tight(&tight);
-    match Mime::from_str(alloc, text) {
-        Ok(mime) => Ok(mime),
-        Err(error) => match error.fault() {
-            ParseError::NoMemory => Err(FieldError::NoMemory),
-            fault => Err(FieldError::Invalid(fault_in(alloc, value, text, *fault))),
+    match left_of(value, fault) {
+        Left::Fault => Err(FieldError::Invalid(fault)),
+        Left::Begin { end, next } => read_begin(alloc, value, fault, end, next),
+        Left::Loose(loose) => match tightened(alloc, value, loose) {
+            Ok(left) => read_tightened(alloc, value, &left),
+            Err(_) => Err(FieldError::NoMemory),
         },
     }
 }
@@ -145,10 +200,11 @@ fn read_rejected(alloc: Global, value: &[u8], fault: ParseError) -> Result<Mime,
 /// (RFC 9110, 8.3.1, with 5.6.3, 5.6.4 and 5.6.6). Accepts what the grammar there allows, with white space around it, if it is
 /// valid UTF-8: white space around semicolons, and empty parameters. A value past ASCII that isn't UTF-8 (obs-text) is rejected.
 ///
-/// A value that [`Mime::from_str`] accepts is read as it stands, with one allocation, or none for `*/*`. Another is copied
-/// first, without that white space and those parameters, with one allocation more: ` text/html ;; charset=utf-8` is kept as
-/// `text/html; charset=utf-8`. The values of parameters keep their backslashes. Rejecting a value allocates nothing if nothing
-/// is left out of it, else once, or twice if a media type and white space stand before its fault, as in `a/b c`, and frees all.
+/// A value that [`Mime::from_str`] accepts is read as it stands, with one allocation, or none for `*/*`, and so is one with white
+/// space after it. Another is copied first, without that white space and those parameters, with one allocation more:
+/// ` text/html ;; charset=utf-8` is kept as `text/html; charset=utf-8`. The values of parameters keep their backslashes. Rejecting
+/// a value allocates nothing, but once if something is left out before its fault, and once more if a media type and white space
+/// stand before its fault, as in `a/b c`; all is freed.
 ///
 /// # Errors
 /// `NotUtf8` for a value that isn't valid UTF-8, before anything is allocated; `Invalid` with the fault of a value that

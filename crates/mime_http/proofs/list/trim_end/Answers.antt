@@ -1,28 +1,25 @@
--- A byte that is no white space stays, and so do those before it.
-use Rattle.std.proofs.Common.{arith, ◌≡◌, ◌∙◌, ◌≤◌, ◌+◌, sym, subst, length}
-use Rattle.std.proofs.Math.ListN.{drop_of_length-le}
+-- White space at the end is left out, and any other byte stays.
+use Rattle.std.proofs.Common.{arith, ◌≡◌, ◌∙◌, sym, ap, take}
 use Rattle.mime_http.specs.HttpList.{trim_end}
-use Rattle.mime_http.proofs.Trims.{left_at, left_at_start, left_after_space, left_after_other, left_at_end}
+use Rattle.mime_http.proofs.Trims.{end_at_space, end_at_other}
 use Rattle.mime_http.proofs.list.trim_end.Goals as goal
-use Rattle.mime_http.proofs.list.trim_end.Goals.{then-not-is_space, else-not-is_space}
+use Rattle.mime_http.proofs.list.trim_end.Goals.{then-loop-end-test+else-is_space, else-loop-end-test}
 
-pub loop-at-init : goal.loop-at-init
-loop-at-init c = (omega arith, left_at_start c.args.piece.now)
-
-pub loop-at-preserved : goal.loop-at-preserved
-loop-at-preserved c =
-    let piece = c.args.piece.now in
-    let at = c.loop-at.at in
-    let end = c.loop-at.end in
-    elim c.if-not-is_space.branch [
-      | then-not-is_space w ↦ subst (λ e. (e ≤ at + 1) × (left_at piece e (at + 1) ≡ trim_end piece)) (sym w.end-is)
-          (omega arith, left_after_other piece end at c.loop-at-test.true (sym c.is_space.ensures ∙ w.if-not-is_space.true) ∙ c.loop-at.invariant.1)
-      | else-not-is_space w ↦ subst (λ e. (e ≤ at + 1) × (left_at piece e (at + 1) ≡ trim_end piece)) (sym w.end-is)
-          (omega (arith, c.loop-at.invariant.0), left_after_space piece end at c.loop-at-test.true (sym c.is_space.ensures ∙ w.if-not-is_space.false) ∙ c.loop-at.invariant.1)
-    ]
+pub loop-end-preserved : goal.loop-end-preserved
+loop-end-preserved c = (
+  omega (arith, c.loop-end.invariant.0),
+  end_at_space c.args.piece.now c.loop-end.end c.loop-end-test.true c.loop-end.invariant.0 (sym c.is_space.ensures ∙ c.if-is_space.true)
+      ∙ c.loop-end.invariant.1,
+)
 
 pub returns : goal.returns
 returns c =
     let piece = c.args.piece.now in
-    let past : length piece ≤ c.loop-at.at = omega (arith, c.loop-at.auto.at-end) in
-    sym (left_at_end piece c.loop-at.end c.loop-at.at (drop_of_length-le piece past)) ∙ c.loop-at.invariant.1
+    let end = c.loop-end.end in
+    elim c.loop-end-test.branch [
+      | then-loop-end-test+else-is_space w ↦
+          end_at_other piece end w.loop-end-test.true c.loop-end.invariant.0 (sym w.is_space.ensures ∙ w.if-is_space.false) ∙ c.loop-end.invariant.1
+      | else-loop-end-test w ↦
+          let none : end ≡ 0 = omega (arith, w.loop-end-test.false) in
+          ap (λ n. take n piece) none ∙ (ap (λ n. trim_end (take n piece)) (sym none) ∙ c.loop-end.invariant.1)
+    ]

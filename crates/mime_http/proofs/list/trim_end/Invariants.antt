@@ -1,8 +1,10 @@
--- What is left decides whether all so far stays.
-use Rattle.std.proofs.Common.{◌≡◌, ◌≤◌}
+-- What is left out so far is white space.
+use Rattle.std.proofs.Common.{◌≡◌, ◌≤◌, length, take}
 use Rattle.mime_http.specs.HttpList.{trim_end}
-use Rattle.mime_http.proofs.Trims.{left_at}
 use Rattle.mime_http.proofs.list.trim_end.Given as goal
 
-abbrev pub invariant-loop-at : goal.invariant-loop-at
-invariant-loop-at l = (l.end ≤ l.at) × (left_at l.piece l.end l.at ≡ trim_end l.piece)
+abbrev pub invariant-loop-end : goal.invariant-loop-end
+invariant-loop-end l = (l.end ≤ length l.piece) × (trim_end (take l.end l.piece) ≡ trim_end l.piece)
+
+abbrev pub decreases-loop-end : goal.decreases-loop-end
+decreases-loop-end l = l.end
