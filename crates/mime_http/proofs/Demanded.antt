@@ -13,7 +13,8 @@ abbrev is_weight : List ℕ → Bool
 is_weight name = bytes_eq name (codes "q")
 
 -- of the pairs some were counted, of which the first weight is known, and the rest, of which these are the items, decides
-pub record Counted (offer : MediaType) (pairs : List (List ℕ × List ℕ)) (items : List Item) (count : ℕ) (weight : Option (List ℕ)) : Type 0 where
+pub record Counted (offer : MediaType) (pairs : List (List ℕ × List ℕ)) (items : List Item) (count : ℕ)
+    (weight : Option (List ℕ)) : Type 0 where
   pub rest : List (List ℕ × List ℕ)
   pub same : items ≡ items_of rest
   pub all : list_all (has offer) (demanded rest) ≡ list_all (has offer) (demanded pairs)
@@ -65,7 +66,8 @@ pub none_yet : (offer : MediaType) (pairs : List (List ℕ × List ℕ)) (items 
     → Counted offer pairs items 0 None
 none_yet offer pairs items same = record { rest = pairs; same = same; all = refl; counted = omega arith; weighed = refl }
 
-module _ {offer : MediaType} {pairs : List (List ℕ × List ℕ)} {items next : List Item} {count : ℕ} {weight : Option (List ℕ)} {item : Item} where
+module _ {offer : MediaType} {pairs : List (List ℕ × List ℕ)} {items next : List Item} {count : ℕ} {weight : Option (List ℕ)}
+    {item : Item} where
   pub weight_passed : Counted offer pairs items count weight → items ≡ item ∷ next → is_weight item.name ≡ true
       → Counted offer pairs next count (option_or weight (Some item.value))
   weight_passed so_far is weighs =

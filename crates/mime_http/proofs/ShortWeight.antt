@@ -87,17 +87,21 @@ weight_alone media rest n d reads after is spaces digit =
     } in
     ap (λ value. value.pairs) (one_reading media.kept media (value_of (with_weight reads.tree n d)) reads again)
 
--- so it demands nothing else
-demands_nothing : (offer media : MediaType) (d : ℕ) → media.pairs ≡ (113 ∷ [], 48 ∷ 46 ∷ d ∷ []) ∷ []
-    → found_of 0 (Some (48 ∷ 46 ∷ d ∷ []))
-    ≡ (if list_all (has offer) (demanded media.pairs) then found_of (length (demanded media.pairs)) (first_value (codes "q") media.pairs) else None)
+-- a range demands nothing else, and weighs these tenths
+abbrev DemandsNothing : MediaType → MediaType → ℕ → Type 0
+DemandsNothing offer media d =
+    found_of 0 (Some (48 ∷ 46 ∷ d ∷ []))
+    ≡ (if list_all (has offer) (demanded media.pairs)
+    then found_of (length (demanded media.pairs)) (first_value (codes "q") media.pairs) else None)
+
+demands_nothing : (offer media : MediaType) (d : ℕ) → media.pairs ≡ (113 ∷ [], 48 ∷ 46 ∷ d ∷ []) ∷ [] → DemandsNothing offer media d
 demands_nothing offer media d pairs = rw pairs refl
 
 -- both ways in which the weight is written
-module _ (offer media : MediaType) (rest : List ℕ) (reads : Reads media.kept media) (after : rest ≡ drop (length media.essence) media.kept) where
+module _ (offer media : MediaType) (rest : List ℕ) (reads : Reads media.kept media)
+    (after : rest ≡ drop (length media.essence) media.kept) where
   pub at_once : length rest ≡ 6 → HasBytesAt rest 0 (59 ∷ 113 ∷ 61 ∷ 48 ∷ 46 ∷ []) → is_ascii_digit (get_or rest 5 0) ≡ true
-      → found_of 0 (Some (48 ∷ 46 ∷ get_or rest 5 0 ∷ []))
-      ≡ (if list_all (has offer) (demanded media.pairs) then found_of (length (demanded media.pairs)) (first_value (codes "q") media.pairs) else None)
+      → DemandsNothing offer media (get_or rest 5 0)
   at_once long bytes digit =
       let d = get_or rest 5 0 in
       let whole : rest ≡ 59 ∷ 113 ∷ 61 ∷ 48 ∷ 46 ∷ d ∷ [] =
@@ -105,12 +109,12 @@ module _ (offer media : MediaType) (rest : List ℕ) (reads : Reads media.kept m
       demands_nothing offer media d (weight_alone media rest [] d reads after whole refl digit)
 
   pub after_a_space : length rest ≡ 7 → HasBytesAt rest 0 (59 ∷ 32 ∷ 113 ∷ 61 ∷ 48 ∷ 46 ∷ []) → is_ascii_digit (get_or rest 6 0) ≡ true
-      → found_of 0 (Some (48 ∷ 46 ∷ get_or rest 6 0 ∷ []))
-      ≡ (if list_all (has offer) (demanded media.pairs) then found_of (length (demanded media.pairs)) (first_value (codes "q") media.pairs) else None)
+      → DemandsNothing offer media (get_or rest 6 0)
   after_a_space long bytes digit =
       let d = get_or rest 6 0 in
       let whole : rest ≡ 59 ∷ 32 ∷ 113 ∷ 61 ∷ 48 ∷ 46 ∷ d ∷ [] =
-      text_from_reads rest _ long (bytes.0, (bytes.1.0, (bytes.1.1.0, (bytes.1.1.1.0, (bytes.1.1.1.1.0, (bytes.1.1.1.1.1.0, (refl, tt))))))) in
+      text_from_reads rest _ long
+      (bytes.0, (bytes.1.0, (bytes.1.1.0, (bytes.1.1.1.0, (bytes.1.1.1.1.0, (bytes.1.1.1.1.1.0, (refl, tt))))))) in
       demands_nothing offer media d (weight_alone media rest (32 ∷ []) d reads after whole refl digit)
 
 -- a weight of one decimal in thousandths

@@ -12,7 +12,9 @@ returns-in-59 c =
     let bytes : HasBytesAt rest 0 (59 ∷ 113 ∷ 61 ∷ 48 ∷ 46 ∷ []) = search rules in
     let digit : is_ascii_digit (get_or rest 5 0) ≡ true = search rules in
     let weight = one_decimal (get_or rest 5 0) c.tenths.result digit c.tenths.ensures in
-    rw weight (at_once c.args.offer.now.media c.args.range.now.media rest c.after_essence.ensures.reads c.after_essence.ensures.after long bytes digit)
+    rw weight
+    (at_once c.args.offer.now.media c.args.range.now.media rest c.after_essence.ensures.reads c.after_essence.ensures.after long bytes
+    digit)
 
 pub returns-in-59-2 : goal.returns-in-59-2
 returns-in-59-2 c =
@@ -22,4 +24,5 @@ returns-in-59-2 c =
     let digit : is_ascii_digit (get_or rest 6 0) ≡ true = search rules in
     let weight = one_decimal (get_or rest 6 0) c.tenths-in-59-2.result digit c.tenths-in-59-2.ensures in
     rw weight
-    (after_a_space c.args.offer.now.media c.args.range.now.media rest c.after_essence.ensures.reads c.after_essence.ensures.after long bytes digit)
+    (after_a_space c.args.offer.now.media c.args.range.now.media rest c.after_essence.ensures.reads c.after_essence.ensures.after long bytes
+    digit)
