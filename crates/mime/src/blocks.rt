@@ -41,8 +41,8 @@ fn position_in_last_block(whole: &[u8], text: &[u8], byte: u8) -> usize
     }
 }
 
-/// The first position of a byte, or the length if it doesn't occur, searched byte by byte. It isn't inlined: most
-/// strings with parameters have a block.
+/// The first position of a byte, or the length if it doesn't occur, searched byte by byte. It isn't inlined: few
+/// strings with parameters are shorter than a block.
 #[inline(never)]
 fn position_by_one(text: &[u8], byte: u8) -> usize
     ensures { result ≡ first_position byte text.now }
@@ -57,15 +57,14 @@ fn position_by_one(text: &[u8], byte: u8) -> usize
     position
 }
 
-/// The first position of a byte that isn't in the first block, or the length if it doesn't occur, searched block by
-/// block. It isn't inlined: most searches end in their first block.
+/// The first position of a byte, or the length if it doesn't occur, searched block by block. It isn't inlined: most
+/// searches end in their first block.
 #[inline(never)]
-fn position_past_block(text: &[u8], byte: u8) -> usize
-    requires room { BLOCK ≤ length text.now }
-    requires past { mask_of byte (take BLOCK text.now) ≡ 0 }
+fn position_by_blocks(text: &[u8], byte: u8) -> usize
+    requires { BLOCK ≤ length text.now }
     ensures { result ≡ first_position byte text.now }
 {
-    let mut left = &text[BLOCK..];
+    let mut left = text;
     while left.len() >= BLOCK {
         let found = mask(left, byte);
         if found != 0 {
@@ -139,7 +138,7 @@ impl<'a> Suffix<'a> {
         }
         let found = mask(text, byte);
         if found == 0 {
-            return position_past_block(text, byte);
+            return position_by_blocks(text, byte);
         }
         found.trailing_zeros() as usize
     }

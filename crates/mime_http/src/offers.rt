@@ -176,8 +176,6 @@ pub(crate) fn order_of(
     for (at, offer) in offers.iter().enumerate() {
         let merit = merit(ranges, offer);
         if merit.0 > 0 {
-            // The first time this makes room for all that may follow.
-            ranked.reserve(offers.len() - at)?;
             ranked.push((Reverse(merit), at))?;
         }
     }

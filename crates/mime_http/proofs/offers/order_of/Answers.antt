@@ -11,7 +11,7 @@ use Rattle.mime_http.specs.Ranges.{Rank, merit, AreInOrder}
 use Rattle.mime_http.proofs.Highest.{first_left, mapped_left}
 use Rattle.mime_http.proofs.Order.{entry_of, weighing, are_in_order}
 use Rattle.mime_http.proofs.offers.order_of.Goals as goal
-use Rattle.mime_http.proofs.offers.order_of.Goals.{then-merit-gt0+in_ok-reserve+in_ok-push, else-merit-gt0}
+use Rattle.mime_http.proofs.offers.order_of.Goals.{then-merit-gt0+in_ok-push, else-merit-gt0}
 
 -- what was pushed goes from the rest to the end
 pushed : {X Y : Type 0} (f : X → Y) (old new : List X) (x : X) (rest : List Y) → new ≡ old ++ (x ∷ [])
@@ -34,12 +34,12 @@ loop-at-preserved c =
     sym (ap (λ ranks. map entry_of so_far ++ weighing at ranks) next) ∙ c.loop-at.invariant in
     let goes = λ (offers : List (Reverse Rank × ℕ)). map entry_of offers ++ rest ≡ weighing 0 all in
     elim c.if-merit-gt0.branch [
-      | then-merit-gt0+in_ok-reserve+in_ok-push w ↦
+      | then-merit-gt0+in_ok-push w ↦
           let weighs : (found.0 == 0) ≡ false = ne_eqb found.0 0 (λ is. absurd (omega (arith, is, w.if-merit-gt0.true))) in
           let whole : map entry_of so_far ++ ((found, at) ∷ rest) ≡ weighing 0 all =
           subst (λ b. map entry_of so_far ++ (if b then rest else (found, at) ∷ rest) ≡ weighing 0 all) weighs step in
-          let added = w.in_ok-push.ensures.items ∙ ap (λ items. items ++ ((record { 0 = found }, at) ∷ [])) w.in_ok-reserve.ensures.items in
-          subst goes (ap vec_items (sym w.ranked-is)) (sym (pushed entry_of so_far (vec_items w.push.new.self) _ rest added) ∙ whole)
+          subst goes (ap vec_items (sym w.ranked-is))
+          (sym (pushed entry_of so_far (vec_items w.push.new.self) _ rest w.in_ok-push.ensures.items) ∙ whole)
       | else-merit-gt0 w ↦
           let nothing : (found.0 == 0) ≡ true = eq-eqb found.0 0 (omega (arith, w.if-merit-gt0.false)) in
           subst goes (ap vec_items (sym w.ranked-is))

@@ -4,7 +4,7 @@ use Rattle.std.specs.Prelude.{◌==◌, not}
 use Rattle.std.proofs.lemmas.List.Sums.{prefix_len-le-length}
 use Rattle.mime.proofs.BlocksLemmas.{position-found, next-end, next-onward, end-le}
 use lib.Count.{count_trailing_zeros}
-use Rattle.mime.proofs.blocks.position_past_block.Goals as goal
+use Rattle.mime.proofs.blocks.position_by_blocks.Goals as goal
 
 pub returns-then-found-ne0 : goal.returns-then-found-ne0
 returns-then-found-ne0 c =

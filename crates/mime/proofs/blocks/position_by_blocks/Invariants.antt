@@ -1,7 +1,7 @@
 -- What was passed is not the byte, and what is left is an end of the text.
 use Rattle.std.proofs.Common.{◌≡◌, ◌+◌, ◌-◌, length}
 use Rattle.mime.specs.Inner.Blocks.{IsSuffixOf, first_position}
-use Rattle.mime.proofs.blocks.position_past_block.Given as goal
+use Rattle.mime.proofs.blocks.position_by_blocks.Given as goal
 
 abbrev pub invariant-loop-left : goal.invariant-loop-left
 invariant-loop-left l = record {
