@@ -110,8 +110,8 @@ fn read_next_piece<'a>(text: &'a str, from: u128) -> ReadPiece<'a>
 /// unfinished. So a bad entry doesn't change the entries after its comma, unless it ends in an open quoted value. The
 /// scanner reads no byte twice.
 ///
-/// Yielding a media type allocates once, for its kept text. Yielding the piece `*/*` doesn't allocate, and neither does
-/// cloning its media type.
+/// Yielding a media type of more than 40 bytes allocates once, for its kept text. Yielding a shorter one doesn't allocate,
+/// and neither does cloning it.
 ///
 /// Over `text/html, invalid, a/b; q=1` it yields `text/html`, the bad piece `invalid`, and
 /// `a/b; q=1`. Over `a/b ; q=1` it yields `a/b` and the bad piece `q`, since no space may precede the

@@ -107,7 +107,7 @@ impl Accept {
     /// quoted value that is open ends with its line. A request without the header, which has no line, accepts everything; lines without a
     /// range accept nothing.
     ///
-    /// It allocates once for each range, except for `*/*`, and for each bad entry, once more for one that is copied without white space
+    /// It allocates once for each range of more than 40 bytes and for each bad entry, once more for one that is copied without white space
     /// or empty parameters first, as by [`content_type`](crate::content_type), and for the two lists that hold them.
     ///
     /// # Errors

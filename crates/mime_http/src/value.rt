@@ -200,11 +200,11 @@ fn read_rejected(alloc: Global, value: &[u8], fault: ParseError) -> Result<Mime,
 /// (RFC 9110, 8.3.1, with 5.6.3, 5.6.4 and 5.6.6). Accepts what the grammar there allows, with white space around it, if it is
 /// valid UTF-8: white space around semicolons, and empty parameters. A value past ASCII that isn't UTF-8 (obs-text) is rejected.
 ///
-/// A value that [`Mime::from_str`] accepts is read as it stands, with one allocation, or none for `*/*`, and so is one with white
-/// space after it. Another is copied first, without that white space and those parameters, with one allocation more:
+/// A value that [`Mime::from_str`] accepts is read as it stands, with one allocation, or none for at most 40 bytes, and so is one
+/// with white space after it. Another is copied first, without that white space and those parameters, with one allocation more:
 /// ` text/html ;; charset=utf-8` is kept as `text/html; charset=utf-8`. The values of parameters keep their backslashes. Rejecting
-/// a value allocates nothing, but once if something is left out before its fault, and once more if a media type and white space
-/// stand before its fault, as in `a/b c`; all is freed.
+/// a value allocates nothing, but once if something is left out before its fault, and once more if a media type of more than 40
+/// bytes and white space stand before its fault, as in `a/b c`; all is freed.
 ///
 /// # Errors
 /// `NotUtf8` for a value that isn't valid UTF-8, before anything is allocated; `Invalid` with the fault of a value that

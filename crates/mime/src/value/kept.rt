@@ -1,4 +1,4 @@
-//! The kept text of an accepted string, in one allocation.
+//! The kept text of an accepted string that isn't short, in one allocation.
 
 ghost use Rattle.std.specs.Prelude.{◌≡◌, ◌+◌, ◌++◌, ◌≤◌, ◌↔◌, IsFalse, IfOk, take, drop, length, slice_get, slice_range, string_bytes};
 ghost use Rattle.mime.specs.Bytes.{semicolon_byte};
