@@ -135,6 +135,10 @@ pub(crate) fn piece_len(line: &[u8]) -> usize
     ensures within { result ≤ length line.now }
     ensures piece { cut line.now ≡ take result line.now ∷ cut_after (drop result line.now) }
 {
+    // The short way for an empty piece.
+    if !line.is_empty() && line[0] == b',' {
+        return 0;
+    }
     let mark = first_mark(line);
     if mark < line.len() && line[mark] == b'"' {
         return quoted_piece_len(line, mark);
