@@ -1,4 +1,4 @@
-//! The fault of a header's value, from that of the tightened value.
+//! The fault of a header's value, from that of the tightened value, or from what stands before white space.
 
 ghost use Rattle.std.specs.Prelude.{◌≡◌, ◌↔◌, ◌<◌, ◌≤◌, IsTrue, length};
 ghost use Rattle.std.specs.Str.{IsUtf8};

@@ -1,4 +1,4 @@
-//! A reader of a string's bytes that counts those it has returned.
+//! A reader of a string's bytes that counts those it has returned or skipped.
 
 ghost use Rattle.std.specs.Prelude.{◌≡◌, ◌+◌, ◌-◌, ◌<◌, ◌≤◌, ◌^◌, length};
 ghost use Rattle.mime.specs.Bytes.{is_quoted_text_byte};
@@ -122,7 +122,7 @@ impl<'a> ByteReader<'a> {
         }
     }
 
-    /// The number of bytes read so far, including those counted before this reader.
+    /// The number of bytes returned or skipped so far, including those counted before this reader.
     #[inline(always)]
     pub(crate) fn count(&self) -> u128
         ensures count { result ≡ self.now.count }
