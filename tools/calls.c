@@ -274,7 +274,7 @@ int main(int argc, char **argv)
     free(line);
     for (size_t i = 0; i < count; i++) {
         /* Up to twelve pieces, the same in each run of this program, since nothing seeds rand. */
-        char text[256], *end = text;
+        char text[512], *end = text;
         for (int left = rand() % 13; left > 0; left--)
             end = stpcpy(end, pieces[(size_t)rand() % (sizeof pieces / sizeof *pieces)]);
         check(text, (size_t)(end - text));
