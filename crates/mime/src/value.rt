@@ -98,9 +98,12 @@ impl Mime {
         // `*/*` is always read, and fixed.
         ensures star { s.now ≡ codes "*/*" → IfOk result (λ mime. mime.fixed ≡ true) × IsOk result }
     {
+        if s == "*/*" {
+            return Ok(Mime::star());
+        }
         let mut reader = ByteReader::by_blocks(s);
         match scan(&mut reader) {
-            Verdict::Accepted(positions) => Mime::of_accepted(alloc, s, positions),
+            Verdict::Accepted(positions) => Mime::of_other(alloc, s, positions),
             Verdict::Unfinished(fault) => Err(FromStrError::new(fault)),
             Verdict::Stopped(byte, _) => {
                 let pos = reader.position(0);
@@ -121,9 +124,21 @@ impl Mime {
         ensures memory { IfErr result (λ error. (error ≡ ParseError.NoMemory) × (s.now ≢ codes "*/*")) }
         ensures star { s.now ≡ codes "*/*" → IfOk result (λ mime. mime.fixed ≡ true) }
     {
-        if s == "*/*" {
-            return Ok(Mime::fixed("*/*", positions));
+        if s != "*/*" {
+            return Mime::of_other(alloc, s, positions);
         }
+        Ok(Mime::star())
+    }
+
+    /// The media type of an accepted string other than `*/*`, whose parts have these positions. The only error is that
+    /// memory ran out.
+    #[inline(always)]
+    fn of_other(alloc: Global, s: &str, positions: Positions) -> Result<Mime, FromStrError>
+        requires accepted { HasPositions s.now positions }
+        requires other { s.now ≢ codes "*/*" }
+        ensures read { IfOk result (λ mime. Reads s.now mime.media) }
+        ensures memory { IfErr result (λ error. (error ≡ ParseError.NoMemory) × (s.now ≢ codes "*/*")) }
+    {
         let kept = positions_in_kept(positions);
         if s.len() <= SHORT {
             return Ok(Mime::of_kept(Text::Short(ShortText::keep(s, positions)), kept));
@@ -132,6 +147,21 @@ impl Mime {
             Ok(text) => Ok(Mime::of_kept(Text::Owned(text), kept)),
             Err(_) => Err(FromStrError::new(ParseError::NoMemory)),
         }
+    }
+
+    /// The media type `*/*`.
+    #[inline(always)]
+    fn star() -> Mime
+        ensures reads { Reads (codes "*/*") result.media }
+        ensures fixed { result.fixed ≡ true }
+    {
+        let positions = Positions {
+            slash: 1,
+            plus: None,
+            semicolon: None,
+            pair_count: 0,
+        };
+        Mime::fixed("*/*", positions)
     }
 
     /// The media type of a text in kept form, with the positions of its parts.
