@@ -125,7 +125,7 @@ fn count(
             return Ok(());
         }
     };
-    let count = if at % 8 == 0 {
+    let count = if at % 8 == 1 {
         count_ordered(&mut counts.ordered, mime)?
     } else {
         count_hashed(&mut counts.hashed, mime)?
