@@ -1,5 +1,5 @@
 -- What a cut of a list is, and where its quoted content ends.
-use Rattle.std.proofs.Common.{◌≡◌, ◌≢◌, ℕ, zero, suc, ◌+◌, ◌*◌, ◌<◌, ◌≤◌, Bool, true, false, List, [], ◌∷◌, ◌++◌, length, get_or, drop, refl, sym, ap, ◌∙◌, ne_eqb, arith, cond, ◌-◌, take, subst, append-nil, append_assoc, length-append, length-drop}
+use Rattle.std.proofs.Common.{◌≡◌, ◌≢◌, ℕ, zero, suc, ◌+◌, ◌<◌, ◌≤◌, Bool, true, false, List, [], ◌∷◌, ◌++◌, length, get_or, drop, refl, sym, ap, ◌∙◌, ne_eqb, arith, cond, ◌-◌, take, subst, append-nil, append_assoc, length-append, length-drop}
 use Rattle.std.specs.Prelude.{IsTrue, ◌==◌, ◌&&◌, not, Option, Some, codes}
 use Rattle.std.specs.Str.{bytes_eq}
 use Rattle.std.specs.List.{position_or_len, list_all}
@@ -7,13 +7,13 @@ use Rattle.std.specs.Str.{IsUtf8, IsCharBoundary}
 use Rattle.std.proofs.lemmas.Str.{IsCharBoundary-start, IsCharBoundary-after_ascii}
 use Rattle.std.proofs.lemmas.Bool.Decides.{nat_tests}
 use Rattle.std.proofs.lemmas.List.Sums.{prefix_len_passes, prefix_len-le-length}
-use Rattle.std.proofs.lemmas.List.{drop_more, drop_all, take_at, drop_at, drop-drop, take-append-drop, take_rest, get_or-drop, length-take-le}
+use Rattle.std.proofs.lemmas.List.{drop_more, drop_all, take_at, drop_at, drop-drop, take-append-drop, take_rest, length-take-le}
 use Rattle.std.proofs.lemmas.Bool.{and_parts, cond-true, cond-false, eqb-true, true≢false, cond_both}
 use Rattle.mime.specs.Bytes.{quote_byte, backslash_byte, equals_byte}
 use Rattle.mime.specs.Grammar.{IsContent, is_space}
 use Rattle.mime.specs.Inner.Blocks.{first_position, before_byte, after_byte, IsSuffixOf}
 use Rattle.mime.proofs.BlocksLemmas.{end_all, end_drop}
-use Rattle.mime.specs.Inner.Quoted.{awaits_next, takes, takes_all, awaits_after, len_from, content_len, BeginsWithPairs}
+use Rattle.mime.specs.Inner.Quoted.{awaits_next, takes, takes_all, awaits_after, len_from, content_len}
 use Rattle.mime.proofs.GrammarLemmas.Content.{taken-closes_not, content-taken, content-awaits}
 use Rattle.mime.specs.Values.{lowered, lowered_value}
 use Rattle.mime.specs.Inner.Pairs.{PairCut, cut_after_equals, leading_spaces, without_spaces, cut_of, pairs_within, lowered_first, lowered_within}
@@ -140,23 +140,17 @@ search_past_pair text position whole e within backslash =
       ap (λ n. len_from false (drop n text)) next,
     )
 
--- in that search a block of pairs is passed at once
-module _ (text : List ℕ) (position whole : ℕ) (so_far : position + len_from false (drop position text) ≡ whole)
-    (block : BeginsWithPairs (take (length text - position) (drop position text))) where
-  pairs_there : BeginsWithPairs (drop position text)
-  pairs_there = subst BeginsWithPairs (take_rest text position) block
-
-  past : (pairs : ℕ) → pairs ≤ 8 → position + 2 * pairs + len_from false (drop (position + 2 * pairs) text) ≡ whole
-  past zero within = subst (λ n. n + len_from false (drop n text) ≡ whole) (omega arith) so_far
-  past (suc pairs) within =
-      let at : get_or text (position + 2 * pairs) 0 ≡ backslash_byte =
-      sym (get_or-drop position text (2 * pairs) 0) ∙ pairs_there.1 pairs (omega (arith, within)) in
-      subst (λ n. n + len_from false (drop n text) ≡ whole) (omega arith)
-      (search_past_pair text (position + 2 * pairs) whole (past pairs (omega (arith, within)))
-      (omega (arith, within, pairs_there.0, length-drop position text)) at)
-
-  pub search_past_block : position + 16 + len_from false (drop (position + 16) text) ≡ whole
-  search_past_block = past 8 (omega arith)
+-- in that search three pairs are passed at once
+pub search_past_three : (text : List ℕ) (position whole : ℕ) → position + len_from false (drop position text) ≡ whole → position + 6 < length text
+    → get_or text position 0 ≡ backslash_byte → get_or text (position + 2) 0 ≡ backslash_byte → get_or text (position + 4) 0 ≡ backslash_byte
+    → position + 6 + len_from false (drop (position + 6) text) ≡ whole
+search_past_three text position whole e within first second third =
+    let two : position + 2 + 2 ≡ position + 4 = omega arith in
+    let three : position + 4 + 2 ≡ position + 6 = omega arith in
+    let after_one = search_past_pair text position whole e (omega (arith, within)) first in
+    let after_two = search_past_pair text (position + 2) whole after_one (omega (arith, within)) second in
+    let so_far : position + 4 + len_from false (drop (position + 4) text) ≡ whole = omega (arith, after_two, ap (λ n. len_from false (drop n text)) two) in
+    omega (arith, search_past_pair text (position + 4) whole so_far (omega (arith, within)) third, ap (λ n. len_from false (drop n text)) three)
 
 -- ---- the first quote
 

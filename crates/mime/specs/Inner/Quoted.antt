@@ -1,5 +1,5 @@
 -- Quoted content, byte by byte: which byte may come next, and where the content ends.
-use Rattle.std.specs.Prelude.{◌≡◌, ◌≤◌, ◌<◌, ℕ, zero, suc, ◌+◌, ◌*◌, Bool, true, false, IsTrue, List, [], ◌∷◌, length, take, drop, slice_index, if◌then◌else◌, ◌==◌, ◌&&◌, not}
+use Rattle.std.specs.Prelude.{ℕ, zero, suc, ◌+◌, Bool, true, false, IsTrue, List, [], ◌∷◌, take, drop, if◌then◌else◌, ◌==◌, ◌&&◌, not}
 use Rattle.mime.specs.Bytes.{is_quoted_byte, quote_byte, backslash_byte}
 
 -- whether a byte is awaited, one that can't close the value, after one more byte: one is after a backslash that doesn't end a
@@ -45,7 +45,3 @@ content_of text = take (content_len text) text
 
 abbrev pub after_content : List ℕ → List ℕ
 after_content text = drop (content_len text + 1) text
-
--- a text that begins with eight pairs: each second byte, from the first on, is a backslash
-abbrev pub BeginsWithPairs : List ℕ → Type 0
-BeginsWithPairs text = (16 ≤ length text) × ((pair : ℕ) → pair < 8 → slice_index text (2 * pair) ≡ backslash_byte)

@@ -2,15 +2,15 @@
 
 ghost use Rattle.std.specs.Iterator.{YieldsFirstBy, item_count, UpTo, at_most};
 ghost use Rattle.std.specs.Iterator.SizeHint.{IsWithinCount};
-ghost use Rattle.std.specs.Prelude.{◌≡◌, ◌↔◌, ◌≤◌, IsTrue, length, take, slice_get, IfSome, Some, option_map};
+ghost use Rattle.std.specs.Prelude.{◌≡◌, ◌<◌, ◌≤◌, ◌+◌, false, IsTrue, length, take, drop, slice_get, slice_index, IfSome, Some, option_map};
 ghost use Rattle.std.specs.List.{list_all};
 ghost use Rattle.std.specs.Str.{IsCharBoundary};
 ghost use Rattle.mime.specs.Inner.Blocks.{before_byte, after_byte, first_position};
 ghost use Rattle.mime.specs.Inner.Pairs.{cut_of, leading_spaces, without_spaces, cut_after_equals, pairs_after, pair_seen};
-ghost use Rattle.mime.specs.Bytes.{quote_byte, semicolon_byte, equals_byte};
+ghost use Rattle.mime.specs.Bytes.{quote_byte, backslash_byte, semicolon_byte, equals_byte};
 ghost use Rattle.mime.specs.Inner.ComparedText.{IsLoneCharset};
 ghost use Rattle.mime.specs.Grammar.{is_space};
-ghost use Rattle.mime.specs.Inner.Quoted.{content_len, BeginsWithPairs};
+ghost use Rattle.mime.specs.Inner.Quoted.{content_len, len_from};
 ghost use Rattle.mime.specs.Inner.KeptText.{AreLowPairs};
 ghost use Rattle.mime.specs.Items.{items_of, name_seen, IsLowIf, IsFirstAccepted};
 
@@ -31,25 +31,34 @@ pub(crate) struct Pair<'a> {
     pub(crate) rest: Suffix<'a>,
 }
 
-/// Whether a byte string begins with a block of pairs: each second byte of it, from the first on, is a backslash.
+/// The position after pairs in a row, a backslash and a byte each, the first of which is at a position. A backslash that
+/// ends the text is a pair, too.
 #[inline(always)]
-fn begins_with_pairs(text: &[u8]) -> bool
-    ensures { IsTrue result ↔ BeginsWithPairs text.now }
+fn after_pairs(text: &[u8], from: usize) -> usize
+    requires within { from < length text.now }
+    requires first { slice_index text.now from ≡ backslash_byte }
+    ensures more { from < result }
+    ensures left { result + len_from false (drop result text.now) ≡ from + len_from false (drop from text.now) }
 {
-    if text.len() < BLOCK {
-        return false;
-    }
-    let mut pair = 0;
-    while pair < BLOCK / 2 {
-        if text[2 * pair] != b'\\' {
-            return false;
+    // From here on, less than eight bytes are left.
+    let end = text.len().saturating_sub(7);
+    let mut last = from;
+    while last < end && text[last + 2] == b'\\' {
+        // Another pair follows, or three.
+        if text[last + 4] == b'\\' && text[last + 6] == b'\\' {
+            last += 6;
+        } else {
+            last += 2;
         }
-        pair += 1;
     }
-    true
+    if last + 1 == text.len() {
+        return last + 1;
+    }
+    // The byte that it pairs closes nothing.
+    last + 2
 }
 
-/// The length in bytes of a quoted value's content, searched byte by byte, but for blocks of pairs. It isn't inlined:
+/// The length in bytes of a quoted value's content, searched byte by byte, but for pairs in a row. It isn't inlined:
 /// few values have a backslash before their first quote.
 #[inline(never)]
 fn content_len_past_pairs(text: &[u8]) -> usize
@@ -60,19 +69,11 @@ fn content_len_past_pairs(text: &[u8]) -> usize
         if text[position] == b'"' {
             return position;
         }
-        if text[position] != b'\\' {
+        if text[position] == b'\\' {
+            position = after_pairs(text, position);
+        } else {
             position += 1;
-            continue;
         }
-        if begins_with_pairs(&text[position..]) {
-            position += BLOCK;
-            continue;
-        }
-        if position + 1 == text.len() {
-            return position + 1;
-        }
-        // The byte that it pairs closes nothing.
-        position += 2;
     }
     position
 }
