@@ -3,9 +3,7 @@ use Rattle.std.proofs.Common.{◌≡◌, ◌∙◌, ◌==◌, refl, sym, ap, sub
 use Rattle.std.specs.Prelude.{⊤, flat_map}
 use Rattle.std.proofs.lemmas.Bool.Decides.{nat_tests}
 use Rattle.std.proofs.lemmas.List.{append-nil, append_assoc}
-use Rattle.mime_http.specs.declared.list.At.{At}
-use Rattle.mime_http.specs.declared.list.At.TheVariants.{Outside, Equals, Quoted, Paired}
-use Rattle.mime_http.specs.Walk.{after_outside, after, ends, cut_from, cut}
+use Rattle.mime_http.specs.Walk.{At, Outside, Equals, Quoted, Paired, after_outside, after, ends, cut_from, cut}
 use Rattle.mime_http.specs.HttpList.{AreBetweenCommas, no_line, line_end, comma, IsInString, string_end, string_byte, string_pair, opens_string, IsPiece, piece_end, piece_byte, piece_string, BeginsPiece}
 use Rattle.mime_http.specs.ListLaws.{OneCut}
 

@@ -1,16 +1,14 @@
 -- A line's first piece: bytes without a mark go on with it, and a comma outside strings ends it.
-use Rattle.std.proofs.Common.{◌≡◌, ◌∙◌, ◌==◌, refl, sym, ap, ap₂, arith, ℕ, zero, suc, Bool, true, false, not, cond, eqb, List, [], ◌∷◌, ◌<◌, ◌≤◌, ◌+◌, ◌-◌, ◌%◌, ◌^◌, length, take, drop, get_or, map, bit_or, Fits, w8, ⊎_elim}
-use Rattle.std.proofs.lemmas.Bool.{agree_below_at, cases_lt}
+use Rattle.std.proofs.Common.{◌≡◌, ◌∙◌, ◌==◌, ◌||◌, refl, sym, ap, ap₂, arith, ℕ, zero, suc, Bool, true, false, not, cond, eqb, List, [], ◌∷◌, ◌<◌, ◌≤◌, ◌+◌, ◌-◌, ◌%◌, ◌^◌, length, take, drop, get_or, map, bit_or, ⊎_elim}
+use Rattle.std.proofs.lemmas.Bool.{cases_lt}
 use Rattle.std.proofs.lemmas.Bool.Decides.{nat_tests}
 use Rattle.std.proofs.lemmas.List.{length-map}
-use Rattle.std.proofs.lemmas.Simd.{map-map, mask_l-mod, length-chunk, chunk-fits, leading_from_mask_l, trailing_mask_l, run_in_chunk_le, run_in_chunk_fails, run_in_chunk_stops}
+use Rattle.std.proofs.lemmas.Simd.{map-map, mask_l-mod, length-chunk, leading_from_mask_l, trailing_mask_l, run_in_chunk_le, run_in_chunk_fails, run_in_chunk_stops}
 use Rattle.std.proofs.Math.ListN.{drop_of_length-le}
 use Rattle.std.specs.List.{prefix_len}
 use lib.Count.{count_trailing_zeros}
-use lib.Lanes.{Each1, chunk, mask_l, top}
-use Rattle.mime_http.specs.declared.list.At.{At}
-use Rattle.mime_http.specs.declared.list.At.TheVariants.{Outside, Equals, Quoted, Paired}
-use Rattle.mime_http.specs.Walk.{after_outside, after, ends, cut_from, cut, cut_after, is_mark, AreUnmarked}
+use lib.Lanes.{chunk, mask_l, top}
+use Rattle.mime_http.specs.Walk.{At, Outside, Equals, Quoted, Paired, after_outside, after, ends, cut_from, cut, cut_after, is_mark, AreUnmarked}
 use Rattle.mime_http.proofs.Cuts.{IsOutside, goes_on, comma_ends}
 use Rattle.mime_http.proofs.Highest.{item_left}
 use Rattle.mime_http.proofs.Trims.{next_taken}
@@ -58,10 +56,10 @@ pub record Led (line : List ℕ) (n : ℕ) : Type 0 where
   pub first : n ≡ 0 → place ≡ Outside
   pub later : 0 < n → place ≡ after_outside (get_or line (n - 1) 0)
 
-led_further : (line : List ℕ) (n : ℕ) → suc n ≤ length line → AreUnmarked line 0 (suc n) → Led line n → Led line (suc n)
+led_further : (line : List ℕ) (n : ℕ) → suc n ≤ length line → AreUnmarked 44 34 line 0 (suc n) → Led line n → Led line (suc n)
 led_further line n within unmarked before =
     let b = get_or line n 0 in
-    let plain : is_mark b ≡ false = unmarked n (omega arith) (omega arith) in
+    let plain : is_mark 44 34 b ≡ false = unmarked n (omega arith) (omega arith) in
     let comma : (b == 44) ≡ false = grind (arith, nat_tests, plain) in
     let quote : (b == 34) ≡ false = grind (arith, nat_tests, plain) in
     let one : n + 1 ≡ suc n = omega arith in
@@ -77,13 +75,13 @@ led_further line n within unmarked before =
       later = λ some. ap (λ i. after_outside (get_or line i 0)) last;
     }
 
-pub unmarked_lead : (line : List ℕ) (n : ℕ) → n ≤ length line → AreUnmarked line 0 n → Led line n
+pub unmarked_lead : (line : List ℕ) (n : ℕ) → n ≤ length line → AreUnmarked 44 34 line 0 n → Led line n
 unmarked_lead line zero within unmarked =
     record { place = Outside; is_outside = tt; so_far = refl; first = λ none. refl; later = λ some. absurd (omega (arith, some)) }
 unmarked_lead line (suc n) within unmarked =
     led_further line n within unmarked (unmarked_lead line n (omega (arith, within)) (λ k from to. unmarked k from (omega (arith, to))))
 
-pub piece_ends : (line : List ℕ) (at : ℕ) → at ≤ length line → AreUnmarked line 0 at → (at < length line → get_or line at 0 ≡ 44)
+pub piece_ends : (line : List ℕ) (at : ℕ) → at ≤ length line → AreUnmarked 44 34 line 0 at → (at < length line → get_or line at 0 ≡ 44)
     → cut line ≡ take at line ∷ cut_after (drop at line)
 piece_ends line at within unmarked comma =
     let led = unmarked_lead line at within unmarked in
@@ -93,45 +91,176 @@ piece_ends line at within unmarked comma =
     (λ past. cut_at_end led.place line at past)
     (cases_lt at (length line))
 
+-- ---- from mark to mark
+
+-- bytes at which a place stays, and that end no piece
+stays : (place : At) (one other : ℕ) (on : (b : ℕ) → is_mark one other b ≡ false → ends place b ≡ false)
+    (still : (b : ℕ) → is_mark one other b ≡ false → after place b ≡ place) (line : List ℕ) (from n : ℕ) → from + n ≤ length line
+    → AreUnmarked one other line from (from + n)
+    → cut_from place (take (from + n) line) (drop (from + n) line) ≡ cut_from place (take from line) (drop from line)
+stays place one other on still line from zero within unmarked =
+    let none : from + 0 ≡ from = omega arith in ap (λ m. cut_from place (take m line) (drop m line)) none
+stays place one other on still line from (suc n) within unmarked =
+    let at = from + n in
+    let b = get_or line at 0 in
+    let plain : is_mark one other b ≡ false = unmarked at (omega arith) (omega arith) in
+    let next : at + 1 ≡ from + suc n = omega arith in
+    sym (ap (λ m. cut_from place (take m line) (drop m line)) next)
+    ∙ (sym (ap (λ p. cut_from p (take (at + 1) line) (drop (at + 1) line)) (still b plain))
+    ∙ (sym (cut_goes_on place line at (omega (arith, within)) (on b plain))
+    ∙ stays place one other on still line from n (omega (arith, within)) (λ k least most. unmarked k least (omega (arith, most)))))
+
+-- outside strings any byte but a comma and an equals sign
+outside_on : (b : ℕ) → is_mark 44 61 b ≡ false → ends Outside b ≡ false
+outside_on b plain = grind (arith, nat_tests, plain)
+
+outside_still : (b : ℕ) → is_mark 44 61 b ≡ false → after Outside b ≡ Outside
+outside_still b plain =
+    let equals : (b == 61) ≡ false = grind (arith, nat_tests, plain) in
+    rw equals refl
+
+pub outside_run : (line : List ℕ) (from to : ℕ) → from ≤ to → to ≤ length line → AreUnmarked 44 61 line from to
+    → cut_from Outside (take to line) (drop to line) ≡ cut_from Outside (take from line) (drop from line)
+outside_run line from to least within unmarked =
+    let n = to - from in
+    let is : from + n ≡ to = omega (arith, least) in
+    sym (ap (λ m. cut_from Outside (take m line) (drop m line)) is)
+    ∙ stays Outside 44 61 outside_on outside_still line from n (omega (arith, within, least)) (λ k from_k to_k. unmarked k from_k (omega (arith, to_k, least)))
+
+-- in strings any byte but a quote and a backslash
+string_still : (b : ℕ) → is_mark 34 92 b ≡ false → after Quoted b ≡ Quoted
+string_still b plain =
+    let quote : (b == 34) ≡ false = grind (arith, nat_tests, plain) in
+    let backslash : (b == 92) ≡ false = grind (arith, nat_tests, plain) in
+    rw (backslash, quote) refl
+
+pub string_run : (line : List ℕ) (from to : ℕ) → from ≤ to → to ≤ length line → AreUnmarked 34 92 line from to
+    → cut_from Quoted (take to line) (drop to line) ≡ cut_from Quoted (take from line) (drop from line)
+string_run line from to least within unmarked =
+    let n = to - from in
+    let is : from + n ≡ to = omega (arith, least) in
+    sym (ap (λ m. cut_from Quoted (take m line) (drop m line)) is)
+    ∙ stays Quoted 34 92 (λ b plain. refl) string_still line from n (omega (arith, within, least)) (λ k from_k to_k. unmarked k from_k (omega (arith, to_k, least)))
+
+-- a byte in a string, by the place after it
+pub string_byte : (line : List ℕ) (at : ℕ) (place : At) → at < length line → after Quoted (get_or line at 0) ≡ place
+    → cut_from place (take (at + 1) line) (drop (at + 1) line) ≡ cut_from Quoted (take at line) (drop at line)
+string_byte line at place within there =
+    sym (ap (λ p. cut_from p (take (at + 1) line) (drop (at + 1) line)) there) ∙ sym (cut_goes_on Quoted line at within refl)
+
+pub string_plain : (line : List ℕ) (at : ℕ) → at < length line → ¬ (get_or line at 0 ≡ 34) → ¬ (get_or line at 0 ≡ 92)
+    → cut_from Quoted (take (at + 1) line) (drop (at + 1) line) ≡ cut_from Quoted (take at line) (drop at line)
+string_plain line at within no_quote no_backslash =
+    string_byte line at Quoted within (string_still (get_or line at 0) (grind (arith, nat_tests, no_quote, no_backslash)))
+
+-- a backslash with the byte that it pairs
+pub string_pair : (line : List ℕ) (at : ℕ) → at + 1 < length line → get_or line at 0 ≡ 92
+    → cut_from Quoted (take (at + 2) line) (drop (at + 2) line) ≡ cut_from Quoted (take at line) (drop at line)
+string_pair line at within backslash =
+    let next : at + 1 + 1 ≡ at + 2 = omega arith in
+    sym (ap (λ m. cut_from Quoted (take m line) (drop m line)) next)
+    ∙ (sym (cut_goes_on Paired line (at + 1) within refl) ∙ string_byte line at Paired (omega (arith, within)) (ap (after Quoted) backslash))
+
+-- at the end all places are alike
+pub alike_at_end : (place other : At) (line : List ℕ) (at : ℕ) → length line ≤ at
+    → cut_from place (take at line) (drop at line) ≡ cut_from other (take at line) (drop at line)
+alike_at_end place other line at past = cut_at_end place line at past ∙ sym (cut_at_end other line at past)
+
+-- right after an equals sign a byte that is no quote is as outside strings
+alike_at_other : (place : At) → IsOutside place → (line : List ℕ) (at : ℕ) → at < length line → (get_or line at 0 == 34) ≡ false
+    → cut_from place (take at line) (drop at line) ≡ cut_from Outside (take at line) (drop at line)
+alike_at_other Outside is line at within other = refl
+alike_at_other Equals is line at within other =
+    let left = item_left line at 0 within in
+    ap (cut_from Equals (take at line)) left ∙ (rw other refl ∙ sym (ap (cut_from Outside (take at line)) left))
+alike_at_other Quoted is line at within other = absurd is
+alike_at_other Paired is line at within other = absurd is
+
+pub equals_past : (line : List ℕ) (at : ℕ) → at < length line → get_or line at 0 ≡ 61
+    → cut_from Equals (take (at + 1) line) (drop (at + 1) line) ≡ cut_from Outside (take at line) (drop at line)
+equals_past line at within equals =
+    sym (ap (λ b. cut_from (after Outside b) (take (at + 1) line) (drop (at + 1) line)) equals)
+    ∙ sym (cut_goes_on Outside line at within (ap (ends Outside) equals))
+
+pub equals_alone : (line : List ℕ) (at : ℕ) → at < length line → get_or line at 0 ≡ 61 → (at + 1 < length line → ¬ (get_or line (at + 1) 0 ≡ 34))
+    → cut_from Outside (take (at + 1) line) (drop (at + 1) line) ≡ cut_from Outside (take at line) (drop at line)
+equals_alone line at within equals other =
+    ⊎_elim
+    (λ (more : at + 1 < length line). sym (alike_at_other Equals tt line (at + 1) more (grind (arith, nat_tests, other more))))
+    (λ past. alike_at_end Outside Equals line (at + 1) past)
+    (cases_lt (at + 1) (length line))
+    ∙ equals_past line at within equals
+
+pub string_opens : (line : List ℕ) (at : ℕ) → at + 1 < length line → get_or line at 0 ≡ 61 → get_or line (at + 1) 0 ≡ 34
+    → cut_from Quoted (take (at + 1 + 1) line) (drop (at + 1 + 1) line) ≡ cut_from Outside (take at line) (drop at line)
+string_opens line at within equals quote =
+    sym (ap (λ b. cut_from (after Equals b) (take (at + 1 + 1) line) (drop (at + 1 + 1) line)) quote)
+    ∙ (sym (cut_goes_on Equals line (at + 1) within (ap (ends Equals) quote)) ∙ equals_past line at (omega (arith, within)) equals)
+
+-- at a byte that is no mark the place before it is as outside strings
+pub outside_before : (line : List ℕ) (n : ℕ) → n < length line → AreUnmarked 44 34 line 0 (n + 1)
+    → cut_from Outside (take n line) (drop n line) ≡ cut line
+outside_before line n within unmarked =
+    let led = unmarked_lead line n (omega (arith, within)) (λ k from to. unmarked k from (omega (arith, to))) in
+    let plain : is_mark 44 34 (get_or line n 0) ≡ false = unmarked n (omega arith) (omega arith) in
+    sym (alike_at_other led.place led.is_outside line n within (grind (arith, nat_tests, plain))) ∙ led.so_far
+
+-- a comma outside strings ends the piece, and so does the line's end
+pub ends_outside : (line : List ℕ) (at : ℕ) → (at < length line → get_or line at 0 ≡ 44)
+    → cut_from Outside (take at line) (drop at line) ≡ cut line → cut line ≡ take at line ∷ cut_after (drop at line)
+ends_outside line at comma left =
+    sym left ∙ ⊎_elim
+    (λ (more : at < length line). cut_ends Outside line at more (ap (ends Outside) (comma more)))
+    (λ past. cut_at_end Outside line at past)
+    (cases_lt at (length line))
+
 -- ---- the marks in a block
 
-abbrev lane : ℕ → ℕ
-lane b = bit_or (cond (eqb b 44) 255 0) (cond (eqb b 34) 255 0)
+module _ (one other : ℕ) where
+  abbrev lane : ℕ → ℕ
+  lane b = bit_or (cond (eqb b one) 255 0) (cond (eqb b other) 255 0)
 
-abbrev is_set : ℕ → Bool
-is_set b = top 7 (lane b)
+  abbrev is_set : ℕ → Bool
+  is_set b = top 7 (lane b)
 
-set_by_mark : (b : ℕ) → Fits w8 b → is_set b ≡ is_mark b
-set_by_mark b fits = agree_below_at is_set is_mark 256 b refl fits.fits
+  set_by_mark : (b : ℕ) → is_set b ≡ is_mark one other b
+  set_by_mark b = go (eqb b one) (eqb b other)
+    where
+      go : (x y : Bool) → top 7 (bit_or (cond x 255 0) (cond y 255 0)) ≡ (x || y)
+      go true true = refl
+      go true false = refl
+      go false true = refl
+      go false false = refl
 
-set_by_marks : (v : List ℕ) → Each1 (Fits w8) v → map is_set v ≡ map is_mark v
-set_by_marks [] fit = refl
-set_by_marks (b ∷ v) fit = ap₂ (λ x xs. x ∷ xs) (set_by_mark b fit.0) (set_by_marks v fit.1)
+  set_by_marks : (v : List ℕ) → map is_set v ≡ map (is_mark one other) v
+  set_by_marks [] = refl
+  set_by_marks (b ∷ v) = ap₂ (λ x xs. x ∷ xs) (set_by_mark b) (set_by_marks v)
 
-pub marks : (text : List ℕ) (at : ℕ) (lanes : List ℕ) → at + 16 ≤ length text → ((k : ℕ) → Fits w8 (get_or text k 0))
-    → lanes ≡ map lane (chunk at 16 text) → mask_l (map (top 7) lanes) % 2 ^ 64 ≡ mask_l (map is_mark (chunk at 16 text))
-marks text at lanes room fits of_lanes =
-    ap (λ l. mask_l l % 2 ^ 64) (ap (map (top 7)) of_lanes ∙ map-map (top 7) lane (chunk at 16 text))
-    ∙ (mask_l-mod (map is_set (chunk at 16 text)) 64 (omega (arith, length-map (chunk at 16 text) is_set, length-chunk at 16 text room))
-    ∙ ap mask_l (set_by_marks (chunk at 16 text) (chunk-fits w8 at 16 text fits)))
+  pub marks : (text : List ℕ) (at : ℕ) (lanes : List ℕ) → at + 16 ≤ length text
+      → lanes ≡ map lane (chunk at 16 text) → mask_l (map (top 7) lanes) % 2 ^ 64 ≡ mask_l (map (is_mark one other) (chunk at 16 text))
+  marks text at lanes room of_lanes =
+      ap (λ l. mask_l l % 2 ^ 64) (ap (map (top 7)) of_lanes ∙ map-map (top 7) lane (chunk at 16 text))
+      ∙ (mask_l-mod (map is_set (chunk at 16 text)) 64 (omega (arith, length-map (chunk at 16 text) is_set, length-chunk at 16 text room))
+      ∙ ap mask_l (set_by_marks (chunk at 16 text)))
 
-module _ (text : List ℕ) (at : ℕ) (room : at + 16 ≤ length text) (mask : ℕ) (is : mask ≡ mask_l (map is_mark (chunk at 16 text))) where
+module _ (one other : ℕ) (text : List ℕ) (at : ℕ) (room : at + 16 ≤ length text) (mask : ℕ)
+    (is : mask ≡ mask_l (map (is_mark one other) (chunk at 16 text))) where
   abbrev count : ℕ
-  count = prefix_len (λ b. not (is_mark b)) (chunk at 16 text)
+  count = prefix_len (λ b. not (is_mark one other b)) (chunk at 16 text)
 
   pub none_set : mask ≡ 0 → 16 ≡ count
-  none_set none = sym (leading_from_mask_l is_mark (chunk at 16 text) (sym is ∙ none) ∙ length-chunk at 16 text room)
+  none_set none = sym (leading_from_mask_l (is_mark one other) (chunk at 16 text) (sym is ∙ none) ∙ length-chunk at 16 text room)
 
   pub some_set : ¬ (mask ≡ 0) → count_trailing_zeros 64 mask ≡ count
   some_set some =
       ap (count_trailing_zeros 64) is
-      ∙ trailing_mask_l is_mark 64 (chunk at 16 text) (omega (arith, length-chunk at 16 text room)) (omega (arith, is, some))
+      ∙ trailing_mask_l (is_mark one other) 64 (chunk at 16 text) (omega (arith, length-chunk at 16 text room)) (omega (arith, is, some))
 
   pub few : (r : ℕ) → r ≡ count → r ≤ 16
-  few r counted = run_in_chunk_le is_mark text at 16 r 0 room counted
+  few r counted = run_in_chunk_le (is_mark one other) text at 16 r 0 room counted
 
-  pub unmarked : (r : ℕ) → r ≡ count → AreUnmarked text at (at + r)
-  unmarked r counted = run_in_chunk_fails is_mark text at 16 r 0 room counted
+  pub unmarked : (r : ℕ) → r ≡ count → AreUnmarked one other text at (at + r)
+  unmarked r counted = run_in_chunk_fails (is_mark one other) text at 16 r 0 room counted
 
-  pub marked : (r : ℕ) → r ≡ count → r < 16 → is_mark (get_or text (at + r) 0) ≡ true
-  marked r counted = run_in_chunk_stops is_mark text at 16 r 0 room counted
+  pub marked : (r : ℕ) → r ≡ count → r < 16 → is_mark one other (get_or text (at + r) 0) ≡ true
+  marked r counted = run_in_chunk_stops (is_mark one other) text at 16 r 0 room counted

@@ -3,8 +3,14 @@ use Rattle.std.specs.Prelude.{◌≡◌, ◌<◌, ◌≤◌, ◌||◌, ℕ, Bool
 use Rattle.mime.specs.Bytes.{comma_byte, equals_byte, quote_byte, backslash_byte}
 use Rattle.mime.specs.Values.{MediaType}
 use Rattle.mime_http.specs.HttpList.{AreBetweenCommas, AreSorted, IsPiece, BeginsPiece, Header}
-use Rattle.mime_http.specs.declared.list.At.{At}
-use Rattle.mime_http.specs.declared.list.At.TheVariants.{Outside, Equals, Quoted, Paired}
+
+-- where in a line the next byte is: outside strings, right after an equals sign outside strings, in a string, and right after a
+-- backslash in a string
+pub data At : Type 0 where
+  Outside : At
+  Equals : At
+  Quoted : At
+  Paired : At
 
 -- the place after a byte outside strings
 abbrev pub after_outside : ℕ → At
@@ -38,13 +44,13 @@ abbrev pub cut_after : List ℕ → List (List ℕ)
 cut_after [] = []
 cut_after (b ∷ bytes) = cut bytes
 
--- whether a byte outside strings may end a piece or open a string
-abbrev pub is_mark : ℕ → Bool
-is_mark b = b == comma_byte || b == quote_byte
+-- whether a byte is one of two marks
+abbrev pub is_mark : ℕ → ℕ → ℕ → Bool
+is_mark one other b = b == one || b == other
 
 -- no byte from a position to another is one
-abbrev pub AreUnmarked : List ℕ → ℕ → ℕ → Type 0
-AreUnmarked bytes from to = (k : ℕ) → from ≤ k → k < to → is_mark (slice_index bytes k) ≡ false
+abbrev pub AreUnmarked : ℕ → ℕ → List ℕ → ℕ → ℕ → Type 0
+AreUnmarked one other bytes from to = (k : ℕ) → from ≤ k → k < to → is_mark one other (slice_index bytes k) ≡ false
 
 -- a header holds what pieces are after what it held
 pub record Adds (pieces : List (List ℕ)) (old new : Header) : Type 0 where

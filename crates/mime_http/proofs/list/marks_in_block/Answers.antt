@@ -9,5 +9,5 @@ pub returns : goal.returns
 returns c =
     let v = chunk c.args.at 16 c.args.text.now in
     let long = length-chunk c.args.at 16 c.args.text.now c.requires in
-    marks c.args.text.now c.args.at _ c.requires c.type_inv.text
-    (zip2_of_maps bit_or _ _ v (zip2_splat {Y = ℕ} _ v 16 44 long) (zip2_splat {Y = ℕ} _ v 16 34 long))
+    marks c.args.one c.args.other c.args.text.now c.args.at _ c.requires
+    (zip2_of_maps bit_or _ _ v (zip2_splat {Y = ℕ} _ v 16 c.args.one long) (zip2_splat {Y = ℕ} _ v 16 c.args.other long))

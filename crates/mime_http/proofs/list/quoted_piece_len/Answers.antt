@@ -1,27 +1,65 @@
--- The bytes before the quote lead to the place that the last of them tells.
-use Rattle.std.proofs.Common.{arith, ◌∙◌, ◌+◌, sym, ap, take, drop}
-use Rattle.mime_http.specs.Walk.{cut_from}
-use Rattle.mime_http.proofs.Pieces.{unmarked_lead, cut_goes_on}
+-- The bytes before the quote lead outside strings, each search goes on there, and a string is left at its end.
+use Rattle.std.proofs.Common.{arith, ◌≡◌, ◌∙◌, ◌-◌, ◌<◌, length, take, drop, get_or, ap}
+use Rattle.std.proofs.lemmas.Bool.Decides.{nat_tests}
+use Rattle.mime_http.specs.Walk.{Outside, cut_from}
+use Rattle.mime_http.proofs.Pieces.{outside_before, outside_run, equals_alone, string_opens, ends_outside}
 use Rattle.mime_http.proofs.list.quoted_piece_len.Goals as goal
-use Rattle.mime_http.proofs.list.quoted_piece_len.Goals.{then-quote-gt0, else-quote-gt0}
+use Rattle.mime_http.proofs.list.quoted_piece_len.Goals.{then-quote-gt0, else-quote-gt0, then-at-line-via-then-at-line, then-at-line-via-else-at-line+then-line-at-eq44, else-at-line-2-via-then-at-line-2+else-line-at-eq34, else-at-line-2-via-else-at-line-2}
 
 pub loop-at-init : goal.loop-at-init
 loop-at-init c =
     let line = c.args.line.now in
     let quote = c.args.quote in
-    let led = unmarked_lead line quote c.requires.within c.requires.unmarked in
     elim c.if-quote-gt0.branch [
-      | then-quote-gt0 w ↦
-          (c.requires.within, ap (λ place. cut_from place (take quote line) (drop quote line)) (w.place-is ∙ (w.after_outside-place.ensures ∙ sym (led.later w.if-quote-gt0.true))) ∙ led.so_far)
+      | then-quote-gt0 w ↦ record {
+        within = omega (arith, w.at-is, c.requires.within);
+        left = ap (λ n. cut_from Outside (take n line) (drop n line)) w.at-is
+            ∙ outside_before line (quote - 1) (omega (arith, w.if-quote-gt0.true, c.requires.within))
+            (λ k from to. c.requires.unmarked k from (omega (arith, to, w.if-quote-gt0.true)));
+      }
       | else-quote-gt0 w ↦
-          (c.requires.within, ap (λ place. cut_from place (take quote line) (drop quote line)) (w.place-is ∙ sym (led.first (omega (arith, w.if-quote-gt0.false)))) ∙ led.so_far)
+          let first : c.if-quote-gt0.at ≡ 0 = omega (arith, w.at-is, w.if-quote-gt0.false) in
+          record {
+            within = omega (arith, w.at-is, c.requires.within);
+            left = ap (λ n. cut_from Outside (take n line) (drop n line)) first;
+          }
     ]
+
+pub returns-then-at-line-clause-piece : goal.returns-then-at-line-clause-piece
+returns-then-at-line-clause-piece c =
+    let line = c.args.line.now in
+    let next = c.next_outside-at in
+    let comma : next.result < length line → get_or line next.result 0 ≡ 44 = λ within.
+    elim c.then-at-line.branch [
+      | then-at-line-via-then-at-line w ↦ absurd (omega (arith, w.if-at-line.true, within))
+      | then-at-line-via-else-at-line+then-line-at-eq44 w ↦ w.if-line-at-eq44.true
+    ] in
+    ends_outside line next.result comma
+    (outside_run line c.loop-at.at next.result next.ensures.least next.ensures.within next.ensures.unmarked ∙ c.loop-at.invariant.left)
+
+pub loop-at-preserved-then-line-at-eq34 : goal.loop-at-preserved-then-line-at-eq34
+loop-at-preserved-then-line-at-eq34 c =
+    let line = c.args.line.now in
+    let next = c.next_outside-at in
+    let within : next.result < length line = omega (arith, c.if-at-line.false, next.ensures.within) in
+    let equals : get_or line next.result 0 ≡ 61 = grind (arith, nat_tests, next.ensures.mark within, c.if-line-at-eq44.false) in
+    record {
+      within = c.string_end-at.ensures.within;
+      left = c.string_end-at.ensures.left ∙ (string_opens line next.result c.if-at-line-2.true equals c.if-line-at-eq34.true
+          ∙ (outside_run line c.loop-at.at next.result next.ensures.least next.ensures.within next.ensures.unmarked ∙ c.loop-at.invariant.left));
+    }
 
 pub loop-at-preserved : goal.loop-at-preserved
 loop-at-preserved c =
     let line = c.args.line.now in
-    let at = c.loop-at.at in (
-      omega (arith, c.loop-at-test.true),
-      ap (λ place. cut_from place (take (at + 1) line) (drop (at + 1) line)) c.after-place.ensures
-          ∙ (sym (cut_goes_on c.loop-at.place line at c.loop-at-test.true (sym c.ends.ensures ∙ c.if-not-ends.true)) ∙ c.loop-at.invariant.1),
-    )
+    let next = c.next_outside-at in
+    let within : next.result < length line = omega (arith, c.if-at-line.false, next.ensures.within) in
+    let equals : get_or line next.result 0 ≡ 61 = grind (arith, nat_tests, next.ensures.mark within, c.if-line-at-eq44.false) in
+    let so_far = outside_run line c.loop-at.at next.result next.ensures.least next.ensures.within next.ensures.unmarked ∙ c.loop-at.invariant.left in
+    record {
+      within = omega (arith, within);
+      left = elim c.else-at-line-2.branch [
+        | else-at-line-2-via-then-at-line-2+else-line-at-eq34 w ↦ equals_alone line next.result within equals (λ _. w.if-line-at-eq34.false) ∙ so_far
+        | else-at-line-2-via-else-at-line-2 w ↦ equals_alone line next.result within equals (λ more. absurd (omega (arith, more, w.if-at-line-2.false))) ∙ so_far
+      ];
+    }

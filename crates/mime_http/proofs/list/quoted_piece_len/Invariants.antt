@@ -1,10 +1,13 @@
--- The piece so far, with what is left of the line, is cut as the line.
+-- The piece so far is outside strings, and with what is left of the line it is cut as the line.
 use Rattle.std.proofs.Common.{◌≡◌, ◌≤◌, ◌-◌, length, take, drop}
-use Rattle.mime_http.specs.Walk.{cut_from, cut}
+use Rattle.mime_http.specs.Walk.{Outside, cut_from, cut}
 use Rattle.mime_http.proofs.list.quoted_piece_len.Given as goal
 
 abbrev pub invariant-loop-at : goal.invariant-loop-at
-invariant-loop-at l = (l.at ≤ length l.line) × (cut_from l.place (take l.at l.line) (drop l.at l.line) ≡ cut l.line)
+invariant-loop-at l = record {
+  within : l.at ≤ length l.line;
+  left : cut_from Outside (take l.at l.line) (drop l.at l.line) ≡ cut l.line;
+}
 
 abbrev pub decreases-loop-at : goal.decreases-loop-at
 decreases-loop-at l = length l.line - l.at
