@@ -21,7 +21,7 @@ use Rattle.mime.specs.Inner.ByteClasses.{is_token_except_plus}
 use Rattle.mime.specs.Inner.Members.{is_outside_range, is_outside, is_member, outside}
 use Rattle.mime.specs.declared.scan.runs.Class.{Class}
 use Rattle.mime.specs.declared.scan.runs.Range.{Range}
-use Rattle.mime.specs.declared.scan.runs.TheConstants.{TOKEN_EXCEPT_PLUS, QUOTED_TEXT}
+use Rattle.mime.specs.declared.scan.runs.TheConstants.{COMMON_TOKEN_BYTES, QUOTED_TEXT}
 
 -- ---- a vector
 
@@ -274,9 +274,9 @@ in_ranges class wider one two three all b member =
     ]
 
 -- the members of the class of token bytes other than the plus are such bytes
-pub are_token_bytes : (b : ℕ) → is_member TOKEN_EXCEPT_PLUS b ≡ true → is_token_except_plus b ≡ true
+pub are_token_bytes : (b : ℕ) → is_member COMMON_TOKEN_BYTES b ≡ true → is_token_except_plus b ≡ true
 unfolding is_token_byte
-are_token_bytes = in_ranges TOKEN_EXCEPT_PLUS is_token_except_plus (omega arith) (omega arith) (omega arith) refl
+are_token_bytes = in_ranges COMMON_TOKEN_BYTES is_token_except_plus (omega arith) (omega arith) (omega arith) refl
 
 -- the members of the class of quoted text are bytes of quoted text
 pub are_quoted_text : (b : ℕ) → is_member QUOTED_TEXT b ≡ true → is_quoted_text_byte b ≡ true

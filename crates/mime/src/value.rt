@@ -130,14 +130,13 @@ impl Mime {
         Ok(Mime::star())
     }
 
-    /// The media type of an accepted string other than `*/*`, whose parts have these positions. The only error is that
-    /// memory ran out.
+    /// The media type of an accepted string, whose parts have these positions, kept as any string is. The only error is
+    /// that memory ran out.
     #[inline(always)]
     fn of_other(alloc: Global, s: &str, positions: Positions) -> Result<Mime, FromStrError>
-        requires accepted { HasPositions s.now positions }
-        requires other { s.now ≢ codes "*/*" }
+        requires { HasPositions s.now positions }
         ensures read { IfOk result (λ mime. Reads s.now mime.media) }
-        ensures memory { IfErr result (λ error. (error ≡ ParseError.NoMemory) × (s.now ≢ codes "*/*")) }
+        ensures memory { IfErr result (λ error. error ≡ ParseError.NoMemory) }
     {
         let kept = positions_in_kept(positions);
         if s.len() <= SHORT {

@@ -22,11 +22,11 @@ use Rattle.mime.specs.declared.atoms.Atom.TheVariants.{STAR_STAR}
 pub accepted-from_positions : (text : List ℕ) (positions : Positions) → HasPositions text positions → IsAccepted text
 accepted-from_positions text positions has = (value_of has.tree, reads_as has refl)
 
--- running out of memory is explained where the text is accepted
-pub Explains-no_memory : {T : Type 0} (text : List ℕ) (result : Result T ParseError) → IsAccepted text
-    → IfErr result (λ error. (error ≡ NoMemory) × (text ≢ codes "*/*")) → IfErr result (λ error. Explains text error)
-Explains-no_memory text (Ok value) accepted memory = tt
-Explains-no_memory text (Err error) accepted memory = subst (Explains text) (sym memory.0) (accepted, memory.1)
+-- running out of memory is explained where the text is accepted, and isn't `*/*`
+pub Explains-no_memory : {T : Type 0} (text : List ℕ) (result : Result T ParseError) → IsAccepted text → text ≢ codes "*/*"
+    → IfErr result (λ error. error ≡ NoMemory) → IfErr result (λ error. Explains text error)
+Explains-no_memory text (Ok value) accepted other memory = tt
+Explains-no_memory text (Err error) accepted other memory = subst (Explains text) (sym memory) (accepted, other)
 
 -- a text with a fault is rejected
 pub rejected-from_fault : (text : List ℕ) (fault : ParseError) → IsFault text fault → IsRejected text

@@ -1,12 +1,12 @@
 -- What a byte reader keeps.
 use Rattle.std.specs.Prelude.{◌≡◌, ℕ, ◌+◌, ◌≤◌, ◌<◌, ◌^◌, List, length, take}
 use Rattle.mime.specs.Inner.Members.{outside}
-use Rattle.mime.specs.declared.scan.runs.TheConstants.{TOKEN_EXCEPT_PLUS}
+use Rattle.mime.specs.declared.scan.runs.TheConstants.{COMMON_TOKEN_BYTES}
 
--- a reader at a position in a text, whose first bytes are known: which of them are no token bytes other than the plus
+-- a reader at a position in a text, whose first bytes are known: which of them aren't common token bytes
 pub record IsReader (text : List ℕ) (at before known stops : ℕ) : Type 0 where
   pub within : at ≤ length text
   pub fits : before + length text < 2 ^ 128
   pub few : known ≤ 64
   pub there : known ≤ length text
-  pub mask : stops ≡ outside TOKEN_EXCEPT_PLUS (take known text)
+  pub mask : stops ≡ outside COMMON_TOKEN_BYTES (take known text)

@@ -7,7 +7,7 @@ ghost use Rattle.mime.specs.Inner.Members.{is_member};
 ghost use Rattle.mime.specs.Inner.Scanning.{GivesFirst, Passing};
 
 use crate::blocks::BLOCK;
-use crate::scan::runs::{Class, QUOTED_TEXT, TOKEN_EXCEPT_PLUS, outside_at_start, run_by_blocks};
+use crate::scan::runs::{Class, QUOTED_TEXT, COMMON_TOKEN_BYTES, outside_at_start, run_by_blocks};
 use std::marker::Model;
 
 /// The bytes of a string, of which the first are read.
@@ -20,7 +20,7 @@ pub(crate) struct ByteReader<'a> {
     before: u128,
     /// How many bytes at the start of the string are known.
     known: usize,
-    /// Which of these are no token bytes other than the plus, as a bit mask.
+    /// Which of these aren't common token bytes, as a bit mask.
     stops: u64,
 }
 
@@ -62,7 +62,7 @@ impl<'a> ByteReader<'a> {
         ensures count { result.count ≡ 0 }
     {
         let text = text.as_bytes();
-        let (known, stops) = outside_at_start(text, &TOKEN_EXCEPT_PLUS);
+        let (known, stops) = outside_at_start(text, &COMMON_TOKEN_BYTES);
         ByteReader {
             text,
             at: 0,
@@ -105,7 +105,7 @@ impl<'a> ByteReader<'a> {
             let stops = self.stops >> self.at;
             if stops == 0 {
                 self.at = self.known;
-                self.skip_blocks(&TOKEN_EXCEPT_PLUS);
+                self.skip_blocks(&COMMON_TOKEN_BYTES);
             } else {
                 self.at += stops.trailing_zeros() as usize;
             }

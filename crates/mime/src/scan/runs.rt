@@ -25,7 +25,7 @@ pub(crate) struct Class {
 }
 
 /// The bytes that tokens mostly have: letters, digits, hyphens and dots.
-pub(crate) static TOKEN_EXCEPT_PLUS: Class = Class {
+pub(crate) static COMMON_TOKEN_BYTES: Class = Class {
     fold: 0x20,
     folded: Range {
         first: b'a',

@@ -3,7 +3,7 @@ use Rattle.std.proofs.Common.{◌≡◌, ◌-◌, ◌+◌, ◌/◌, ◌^◌, sub
 use lib.Count.{count_trailing_zeros}
 use Rattle.mime.specs.Inner.Members.{is_member}
 use Rattle.mime.specs.Inner.Scanning.{Passing}
-use Rattle.mime.specs.declared.scan.runs.TheConstants.{TOKEN_EXCEPT_PLUS}
+use Rattle.mime.specs.declared.scan.runs.TheConstants.{COMMON_TOKEN_BYTES}
 use Rattle.mime.proofs.MembersLemmas.{known-none, known-few, known-some, are_token_bytes}
 use Rattle.mime.proofs.ScanLemmas.Passing.{reader_at, passing_skip, passing_then, passing_wider}
 use Rattle.mime.proofs.scan.reader.ByteReader.skip_token_bytes.Goals as goal
@@ -17,7 +17,7 @@ invariant_of-self-else-stops-eq0 c =
           omega (
             arith,
             keeps.there,
-            known-few TOKEN_EXCEPT_PLUS inside.text.now inside.at inside.known inside.stops keeps.mask keeps.there keeps.few c.if-self.true
+            known-few COMMON_TOKEN_BYTES inside.text.now inside.at inside.known inside.stops keeps.mask keeps.there keeps.few c.if-self.true
                 c.if-stops-eq0.false,
           );
       fits = keeps.fits;
@@ -32,13 +32,13 @@ returns-else-stops-eq0 c =
     let keeps = c.self.invariant in
     let text = inside.text.now in
     let n = count_trailing_zeros 64 (inside.stops / 2 ^ inside.at) in
-    let few = known-few TOKEN_EXCEPT_PLUS text inside.at inside.known inside.stops keeps.mask keeps.there keeps.few c.if-self.true
+    let few = known-few COMMON_TOKEN_BYTES text inside.at inside.known inside.stops keeps.mask keeps.there keeps.few c.if-self.true
     c.if-stops-eq0.false in
-    let members = known-some TOKEN_EXCEPT_PLUS text inside.at inside.known inside.stops keeps.mask keeps.there keeps.few c.if-self.true
+    let members = known-some COMMON_TOKEN_BYTES text inside.at inside.known inside.stops keeps.mask keeps.there keeps.few c.if-self.true
     c.if-stops-eq0.false in
     passing_wider are_token_bytes
-    (subst (λ old. Passing (is_member TOKEN_EXCEPT_PLUS) old (reader_at text (inside.at + n) inside.before)) c.self.view_is
-    (passing_skip (is_member TOKEN_EXCEPT_PLUS) text inside.at n inside.before (omega (arith, few, keeps.there)) members))
+    (subst (λ old. Passing (is_member COMMON_TOKEN_BYTES) old (reader_at text (inside.at + n) inside.before)) c.self.view_is
+    (passing_skip (is_member COMMON_TOKEN_BYTES) text inside.at n inside.before (omega (arith, few, keeps.there)) members))
 
 pub returns-then-stops-eq0 : goal.returns-then-stops-eq0
 returns-then-stops-eq0 c =
@@ -47,12 +47,12 @@ returns-then-stops-eq0 c =
     let text = inside.text.now in
     let size = inside.known - inside.at in
     let whole : inside.at + size ≡ inside.known = omega (arith, c.if-self.true) in
-    let members = known-none TOKEN_EXCEPT_PLUS text inside.at inside.known inside.stops keeps.mask keeps.there keeps.few c.if-self.true
+    let members = known-none COMMON_TOKEN_BYTES text inside.at inside.known inside.stops keeps.mask keeps.there keeps.few c.if-self.true
     c.if-stops-eq0.true in
-    let skipped = passing_skip (is_member TOKEN_EXCEPT_PLUS) text inside.at size inside.before (omega (arith, whole, keeps.there)) members in
+    let skipped = passing_skip (is_member COMMON_TOKEN_BYTES) text inside.at size inside.before (omega (arith, whole, keeps.there)) members in
     passing_wider are_token_bytes
     (passing_then
-    (subst (λ old. Passing (is_member TOKEN_EXCEPT_PLUS) old (reader_at text inside.known inside.before)) c.self.view_is
-    (subst (λ n. Passing (is_member TOKEN_EXCEPT_PLUS) (reader_at text inside.at inside.before) (reader_at text n inside.before)) whole
+    (subst (λ old. Passing (is_member COMMON_TOKEN_BYTES) old (reader_at text inside.known inside.before)) c.self.view_is
+    (subst (λ n. Passing (is_member COMMON_TOKEN_BYTES) (reader_at text inside.at inside.before) (reader_at text n inside.before)) whole
     skipped))
     c.skip_blocks.ensures)
