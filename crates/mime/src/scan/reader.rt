@@ -7,7 +7,7 @@ ghost use Rattle.mime.specs.Inner.Members.{is_member};
 ghost use Rattle.mime.specs.Inner.Scanning.{GivesFirst, Passing};
 
 use crate::blocks::BLOCK;
-use crate::scan::runs::{Class, QUOTED_TEXT, COMMON_TOKEN_BYTES, outside_at_start, run_by_blocks};
+use crate::scan::runs::{COMMON_TOKEN_BYTES, Class, QUOTED_TEXT, outside_at_start, run_by_blocks};
 use std::marker::Model;
 
 /// The bytes of a string, of which the first are read.
