@@ -19,7 +19,7 @@
 //!   two maps have 8,200 keys in a round, those of `mime_jobs` 6,200.
 //! - Equality takes the essence and the first parameter's name. So two `multipart/form-data` are one key, whatever their boundaries, if the
 //!   `HashMap` happens to compare them. The keys of its hasher, SipHash, are random, so the digest is another at each run.
-//! - Errors: why a string is rejected isn't public. The digest has only that it is.
+//! - Errors: why a string is rejected is public only as printed text. The digest has only that it is.
 
 use mime::Mime;
 use std::collections::{BTreeMap, HashMap};

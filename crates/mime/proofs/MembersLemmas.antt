@@ -273,7 +273,7 @@ in_ranges class wider one two three all b member =
           absurd (true≢false (sym member ∙ ap not outside))
     ]
 
--- the members of the class of token bytes other than the plus are such bytes
+-- common token bytes are token bytes other than the plus
 pub are_token_bytes : (b : ℕ) → is_member COMMON_TOKEN_BYTES b ≡ true → is_token_except_plus b ≡ true
 unfolding is_token_byte
 are_token_bytes = in_ranges COMMON_TOKEN_BYTES is_token_except_plus (omega arith) (omega arith) (omega arith) refl

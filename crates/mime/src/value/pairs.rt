@@ -31,8 +31,8 @@ pub(crate) struct Pair<'a> {
     pub(crate) rest: Suffix<'a>,
 }
 
-/// The position after pairs in a row, a backslash and a byte each, the first of which is at a position. A backslash that
-/// ends the text is a pair, too.
+/// The position after one or more pairs in a row, a backslash and a byte each, the first of which is at a position. A
+/// backslash that ends the text is a pair, too.
 #[inline(always)]
 fn after_pairs(text: &[u8], from: usize) -> usize
     requires within { from < length text.now }
@@ -40,7 +40,7 @@ fn after_pairs(text: &[u8], from: usize) -> usize
     ensures more { from < result }
     ensures left { result + len_from false (drop result text.now) ≡ from + len_from false (drop from text.now) }
 {
-    // From here on, less than eight bytes are left.
+    // From here on, fewer than eight bytes are left.
     let end = text.len().saturating_sub(7);
     let mut last = from;
     while last < end && text[last + 2] == b'\\' {
