@@ -16,21 +16,16 @@ use std::cmp::Ordering;
 use std::fmt;
 use std::hash::{Hash, Hasher};
 
-/// Whether the parameters of two values are equal. They may be written otherwise: `p=x` and `p="x"`. It isn't inlined:
-/// most calls of `eq` end before it.
+/// Whether two values are equal, part by part. They may be written otherwise: `p=x` and `p="x"`. It isn't inlined: most
+/// calls of `eq` end before it.
 #[inline(never)]
-fn same_pairs(first: &Mime, second: &Mime) -> bool
-    ensures { IsTrue result ↔ (first.now.media.pairs ≡ second.now.media.pairs) }
+fn same_parts(first: &Mime, second: &Mime) -> bool
+    ensures { IsTrue result ↔ Same first.now.media second.now.media }
 {
-    let pairs = first.pairs();
-    let others = second.pairs();
-    if pairs.are_written_as(&others) {
-        return true;
-    }
-    pairs.eq(others)
+    first.essence_str() == second.essence_str() && first.pairs().eq(second.pairs())
 }
 
-/// How the parameters of two values compare. It isn't inlined, as `same_pairs`.
+/// How the parameters of two values compare. It isn't inlined, as `same_parts`.
 #[inline(never)]
 fn order_pairs(first: &Mime, second: &Mime) -> Ordering
     ensures { result ≡ slice_cmp pair_cmp first.now.media.pairs second.now.media.pairs }
@@ -58,13 +53,15 @@ impl PartialEq for Mime {
         if self.param_count() != other.param_count() {
             return false;
         }
-        if self.essence_str() != other.essence_str() {
-            return false;
-        }
-        if self.param_count() == 0 {
+        // Equal texts are equal values.
+        if self.as_str() == other.as_str() {
             return true;
         }
-        same_pairs(self, other)
+        // Without parameters the kept text is the essence, and the essences differ.
+        if self.param_count() == 0 {
+            return false;
+        }
+        same_parts(self, other)
     }
 }
 
