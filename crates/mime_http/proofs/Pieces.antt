@@ -110,6 +110,15 @@ stays place one other on still line from (suc n) within unmarked =
     ∙ (sym (cut_goes_on place line at (omega (arith, within)) (on b plain))
     ∙ stays place one other on still line from n (omega (arith, within)) (λ k least most. unmarked k least (omega (arith, most)))))
 
+stays_to : (place : At) (one other : ℕ) (on : (b : ℕ) → is_mark one other b ≡ false → ends place b ≡ false)
+    (still : (b : ℕ) → is_mark one other b ≡ false → after place b ≡ place) (line : List ℕ) (from to : ℕ) → from ≤ to → to ≤ length line
+    → AreUnmarked one other line from to → cut_from place (take to line) (drop to line) ≡ cut_from place (take from line) (drop from line)
+stays_to place one other on still line from to least within unmarked =
+    let n = to - from in
+    let is : from + n ≡ to = omega (arith, least) in
+    sym (ap (λ m. cut_from place (take m line) (drop m line)) is)
+    ∙ stays place one other on still line from n (omega (arith, within, least)) (λ k from_k to_k. unmarked k from_k (omega (arith, to_k, least)))
+
 -- outside strings any byte but a comma and an equals sign
 outside_on : (b : ℕ) → is_mark 44 61 b ≡ false → ends Outside b ≡ false
 outside_on b plain = grind (arith, nat_tests, plain)
@@ -121,11 +130,7 @@ outside_still b plain =
 
 pub outside_run : (line : List ℕ) (from to : ℕ) → from ≤ to → to ≤ length line → AreUnmarked 44 61 line from to
     → cut_from Outside (take to line) (drop to line) ≡ cut_from Outside (take from line) (drop from line)
-outside_run line from to least within unmarked =
-    let n = to - from in
-    let is : from + n ≡ to = omega (arith, least) in
-    sym (ap (λ m. cut_from Outside (take m line) (drop m line)) is)
-    ∙ stays Outside 44 61 outside_on outside_still line from n (omega (arith, within, least)) (λ k from_k to_k. unmarked k from_k (omega (arith, to_k, least)))
+outside_run = stays_to Outside 44 61 outside_on outside_still
 
 -- in strings any byte but a quote and a backslash
 string_still : (b : ℕ) → is_mark 34 92 b ≡ false → after Quoted b ≡ Quoted
@@ -136,11 +141,7 @@ string_still b plain =
 
 pub string_run : (line : List ℕ) (from to : ℕ) → from ≤ to → to ≤ length line → AreUnmarked 34 92 line from to
     → cut_from Quoted (take to line) (drop to line) ≡ cut_from Quoted (take from line) (drop from line)
-string_run line from to least within unmarked =
-    let n = to - from in
-    let is : from + n ≡ to = omega (arith, least) in
-    sym (ap (λ m. cut_from Quoted (take m line) (drop m line)) is)
-    ∙ stays Quoted 34 92 (λ b plain. refl) string_still line from n (omega (arith, within, least)) (λ k from_k to_k. unmarked k from_k (omega (arith, to_k, least)))
+string_run = stays_to Quoted 34 92 (λ b plain. refl) string_still
 
 -- a byte in a string, by the place after it
 pub string_byte : (line : List ℕ) (at : ℕ) (place : At) → at < length line → after Quoted (get_or line at 0) ≡ place
