@@ -66,12 +66,12 @@ impl Model for Mime {
     ghost Value = { OwnedMedia };
 
     ghost use Rattle.mime.specs.Inner.KeptBytes.{bytes_of, is_fixed};
-    ghost use Rattle.mime.specs.Inner.KeptPlaces.{positions_at};
-    ghost use Rattle.mime.specs.Inner.KeptText.{media_of, IsKept};
+    ghost use Rattle.mime.specs.Inner.KeptPlaces.{positions_at, IsKeptAt};
+    ghost use Rattle.mime.specs.Inner.KeptText.{media_of};
 
     ghost view = { λ mime. record { media = media_of (bytes_of mime.text) (positions_at mime.places); fixed = is_fixed mime.text } };
 
-    ghost invariant = { λ mime. IsKept (bytes_of mime.text) (positions_at mime.places) };
+    ghost invariant = { λ mime. IsKeptAt (bytes_of mime.text) mime.places };
 }
 
 impl Mime {
@@ -170,10 +170,8 @@ impl Mime {
         ensures media { result.media ≡ media_of (bytes_of text) positions }
         ensures fixed { result.fixed ≡ is_fixed text }
     {
-        Mime {
-            text,
-            places: Places::of(positions),
-        }
+        let places = Places::of(positions, text.as_str().len());
+        Mime { text, places }
     }
 
     /// The media type of a static string already in kept form, with the positions of its parts.
@@ -233,11 +231,7 @@ impl Mime {
     pub fn essence_str(&self) -> &str
         ensures { result.now ≡ self.now.media.essence }
     {
-        let text = self.text.as_str();
-        match self.places.semicolon() {
-            None => text,
-            Some(semicolon) => &text[..semicolon],
-        }
+        &self.text.as_str()[..self.places.essence_end]
     }
 
     /// Returns the kept text, which is what is printed. If there is a parameter, it is the whole string that was

@@ -1,14 +1,15 @@
--- A plus or a semicolon is never at position 0, so that a word says its position.
-use Rattle.std.proofs.Common.{◌≡◌, ℕ, zero, suc, ◌+◌, ◌≤◌, List, [], ◌∷◌, length, drop, Option, Some, None, refl, subst, arith}
+-- A word says where the plus is, since that is never at position 0, and one where the essence ends, since a kept text has a semicolon
+-- exactly if it has a pair.
+use Rattle.std.proofs.Common.{◌≡◌, ℕ, zero, suc, ◌+◌, ◌≤◌, List, [], ◌∷◌, length, drop, Option, Some, None, refl, ap, sym, subst, arith}
 use Rattle.std.specs.Prelude.{◌≢◌, IfSome, if◌then◌else◌, ◌==◌, unwrap_or}
 use Rattle.std.specs.Option.{option_or}
 use Rattle.std.proofs.lemmas.Bool.{cond_both}
 use Rattle.mime.specs.Bytes.{plus_byte}
-use Rattle.mime.specs.Grammar.{Tail, no_list, listed}
-use Rattle.mime.specs.Values.{last_plus}
+use Rattle.mime.specs.Grammar.{blank, final, more, Tail, no_list, listed}
+use Rattle.mime.specs.Values.{last_plus, pairs_of_tail}
 use Rattle.mime.specs.Inner.Scanning.{HasPositions, semicolon_of}
 use Rattle.mime.specs.Inner.KeptPlaces.{unless_zero}
-use Rattle.mime.specs.Inner.KeptText.{kept_semicolon}
+use Rattle.mime.specs.Inner.KeptText.{IsKept, kept_positions, kept_semicolon}
 use Rattle.mime.specs.declared.scan.Positions.{Positions}
 
 -- a position that isn't 0 comes back from its word
@@ -32,11 +33,6 @@ last_plus-from at (b ∷ bytes) = with_rest (last_plus (at + 1) bytes) (last_plu
 not_zero : (from : ℕ) (found : Option ℕ) → 1 ≤ from → IfSome found (λ position. from ≤ position) → found ≢ Some 0
 not_zero from found above is at_zero = absurd (omega (arith, above, subst (λ f. IfSome f (λ position. from ≤ position)) at_zero is))
 
--- the semicolon is at the position that is asked about
-semicolon-from : (at : ℕ) (tail : Tail) → IfSome (semicolon_of at tail) (λ semicolon. at ≤ semicolon)
-semicolon-from at no_list = tt
-semicolon-from at (listed list) = omega arith
-
 -- the plus of an accepted text isn't at position 0
 pub plus-not_zero : (text : List ℕ) (positions : Positions) → HasPositions text positions → positions.plus ≢ Some 0
 plus-not_zero text positions has =
@@ -44,13 +40,18 @@ plus-not_zero text positions has =
     subst (λ (p : Positions). p.plus ≢ Some 0) has.same_positions
     (not_zero (top + 2) _ (omega arith) (last_plus-from (top + 2) (drop 1 has.tree.sub)))
 
--- nor is its semicolon
-pub semicolon-not_zero : (text : List ℕ) (positions : Positions) → HasPositions text positions → positions.semicolon ≢ Some 0
-semicolon-not_zero text positions has =
-    let at = length has.tree.top + 1 + length has.tree.sub in
-    subst (λ (p : Positions). p.semicolon ≢ Some 0) has.same_positions (not_zero at _ (omega arith) (semicolon-from at has.tree.tail))
-
--- nor is the semicolon that is kept
-pub kept_semicolon-not_zero : (pairs : ℕ) (semicolon : Option ℕ) → semicolon ≢ Some 0 → kept_semicolon pairs semicolon ≢ Some 0
-kept_semicolon-not_zero zero semicolon above = λ is. absurd cc
-kept_semicolon-not_zero (suc pairs) semicolon above = above
+-- a kept text has a semicolon if it has a pair, and only then
+pub semicolon-kept : (text : List ℕ) (positions : Positions) (len : ℕ) → IsKept text positions
+    → kept_semicolon positions.pair_count (Some (unwrap_or positions.semicolon len)) ≡ positions.semicolon
+semicolon-kept text positions len is_kept =
+    let tree = is_kept.has.tree in
+    let same = is_kept.has.same_positions in
+    subst (λ (p : Positions). kept_semicolon p.pair_count (Some (unwrap_or p.semicolon len)) ≡ p.semicolon) same
+    (go tree.tail _ (ap (λ (p : Positions). p.semicolon) (subst (λ p. kept_positions p ≡ p) (sym same) is_kept.kept)))
+  where
+    go : (tail : Tail) (at : ℕ) → kept_semicolon (length (pairs_of_tail tail)) (semicolon_of at tail) ≡ semicolon_of at tail
+        → kept_semicolon (length (pairs_of_tail tail)) (Some (unwrap_or (semicolon_of at tail) len)) ≡ semicolon_of at tail
+    go no_list at kept = refl
+    go (listed (blank n)) at kept = absurd cc
+    go (listed (final n p)) at kept = refl
+    go (listed (more n p rest)) at kept = refl

@@ -14,4 +14,4 @@ returns-clause-pairs c =
 pub returns-clause-low : goal.returns-clause-low
 returns-clause-low c =
     rw (returns-clause-pairs c)
-    (subst (λ (kept : OwnedMedia). AreLowPairs kept.media.pairs) c.self.view_is (read-low_pairs _ _ (reads-from_kept _ _ c.self.invariant)))
+    (subst (λ (kept : OwnedMedia). AreLowPairs kept.media.pairs) c.self.view_is (read-low_pairs _ _ (reads-from_kept _ _ c.self.invariant.kept)))

@@ -7,19 +7,19 @@ use Rattle.mime.proofs.value.Mime.subtype.Goals as goal
 pub range-requires-clause-start_le_end : goal.range-requires-clause-start_le_end
 range-requires-clause-start_le_end c =
     let is = c.essence_str-essence.ensures ∙ ap (λ kept. kept.media.essence) (sym c.self.view_is) in
-    rw (c.unwrap_or-end.ensures, c.plus.ensures) (subtype_end _ _ _ _ (reads-from_kept _ _ c.self.invariant) is refl).0
+    rw (c.unwrap_or-end.ensures, c.plus.ensures) (subtype_end _ _ _ _ (reads-from_kept _ _ c.self.invariant.kept) is refl).0
 
 pub range-requires-clause-start_boundary : goal.range-requires-clause-start_boundary
 range-requires-clause-start_boundary c = λ _.
     let is = c.essence_str-essence.ensures ∙ ap (λ kept. kept.media.essence) (sym c.self.view_is) in
-    subtype_start _ _ _ (reads-from_kept _ _ c.self.invariant) is c.essence_str-essence.utf8
+    subtype_start _ _ _ (reads-from_kept _ _ c.self.invariant.kept) is c.essence_str-essence.utf8
 
 pub range-requires-clause-end_boundary : goal.range-requires-clause-end_boundary
 range-requires-clause-end_boundary c =
     let is = c.essence_str-essence.ensures ∙ ap (λ kept. kept.media.essence) (sym c.self.view_is) in
-    rw (c.unwrap_or-end.ensures, c.plus.ensures) (subtype_end _ _ _ _ (reads-from_kept _ _ c.self.invariant) is refl).1
+    rw (c.unwrap_or-end.ensures, c.plus.ensures) (subtype_end _ _ _ _ (reads-from_kept _ _ c.self.invariant.kept) is refl).1
 
 pub returns-clause-low : goal.returns-clause-low
 returns-clause-low c =
     let is = c.essence_str-essence.ensures ∙ ap (λ kept. kept.media.essence) (sym c.self.view_is) in
-    rw (c.range.ensures.value, is) (low_take _ _ (low_drop _ _ (read-low_essence _ _ (reads-from_kept _ _ c.self.invariant))))
+    rw (c.range.ensures.value, is) (low_take _ _ (low_drop _ _ (read-low_essence _ _ (reads-from_kept _ _ c.self.invariant.kept))))

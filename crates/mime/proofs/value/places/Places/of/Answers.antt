@@ -4,8 +4,7 @@ use Rattle.mime.specs.Inner.KeptPlaces.{unless_zero}
 use Rattle.mime.proofs.ValueLemmas.Places.{unless_zero-unwrap_or}
 use Rattle.mime.proofs.value.places.Places.of.Goals as goal
 
-pub returns : goal.returns
-returns c =
+pub returns-clause-at : goal.returns-clause-at
+returns-clause-at c =
     let plus = ap unless_zero c.unwrap_or.ensures ∙ unless_zero-unwrap_or c.args.positions.plus c.requires.plus in
-    let semicolon = ap unless_zero c.unwrap_or-2.ensures ∙ unless_zero-unwrap_or c.args.positions.semicolon c.requires.semicolon in
-    rw (plus, semicolon) refl
+    rw (plus, c.unwrap_or-2.ensures, c.requires.semicolon) refl
