@@ -1,54 +1,79 @@
 -- Writing the parameters of other names, item by item.
-use Rattle.std.proofs.Common.{◌≡◌, ◌∙◌, sym, ap, subst, arith, ℕ, List, [], ◌∷◌, ◌++◌, length, drop, get_or, append-nil, append_assoc}
+use Rattle.std.proofs.Common.{◌≡◌, ◌∙◌, ◌+◌, ◌≤◌, refl, sym, ap, subst, arith, ℕ, suc, Bool, not, List, [], ◌∷◌, ◌++◌, length, drop, get_or, bytes_eq, append-nil, append_assoc, length-append}
 use Rattle.std.proofs.lemmas.Bool.{false_from_ne_true}
 use Rattle.std.proofs.lemmas.Grind.{flat_map-append}
+use Rattle.std.proofs.lemmas.List.Filters.{length-filter_both}
 use Rattle.std.proofs.lemmas.Slice.Eq.{bytes_eq-Decides}
 use Rattle.mime.specs.Items.{Item, item_of, items_of}
 use Rattle.mime.specs.Names.{NameIs}
 use Rattle.mime.specs.Values.{lowered}
 use Rattle.mime_http.specs.Written.{text_of_pair, text_of_pairs, others}
 
--- of the pairs whose items are left, those of other names are still to be written after this text
-pub record Left (name whole text : List ℕ) (items : List Item) : Type 0 where
+-- of the pairs whose items are left, those of other names are still to be written after this text, and to be counted
+pub record Left (name whole text : List ℕ) (total count : ℕ) (items : List Item) : Type 0 where
   pub rest : List (List ℕ × List ℕ)
   pub same : items ≡ items_of rest
   pub written : text ++ text_of_pairs (others name rest) ≡ whole
+  pub counted : count + length (others name rest) ≡ total
 
-pub none_left : {name whole text : List ℕ} {items : List Item} → Left name whole text items → items ≡ [] → text ≡ whole
-none_left {name} {whole} {text} left ended = go left.rest (sym left.same ∙ ended) left.written
+pub none_left : {name whole text : List ℕ} {total count : ℕ} {items : List Item} → Left name whole text total count items → items ≡ []
+    → (text ≡ whole) × (count ≡ total)
+none_left {name} {whole} {text} {total} {count} left ended = go left.rest (sym left.same ∙ ended) left.written left.counted
   where
-    go : (rest : List (List ℕ × List ℕ)) → items_of rest ≡ [] → text ++ text_of_pairs (others name rest) ≡ whole → text ≡ whole
-    go [] is written = sym (append-nil text) ∙ written
-    go (pair ∷ rest) is written = absurd (omega (arith, ap length is))
+    go : (rest : List (List ℕ × List ℕ)) → items_of rest ≡ [] → text ++ text_of_pairs (others name rest) ≡ whole
+        → count + length (others name rest) ≡ total → (text ≡ whole) × (count ≡ total)
+    go [] is written counted = (sym (append-nil text) ∙ written, omega (arith, counted))
+    go (pair ∷ rest) is written counted = absurd (omega (arith, ap length is))
 
 -- the next is of this name
-pub skipped : {name whole text : List ℕ} {items next : List Item} {item : Item} → Left name whole text items → items ≡ item ∷ next
-    → NameIs item.name item.name_ignores_case name → Left name whole text next
-skipped {name} {whole} {text} {next = next} {item = item} left is named = go left.rest (sym left.same ∙ is) left.written
+pub skipped : {name whole text : List ℕ} {total count : ℕ} {items next : List Item} {item : Item} → Left name whole text total count items
+    → items ≡ item ∷ next → NameIs item.name item.name_ignores_case name → Left name whole text total count next
+skipped {name} {whole} {text} {total} {count} {next = next} {item = item} left is named = go left.rest (sym left.same ∙ is) left.written left.counted
   where
-    go : (rest : List (List ℕ × List ℕ)) → items_of rest ≡ item ∷ next → text ++ text_of_pairs (others name rest) ≡ whole → Left name whole text next
-    go [] is written = absurd (omega (arith, ap length is))
-    go (pair ∷ rest) is written =
+    go : (rest : List (List ℕ × List ℕ)) → items_of rest ≡ item ∷ next → text ++ text_of_pairs (others name rest) ≡ whole
+        → count + length (others name rest) ≡ total → Left name whole text total count next
+    go [] is written counted = absurd (omega (arith, ap length is))
+    go (pair ∷ rest) is written counted =
         let here : item_of pair ≡ item = ap (λ items. get_or items 0 item) is in
         let same = subst (λ (i : Item). NameIs i.name i.name_ignores_case name) (sym here) named in
         let test = (bytes_eq-Decides (lowered pair.0) (lowered name)).1 same in
-        record { rest = rest; same = sym (ap (drop 1) is); written = rw test at written }
+        record { rest = rest; same = sym (ap (drop 1) is); written = rw test at written; counted = rw test at counted }
 
 -- the next is of another, and is written
-pub copied : {name whole text : List ℕ} {items next : List Item} {item : Item} → Left name whole text items → items ≡ item ∷ next
-    → ¬ (NameIs item.name item.name_ignores_case name) → Left name whole (text ++ text_of_pair (item.name, item.value)) next
-copied {name} {whole} {text} {next = next} {item = item} left is other = go left.rest (sym left.same ∙ is) left.written
+pub copied : {name whole text : List ℕ} {total count : ℕ} {items next : List Item} {item : Item} → Left name whole text total count items
+    → items ≡ item ∷ next → ¬ (NameIs item.name item.name_ignores_case name)
+    → (count + 1 ≤ total) × Left name whole (text ++ text_of_pair (item.name, item.value)) total (count + 1) next
+copied {name} {whole} {text} {total} {count} {next = next} {item = item} left is other = go left.rest (sym left.same ∙ is) left.written left.counted
   where
     go : (rest : List (List ℕ × List ℕ)) → items_of rest ≡ item ∷ next → text ++ text_of_pairs (others name rest) ≡ whole
-        → Left name whole (text ++ text_of_pair (item.name, item.value)) next
-    go [] is written = absurd (omega (arith, ap length is))
-    go (pair ∷ rest) is written =
+        → count + length (others name rest) ≡ total
+        → (count + 1 ≤ total) × Left name whole (text ++ text_of_pair (item.name, item.value)) total (count + 1) next
+    go [] is written counted = absurd (omega (arith, ap length is))
+    go (pair ∷ rest) is written counted =
         let here : item_of pair ≡ item = ap (λ items. get_or items 0 item) is in
         let differ = subst (λ (i : Item). ¬ (NameIs i.name i.name_ignores_case name)) (sym here) other in
         let test = false_from_ne_true _ (λ same. differ ((bytes_eq-Decides (lowered pair.0) (lowered name)).0 same)) in
         let more : text ++ (text_of_pair pair ++ text_of_pairs (others name rest)) ≡ whole = rw test at written in
-        subst (λ (i : Item). Left name whole (text ++ text_of_pair (i.name, i.value)) next) here
-        (record { rest = rest; same = sym (ap (drop 1) is); written = append_assoc text (text_of_pair pair) _ ∙ more })
+        let one_more : count + suc (length (others name rest)) ≡ total = rw test at counted in
+        (omega (arith, one_more), subst (λ (i : Item). Left name whole (text ++ text_of_pair (i.name, i.value)) total (count + 1) next) here
+          (record {
+            rest = rest;
+            same = sym (ap (drop 1) is);
+            written = append_assoc text (text_of_pair pair) _ ∙ more;
+            counted = omega (arith, one_more);
+          }))
+
+-- those of other names are no more than all
+pub others_within : (name : List ℕ) (pairs : List (List ℕ × List ℕ)) → length (others name pairs) ≤ length pairs
+others_within name pairs =
+    let other : List ℕ × List ℕ → Bool = λ pair. not (bytes_eq (lowered pair.0) (lowered name)) in
+    omega (arith, length-filter_both other (λ pair. not (other pair)) (λ pair. refl) pairs)
+
+-- each parameter is written with a byte at least
+pub pairs_within_text : (pairs : List (List ℕ × List ℕ)) → length pairs ≤ length (text_of_pairs pairs)
+pairs_within_text [] = omega arith
+pairs_within_text (pair ∷ pairs) =
+    omega (arith, pairs_within_text pairs, length-append (text_of_pair pair) (text_of_pairs pairs))
 
 -- and one more after all
 pub and_last : (essence : List ℕ) (pairs : List (List ℕ × List ℕ)) (pair : List ℕ × List ℕ)

@@ -1,6 +1,6 @@
 //! A parameter written into a media type, as a header then holds it.
 
-ghost use Rattle.std.specs.Prelude.{◌≡◌, ◌++◌, ◌↔◌, IsTrue, IfOk, IfSome, OnOk, is_some, if◌then◌else◌, codes, string_bytes};
+ghost use Rattle.std.specs.Prelude.{◌≡◌, ◌++◌, ◌↔◌, IsTrue, IfOk, IfSome, OnOk, is_some, if◌then◌else◌, codes, string_bytes, length};
 ghost use Rattle.mime.specs.Grammar.{IsToken};
 ghost use Rattle.mime.specs.HeaderLaws.{AreHeaderBytes};
 ghost use Rattle.mime.specs.Values.{lowered, lowered_value};
@@ -11,6 +11,7 @@ ghost use Rattle.mime_http.specs.declared.quoted.Form.TheVariants.{Token, Quoted
 
 use crate::multipart::is_boundary;
 use crate::quoted::{Form, form_of, push_escaped};
+use crate::range::param_count;
 use mime::laws::{kept_is_safe, one_reading};
 use mime::{Mime, is_token, name_eq_str};
 use std::alloc::{AllocError, Global};
@@ -61,16 +62,17 @@ fn push_parameter(text: &mut String, name: &str, value: &str, form: Form) -> Res
     }
 }
 
-/// A media type's essence, its parameters of other names, and this one.
+/// A media type's essence, its parameters of other names, and this one; and how many the others are.
 fn text_with(
     alloc: Global,
     mime: &Mime,
     name: &str,
     value: &str,
     form: Form,
-) -> Result<String, AllocError>
-    ensures { IfOk result (λ text. string_bytes text
+) -> Result<(String, usize), AllocError>
+    ensures text { IfOk result (λ written. string_bytes written.0
         ≡ mime.now.media.essence ++ (text_of_pairs (others name.now mime.now.media.pairs) ++ text_in form name.now value.now)) }
+    ensures count { IfOk result (λ written. written.1 ≡ length (others name.now mime.now.media.pairs)) }
 {
     let content = match form {
         Form::Token | Form::Quoted => value.len(),
@@ -81,14 +83,17 @@ fn text_with(
     let room = mime.as_str().len().saturating_add(added);
     let mut text = String::with_capacity(alloc, room)?;
     text.push_str(mime.essence_str())?;
+    let _most = param_count(mime);
+    let mut count = 0;
     for (other, kept) in mime.params() {
         if name_eq_str(&other, name) {
             continue;
         }
         push_parameter(&mut text, other.text, kept.text, form_of_content(kept.text))?;
+        count += 1;
     }
     push_parameter(&mut text, name, value, form)?;
-    Ok(text)
+    Ok((text, count))
 }
 
 /// The media type with this parameter in place of those of its name.
@@ -107,12 +112,9 @@ fn mime_with(
     let _kept = mime.as_str();
     kept_is_safe();
     one_reading();
-    let text = text_with(alloc, mime, name, value, form)?;
-    match Mime::from_str(alloc, &text) {
-        Ok(made) => Ok(made),
-        // The text is accepted, so memory ran out.
-        Err(_) => Err(AllocError),
-    }
+    let (text, others) = text_with(alloc, mime, name, value, form)?;
+    let _more = text.len();
+    mime.with_known_parameters(alloc, &text, others + 1)
 }
 
 /// Returns the media type with this parameter in place of those of its name, ignoring ASCII case (RFC 9110, 5.6.6). The other

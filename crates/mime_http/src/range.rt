@@ -98,7 +98,7 @@ fn has(offer: &Mime, name: &str, value: &str) -> bool
 }
 
 /// How many parameters a media type has.
-fn param_count(mime: &Mime) -> usize
+pub(crate) fn param_count(mime: &Mime) -> usize
     ensures { result ≡ length mime.now.media.pairs }
 {
     let (count, _) = mime.params().size_hint();

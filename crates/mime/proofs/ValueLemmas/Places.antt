@@ -1,16 +1,18 @@
 -- A word says where the plus is, since that is never at position 0, and one where the essence ends, since a kept text has a semicolon
 -- exactly if it has a pair.
-use Rattle.std.proofs.Common.{◌≡◌, ℕ, zero, suc, ◌+◌, ◌≤◌, List, [], ◌∷◌, length, drop, Option, Some, None, refl, ap, sym, subst, arith}
+use Rattle.std.proofs.Common.{◌≡◌, ℕ, zero, suc, ◌+◌, ◌≤◌, List, [], ◌∷◌, length, drop, Option, Some, None, refl, ap, sym, ◌∙◌, subst, arith}
 use Rattle.std.specs.Prelude.{◌≢◌, IfSome, if◌then◌else◌, ◌==◌, unwrap_or}
 use Rattle.std.specs.Option.{option_or}
 use Rattle.std.proofs.lemmas.Bool.{cond_both}
 use Rattle.mime.specs.Bytes.{plus_byte}
 use Rattle.mime.specs.Grammar.{blank, final, more, Tail, no_list, listed}
-use Rattle.mime.specs.Values.{last_plus, pairs_of_tail}
-use Rattle.mime.specs.Inner.Scanning.{HasPositions, semicolon_of}
+use Rattle.mime.specs.Values.{MediaType, Reads, lowered_tree, last_plus, pairs_of_tail}
+use Rattle.mime.specs.Inner.Scanning.{HasPositions, positions_of, semicolon_of}
 use Rattle.mime.specs.Inner.KeptPlaces.{unless_zero}
 use Rattle.mime.specs.Inner.KeptText.{IsKept, kept_positions, kept_semicolon}
 use Rattle.mime.specs.declared.scan.Positions.{Positions}
+use Rattle.mime.proofs.LowercaseLemmas.{positions_of-lowered_tree}
+use Rattle.mime.proofs.ValueLemmas.KeptText.{value_of_low, value_of-lowering, length-essence_of}
 
 -- a position that isn't 0 comes back from its word
 pub unless_zero-unwrap_or : (position : Option ℕ) → position ≢ Some 0 → unless_zero (unwrap_or position 0) ≡ position
@@ -55,3 +57,24 @@ semicolon-kept text positions len is_kept =
     go (listed (blank n)) at kept = absurd cc
     go (listed (final n p)) at kept = refl
     go (listed (more n p rest)) at kept = refl
+
+-- the positions in a text that is read as a value with a parameter
+pub read-positions : (text : List ℕ) (value : MediaType) → Reads text value → length value.pairs ≢ 0
+    → HasPositions text (record { slash = value.slash; plus = value.plus; semicolon = Some (length value.essence); pair_count = length value.pairs })
+read-positions text value reads some = record {
+  tree = reads.tree;
+  well_formed = reads.well_formed;
+  spelled = reads.spelled;
+  same_positions =
+      sym (positions_of-lowered_tree reads.tree)
+      ∙ go (lowered_tree reads.tree).top (lowered_tree reads.tree).sub (lowered_tree reads.tree).tail value (sym (value_of-lowering reads.tree) ∙ reads.valued) some;
+}
+  where
+    go : (top sub : List ℕ) (tail : Tail) (value : MediaType) → value_of_low (record { top = top; sub = sub; tail = tail }) ≡ value → length value.pairs ≢ 0
+        → positions_of (record { top = top; sub = sub; tail = tail })
+        ≡ record { slash = value.slash; plus = value.plus; semicolon = Some (length value.essence); pair_count = length value.pairs }
+    go top sub no_list value is some = absurd (some (sym (ap (λ (v : MediaType). length v.pairs) is)))
+    go top sub (listed list) value is some =
+        subst (λ (v : MediaType). positions_of (record { top = top; sub = sub; tail = listed list })
+        ≡ record { slash = v.slash; plus = v.plus; semicolon = Some (length v.essence); pair_count = length v.pairs }) is
+        (rw (length-essence_of (record { top = top; sub = sub; tail = listed list })) refl)

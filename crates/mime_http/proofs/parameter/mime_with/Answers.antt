@@ -1,27 +1,80 @@
--- What is written is read as the media type with the parameter, and as nothing else.
-use Rattle.std.proofs.Common.{rules, ◌≡◌, ◌∙◌, ◌++◌, ap, subst, sym, append_assoc}
-use Rattle.mime.specs.Values.{Reads, lowered, lowered_value}
-use Rattle.mime_http.specs.Forms.{text_in}
+-- What is written is known to be read as the media type with the parameter.
+use Rattle.std.proofs.Common.{arith, ◌≡◌, ◌∙◌, ◌+◌, ◌≤◌, ◌++◌, ◌∷◌, [], ℕ, List, length, ap, subst, sym, append_assoc, length-append}
+use Rattle.std.specs.Prelude.{Result, Ok, Err, IfOk}
+use Rattle.mime.specs.Grammar.{IsToken}
+use Rattle.mime.specs.HeaderLaws.{AreHeaderBytes, IsSafe}
+use Rattle.mime.specs.Values.{MediaType, Reads, lowered, lowered_value}
+use Rattle.mime.proofs.LowercaseLemmas.{lowered-lowered}
+use Rattle.mime_http.specs.Forms.{form_of, text_in}
 use Rattle.mime_http.specs.Written.{escaped, text_of_pairs, others, with_pair}
+use Rattle.mime_http.specs.declared.quoted.Form.{Form}
 use Rattle.mime_http.proofs.Contents.{content_of_escaped}
 use Rattle.mime_http.proofs.Forms.{form_text}
-use Rattle.mime_http.proofs.Others.{and_last}
+use Rattle.mime_http.proofs.Others.{and_last, pairs_within_text}
 use Rattle.mime_http.proofs.Written.{with_pair_is_read}
 use Rattle.mime_http.proofs.parameter.mime_with.Goals as goal
 
-pub returns-in-Ok : goal.returns-in-Ok
-returns-in-Ok c =
+-- the text has the parameters of other names, and this one
+is_written : (media : MediaType) (name value text : List ℕ) (form : Form) → form ≡ form_of value
+    → text ≡ media.essence ++ (text_of_pairs (others name media.pairs) ++ text_in form name value)
+    → text ≡ media.essence ++ text_of_pairs (others name media.pairs ++ ((name, escaped value) ∷ []))
+is_written media name value text form fits made =
+    let pairs = others name media.pairs in
+    made ∙ sym (append_assoc media.essence (text_of_pairs pairs) _)
+    ∙ ap (λ form. (media.essence ++ text_of_pairs pairs) ++ text_in form name value) fits
+    ∙ ap (λ last. (media.essence ++ text_of_pairs pairs) ++ last) (form_text name value)
+    ∙ and_last media.essence pairs (name, escaped value)
+
+-- so it has as many bytes as parameters, at least
+fits_text : (essence text : List ℕ) (pairs : List (List ℕ × List ℕ)) (pair : List ℕ × List ℕ) → text ≡ essence ++ text_of_pairs (pairs ++ (pair ∷ []))
+    → length pairs + 1 ≤ length text
+fits_text essence text pairs pair is =
+    omega (arith, ap length is, length-append essence (text_of_pairs (pairs ++ (pair ∷ []))), pairs_within_text (pairs ++ (pair ∷ [])), length-append pairs (pair ∷ []))
+
+-- there is one parameter more than those of other names
+one_more : (media : MediaType) (name content : List ℕ)
+    → length (with_pair media (lowered name) content).pairs ≡ length (others name media.pairs) + 1
+one_more media name content =
+    rw (lowered-lowered name) (length-append (others name media.pairs) ((lowered name, content) ∷ []))
+
+-- what is written is read as the media type with the parameter
+is_read : (media : MediaType) (name value text : List ℕ) → {kept : List ℕ} → Reads kept media → IsSafe media → IsToken name → AreHeaderBytes value
+    → text ≡ media.essence ++ text_of_pairs (others name media.pairs ++ ((name, escaped value) ∷ []))
+    → Reads text (with_pair media (lowered name) (lowered_value name (escaped value)))
+is_read media name value text reads header named safe is =
+    subst (λ bytes. Reads bytes (with_pair media (lowered name) (lowered_value name (escaped value)))) (sym is)
+    (with_pair_is_read _ media name (escaped value) reads header named (content_of_escaped value safe))
+
+-- what holds of a value if another fact does
+if_ok : {T E : Type 0} (result : Result T E) (P Q : T → Type 0) → IfOk result P → ((x : T) → P x → Q x) → IfOk result Q
+if_ok (Ok x) P Q holds leads = leads x holds
+if_ok (Err error) P Q holds leads = tt
+
+pub overflow_add-others : goal.overflow_add-others
+overflow_add-others c =
+    let is = is_written c.args.mime.now.media c.args.name.now c.args.value.now _ c.args.form c.requires.fits c.in_ok-text.ensures.text in
+    omega (arith, fits_text _ _ _ _ is, c.in_ok-text.ensures.count, c.len-more.ensures, c.len-more.type_inv)
+
+pub with_known_parameters-requires-clause-known : goal.with_known_parameters-requires-clause-known
+with_known_parameters-requires-clause-known c =
+    let media = c.args.mime.now.media in
     let name = c.args.name.now in
     let value = c.args.value.now in
-    let media = c.args.mime.now.media in
+    let content = lowered_value name (escaped value) in
+    let made = with_pair media (lowered name) content in
+    let is = is_written media name value _ c.args.form c.requires.fits c.in_ok-text.ensures.text in
     let kept = c.as_str-kept.ensures.reads in
-    let read = with_pair_is_read _ _ name (escaped value) kept (c.kept_is_safe.ensures _ _ kept) c.requires.named
-    (content_of_escaped value c.requires.safe) in
-    let pairs = others name media.pairs in
-    let made : c.deref.result.now ≡ media.essence ++ (text_of_pairs pairs ++ text_in c.args.form name value) = search rules in
-    let text = made ∙ sym (append_assoc media.essence (text_of_pairs pairs) _)
-    ∙ ap (λ form. (media.essence ++ text_of_pairs pairs) ++ text_in form name value) c.requires.fits
-    ∙ ap (λ last. (media.essence ++ text_of_pairs pairs) ++ last) (form_text name value)
-    ∙ and_last media.essence pairs (name, escaped value) in
-    c.one_reading.ensures _ _ _ c.in-Ok.ensures.read
-    (subst (λ bytes. Reads bytes (with_pair media (lowered name) (lowered_value name (escaped value)))) (sym text) read)
+    let read : Reads c.deref.result.now made =
+        rw c.deref.ensures (is_read media name value _ kept (c.kept_is_safe.ensures _ _ kept) c.requires.named c.requires.safe is) in
+    (made.pairs, made.kept, one_more media name content ∙ ap (λ n. n + 1) (sym c.in_ok-text.ensures.count), read)
+
+pub returns : goal.returns
+returns c =
+    let media = c.args.mime.now.media in
+    let name = c.args.name.now in
+    let value = c.args.value.now in
+    let is = is_written media name value _ c.args.form c.requires.fits c.in_ok-text.ensures.text in
+    let kept = c.as_str-kept.ensures.reads in
+    let read : Reads c.deref.result.now (with_pair media (lowered name) (lowered_value name (escaped value))) =
+        rw c.deref.ensures (is_read media name value _ kept (c.kept_is_safe.ensures _ _ kept) c.requires.named c.requires.safe is) in
+    if_ok _ _ _ c.with_known_parameters.ensures.read (λ made reads. c.one_reading.ensures _ _ _ reads read)

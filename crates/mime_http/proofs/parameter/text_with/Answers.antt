@@ -1,11 +1,11 @@
 -- Each parameter is of the name, or is written.
-use Rattle.std.proofs.Common.{rules, ◌≡◌, ◌++◌, ◌∷◌, ap, ◌∙◌, subst, sym, [], string_bytes, append_assoc}
+use Rattle.std.proofs.Common.{rules, arith, ◌≡◌, ◌+◌, ◌++◌, ◌∷◌, ap, ◌∙◌, subst, sym, [], length, string_bytes, append_assoc}
 use Rattle.mime.specs.Items.{item_seen}
 use Rattle.mime.specs.Names.{NameIs}
 use Rattle.mime_http.specs.Forms.{text_in}
 use Rattle.mime_http.specs.Written.{text_of_pairs, others}
 use Rattle.mime_http.proofs.Forms.{kept_text}
-use Rattle.mime_http.proofs.Others.{Left, none_left, skipped, copied}
+use Rattle.mime_http.proofs.Others.{Left, none_left, skipped, copied, others_within}
 use Rattle.mime_http.proofs.parameter.text_with.Goals as goal
 
 pub loop-other-preserved : goal.loop-other-preserved
@@ -19,7 +19,15 @@ loop-other-preserved c =
     let written = pushed ∙ ap (λ form. string_bytes c.loop-other.text ++ text_in form name kept) c.form_of_content.ensures
     ∙ ap (λ last. string_bytes c.loop-other.text ++ last) (kept_text name kept) in
     subst (λ text. Left c.args.name.now (c.args.mime.now.media.essence ++ text_of_pairs (others c.args.name.now c.args.mime.now.media.pairs)) text
-    c.next.new.self) (sym written) (copied c.loop-other.invariant first differ)
+    (length (others c.args.name.now c.args.mime.now.media.pairs)) (c.loop-other.count + 1) c.next.new.self) (sym written)
+    (copied c.loop-other.invariant first differ).1
+
+pub overflow_add-count : goal.overflow_add-count
+overflow_add-count c =
+    let first : c.loop-other.other-iterator ≡ item_seen (c.in-Some.other, c.in-Some.kept) ∷ c.next.new.self = search rules in
+    let differ : ¬ (NameIs c.in-Some.other.text.now c.in-Some.other.ignores_case c.args.name.now) = search rules in
+    omega (arith, (copied c.loop-other.invariant first differ).0, others_within c.args.name.now c.args.mime.now.media.pairs,
+      c.param_count-most.ensures, c.param_count-most.type_inv)
 
 pub loop-other-preserved-then-name_eq_str : goal.loop-other-preserved-then-name_eq_str
 loop-other-preserved-then-name_eq_str c =
@@ -27,11 +35,16 @@ loop-other-preserved-then-name_eq_str c =
     let same : NameIs c.in-Some.other.text.now c.in-Some.other.ignores_case c.args.name.now = search rules in
     skipped c.loop-other.invariant first same
 
-pub returns : goal.returns
-returns c =
+pub returns-clause-text : goal.returns-clause-text
+returns-clause-text c =
     let ended : c.loop-other.other-iterator ≡ [] = search rules in
-    let so_far = none_left c.loop-other.invariant ended in
+    let so_far = (none_left c.loop-other.invariant ended).0 in
     let last = text_in c.args.form c.args.name.now c.args.value.now in
     let pushed : string_bytes c.push_parameter-2.new.text ≡ string_bytes c.loop-other.text ++ last = search rules in
     pushed ∙ ap (λ text. text ++ last) so_far
     ∙ append_assoc c.args.mime.now.media.essence (text_of_pairs (others c.args.name.now c.args.mime.now.media.pairs)) last
+
+pub returns-clause-count : goal.returns-clause-count
+returns-clause-count c =
+    let ended : c.loop-other.other-iterator ≡ [] = search rules in
+    (none_left c.loop-other.invariant ended).1

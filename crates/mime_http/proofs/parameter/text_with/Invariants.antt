@@ -1,9 +1,10 @@
 -- The parameters of other names so far were written.
-use Rattle.std.proofs.Common.{◌++◌, string_bytes}
+use Rattle.std.proofs.Common.{◌++◌, length, string_bytes}
 use Rattle.mime_http.specs.Written.{text_of_pairs, others}
 use Rattle.mime_http.proofs.Others.{Left}
 use Rattle.mime_http.proofs.parameter.text_with.Given as goal
 
 abbrev pub invariant-loop-other : goal.invariant-loop-other
 invariant-loop-other l =
-    Left l.name (l.mime.media.essence ++ text_of_pairs (others l.name l.mime.media.pairs)) (string_bytes l.text) l.other-iterator
+    Left l.name (l.mime.media.essence ++ text_of_pairs (others l.name l.mime.media.pairs)) (string_bytes l.text) (length (others l.name l.mime.media.pairs))
+    l.count l.other-iterator
