@@ -1,6 +1,6 @@
 //! Media types: reading, their parts, their parameters, printing.
 
-ghost use Rattle.std.specs.Prelude.{◌≡◌, ◌≢◌, ℕ, List, true, IfOk, IfErr, IsOk, IfSome, codes, option_map, length};
+ghost use Rattle.std.specs.Prelude.{◌≡◌, ◌≢◌, ℕ, List, true, IfOk, IfErr, IsOk, IfSome, codes, option_map, length, string_bytes};
 ghost use Rattle.std.specs.List.{AllByRecursion};
 ghost use Rattle.mime.specs.Values.{Reads, IsAccepted, lowered, type_of, subtype_of, suffix_of};
 ghost use Rattle.mime.specs.Faults.{Explains};
@@ -37,6 +37,20 @@ enum Text {
 }
 
 impl Text {
+    /// A text as it is, with no more room than it needs.
+    #[inline(always)]
+    fn of(alloc: Global, text: String) -> Result<Text, AllocError>
+        ensures { IfOk result (λ kept. bytes_of kept ≡ string_bytes text) }
+    {
+        if text.len() <= SHORT {
+            return Ok(Text::Short(ShortText::copied(&text)));
+        }
+        if text.capacity() == text.len() {
+            return Ok(Text::Owned(text));
+        }
+        Ok(Text::Owned(String::from_str(alloc, &text)?))
+    }
+
     #[inline(always)]
     fn as_str(&self) -> &str
         ensures { result.now ≡ bytes_of self.now }
@@ -148,28 +162,28 @@ impl Mime {
         }
     }
 
-    /// Reads a media type from a string that is known to be one: it has the essence of this one and `count` parameters after
-    /// it (RFC 7231, 3.1.1.1). The result is that of [`Mime::from_str`], without a look at each byte. It is for crates that
-    /// write media types. It allocates once, for the kept text, if `s` has more than 40 bytes; otherwise it doesn't
-    /// allocate.
+    /// Returns the media type of a text that is known to be the kept text of one: it has the essence of this one and `count`
+    /// parameters after it (RFC 7231, 3.1.1.1). The result is that of [`Mime::from_str`], but no byte is looked at. It is
+    /// for crates that write media types. It doesn't allocate if `text` has at most 40 bytes, or no more room than it
+    /// needs; otherwise it allocates once, for the kept text.
     ///
-    /// For the value of `Text/HTML` the string `text/html; Charset=UTF-8`, with 1 parameter, is read as
-    /// `text/html; charset=utf-8`.
+    /// For the value of `Text/HTML` it makes the text `text/html; charset=utf-8`, with 1 parameter, the media type that is
+    /// read from `text/html; charset=utf-8`.
     ///
     /// # Errors
     /// `AllocError` if memory runs out.
     pub fn with_known_parameters(
         &self,
         alloc: Global,
-        s: &str,
+        text: String,
         count: usize,
     ) -> Result<Mime, AllocError>
-        // The string is read as this media type with other parameters,
-        requires known { (pairs : List (List ℕ × List ℕ)) × (kept : List ℕ) × (length pairs ≡ count)
-            × Reads s.now (record self.now.media { pairs = pairs; kept = kept }) }
-        // of which there is one.
+        // The text is read as this media type with other parameters, and kept as it is,
+        requires known { (pairs : List (List ℕ × List ℕ)) × (length pairs ≡ count)
+            × Reads (string_bytes text) (record self.now.media { pairs = pairs; kept = string_bytes text }) }
+        // and there is a parameter.
         requires some { count ≢ 0 }
-        ensures read { IfOk result (λ mime. Reads s.now mime.media) }
+        ensures read { IfOk result (λ mime. Reads (string_bytes text) mime.media) }
     {
         let positions = Positions {
             slash: self.places.slash,
@@ -177,10 +191,7 @@ impl Mime {
             semicolon: Some(self.essence_str().len()),
             pair_count: count,
         };
-        match Mime::of_other(alloc, s, positions) {
-            Ok(mime) => Ok(mime),
-            Err(_) => Err(AllocError),
-        }
+        Ok(Mime::of_kept(Text::of(alloc, text)?, positions))
     }
 
     /// The media type `*/*`.

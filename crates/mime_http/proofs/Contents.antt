@@ -1,10 +1,10 @@
 -- The content of quoted strings: what is written for a value, and what needs no backslash.
-use Rattle.std.proofs.Common.{◌≡◌, ◌≢◌, ◌∙◌, ◌==◌, ◌<◌, ◌≤◌, ℕ, zero, suc, Bool, true, false, List, [], ◌∷◌, ◌++◌, arith, refl, sym, ap, cond, ⊎_elim, append-nil, append_assoc, ◌+◌, ◌*◌, get_or, length, take, drop}
+use Rattle.std.proofs.Common.{◌≡◌, ◌≢◌, ◌∙◌, ◌==◌, ◌<◌, ◌≤◌, ℕ, zero, suc, Bool, true, false, List, [], ◌∷◌, ◌++◌, arith, refl, sym, ap, ap₂, cond, ⊎_elim, append-nil, append_assoc, ◌+◌, ◌*◌, get_or, length, take, drop}
 use Rattle.std.specs.Prelude.{◌||◌, ◌&&◌, nat_le, nat_lt}
 use Rattle.std.specs.Char.{to_ascii_lowercase}
 use Rattle.std.specs.List.{list_all}
 use Rattle.std.proofs.Math.Seq.{take-length, drop-length, take-append-add, drop-append-add}
-use Rattle.std.proofs.lemmas.Bool.{and_parts, and_from, or_parts, cases_Bool, cases_lt, eqb-true, false_from_ne_true}
+use Rattle.std.proofs.lemmas.Bool.{and_parts, and_from, or_parts, cond_both, cases_Bool, cases_lt, eqb-true, false_from_ne_true}
 use Rattle.std.proofs.lemmas.Bool.Decides.{nat_tests}
 use Rattle.std.proofs.lemmas.Grind.{flat_map-append}
 use Rattle.std.proofs.lemmas.Str.{encode_ascii, encodes-append}
@@ -72,6 +72,15 @@ pub boundary_is_safe : (bytes : List ℕ) → IsBoundary bytes → AreHeaderByte
 boundary_is_safe bytes is = safe_class is_bchar bchar_safe bytes is.all
 
 -- ---- bytes before the first backslash
+
+-- what has no capital has none when it is escaped
+pub escaped-lowered : (bytes : List ℕ) → lowered bytes ≡ bytes → lowered (escaped bytes) ≡ escaped bytes
+escaped-lowered [] low = refl
+escaped-lowered (b ∷ bytes) low =
+    let same : to_ascii_lowercase b ≡ b = ap (λ bs. get_or bs 0 0) low in
+    let rest = escaped-lowered bytes (ap (drop 1) low) in
+    cond_both (is_special b) (92 ∷ b ∷ []) (b ∷ []) (λ xs. lowered (xs ++ escaped bytes) ≡ xs ++ escaped bytes)
+    (λ special. ap₂ (λ c cs. 92 ∷ c ∷ cs) same rest) (λ plain. ap₂ (λ c cs. c ∷ cs) same rest)
 
 -- they mean themselves
 pub unescaped_before : (bytes : List ℕ) (at : ℕ) → at ≤ length bytes → ((i : ℕ) → i < at → get_or bytes i 0 ≢ 92)

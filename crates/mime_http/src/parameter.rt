@@ -28,6 +28,25 @@ fn is_token_text(text: &str) -> bool
     !text.is_empty()
 }
 
+/// Whether a string has no ASCII capital.
+fn is_lowercase(text: &str) -> bool
+    ensures { IsTrue result → lowered text.now ≡ text.now }
+{
+    for &byte in text.as_bytes() {
+        if byte.is_ascii_uppercase() {
+            return false;
+        }
+    }
+    true
+}
+
+/// Whether a parameter is kept as it is written: without a capital in what is kept in lowercase.
+fn is_kept_as_written(name: &str, value: &str) -> bool
+    ensures { IsTrue result → (lowered name.now ≡ name.now) × (lowered_value name.now (escaped value.now) ≡ escaped value.now) }
+{
+    is_lowercase(name) && (name != "charset" || is_lowercase(value))
+}
+
 /// How a value is written that needs no backslashes but those that it has.
 fn form_of_content(content: &str) -> Form
     ensures { result ≡ (if is_token_value content.now then Token else Quoted) }
@@ -113,8 +132,15 @@ fn mime_with(
     kept_is_safe();
     one_reading();
     let (text, others) = text_with(alloc, mime, name, value, form)?;
-    let _more = text.len();
-    mime.with_known_parameters(alloc, &text, others + 1)
+    if is_kept_as_written(name, value) {
+        let _more = text.len();
+        return mime.with_known_parameters(alloc, text, others + 1);
+    }
+    match Mime::from_str(alloc, &text) {
+        Ok(made) => Ok(made),
+        // The text is accepted, so memory ran out.
+        Err(_) => Err(AllocError),
+    }
 }
 
 /// Returns the media type with this parameter in place of those of its name, ignoring ASCII case (RFC 9110, 5.6.6). The other

@@ -5,13 +5,14 @@ use Rattle.std.specs.Prelude.{◌≢◌, IfSome, if◌then◌else◌, ◌==◌, 
 use Rattle.std.specs.Option.{option_or}
 use Rattle.std.proofs.lemmas.Bool.{cond_both}
 use Rattle.mime.specs.Bytes.{plus_byte}
-use Rattle.mime.specs.Grammar.{blank, final, more, Tail, no_list, listed}
-use Rattle.mime.specs.Values.{MediaType, Reads, lowered_tree, last_plus, pairs_of_tail}
+use Rattle.mime.specs.Grammar.{blank, final, more, Tail, no_list, listed, text_of}
+use Rattle.mime.specs.Values.{MediaType, Reads, kept_text, lowered_tree, last_plus, pairs_of_tail}
 use Rattle.mime.specs.Inner.Scanning.{HasPositions, positions_of, semicolon_of}
 use Rattle.mime.specs.Inner.KeptPlaces.{unless_zero}
 use Rattle.mime.specs.Inner.KeptText.{IsKept, kept_positions, kept_semicolon}
 use Rattle.mime.specs.declared.scan.Positions.{Positions}
-use Rattle.mime.proofs.LowercaseLemmas.{positions_of-lowered_tree}
+use Rattle.mime.proofs.LowercaseLemmas.{positions_of-lowered_tree, IsWellFormed-lowered_tree}
+use Rattle.mime.proofs.GrammarLemmas.Readings.{one_tree}
 use Rattle.mime.proofs.ValueLemmas.KeptText.{value_of_low, value_of-lowering, length-essence_of}
 
 -- a position that isn't 0 comes back from its word
@@ -78,3 +79,28 @@ read-positions text value reads some = record {
         subst (λ (v : MediaType). positions_of (record { top = top; sub = sub; tail = listed list })
         ≡ record { slash = v.slash; plus = v.plus; semicolon = Some (length v.essence); pair_count = length v.pairs }) is
         (rw (length-essence_of (record { top = top; sub = sub; tail = listed list })) refl)
+
+-- a text that is read as a value with a parameter, and is its kept text, is kept so
+pub read-kept : (text : List ℕ) (value : MediaType) → Reads text value → value.kept ≡ text → length value.pairs ≢ 0
+    → IsKept text (record { slash = value.slash; plus = value.plus; semicolon = Some (length value.essence); pair_count = length value.pairs })
+unfolding read-positions
+read-kept text value reads kept some =
+    let has = read-positions text value reads some in
+    let tree = reads.tree in
+    record {
+      has = has;
+      low = one_tree (lowered_tree tree) tree (IsWellFormed-lowered_tree tree reads.well_formed) reads.well_formed
+          (go (pairs_of_tail (lowered_tree tree).tail) (ap (λ (v : MediaType). length v.pairs) reads.valued)
+          (ap (λ (v : MediaType). v.kept) reads.valued) ∙ sym reads.spelled);
+      kept = all_kept (length value.pairs) some;
+    }
+  where
+    go : (pairs : List (List ℕ × List ℕ)) → length pairs ≡ length value.pairs → kept_text pairs (lowered_tree reads.tree) ≡ value.kept
+        → text_of (lowered_tree reads.tree) ≡ text
+    go [] none is = absurd (some (sym none))
+    go (pair ∷ pairs) none is = is ∙ kept
+
+    all_kept : (count : ℕ) → count ≢ 0 → kept_positions (record { slash = value.slash; plus = value.plus; semicolon = Some (length value.essence); pair_count = count })
+        ≡ record { slash = value.slash; plus = value.plus; semicolon = Some (length value.essence); pair_count = count }
+    all_kept zero above = absurd (above refl)
+    all_kept (suc count) above = refl

@@ -94,6 +94,15 @@ impl ShortText {
         }
     }
 
+    /// A text as it is.
+    #[inline(always)]
+    pub(crate) fn copied(text: &str) -> ShortText
+        requires { length text.now ≤ SHORT }
+        ensures { result ≡ text.now }
+    {
+        ShortText::of(&padded(text), text.len())
+    }
+
     /// A text in lowercase.
     #[inline(always)]
     fn lowercased(text: &str) -> ShortText

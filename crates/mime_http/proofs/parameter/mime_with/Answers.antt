@@ -1,5 +1,5 @@
 -- What is written is known to be read as the media type with the parameter.
-use Rattle.std.proofs.Common.{arith, ◌≡◌, ◌∙◌, ◌+◌, ◌≤◌, ◌++◌, ◌∷◌, [], ℕ, List, length, ap, subst, sym, append_assoc, length-append}
+use Rattle.std.proofs.Common.{string_bytes, arith, ◌≡◌, ◌∙◌, ◌+◌, ◌≤◌, ◌++◌, ◌∷◌, [], ℕ, List, length, ap, ap₂, subst, sym, append_assoc, length-append}
 use Rattle.std.specs.Prelude.{Result, Ok, Err, IfOk}
 use Rattle.mime.specs.Grammar.{IsToken}
 use Rattle.mime.specs.HeaderLaws.{AreHeaderBytes, IsSafe}
@@ -45,6 +45,13 @@ is_read media name value text reads header named safe is =
     subst (λ bytes. Reads bytes (with_pair media (lowered name) (lowered_value name (escaped value)))) (sym is)
     (with_pair_is_read _ media name (escaped value) reads header named (content_of_escaped value safe))
 
+-- without a capital to be lowercased it is its own kept text
+kept_is : (media : MediaType) (name value text : List ℕ) → lowered name ≡ name → lowered_value name (escaped value) ≡ escaped value
+    → text ≡ media.essence ++ text_of_pairs (others name media.pairs ++ ((name, escaped value) ∷ []))
+    → (with_pair media (lowered name) (lowered_value name (escaped value))).kept ≡ text
+kept_is media name value text low_name low_value is =
+    ap₂ (λ n content. media.essence ++ text_of_pairs (others n media.pairs ++ ((n, content) ∷ []))) low_name low_value ∙ sym is
+
 -- what holds of a value if another fact does
 if_ok : {T E : Type 0} (result : Result T E) (P Q : T → Type 0) → IfOk result P → ((x : T) → P x → Q x) → IfOk result Q
 if_ok (Ok x) P Q holds leads = leads x holds
@@ -64,12 +71,14 @@ with_known_parameters-requires-clause-known c =
     let made = with_pair media (lowered name) content in
     let is = is_written media name value _ c.args.form c.requires.fits c.in_ok-text.ensures.text in
     let kept = c.as_str-kept.ensures.reads in
-    let read : Reads c.deref.result.now made =
-        rw c.deref.ensures (is_read media name value _ kept (c.kept_is_safe.ensures _ _ kept) c.requires.named c.requires.safe is) in
-    (made.pairs, made.kept, one_more media name content ∙ ap (λ n. n + 1) (sym c.in_ok-text.ensures.count), read)
+    let read = is_read media name value _ kept (c.kept_is_safe.ensures _ _ kept) c.requires.named c.requires.safe is in
+    let as_written = c.is_kept_as_written.ensures c.if-is_kept_as_written.true in
+    (made.pairs, one_more media name content ∙ ap (λ n. n + 1) (sym c.in_ok-text.ensures.count),
+      subst (λ text. Reads (string_bytes c.in_ok-text.text) (record media { pairs = made.pairs; kept = text }))
+      (kept_is media name value _ as_written.0 as_written.1 is) read)
 
-pub returns : goal.returns
-returns c =
+pub returns-in-Ok : goal.returns-in-Ok
+returns-in-Ok c =
     let media = c.args.mime.now.media in
     let name = c.args.name.now in
     let value = c.args.value.now in
@@ -77,4 +86,14 @@ returns c =
     let kept = c.as_str-kept.ensures.reads in
     let read : Reads c.deref.result.now (with_pair media (lowered name) (lowered_value name (escaped value))) =
         rw c.deref.ensures (is_read media name value _ kept (c.kept_is_safe.ensures _ _ kept) c.requires.named c.requires.safe is) in
+    c.one_reading.ensures _ _ _ c.in-Ok.ensures.read read
+
+pub returns-then-is_kept_as_written : goal.returns-then-is_kept_as_written
+returns-then-is_kept_as_written c =
+    let media = c.args.mime.now.media in
+    let name = c.args.name.now in
+    let value = c.args.value.now in
+    let is = is_written media name value _ c.args.form c.requires.fits c.in_ok-text.ensures.text in
+    let kept = c.as_str-kept.ensures.reads in
+    let read = is_read media name value _ kept (c.kept_is_safe.ensures _ _ kept) c.requires.named c.requires.safe is in
     if_ok _ _ _ c.with_known_parameters.ensures.read (λ made reads. c.one_reading.ensures _ _ _ reads read)
