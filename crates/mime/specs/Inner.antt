@@ -13,5 +13,6 @@ pub mod ComparedText
 pub mod OrderLaws
 pub mod HashInput
 pub mod KeptPlaces
+pub mod Known
 pub mod KeptBytes
 pub mod BetweenCalls

@@ -74,4 +74,4 @@ pub use crate::name::constants::{
 };
 pub use crate::name::{Name, ParamKey, TextKey, name_eq_str};
 pub use crate::scan::{FromStrError, ParseError};
-pub use crate::value::{Mime, Params};
+pub use crate::value::{KnownText, Mime, Params};

@@ -1,16 +1,18 @@
 //! Media types: reading, their parts, their parameters, printing.
 
-ghost use Rattle.std.specs.Prelude.{◌≡◌, ◌≢◌, ℕ, List, true, IfOk, IfErr, IsOk, IfSome, codes, option_map, length, string_bytes};
+ghost use Rattle.std.specs.Prelude.{◌≡◌, ◌≢◌, true, IfOk, IfErr, IsOk, IfSome, codes, option_map, length, string_bytes};
 ghost use Rattle.std.specs.List.{AllByRecursion};
 ghost use Rattle.mime.specs.Values.{Reads, IsAccepted, lowered, type_of, subtype_of, suffix_of};
 ghost use Rattle.mime.specs.Faults.{Explains};
 ghost use Rattle.mime.specs.Items.{items_of, name_seen, name_text, IsLowIf, IsLowItem, IsFirstAccepted};
 ghost use Rattle.mime.specs.Inner.Scanning.{HasPositions};
 ghost use Rattle.mime.specs.Inner.KeptText.{IsKept, media_of, AreLowPairs};
+ghost use Rattle.mime.specs.Inner.Known.{IsKnown};
 ghost use Rattle.mime.specs.Inner.KeptBytes.{bytes_of, is_fixed};
 
 mod hashing;
 mod kept;
+mod known;
 pub(crate) mod pairs;
 mod params;
 mod places;
@@ -20,6 +22,7 @@ mod traits;
 use crate::name::{Name, ParamKey};
 use crate::scan::{ByteReader, FromStrError, ParseError, Positions, Verdict, scan};
 use crate::value::kept::{keep, positions_in_kept};
+pub use crate::value::known::KnownText;
 use crate::value::pairs::Pairs;
 pub use crate::value::params::Params;
 use crate::value::places::Places;
@@ -162,27 +165,16 @@ impl Mime {
         }
     }
 
-    /// Returns the media type of a text that is known to be the kept text of one: it has the essence of this one and `count`
-    /// parameters after it (RFC 7231, 3.1.1.1). The result is that of [`Mime::from_str`], but no byte is looked at. It is
-    /// for crates that write media types. It doesn't allocate if `text` has at most 40 bytes, or no more room than it
-    /// needs; otherwise it allocates once, for the kept text.
-    ///
-    /// For the value of `Text/HTML` it makes the text `text/html; charset=utf-8`, with 1 parameter, the media type that is
-    /// read from `text/html; charset=utf-8`.
-    ///
-    /// # Errors
-    /// `AllocError` if memory runs out.
-    pub fn with_known_parameters(
+    /// The media type of a text that is known to be the kept text of one with the essence of this one, and `count`
+    /// parameters.
+    #[inline(always)]
+    fn with_known_parameters(
         &self,
         alloc: Global,
         text: String,
         count: usize,
     ) -> Result<Mime, AllocError>
-        // The text is read as this media type with other parameters, and kept as it is,
-        requires known { (pairs : List (List ℕ × List ℕ)) × (length pairs ≡ count)
-            × Reads (string_bytes text) (record self.now.media { pairs = pairs; kept = string_bytes text }) }
-        // and there is a parameter.
-        requires some { count ≢ 0 }
+        requires known { IsKnown self.now.media (string_bytes text) count }
         ensures read { IfOk result (λ mime. Reads (string_bytes text) mime.media) }
     {
         let positions = Positions {

@@ -13,7 +13,7 @@ use crate::multipart::is_boundary;
 use crate::quoted::{Form, form_of, push_escaped};
 use crate::range::param_count;
 use mime::laws::{kept_is_safe, one_reading};
-use mime::{Mime, is_token, name_eq_str};
+use mime::{KnownText, Mime, is_token, name_eq_str};
 use std::alloc::{AllocError, Global};
 
 /// Whether a string is a token.
@@ -134,7 +134,13 @@ fn mime_with(
     let (text, others) = text_with(alloc, mime, name, value, form)?;
     if is_kept_as_written(name, value) {
         let _more = text.len();
-        return mime.with_known_parameters(alloc, text, others + 1);
+        let count = others + 1;
+        let known = KnownText {
+            like: mime,
+            text,
+            count,
+        };
+        return known.into_mime(alloc);
     }
     match Mime::from_str(alloc, &text) {
         Ok(made) => Ok(made),

@@ -57,13 +57,13 @@ if_ok : {T E : Type 0} (result : Result T E) (P Q : T → Type 0) → IfOk resul
 if_ok (Ok x) P Q holds leads = leads x holds
 if_ok (Err error) P Q holds leads = tt
 
-pub overflow_add-others : goal.overflow_add-others
-overflow_add-others c =
+pub overflow_add-count : goal.overflow_add-count
+overflow_add-count c =
     let is = is_written c.args.mime.now.media c.args.name.now c.args.value.now _ c.args.form c.requires.fits c.in_ok-text.ensures.text in
     omega (arith, fits_text _ _ _ _ is, c.in_ok-text.ensures.count, c.len-more.ensures, c.len-more.type_inv)
 
-pub with_known_parameters-requires-clause-known : goal.with_known_parameters-requires-clause-known
-with_known_parameters-requires-clause-known c =
+pub invariant_of-known : goal.invariant_of-known
+invariant_of-known c =
     let media = c.args.mime.now.media in
     let name = c.args.name.now in
     let value = c.args.value.now in
@@ -73,9 +73,13 @@ with_known_parameters-requires-clause-known c =
     let kept = c.as_str-kept.ensures.reads in
     let read = is_read media name value _ kept (c.kept_is_safe.ensures _ _ kept) c.requires.named c.requires.safe is in
     let as_written = c.is_kept_as_written.ensures c.if-is_kept_as_written.true in
-    (made.pairs, one_more media name content ∙ ap (λ n. n + 1) (sym c.in_ok-text.ensures.count),
-      subst (λ text. Reads (string_bytes c.in_ok-text.text) (record media { pairs = made.pairs; kept = text }))
-      (kept_is media name value _ as_written.0 as_written.1 is) read)
+    record {
+      pairs = made.pairs;
+      counted = one_more media name content ∙ ap (λ n. n + 1) (sym c.in_ok-text.ensures.count);
+      some = λ none. absurd (omega (arith, none));
+      reads = subst (λ text. Reads (string_bytes c.in_ok-text.text) (record media { pairs = made.pairs; kept = text }))
+          (kept_is media name value _ as_written.0 as_written.1 is) read;
+    }
 
 pub returns-in-Ok : goal.returns-in-Ok
 returns-in-Ok c =
@@ -96,4 +100,4 @@ returns-then-is_kept_as_written c =
     let is = is_written media name value _ c.args.form c.requires.fits c.in_ok-text.ensures.text in
     let kept = c.as_str-kept.ensures.reads in
     let read = is_read media name value _ kept (c.kept_is_safe.ensures _ _ kept) c.requires.named c.requires.safe is in
-    if_ok _ _ _ c.with_known_parameters.ensures.read (λ made reads. c.one_reading.ensures _ _ _ reads read)
+    if_ok _ _ _ c.into_mime.ensures.read (λ made reads. c.one_reading.ensures _ _ _ reads read)

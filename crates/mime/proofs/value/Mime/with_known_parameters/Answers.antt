@@ -16,14 +16,14 @@ kept_with text kept_bytes essence slash count plus media reads kept some counted
 pub of_kept-requires : goal.of_kept-requires
 of_kept-requires c =
     let known = c.requires.known in
-    kept_with (string_bytes c.args.text) _ _ _ _ _ (record c.args.self.now.media { pairs = known.0; kept = string_bytes c.args.text }) known.2 refl
-    c.requires.some known.1 (ap (λ (owned : OwnedMedia). owned.media.slash) c.self.view_is)
+    kept_with (string_bytes c.args.text) _ _ _ _ _ (record c.args.self.now.media { pairs = known.pairs; kept = string_bytes c.args.text }) known.reads refl
+    known.some known.counted (ap (λ (owned : OwnedMedia). owned.media.slash) c.self.view_is)
     (c.plus.ensures ∙ ap (λ (owned : OwnedMedia). owned.media.plus) c.self.view_is) c.essence_str.ensures c.in_ok-of.ensures
 
 pub returns : goal.returns
 returns c =
     let known = c.requires.known in
-    let kept = kept_with (string_bytes c.args.text) (string_bytes c.args.text) _ _ _ _ (record c.args.self.now.media { pairs = known.0; kept = string_bytes c.args.text })
-    known.2 refl c.requires.some known.1 (ap (λ (owned : OwnedMedia). owned.media.slash) c.self.view_is)
+    let kept = kept_with (string_bytes c.args.text) (string_bytes c.args.text) _ _ _ _ (record c.args.self.now.media { pairs = known.pairs; kept = string_bytes c.args.text })
+    known.reads refl known.some known.counted (ap (λ (owned : OwnedMedia). owned.media.slash) c.self.view_is)
     (c.plus.ensures ∙ ap (λ (owned : OwnedMedia). owned.media.plus) c.self.view_is) c.essence_str.ensures refl in
     record { read = rw (c.of_kept.ensures.media, c.in_ok-of.ensures) (reads-from_kept _ _ kept) }

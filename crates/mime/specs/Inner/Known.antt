@@ -1,0 +1,10 @@
+-- Texts that are known to be media types.
+use Rattle.std.specs.Prelude.{◌≡◌, ◌≢◌, ℕ, List, length}
+use Rattle.mime.specs.Values.{MediaType, Reads}
+
+-- the text is read as a value with some parameters, that of another essence, and is its kept text
+pub record IsKnown (like : MediaType) (text : List ℕ) (count : ℕ) : Type 0 where
+  pub pairs : List (List ℕ × List ℕ)
+  pub counted : length pairs ≡ count
+  pub some : count ≢ 0
+  pub reads : Reads text (record like { pairs = pairs; kept = text })

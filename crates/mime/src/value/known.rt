@@ -1,0 +1,50 @@
+//! Texts that are known to be media types, as crates have them that write media types.
+
+ghost use Rattle.std.specs.Prelude.{IfOk};
+ghost use Rattle.mime.specs.Values.{Reads};
+
+use crate::value::Mime;
+use std::alloc::{AllocError, Global};
+use std::marker::Model;
+
+/// A text that is known to be the kept text of a media type: the essence of another media type, and parameters after it
+/// (RFC 7231, 3.1.1.1). Who makes one proves that. So nothing is read anew: it is for crates that write media types.
+///
+/// For the value of `Text/HTML`, the text `text/html; charset=utf-8` with 1 parameter is one, but
+/// `text/html; charset=UTF-8` isn't, since the value of a charset is kept in lowercase.
+#[derive(Drop)]
+pub struct KnownText<'a> {
+    /// A media type with the essence of the text.
+    pub like: &'a Mime,
+    /// The text.
+    pub text: String,
+    /// The number of its parameters, 1 or more.
+    pub count: usize,
+}
+
+impl<'a> Model for KnownText<'a> {
+    ghost use Rattle.std.specs.Prelude.{List, ℕ, string_bytes};
+    ghost use Rattle.mime.specs.Inner.Known.{IsKnown};
+
+    ghost Value = { List ℕ };
+
+    ghost view = { λ known. string_bytes known.text };
+
+    ghost invariant = { λ known. IsKnown known.like.now.media (string_bytes known.text) known.count };
+}
+
+impl<'a> KnownText<'a> {
+    /// Returns the media type that is read from the text, as [`Mime::from_str`] does, without looking at its bytes (RFC
+    /// 7231, 3.1.1.1). It doesn't allocate if the text has at most 40 bytes, or no more room than it needs; otherwise it
+    /// allocates once.
+    ///
+    /// # Errors
+    /// `AllocError` if memory runs out.
+    #[inline(always)]
+    pub fn into_mime(self, alloc: Global) -> Result<Mime, AllocError>
+        ensures read { IfOk result (λ mime. Reads self.entry mime.media) }
+    {
+        let KnownText { like, text, count } = self;
+        like.with_known_parameters(alloc, text, count)
+    }
+}
