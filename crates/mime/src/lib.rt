@@ -26,9 +26,10 @@
 //! isn't yielded.
 //!
 //! # Memory
-//! `Mime::from_str` and `MimeIter::new` take the allocator. Reading a media type of more than 40 bytes, `clone` of one,
-//! and each of that length that a `MimeIter` yields allocate once, and return an error if memory runs out. Nothing else
-//! allocates: not rejecting a string, nor a shorter media type, which lies in the `Mime` itself, nor a constant.
+//! `Mime::from_str`, `MimeIter::new` and `KnownText::into_mime` take the allocator. Reading or making a media type of more
+//! than 40 bytes, `clone` of one, and each of that length that a `MimeIter` yields allocate once at most, and return an
+//! error if memory runs out. Nothing else allocates: not rejecting a string, nor a shorter media type, which lies in the
+//! `Mime` itself, nor a constant.
 //!
 //! # Standards
 //! The grammar is that of RFC 7231 and RFC 7230, with the departures that docs/DIFFERENCES.md lists. RFC 9110

@@ -30,8 +30,8 @@ use crate::value::short::{SHORT, ShortText};
 use std::alloc::{AllocError, Global};
 use std::marker::Model;
 
-/// The kept text of a media type: static for `*/*` and the constants, in the value itself if a short string was read,
-/// else allocated. `Short` is last: it is told first from the others, which are laid out alike.
+/// The kept text of a media type: static for `*/*` and the constants, in the value itself if it was made from a short
+/// string, else allocated. `Short` is last: it is told first from the others, which are laid out alike.
 #[derive(Drop)]
 enum Text {
     Fixed(&'static str),

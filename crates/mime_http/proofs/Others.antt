@@ -54,14 +54,16 @@ copied {name} {whole} {text} {total} {count} {next = next} {item = item} left is
         let differ = subst (λ (i : Item). ¬ (NameIs i.name i.name_ignores_case name)) (sym here) other in
         let test = false_from_ne_true _ (λ same. differ ((bytes_eq-Decides (lowered pair.0) (lowered name)).0 same)) in
         let more : text ++ (text_of_pair pair ++ text_of_pairs (others name rest)) ≡ whole = rw test at written in
-        let one_more : count + suc (length (others name rest)) ≡ total = rw test at counted in
-        (omega (arith, one_more), subst (λ (i : Item). Left name whole (text ++ text_of_pair (i.name, i.value)) total (count + 1) next) here
-          (record {
-            rest = rest;
-            same = sym (ap (drop 1) is);
-            written = append_assoc text (text_of_pair pair) _ ∙ more;
-            counted = omega (arith, one_more);
-          }))
+        let one_more : count + suc (length (others name rest)) ≡ total = rw test at counted in (
+          omega (arith, one_more),
+          subst (λ (i : Item). Left name whole (text ++ text_of_pair (i.name, i.value)) total (count + 1) next) here
+              (record {
+                rest = rest;
+                same = sym (ap (drop 1) is);
+                written = append_assoc text (text_of_pair pair) _ ∙ more;
+                counted = omega (arith, one_more);
+              }),
+        )
 
 -- those of other names are no more than all
 pub others_within : (name : List ℕ) (pairs : List (List ℕ × List ℕ)) → length (others name pairs) ≤ length pairs

@@ -160,7 +160,7 @@ fn mime_with(
 /// [`unescape`](crate::unescape) of the parameter's value gives it back, that of a `charset` in lowercase. The others are printed so
 /// too, with the backslashes that they have: `a/b;p="x"` with the parameter `q` and the value `1` is `a/b; p=x; q=1`.
 ///
-/// It allocates the text, and what is kept of it if that has more than 40 bytes.
+/// It allocates the text, and once more at most for what is kept of it, if that has more than 40 bytes.
 ///
 /// # Errors
 /// `AllocError` if memory runs out.

@@ -1,4 +1,4 @@
-//! Texts that are known to be media types, as crates have them that write media types.
+//! Texts that are known to be media types.
 
 ghost use Rattle.std.specs.Prelude.{IfOk};
 ghost use Rattle.mime.specs.Values.{Reads};
@@ -7,11 +7,12 @@ use crate::value::Mime;
 use std::alloc::{AllocError, Global};
 use std::marker::Model;
 
-/// A text that is known to be the kept text of a media type: the essence of another media type, and parameters after it
-/// (RFC 7231, 3.1.1.1). Who makes one proves that. So nothing is read anew: it is for crates that write media types.
+/// A text that is known to be the kept text of a media type: an essence, which another media type has too, and parameters
+/// after it (RFC 7231, 3.1.1.1). Code that makes one has to be proved to make nothing else, so the text isn't read again.
+/// It is for crates that write media types, as `mime_http` does.
 ///
-/// For the value of `Text/HTML`, the text `text/html; charset=utf-8` with 1 parameter is one, but
-/// `text/html; charset=UTF-8` isn't, since the value of a charset is kept in lowercase.
+/// `text/html; charset=utf-8` with 1 parameter is one, if `like` was read from `Text/HTML`. `text/html; charset=UTF-8`
+/// isn't, since the value of a charset is kept in lowercase.
 #[derive(Drop)]
 pub struct KnownText<'a> {
     /// A media type with the essence of the text.

@@ -89,7 +89,7 @@ returns-in-Ok c =
     let is = is_written media name value _ c.args.form c.requires.fits c.in_ok-text.ensures.text in
     let kept = c.as_str-kept.ensures.reads in
     let read : Reads c.deref.result.now (with_pair media (lowered name) (lowered_value name (escaped value))) =
-        rw c.deref.ensures (is_read media name value _ kept (c.kept_is_safe.ensures _ _ kept) c.requires.named c.requires.safe is) in
+    rw c.deref.ensures (is_read media name value _ kept (c.kept_is_safe.ensures _ _ kept) c.requires.named c.requires.safe is) in
     c.one_reading.ensures _ _ _ c.in-Ok.ensures.read read
 
 pub returns-then-is_kept_as_written : goal.returns-then-is_kept_as_written

@@ -26,8 +26,13 @@ pub overflow_add-count : goal.overflow_add-count
 overflow_add-count c =
     let first : c.loop-other.other-iterator ≡ item_seen (c.in-Some.other, c.in-Some.kept) ∷ c.next.new.self = search rules in
     let differ : ¬ (NameIs c.in-Some.other.text.now c.in-Some.other.ignores_case c.args.name.now) = search rules in
-    omega (arith, (copied c.loop-other.invariant first differ).0, others_within c.args.name.now c.args.mime.now.media.pairs,
-      c.param_count-most.ensures, c.param_count-most.type_inv)
+    omega (
+      arith,
+      (copied c.loop-other.invariant first differ).0,
+      others_within c.args.name.now c.args.mime.now.media.pairs,
+      c.param_count-most.ensures,
+      c.param_count-most.type_inv,
+    )
 
 pub loop-other-preserved-then-name_eq_str : goal.loop-other-preserved-then-name_eq_str
 loop-other-preserved-then-name_eq_str c =
