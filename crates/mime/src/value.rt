@@ -1,6 +1,6 @@
 //! Media types: reading, their parts, their parameters, printing.
 
-ghost use Rattle.std.specs.Prelude.{◌≡◌, ◌≢◌, true, IfOk, IfErr, IsOk, IfSome, codes, option_map, length, string_bytes};
+ghost use Rattle.std.specs.Prelude.{◌≡◌, ◌≢◌, ◌≤◌, true, IfOk, IfErr, IsOk, IfSome, codes, option_map, length, string_bytes};
 ghost use Rattle.std.specs.List.{AllByRecursion};
 ghost use Rattle.mime.specs.Values.{Reads, IsAccepted, lowered, type_of, subtype_of, suffix_of};
 ghost use Rattle.mime.specs.Faults.{Explains};
@@ -43,7 +43,8 @@ impl Text {
     /// A text as it is, with no more room than it needs.
     #[inline(always)]
     fn of(alloc: Global, text: String) -> Result<Text, AllocError>
-        ensures { IfOk result (λ kept. bytes_of kept ≡ string_bytes text) }
+        ensures text { IfOk result (λ kept. bytes_of kept ≡ string_bytes text) }
+        ensures short { length (string_bytes text) ≤ SHORT → IsOk result }
     {
         if text.len() <= SHORT {
             return Ok(Text::Short(ShortText::copied(&text)));
@@ -176,6 +177,7 @@ impl Mime {
     ) -> Result<Mime, AllocError>
         requires known { IsKnown self.now.media (string_bytes text) count }
         ensures read { IfOk result (λ mime. Reads (string_bytes text) mime.media) }
+        ensures short { length (string_bytes text) ≤ SHORT → IsOk result }
     {
         let positions = Positions {
             slash: self.places.slash,

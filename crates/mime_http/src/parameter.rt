@@ -93,12 +93,14 @@ fn text_with(
         ≡ mime.now.media.essence ++ (text_of_pairs (others name.now mime.now.media.pairs) ++ text_in form name.now value.now)) }
     ensures count { IfOk result (λ written. written.1 ≡ length (others name.now mime.now.media.pairs)) }
 {
+    // What is added besides the name: the value, and its marks.
     let content = match form {
-        Form::Token | Form::Quoted => value.len(),
-        Form::Escaped => value.len().saturating_mul(2),
+        Form::Token => value.len().saturating_add(3),
+        Form::Quoted => value.len().saturating_add(5),
+        Form::Escaped => value.len().saturating_mul(2).saturating_add(5),
     };
-    // The kept text has the parameters that stay; the rest is the new one with its marks, of which there are five at most.
-    let added = name.len().saturating_add(content).saturating_add(5);
+    // The kept text has the parameters that stay; if they are written there as here, that is all the room that is needed.
+    let added = name.len().saturating_add(content);
     let room = mime.as_str().len().saturating_add(added);
     let mut text = String::with_capacity(alloc, room)?;
     text.push_str(mime.essence_str())?;

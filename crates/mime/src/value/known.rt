@@ -1,6 +1,6 @@
 //! Texts that are known to be media types.
 
-ghost use Rattle.std.specs.Prelude.{IfOk};
+ghost use Rattle.std.specs.Prelude.{◌≤◌, IfOk, IsOk, length};
 ghost use Rattle.mime.specs.Values.{Reads};
 
 use crate::value::Mime;
@@ -40,10 +40,13 @@ impl<'a> KnownText<'a> {
     /// allocates once.
     ///
     /// # Errors
-    /// `AllocError` if memory runs out.
+    /// `AllocError` if memory runs out, which is only for a text of more than 40 bytes.
     #[inline(always)]
     pub fn into_mime(self, alloc: Global) -> Result<Mime, AllocError>
+        // The result is the value of the text,
         ensures read { IfOk result (λ mime. Reads self.entry mime.media) }
+        // and only a long text needs memory.
+        ensures short { length self.entry ≤ 40 → IsOk result }
     {
         let KnownText { like, text, count } = self;
         like.with_known_parameters(alloc, text, count)

@@ -122,8 +122,8 @@ impl Hash for Mime {
     }
 }
 
-/// Returns a copy with the same kept text. It allocates once if reading the value did, and its error says that memory
-/// ran out. Cloning a constant, `*/*` or a value that was read from at most 40 bytes doesn't allocate.
+/// Returns a copy with the same kept text. It allocates once at most, and its error says that memory ran out. Cloning a
+/// constant, `*/*`, or a value that was read from at most 40 bytes or made of so few, doesn't allocate.
 impl Clone for Mime {
     ghost is_clone = { λ mime copy. copy ≡ mime };
 

@@ -18,12 +18,12 @@ of_kept-requires c =
     let known = c.requires.known in
     kept_with (string_bytes c.args.text) _ _ _ _ _ (record c.args.self.now.media { pairs = known.pairs; kept = string_bytes c.args.text }) known.reads refl
     known.some known.counted (ap (λ (owned : OwnedMedia). owned.media.slash) c.self.view_is)
-    (c.plus.ensures ∙ ap (λ (owned : OwnedMedia). owned.media.plus) c.self.view_is) c.essence_str.ensures c.in_ok-of.ensures
+    (c.plus.ensures ∙ ap (λ (owned : OwnedMedia). owned.media.plus) c.self.view_is) c.essence_str.ensures c.in_ok-of.ensures.text
 
-pub returns : goal.returns
-returns c =
+pub returns-clause-read : goal.returns-clause-read
+returns-clause-read c =
     let known = c.requires.known in
     let kept = kept_with (string_bytes c.args.text) (string_bytes c.args.text) _ _ _ _ (record c.args.self.now.media { pairs = known.pairs; kept = string_bytes c.args.text })
     known.reads refl known.some known.counted (ap (λ (owned : OwnedMedia). owned.media.slash) c.self.view_is)
     (c.plus.ensures ∙ ap (λ (owned : OwnedMedia). owned.media.plus) c.self.view_is) c.essence_str.ensures refl in
-    record { read = rw (c.of_kept.ensures.media, c.in_ok-of.ensures) (reads-from_kept _ _ kept) }
+    rw (c.of_kept.ensures.media, c.in_ok-of.ensures.text) (reads-from_kept _ _ kept)
