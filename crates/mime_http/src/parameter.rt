@@ -11,7 +11,7 @@ ghost use Rattle.mime_http.specs.declared.quoted.Form.TheVariants.{Token, Quoted
 
 use crate::multipart::is_boundary;
 use crate::quoted::{Form, form_of, push_escaped};
-use crate::range::param_count;
+use crate::range::{after_essence, param_count};
 use mime::laws::{kept_is_safe, one_reading};
 use mime::{KnownText, Mime, is_token, name_eq_str};
 use std::alloc::{AllocError, Global};
@@ -99,12 +99,17 @@ fn text_with(
         Form::Quoted => value.len().saturating_add(5),
         Form::Escaped => value.len().saturating_mul(2).saturating_add(5),
     };
-    // The kept text has the parameters that stay; if they are written there as here, that is all the room that is needed.
-    let added = name.len().saturating_add(content);
+    let most = param_count(mime);
+    // If the parameters are kept without the spaces that are written before them, so many are missing.
+    let spaces = match after_essence(mime) {
+        [_, b' ', ..] => 0,
+        _ => most,
+    };
+    // The kept text has the parameters that stay: for most texts that is all the room that is needed.
+    let added = name.len().saturating_add(content).saturating_add(spaces);
     let room = mime.as_str().len().saturating_add(added);
     let mut text = String::with_capacity(alloc, room)?;
     text.push_str(mime.essence_str())?;
-    let _most = param_count(mime);
     let mut count = 0;
     for (other, kept) in mime.params() {
         if name_eq_str(&other, name) {
@@ -162,7 +167,7 @@ fn mime_with(
 /// [`unescape`](crate::unescape) of the parameter's value gives it back, that of a `charset` in lowercase. The others are printed so
 /// too, with the backslashes that they have: `a/b;p="x"` with the parameter `q` and the value `1` is `a/b; p=x; q=1`.
 ///
-/// It allocates the text, and once more at most for what is kept of it, if that has more than 40 bytes.
+/// It allocates the text, which may grow, and once more at most for what is kept of it, if that has more than 40 bytes.
 ///
 /// # Errors
 /// `AllocError` if memory runs out.

@@ -129,7 +129,7 @@ fn demanded_among(range: &Mime, offer: &Mime) -> Option<(usize, u16)>
 
 /// What follows the essence in a media type's kept text: the parameters, with the semicolon before them.
 #[inline(always)]
-fn after_essence(mime: &Mime) -> &[u8]
+pub(crate) fn after_essence(mime: &Mime) -> &[u8]
     ensures after { result.now ≡ drop (length mime.now.media.essence) mime.now.media.kept }
     ensures reads { Reads mime.now.media.kept mime.now.media }
 {
