@@ -25,7 +25,8 @@ found_of_error (Invalid fault) = found_of_fault fault
 found_of_error other = nothing
 
 -- `mime_content_type` of a value, with the caller's buffer: the answer, what the buffer holds then, and what is found. What HTTP writes
--- there is written as `mime_read` writes it, and printed without the white space and the empty parameters that HTTP allows
+-- there is written as `mime_read` writes it, and printed as tightened: of the white space and empty parameters that HTTP allows those
+-- stay that `mime_read` takes, too
 pub data HeaderReadsTo (value old : List ℕ) : ℕ → List ℕ → MimeFound → Type 0 where
   is_value : (media : MediaType) → 2 * length value + 2 ≤ length old → IsUtf8 value → HttpReads value media → Reads (tight value) media
       → ComeBack (texts_of media)

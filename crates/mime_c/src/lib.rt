@@ -285,8 +285,8 @@ fn put_item(out: &mut [u8], at: usize, mark: u8, text: &str) -> usize
     put(out, next, text)
 }
 
-/// Takes the media types out of `text`, such as an Accept header (RFC 7231, 5.3.2). It writes a string for each, and for
-/// each bad piece, to `out`, of at least `2 * text.len()` bytes, and returns `MIME_OK`, or why it wrote no list: mime.h.
+/// Takes the media types out of `text`, as `MimeIter` does; `mime_accept` reads an Accept header. It writes a string for each, and
+/// for each bad piece, to `out`, of at least `2 * text.len()` bytes, and returns `MIME_OK`, or why it wrote no list: mime.h.
 #[unsafe(no_mangle)]
 #[tactic(auto, using(crate::specs::Answers::has_no_room, crate::specs::Answers::is_not_text))]
 pub extern "C" fn mime_list(alloc: Global, text: &[u8], out: &mut [u8], length: &mut usize) -> u32
