@@ -101,8 +101,8 @@ fn read_next_piece<'a>(text: &'a str, from: u128) -> ReadPiece<'a>
     }
 }
 
-/// An iterator over the media types of a string, as those of an `Accept` header (RFC 7231, 5.3.2): the good
-/// entries of a list, and the pieces of it that aren't media types.
+/// An iterator over the media types of a string, and over the pieces of it that aren't media types. It isn't for
+/// an `Accept` header, which `mime_http::Accept` reads as HTTP does.
 ///
 /// The string is cut into the longest pieces that some media type begins with. Each ends before a
 /// character that can't follow it, such as the comma of a list; that character is skipped. A piece
@@ -110,8 +110,8 @@ fn read_next_piece<'a>(text: &'a str, from: u128) -> ReadPiece<'a>
 /// unfinished. So a bad entry doesn't change the entries after its comma, unless it ends in an open quoted value. The
 /// scanner reads no byte twice.
 ///
-/// Yielding a media type of more than 40 bytes allocates once, for its kept text. Yielding a shorter one doesn't allocate,
-/// and neither does cloning it.
+/// A media type whose piece has more than 40 bytes, white space counted, allocates once, for its kept text, and so does its
+/// `clone`. Another doesn't allocate.
 ///
 /// Over `text/html, invalid, a/b; q=1` it yields `text/html`, the bad piece `invalid`, and
 /// `a/b; q=1`. Over `a/b ; q=1` it yields `a/b` and the bad piece `q`, since no space may precede the
@@ -137,7 +137,7 @@ impl<'a> Model for MimeIter<'a> {
 }
 
 impl<'a> MimeIter<'a> {
-    /// Creates an iterator over the media types of `s`, such as `text/html, */*;q=0.8`. Nothing is read yet, and it
+    /// Creates an iterator over the media types of `s`, such as `text/html, image/png`. Nothing is read yet, and it
     /// doesn't allocate.
     pub fn new(alloc: Global, s: &'a str) -> MimeIter<'a>
         ensures text { result.text ≡ s.now }

@@ -1,9 +1,12 @@
 //! Media types such as `text/plain; charset=utf-8` (RFC 7231, 3.1.1.1): read, stored, compared and printed.
 //! It is a port of the Rust crate `mime`, series 0.3; what it promises are contracts that a prover checks.
 //!
-//! [`Mime::from_str`] reads a media type from a string, [`MimeIter`] takes them one by one out of a list, such
-//! as an `Accept` header, and [`mime_eq_str`] compares one with a string. The 38 constants such as [`CHARSET`]
-//! are names, the 32 such as [`TEXT_PLAIN_UTF_8`] are media types. [`laws`] says what holds of all of them.
+//! [`Mime::from_str`] reads a media type from a string, [`MimeIter`] takes them one by one out of a string, and
+//! [`mime_eq_str`] compares one with a string. The 38 constants such as [`CHARSET`] are names, the 32 such as
+//! [`TEXT_PLAIN_UTF_8`] are media types. [`laws`] says what holds of all of them.
+//!
+//! The headers of HTTP are for the crate `mime_http`, whose `content_type` reads a `Content-Type` and whose
+//! `Accept` reads an `Accept`: HTTP allows white space and empty parameters that this crate rejects.
 //!
 //! # Example
 //! Is a body in UTF-8? It is for the media type read from `TEXT/HTML; Charset="UTF-8"`.
@@ -26,10 +29,10 @@
 //! isn't yielded.
 //!
 //! # Memory
-//! `Mime::from_str`, `MimeIter::new` and `KnownText::into_mime` take the allocator. Reading or making a media type of more
-//! than 40 bytes, `clone` of one, and each of that length that a `MimeIter` yields allocate once at most, and return an
-//! error if memory runs out. Nothing else allocates: not rejecting a string, nor a shorter media type, which lies in the
-//! `Mime` itself, nor a constant.
+//! `Mime::from_str`, `MimeIter::new` and `KnownText::into_mime` take the allocator. A media type that is read or made from
+//! more than 40 bytes, white space counted, allocates once at most, and so does each `clone` of it; if memory runs out, an
+//! error is returned. Nothing else allocates: neither rejecting a string, nor a media type from at most 40 bytes, which
+//! lies in the `Mime` itself, nor a constant, nor `*/*`.
 //!
 //! # Standards
 //! The grammar is that of RFC 7231 and RFC 7230, with the departures that docs/DIFFERENCES.md lists. RFC 9110
@@ -37,8 +40,8 @@
 //! the last one alone: `a/b;` is read, `a/b;;p=x` isn't.
 //!
 //! # Left out
-//! What a media type means: ranges, weights, choosing by `Accept`, escapes in quoted values, extensions of
-//! files. docs/DIFFERENCES.md lists what differs from the Rust crate and from RFC 7231, crates/mime/CALLING.md
+//! What a media type means: ranges, weights, choosing by `Accept` and quoted pairs, which `mime_http` has, and the
+//! endings of files. docs/DIFFERENCES.md lists what differs from the Rust crate and from RFC 7231, crates/mime/CALLING.md
 //! every contract, docs/RECIPES.md what callers do.
 //!
 //! This is version 1.0.0; README.md says what may change within 1.

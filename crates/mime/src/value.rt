@@ -31,7 +31,7 @@ use std::alloc::{AllocError, Global};
 use std::marker::Model;
 
 /// The kept text of a media type: static for `*/*` and the constants, in the value itself if it was made from a short
-/// string, else allocated. `Short` is last: it is told first from the others, which are laid out alike.
+/// string, else allocated. `Short` stands last, so that one comparison tells it from the two that hold a pointer and a length.
 #[derive(Drop)]
 enum Text {
     Fixed(&'static str),

@@ -48,7 +48,7 @@ abbrev pub brought_back : Place → ℕ → List ℕ
 brought_back Spaced b = if b == semicolon_byte then [] else space_byte ∷ []
 brought_back place b = []
 
--- what a byte adds to an entry
+-- what a byte adds to the tightened value
 abbrev pub added : Place → ℕ → List ℕ
 added place b = if is_left_out place b then [] else brought_back place b ++ (b ∷ [])
 

@@ -1,4 +1,4 @@
--- Private: the places of a line at which its cut knows what comes, the cut as a function, and what is added to a header.
+-- Private: the places of a line, its cut as a function over them, and what is added to a header.
 use Rattle.std.specs.Prelude.{◌≡◌, ◌<◌, ◌≤◌, ◌||◌, ℕ, Bool, false, List, [], ◌∷◌, ◌++◌, slice_index, if◌then◌else◌, ◌==◌}
 use Rattle.mime.specs.Bytes.{comma_byte, equals_byte, quote_byte, backslash_byte}
 use Rattle.mime.specs.Values.{MediaType}
@@ -48,7 +48,7 @@ cut_after (b ∷ bytes) = cut bytes
 abbrev pub is_mark : ℕ → ℕ → ℕ → Bool
 is_mark one other b = b == one || b == other
 
--- no byte from a position to another is one
+-- no byte from `from` up to `to` is a mark
 abbrev pub AreUnmarked : ℕ → ℕ → List ℕ → ℕ → ℕ → Type 0
 AreUnmarked one other bytes from to = (k : ℕ) → from ≤ k → k < to → is_mark one other (slice_index bytes k) ≡ false
 

@@ -107,8 +107,8 @@ impl Accept {
     /// quoted value that is open ends with its line. A request without the header, which has no line, accepts everything; lines without a
     /// range accept nothing.
     ///
-    /// It allocates once for each range of more than 40 bytes and for each bad entry, once more for one that is copied without white space
-    /// or empty parameters first, as by [`content_type`](crate::content_type), and for the two lists that hold them.
+    /// It allocates the two lists, each bad entry, each range that is read from more than 40 bytes, and for a while a copy of each entry
+    /// of which [`content_type`](crate::content_type) makes one.
     ///
     /// # Errors
     /// `AllocError` if memory runs out, which is never for lines that hold nothing but commas and white space.

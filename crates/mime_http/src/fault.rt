@@ -126,7 +126,8 @@ pub(crate) fn fault_in(alloc: Global, value: &[u8], text: &str, fault: ParseErro
     }
 }
 
-/// The fault of a value that goes on at the position `next` after white space at the position `end`, where the library finds this fault.
+/// The fault of a value with white space from `end` to `next` and more after it: the byte at `next` if a media type precedes the white
+/// space, else this fault of the library's.
 pub(crate) fn fault_at_white(
     alloc: Global,
     value: &[u8],

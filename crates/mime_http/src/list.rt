@@ -85,7 +85,7 @@ fn next_outside(line: &[u8], from: usize) -> usize
     next_mark(line, from, b',', b'=')
 }
 
-/// The position after the quote that closes the string which a position is in, or the length.
+/// The position after the closing quote of the string that `from` is in, or the length.
 #[inline(always)]
 fn string_end(line: &[u8], from: usize) -> usize
     requires { from ≤ length line.now }

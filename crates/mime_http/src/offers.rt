@@ -70,8 +70,8 @@ impl Closest {
         }
     }
 
-    /// Looks at the range at this position, which is the closest from here on if it is as close. A range that names fewer parts isn't,
-    /// whatever it demands and weighs.
+    /// Keeps the range at this position if none so far is closer. One that names fewer parts than that can't be it, so nothing else of it
+    /// is looked at.
     #[inline(always)]
     fn look_at(&mut self, range: &Mime, offer: Offer<'_>, at: usize)
         ensures { self.new ≡ ord_max (option_cmp rank_cmp) self.old (closeness offer.entry.mime.now.media (at, range.now.media)) }

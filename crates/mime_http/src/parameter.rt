@@ -100,7 +100,7 @@ fn text_with(
         Form::Escaped => value.len().saturating_mul(2).saturating_add(5),
     };
     let most = param_count(mime);
-    // If the parameters are kept without the spaces that are written before them, so many are missing.
+    // Each parameter is written after `; `. If the kept text has `;` alone, each may need a byte more.
     let spaces = match after_essence(mime) {
         [_, b' ', ..] => 0,
         _ => most,
@@ -135,11 +135,13 @@ fn mime_with(
     requires fits { form ≡ form_of value.now }
     ensures { IfOk result (λ made. made.media ≡ with_pair mime.now.media (lowered name.now) (lowered_value name.now (escaped value.now))) }
 {
+    // For the proof: what the kept text holds may stand in a header.
     let _kept = mime.as_str();
     kept_is_safe();
     one_reading();
     let (text, others) = text_with(alloc, mime, name, value, form)?;
     if is_kept_as_written(name, value) {
+        // For the proof: the others are counted in the text, so one more is no overflow.
         let _more = text.len();
         let count = others + 1;
         let known = KnownText {

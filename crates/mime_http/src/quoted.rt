@@ -83,7 +83,7 @@ static KINDS: [u8; 256] = [
     Q, Q, Q, Q, Q, Q, Q, Q, Q, Q, Q, Q, Q, Q, Q, Q, Q, Q, Q, Q, Q, Q, Q, Q, Q, Q, Q, Q, Q, Q, Q, Q,
 ];
 
-/// How many bytes are looked at before it is seen whether one may stand in no quoted string.
+/// The size of a block. The search for a byte that may stand in no quoted string stops between blocks alone.
 const BLOCK: usize = 64;
 
 /// The kind of a byte.

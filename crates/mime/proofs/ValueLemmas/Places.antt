@@ -1,5 +1,5 @@
 -- A word says where the plus is, since that is never at position 0, and one where the essence ends, since a kept text has a semicolon
--- exactly if it has a pair.
+-- exactly if it has a pair. And a text that is read as a value with a parameter has its parts where that value has them.
 use Rattle.std.proofs.Common.{◌≡◌, ℕ, zero, suc, ◌+◌, ◌≤◌, List, [], ◌∷◌, length, drop, Option, Some, None, refl, ap, sym, ◌∙◌, subst, arith}
 use Rattle.std.specs.Prelude.{◌≢◌, IfSome, if◌then◌else◌, ◌==◌, unwrap_or}
 use Rattle.std.specs.Option.{option_or}

@@ -2,7 +2,7 @@
 use Rattle.std.specs.Prelude.{◌≡◌, ◌≢◌, ℕ, List, length}
 use Rattle.mime.specs.Values.{MediaType, Reads}
 
--- the text is read as a value with the essence of another and this number of parameters, and is its kept text
+-- the text is its own kept text, with the essence of `like` and `count` parameters, which is 1 or more
 pub record IsKnown (like : MediaType) (text : List ℕ) (count : ℕ) : Type 0 where
   pub pairs : List (List ℕ × List ℕ)
   pub counted : length pairs ≡ count

@@ -95,8 +95,8 @@ impl<'a> ByteReader<'a> {
         }
     }
 
-    /// Skips token bytes other than the plus, if the next byte is known: perhaps not all that follow. A later run is
-    /// read byte by byte: after so many bytes there may be many short ones.
+    /// Skips token bytes other than the plus: up to the next stop that is known, or past the known bytes by blocks. It skips
+    /// none if the next byte isn't known, since the runs there are mostly short.
     #[inline(always)]
     pub(crate) fn skip_token_bytes(&mut self)
         ensures { Passing is_token_except_plus self.old self.new }

@@ -166,8 +166,8 @@ fn outside_in_window(text: &[u8], class: &Class) -> u64
     joined(first, last, BLOCK + BLOCK, text.len())
 }
 
-/// The start of a string: how many bytes it has, and which of them are outside a class. That is the whole string, up to
-/// a window, or nothing if it is shorter than half a block.
+/// How many bytes at the start of a string are looked at, and which of them are outside a class: all of 8 to 64 bytes, the
+/// first 64 of more, none of fewer.
 #[inline(always)]
 pub(crate) fn outside_at_start(text: &[u8], class: &Class) -> (usize, u64)
     ensures few { result.0 ≤ WINDOW }

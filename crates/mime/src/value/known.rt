@@ -9,7 +9,8 @@ use std::marker::Model;
 
 /// A text that is known to be the kept text of a media type: an essence, which another media type has too, and parameters
 /// after it (RFC 7231, 3.1.1.1). Code that makes one has to be proved to make nothing else, so the text isn't read again.
-/// It is for crates that write media types, as `mime_http` does.
+/// It is for the crates of this repository, as `mime_http`: what its maker proves is `IsKnown`, on a private page, and may
+/// change within 1.x.
 ///
 /// `text/html; charset=utf-8` with 1 parameter is one, if `like` was read from `Text/HTML`. `text/html; charset=UTF-8`
 /// isn't, since the value of a charset is kept in lowercase.

@@ -31,8 +31,8 @@ pub(crate) struct Pair<'a> {
     pub(crate) rest: Suffix<'a>,
 }
 
-/// The position after one or more pairs in a row, a backslash and a byte each, the first of which is at a position. A
-/// backslash that ends the text is a pair, too.
+/// Skips the quoted-pairs in a row, a backslash and a byte each, of which the first is at this position. A backslash that
+/// ends the text counts as one.
 #[inline(always)]
 fn after_pairs(text: &[u8], from: usize) -> usize
     requires within { from < length text.now }
