@@ -41,7 +41,8 @@ fn weight_in(value: Option<&str>) -> u16
     }
 }
 
-/// The weight of a range in thousandths, or 1000 if it has none (RFC 9110, 12.4.2). Of two the first counts.
+/// The weight of a range in thousandths, or 1000 if it has none (RFC 9110, 12.4.2). The first `q` counts, quoted or not: the weight is the
+/// number that its text begins with, and at most 1. `.2` is 200, `2` is 1000, `high` and `\1` are 0.
 pub fn weight_of(range: &Mime) -> u16
     ensures { result ≡ weight_of range.now.media }
 {
@@ -155,7 +156,8 @@ pub(crate) fn demanded(range: &Mime, offer: &Mime) -> Option<(usize, u16)>
 }
 
 /// Whether a range covers an offer: `text/*` covers `text/html`, and `text/html;level=1` covers `text/html;level=1` and not all HTML
-/// (RFC 9110, 12.5.1). A range's weight `q` doesn't matter.
+/// (RFC 9110, 12.5.1). The offer must have each parameter of the range, also those after its weight `q`, which itself doesn't matter.
+/// Case counts in the values, but for those of a charset.
 pub fn covers(range: &Mime, offer: &Mime) -> bool
     ensures { result ≡ is_some (closeness offer.now.media (0, range.now.media)) }
 {
