@@ -103,9 +103,9 @@ impl Accept {
         }
     }
 
-    /// Reads a header's lines, which are one list (RFC 9110, 5.3 and 12.5.1). Each line is cut at its commas outside quoted values; a
-    /// quoted value that is open ends with its line. No line at all is a request without the header, which accepts everything; lines
-    /// without a range, such as an empty one or `invalid`, accept nothing.
+    /// Reads a header's lines, which are one list; no line at all, `&[]`, is a request without the header, which accepts everything
+    /// (RFC 9110, 5.3 and 12.5.1). Lines without a range, such as an empty one or `invalid`, accept nothing. Each line is cut at its
+    /// commas outside quoted values; a quoted value that is open ends with its line.
     ///
     /// It allocates the two lists, each bad entry, each range that is read from more than 40 bytes, and for a while a copy of each entry
     /// of which [`content_type`](crate::content_type) makes one.
