@@ -19,4 +19,5 @@ pub mod negotiate;
 pub mod parts;
 pub mod plain;
 pub mod reader;
+pub mod server;
 pub mod utf8;
