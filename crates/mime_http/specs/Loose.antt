@@ -29,8 +29,8 @@ pub record Stands (value : List ℕ) (fault : ParseError) : Type 0 where
   pub rejected : ¬ (IsHttpMediaType value)
   pub is : IsHttpFault value fault
 
--- white space stands from `end` to `next`. If the value ends there, tightening leaves the bytes before `end`. If not, HTTP rejects it: at
--- `next` if those bytes are accepted. If they aren't, it has the library's fault in both cases
+-- the bytes before a position come out alone, if the value ends at the next one; if it goes on there, it is rejected, at that next
+-- position if those bytes are accepted. In both cases it is at fault as the library says if they aren't
 pub record Begins (value : List ℕ) (fault : ParseError) (end next : ℕ) : Type 0 where
   pub within : end ≤ length value
   pub utf8 : IsUtf8 value → IsUtf8 (take end value)

@@ -126,8 +126,7 @@ pub(crate) fn fault_in(alloc: Global, value: &[u8], text: &str, fault: ParseErro
     }
 }
 
-/// The fault of a value with white space from `end` to `next` and more after it: the byte at `next` if a media type precedes the white
-/// space, else this fault of the library's.
+/// The fault of a value that goes on at the position `next` after white space at the position `end`, where the library finds this fault.
 pub(crate) fn fault_at_white(
     alloc: Global,
     value: &[u8],

@@ -49,8 +49,8 @@ pub(crate) struct Loose {
 pub(crate) enum Left {
     /// Nothing that HTTP allows: the fault stands.
     Fault,
-    /// White space, where the fault is, from `end` to `next`, and then the value's end or a byte other than a semicolon. Only the bytes
-    /// before `end` can be a media type.
+    /// What is before the white space at the position `end`, where the fault is. At the position `next` the value ends, or has a byte
+    /// that no media type has after white space.
     Begin { end: usize, next: usize },
     /// What comes out if it goes on so.
     Loose(Loose),

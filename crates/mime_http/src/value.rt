@@ -104,7 +104,7 @@ fn read_left(alloc: Global, left: &[u8]) -> Result<Option<Mime>, AllocError>
     }
 }
 
-/// Reads, as HTTP has it, a value that `from_str` rejected for this fault; `None` if HTTP rejects it, too.
+/// The media type of a value that the library rejects as it stands, for this fault, or `None` if HTTP doesn't allow it either.
 #[inline(never)]
 pub(crate) fn read_tight(
     alloc: Global,
@@ -147,7 +147,7 @@ fn read_tightened(alloc: Global, value: &[u8], left: &[u8]) -> Result<Mime, Fiel
     }
 }
 
-/// Reads the bytes of a value before the white space that stands from `end` to `next`, if the value ends there; else says its fault.
+/// The media type of a value of which the bytes before white space are left, if the value ends with the white space.
 fn read_begin(
     alloc: Global,
     value: &[u8],
@@ -202,11 +202,9 @@ fn read_rejected(alloc: Global, value: &[u8], fault: ParseError) -> Result<Mime,
 ///
 /// A value that [`Mime::from_str`] accepts is read as it stands, with one allocation, or none for at most 40 bytes, and so is one
 /// with white space after it. Another is copied first, without that white space and those parameters, with one allocation more:
-/// ` text/html ;; charset=utf-8` is kept as `text/html; charset=utf-8`. The values of parameters keep their backslashes.
-///
-/// Rejecting a value allocates at most twice, and frees it. It copies the value if the byte that `from_str` finds at fault is white space
-/// that begins the value or precedes a semicolon, or a semicolon after another, even if HTTP allows none there, as in `a ;`. And it
-/// reads what stands before white space and another byte, which allocates if that is a media type of more than 40 bytes.
+/// ` text/html ;; charset=utf-8` is kept as `text/html; charset=utf-8`. The values of parameters keep their backslashes. Rejecting
+/// a value allocates nothing, but once if something is left out before its fault, and once more if a media type of more than 40
+/// bytes and white space stand before its fault, as in `a/b c`; all is freed.
 ///
 /// # Errors
 /// `NotUtf8` for a value that isn't valid UTF-8, before anything is allocated; `Invalid` with the fault of a value that
