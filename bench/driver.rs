@@ -5,7 +5,7 @@
 //! operation returns here, and there. After a zero byte, standard input has the strings that an operation on two takes, one a line.
 //! Without words it is the program `mime_lines` over the Rust crate, written the same way.
 
-use mime::{Mime, Name, APPLICATION_JSON, BOUNDARY, CHARSET, IMAGE_SVG, STAR, TEXT_HTML, TEXT_PLAIN_UTF_8};
+use mime::{Mime, Name, BOUNDARY, CHARSET, MULTIPART, STAR};
 use std::cmp::Reverse;
 use std::fmt::Write as _;
 use std::hash::{DefaultHasher, Hash, Hasher};
@@ -20,6 +20,8 @@ struct Slice(*const u8, usize);
 extern "C" {
     fn mime_bench(operation: usize, texts: Slice, others: Slice, rounds: usize) -> usize;
     // The calls of include/mime.h.
+    fn mime_content_type(value: Slice, out: Slice, found: *mut [usize; 7]) -> u32;
+    fn mime_best(accept: Slice, offers: Slice, best: *mut usize) -> u32;
     fn mime_read(text: Slice, out: Slice, found: *mut [usize; 7]) -> u32;
     fn mime_list(text: Slice, out: Slice, length: *mut usize) -> u32;
     fn mime_equal(one: Slice, other: Slice, equal: *mut u8) -> u32;
@@ -55,7 +57,7 @@ const OPERATIONS: &[(&str, Operation)] = &[
         let length = |name: Name| name.as_str().len();
         sum(&it.values, rounds, |mime| length(mime.type_()) + length(mime.subtype()) + mime.suffix().map_or(0, length))
     }),
-    ("essence", |it, rounds| sum(&it.values, rounds, |mime| mime.essence_str().len())),
+    ("essence", |it, rounds| sum(&it.values, rounds, which_essence)),
     ("eq", |it, rounds| sum_of_two(&it.values, &it.against, rounds, |mime, other| (mime == other) as usize)),
     ("eq_str", |it, rounds| sum_of_two(&it.values, &it.others, rounds, |mime, text| (mime == text) as usize)),
     ("cmp", |it, rounds| sum_of_two(&it.values, &it.against, rounds, |mime, other| mime.cmp(other).is_lt() as usize)),
@@ -75,33 +77,50 @@ const OPERATIONS: &[(&str, Operation)] = &[
             printed.len()
         })
     }),
-    ("atom", |_, rounds| {
-        let constants = [TEXT_HTML, APPLICATION_JSON, TEXT_PLAIN_UTF_8, IMAGE_SVG];
-        sum(&constants, rounds, |constant| black_box(&black_box(constant).clone()).as_ref().len())
-    }),
     // The release has no iterator, so this is what its user writes.
     ("items", list_all),
     // The Rust crate doesn't read header values as HTTP writes them: beside it stands reading a string, here.
     ("field", |it, rounds| unsafe { mime_bench(0, slice(it.text), slice(""), rounds) }),
+    ("serve", |it, rounds| {
+        sum(&it.texts, rounds, |text| {
+            read(text).map_or(0, |mime| which_essence(&mime) + length_found(&mime, CHARSET) + boundary_len(&mime))
+        })
+    }),
+    ("boundary", |it, rounds| sum(&it.values, rounds, boundary_len)),
+    // The Rust crate writes no parameters, so this is what its user writes.
+    ("write_parameter", |it, rounds| {
+        sum(&it.texts, rounds, |value| {
+            let escaped = value.replace('\\', "\\\\").replace('"', "\\\"");
+            read(&format!("{}; p=\"{escaped}\"", it.against[0])).map_or(0, |mime| mime.as_ref().len())
+        })
+    }),
     ("negotiate", |it, rounds| sum(&it.texts, rounds, |text| best(text, &it.against).map_or(0, |at| at + 1))),
+    ("cover", |it, rounds| sum_of_two(&it.values, &it.against, rounds, |range, offer| covers(range, offer) as usize)),
 ];
 
 /// The calls from C, each with what it is compared with.
 const CALLS: &[(&str, Operation, Operation)] = &[
-    // What is found is first the length, and third where the printed text begins, or 0 if the string is rejected.
-    ("call_read", read_all, |it, rounds| {
-        let mut out = room(it);
-        sum(&it.texts, rounds, |text| {
-            let mut found = [0; 7];
-            unsafe { mime_read(slice(text), Slice(out.as_mut_ptr(), out.len()), &mut found) };
-            (found[0] - found[2]).saturating_sub(1)
-        })
-    }),
+    ("call_read", read_all, |it, rounds| call_read(it, rounds, mime_read)),
+    ("call_field", read_all, |it, rounds| call_read(it, rounds, mime_content_type)),
+    (
+        "call_best",
+        |it, rounds| {
+            let offers = it.others[0];
+            sum(&it.texts, rounds, |text| best(text, &entries(offers).collect::<Vec<_>>()).unwrap_or(0))
+        },
+        |it, rounds| {
+            let mut at = 0;
+            sum(&it.texts, rounds, |text| {
+                unsafe { mime_best(slice(text), slice(it.others[0]), &mut at) };
+                at
+            })
+        },
+    ),
     ("call_items", list_all, |it, rounds| {
         let (mut out, mut length) = (room(it), 0);
         sum(&it.texts, rounds, |text| {
             unsafe { mime_list(slice(text), Slice(out.as_mut_ptr(), out.len()), &mut length) };
-            out[..length].split(|byte| *byte == 0).filter(|item| item.first() == Some(&b'+')).map(|item| item.len() - 1).sum()
+            length
         })
     }),
     (
@@ -119,6 +138,16 @@ const CALLS: &[(&str, Operation, Operation)] = &[
 
 fn read_all(it: &Given, rounds: usize) -> usize {
     sum(&it.texts, rounds, |text| read(text).map_or(0, |mime| mime.as_ref().len()))
+}
+
+/// Reads by a call from C. What it finds is first the length, and third where the printed text begins, or 0 if the string is rejected.
+fn call_read(it: &Given, rounds: usize, call: unsafe extern "C" fn(Slice, Slice, *mut [usize; 7]) -> u32) -> usize {
+    let mut out = room(it);
+    sum(&it.texts, rounds, |text| {
+        let mut found = [0; 7];
+        unsafe { call(slice(text), Slice(out.as_mut_ptr(), out.len()), &mut found) };
+        (found[0] - found[2]).saturating_sub(1)
+    })
 }
 
 fn list_all(it: &Given, rounds: usize) -> usize {
@@ -148,6 +177,26 @@ fn read(text: &str) -> Option<Mime> {
 #[inline(always)]
 fn length_found<'a>(mime: &'a Mime, name: impl PartialEq<Name<'a>>) -> usize {
     mime.get_param(name).map_or(0, |value| value.as_str().len())
+}
+
+/// Which of two strings the essence is: 1 or 2, or 0 if it is neither.
+#[inline(always)]
+fn which_essence(mime: &Mime) -> usize {
+    match mime.essence_str() {
+        "text/html" => 1,
+        "application/json" => 2,
+        _ => 0,
+    }
+}
+
+/// The length of the boundary of a multipart body, or 0 if there is none.
+#[inline(always)]
+fn boundary_len(mime: &Mime) -> usize {
+    if mime.type_() == MULTIPART {
+        length_found(mime, BOUNDARY)
+    } else {
+        0
+    }
 }
 
 #[inline(always)]

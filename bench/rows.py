@@ -4,9 +4,9 @@ import os
 import random
 from collections import namedtuple
 
-# What a row is called; its operation, of driver.rs; its lines, and those beside them; the most that the ratio to the other side may be, and
-# the most instructions; whether the two sides return different sums; and the same text, only shorter, if costs are a byte.
-Row = namedtuple("Row", "label operation text other ratio most differs short", defaults=["", None, None, False, ""])
+# What a row is called; its operation, of driver.rs; its lines, and those beside them; the most instructions that it may take; whether the
+# two sides return different sums; and the same text, only shorter, if costs are a byte.
+Row = namedtuple("Row", "label operation text other most differs short", defaults=["", None, False, ""])
 
 
 def shuffled(name):
@@ -17,34 +17,50 @@ def shuffled(name):
     return lines
 
 
-TYPES, ACCEPTS = shuffled("content_types"), shuffled("accept_headers")
-TEXT, OFFERS = "\n".join(TYPES), "text/html; charset=utf-8\napplication/json\nimage/webp\ntext/plain"
-# Every second is compared with itself, and each other one with the next.
-BESIDE = "\n".join(TYPES[at | 1] for at in range(len(TYPES)))
+TYPES, LONGER, ACCEPTS = map(shuffled, ("content_types", "longer_content_types", "accept_headers"))
+TEXT, HEADERS = "\n".join(TYPES), "\n".join(ACCEPTS)
+# Every second is compared with itself, and each other one with the next; or each with the next.
+BESIDE, NEXT = "\n".join(TYPES[at | 1] for at in range(len(TYPES))), "\n".join(TYPES[1:] + TYPES[:1])
+OFFERS = ("text/html; charset=utf-8", "application/json", "image/webp", "text/plain")
 
 
 def values():
-    yield Row("read", "read", TEXT)
-    yield Row("read, then look up \"charset\"", "read_and_look_up", TEXT, ratio=0.75)
-    yield Row("look up \"charset\"", "look_up_charset_str", TEXT, ratio=1.0)
-    yield Row("look up \"level\", which none has", "look_up_missing", TEXT, ratio=1.0)
-    yield Row("look up CHARSET", "look_up_charset", TEXT, ratio=2.0)
-    yield Row("look up BOUNDARY", "look_up_boundary", TEXT)
-    yield Row("walk the parameters", "walk", TEXT)
+    yield Row("read", "read", TEXT, most=450)
+    yield Row("read, then look up \"charset\"", "read_and_look_up", TEXT, most=485)
+    yield Row("look up \"charset\"", "look_up_charset_str", TEXT, most=40)
+    yield Row("look up \"level\", which none has", "look_up_missing", TEXT, most=38)
+    yield Row("look up CHARSET", "look_up_charset", TEXT, most=38)
+    yield Row("look up BOUNDARY", "look_up_boundary", TEXT, most=30)
+    yield Row("walk the parameters", "walk", TEXT, most=42)
     yield Row("type, subtype and suffix", "parts", TEXT)
-    yield Row("essence", "essence", TEXT)
-    yield Row("equality", "eq", TEXT, BESIDE, differs=True)
+    yield Row("essence, compared with two strings", "essence", TEXT)
+    yield Row("equality", "eq", TEXT, BESIDE, differs=True, most=34)
     yield Row("equality with a string", "eq_str", TEXT, BESIDE)
-    yield Row("order", "cmp", TEXT, BESIDE)
-    yield Row("hash in a map", "hash", TEXT)
+    yield Row("order of two equal ones", "cmp", TEXT, TEXT, most=45)
+    yield Row("order of each and the next", "cmp", TEXT, NEXT, most=50)
+    yield Row("hash in a map", "hash", TEXT, most=125)
     yield Row("clone and drop", "clone", TEXT)
-    yield Row("print", "print", TEXT)
-    yield Row("content_type, beside from_str here", "field", TEXT, ratio=1.15)
+    yield Row("print", "print", TEXT, most=48)
+    yield Row("boundary", "boundary", TEXT)
+    yield Row("content_type, beside from_str here", "field", TEXT, most=517)
+
+
+def longer():
+    yield Row("read", "read", "\n".join(LONGER))
+    yield Row("content_type, essence, CHARSET, boundary", "serve", "\n".join(LONGER))
+    yield Row("the same, a quoted charset", "serve", "\n".join(it for it in LONGER if "charset=\"" in it.lower()))
+    yield Row("the same, a quoted name", "serve", "\n".join(it for it in LONGER if "name=\"" in it.lower()))
 
 
 def lists():
-    yield Row("its media types", "items", "\n".join(ACCEPTS), differs=True)
-    yield Row("Accept, and the best of four offers", "negotiate", "\n".join(ACCEPTS), OFFERS, ratio=0.70, most=5_500)
+    yield Row("its media types", "items", HEADERS, differs=True, most=935)
+    yield Row("Accept, and the best of four offers", "negotiate", HEADERS, "\n".join(OFFERS), most=2_400)
+
+
+# What a browser's Accept header and that of a client for images of containers are.
+BROWSER = "text/html,application/xhtml+xml,application/xml;q=0.9,image/avif,image/webp,*/*;q=0.8"
+IMAGES = ", ".join(f"application/vnd.{it}+json" for it in ("docker.distribution.manifest.v2", "docker.distribution.manifest.list.v2",
+                                                           "oci.image.manifest.v1", "oci.image.index.v1"))
 
 
 def strings():
@@ -53,17 +69,37 @@ def strings():
     for text in ("text/plain", "text/plain; charset=utf-8", two, "*/*"):
         yield Row(text, "read", text)
     yield Row("a hundred parameters, 2,110 bytes", "read", hundred)
-    yield Row("text/pl(in, rejected", "read", "text/pl(in")
+    yield Row("rejected: text/pl(in", "read", "text/pl(in")
+    yield Row("rejected: text( and 59 bytes", "read", f"text({'z' * 59}", most=125)
+    yield Row("rejected: a/b;p=\"\" and 56 bytes", "read", f"a/b;p=\"\"{'z' * 56}", most=230)
+    yield Row("rejected: a/b;p=\"x, which isn't closed", "read", "a/b;p=\"x")
+    yield Row("rejected: a browser's Accept header", "read", BROWSER, most=165)
+
+
+def others():
+    yield Row("content_type of a space", "field", " ")
+    yield Row("equality of a/b; p=x; q=y and \"a/b;p=x;q=y\"", "eq_str", "a/b; p=x; q=y", "a/b;p=x;q=y", most=690)
+    yield Row("equality with a string rejected late, 2 KB", "eq_str", "a/b; p=\"x\"", f"a/b;p=\"x\";{'(' * 2_038}", most=520)
+    yield Row("hash of text/html", "hash", "text/html")
+    yield Row("walk the parameters of text/html", "walk", "text/html")
+    yield Row("a/b;p=\"x\" covers a/b", "cover", "a/b;p=\"x\"", "a/b")
+    yield Row("MimeIter: */*", "items", "*/*")
+    yield Row("MimeIter: an Accept header of four manifests", "items", IMAGES)
 
 
 # The other side rejects these.
-REJECTED = ("read: pairs \\\"", "walk: pairs \\\"", "content_type: semicolons", "content_type: spaces",
-            "list: semicolons")
+REJECTED = ("read: pairs \\\"", "walk: pairs \\\"", "content_type: semicolons", "content_type: spaces", "list: semicolons",
+            "with_parameter: quotes", "content_type: parameters ;p=1 after spaces", "content_type: tabs at the end",
+            "mime_list: */ over and over", "mime_list: é")
 
 
-def long(label, operation, make, other=""):
+def long(label, operation, make, other="", most=None):
     """A row of a text that is so many bytes long, about."""
-    return Row(label, operation, make(65_536), other, differs=label in REJECTED, short=make(2_048))
+    return Row(label, operation, make(65_536), other, most, differs=label in REJECTED, short=make(2_048))
+
+
+def with_tabs(length):
+    return "a/b" + ";\tA=A" * (length // 5)
 
 
 def texts():
@@ -74,21 +110,39 @@ def texts():
         for label, make in kinds:
             yield long(f"{what}: {label}", operation, make)
     yield long("read: a subtype", "read", lambda n: "a/" + "x" * n)
+    yield long("read: a type of rare token bytes", "read", lambda n: "!#$%&'*+^_`|~" * (n // 13) + "/b", most=8)
+    yield long("list: a subtype", "items", lambda n: "a/" + "x" * n, most=8.5)
+    yield long("order: parameters, a tab before each", "cmp", with_tabs, with_tabs(65_536) + ";p=x")
+    yield long("with_parameter: quotes", "write_parameter", lambda n: '"' * n, "a/b", most=56)
+    yield long("mime_list: */ over and over", "call_items", lambda n: "*/" * (n // 2), most=38)
+    yield long("mime_list: é", "call_items", lambda n: "é" * (n // 2))
+    yield long("mime_read: a type of rare token bytes", "call_read", lambda n: "!#$%&'*+^_`|~" * (n // 13) + "/b")
     for label, make in (("quotes", lambda n: '"' * n), ("commas", lambda n: "," * n), ("semicolons", lambda n: "a/b" + ";" * n),
                         ("spaces", lambda n: "a/b," + " " * n + "c/d"), ("backslashes", lambda n: 'a/b;p="' + "\\" * n)):
         yield long(f"list: {label}", "items", make)
-        yield long(f"Accept and best: {label}", "negotiate", make, OFFERS)
+        yield long(f"Accept and best: {label}", "negotiate", make, "\n".join(OFFERS))
     for label, make in (("quotes", lambda n: "a/b" + ';p="x"' * (n // 6)), ("commas", lambda n: 'a/b;p="' + "," * n + '"'),
                         ("semicolons", lambda n: "a/b" + ";" * n + "p=x"), ("spaces", lambda n: "a/b" + " " * n + ";p=x"),
-                        ("backslashes", lambda n: 'a/b;p="' + "\\" * n + '"')):
+                        ("backslashes", lambda n: 'a/b;p="' + "\\" * n + '"'), ("tabs at the end", lambda n: " a/b" + "\t" * n),
+                        ("parameters ;p=1 after spaces", lambda n: "a/b" + " ;p=1" * (n // 5))):
         yield long(f"content_type: {label}", "field", make)
 
 
 def calls():
     yield Row("mime_read", "call_read", TEXT)
+    yield Row("mime_content_type", "call_field", TEXT, most=720)
     yield Row("mime_equal", "call_equal", TEXT, BESIDE, differs=True)
-    yield Row("mime_list, of an Accept header", "call_items", "\n".join(ACCEPTS), differs=True)
+    yield Row("mime_list, of an Accept header", "call_items", HEADERS, differs=True)
+    yield Row("mime_list, of */*", "call_items", "*/*", differs=True)
+    yield Row("mime_best, of an Accept header and four offers", "call_best", HEADERS, ", ".join(OFFERS), most=3_300)
 
 
-GROUPS = {"256 Content-Type values in random order": values, "256 Accept headers in random order": lists, "Reading one string": strings,
-          "Texts of 64 KB: instructions and nanoseconds a byte": texts, "The calls from C, on the same values and headers": calls}
+GROUPS = {
+    "256 Content-Type values in random order": values,
+    f"{len(LONGER)} Content-Type values of 41 to 100 bytes": longer,
+    "256 Accept headers in random order": lists,
+    "Reading one string": strings,
+    "Other calls on one string": others,
+    "Texts of 64 KB: instructions and nanoseconds a byte": texts,
+    "The calls from C, on the same values and headers": calls,
+}

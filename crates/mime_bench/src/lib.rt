@@ -4,11 +4,8 @@
 //! the driver compares that with what the Rust crate returns.
 #![tactic(auto)]
 
-use mime::{
-    APPLICATION_JSON, BOUNDARY, CHARSET, IMAGE_SVG, Mime, MimeIter, ParamKey, TEXT_HTML,
-    TEXT_PLAIN_UTF_8, TextKey, mime_eq_str,
-};
-use mime_http::{Accept, content_type};
+use mime::{BOUNDARY, CHARSET, Mime, MimeIter, ParamKey, TextKey, mime_eq_str};
+use mime_http::{Accept, boundary, content_type, covers, with_parameter};
 use std::alloc::Global;
 use std::fmt::Write;
 use std::hash::{FoldHasher, Hash, Hasher};
@@ -58,10 +55,13 @@ pub extern "C" fn mime_bench(
         12 => hash(&values, rounds),
         13 => clone(&values, rounds),
         14 => print(alloc, &values, rounds),
-        15 => atom(rounds),
-        16 => items(alloc, &texts, rounds),
-        17 => field(alloc, &texts, rounds),
-        18 => negotiate(alloc, &texts, &against, rounds),
+        15 => items(alloc, &texts, rounds),
+        16 => field(alloc, &texts, rounds),
+        17 => serve(alloc, &texts, rounds),
+        18 => meant_boundary(alloc, &values, rounds),
+        19 => write_parameter(alloc, &texts, &against, rounds),
+        20 => negotiate(alloc, &texts, &against, rounds),
+        21 => cover(&values, &against, rounds),
         _ => 0,
     }
 }
@@ -157,9 +157,23 @@ fn parts(values: &[Mime], rounds: usize) -> usize {
     })
 }
 
+/// Compares the essence with two strings.
 #[inline(never)]
 fn essence(values: &[Mime], rounds: usize) -> usize {
-    sum!(rounds, mime in values => mime.essence_str().len())
+    sum!(rounds, mime in values => which_essence(mime))
+}
+
+/// Which of two strings the essence is: 1 or 2, or 0 if it is neither.
+#[inline(always)]
+fn which_essence(mime: &Mime) -> usize {
+    let essence = mime.essence_str();
+    if essence == "text/html" {
+        1
+    } else if essence == "application/json" {
+        2
+    } else {
+        0
+    }
 }
 
 #[inline(never)]
@@ -206,13 +220,6 @@ fn print(alloc: Global, values: &[Mime], rounds: usize) -> usize {
     })
 }
 
-/// Makes each of four constants a value.
-#[inline(never)]
-fn atom(rounds: usize) -> usize {
-    let atoms = [TEXT_HTML, APPLICATION_JSON, TEXT_PLAIN_UTF_8, IMAGE_SVG];
-    sum!(rounds, atom in &atoms => atom.mime().as_str().len())
-}
-
 /// Goes over the media types of lists: the lengths of their kept texts.
 #[inline(never)]
 fn items(alloc: Global, texts: &[&str], rounds: usize) -> usize {
@@ -236,6 +243,43 @@ fn field(alloc: Global, texts: &[&str], rounds: usize) -> usize {
     })
 }
 
+/// Reads header values, and asks what a server does: which essence it is, the charset, and the boundary.
+#[inline(never)]
+fn serve(alloc: Global, texts: &[&str], rounds: usize) -> usize {
+    sum!(rounds, text in texts => match content_type(alloc, text.as_bytes()) {
+        Ok(mime) => which_essence(&mime)
+            .wrapping_add(length_found(&mime, CHARSET))
+            .wrapping_add(boundary_len(alloc, &mime)),
+        Err(_) => 0,
+    })
+}
+
+#[inline(never)]
+fn meant_boundary(alloc: Global, values: &[Mime], rounds: usize) -> usize {
+    sum!(rounds, mime in values => boundary_len(alloc, mime))
+}
+
+/// The length of the boundary of a multipart body, or 0 if there is none.
+#[inline(always)]
+fn boundary_len(alloc: Global, mime: &Mime) -> usize {
+    match boundary(alloc, mime) {
+        Ok(Some(found)) => found.len(),
+        _ => 0,
+    }
+}
+
+/// Adds a parameter with each of these values to the first media type: the length of what is kept.
+#[inline(never)]
+fn write_parameter(alloc: Global, values: &[&str], mimes: &[Mime], rounds: usize) -> usize {
+    let Some(mime) = mimes.first() else {
+        return 0;
+    };
+    sum!(rounds, value in values => match with_parameter(alloc, mime, "p", value) {
+        Ok(Some(made)) => made.as_str().len(),
+        _ => 0,
+    })
+}
+
 /// Reads an `Accept` header and chooses the best of the offers: its position, counted from 1.
 #[inline(never)]
 fn negotiate(alloc: Global, texts: &[&str], offers: &[Mime], rounds: usize) -> usize {
@@ -246,4 +290,9 @@ fn negotiate(alloc: Global, texts: &[&str], offers: &[Mime], rounds: usize) -> u
         },
         Err(_) => 0,
     })
+}
+
+#[inline(never)]
+fn cover(ranges: &[Mime], offers: &[Mime], rounds: usize) -> usize {
+    sum!(rounds, (range, offer) in ranges.iter().zip(offers) => covers(range, offer) as usize)
 }
