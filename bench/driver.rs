@@ -25,6 +25,15 @@ extern "C" {
     fn mime_read(text: Slice, out: Slice, found: *mut [usize; 7]) -> u32;
     fn mime_list(text: Slice, out: Slice, length: *mut usize) -> u32;
     fn mime_equal(one: Slice, other: Slice, equal: *mut u8) -> u32;
+    // Those that an earlier library may lack.
+    #[cfg(call = "mime_order")]
+    fn mime_order(accept: Slice, offers: Slice, order: *mut usize, order_len: usize, count: *mut usize) -> u32;
+    #[cfg(call = "mime_boundary")]
+    fn mime_boundary(value: Slice, out: Slice, size: *mut usize) -> u32;
+    #[cfg(call = "mime_unescape")]
+    fn mime_unescape(value: Slice, out: Slice, size: *mut usize) -> u32;
+    #[cfg(call = "mime_set_parameter")]
+    fn mime_set_parameter(text: Slice, name: Slice, value: Slice, out: Slice, size: *mut usize) -> u32;
 }
 
 fn slice(text: &str) -> Slice {
@@ -95,7 +104,6 @@ const OPERATIONS: &[(&str, Operation)] = &[
         })
     }),
     ("negotiate", |it, rounds| sum(&it.texts, rounds, |text| best(text, &it.against).map_or(0, |at| at + 1))),
-    ("cover", |it, rounds| sum_of_two(&it.values, &it.against, rounds, |range, offer| covers(range, offer) as usize)),
 ];
 
 /// The calls from C, each with what it is compared with.
@@ -116,13 +124,61 @@ const CALLS: &[(&str, Operation, Operation)] = &[
             })
         },
     ),
-    ("call_items", list_all, |it, rounds| {
-        let (mut out, mut length) = (room(it), 0);
-        sum(&it.texts, rounds, |text| {
-            unsafe { mime_list(slice(text), Slice(out.as_mut_ptr(), out.len()), &mut length) };
-            length
-        })
-    }),
+    #[cfg(call = "mime_order")]
+    (
+        "call_order",
+        |it, rounds| {
+            sum(&it.texts, rounds, |text| {
+                let order = order(text, &entries(it.others[0]).collect::<Vec<_>>());
+                order.first().map_or(0, |at| at + 10 * order.len())
+            })
+        },
+        |it, rounds| {
+            let (mut order, mut count) = ([0; 8], 0);
+            sum(&it.texts, rounds, |text| {
+                unsafe { mime_order(slice(text), slice(it.others[0]), order.as_mut_ptr(), order.len(), &mut count) };
+                order[..count].first().map_or(0, |at| at + 10 * count)
+            })
+        },
+    ),
+    ("call_items", list_all, |it, rounds| call(it, rounds, |text, out, length| unsafe { mime_list(slice(text), out, length) })),
+    #[cfg(call = "mime_boundary")]
+    (
+        "call_boundary",
+        |it, rounds| sum(&it.texts, rounds, |text| read(text).map_or(0, |mime| boundary_len(&mime))),
+        |it, rounds| call(it, rounds, |text, out, size| unsafe { mime_boundary(slice(text), out, size) }),
+    ),
+    #[cfg(call = "mime_unescape")]
+    (
+        "call_unescape",
+        |it, rounds| {
+            sum(&it.texts, rounds, |value| {
+                let mut bytes = value.chars();
+                black_box(std::iter::from_fn(|| bytes.next().map(|it| if it == '\\' { bytes.next().unwrap_or(it) } else { it }))
+                    .collect::<String>())
+                .len()
+            })
+        },
+        |it, rounds| call(it, rounds, |value, out, size| unsafe { mime_unescape(slice(value), out, size) }),
+    ),
+    #[cfg(call = "mime_set_parameter")]
+    (
+        "call_set_parameter",
+        |it, rounds| {
+            sum(&it.texts, rounds, |text| {
+                let Some(mime) = read(text) else { return 0 };
+                let mut made = mime.essence_str().to_string();
+                for (name, value) in mime.params().filter(|(name, _)| *name != it.others[0]) {
+                    write!(made, "; {name}=\"{value}\"").unwrap();
+                }
+                read(&format!("{made}; {}={}", it.others[0], it.others[1])).map_or(0, |mime| mime.as_ref().len())
+            })
+        },
+        |it, rounds| {
+            let (name, value) = (it.others[0], it.others[1]);
+            call(it, rounds, |text, out, size| unsafe { mime_set_parameter(slice(text), slice(name), slice(value), out, size) })
+        },
+    ),
     (
         "call_equal",
         |it, rounds| sum_of_two(&it.texts, &it.others, rounds, |text, other| (read(text) == read(other)) as usize),
@@ -150,12 +206,22 @@ fn call_read(it: &Given, rounds: usize, call: unsafe extern "C" fn(Slice, Slice,
     })
 }
 
+/// Makes a call from C that says how many bytes it wrote: their sum.
+fn call(it: &Given, rounds: usize, call: impl Fn(&str, Slice, *mut usize) -> u32) -> usize {
+    let (mut out, mut size) = (room(it), 0);
+    sum(&it.texts, rounds, |text| {
+        call(text, Slice(out.as_mut_ptr(), out.len()), &mut size);
+        size
+    })
+}
+
 fn list_all(it: &Given, rounds: usize) -> usize {
     sum(&it.texts, rounds, |text| entries(text).map(|mime| mime.as_ref().len()).sum())
 }
 
+/// Room for what any call writes.
 fn room(it: &Given) -> Vec<u8> {
-    vec![0; 2 * it.texts.iter().map(|text| text.len()).max().unwrap_or(0) + 2]
+    vec![0; 2 * it.texts.iter().map(|text| text.len()).max().unwrap_or(0) + 128]
 }
 
 /// The sum of what an operation returns for each of these things, so many rounds.
@@ -204,17 +270,35 @@ fn entries(text: &str) -> impl Iterator<Item = Mime> + '_ {
     text.split(',').filter_map(|entry| entry.trim().parse().ok())
 }
 
-/// The best offer for an Accept header, as a user of the Rust crate writes it: that of the highest weight, then of the closest range, then
-/// of the first range, then the first.
+/// What decides between offers: the weight, then the closeness of the range, then the position of the range, then that of the offer.
+type Merit = (u16, (usize, usize), Reverse<usize>, Reverse<usize>);
+
+/// The best offer for an Accept header, as a user of the Rust crate writes it.
 fn best(text: &str, offers: &[Mime]) -> Option<usize> {
-    let ranges: Vec<(u16, Mime)> = entries(text).map(|range| (weight_of(&range), range)).collect();
-    let merit = |offer| {
+    merits(&ranges(text), offers).max().map(|(.., Reverse(at))| at)
+}
+
+/// All acceptable offers, from the best on.
+#[cfg(call = "mime_order")]
+fn order(text: &str, offers: &[Mime]) -> Vec<usize> {
+    let mut order: Vec<Merit> = merits(&ranges(text), offers).collect();
+    order.sort_unstable_by(|one, other| other.cmp(one));
+    order.into_iter().map(|(.., Reverse(at))| at).collect()
+}
+
+fn ranges(text: &str) -> Vec<(u16, Mime)> {
+    entries(text).map(|range| (weight_of(&range), range)).collect()
+}
+
+/// The merit of each acceptable offer.
+#[inline(always)]
+fn merits<'a>(ranges: &'a [(u16, Mime)], offers: &'a [Mime]) -> impl Iterator<Item = Merit> + 'a {
+    let merit = move |offer| {
         let covering = ranges.iter().enumerate().filter(|(_, (_, range))| covers(range, offer));
         covering.map(|(at, (weight, range))| (closeness(range), *weight, Reverse(at))).max()
     };
-    let merits = offers.iter().enumerate().filter_map(|(at, offer)| merit(offer).map(|merit| (merit, at)));
-    let weighed = merits.map(|((close, weight, range), at)| (weight, close, range, Reverse(at))).filter(|(weight, ..)| *weight > 0);
-    weighed.max().map(|(.., Reverse(at))| at)
+    let merits = offers.iter().enumerate().filter_map(move |(at, offer)| merit(offer).map(|merit| (merit, at)));
+    merits.map(|((close, weight, range), at)| (weight, close, range, Reverse(at))).filter(|(weight, ..)| *weight > 0)
 }
 
 /// The weight in thousandths.

@@ -37,7 +37,7 @@ def values():
     yield Row("equality", "eq", TEXT, BESIDE, differs=True, most=34)
     yield Row("equality with a string", "eq_str", TEXT, BESIDE)
     yield Row("order of two equal ones", "cmp", TEXT, TEXT, most=45)
-    yield Row("order of each and the next", "cmp", TEXT, NEXT, most=50)
+    yield Row("order of each and the next", "cmp", TEXT, NEXT, most=50, differs=True)
     yield Row("hash in a map", "hash", TEXT, most=125)
     yield Row("clone and drop", "clone", TEXT)
     yield Row("print", "print", TEXT, most=48)
@@ -46,10 +46,11 @@ def values():
 
 
 def longer():
-    yield Row("read", "read", "\n".join(LONGER))
-    yield Row("content_type, essence, CHARSET, boundary", "serve", "\n".join(LONGER))
-    yield Row("the same, a quoted charset", "serve", "\n".join(it for it in LONGER if "charset=\"" in it.lower()))
-    yield Row("the same, a quoted name", "serve", "\n".join(it for it in LONGER if "name=\"" in it.lower()))
+    serve = lambda label, is_one, most: Row(label, "serve", "\n".join(filter(is_one, LONGER)), most=most)
+    yield Row("read", "read", "\n".join(LONGER), most=1_035, differs=True)
+    yield serve("content_type, essence, CHARSET, boundary", bool, 1_656)
+    yield serve("the same, a quoted charset in lowercase", lambda it: 'charset="' in it and it == it.lower(), 1_020)
+    yield serve("the same, a quoted name", lambda it: 'name="' in it.lower(), 1_275)
 
 
 def lists():
@@ -78,24 +79,26 @@ def strings():
 
 def others():
     yield Row("content_type of a space", "field", " ")
+    yield Row("equality of charset=utf-8 and \"charset=UTF-8\"", "eq_str", "text/plain; charset=utf-8", "text/plain; charset=UTF-8")
+    yield Row("equality of charset=utf-8 and \"charset=us-ascii\"", "eq_str", "text/plain; charset=utf-8", "text/plain; charset=us-ascii")
     yield Row("equality of a/b; p=x; q=y and \"a/b;p=x;q=y\"", "eq_str", "a/b; p=x; q=y", "a/b;p=x;q=y", most=690)
-    yield Row("equality with a string rejected late, 2 KB", "eq_str", "a/b; p=\"x\"", f"a/b;p=\"x\";{'(' * 2_038}", most=520)
+    yield Row("equality with a string rejected late, 2 KB", "eq_str", "a/b; p=\"x\"", f"a/b;p=\"x\";{'(' * 2_038}", most=520,
+              differs=True)
     yield Row("hash of text/html", "hash", "text/html")
     yield Row("walk the parameters of text/html", "walk", "text/html")
-    yield Row("a/b;p=\"x\" covers a/b", "cover", "a/b;p=\"x\"", "a/b")
     yield Row("MimeIter: */*", "items", "*/*")
     yield Row("MimeIter: an Accept header of four manifests", "items", IMAGES)
 
 
-# The other side rejects these.
-REJECTED = ("read: pairs \\\"", "walk: pairs \\\"", "content_type: semicolons", "content_type: spaces", "list: semicolons",
-            "with_parameter: quotes", "content_type: parameters ;p=1 after spaces", "content_type: tabs at the end",
-            "mime_list: */ over and over", "mime_list: é")
+# The other side rejects these, or takes them for other things.
+OTHERWISE = ("read: pairs \\\"", "walk: pairs \\\"", "order: parameters, a tab before each", "with_parameter: quotes",
+             "mime_list: */ over and over", "list: semicolons", "content_type: semicolons", "content_type: spaces",
+             "content_type: tabs at the end", "content_type: parameters ;p=1 after spaces")
 
 
 def long(label, operation, make, other="", most=None):
     """A row of a text that is so many bytes long, about."""
-    return Row(label, operation, make(65_536), other, most, differs=label in REJECTED, short=make(2_048))
+    return Row(label, operation, make(65_536), other, most, differs=label in OTHERWISE, short=make(2_048))
 
 
 def with_tabs(length):
@@ -115,6 +118,7 @@ def texts():
     yield long("order: parameters, a tab before each", "cmp", with_tabs, with_tabs(65_536) + ";p=x")
     yield long("with_parameter: quotes", "write_parameter", lambda n: '"' * n, "a/b", most=56)
     yield long("mime_list: */ over and over", "call_items", lambda n: "*/" * (n // 2), most=38)
+    yield long("mime_unescape: pairs \\\"", "call_unescape", lambda n: '\\"' * (n // 2))
     yield long("mime_list: é", "call_items", lambda n: "é" * (n // 2))
     yield long("mime_read: a type of rare token bytes", "call_read", lambda n: "!#$%&'*+^_`|~" * (n // 13) + "/b")
     for label, make in (("quotes", lambda n: '"' * n), ("commas", lambda n: "," * n), ("semicolons", lambda n: "a/b" + ";" * n),
@@ -135,6 +139,9 @@ def calls():
     yield Row("mime_list, of an Accept header", "call_items", HEADERS, differs=True)
     yield Row("mime_list, of */*", "call_items", "*/*", differs=True)
     yield Row("mime_best, of an Accept header and four offers", "call_best", HEADERS, ", ".join(OFFERS), most=3_300)
+    yield Row("mime_order, of the same", "call_order", HEADERS, ", ".join(OFFERS))
+    yield Row("mime_boundary", "call_boundary", TEXT)
+    yield Row("mime_set_parameter, a charset", "call_set_parameter", TEXT, "charset\nutf-8", differs=True)
 
 
 GROUPS = {

@@ -5,7 +5,7 @@
 #![tactic(auto)]
 
 use mime::{BOUNDARY, CHARSET, Mime, MimeIter, ParamKey, TextKey, mime_eq_str};
-use mime_http::{Accept, boundary, content_type, covers, with_parameter};
+use mime_http::{Accept, boundary, content_type, with_parameter};
 use std::alloc::Global;
 use std::fmt::Write;
 use std::hash::{FoldHasher, Hash, Hasher};
@@ -61,7 +61,6 @@ pub extern "C" fn mime_bench(
         18 => meant_boundary(alloc, &values, rounds),
         19 => write_parameter(alloc, &texts, &against, rounds),
         20 => negotiate(alloc, &texts, &against, rounds),
-        21 => cover(&values, &against, rounds),
         _ => 0,
     }
 }
@@ -290,9 +289,4 @@ fn negotiate(alloc: Global, texts: &[&str], offers: &[Mime], rounds: usize) -> u
         },
         Err(_) => 0,
     })
-}
-
-#[inline(never)]
-fn cover(ranges: &[Mime], offers: &[Mime], rounds: usize) -> usize {
-    sum!(rounds, (range, offer) in ranges.iter().zip(offers) => covers(range, offer) as usize)
 }
