@@ -32,6 +32,7 @@ pub record IsLooking (old now : Iteration) : Type 0 where
   pub text : now.text ≡ old.text
   pub still : old.left ≡ [] → now ≡ old
   pub less : length now.left ≤ length old.left
+  pub more : old.steps ≤ now.steps
 
 -- a `MimeIter` as contracts see it
 abbrev pub seen : Inside → Iteration
@@ -50,6 +51,7 @@ looking-first old = record {
   text = refl;
   still = λ ended. refl;
   less = omega arith;
+  more = omega arith;
 }
 
 -- an iterator after a piece was read
@@ -81,6 +83,7 @@ looking-more old now piece left positions steps (looking, sound) some passes cou
         text = looking.text;
         still = λ ended. absurd (still_some (ap (λ (i : Iteration). i.left) (looking.still ended) ∙ ended));
         less = omega (arith, looking.less, passes.less some);
+        more = omega (arith, looking.more, counted);
       },
       sound-after_piece now left steps sound passes.under_way counted,
     )
@@ -94,6 +97,7 @@ found-none old now (looking, sound) none =
       out_of_memory = looking.out_of_memory;
       text = looking.text;
       still = λ ended. (refl, looking.still ended);
+      more = looking.more;
       sound = sound;
     }
 
@@ -120,6 +124,7 @@ found-some old now piece left positions steps (looking, sound) some passes count
       out_of_memory = looking.out_of_memory;
       text = looking.text;
       still = λ ended. absurd (still_some (ap (λ (i : Iteration). i.left) (looking.still ended) ∙ ended));
+      more = omega (arith, looking.more, counted);
       sound = sound-after_piece now left steps sound passes.under_way counted;
     }
 
@@ -136,6 +141,7 @@ pub next-none : (old new : Iteration) → IsFound old None new → IsNext old No
 next-none old new found = record {
   item = (found.gives.0, found.gives.1, found.out_of_memory);
   text = found.text;
+  more = found.more;
   few = omega (arith, found.sound.few);
   exact = sound-exact new found.sound;
   stays = λ ended. (refl, (found.still ended).1);
@@ -143,10 +149,11 @@ next-none old new found = record {
 
 -- a call gives what was made of the piece that was found
 next-some : (old now new : Iteration) (piece : Bor (List ℕ) × Option Positions) (given : Result OwnedMedia Bad) → IsFound old (Some piece) now
-    → IsSound new → new.text ≡ now.text → GivesItem old (Some given) new → IsNext old (Some given) new
-next-some old now new piece given found sound text item = record {
+    → IsSound new → new.text ≡ now.text → new.steps ≡ now.steps → GivesItem old (Some given) new → IsNext old (Some given) new
+next-some old now new piece given found sound text steps item = record {
   item = item;
   text = text ∙ found.text;
+  more = omega (arith, found.more, steps);
   few = omega (arith, sound.few);
   exact = sound-exact new sound;
   stays = λ ended. absurd (none-some piece (sym (found.still ended).0));
@@ -156,32 +163,32 @@ next-some old now new piece given found sound text item = record {
 pub next-bad : (old new : Iteration) (piece : Bor (List ℕ)) → IsFound old (Some (piece, None)) new
     → IsNext old (Some (Err (Piece piece))) new
 next-bad old new piece found =
-    next-some old new new (piece, None) (Err (Piece piece)) found found.sound refl (found.gives.0, found.out_of_memory)
+    next-some old new new (piece, None) (Err (Piece piece)) found found.sound refl refl (found.gives.0, found.out_of_memory)
 
 -- a call gives a media type
 pub next-good : (old new : Iteration) (piece : Bor (List ℕ)) (positions : Positions) (mime : OwnedMedia)
     → IsFound old (Some (piece, Some positions)) new → Reads piece.now mime.media
     → (piece.now ≡ codes "*/*" → mime.fixed ≡ true) → IsNext old (Some (Ok mime)) new
 next-good old new piece positions mime found reads star =
-    next-some old new new (piece, Some positions) (Ok mime) found found.sound refl
+    next-some old new new (piece, Some positions) (Ok mime) found found.sound refl refl
     (piece.now, found.gives.0.1 mime.media reads, star, found.out_of_memory)
 
 -- a call gives out of memory, which ends the run
 pub next-out_of_memory : (old now new : Iteration) (piece : Bor (List ℕ)) (positions : Positions) → IsFound old (Some (piece, Some positions)) now
-    → piece.now ≢ codes "*/*" → new ≡ record now { left = []; out_of_memory = true } → IsNext old (Some (Err NoMemory)) new
-next-out_of_memory old now new piece positions found not_star is =
+    → 40 < length piece.now → new ≡ record now { left = []; out_of_memory = true } → IsNext old (Some (Err NoMemory)) new
+next-out_of_memory old now new piece positions found long is =
     let accepted = accepted-from_positions piece.now positions found.gives.0.0 in
     let others = has_cut now.left in
     next-some old now new (piece, Some positions) (Err NoMemory) found
     (subst IsSound (sym is) (record { few = omega (arith, found.sound.few); exact = λ fed n takes. absurd (true≢false fed) }))
-    (ap (λ (i : Iteration). i.text) is) (
+    (ap (λ (i : Iteration). i.text) is) (ap (λ (i : Iteration). i.steps) is) (
       record {
         piece = piece.now;
         value = accepted.0;
         items = others.items;
         rest = others.rest;
         cut = found.gives.0.1 accepted.0 accepted.1 others.items others.rest others.cut;
-        not_star = not_star;
+        long = long;
       },
       ap (λ (i : Iteration). i.left) is,
       ap (λ (i : Iteration). i.out_of_memory) is,
@@ -205,7 +212,7 @@ run_items first (Err (Piece p) ∷ given) (end, (last, (next, step, others), non
     (_, rest, step.item.0 items rest cut, a_piece p given items are)
 run_items first (Err NoMemory ∷ given) (end, (last, (next, step, others), none)) =
     let needs = step.item.0 in
-    let are = no_memory needs.piece needs.value needs.items needs.not_star in
+    let are = no_memory needs.piece needs.value needs.items needs.long in
     let ended = given_ended next given step.item.1 (end, (last, others, none)) in
     (_, needs.rest, needs.cut, subst (λ g. AreGiven (Err NoMemory ∷ g) (good needs.piece needs.value ∷ needs.items)) (sym ended) are)
 

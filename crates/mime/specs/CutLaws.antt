@@ -1,5 +1,5 @@
 -- The laws of the cut, and of whole runs: what the calls of `next` on a `MimeIter` give, up to the first `None`.
-use Rattle.std.specs.Prelude.{◌≡◌, ◌≢◌, ◌⊎◌, ℕ, Bool, ◌||◌, ◌==◌, IsTrue, List, [], ◌∷◌, ◌++◌, map, Result, Ok, Err, codes}
+use Rattle.std.specs.Prelude.{◌≡◌, ◌≢◌, ◌<◌, ◌⊎◌, ℕ, Bool, ◌||◌, ◌==◌, IsTrue, List, [], ◌∷◌, ◌++◌, map, length, Result, Ok, Err}
 use Rattle.std.specs.List.{AllByRecursion}
 use Rattle.mime.specs.Values.{MediaType, Reads, IsAccepted, IsRejected, OwnedMedia}
 use Rattle.mime.specs.Faults.{IsViable, IsUnclosed}
@@ -114,9 +114,9 @@ pub data AreGiven : List (Result OwnedMedia Bad) → List CutItem → Type 0 whe
   -- a bad piece for itself,
   a_piece : (piece : Bor (List ℕ)) (given : List (Result OwnedMedia Bad)) (items : List CutItem)
       → AreGiven given items → AreGiven (Err (Piece piece) ∷ given) (bad piece.now ∷ items)
-  -- and, at the end of what was given, out of memory for a good piece other than `*/*`
+  -- and, at the end of what was given, out of memory for a good piece of more than 40 bytes
   no_memory : (piece : List ℕ) (value : MediaType) (items : List CutItem)
-      → piece ≢ codes "*/*" → AreGiven (Err NoMemory ∷ []) (good piece value ∷ items)
+      → 40 < length piece → AreGiven (Err NoMemory ∷ []) (good piece value ∷ items)
 
 -- A run gives the items of the cut of what was left.
 abbrev pub RunGivesCut : Type 0

@@ -1,5 +1,5 @@
 -- How contracts see a `MimeIter`, and what one call of its `next` gives.
-use Rattle.std.specs.Prelude.{◌≡◌, ◌≢◌, ℕ, ◌≤◌, Bool, true, false, List, [], ◌∷◌, length, Option, Some, None, Result, Ok, Err, codes}
+use Rattle.std.specs.Prelude.{◌≡◌, ℕ, ◌<◌, ◌≤◌, Bool, true, false, List, [], ◌∷◌, length, Option, Some, None, Result, Ok, Err, codes}
 use Rattle.mime.specs.Values.{MediaType, OwnedMedia}
 use Rattle.mime.specs.Cut.{CutItem, good, bad, Cut, TakesSteps}
 use Rattle.mime.specs.declared.iter.Bad.{Bad}
@@ -20,14 +20,14 @@ HasEnded i = i.left ≡ []
 abbrev pub IsFirstItem : List ℕ → CutItem → List ℕ → Type 0
 IsFirstItem text item left = (items : List CutItem) (rest : List ℕ) → Cut left items rest → Cut text (item ∷ items) rest
 
--- the first item of the text's cut is a media type that needs memory
+-- the first item of the text's cut is a media type of more than 40 bytes, which needs memory
 pub record FirstNeedsMemory (text : List ℕ) : Type 0 where
   pub piece : List ℕ
   pub value : MediaType
   pub items : List CutItem
   pub rest : List ℕ
   pub cut : Cut text (good piece value ∷ items) rest
-  pub not_star : piece ≢ codes "*/*"
+  pub long : 40 < length piece
 
 -- the text's cut has no item
 abbrev pub HasNoItem : List ℕ → Type 0
@@ -48,7 +48,8 @@ pub record IsNext (old : Iteration) (result : Option (Result OwnedMedia Bad)) (n
   pub item : GivesItem old result new
   -- the text stays the same
   pub text : new.text ≡ old.text
-  -- the steps are at most the bytes of the text,
+  -- the steps are no fewer than before, even if memory ran out, and at most the bytes of the text,
+  pub more : old.steps ≤ new.steps
   pub few : new.steps ≤ length new.text
   -- and at the end, unless memory ran out, exactly those that the text takes
   pub exact : HasEnded new → new.out_of_memory ≡ false → TakesSteps new.text new.steps

@@ -1,6 +1,6 @@
 //! Media types: reading, their parts, their parameters, printing.
 
-ghost use Rattle.std.specs.Prelude.{◌≡◌, ◌≢◌, ◌≤◌, true, IfOk, IfErr, IsOk, IfSome, codes, option_map, length, string_bytes};
+ghost use Rattle.std.specs.Prelude.{◌≡◌, ◌≤◌, true, IfOk, IfErr, IsOk, IfSome, codes, option_map, length, string_bytes};
 ghost use Rattle.std.specs.List.{AllByRecursion};
 ghost use Rattle.mime.specs.Values.{Reads, IsAccepted, lowered, type_of, subtype_of, suffix_of};
 ghost use Rattle.mime.specs.Faults.{Explains};
@@ -109,7 +109,7 @@ impl Mime {
     pub fn from_str(alloc: Global, s: &str) -> Result<Mime, FromStrError>
         // The result is the value of the string.
         ensures read { IfOk result (λ mime. Reads s.now mime.media) }
-        // An error is the fault of a rejected string, or says that memory ran out for an accepted one.
+        // An error is the fault of a rejected string, or says that memory ran out for an accepted one of more than 40 bytes.
         ensures explained { IfErr result (λ error. Explains s.now error) }
         // So an accepted string is read, or memory ran out.
         ensures accepted { IsAccepted s.now → IfErr result (λ error. error ≡ ParseError.NoMemory) }
@@ -139,8 +139,9 @@ impl Mime {
     ) -> Result<Mime, FromStrError>
         requires { HasPositions s.now positions }
         ensures read { IfOk result (λ mime. Reads s.now mime.media) }
-        ensures memory { IfErr result (λ error. (error ≡ ParseError.NoMemory) × (s.now ≢ codes "*/*")) }
+        ensures memory { IfErr result (λ error. error ≡ ParseError.NoMemory) }
         ensures star { s.now ≡ codes "*/*" → IfOk result (λ mime. mime.fixed ≡ true) }
+        ensures short { length s.now ≤ SHORT → IsOk result }
     {
         if s != "*/*" {
             return Mime::of_other(alloc, s, positions);
@@ -155,6 +156,7 @@ impl Mime {
         requires { HasPositions s.now positions }
         ensures read { IfOk result (λ mime. Reads s.now mime.media) }
         ensures memory { IfErr result (λ error. error ≡ ParseError.NoMemory) }
+        ensures short { length s.now ≤ SHORT → IsOk result }
     {
         let kept = positions_in_kept(positions);
         if s.len() <= SHORT {

@@ -98,9 +98,25 @@ module _ (utf8 : IsUtf8 (codes "A/B")) where
       let only = (compares_as_one (codes "A/B") (codes "A/B")).4 MIME_OK in
       absurd (omega (arith, (only 0 (λ is. omega (arith, is)) different).1, (only 1 (λ is. omega (arith, is)) same_ab).1))
 
--- it needs memory, and the empty text needs none
-ab_needs : NeedsMemory (codes "A/B")
-ab_needs = record { before = []; piece = codes "A/B"; media = ab; after = []; rest = []; cut = whole_ab; not_star = λ is. omega (arith, ap (λ text. get_or text 0 0) is) }
+-- a text of 41 bytes needs memory, and the empty text needs none
+long : List ℕ
+long = codes "application/x-forty-one-bytes-in-all-here"
+
+long_value : MediaType
+long_value = record { essence = long; slash = 11; plus = None; pairs = []; kept = long }
+
+reads_long : Reads long long_value
+unfolding long long_value is_token_byte
+reads_long = record {
+  tree = record { top = codes "application"; sub = codes "x-forty-one-bytes-in-all-here"; tail = no_list };
+  well_formed = (refl, refl, tt);
+  spelled = refl;
+  valued = refl;
+}
+
+long_needs : NeedsMemory long
+unfolding long
+long_needs = record { before = []; piece = long; media = long_value; after = []; rest = []; cut = whole long long_value reads_long; long = omega arith }
 
 pub empty_needs_none : ¬ (NeedsMemory [])
 empty_needs_none needs =

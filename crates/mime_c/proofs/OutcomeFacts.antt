@@ -20,7 +20,7 @@ use Rattle.mime_c.proofs.OneOutcome.{reads_to_one, lists_to_one, compares_as_one
 
 -- ---- out of memory
 
--- if a text fails for want of memory, it is a media type other than `*/*`, and nothing is found;
+-- if a text fails for want of memory, it is a media type of more than 40 bytes, and nothing is found;
 fails_for_memory : {text : List ℕ} {n : ℕ} {found : MimeFound} → n ≡ MIME_NO_MEMORY → Fails text n found
     → (found ≡ nothing) × IsUtf8 text × Explains text NoMemory
 fails_for_memory is (is_rejected NoMemory utf8 why) = (refl, utf8, why)
@@ -75,10 +75,10 @@ star_list_needs_none : (old new : List ℕ) (size : ℕ) → ¬ (ListsTo (codes 
 star_list_needs_none old new size lists =
     let needs = (lists_for_memory refl lists).3 in
     let only = cut_unique (codes "*/*") _ [] (whole (codes "*/*") star star_is_read) _ needs.rest needs.cut in
-    needs.not_star (only_piece needs.before needs.after needs.piece (codes "*/*") needs.media star only.0)
+    absurd (omega (arith, needs.long, ap length (only_piece needs.before needs.after needs.piece (codes "*/*") needs.media star only.0)))
 
 no_memory_for_star : (old new : List ℕ) (found : MimeFound) → ¬ (ReadsTo (codes "*/*") old MIME_NO_MEMORY new found)
-no_memory_for_star old new found reads = (reads_for_memory refl reads).3.1 refl
+no_memory_for_star old new found reads = absurd (omega (arith, (reads_for_memory refl reads).3.1))
 
 e_needs_none : (old new : List ℕ) (found : MimeFound) → ¬ (ReadsTo (codes "e") old MIME_NO_MEMORY new found)
 unfolding is_token_byte

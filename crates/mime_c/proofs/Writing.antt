@@ -182,5 +182,5 @@ module _ {text old now left : List ℕ} {at : ℕ} (lists : Lists text old now a
     after = needs.items;
     rest = needs.rest;
     cut = lists.cuts _ needs.rest needs.cut;
-    not_star = needs.not_star;
+    long = needs.long;
   })

@@ -1,5 +1,5 @@
 -- What each call answers, and what the caller's buffer and structs hold then.
-use Rattle.std.specs.Prelude.{◌≢◌, ℕ, ◌+◌, ◌*◌, ◌<◌, ◌≤◌, Bool, IsTrue, if◌then◌else◌, List, ◌∷◌, ◌++◌, length, ◌↔◌, codes}
+use Rattle.std.specs.Prelude.{ℕ, ◌+◌, ◌*◌, ◌<◌, ◌≤◌, Bool, IsTrue, if◌then◌else◌, List, ◌∷◌, ◌++◌, length, ◌↔◌, codes}
 use Rattle.std.specs.Str.{IsUtf8}
 use Rattle.mime.specs.Values.{MediaType, Reads, type_of, subtype_of}
 use Rattle.mime.specs.Comparison.{Same}
@@ -58,7 +58,7 @@ pub data ReadsTo (text old : List ℕ) : ℕ → List ℕ → MimeFound → Type
       → ReadsTo text old answer old found
   has_no_room : length old < 2 * length text + 2 → ReadsTo text old MIME_NO_ROOM old nothing
 
--- an item of the text's cut is a media type other than `*/*`
+-- an item of the text's cut is a media type of more than 40 bytes
 pub record NeedsMemory (text : List ℕ) : Type 0 where
   pub before : List CutItem
   pub piece : List ℕ
@@ -66,7 +66,7 @@ pub record NeedsMemory (text : List ℕ) : Type 0 where
   pub after : List CutItem
   pub rest : List ℕ
   pub cut : Cut text (before ++ good piece media ∷ after) rest
-  pub not_star : piece ≢ codes "*/*"
+  pub long : 40 < length piece
 
 -- `mime_list` of a text, with the caller's buffer: the answer, what the buffer holds then, and how many bytes were written
 pub data ListsTo (text old : List ℕ) : ℕ → List ℕ → ℕ → Type 0 where

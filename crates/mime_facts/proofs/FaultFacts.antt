@@ -1,5 +1,5 @@
 -- Texts for which each definition of a fault is true, and others for which it is false.
-use Rattle.std.proofs.Common.{◌≡◌, ℕ, List, [], ◌∷◌, length, get_or, Some, None, refl, sym, ap, ◌∙◌, arith, length-append, codes}
+use Rattle.std.proofs.Common.{◌≡◌, ℕ, List, [], ◌∷◌, ◌++◌, length, get_or, Some, None, refl, sym, ap, ◌∙◌, arith, length-append, codes}
 use Rattle.std.proofs.Math.Seq.{get_or-append_seam}
 use Rattle.std.proofs.lemmas.Option.{same_Some}
 use Rattle.mime.specs.Bytes.{is_token_byte}
@@ -9,7 +9,7 @@ use Rattle.mime.specs.declared.scan.fault.ParseError.TheVariants.{MissingSlash, 
 use Rattle.mime.proofs.GrammarLemmas.Faults.{one_fault, completed_is_rejected, fault-from_lacks}
 use Rattle.mime.proofs.GrammarLemmas.Readings.{stopped-from_walk, rejected-from_walk}
 use Rattle.mime_facts.proofs.StandardFacts.{slash_fault-from_walk, no_slash, no_subtype, no_equals, no_value, no_quote, space_in_type}
-use Rattle.mime_facts.proofs.ValueFacts.{differ, plain_value, reads_capitals}
+use Rattle.mime_facts.proofs.ValueFacts.{differ, plain_value, reads_capitals, text_of_41, text_of_40, reads_41}
 use Rattle.mime.proofs.GrammarLemmas.Viability.{accepted_is_viable, not_viable-at_dead, prefix_unique, viable-from_lacks}
 
 -- what lacks something is viable, and what has a byte at fault isn't
@@ -98,11 +98,11 @@ faults : IsFault (codes "invalid") MissingSlash × ¬ (IsFault (codes "a b") Mis
 faults =
     (no_slash, (λ is. not_viable-at_dead (codes "a b") 1 32 space_in_type (viable-from_lacks (codes "a b") MissingSlash is)), λ is. is.0)
 
--- memory may run out for an accepted text alone, and not for `*/*`
-memory : Explains (codes "A/B") NoMemory × ¬ (Explains (codes "*/*") NoMemory) × ¬ (Explains (codes "text/") NoMemory)
+-- memory may run out for an accepted text alone, and not for one of 40 bytes
+memory : Explains text_of_41 NoMemory × ¬ (Explains text_of_40 NoMemory) × ¬ (Explains (text_of_41 ++ codes "/") NoMemory)
 unfolding is_token_byte
 memory = (
-  ((plain_value, reads_capitals), differ (codes "A/B") (codes "*/*") refl),
-  (λ is. is.1 refl),
-  λ is. rejected-from_walk (codes "text/") _ refl refl is.0,
+  ((_, reads_41), omega arith),
+  (λ is. absurd (omega (arith, is.1))),
+  λ is. stopped-from_walk (text_of_41 ++ codes "/") refl is.0,
 )

@@ -1,4 +1,4 @@
--- Calls of `next` for which each definition of a run is true, and others for which it is false: over `e`, `e,A/B` and `*/*`.
+-- Calls of `next` for which each definition of a run is true, and others for which it is false: over `e`, `e,A/B`, `*/*` and long ones.
 use Rattle.std.proofs.Common.{◌≡◌, ℕ, true, false, List, [], ◌∷◌, length, Some, None, Result, Ok, Err, refl, sym, ap, subst, arith, codes, Bor}
 use Rattle.std.proofs.lemmas.Bool.{true≢false}
 use Rattle.std.proofs.lemmas.Option.{none-some}
@@ -13,7 +13,7 @@ use Rattle.mime.specs.declared.iter.Bad.TheVariants.{Piece, NoMemory}
 use Rattle.mime_facts.proofs.CutFacts.{split_at_comma, e_is_viable, item_of_e, cut_of_list, rest_of_text, no_item_left_out}
 use Rattle.mime.proofs.CutLemmas.Cuts.{cut_unique, takes_unique, takes-viable, empty-cut}
 use Rattle.mime_facts.proofs.StandardFacts.{media, reads}
-use Rattle.mime_facts.proofs.ValueFacts.{differ, plain_value, reads_capitals}
+use Rattle.mime_facts.proofs.ValueFacts.{differ, plain_value, text_of_41, text_of_40, reads_41, reads_40}
 
 -- an iterator over a text, at its start and at its end
 abbrev begun : List ℕ → Iteration
@@ -34,11 +34,10 @@ reads_star : Reads (codes "*/*") star_value
 unfolding is_token_byte
 reads_star = reads (codes "*") (codes "*") no_list (refl, refl, tt)
 
--- the first piece of its cut is itself
-star_piece : (piece : List ℕ) (value : MediaType) (items : List CutItem) (rest : List ℕ) → Cut (codes "*/*") (good piece value ∷ items) rest
-    → piece ≡ codes "*/*"
-star_piece piece value items rest cut =
-    let is = (cut_unique _ _ _ (whole (codes "*/*") star_value reads_star) _ _ cut).0 in cc is
+-- the first piece of an accepted text's cut is the text
+only_piece : (text : List ℕ) (value : MediaType) → Reads text value → (piece : List ℕ) (other : MediaType) (items : List CutItem) (rest : List ℕ)
+    → Cut text (good piece other ∷ items) rest → piece ≡ text
+only_piece text value reads piece other items rest cut = let is = (cut_unique _ _ _ (whole text value reads) _ _ cut).0 in cc is
 
 -- ---- what is left
 
@@ -58,24 +57,24 @@ first_items = (
 no_items : HasNoItem (codes "e") × ¬ (HasNoItem (codes "e,A/B"))
 no_items = ((codes "e", rest_of_text), λ none. absurd (omega (arith, ap length (cut_unique _ _ _ cut_of_list _ _ none.1).0)))
 
--- `A/B` needs memory
-needs_memory : FirstNeedsMemory (codes "A/B")
+-- a media type of 41 bytes needs memory
+needs_memory : FirstNeedsMemory text_of_41
 needs_memory = record {
-  piece = codes "A/B";
-  value = plain_value;
+  piece = text_of_41;
+  value = _;
   items = [];
   rest = [];
-  cut = whole (codes "A/B") plain_value reads_capitals;
-  not_star = differ (codes "A/B") (codes "*/*") refl;
+  cut = whole text_of_41 _ reads_41;
+  long = omega arith;
 }
 
 -- a bad piece needs no memory
 bad_needs_none : ¬ (FirstNeedsMemory (codes "e,A/B"))
 bad_needs_none needs = absurd (cc (cut_unique _ _ _ cut_of_list _ _ needs.cut).0)
 
--- `*/*` needs no memory
-star_needs_none : ¬ (FirstNeedsMemory (codes "*/*"))
-star_needs_none needs = needs.not_star (star_piece _ _ _ _ needs.cut)
+-- one of 40 bytes needs none
+short_needs_none : ¬ (FirstNeedsMemory text_of_40)
+short_needs_none needs = absurd (omega (arith, needs.long, ap length (only_piece text_of_40 _ reads_40 _ _ _ _ needs.cut)))
 
 -- ---- a call
 
@@ -84,7 +83,7 @@ star_is_fixed : (old new : Iteration) → old.left ≡ codes "*/*" → new.left 
     → GivesItem old (Some (Ok mime)) new → mime.fixed ≡ true
 star_is_fixed old new at end mime (piece, first, star, same) =
     let cut = first [] [] (subst (λ l. Cut l [] []) (sym end) empty-cut) in
-    star (star_piece _ _ _ _ (subst (λ t. Cut t (good piece mime.media ∷ []) []) at cut))
+    star (only_piece (codes "*/*") star_value reads_star _ _ _ _ (subst (λ t. Cut t (good piece mime.media ∷ []) []) at cut))
 
 -- that memory ran out is said if it did
 no_memory_is_told : ¬ (GivesItem (begun (codes "A/B")) (Some (Err NoMemory)) (ended_run (codes "A/B") 3))
@@ -117,10 +116,15 @@ ends_at_rest : IsNext (begun (codes "e")) None (ended_run (codes "e") 1)
 ends_at_rest = record {
   item = (no_items.0, refl, refl);
   text = refl;
+  more = omega arith;
   few = omega arith;
   exact = λ end fed. takes-viable (codes "e") e_is_viable;
   stays = λ end. absurd (ends.1 end);
 }
+
+-- no fewer steps than before
+steps_dont_fall : ¬ (IsNext (record (begun (codes "e")) { steps = 2 }) None (ended_run (codes "e") 1))
+steps_dont_fall next = absurd (omega (arith, next.more))
 
 -- no more steps than bytes, even if memory ran out
 steps_are_few : ¬ (IsNext (record (begun (codes "a/")) { out_of_memory = true }) None (record (ended_run (codes "a/") 3) { out_of_memory = true }))
@@ -154,15 +158,16 @@ gives_all : (given : List (Result OwnedMedia Bad)) (items : List CutItem) → Ar
 gives_all given items none_left is = refl
 gives_all given items (a_value mime piece more others are) is = absurd cc
 gives_all given items (a_piece piece more others are) is = absurd cc
-gives_all given items (no_memory piece value others not_star) is = absurd cc
+gives_all given items (no_memory piece value others long) is = absurd cc
 
--- a run always gives `*/*`
-gives_star : (given : List (Result OwnedMedia Bad)) (items : List CutItem) → AreGiven given items → given ≡ Err NoMemory ∷ []
-    → items ≡ good (codes "*/*") star_value ∷ [] → ⊥
-gives_star given items none_left is star = absurd cc
-gives_star given items (a_value mime piece more others are) is star = absurd cc
-gives_star given items (a_piece piece more others are) is star = absurd cc
-gives_star given items (no_memory piece value others not_star) is star = not_star cc
+-- a run always gives a media type of 40 bytes
+gives_short : (given : List (Result OwnedMedia Bad)) (items : List CutItem) → AreGiven given items → given ≡ Err NoMemory ∷ []
+    → (value : MediaType) → items ≡ good text_of_40 value ∷ [] → ⊥
+gives_short given items none_left is value short = absurd cc
+gives_short given items (a_value mime piece more others are) is value short = absurd cc
+gives_short given items (a_piece piece more others are) is value short = absurd cc
+gives_short given items (no_memory piece other others long) is value short =
+    let same : piece ≡ text_of_40 = cc short in absurd (omega (arith, long, ap length same))
 
 -- a media type is given for a good piece with its value, and for nothing else
 gives_value : (given : List (Result OwnedMedia Bad)) (items : List CutItem) → AreGiven given items
@@ -171,4 +176,4 @@ gives_value : (given : List (Result OwnedMedia Bad)) (items : List CutItem) → 
 gives_value given items none_left mime others is item left of = absurd cc
 gives_value given items (a_value read piece more rest are) mime others is item left of = (piece, cc)
 gives_value given items (a_piece piece more rest are) mime others is item left of = absurd cc
-gives_value given items (no_memory piece value rest not_star) mime others is item left of = absurd cc
+gives_value given items (no_memory piece value rest long) mime others is item left of = absurd cc

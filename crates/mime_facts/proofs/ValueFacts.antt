@@ -98,6 +98,21 @@ pub keeps_no_capitals : ¬ (Reads (codes "A/B") (media (codes "a/b") 1 None [] (
 keeps_no_capitals other =
     differ (codes "a/b") (codes "A/B") refl (ap (λ (v : MediaType). v.kept) (one_reading _ _ _ reads_capitals other))
 
+-- media types of 41 bytes and of 40
+abbrev pub text_of_41 : List ℕ
+text_of_41 = codes "application/x-forty-one-bytes-in-all-here"
+
+abbrev pub text_of_40 : List ℕ
+text_of_40 = codes "application/x-forty-bytes-of-text-in-all"
+
+pub reads_41 : Reads text_of_41 (media text_of_41 11 None [] text_of_41)
+unfolding is_token_byte
+reads_41 = reads (codes "application") (codes "x-forty-one-bytes-in-all-here") no_list (refl, refl, tt)
+
+pub reads_40 : Reads text_of_40 (media text_of_40 11 None [] text_of_40)
+unfolding is_token_byte
+reads_40 = reads (codes "application") (codes "x-forty-bytes-of-text-in-all") no_list (refl, refl, tt)
+
 -- an accepted text isn't rejected, and a text with a space in its type is
 accepted_and_rejected : IsAccepted (codes "A/B") × ¬ (IsRejected (codes "A/B")) × IsRejected (codes "a b") × ¬ (IsAccepted (codes "a b"))
 unfolding is_token_byte

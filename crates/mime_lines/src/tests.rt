@@ -516,8 +516,9 @@ fn flushes_what_it_writes(rt: HostRuntime) {
 
 #[test]
 fn memory_is_found(rt: HostRuntime) {
-    // No clause says so.
-    let error = Mime::from_str(rt.alloc(), "text/plain").err();
+    // No clause says so of a text of more than 40 bytes.
+    let text = "multipart/form-data; boundary=0123456789a";
+    let error = Mime::from_str(rt.alloc(), text).err();
     assert!(rt; error.is_none(), "memory ran out");
 }
 

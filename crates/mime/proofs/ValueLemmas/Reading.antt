@@ -1,6 +1,8 @@
 -- What reading a text answers, and that the constant media types are stored with their positions.
 use Rattle.std.proofs.Common.{◌≡◌, ℕ, List, [], ◌∷◌, refl, sym, ap, ◌∙◌, subst, ◌+◌, length, take, drop, Option, Some, None, codes}
-use Rattle.std.specs.Prelude.{◌≢◌, Result, Ok, Err, IfErr, codes, unwrap_or}
+use Rattle.std.specs.Prelude.{◌≤◌, Result, Ok, Err, IfErr, IsOk, codes, unwrap_or}
+use Rattle.std.proofs.Math.Nat.{lt_of_not-le}
+use Rattle.std.proofs.lemmas.Bool.{false≢true}
 use Rattle.mime.specs.Bytes.{is_token_byte, space_byte}
 use Rattle.mime.specs.Grammar.{SyntaxTree, no_list, plain, final, Tail, listed, text_of, IsToken, IsTail}
 use Rattle.mime.specs.Values.{value_of, IsAccepted, IsRejected, lowered_tree}
@@ -22,11 +24,12 @@ use Rattle.mime.specs.declared.atoms.Atom.TheVariants.{STAR_STAR}
 pub accepted-from_positions : (text : List ℕ) (positions : Positions) → HasPositions text positions → IsAccepted text
 accepted-from_positions text positions has = (value_of has.tree, reads_as has refl)
 
--- running out of memory is explained where the text is accepted, and isn't `*/*`
-pub Explains-no_memory : {T : Type 0} (text : List ℕ) (result : Result T ParseError) → IsAccepted text → text ≢ codes "*/*"
+-- running out of memory is explained if the text is accepted, and a short one never runs out
+pub Explains-no_memory : {T : Type 0} (text : List ℕ) (result : Result T ParseError) → IsAccepted text → (length text ≤ 40 → IsOk result)
     → IfErr result (λ error. error ≡ NoMemory) → IfErr result (λ error. Explains text error)
-Explains-no_memory text (Ok value) accepted other memory = tt
-Explains-no_memory text (Err error) accepted other memory = subst (Explains text) (sym memory) (accepted, other)
+Explains-no_memory text (Ok value) accepted short memory = tt
+Explains-no_memory text (Err error) accepted short memory = subst (Explains text) (sym memory)
+    (accepted, lt_of_not-le (λ few. absurd (false≢true (short few))))
 
 -- a text with a fault is rejected
 pub rejected-from_fault : (text : List ℕ) (fault : ParseError) → IsFault text fault → IsRejected text

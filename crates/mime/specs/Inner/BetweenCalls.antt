@@ -37,4 +37,5 @@ pub record IsFound (old : Iteration) (found : Option (Bor (List ℕ) × Option P
   pub out_of_memory : new.out_of_memory ≡ old.out_of_memory
   pub text : new.text ≡ old.text
   pub still : old.left ≡ [] → (found ≡ None) × (new ≡ old)
+  pub more : old.steps ≤ new.steps
   pub sound : IsUnderWay new.text new.left new.out_of_memory new.steps

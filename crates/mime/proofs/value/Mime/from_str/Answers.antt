@@ -1,6 +1,5 @@
 -- The scanner's verdict is what the call answers.
-use Rattle.std.proofs.Common.{◌∙◌, sym, rules}
-use Rattle.std.specs.Cmp.Lexicographic.{other_text}
+use Rattle.std.proofs.Common.{sym, rules}
 use Rattle.mime.proofs.ValueLemmas.Reading.{accepted-from_positions, Explains-from_fault, Explains-no_memory, rejected-from_fault, star-accepted}
 use Rattle.mime.proofs.GrammarLemmas.Viability.{rejected-at_dead}
 use Rattle.mime.proofs.value.Mime.from_str.Goals as goal
@@ -8,7 +7,7 @@ use Rattle.mime.proofs.value.Mime.from_str.Goals as goal
 pub returns-in-Accepted-clause-explained : goal.returns-in-Accepted-clause-explained
 returns-in-Accepted-clause-explained c =
     let has = rw c.by_blocks-reader.ensures.left at c.in-Accepted.ensures.judged.1 in
-    Explains-no_memory _ _ (accepted-from_positions _ _ has) (other_text _ _ (sym c.if-eq.false ∙ c.eq.ensures)) c.of_other.ensures.memory
+    Explains-no_memory _ _ (accepted-from_positions _ _ has) c.of_other.ensures.short c.of_other.ensures.memory
 
 pub returns-in-Unfinished-clause-accepted : goal.returns-in-Unfinished-clause-accepted
 returns-in-Unfinished-clause-accepted c = λ accepted.
