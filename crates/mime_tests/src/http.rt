@@ -27,12 +27,17 @@ pub(crate) fn shown(bytes: &[u8]) -> &str {
 }
 
 /// The lines that a field stands for: each but the last ends with a line feed, which the last may have, too. An empty field has none.
-pub(crate) fn lines_of(alloc: Global, field: &str) -> Vec<&[u8]> {
+pub(crate) fn lines_of(alloc: Global, field: &str) -> Result<Vec<&[u8]>, AllocError> {
     let mut lines = Vec::new(alloc);
     for line in field.lines() {
-        let _ = lines.push(line.as_bytes());
+        lines.push(line.as_bytes())?;
     }
-    lines
+    Ok(lines)
+}
+
+/// The header of a field's lines.
+fn header_of(alloc: Global, field: &str) -> Result<Accept, AllocError> {
+    Accept::from_lines(alloc, &lines_of(alloc, field)?)
 }
 
 /// The bytes of a text in ISO 8859-1, which has one byte for each character.
@@ -45,14 +50,14 @@ fn latin_1(alloc: Global, text: &str) -> Vec<u8> {
 }
 
 /// The media types of the fields after the first.
-pub(crate) fn offers_of(alloc: Global, strings: &[String]) -> Vec<Mime> {
+pub(crate) fn offers_of(alloc: Global, strings: &[String]) -> Result<Vec<Mime>, AllocError> {
     let mut offers = Vec::new(alloc);
     for at in 1..strings.len() {
         if let Ok(offer) = Mime::from_str(alloc, string_at(strings, at)) {
-            let _ = offers.push(offer);
+            offers.push(offer)?;
         }
     }
-    offers
+    Ok(offers)
 }
 
 /// Shows the media type of a value, or why there is none.
@@ -67,16 +72,20 @@ pub(crate) fn show_content_type_in_latin_1(alloc: Global, out: &mut String, text
     show_value(out, content_type(alloc, &latin_1(alloc, text)));
 }
 
-/// Shows the ranges of a header's lines, and then its bad entries.
-pub(crate) fn show_accept(alloc: Global, out: &mut String, lines: &[&[u8]]) {
-    if let Ok(accept) = Accept::from_lines(alloc, lines) {
+/// Shows the ranges of a header, and then its bad entries.
+fn show_header(out: &mut String, header: Result<Accept, AllocError>) {
+    if let Ok(accept) = header {
         show_ranges(out, accept.ranges());
         show_bad(out, accept.bad());
     }
 }
 
+pub(crate) fn show_accept(alloc: Global, out: &mut String, field: &str) {
+    show_header(out, header_of(alloc, field));
+}
+
 pub(crate) fn show_accept_in_latin_1(alloc: Global, out: &mut String, text: &str) {
-    show_accept(alloc, out, &[&latin_1(alloc, text)]);
+    show_header(out, Accept::from_lines(alloc, &[&latin_1(alloc, text)]));
 }
 
 fn show_ranges(out: &mut String, ranges: &[Mime]) {
@@ -94,19 +103,27 @@ fn show_bad(out: &mut String, bad: &[Vec<u8>]) {
 
 /// Shows the weight that a header gives each offer.
 pub(crate) fn show_weights(alloc: Global, out: &mut String, strings: &[String]) {
-    let lines = lines_of(alloc, string_at(strings, 0));
-    if let Ok(accept) = Accept::from_lines(alloc, &lines) {
-        for offer in &offers_of(alloc, strings) {
-            show(out, &accept.weight(offer));
-        }
+    let Ok(accept) = header_of(alloc, string_at(strings, 0)) else {
+        return;
+    };
+    let Ok(offers) = offers_of(alloc, strings) else {
+        return;
+    };
+    for offer in &offers {
+        show(out, &accept.weight(offer));
     }
+}
+
+/// The position of the best offer.
+fn best_of(alloc: Global, strings: &[String]) -> Result<Option<usize>, AllocError> {
+    let accept = header_of(alloc, string_at(strings, 0))?;
+    Ok(accept.best(&offers_of(alloc, strings)?))
 }
 
 /// Shows the position of the best offer.
 pub(crate) fn show_best(alloc: Global, out: &mut String, strings: &[String]) {
-    let lines = lines_of(alloc, string_at(strings, 0));
-    if let Ok(accept) = Accept::from_lines(alloc, &lines) {
-        show_position(out, accept.best(&offers_of(alloc, strings)));
+    if let Ok(best) = best_of(alloc, strings) {
+        show_position(out, best);
     }
 }
 
@@ -117,16 +134,15 @@ fn show_position(out: &mut String, position: Option<usize>) {
     }
 }
 
-/// Shows the positions of the offers that a header accepts, the best first.
-pub(crate) fn show_order(alloc: Global, out: &mut String, strings: &[String]) {
-    let lines = lines_of(alloc, string_at(strings, 0));
-    if let Ok(accept) = Accept::from_lines(alloc, &lines) {
-        show_positions(out, accept.order(alloc, &offers_of(alloc, strings)));
-    }
+/// The positions of the offers that a header accepts, the best first.
+fn order_of(alloc: Global, strings: &[String]) -> Result<Vec<usize>, AllocError> {
+    let accept = header_of(alloc, string_at(strings, 0))?;
+    accept.order(alloc, &offers_of(alloc, strings)?)
 }
 
-fn show_positions(out: &mut String, order: Result<Vec<usize>, AllocError>) {
-    if let Ok(order) = order {
+/// Shows the positions of the offers that a header accepts, the best first.
+pub(crate) fn show_order(alloc: Global, out: &mut String, strings: &[String]) {
+    if let Ok(order) = order_of(alloc, strings) {
         for at in &order {
             show(out, at);
         }
@@ -149,12 +165,23 @@ pub(crate) fn show_weight_of(alloc: Global, out: &mut String, range: &str) {
     }
 }
 
-/// Shows what a value means, with what another value means added to it.
-pub(crate) fn show_unescaped(alloc: Global, out: &mut String, value: &str, other: &str) {
-    let mut buffer = Vec::new(alloc);
+/// Shows what a value means, with what another value means added to it, in this buffer.
+fn show_meant(out: &mut String, mut buffer: Vec<u8>, value: &str, other: &str) {
     let _ = unescape(value, &mut buffer);
     let _ = unescape(other, &mut buffer);
     show_text(out, Some(shown(&buffer)));
+}
+
+pub(crate) fn show_unescaped(alloc: Global, out: &mut String, value: &str, other: &str) {
+    show_meant(out, Vec::new(alloc), value, other);
+}
+
+/// Shows the same in a buffer that has room for both values.
+pub(crate) fn show_unescaped_in_room(alloc: Global, out: &mut String, value: &str, other: &str) {
+    let room = value.len().saturating_add(other.len());
+    if let Ok(buffer) = Vec::with_capacity(alloc, room) {
+        show_meant(out, buffer, value, other);
+    }
 }
 
 pub(crate) fn show_boundary(alloc: Global, out: &mut String, field: &str) {

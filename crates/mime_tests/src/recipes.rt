@@ -59,8 +59,13 @@ pub(crate) fn show_caret_line(alloc: Global, out: &mut String, text: &str) {
 
 /// Shows the offer that a server sends, or the status that it answers.
 pub(crate) fn show_chosen(alloc: Global, out: &mut String, strings: &[String]) {
-    let lines = lines_of(alloc, string_at(strings, 0));
-    match chosen(alloc, &lines, &offers_of(alloc, strings)) {
+    let Ok(lines) = lines_of(alloc, string_at(strings, 0)) else {
+        return;
+    };
+    let Ok(offers) = offers_of(alloc, strings) else {
+        return;
+    };
+    match chosen(alloc, &lines, &offers) {
         Ok(offer) => show_text(out, Some(header_text(offer))),
         Err(status) => show(out, &status),
     }
@@ -71,7 +76,10 @@ pub(crate) fn show_counts(rt: &HostRuntime, out: &mut String, strings: &[String]
     let Ok(mut counts) = no_counts(rt) else {
         return;
     };
-    for mime in offers_of(rt.alloc(), strings) {
+    let Ok(offers) = offers_of(rt.alloc(), strings) else {
+        return;
+    };
+    for mime in offers {
         let _ = count(&mut counts, mime);
     }
     if let Some(mime) = read_or_not(rt.alloc(), out, string_at(strings, 0)) {
@@ -89,7 +97,10 @@ pub(crate) fn show_described(alloc: Global, out: &mut String, field: &str) {
 }
 
 pub(crate) fn show_accepts_html(alloc: Global, out: &mut String, field: &str) {
-    if let Ok(accepts) = accepts_html(alloc, &lines_of(alloc, field)) {
+    let Ok(lines) = lines_of(alloc, field) else {
+        return;
+    };
+    if let Ok(accepts) = accepts_html(alloc, &lines) {
         show(out, &accepts);
     }
 }

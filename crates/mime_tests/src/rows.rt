@@ -26,9 +26,10 @@
 use crate::constants::{show_bytes, show_copies};
 use crate::fields::string_at;
 use crate::http::{
-    lines_of, show, show_accept, show_accept_in_latin_1, show_best, show_boundary,
-    show_content_type_in_latin_1, show_covers, show_order, show_text, show_unescaped, show_value,
-    show_weight_of, show_weights, show_with_boundary, show_with_charset, show_with_parameter,
+    show, show_accept, show_accept_in_latin_1, show_best, show_boundary,
+    show_content_type_in_latin_1, show_covers, show_order, show_text, show_unescaped,
+    show_unescaped_in_room, show_value, show_weight_of, show_weights, show_with_boundary,
+    show_with_charset, show_with_parameter,
 };
 use crate::items::{show_again, show_items, show_list};
 use crate::recipes::{
@@ -71,7 +72,7 @@ pub(crate) fn show_row(rt: &HostRuntime, out: &mut String, word: &str, strings: 
         "sets" => show_sets(alloc, out, one, two),
         "short_verdicts" => show_short_verdicts(alloc, out),
 
-        "accept" => show_accept(alloc, out, &lines_of(alloc, one)),
+        "accept" => show_accept(alloc, out, one),
         "accept in Latin-1" => show_accept_in_latin_1(alloc, out, one),
         "best" => show_best(alloc, out, strings),
         "boundary" => show_boundary(alloc, out, one),
@@ -81,6 +82,7 @@ pub(crate) fn show_row(rt: &HostRuntime, out: &mut String, word: &str, strings: 
         "is_boundary" => show(out, &is_boundary(one.as_bytes())),
         "order" => show_order(alloc, out, strings),
         "unescape" => show_unescaped(alloc, out, one, two),
+        "unescape in room" => show_unescaped_in_room(alloc, out, one, two),
         "weight" => show_weights(alloc, out, strings),
         "weight_of" => show_weight_of(alloc, out, one),
         "with_boundary" => show_with_boundary(alloc, out, one, two),
