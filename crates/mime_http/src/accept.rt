@@ -166,9 +166,10 @@ impl Accept {
     /// allocates for the positions and, while it runs, for what each offer is given.
     ///
     /// # Errors
-    /// `AllocError` if memory runs out.
+    /// `AllocError` if memory runs out, which is never without offers.
     pub fn order(&self, alloc: Global, offers: &[Mime]) -> Result<Vec<usize>, AllocError>
-        ensures { IfOk result (λ order. AreInOrder self.now.ranges (map (λ offer. offer.media) offers.now) (vec_items order)) }
+        ensures order { IfOk result (λ order. AreInOrder self.now.ranges (map (λ offer. offer.media) offers.now) (vec_items order)) }
+        ensures none { offers.now ≡ [] → IsOk result }
     {
         order_of(alloc, &self.ranges, offers)
     }

@@ -1,8 +1,9 @@
 //! The boundary between the parts of a multipart body.
 
-ghost use Rattle.std.specs.Prelude.{◌≡◌, ◌↔◌, ℕ, List, Some, IsTrue, IfOk, MatchOption, codes, option_map};
+ghost use Rattle.std.specs.Prelude.{◌≡◌, ◌≢◌, ◌↔◌, ℕ, List, Some, None, IsTrue, IfOk, IsOk, MatchOption, codes, option_map};
 ghost use Rattle.std.specs.List.{list_all};
 ghost use Rattle.std.specs.Vec.{vec_items};
+ghost use Rattle.mime.specs.Values.{type_of};
 ghost use Rattle.mime_http.specs.Boundary.{is_bchar, IsBoundary, IsBoundaryOf};
 ghost use Rattle.mime_http.specs.Ranges.{first_value};
 ghost use Rattle.mime_http.specs.Unescaped.{unescaped};
@@ -90,10 +91,11 @@ fn meant_boundary(alloc: Global, value: &str) -> Result<Option<Vec<u8>>, AllocEr
 /// The boundary that the first parameter `boundary` means, if it means one. It isn't inlined: most media types aren't `multipart`.
 #[inline(never)]
 fn first_boundary(alloc: Global, mime: &Mime) -> Result<Option<Vec<u8>>, AllocError>
-    ensures { IfOk result (λ answer. MatchOption answer
+    ensures meant { IfOk result (λ answer. MatchOption answer
         ((bytes : List ℕ) → option_map unescaped (first_value (codes "boundary") mime.now.media.pairs) ≡ Some bytes → ¬ (IsBoundary bytes))
         (λ boundary. (option_map unescaped (first_value (codes "boundary") mime.now.media.pairs) ≡ Some (vec_items boundary))
         × IsBoundary (vec_items boundary))) }
+    ensures absent { first_value (codes "boundary") mime.now.media.pairs ≡ None → IsOk result }
 {
     match first_value(mime, "boundary") {
         Some(value) => meant_boundary(alloc, value.text),
@@ -106,10 +108,13 @@ fn first_boundary(alloc: Global, mime: &Mime) -> Result<Option<Vec<u8>>, AllocEr
 /// the first one means isn't a boundary, as [`is_boundary`] says.
 ///
 /// # Errors
-/// `AllocError` if memory runs out.
+/// `AllocError` if memory runs out, which is never for another type, nor without that parameter.
 pub fn boundary(alloc: Global, mime: &Mime) -> Result<Option<Vec<u8>>, AllocError>
-    ensures { IfOk result (λ answer. MatchOption answer ((bytes : List ℕ) → ¬ (IsBoundaryOf mime.now.media bytes))
+    ensures meant { IfOk result (λ answer. MatchOption answer ((bytes : List ℕ) → ¬ (IsBoundaryOf mime.now.media bytes))
         (λ boundary. IsBoundaryOf mime.now.media (vec_items boundary))) }
+    // It needs no memory for a type that isn't `multipart`, or has no boundary.
+    ensures other { type_of mime.now.media ≢ codes "multipart" → IsOk result }
+    ensures absent { first_value (codes "boundary") mime.now.media.pairs ≡ None → IsOk result }
 {
     if mime.type_().text != "multipart" {
         return Ok(None);

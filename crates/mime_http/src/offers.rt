@@ -1,6 +1,6 @@
 //! What the ranges of an `Accept` header give a server's offers.
 
-ghost use Rattle.std.specs.Prelude.{◌≡◌, ◌<◌, None, map, length, IfSome, IfOk};
+ghost use Rattle.std.specs.Prelude.{◌≡◌, ◌<◌, [], None, map, length, IfSome, IfOk, IsOk};
 ghost use Rattle.std.specs.Option.{option_cmp};
 ghost use Rattle.std.specs.Ordering.{ord_max};
 ghost use Rattle.std.specs.Vec.{vec_items};
@@ -170,8 +170,12 @@ pub(crate) fn order_of(
     ranges: &[Mime],
     offers: &[Mime],
 ) -> Result<Vec<usize>, AllocError>
-    ensures { IfOk result (λ order. AreInOrder (map (λ range. range.media) ranges.now) (map (λ offer. offer.media) offers.now) (vec_items order)) }
+    ensures order { IfOk result (λ order. AreInOrder (map (λ range. range.media) ranges.now) (map (λ offer. offer.media) offers.now) (vec_items order)) }
+    ensures none { offers.now ≡ [] → IsOk result }
 {
+    if offers.is_empty() {
+        return Ok(Vec::new(alloc));
+    }
     let mut ranked = Vec::new(alloc);
     for (at, offer) in offers.iter().enumerate() {
         let merit = merit(ranges, offer);

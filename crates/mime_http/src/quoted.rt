@@ -1,8 +1,8 @@
 //! The content of a quoted string: what it means, and what is written for a value.
 
-ghost use Rattle.std.specs.Prelude.{◌≡◌, ◌∷◌, [], ◌++◌, ◌≤◌, ◌+◌, None, Some, OnOk, is_ok, if◌then◌else◌, length, take, drop, string_bytes};
+ghost use Rattle.std.specs.Prelude.{◌≡◌, ◌∷◌, [], ◌++◌, ◌≤◌, ◌+◌, None, Some, OnOk, IsOk, is_ok, if◌then◌else◌, length, take, drop, string_bytes};
 ghost use Rattle.std.specs.List.{list_all, prefix_len};
-ghost use Rattle.std.specs.Vec.{vec_items};
+ghost use Rattle.std.specs.Vec.{vec_items, vec_len, vec_capacity};
 ghost use Rattle.mime.specs.Bytes.{is_quoted_byte};
 ghost use Rattle.mime_http.specs.Forms.{kind_of, is_plain, form_of};
 ghost use Rattle.mime_http.specs.Unescaped.{unescaped};
@@ -15,9 +15,10 @@ use std::alloc::AllocError;
 /// has room for as many bytes as the value has.
 ///
 /// # Errors
-/// `AllocError` if memory runs out; the buffer is then as it was.
+/// `AllocError` if memory runs out, which is only without that room; the buffer is then as it was.
 pub fn unescape(value: &str, buffer: &mut Vec<u8>) -> Result<(), AllocError>
-    ensures { vec_items buffer.new ≡ (if is_ok result then vec_items buffer.old ++ unescaped value.now else vec_items buffer.old) }
+    ensures meant { vec_items buffer.new ≡ (if is_ok result then vec_items buffer.old ++ unescaped value.now else vec_items buffer.old) }
+    ensures room { vec_len buffer.old + length value.now ≤ vec_capacity buffer.old → IsOk result }
 {
     let start = buffer.len();
     buffer.extend_from_slice(value.as_bytes())?;

@@ -51,8 +51,8 @@ when_ok : {V E : Type 0} (items : V → List ℕ) (ranges offers : List MediaTyp
 when_ok items ranges offers order (Ok v) are is = subst (AreInOrder ranges offers) (sym is) are
 when_ok items ranges offers order (Err e) are is = is
 
-pub returns : goal.returns
-returns c =
+pub returns-clause-order : goal.returns-clause-order
+returns-clause-order c =
     let ranges = map (λ range. range.media) c.args.ranges.now in
     let offers = map (λ offer. offer.media) c.args.offers.now in
     let all = map (merit ranges) offers in

@@ -14,8 +14,8 @@ Finds value found =
     MatchOption found ((i : ℕ) → i < length value → get_or value i 0 ≢ 92)
     (λ k. (k < length value) × (get_or value k 0 ≡ 92) × ((i : ℕ) → i < k → get_or value i 0 ≢ 92))
 
-pub returns-in-Some : goal.returns-in-Some
-returns-in-Some c =
+pub returns-in-Some-clause-meant : goal.returns-in-Some-clause-meant
+returns-in-Some-clause-meant c =
     let value = c.args.value.now in
     let moved = c.unescape_in_place-end.new.bytes in
     let end = c.unescape_in_place-end.result in
@@ -30,8 +30,8 @@ returns-in-Some c =
     kept ∙ subst (λ bytes. take end moved ≡ take (c.len-start.result + c.in-Some.first) bytes ++ unescaped (drop (c.len-start.result + c.in-Some.first) bytes)) before c.unescape_in_place-end.ensures.meant
     ∙ unescaped_end (vec_items c.args.buffer.now) value c.len-start.result c.in-Some.first start (omega (arith, first.0)) first.2
 
-pub returns-in_default : goal.returns-in_default
-returns-in_default c =
+pub returns-in_default-clause-meant : goal.returns-in_default-clause-meant
+returns-in_default-clause-meant c =
     let value = c.args.value.now in
     let found : Finds value c.find.result = find_char 92 value c.find.result c.find.ensures.cases (omega arith) in
     let none = subst (Finds value) c.in_default.is found in
