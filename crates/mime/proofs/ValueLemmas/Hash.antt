@@ -1,8 +1,9 @@
 -- What a value feeds a hasher: the last word of a part, and that what is fed is prefix-free.
-use Rattle.std.proofs.Common.{◌≡◌, ℕ, suc, ◌-◌, ◌<◌, List, [], ◌∷◌, ◌++◌, length, take, drop, replicate, refl, sym, ap, ◌∙◌, arith, true, subst, append-nil, append_assoc, ⊎_elim}
-use Rattle.std.proofs.Math.ListN.{set}
-use Rattle.std.proofs.lemmas.List.{append_assoc, set_at, drop-replicate, append_cancel_left, take-append-drop}
-use Rattle.mime.specs.Inner.HashInput.{end_word, words_len, part_input, pair_input, media_input}
+use Rattle.std.proofs.Common.{◌≡◌, ℕ, zero, suc, ◌+◌, ◌-◌, ◌*◌, ◌/◌, ◌%◌, ◌^◌, ◌<◌, get_or, List, [], ◌∷◌, ◌++◌, length, take, drop, replicate, refl, sym, ap, ◌∙◌, arith, true, subst, append-nil, append_assoc, ⊎_elim}
+use Rattle.std.specs.Int.{byte_at, bytes_low_first, to_le_bytes, w64}
+use Rattle.std.proofs.Math.Nat.{pow-suc, mul_comm, div-div-eq-div-mul}
+use Rattle.std.proofs.lemmas.List.{append_assoc, append_cancel_left, take-append-drop}
+use Rattle.mime.specs.Inner.HashInput.{end_word, number_of, words_len, part_input, pair_input, media_input}
 use Rattle.std.specs.Prelude.{IsUtf8}
 use Rattle.std.specs.List.{list_all, flat_map, concat, AllByRecursion}
 use Rattle.std.proofs.lemmas.Bool.{and_parts, and_from}
@@ -22,12 +23,44 @@ use Rattle.std.proofs.lemmas.Str.{encode_ascii}
 use Rattle.mime.proofs.ValueLemmas.Utf8.{high_bytes}
 use lib.Utf8.{scalars, scalar, encodes, encode}
 
--- a part's bytes after its whole words, copied into a word of zeros, with the byte 255 after them
-pub ended_rest : (rest one : List ℕ) → one ≡ rest → length rest < 8
-    → set (one ++ drop (length rest) (replicate 8 0)) (length rest) 255 ≡ end_word rest
-ended_rest rest one is short =
-    let free : 8 - length rest ≡ suc (7 - length rest) = omega (arith, short) in
-    rw (is, drop-replicate {X = ℕ} (length rest) 8 0, free) (set_at rest 0 (replicate (7 - length rest) 0) 255 (length rest) refl)
+-- ---- the last word of a part, as a number
+
+-- a byte of a number is the byte before of its 256th part
+byte_shift : (i n : ℕ) → byte_at (suc i) n ≡ byte_at i (n / 256)
+byte_shift zero n = refl
+byte_shift (suc i) n =
+    ap (λ m. n / m % 256) (pow-suc 256 (suc i) ∙ mul_comm (256 ^ suc i) 256) ∙ ap (λ m. m % 256) (sym (div-div-eq-div-mul n 256 (256 ^ suc i)))
+
+bytes_shift : (i count n : ℕ) → bytes_low_first (suc i) count n ≡ bytes_low_first i count (n / 256)
+bytes_shift i zero n = refl
+bytes_shift i (suc count) n = λ j. byte_shift i n j ∷ bytes_shift (suc i) count n j
+
+-- the bytes of 0
+bytes_of_zero : (count : ℕ) → bytes_low_first 0 count 0 ≡ replicate count 0
+bytes_of_zero zero = refl
+bytes_of_zero (suc count) = ap (λ bytes. 0 ∷ bytes) (bytes_shift 0 count 0 ∙ bytes_of_zero count)
+
+-- the bytes of that number
+bytes_of_number : (bytes : List ℕ) (count : ℕ) → ((i : ℕ) → get_or bytes i 0 < 256)
+    → bytes_low_first 0 (suc (length bytes + count)) (number_of bytes) ≡ bytes ++ (255 ∷ replicate count 0)
+bytes_of_number [] count fits =
+    let same : 0 + count ≡ count = omega arith in
+    ap (λ bytes. 255 ∷ bytes) (ap (λ n. bytes_low_first 1 n 255) same ∙ bytes_shift 0 count 255 ∙ bytes_of_zero count)
+bytes_of_number (b ∷ bytes) count fits =
+    let number = number_of bytes in
+    let low : (b + 256 * number) % 256 ≡ b = omega (arith, fits 0) in
+    let high : (b + 256 * number) / 256 ≡ number = omega (arith, fits 0) in
+    let many : suc (length bytes) + count ≡ suc (length bytes + count) = omega arith in
+    let rest : bytes_low_first 1 (suc (length bytes) + count) (b + 256 * number) ≡ bytes ++ (255 ∷ replicate count 0) =
+    ap (λ n. bytes_low_first 1 n (b + 256 * number)) many ∙ bytes_shift 0 (suc (length bytes + count)) (b + 256 * number)
+    ∙ ap (bytes_low_first 0 (suc (length bytes + count))) high ∙ bytes_of_number bytes count (λ i. fits (suc i)) in
+    λ j. low j ∷ rest j
+
+-- so those of a part's last bytes are its last word
+pub end_word-bytes : (rest : List ℕ) → length rest < 8 → ((i : ℕ) → get_or rest i 0 < 256) → to_le_bytes w64 (number_of rest) ≡ end_word rest
+end_word-bytes rest short fits =
+    let size : 8 ≡ suc (length rest + (7 - length rest)) = omega (arith, short) in
+    ap (λ n. bytes_low_first 0 n (number_of rest)) size ∙ bytes_of_number rest (7 - length rest) fits
 
 -- ---- the byte 255
 

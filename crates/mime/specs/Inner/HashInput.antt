@@ -1,5 +1,5 @@
 -- What a value feeds a hasher, and that equal values feed it the same, as a term: `ghost respects_eq` can't cite proofs/.
-use Rattle.std.specs.Prelude.{ℕ, ◌-◌, ◌%◌, List, [], ◌∷◌, ◌++◌, length, take, drop, replicate, ◌≡◌}
+use Rattle.std.specs.Prelude.{ℕ, ◌+◌, ◌-◌, ◌*◌, ◌%◌, List, [], ◌∷◌, ◌++◌, length, take, drop, replicate, ◌≡◌}
 use Rattle.std.specs.List.{flat_map}
 use Rattle.mime.specs.Values.{MediaType}
 use Rattle.mime.specs.Comparison.{Same}
@@ -8,6 +8,11 @@ use Rattle.std.specs.Hash as fed
 -- the last word of a part: its bytes after the whole words, the byte 255, which no UTF-8 has, and zeros
 abbrev pub end_word : List ℕ → List ℕ
 end_word rest = rest ++ (255 ∷ replicate (7 - length rest) 0)
+
+-- that word as a number, whose lowest byte is its first
+abbrev pub number_of : List ℕ → ℕ
+number_of [] = 255
+number_of (b ∷ rest) = b + 256 * number_of rest
 
 -- the number of bytes in the whole words of a part
 abbrev pub words_len : List ℕ → ℕ

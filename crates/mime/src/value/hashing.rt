@@ -2,7 +2,7 @@
 
 ghost use Rattle.std.specs.Prelude.{◌≡◌, ◌<◌, length};
 ghost use Rattle.std.specs.List.{fold, flat_map};
-ghost use Rattle.mime.specs.Inner.HashInput.{part_input, pair_input, end_word};
+ghost use Rattle.mime.specs.Inner.HashInput.{part_input, pair_input, end_word, number_of};
 
 use crate::value::pairs::Pairs;
 use std::hash::Hasher;
@@ -13,16 +13,54 @@ const WORD: usize = 8;
 /// The byte that ends a part. UTF-8 has no such byte.
 const END: u8 = 0xff;
 
-/// The last word of a part: its bytes after the whole words, `END`, and zeros.
+/// The number whose lowest bytes are these, at most one, and whose next byte is `END`.
+#[inline(always)]
+fn number_up_to_one(rest: &[u8]) -> u64
+    requires { length rest.now < 2 }
+    ensures number { result ≡ number_of rest.now }
+    ensures bound { result < 0x1_0000 }
+{
+    if rest.is_empty() {
+        return END as u64;
+    }
+    rest[0] as u64 + END as u64 * 0x100
+}
+
+/// The number whose lowest bytes are these, at most three, and whose next byte is `END`.
+#[inline(always)]
+fn number_up_to_three(rest: &[u8]) -> u64
+    requires { length rest.now < 4 }
+    ensures number { result ≡ number_of rest.now }
+    ensures bound { result < 0x1_0000_0000 }
+{
+    if rest.len() < 2 {
+        return number_up_to_one(rest);
+    }
+    let low = u16::from_le_bytes([rest[0], rest[1]]);
+    low as u64 + number_up_to_one(&rest[2..]) * 0x1_0000
+}
+
+/// The number whose lowest bytes are these, at most seven, and whose next byte is `END`.
+#[inline(always)]
+fn number_up_to_seven(rest: &[u8]) -> u64
+    requires { length rest.now < WORD }
+    ensures { result ≡ number_of rest.now }
+{
+    if rest.len() < 4 {
+        return number_up_to_three(rest);
+    }
+    let low = u32::from_le_bytes([rest[0], rest[1], rest[2], rest[3]]);
+    low as u64 + number_up_to_three(&rest[4..]) * 0x1_0000_0000
+}
+
+/// The last word of a part: its bytes after the whole words, `END`, and zeros. It is made as a number, whose lowest byte
+/// is the first: most hashers take a word as a number.
 #[inline(always)]
 fn end_word(rest: &[u8]) -> [u8; WORD]
     requires { length rest.now < WORD }
     ensures { result ≡ end_word rest.now }
 {
-    let mut word = [0; WORD];
-    word[..rest.len()].copy_from_slice(rest);
-    word[rest.len()] = END;
-    word
+    number_up_to_seven(rest).to_le_bytes()
 }
 
 /// Feeds a part to a hasher in whole words, since std's hasher takes eight bytes at once nearly as fast as one.
