@@ -24,6 +24,7 @@ pub mod Pieces
 pub mod Places
 pub mod PlacesAgain
 pub mod Ranks
+pub mod Rejections
 pub mod ShortWeight
 pub mod TightLength
 pub mod Trims

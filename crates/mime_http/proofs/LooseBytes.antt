@@ -6,7 +6,7 @@ use Rattle.std.specs.Option.{option_map, option_and_then}
 use Rattle.std.proofs.lemmas.Bool.{and_parts, cond_both, true≢false}
 use Rattle.std.proofs.lemmas.Bool.Decides.{nat_tests}
 use Rattle.std.proofs.lemmas.List.{append-nil, append_assoc, drop-drop, length-take-le, nil_from_length, take-append-drop}
-use Rattle.std.proofs.lemmas.Str.{IsUtf8-take, IsCharBoundary-before_ascii}
+use Rattle.std.proofs.lemmas.Str.{IsCharBoundary-before_ascii}
 use Rattle.std.proofs.lemmas.Option.{none-some, option_and_then_some, MatchOption-at_some, slice_get_within, slice_get-get_or, get_or_from_slice_get}
 use Rattle.mime.specs.Bytes.{is_token_byte, is_quoted_byte}
 use Rattle.mime.specs.Grammar.{is_space, AreSpaces}
@@ -25,7 +25,7 @@ use Rattle.mime_http.specs.declared.tight.Place.TheVariants.{Start, Plain, Space
 use Rattle.mime_http.specs.Tight.{after_quote, after_outside, place_after, added, tight_from, tight}
 use Rattle.mime_http.specs.HttpMediaType.{IsHttpMediaType}
 use Rattle.mime_http.specs.HttpFaults.{IsHttpViable, IsHttpLongestPrefix, HttpLacks, IsHttpDeadAt}
-use Rattle.mime_http.specs.Loose.{is_separator, ends_in_separator, begins_with_semicolon, Stands, Begins, IsLoose}
+use Rattle.mime_http.specs.Tightening.{is_separator, ends_in_separator, begins_with_semicolon, Stands, Begins, IsLoose}
 use Rattle.mime_http.specs.HttpList.{trim_start}
 use Rattle.mime_http.proofs.Highest.{item_left}
 use Rattle.mime_http.proofs.Places.{place_from, place_from-append, token_is_plain}
@@ -306,7 +306,7 @@ left_out_after Closed is b white = absurd is
 left_out_after Semicolon is b white = absurd is
 
 pub first_space : (value : List ℕ)
-    → IsLoose value (record { kept = 0; from = length value - length (trim_start value); place = Start })
+    → IsLoose value 0 (length value - length (trim_start value)) Start
 first_space value =
     record { within = omega arith; from_within = omega arith; tightly = after_white at_start value 0 (omega arith) }
 
@@ -331,7 +331,7 @@ later value pos b dead some white =
     record { cut = cut; within = within; leaves = leaves; nothing = out.0; next = out.1 }
 
 pub later_space : (value : List ℕ) (pos b : ℕ) → IsDeadAt value pos b → 0 < pos → is_space b ≡ true
-    → IsLoose value (record { kept = pos; from = length value - length (trim_start (drop (pos + 1) value)); place = Spaced })
+    → IsLoose value pos (length value - length (trim_start (drop (pos + 1) value))) Spaced
 later_space value pos b dead some white =
     let space = later value pos b dead some white in
     record {
@@ -433,23 +433,24 @@ module _ (value : List ℕ) (pos b : ℕ) (space : LaterSpace value pos b) where
       there = slice_get-get_or value (length value - length rest) 0 within;
     }
 
-    begins_so : Begins value (InvalidToken pos b) pos (length value - length rest)
+    begins_so : Begins value pos (length value - length rest)
     begins_so = record {
-      within = omega (arith, space.within);
-      utf8 = λ utf8.
+      within = space.within;
+      next_within = omega arith;
+      boundary =
           let ascii : get_or value pos 0 < 128 = omega (arith, get_or_from_slice_get value pos b 0 here, below) in
-          IsUtf8-take value pos utf8 (IsCharBoundary-before_ascii value pos space.within ascii);
+          IsCharBoundary-before_ascii value pos space.within ascii;
       alone = λ past.
           let empty : rest ≡ [] = nil_from_length rest (omega (arith, past, short)) in
           ap tight (sym whole) ∙ (ap (λ x. tight (front ++ x)) empty ∙ (ap tight (append-nil front) ∙ comes_alone white all));
       rejected = stops_there;
-      before = dead_before;
+      before = λ rejected. subst (IsHttpDeadAt value pos) (sym (get_or_from_slice_get value pos b 0 here)) (dead_before rejected);
       after = dead_after;
     }
 
 pub begins : (value : List ℕ) (pos b : ℕ) → IsDeadAt value pos b → 0 < pos → is_space b ≡ true
     → begins_with_semicolon (trim_start (drop (pos + 1) value)) ≡ false
-    → Begins value (InvalidToken pos b) pos (length value - length (trim_start (drop (pos + 1) value)))
+    → Begins value pos (length value - length (trim_start (drop (pos + 1) value)))
 begins value pos b dead some white no_semicolon =
     let split = split_white (drop (pos + 1) value) in
     begins_so value pos b (later value pos b dead some white) dead.there (below_128 b white) split.0 (trim_start (drop (pos + 1) value)) split.1 split.2
@@ -587,7 +588,7 @@ not_separated before ends = go (snoc before) ends
         subst IsOther (sym (place_from-append Start front (c ∷ []))) (after_other (place_from Start front) c (rw there at ends))
 
 pub next_semicolon : (value : List ℕ) (pos b : ℕ) → IsDeadAt value pos b → b ≡ 59 → ends_in_separator (take pos value) ≡ true
-    → IsLoose value (record { kept = pos; from = pos + 1; place = Semicolon })
+    → IsLoose value pos (pos + 1) Semicolon
 next_semicolon value pos b dead is ends =
     let cut = cut_at value pos b dead in
     let within = slice_get_within value pos b dead.there in

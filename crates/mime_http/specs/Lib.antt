@@ -13,7 +13,7 @@ pub mod ListLaws
 pub mod RangesLaws
 -- private
 pub mod Tight
-pub mod Loose
+pub mod Tightening
 pub mod Reached
 pub mod Walk
 pub mod Forms

@@ -60,7 +60,8 @@ impl Accept {
         if let ParseError::NoMemory = fault {
             return Err(AllocError);
         }
-        match read_tight(alloc, entry.as_bytes(), fault)? {
+        // What was left of a bad entry is freed before the entry is copied.
+        match read_tight(alloc, entry, fault)?.ok() {
             Some(range) => self.ranges.push(range)?,
             None => self.add_bad(alloc, entry.as_bytes())?,
         }

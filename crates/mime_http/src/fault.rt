@@ -4,14 +4,24 @@ ghost use Rattle.std.specs.Prelude.{◌≡◌, ◌↔◌, ◌<◌, ◌≤◌, Is
 ghost use Rattle.std.specs.Str.{IsUtf8};
 ghost use Rattle.mime.specs.Values.{IsAccepted};
 ghost use Rattle.mime.specs.Faults.{IsFault};
+ghost use Rattle.mime_http.specs.HttpMediaType.{IsHttpMediaType};
 ghost use Rattle.mime_http.specs.HttpFaults.{IsHttpLongestPrefix, IsHttpFault};
 ghost use Rattle.mime_http.specs.Tight.{added, tight};
-ghost use Rattle.mime_http.specs.Loose.{Begins};
+ghost use Rattle.mime_http.specs.Tightening.{Begins, IsRejected};
 ghost use Rattle.mime_http.specs.Reached.{start, reach_from, limit_of};
 
-use crate::tight::{Place, is_dropped, next};
+use crate::tight::{Place, Tightening, is_dropped, next};
 use mime::{Mime, ParseError};
 use std::alloc::Global;
+
+/// Why HTTP rejects a value that the library rejects, too.
+#[derive(Drop)]
+pub(crate) struct Rejected {
+    /// What tightening leaves of the value.
+    pub(crate) left: Tightening,
+    /// The fault that the library finds in the copy, or in the value if there is none.
+    pub(crate) fault: ParseError,
+}
 
 /// How far a value goes before what comes out of it is too long.
 #[derive(Clone, Copy)]
@@ -113,12 +123,12 @@ fn viable_len(alloc: Global, value: &[u8], text: &str, fault: ParseError) -> usi
 }
 
 /// The fault of a value, at its position there, from that of the tightened value.
-pub(crate) fn fault_in(alloc: Global, value: &[u8], text: &str, fault: ParseError) -> ParseError
-    requires utf8 { IsUtf8 value.now }
+fn fault_in(alloc: Global, value: &str, text: &str, fault: ParseError) -> ParseError
     requires text { text.now ≡ tight value.now }
     requires fault { IsFault text.now fault }
     ensures { IsHttpFault value.now result }
 {
+    let value = value.as_bytes();
     let pos = viable_len(alloc, value, text, fault);
     match value.get(pos) {
         Some(&byte) => ParseError::InvalidToken { pos, byte },
@@ -126,28 +136,31 @@ pub(crate) fn fault_in(alloc: Global, value: &[u8], text: &str, fault: ParseErro
     }
 }
 
-/// The fault of a value that goes on at the position `next` after white space at the position `end`, where the library finds this fault.
-pub(crate) fn fault_at_white(
-    alloc: Global,
-    value: &[u8],
-    fault: ParseError,
-    end: usize,
-    next: usize,
-) -> ParseError
-    requires utf8 { IsUtf8 value.now }
-    requires begins { Begins value.now fault end next }
-    requires within { next < length value.now }
+/// The fault of a value that HTTP rejects, with white space from `end` to `next`: the byte at `next` if a media type precedes the white
+/// space, else the white space.
+fn fault_at_white(alloc: Global, value: &str, end: usize, next: usize) -> ParseError
+    requires rejected { ¬ (IsHttpMediaType value.now) }
+    requires begins { Begins value.now end next }
     ensures { IsHttpFault value.now result }
 {
-    let Ok(begin) = str::from_utf8(&value[..end]) else {
-        unreachable!()
-    };
-    if is_accepted(alloc, begin) {
-        ParseError::InvalidToken {
-            pos: next,
-            byte: value[next],
-        }
-    } else {
-        fault
+    let mut pos = end;
+    if next < value.len() && is_accepted(alloc, &value[..end]) {
+        pos = next;
+    }
+    ParseError::InvalidToken {
+        pos,
+        byte: value.as_bytes()[pos],
+    }
+}
+
+/// The fault of a value that HTTP rejects, at its position there.
+pub(crate) fn fault_of(alloc: Global, value: &str, rejected: &Rejected) -> ParseError
+    requires { IsRejected value.now rejected.now }
+    ensures { IsHttpFault value.now result }
+{
+    match &rejected.left {
+        Tightening::Nothing => rejected.fault,
+        Tightening::Prefix { end, next } => fault_at_white(alloc, value, *end, *next),
+        Tightening::Copy(copy) => fault_in(alloc, value, copy, rejected.fault),
     }
 }

@@ -1,12 +1,14 @@
 //! A header's value without what HTTP allows there and the library rejects.
 
 ghost use Rattle.std.specs.Prelude.{◌≡◌, ◌<◌, [], ◌∷◌, ◌++◌, true, length, slice_index, OnOk, IfOk};
+ghost use Rattle.std.specs.Str.{IsUtf8};
 ghost use Rattle.std.specs.Vec.{vec_items};
 ghost use Rattle.mime.specs.Grammar.{is_space};
 ghost use Rattle.mime.specs.Faults.{IsDeadAt, IsFault};
+ghost use Rattle.mime.specs.declared.scan.fault.ParseError.{ParseError};
 ghost use Rattle.mime.specs.declared.scan.fault.ParseError.TheVariants.{InvalidToken};
 ghost use Rattle.mime_http.specs.Tight.{after_space, after_outside, place_after, is_left_out, added, tight};
-ghost use Rattle.mime_http.specs.Loose.{ends_in_separator, begins_with_semicolon, IsLoose, IsLeft};
+ghost use Rattle.mime_http.specs.Tightening.{ends_in_separator, begins_with_semicolon, IsLoose, IsTightening};
 
 use crate::list::trim_start;
 use mime::ParseError;
@@ -33,27 +35,15 @@ pub(crate) enum Place {
     Semicolon,
 }
 
-/// How a value goes on after the first byte that tightening leaves out.
-#[derive(Clone, Copy)]
-pub(crate) struct Loose {
-    /// The position of that byte. Those before it come out as they are.
-    pub(crate) kept: usize,
-    /// The position of the first byte after it that may come out.
-    pub(crate) from: usize,
-    /// The place there.
-    pub(crate) place: Place,
-}
-
-/// What tightening makes of a value that the library rejects.
-#[derive(Clone, Copy)]
-pub(crate) enum Left {
+/// What tightening leaves of a value that the library rejects.
+#[derive(Drop)]
+pub(crate) enum Tightening {
     /// Nothing that HTTP allows: the fault stands.
-    Fault,
-    /// What is before the white space at the position `end`, where the fault is. At the position `next` the value ends, or has a byte
-    /// that no media type has after white space.
-    Begin { end: usize, next: usize },
-    /// What comes out if it goes on so.
-    Loose(Loose),
+    Nothing,
+    /// The bytes before `end`. White space stands from there to `next`, then the end or a byte that no media type has after white space.
+    Prefix { end: usize, next: usize },
+    /// What comes out of the whole value.
+    Copy(String),
 }
 
 /// The place after white space outside quotes.
@@ -133,51 +123,6 @@ fn begins_with_semicolon(bytes: &[u8]) -> bool
     matches!(bytes.first(), Some(b';'))
 }
 
-/// What tightening makes of a value whose fault is white space at a position after its first.
-fn left_at_white(value: &[u8], pos: usize) -> Left
-    requires within { pos < length value.now }
-    requires some { 0 < pos }
-    requires fault { IsDeadAt value.now pos (slice_index value.now pos) }
-    requires white { is_space (slice_index value.now pos) ≡ true }
-    ensures { IsLeft value.now (InvalidToken pos (slice_index value.now pos)) result }
-{
-    let rest = trim_start(&value[pos + 1..]);
-    let next = value.len() - rest.len();
-    if begins_with_semicolon(rest) {
-        Left::Loose(Loose {
-            kept: pos,
-            from: next,
-            place: Place::Spaced,
-        })
-    } else {
-        Left::Begin { end: pos, next }
-    }
-}
-
-/// What tightening makes of a value with this fault.
-pub(crate) fn left_of(value: &[u8], fault: ParseError) -> Left
-    requires { IsFault value.now fault }
-    ensures { IsLeft value.now fault result }
-{
-    let ParseError::InvalidToken { pos, byte } = fault else {
-        return Left::Fault;
-    };
-    match byte {
-        b' ' | b'\t' if pos == 0 => Left::Loose(Loose {
-            kept: 0,
-            from: value.len() - trim_start(value).len(),
-            place: Place::Start,
-        }),
-        b' ' | b'\t' => left_at_white(value, pos),
-        b';' if ends_in_separator(&value[..pos]) => Left::Loose(Loose {
-            kept: pos,
-            from: pos + 1,
-            place: Place::Semicolon,
-        }),
-        _ => Left::Fault,
-    }
-}
-
 /// Whether a byte comes out and leads to the same place, as most bytes do.
 fn stays(place: Place, byte: u8) -> bool
     ensures out { result ≡ true → added place byte ≡ byte ∷ [] }
@@ -190,17 +135,25 @@ fn stays(place: Place, byte: u8) -> bool
     }
 }
 
-/// The value of a header that has one media type, as the library takes it: without white space around it and before
-/// semicolons, and without empty parameters (RFC 9110, 5.6.6). `text/html ;; q=1` becomes `text/html; q=1`. It is never longer
-/// than the value, so one allocation has room for it.
-pub(crate) fn tightened(alloc: Global, value: &[u8], loose: Loose) -> Result<Vec<u8>, AllocError>
-    requires loose { IsLoose value.now loose }
-    ensures { IfOk result (λ out. vec_items out ≡ tight value.now) }
+/// A copy of the value of a header that has one media type, as the library takes it: without white space around it and before
+/// semicolons, and without empty parameters (RFC 9110, 5.6.6). `text/html ;; q=1` becomes `text/html; q=1`. The first `kept` bytes
+/// come out as they are, and those from `from` on, where this is the place, byte by byte. It is never longer than the value, so one
+/// allocation has room for it.
+fn copied(
+    alloc: Global,
+    value: &[u8],
+    kept: usize,
+    from: usize,
+    place: Place,
+) -> Result<Tightening, AllocError>
+    requires utf8 { IsUtf8 value.now }
+    requires loose { IsLoose value.now kept from place }
+    ensures { (fault : ParseError) → IfOk result (IsTightening value.now fault) }
 {
     let mut out = Vec::with_capacity(alloc, value.len())?;
-    out.extend_from_slice(&value[..loose.kept])?;
-    let mut place = loose.place;
-    let rest = &value[loose.from..];
+    out.extend_from_slice(&value[..kept])?;
+    let mut place = place;
+    let rest = &value[from..];
     for &byte in rest {
         // The short way for most bytes.
         if stays(place, byte) {
@@ -210,5 +163,50 @@ pub(crate) fn tightened(alloc: Global, value: &[u8], loose: Loose) -> Result<Vec
         push_byte(&mut out, place, byte)?;
         place = next(place, byte);
     }
-    Ok(out)
+    // SAFETY: no byte past ASCII is left out, and none is added.
+    Ok(Tightening::Copy(unsafe { String::from_utf8_unchecked(out) }))
+}
+
+/// What tightening leaves of a value whose fault is white space at a position after its first.
+fn tightening_at_white(alloc: Global, value: &[u8], pos: usize) -> Result<Tightening, AllocError>
+    requires utf8 { IsUtf8 value.now }
+    requires within { pos < length value.now }
+    requires some { 0 < pos }
+    requires fault { IsDeadAt value.now pos (slice_index value.now pos) }
+    requires white { is_space (slice_index value.now pos) ≡ true }
+    ensures { IfOk result (IsTightening value.now (InvalidToken pos (slice_index value.now pos))) }
+{
+    let rest = trim_start(&value[pos + 1..]);
+    let next = value.len() - rest.len();
+    if begins_with_semicolon(rest) {
+        copied(alloc, value, pos, next, Place::Spaced)
+    } else {
+        Ok(Tightening::Prefix { end: pos, next })
+    }
+}
+
+/// What tightening leaves of a value with this fault.
+pub(crate) fn tightening_of(
+    alloc: Global,
+    value: &[u8],
+    fault: ParseError,
+) -> Result<Tightening, AllocError>
+    requires utf8 { IsUtf8 value.now }
+    requires fault { IsFault value.now fault }
+    ensures { IfOk result (IsTightening value.now fault) }
+{
+    let ParseError::InvalidToken { pos, byte } = fault else {
+        return Ok(Tightening::Nothing);
+    };
+    match byte {
+        b' ' | b'\t' if pos == 0 => {
+            let from = value.len() - trim_start(value).len();
+            copied(alloc, value, 0, from, Place::Start)
+        }
+        b' ' | b'\t' => tightening_at_white(alloc, value, pos),
+        b';' if ends_in_separator(&value[..pos]) => {
+            copied(alloc, value, pos, pos + 1, Place::Semicolon)
+        }
+        _ => Ok(Tightening::Nothing),
+    }
 }

@@ -1,18 +1,18 @@
 //! The media type of a header's value, which comes as bytes.
 
-ghost use Rattle.std.specs.Prelude.{◌≡◌, ◌≢◌, codes, Some, IfOk, IfErr, IsOk, MatchOption, MatchResult};
+ghost use Rattle.std.specs.Prelude.{◌≡◌, ◌≢◌, codes, Some, IfOk, IfErr, IsOk, MatchResult};
 ghost use Rattle.std.specs.Fmt.InlineText.{inline_text};
 ghost use Rattle.std.specs.Str.{IsUtf8, IsValidUpTo, valid_up_to};
-ghost use Rattle.mime.specs.Values.{Reads, IsAccepted};
+ghost use Rattle.mime.specs.Values.{Reads};
 ghost use Rattle.mime.specs.Faults.{IsFault};
 ghost use Rattle.mime_http.specs.HttpMediaType.{HttpReads, IsHttpMediaType};
 ghost use Rattle.mime_http.specs.HttpFaults.{HttpExplains};
 ghost use Rattle.mime_http.specs.HttpPrinted.{not_utf8_text};
 ghost use Rattle.mime_http.specs.Tight.{tight};
-ghost use Rattle.mime_http.specs.Loose.{Begins};
+ghost use Rattle.mime_http.specs.Tightening.{IsRejected};
 
-use crate::fault::{fault_at_white, fault_in};
-use crate::tight::{Left, left_of, tightened};
+use crate::fault::{Rejected, fault_of};
+use crate::tight::{Tightening, tightening_of};
 use mime::{Mime, ParseError};
 use std::alloc::{AllocError, Global};
 use std::error::Error;
@@ -79,120 +79,48 @@ pub(crate) fn text_of(value: &[u8]) -> Result<&str, Utf8Error>
     str::from_utf8(value)
 }
 
-/// The text that is left of a value by tightening.
-fn text_of_tight(tight: &[u8]) -> &str
-    requires { IsUtf8 tight.now }
-    ensures { result.now ≡ tight.now }
-{
-    let Ok(text) = text_of(tight) else {
-        unreachable!()
-    };
-    text
-}
-
-/// The media type of what is left of a value, or `None` if the library rejects it.
-fn read_left(alloc: Global, left: &[u8]) -> Result<Option<Mime>, AllocError>
-    requires { IsUtf8 left.now }
-    ensures { IfOk result (λ answer. MatchOption answer (¬ (IsAccepted left.now)) (λ mime. Reads left.now mime.media)) }
-{
-    match Mime::from_str(alloc, text_of_tight(left)) {
-        Ok(mime) => Ok(Some(mime)),
-        Err(error) => match error.fault() {
-            ParseError::NoMemory => Err(AllocError),
-            _ => Ok(None),
-        },
-    }
-}
-
-/// The media type of a value that the library rejects as it stands, for this fault, or `None` if HTTP doesn't allow it either.
-#[inline(never)]
+/// Reads as HTTP a value that `from_str` rejected with `fault`: gives its media type, or why HTTP rejects it, too.
+#[inline(always)]
 pub(crate) fn read_tight(
     alloc: Global,
-    value: &[u8],
+    value: &str,
     fault: ParseError,
-) -> Result<Option<Mime>, AllocError>
-    requires utf8 { IsUtf8 value.now }
-    requires fault { IsFault value.now fault }
-    ensures { IfOk result (λ answer. MatchOption answer (¬ (IsHttpMediaType value.now)) (λ mime. HttpReads value.now mime.media)) }
+) -> Result<Result<Mime, Rejected>, AllocError>
+    requires { IsFault value.now fault }
+    ensures { IfOk result (λ answer. MatchResult answer (λ mime. Reads (tight value.now) mime.media) (IsRejected value.now)) }
 {
-    match left_of(value, fault) {
-        Left::Fault => Ok(None),
-        Left::Begin { end, next } => {
-            if next < value.len() {
-                return Ok(None);
-            }
-            read_left(alloc, &value[..end])
-        }
-        Left::Loose(loose) => read_left(alloc, &tightened(alloc, value, loose)?),
-    }
-}
-
-/// The media type of a value of which this is left, or its fault as HTTP writes it.
-fn read_tightened(alloc: Global, value: &[u8], left: &[u8]) -> Result<Mime, FieldError>
-    requires utf8 { IsUtf8 value.now }
-    requires other { value.now ≢ codes "*/*" }
-    requires left { left.now ≡ tight value.now }
-    ensures http { IfOk result (λ mime. HttpReads value.now mime.media) }
-    ensures kept { IfOk result (λ mime. Reads (tight value.now) mime.media) }
-    ensures explained { IfErr result (λ error. HttpExplains value.now error) }
-    ensures accepted { IsHttpMediaType value.now → IfErr result (λ error. error ≡ FieldError.NoMemory) }
-{
-    let text = text_of_tight(left);
+    let left = tightening_of(alloc, value.as_bytes(), fault)?;
+    let text = match &left {
+        Tightening::Prefix { end, next } if *next == value.len() => &value[..*end],
+        Tightening::Copy(copy) => copy,
+        _ => return Ok(Err(Rejected { left, fault })),
+    };
     match Mime::from_str(alloc, text) {
-        Ok(mime) => Ok(mime),
+        Ok(mime) => Ok(Ok(mime)),
         Err(error) => match error.fault() {
-            ParseError::NoMemory => Err(FieldError::NoMemory),
-            fault => Err(FieldError::Invalid(fault_in(alloc, value, text, *fault))),
+            ParseError::NoMemory => Err(AllocError),
+            fault => Ok(Err(Rejected {
+                left,
+                fault: *fault,
+            })),
         },
     }
 }
 
-/// The media type of a value of which the bytes before white space are left, if the value ends with the white space.
-fn read_begin(
-    alloc: Global,
-    value: &[u8],
-    fault: ParseError,
-    end: usize,
-    next: usize,
-) -> Result<Mime, FieldError>
-    requires utf8 { IsUtf8 value.now }
-    requires other { value.now ≢ codes "*/*" }
-    requires begins { Begins value.now fault end next }
-    ensures http { IfOk result (λ mime. HttpReads value.now mime.media) }
-    ensures kept { IfOk result (λ mime. Reads (tight value.now) mime.media) }
-    ensures explained { IfErr result (λ error. HttpExplains value.now error) }
-    ensures accepted { IsHttpMediaType value.now → IfErr result (λ error. error ≡ FieldError.NoMemory) }
-{
-    if next < value.len() {
-        let fault = fault_at_white(alloc, value, fault, end, next);
-        return Err(FieldError::Invalid(fault));
-    }
-    match read_left(alloc, &value[..end]) {
-        Ok(Some(mime)) => Ok(mime),
-        Ok(None) => Err(FieldError::Invalid(fault)),
-        Err(_) => Err(FieldError::NoMemory),
-    }
-}
-
-/// The media type of a value that the library rejects as it stands, for this fault, or its fault as HTTP writes it. It isn't inlined, so
-/// that reading a value that the library accepts stays short.
+/// The media type of a value that `from_str` rejected with `fault`, or its fault as HTTP writes it. It isn't inlined, so that reading a
+/// value that the library accepts stays short.
 #[inline(never)]
-fn read_rejected(alloc: Global, value: &[u8], fault: ParseError) -> Result<Mime, FieldError>
-    requires utf8 { IsUtf8 value.now }
+fn read_rejected(alloc: Global, value: &str, fault: ParseError) -> Result<Mime, FieldError>
     requires other { value.now ≢ codes "*/*" }
     requires fault { IsFault value.now fault }
-    ensures http { IfOk result (λ mime. HttpReads value.now mime.media) }
     ensures kept { IfOk result (λ mime. Reads (tight value.now) mime.media) }
     ensures explained { IfErr result (λ error. HttpExplains value.now error) }
     ensures accepted { IsHttpMediaType value.now → IfErr result (λ error. error ≡ FieldError.NoMemory) }
 {
-    match left_of(value, fault) {
-        Left::Fault => Err(FieldError::Invalid(fault)),
-        Left::Begin { end, next } => read_begin(alloc, value, fault, end, next),
-        Left::Loose(loose) => match tightened(alloc, value, loose) {
-            Ok(left) => read_tightened(alloc, value, &left),
-            Err(_) => Err(FieldError::NoMemory),
-        },
+    match read_tight(alloc, value, fault) {
+        Ok(Ok(mime)) => Ok(mime),
+        Ok(Err(rejected)) => Err(FieldError::Invalid(fault_of(alloc, value, &rejected))),
+        Err(_) => Err(FieldError::NoMemory),
     }
 }
 
@@ -203,8 +131,8 @@ fn read_rejected(alloc: Global, value: &[u8], fault: ParseError) -> Result<Mime,
 /// A value that [`Mime::from_str`] accepts is read as it stands, with one allocation, or none for at most 40 bytes, and so is one
 /// with white space after it. Another is copied first, without that white space and those parameters, with one allocation more:
 /// ` text/html ;; charset=utf-8` is kept as `text/html; charset=utf-8`. The values of parameters keep their backslashes. Rejecting
-/// a value allocates nothing, but once if something is left out before its fault, and once more if a media type of more than 40
-/// bytes and white space stand before its fault, as in `a/b c`; all is freed.
+/// allocates nothing, but for a copy if something is left out before the fault, and for a media type of more than 40 bytes that white
+/// space and another byte follow. Both are freed.
 ///
 /// # Errors
 /// `NotUtf8` for a value that isn't valid UTF-8, before anything is allocated; `Invalid` with the fault of a value that
@@ -233,7 +161,7 @@ pub fn content_type(alloc: Global, value: &[u8]) -> Result<Mime, FieldError>
         Ok(mime) => Ok(mime),
         Err(error) => match error.fault() {
             ParseError::NoMemory => Err(FieldError::NoMemory),
-            fault => read_rejected(alloc, value, *fault),
+            fault => read_rejected(alloc, text, *fault),
         },
     }
 }

@@ -1,15 +1,20 @@
 -- What the library reads as it stands is what HTTP writes, and stays as it is.
-use Rattle.std.proofs.Common.{rules, arith, ◌≡◌, ◌∙◌, refl, ℕ, List, [], ◌∷◌, subst, sym}
+use Rattle.std.proofs.Common.{rules, arith, ◌≡◌, ◌∙◌, ℕ, List, [], ◌∷◌, subst, sym}
 use Rattle.std.specs.Str.{IsUtf8}
 use Rattle.std.proofs.lemmas.Bool.{true≢false}
 use Rattle.std.proofs.lemmas.Str.{IsUtf8-from_ascii}
 use Rattle.std.proofs.lemmas.Str.Ascii.{IsAscii-cons, IsAscii-nil}
-use Rattle.mime.specs.Values.{Reads}
-use Rattle.mime.specs.Faults.{IsFault, Explains}
-use Rattle.mime.specs.declared.scan.fault.ParseError.{ParseError}
-use Rattle.mime.specs.declared.scan.fault.ParseError.TheVariants.{NoMemory}
+use Rattle.std.specs.Prelude.{Result, Ok, Err, IfOk, IfErr}
+use Rattle.mime.specs.Values.{OwnedMedia, Reads}
+use Rattle.mime.specs.Faults.{Explains}
+use Rattle.mime_http.specs.declared.value.FieldError.{FieldError}
+use Rattle.mime_http.specs.HttpMediaType.{HttpReads, IsHttpMediaType}
+use Rattle.mime_http.specs.HttpFaults.{HttpExplains}
+use Rattle.mime_http.specs.Tight.{tight}
+use Rattle.mime_http.proofs.HttpBack.{read_is_http}
 use Rattle.mime_http.proofs.Places.{accepted_stays}
 use Rattle.mime_http.proofs.HttpLaws.{plain_is_http}
+use Rattle.mime_http.proofs.Rejections.{fault_explains}
 use Rattle.mime_http.proofs.value.content_type.Goals as goal
 
 star : IsUtf8 (42 ∷ 47 ∷ 42 ∷ [])
@@ -33,17 +38,30 @@ returns-in-Ok-from_str-clause-kept c =
     let read = subst (λ text. Reads text c.in-Ok-from_str.mime.media) text c.in-Ok-from_str.ensures.read in
     subst (λ text. Reads text c.in-Ok-from_str.mime.media) (sym (accepted_stays c.args.value.now (_, read))) read
 
-is_fault : (text : List ℕ) (fault : ParseError) → ¬ (fault ≡ NoMemory) → Explains text fault → IsFault text fault
-is_fault text NoMemory other is = absurd (other refl)
-is_fault text fault other is = is
-
 pub read_rejected-requires : goal.read_rejected-requires
-read_rejected-requires c =
-    let text : c.in-Ok.text.now ≡ c.args.value.now = search rules in
+read_rejected-requires c = record {
+  other = λ is. absurd (true≢false (sym (c.in-Err-from_str.ensures.star is).1));
+  fault = fault_explains c.in-Ok.text.now c.fault.result.now c.in_default.not-NoMemory
+      (subst (Explains c.in-Ok.text.now) (sym c.fault.ensures) c.in-Err-from_str.ensures.explained);
+}
+
+-- what is read of the tightened value is read of the value
+http_read : (value : List ℕ) (result : Result OwnedMedia FieldError) → IsUtf8 value → IfOk result (λ mime. Reads (tight value) mime.media)
+    → IfOk result (λ mime. IsUtf8 value × HttpReads value mime.media)
+http_read value (Ok mime) utf8 read = (utf8, read_is_http value mime.media read)
+http_read value (Err error) utf8 read = tt
+
+pub returns-in_default : goal.returns-in_default
+returns-in_default c =
+    let value = c.args.value.now in
+    let result = c.read_rejected.result in
+    let said = c.read_rejected.ensures in
+    let text : c.in-Ok.text.now ≡ value = search rules in
+    let kept = subst (λ t. IfOk result (λ mime. Reads (tight t) mime.media)) text said.kept in
     record {
-      utf8 = search rules;
-      other = λ is. absurd (true≢false (sym (c.in-Err-from_str.ensures.star (text ∙ is)).1));
-      fault = subst (λ value. IsFault value c.fault.result.now) text
-          (is_fault c.in-Ok.text.now c.fault.result.now c.in_default.not-NoMemory
-          (subst (Explains c.in-Ok.text.now) (sym c.fault.ensures) c.in-Err-from_str.ensures.explained));
+      http = http_read value result (search rules) kept;
+      kept = kept;
+      explained = subst (λ t. IfErr result (λ error. HttpExplains t error)) text said.explained;
+      accepted = λ utf8. subst (λ t. IsHttpMediaType t → IfErr result (λ error. error ≡ FieldError.NoMemory)) text said.accepted;
+      star = λ is. absurd (true≢false (sym (c.in-Err-from_str.ensures.star (text ∙ is)).1));
     }

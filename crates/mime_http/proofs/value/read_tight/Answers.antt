@@ -1,32 +1,37 @@
--- What is left of a value in UTF-8 is in UTF-8, and is read as the value.
-use Rattle.std.proofs.Common.{rules, arith, ◌≡◌, subst, sym, ℕ, List, Ok, Err, Some, None}
-use Rattle.std.specs.Prelude.{Result, Option, IfOk, MatchOption}
-use Rattle.std.specs.Str.{IsUtf8}
-use Rattle.mime.specs.Values.{OwnedMedia, Reads, IsAccepted}
-use Rattle.mime_http.specs.Tight.{tight}
-use Rattle.mime_http.specs.HttpMediaType.{HttpReads, IsHttpMediaType}
-use Rattle.mime_http.proofs.HttpBack.{read_is_http}
-use Rattle.mime_http.proofs.HttpLaws.{accepted_from_http}
-use Rattle.mime_http.proofs.HttpText.{tight_utf8}
+-- What tightening leaves is read as the value, and if it isn't, HTTP rejects the value.
+use Rattle.std.proofs.Common.{rules, ◌≡◌, ◌∙◌, sym, subst, take, string_bytes}
+use Rattle.mime.specs.Values.{IsAccepted}
+use Rattle.mime.specs.Faults.{IsFault, Explains}
+use Rattle.mime_http.specs.Tightening.{IsTightening}
+use Rattle.mime_http.proofs.Rejections.{fault_explains, rejected_nothing, rejected_at_next, rejected_prefix, rejected_copy}
+use Rattle.mime_http.proofs.value.read_tight.Goals.{in_default-via-in-Prefix+else-next-value, in_default-via-in_default, in-Prefix, in-Copy}
 use Rattle.mime_http.proofs.value.read_tight.Goals as goal
 
--- what is read of what is left is read of the value
-read_so : {E : Type 0} (value left : List ℕ) (result : Result (Option OwnedMedia) E) → left ≡ tight value
-    → IfOk result (λ answer. MatchOption answer (¬ (IsAccepted left)) (λ mime. Reads left mime.media))
-    → IfOk result (λ answer. MatchOption answer (¬ (IsHttpMediaType value)) (λ mime. HttpReads value mime.media))
-read_so value left (Ok None) same rejected = λ is. rejected (subst IsAccepted (sym same) (accepted_from_http value is))
-read_so value left (Ok (Some mime)) same reads = read_is_http value mime.media (subst (λ t. Reads t mime.media) same reads)
-read_so value left (Err e) same memory = tt
+pub returns-in_default : goal.returns-in_default
+returns-in_default c =
+    let value = c.args.value.now in
+    let left = c.in_ok-left.left in
+    let is : IsTightening value c.args.fault left = search rules in
+    elim c.in_default.branch [
+      | in_default-via-in-Prefix+else-next-value w ↦ rejected_at_next value c.args.fault left _ _ is w.in-Prefix.is w.if-next-value.false
+      | in_default-via-in_default w ↦ rejected_nothing value c.args.fault left is w.in_default.is
+    ]
 
-pub read_left-requires-in-Loose : goal.read_left-requires-in-Loose
-read_left-requires-in-Loose c =
-    let left : c.deref.result.now ≡ tight c.args.value.now = search rules in
-    subst IsUtf8 (sym left) ((tight_utf8 c.args.value.now).0 c.requires.utf8)
-
-pub returns-else-next-value : goal.returns-else-next-value
-returns-else-next-value c = read_so c.args.value.now _ c.read_left.result (sym (c.in-Begin.ensures.alone (omega (arith, c.if-next-value.false)))) c.read_left.ensures
-
-pub returns-in_ok-tightened-in-Loose : goal.returns-in_ok-tightened-in-Loose
-returns-in_ok-tightened-in-Loose c =
-    let left : c.deref.result.now ≡ tight c.args.value.now = search rules in
-    read_so c.args.value.now _ c.read_left-in-Loose.result left c.read_left-in-Loose.ensures
+pub returns-in_default-fault : goal.returns-in_default-fault
+returns-in_default-fault c =
+    let value = c.args.value.now in
+    let left = c.in_ok-left.left in
+    let text = c.match-left.text.now in
+    let fault = c.fault.result.now in
+    let is : IsTightening value c.args.fault left = search rules in
+    let rejected : ¬ (IsAccepted text) = λ accepted. c.in_default-fault.not-NoMemory (c.fault.ensures ∙ c.in-Err.ensures.accepted accepted) in
+    let faulty = fault_explains text fault c.in_default-fault.not-NoMemory (subst (Explains text) (sym c.fault.ensures) c.in-Err.ensures.explained) in
+    elim c.match-left.branch [
+      | in-Prefix w ↦
+          let here : text ≡ take w.in-Prefix.end value = search rules in
+          rejected_prefix value c.args.fault fault left _ _ is w.in-Prefix.is w.if-next-value.true (subst (λ t. ¬ (IsAccepted t)) here rejected)
+      | in-Copy w ↦
+          let here : text ≡ string_bytes w.in-Copy.copy = search rules in
+          rejected_copy value c.args.fault fault left w.in-Copy.copy is w.in-Copy.is (subst (λ t. ¬ (IsAccepted t)) here rejected)
+          (subst (λ t. IsFault t fault) here faulty)
+    ]

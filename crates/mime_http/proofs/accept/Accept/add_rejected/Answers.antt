@@ -1,17 +1,33 @@
 -- The entry's media type or itself was pushed.
-use Rattle.std.proofs.Common.{rules, ◌∙◌, refl, sym, ap, subst, [], ◌∷◌, ◌++◌}
+use Rattle.std.proofs.Common.{rules, ◌≡◌, ◌∙◌, refl, sym, ap, subst, ℕ, List, [], ◌∷◌, ◌++◌}
+use Rattle.std.specs.Prelude.{Result, Option, Ok, Err, Some, None, MatchResult, MatchOption}
+use Rattle.std.specs.Result.{result_ok}
 use Rattle.std.specs.Str.{IsUtf8}
 use Rattle.std.specs.Vec.{vec_items}
+use Rattle.mime.specs.Values.{OwnedMedia, Reads}
 use Rattle.mime_http.specs.HttpMediaType.{HttpReads, IsHttpMediaType}
 use Rattle.mime_http.specs.HttpList.{Header, trim_end}
+use Rattle.mime_http.specs.declared.fault.Rejected.{Rejected}
+use Rattle.mime_http.specs.Tight.{tight}
+use Rattle.mime_http.specs.Tightening.{IsRejected}
 use Rattle.mime_http.proofs.Adds.{pushed, add_range, add_bad}
+use Rattle.mime_http.proofs.HttpBack.{read_is_http}
 use Rattle.mime_http.proofs.accept.Accept.add_rejected.Goals as goal
+
+-- What is read of an entry is a media type as HTTP writes it, or there is none.
+read_http : (entry : List ℕ) (answer : Result OwnedMedia Rejected) (o : Option OwnedMedia) → result_ok answer ≡ o
+    → MatchResult answer (λ mime. Reads (tight entry) mime.media) (IsRejected entry)
+    → MatchOption o (¬ (IsHttpMediaType entry)) (λ mime. HttpReads entry mime.media)
+read_http entry (Ok mime) o is reads =
+    subst (λ o. MatchOption o (¬ (IsHttpMediaType entry)) (λ mime. HttpReads entry mime.media)) is (read_is_http entry mime.media reads)
+read_http entry (Err rejected) o is isnt =
+    subst (λ o. MatchOption o (¬ (IsHttpMediaType entry)) (λ mime. HttpReads entry mime.media)) is isnt.is
 
 pub returns-in_ok-push-in-Some : goal.returns-in_ok-push-in-Some
 returns-in_ok-push-in-Some c =
     let entry = c.args.entry.now in
     let media = c.in-Some.range.media in
-    let reads : HttpReads entry media = search rules in
+    let reads : HttpReads entry media = read_http entry _ (Some c.in-Some.range) (sym c.ok.ensures.value ∙ c.in-Some.is) c.in_ok-read_tight.ensures in
     add_range entry media (subst (λ t. IsUtf8 t × HttpReads t media) (sym c.requires.trimmed) (c.utf8.entry, reads))
     (pushed (λ range. range.media) (vec_items c.self.inside.ranges) (vec_items c.push.new.self) c.in-Some.range media (search rules) refl
     ∙ ap (λ (h : Header). h.ranges ++ (media ∷ [])) c.self.view_is)
@@ -21,8 +37,8 @@ pub returns-in_ok-add_bad-in-None : goal.returns-in_ok-add_bad-in-None
 returns-in_ok-add_bad-in-None c =
     let entry = c.args.entry.now in
     let trimmed = c.requires.trimmed in
-    let isnt : ¬ (IsHttpMediaType entry) = search rules in
+    let isnt : ¬ (IsHttpMediaType entry) = read_http entry _ None (sym c.ok.ensures.value ∙ c.in-None.is) c.in_ok-read_tight.ensures in
     add_bad entry (λ none. c.requires.some (sym trimmed ∙ none)) (λ both. isnt (subst IsHttpMediaType trimmed both.1))
     c.in_ok-add_bad-in-None.ensures.ranges
     (c.in_ok-add_bad-in-None.ensures.bad
-    ∙ ap (λ e. c.args.self.now.bad ++ (trim_end e ∷ [])) (c.as_bytes-in-None.ensures.value ∙ sym trimmed))
+    ∙ ap (λ e. c.args.self.now.bad ++ (trim_end e ∷ [])) (c.as_bytes.ensures.value ∙ sym trimmed))

@@ -1,13 +1,12 @@
 -- White space is followed by a semicolon, by the end, or by what HTTP doesn't allow there.
 use Rattle.std.proofs.Common.{arith, ◌∙◌, ◌+◌, ◌-◌, ap, subst, sym, length, drop, get_or}
 use Rattle.std.proofs.lemmas.List.{take_rest, length-drop}
-use Rattle.mime.specs.declared.scan.fault.ParseError.TheVariants.{InvalidToken}
 use Rattle.mime_http.specs.declared.tight.Place.TheVariants.{Spaced}
 use Rattle.mime_http.specs.HttpList.{trim_start}
-use Rattle.mime_http.specs.Loose.{begins_with_semicolon, Begins, IsLoose}
+use Rattle.mime_http.specs.Tightening.{begins_with_semicolon, Begins, IsLoose}
 use Rattle.mime_http.proofs.Trims.{trimmed-le}
 use Rattle.mime_http.proofs.LooseBytes.{begins, later_space}
-use Rattle.mime_http.proofs.tight.left_at_white.Goals as goal
+use Rattle.mime_http.proofs.tight.tightening_at_white.Goals as goal
 
 pub overflow_sub-next : goal.overflow_sub-next
 overflow_sub-next c =
@@ -16,18 +15,21 @@ overflow_sub-next c =
     let rest = c.trim_start-rest.ensures ∙ ap trim_start (take_rest value at) in
     omega (arith, ap length rest, trimmed-le (drop at value), length-drop at value)
 
-pub returns-then-begins_with_semicolon : goal.returns-then-begins_with_semicolon
-returns-then-begins_with_semicolon c =
+pub copied-requires-clause-loose : goal.copied-requires-clause-loose
+copied-requires-clause-loose c =
     let value = c.args.value.now in
     let rest = c.trim_start-rest.ensures ∙ ap trim_start (take_rest value (c.args.pos + 1)) in
-    subst (λ x. IsLoose value (record { kept = c.args.pos; from = length value - length x; place = Spaced })) (sym rest)
+    subst (λ x. IsLoose value c.args.pos (length value - length x) Spaced) (sym rest)
     (later_space value c.args.pos (get_or value c.args.pos 0) c.requires.fault c.requires.some c.requires.white)
+
+pub returns-then-begins_with_semicolon : goal.returns-then-begins_with_semicolon
+returns-then-begins_with_semicolon c = c.copied.ensures _
 
 pub returns-else-begins_with_semicolon : goal.returns-else-begins_with_semicolon
 returns-else-begins_with_semicolon c =
     let value = c.args.value.now in
     let byte = get_or value c.args.pos 0 in
     let rest = c.trim_start-rest.ensures ∙ ap trim_start (take_rest value (c.args.pos + 1)) in
-    subst (λ x. Begins value (InvalidToken c.args.pos byte) c.args.pos (length value - length x)) (sym rest)
+    subst (λ x. Begins value c.args.pos (length value - length x)) (sym rest)
     (begins value c.args.pos byte c.requires.fault c.requires.some c.requires.white
     (ap begins_with_semicolon (sym rest) ∙ (sym c.begins_with_semicolon.ensures ∙ c.if-begins_with_semicolon.false)))

@@ -1,0 +1,83 @@
+-- The byte at fault is left out, or the fault stands.
+use Rattle.std.proofs.Common.{arith, ◌≡◌, ◌∙◌, ◌-◌, ap, subst, sym, ℕ, List, length, get_or}
+use Rattle.std.specs.Prelude.{IfOk}
+use Rattle.std.proofs.lemmas.Bool.Decides.{nat_tests}
+use Rattle.std.proofs.lemmas.Option.{slice_get_within, get_or_from_slice_get}
+use Rattle.mime.specs.Grammar.{is_space}
+use Rattle.mime.specs.Faults.{IsFault, IsDeadAt}
+use Rattle.mime.specs.declared.scan.fault.ParseError.{ParseError}
+use Rattle.mime.specs.declared.scan.fault.ParseError.TheVariants.{InvalidToken}
+use Rattle.mime_http.specs.Tightening.{Stands, IsLoose, IsTightening}
+use Rattle.mime_http.specs.declared.tight.Place.TheVariants.{Start}
+use Rattle.mime_http.proofs.Trims.{trimmed-le}
+use Rattle.mime_http.proofs.LooseBytes.{first_space, next_semicolon, first_semicolon, other_byte, stands_at_end}
+use Rattle.mime_http.proofs.tight.tightening_of.Goals.{in_default-byte-via-in-59+else-ends_in_separator, in_default-byte-via-in_default-1}
+use Rattle.mime_http.proofs.tight.tightening_of.Goals as goal
+
+-- A byte at fault, which stands at its position.
+record FaultAt (value : List ℕ) (fault : ParseError) (pos byte : ℕ) : Type 0 where
+  dead : IsDeadAt value pos byte
+  here : get_or value pos 0 ≡ byte
+
+fault_at : (value : List ℕ) (fault : ParseError) (pos byte : ℕ) → IsFault value fault → fault ≡ InvalidToken pos byte → FaultAt value fault pos byte
+fault_at value fault pos byte at is =
+    let dead : IsDeadAt value pos byte = subst (IsFault value) is at in
+    record { dead = dead; here = get_or_from_slice_get value pos byte 0 dead.there }
+
+pub returns-in_default : goal.returns-in_default
+returns-in_default c = stands_at_end c.args.value.now c.args.fault c.in_default.not-InvalidToken c.requires.fault
+
+pub overflow_sub-from : goal.overflow_sub-from
+overflow_sub-from c = omega (arith, ap length c.trim_start.ensures, trimmed-le c.args.value.now)
+
+pub copied-requires-clause-loose : goal.copied-requires-clause-loose
+copied-requires-clause-loose c =
+    let value = c.args.value.now in
+    subst (λ rest. IsLoose value 0 (length value - length rest) Start) (sym c.trim_start.ensures) (first_space value)
+
+pub returns-in-32 : goal.returns-in-32
+returns-in-32 c = c.copied.ensures c.args.fault
+
+pub tightening_at_white-requires-clause-within : goal.tightening_at_white-requires-clause-within
+tightening_at_white-requires-clause-within c =
+    let at = fault_at c.args.value.now c.args.fault _ _ c.requires.fault c.in-InvalidToken.is in
+    slice_get_within c.args.value.now c.in-InvalidToken.pos c.in-InvalidToken.byte at.dead.there
+
+pub tightening_at_white-requires-clause-fault : goal.tightening_at_white-requires-clause-fault
+tightening_at_white-requires-clause-fault c =
+    let at = fault_at c.args.value.now c.args.fault _ _ c.requires.fault c.in-InvalidToken.is in
+    subst (IsDeadAt c.args.value.now c.in-InvalidToken.pos) (sym at.here) at.dead
+
+pub tightening_at_white-requires-clause-white : goal.tightening_at_white-requires-clause-white
+tightening_at_white-requires-clause-white c =
+    let at = fault_at c.args.value.now c.args.fault _ _ c.requires.fault c.in-InvalidToken.is in
+    ap is_space at.here ∙ grind (arith, nat_tests, c.in-32.is)
+
+pub returns-in-32-2 : goal.returns-in-32-2
+returns-in-32-2 c =
+    let at = fault_at c.args.value.now c.args.fault _ _ c.requires.fault c.in-InvalidToken.is in
+    subst (λ fault. IfOk c.tightening_at_white.result (IsTightening c.args.value.now fault))
+    (ap (InvalidToken c.in-InvalidToken.pos) at.here ∙ sym c.in-InvalidToken.is) c.tightening_at_white.ensures
+
+pub copied-requires-in-59-clause-loose : goal.copied-requires-in-59-clause-loose
+copied-requires-in-59-clause-loose c =
+    let at = fault_at c.args.value.now c.args.fault _ _ c.requires.fault c.in-InvalidToken.is in
+    next_semicolon c.args.value.now c.in-InvalidToken.pos c.in-InvalidToken.byte at.dead c.in-59.is
+    (sym c.ends_in_separator.ensures ∙ c.if-ends_in_separator.true)
+
+pub returns-in-59 : goal.returns-in-59
+returns-in-59 c = c.copied-in-59.ensures c.args.fault
+
+pub returns-in_default-byte : goal.returns-in_default-byte
+returns-in_default-byte c =
+    let value = c.args.value.now in
+    let pos = c.in-InvalidToken.pos in
+    let byte = c.in-InvalidToken.byte in
+    let at = fault_at value c.args.fault pos byte c.requires.fault c.in-InvalidToken.is in
+    let stands : Stands value (InvalidToken pos byte) =
+    elim c.in_default-byte.branch [
+      | in_default-byte-via-in-59+else-ends_in_separator w ↦
+          first_semicolon value pos byte at.dead w.in-59.is (sym w.ends_in_separator.ensures ∙ w.if-ends_in_separator.false)
+      | in_default-byte-via-in_default-1 w ↦ other_byte value pos byte at.dead (grind (arith, nat_tests, w))
+    ] in
+    subst (Stands value) (sym c.in-InvalidToken.is) stands
