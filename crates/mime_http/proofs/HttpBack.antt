@@ -442,16 +442,18 @@ tree_back strict is value e = go strict.top is.0 e
         finish x top token here.spaces here.white here.rest here.split there.rest there.split
         ((tail_back strict.tail is.2).plain there.rest there.left)
 
--- the kept text may be any
-with_kept : {value : List ℕ} {media : MediaType} → HttpReads value media → (kept : List ℕ) → HttpReads value (record media { kept = kept })
-with_kept reads kept = record {
-  before = reads.before;
+-- The white space before what is read may be any, and so may the kept text.
+pub respelled : {value other : List ℕ} {media : MediaType} (reads : HttpReads value media) (before kept : List ℕ) → AreSpaces before
+    → before ++ (reads.top ++ (47 ∷ (reads.sub ++ (reads.parameters ++ reads.after)))) ≡ other
+    → HttpReads other (record media { kept = kept })
+respelled reads before kept white spelled = record {
+  before = before;
   top = reads.top;
   sub = reads.sub;
   parameters = reads.parameters;
   after = reads.after;
-  spelled = reads.spelled;
-  white_before = reads.white_before;
+  spelled = spelled;
+  white_before = white;
   is_top = reads.is_top;
   is_sub = reads.is_sub;
   are_parameters = reads.are_parameters;
@@ -466,4 +468,5 @@ pub read_is_http : ReadIsHttp
 read_is_http value media reads =
     let found = tree_back reads.tree reads.well_formed value (sym reads.spelled) in
     let again = http_is_read value found.0 found.1 in
-    subst (HttpReads value) (one_reading (tight value) (record (found.0) { kept = again.0 }) media again.1 reads) (with_kept found.1 again.0)
+    subst (HttpReads value) (one_reading (tight value) (record (found.0) { kept = again.0 }) media again.1 reads)
+    (respelled found.1 found.1.before again.0 found.1.white_before found.1.spelled)

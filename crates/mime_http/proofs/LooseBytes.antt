@@ -31,6 +31,7 @@ use Rattle.mime_http.proofs.Highest.{item_left}
 use Rattle.mime_http.proofs.Places.{place_from, place_from-append, token_is_plain}
 use Rattle.mime_http.proofs.PlacesAgain.{IsSettled}
 use Rattle.mime_http.proofs.HttpLaws.{accepted_from_http}
+use Rattle.mime_http.proofs.Trims.{split_white, below_128}
 use Rattle.mime_http.proofs.HttpViability.{place_in_list, place_at, LeavesSpaces, mapped, walked, no_space_grows, tight-append, viable_from_tight, viable_from_accepted, tight_from_viable, accepted_from_spaced, prefix_of_http_viable}
 use Rattle.mime_http.proofs.HttpFaults.{Snoc, none, last, snoc, tight_one, longest_at, end_lacks}
 
@@ -172,16 +173,6 @@ cut_at value pos b dead =
     }
 
 -- ---- what is left after it
-
--- white space after which bytes begin that are not
-split_white : (bytes : List ℕ) → (white : List ℕ) × AreSpaces white × (bytes ≡ white ++ trim_start bytes)
-split_white [] = ([], refl, refl)
-split_white (b ∷ bytes) = go (split_white bytes) (is_space b) refl
-  where
-    go : (white : List ℕ) × AreSpaces white × (bytes ≡ white ++ trim_start bytes) → (w : Bool) → is_space b ≡ w
-        → (white : List ℕ) × AreSpaces white × (b ∷ bytes ≡ white ++ trim_start (b ∷ bytes))
-    go (white, all, same) true is = (b ∷ white, rw is all, rw is (ap (λ x. b ∷ x) same))
-    go (white, all, same) false is = ([], refl, rw is refl)
 
 no_more_white : (bytes : List ℕ) (c : ℕ) (rest : List ℕ) → trim_start bytes ≡ c ∷ rest → is_space c ≡ false
 no_more_white [] c rest e = absurd (cc)
@@ -342,9 +333,6 @@ later_space value pos b dead some white =
     }
 
 -- ---- what follows white space
-
-below_128 : (b : ℕ) → is_space b ≡ true → b < 128
-below_128 b white = grind (arith, nat_tests)
 
 some_first : (xs : List ℕ) → 0 < length xs → (c : ℕ) × (more : List ℕ) × (xs ≡ c ∷ more)
 some_first [] some = absurd (omega (arith, some))

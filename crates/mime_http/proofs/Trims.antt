@@ -1,9 +1,9 @@
 -- A piece without the white space around it.
-use Rattle.std.proofs.Common.{◌≡◌, ◌∙◌, ◌<◌, ◌≤◌, refl, sym, ap, subst, arith, suc, ℕ, Bool, true, false, List, [], ◌∷◌, ◌++◌, ◌+◌, ◌-◌, length, take, drop, get_or}
+use Rattle.std.proofs.Common.{◌≡◌, ◌∙◌, ◌<◌, ◌≤◌, refl, sym, ap, subst, arith, suc, ℕ, Bool, true, false, List, [], ◌∷◌, ◌++◌, ◌+◌, ◌-◌, length, take, get_or, append-nil, append_assoc, length-append}
 use Rattle.std.specs.Prelude.{◌&&◌}
 use Rattle.std.specs.List.{list_all}
 use Rattle.std.specs.Str.{IsUtf8}
-use Rattle.std.proofs.lemmas.Bool.{and_parts, true≢false}
+use Rattle.std.proofs.lemmas.Bool.{and_parts}
 use Rattle.std.proofs.lemmas.Bool.Decides.{nat_tests}
 use Rattle.std.proofs.Math.Seq.{take-suc}
 use Rattle.mime.specs.Bytes.{is_token_byte}
@@ -11,125 +11,83 @@ use Rattle.mime.specs.Grammar.{is_space, AreSpaces, IsToken}
 use Rattle.mime.specs.Values.{MediaType}
 use Rattle.mime_http.specs.HttpMediaType.{HttpReads}
 use Rattle.mime_http.specs.HttpList.{trim_start, trim_end}
-use Rattle.mime_http.proofs.HttpText.{put_ascii, drop_ascii}
+use Rattle.mime_http.proofs.HttpBack.{respelled}
+use Rattle.mime_http.proofs.HttpForth.{spaces-append}
+use Rattle.mime_http.proofs.HttpText.{AreAscii, put_ascii, drop_ascii}
 use Rattle.mime_http.proofs.Places.{token_is_plain}
 
 -- ---- at the start
 
-pub blank_from_trimmed : (piece : List ℕ) → trim_start piece ≡ [] → AreSpaces piece
-blank_from_trimmed [] is = refl
-blank_from_trimmed (b ∷ piece) is = go (blank_from_trimmed piece) (is_space b) refl
+-- Bytes are white space, and what is left without it.
+pub split_white : (bytes : List ℕ) → (white : List ℕ) × AreSpaces white × (bytes ≡ white ++ trim_start bytes)
+split_white [] = ([], refl, refl)
+split_white (b ∷ bytes) = go (split_white bytes) (is_space b) refl
   where
-    go : (trim_start piece ≡ [] → AreSpaces piece) → (w : Bool) → is_space b ≡ w → AreSpaces (b ∷ piece)
-    go rest true white = rw white (rest (rw white at is))
-    go rest false other = let some : b ∷ piece ≡ [] = rw other at is in absurd (cc)
+    go : (white : List ℕ) × AreSpaces white × (bytes ≡ white ++ trim_start bytes) → (w : Bool) → is_space b ≡ w
+        → (white : List ℕ) × AreSpaces white × (b ∷ bytes ≡ white ++ trim_start (b ∷ bytes))
+    go (white, all, same) true is = (b ∷ white, rw is all, rw is (ap (λ x. b ∷ x) same))
+    go (white, all, same) false is = ([], refl, rw is refl)
+
+-- White space before bytes is left out of them,
+trim_past : (white rest : List ℕ) → AreSpaces white → trim_start (white ++ rest) ≡ trim_start rest
+trim_past [] rest all = refl
+trim_past (b ∷ white) rest all = let parts = and_parts (is_space b) _ all in rw parts.0 (trim_past white rest parts.1)
+
+-- and before a token nothing is.
+trim_token : (top rest : List ℕ) → IsToken top → trim_start (top ++ rest) ≡ top ++ rest
+trim_token [] rest token = absurd token
+trim_token (b ∷ top) rest token = rw (token_is_plain b (and_parts (is_token_byte b) _ token).0).space refl
+
+-- White space is ASCII.
+pub below_128 : (b : ℕ) → is_space b ≡ true → b < 128
+below_128 b is = grind (arith, nat_tests)
+
+white_is_ascii : (white : List ℕ) → AreSpaces white → AreAscii white
+white_is_ascii [] all = tt
+white_is_ascii (b ∷ white) all =
+    let parts = and_parts (is_space b) _ all in (below_128 b parts.0, white_is_ascii white parts.1)
+
+-- A piece is white space exactly if nothing is left of it.
+pub blank_from_trimmed : (piece : List ℕ) → trim_start piece ≡ [] → AreSpaces piece
+blank_from_trimmed piece is =
+    let split = split_white piece in
+    subst AreSpaces (sym (split.2 ∙ (ap (λ x. split.0 ++ x) is ∙ append-nil split.0))) split.1
 
 pub trimmed_from_blank : (piece : List ℕ) → AreSpaces piece → trim_start piece ≡ []
-trimmed_from_blank [] all = refl
-trimmed_from_blank (b ∷ piece) all =
-    let parts = and_parts (is_space b) _ all in rw parts.0 (trimmed_from_blank piece parts.1)
+trimmed_from_blank piece all = ap trim_start (sym (append-nil piece)) ∙ trim_past piece [] all
 
+-- What is left has no white space before it,
 pub trim_twice : (piece : List ℕ) → trim_start (trim_start piece) ≡ trim_start piece
-trim_twice [] = refl
-trim_twice (b ∷ piece) = go (trim_twice piece) (is_space b) refl
-  where
-    go : (trim_start (trim_start piece) ≡ trim_start piece) → (w : Bool) → is_space b ≡ w
-        → trim_start (trim_start (b ∷ piece)) ≡ trim_start (b ∷ piece)
-    go rest true white = rw white rest
-    go rest false other = rw other (rw other refl)
+trim_twice piece =
+    let split = split_white piece in sym (ap trim_start split.2 ∙ trim_past split.0 (trim_start piece) split.1)
 
+-- is no longer than the piece,
 pub trimmed-le : (piece : List ℕ) → length (trim_start piece) ≤ length piece
-trimmed-le [] = omega arith
-trimmed-le (b ∷ piece) = go (trimmed-le piece) (is_space b) refl
-  where
-    go : length (trim_start piece) ≤ length piece → (w : Bool) → is_space b ≡ w → length (trim_start (b ∷ piece)) ≤ length (b ∷ piece)
-    go rest true white = rw white (omega (arith, rest))
-    go rest false other = rw other (omega arith)
+trimmed-le piece =
+    let split = split_white piece in omega (arith, ap length split.2, length-append split.0 (trim_start piece))
 
-below : (b : ℕ) → is_space b ≡ true → b < 128
-below b is = grind (arith, nat_tests)
-
+-- and is in UTF-8 exactly if the piece is.
 pub utf8_before : (piece : List ℕ) → IsUtf8 (trim_start piece) → IsUtf8 piece
-utf8_before [] utf8 = utf8
-utf8_before (b ∷ piece) utf8 = go (utf8_before piece) (is_space b) refl
-  where
-    go : (IsUtf8 (trim_start piece) → IsUtf8 piece) → (w : Bool) → is_space b ≡ w → IsUtf8 (b ∷ piece)
-    go rest true white = put_ascii (b ∷ []) piece (below b white, tt) (rest (rw white at utf8))
-    go rest false other = rw other at utf8
+utf8_before piece utf8 =
+    let split = split_white piece in
+    subst IsUtf8 (sym split.2) (put_ascii split.0 (trim_start piece) (white_is_ascii split.0 split.1) utf8)
 
 pub utf8_trimmed : (piece : List ℕ) → IsUtf8 piece → IsUtf8 (trim_start piece)
-utf8_trimmed [] utf8 = utf8
-utf8_trimmed (b ∷ piece) utf8 = go (utf8_trimmed piece) (is_space b) refl
-  where
-    go : (IsUtf8 piece → IsUtf8 (trim_start piece)) → (w : Bool) → is_space b ≡ w → IsUtf8 (trim_start (b ∷ piece))
-    go rest true white = rw white (rest (drop_ascii (b ∷ []) piece (below b white, tt) utf8))
-    go rest false other = rw other utf8
+utf8_trimmed piece utf8 =
+    let split = split_white piece in
+    drop_ascii split.0 (trim_start piece) (white_is_ascii split.0 split.1) (subst IsUtf8 split.2 utf8)
 
-put_space : (b : ℕ) (piece : List ℕ) (media : MediaType) → is_space b ≡ true → HttpReads piece media → HttpReads (b ∷ piece) media
-put_space b piece media white reads = record {
-  before = b ∷ reads.before;
-  top = reads.top;
-  sub = reads.sub;
-  parameters = reads.parameters;
-  after = reads.after;
-  spelled = ap (λ x. b ∷ x) reads.spelled;
-  white_before = rw white reads.white_before;
-  is_top = reads.is_top;
-  is_sub = reads.is_sub;
-  are_parameters = reads.are_parameters;
-  white_after = reads.white_after;
-  essence = reads.essence;
-  slash = reads.slash;
-  plus = reads.plus;
-}
-
-take_space : (b : ℕ) (piece : List ℕ) (media : MediaType) → is_space b ≡ true → HttpReads (b ∷ piece) media → HttpReads piece media
-take_space b piece media white reads = go reads.before reads.white_before reads.spelled
-  where
-    rest : List ℕ
-    rest = reads.top ++ (47 ∷ (reads.sub ++ (reads.parameters ++ reads.after)))
-
-    no_space : (top : List ℕ) (more : List ℕ) → IsToken top → top ++ more ≡ b ∷ piece → ⊥
-    no_space [] more token same = token
-    no_space (c ∷ top) more token same =
-        let plain = token_is_plain c (and_parts (is_token_byte c) _ token).0 in
-        let first : c ≡ b = ap (λ x. get_or x 0 0) same in
-        true≢false (sym white ∙ subst (λ x. is_space x ≡ false) first plain.space)
-
-    go : (before : List ℕ) → AreSpaces before → before ++ rest ≡ b ∷ piece → HttpReads piece media
-    go [] all same = absurd (no_space reads.top _ reads.is_top same)
-    go (c ∷ before) all same = record {
-      before = before;
-      top = reads.top;
-      sub = reads.sub;
-      parameters = reads.parameters;
-      after = reads.after;
-      spelled = ap (drop 1) same;
-      white_before = (and_parts (is_space c) _ all).1;
-      is_top = reads.is_top;
-      is_sub = reads.is_sub;
-      are_parameters = reads.are_parameters;
-      white_after = reads.white_after;
-      essence = reads.essence;
-      slash = reads.slash;
-      plus = reads.plus;
-    }
-
+-- As HTTP writes a media type, the same is read of both.
 pub http_before : (piece : List ℕ) (media : MediaType) → HttpReads (trim_start piece) media → HttpReads piece media
-http_before [] media reads = reads
-http_before (b ∷ piece) media reads = go (http_before piece media) (is_space b) refl
-  where
-    go : (HttpReads (trim_start piece) media → HttpReads piece media) → (w : Bool) → is_space b ≡ w → HttpReads (b ∷ piece) media
-    go rest true white = put_space b piece media white (rest (rw white at reads))
-    go rest false other = rw other at reads
+http_before piece media reads =
+    let split = split_white piece in
+    respelled reads (split.0 ++ reads.before) media.kept (spaces-append split.0 reads.before split.1 reads.white_before)
+    (append_assoc split.0 reads.before _ ∙ (ap (λ x. split.0 ++ x) reads.spelled ∙ sym split.2))
 
 pub http_trimmed : (piece : List ℕ) (media : MediaType) → HttpReads piece media → HttpReads (trim_start piece) media
-http_trimmed [] media reads = reads
-http_trimmed (b ∷ piece) media reads = go (http_trimmed piece media) (is_space b) refl
-  where
-    go : (HttpReads piece media → HttpReads (trim_start piece) media) → (w : Bool) → is_space b ≡ w → HttpReads (trim_start (b ∷ piece)) media
-    go rest true white = rw white (rest (take_space b piece media white reads))
-    go rest false other = rw other reads
+http_trimmed piece media reads =
+    respelled reads [] media.kept refl
+    (sym (ap trim_start (sym reads.spelled) ∙ (trim_past reads.before _ reads.white_before ∙ trim_token reads.top _ reads.is_top)))
 
 -- ---- at the end
 
