@@ -13,7 +13,7 @@ use Rattle.mime_http.specs.declared.tight.Place.TheVariants.{Start, Plain, Space
 use Rattle.mime_http.specs.Tight.{place_after, added, tight_from, tight}
 use Rattle.mime_http.specs.HttpMediaType.{IsHttpParameter, with_token, with_string, AreHttpParameters, no_more, semicolon, semicolon_and, HttpReads}
 use Rattle.mime_http.specs.HeaderLaws.{ReadIsHttp}
-use Rattle.mime_http.proofs.Places.{IsPlainByte, token_is_plain, TakesToken, of_type, goes_on, of_value, of_name, text_is_no_mark}
+use Rattle.mime_http.proofs.Places.{IsPlainByte, token_is_plain, TakesToken, of_type, goes_on, of_value, of_name, plain_byte, text_is_no_mark}
 use Rattle.mime_http.proofs.HttpForth.{spaces-append, http_is_read}
 
 -- ---- bytes that come out as they are
@@ -173,11 +173,9 @@ start_back (b ∷ bytes) x out e = go (start_back bytes x out) (is_space b) refl
 
 -- ---- tokens, quoted content, and the white space after it
 
+-- a byte with no role leads to the place within a token
 pub after_plain_byte : {place : Place} → TakesToken place → (b : ℕ) → IsPlainByte b → place_after place b ≡ Plain
-after_plain_byte of_type b is = rw (is.space, is.semicolon, is.equals, is.quote) refl
-after_plain_byte goes_on b is = rw (is.space, is.semicolon, is.equals, is.quote) refl
-after_plain_byte of_value b is = rw (is.space, is.semicolon, is.equals, is.quote) refl
-after_plain_byte of_name b is = rw (is.space, is.semicolon, is.equals, is.quote) refl
+after_plain_byte takes b is = (plain_byte takes b is).there
 
 token_back : (xs bytes out : List ℕ) → AreTokenBytes xs → tight_from Plain bytes ≡ xs ++ out → After bytes xs Plain out
 token_back [] bytes out all e = record { rest = bytes; split = refl; left = e }

@@ -21,9 +21,9 @@ use Rattle.mime_http.specs.declared.tight.Place.TheVariants.{Start, Plain, Space
 use Rattle.mime_http.specs.Tight.{place_after, added, tight_from, tight}
 use Rattle.mime_http.specs.HttpMediaType.{IsHttpMediaType}
 use Rattle.mime_http.specs.HttpFaults.{IsHttpViable}
-use Rattle.mime_http.proofs.Places.{place_from, token_is_plain, of_type, goes_on, of_value, of_name, accepted_stays}
+use Rattle.mime_http.proofs.Places.{place_from, Leads, no_bytes, one, both, so, token_is_plain, of_type, goes_on, of_value, of_name, plain_byte, before_name, after_value, space, accepted_stays}
 use Rattle.mime_http.proofs.PlacesAgain.{IsSettled, IsLike, itself, left_after_plain, left_after_equals, ends}
-use Rattle.mime_http.proofs.HttpBack.{after_plain_byte, read_is_http}
+use Rattle.mime_http.proofs.HttpBack.{read_is_http}
 use Rattle.mime_http.proofs.HttpLaws.{accepted_from_http}
 
 -- ---- the place at the end of what the library walks
@@ -42,75 +42,75 @@ place_at (in_type (t ∷ top)) = Plain
 place_at (in_subtype top sub) = Plain
 place_at (in_list top sub list) = place_in_list list.position
 
--- the place at the end of a begun tree that a byte makes
-abbrev Leads_to : Place → ℕ → Begun → Type 0
-Leads_to place b next = place_after place b ≡ place_at next
+-- A byte comes out as it is, and leads to the place at the end of a begun tree.
+abbrev GoesTo : Place → ℕ → Begun → Type 0
+GoesTo place b next = Leads place (b ∷ []) (b ∷ []) (place_at next)
 
--- a byte that a quoted value takes
+-- A byte that a quoted value takes, and a quote that it doesn't take.
 taken : (awaiting : Bool) (b : ℕ) → IsTrue (takes awaiting b)
-    → place_after (if awaiting then Paired else Quoted) b ≡ (if awaits_next awaiting b then Paired else Quoted)
-taken true b is = refl
+    → Leads (if awaiting then Paired else Quoted) (b ∷ []) (b ∷ []) (if awaits_next awaiting b then Paired else Quoted)
+taken true b is = one Paired b
 taken false b is =
     let parts = and_parts (is_quoted_byte b) _ is in
     let other : (b == 34) ≡ false = grind (arith, nat_tests) in
-    rw other refl
+    so (one Quoted b) refl (rw other refl)
 
--- a quote that it doesn't take
-closes : (awaiting : Bool) → IsFalse (takes awaiting 34) → place_after (if awaiting then Paired else Quoted) 34 ≡ Closed
+closes : (awaiting : Bool) → IsFalse (takes awaiting 34) → Leads (if awaiting then Paired else Quoted) (34 ∷ []) (34 ∷ []) Closed
 unfolding is_quoted_byte
 closes true not_taken = absurd (false≢true (sym not_taken))
-closes false not_taken = refl
+closes false not_taken = one Quoted 34
 
 grown_list : (closed : ClosedParameters) (position : ListState) (b : ℕ)
-    → MatchOption (grow_state closed position b) (Unit {0}) (λ next. place_after (place_in_list position) b ≡ place_in_list next.position)
+    → MatchOption (grow_state closed position b) (Unit {0}) (λ next. Leads (place_in_list position) (b ∷ []) (b ∷ []) (place_in_list next.position))
 grown_list closed (in_spaces n) b =
-    cond_both (is_space b) _ _ (λ o. MatchOption o (Unit {0}) (λ next. place_after Semicolon b ≡ place_in_list next.position))
-    (λ white. rw white refl)
-    (λ other. cond_both (is_token_byte b) _ _ (λ o. MatchOption o (Unit {0}) (λ next. place_after Semicolon b ≡ place_in_list next.position))
-    (λ yes. after_plain_byte of_name b (token_is_plain b yes)) (λ no. tt))
+    cond_both (is_space b) _ _ (λ o. MatchOption o (Unit {0}) (λ next. Leads Semicolon (b ∷ []) (b ∷ []) (place_in_list next.position)))
+    (λ white. space before_name b white)
+    (λ other. cond_both (is_token_byte b) _ _ (λ o. MatchOption o (Unit {0}) (λ next. Leads Semicolon (b ∷ []) (b ∷ []) (place_in_list next.position)))
+    (λ yes. plain_byte of_name b (token_is_plain b yes)) (λ no. tt))
 grown_list closed (in_name n name) b =
-    by_class (λ b next. place_after Plain b ≡ place_in_list next.position) is_token_byte 61 b _ _
-    (λ yes. after_plain_byte goes_on b (token_is_plain b yes)) (λ no. refl)
+    by_class (λ b next. Leads Plain (b ∷ []) (b ∷ []) (place_in_list next.position)) is_token_byte 61 b _ _
+    (λ yes. plain_byte goes_on b (token_is_plain b yes)) (λ no. one Plain 61)
 grown_list closed (in_value n name []) b =
-    by_class (λ b next. place_after Equals b ≡ place_in_list next.position) is_token_byte 34 b _ _
-    (λ yes. after_plain_byte of_value b (token_is_plain b yes)) (λ no. refl)
+    by_class (λ b next. Leads Equals (b ∷ []) (b ∷ []) (place_in_list next.position)) is_token_byte 34 b _ _
+    (λ yes. plain_byte of_value b (token_is_plain b yes)) (λ no. one Equals 34)
 grown_list closed (in_value n name (v ∷ value)) b =
-    by_class (λ b next. place_after Plain b ≡ place_in_list next.position) is_token_byte 59 b _ _
-    (λ yes. after_plain_byte goes_on b (token_is_plain b yes)) (λ no. refl)
+    by_class (λ b next. Leads Plain (b ∷ []) (b ∷ []) (place_in_list next.position)) is_token_byte 59 b _ _
+    (λ yes. plain_byte goes_on b (token_is_plain b yes)) (λ no. one Plain 59)
 grown_list closed (in_quotes n name content) b =
-    by_class (λ b next. place_after (place_in_list (in_quotes n name content)) b ≡ place_in_list next.position) (continues content) 34 b _ _
-    (λ yes. taken (awaits_after false content) b yes
-    ∙ ap (λ (t : Bool). if t then Paired else Quoted) (sym (awaits_after-append false content (b ∷ []))))
+    by_class (λ b next. Leads (place_in_list (in_quotes n name content)) (b ∷ []) (b ∷ []) (place_in_list next.position)) (continues content) 34 b _ _
+    (λ yes. so (taken (awaits_after false content) b yes) refl
+    (ap (λ (t : Bool). if t then Paired else Quoted) (sym (awaits_after-append false content (b ∷ [])))))
     (λ no. closes (awaits_after false content) no)
 grown_list closed (after_quotes n name content m) b =
-    by_class (λ b next. place_after Closed b ≡ place_in_list next.position) is_space 59 b _ _ (λ white. rw white refl) (λ no. refl)
+    by_class (λ b next. Leads Closed (b ∷ []) (b ∷ []) (place_in_list next.position)) is_space 59 b _ _
+    (λ white. space after_value b white) (λ no. one Closed 59)
 
-pub mapped : {X Y : Type 0} (f : X → Y) (P : Y → Type 0) (o : Option X) → MatchOption o (Unit {0}) (λ x. P (f x))
+mapped : {X Y : Type 0} (f : X → Y) (P : Y → Type 0) (o : Option X) → MatchOption o (Unit {0}) (λ x. P (f x))
     → MatchOption (option_map f o) (Unit {0}) P
 mapped f P None is = tt
 mapped f P (Some x) is = is
 
-grown : (begun : Begun) (b : ℕ) → MatchOption (grow begun b) (Unit {0}) (Leads_to (place_at begun) b)
+grown : (begun : Begun) (b : ℕ) → MatchOption (grow begun b) (Unit {0}) (GoesTo (place_at begun) b)
 grown (in_type []) b =
-    cond_both (is_token_byte b) _ _ (λ o. MatchOption o (Unit {0}) (Leads_to Start b))
-    (λ yes. after_plain_byte of_type b (token_is_plain b yes)) (λ no. tt)
+    cond_both (is_token_byte b) _ _ (λ o. MatchOption o (Unit {0}) (GoesTo Start b))
+    (λ yes. plain_byte of_type b (token_is_plain b yes)) (λ no. tt)
 grown (in_type (t ∷ top)) b =
-    by_class (Leads_to Plain) is_token_byte 47 b _ _ (λ yes. after_plain_byte goes_on b (token_is_plain b yes)) (λ no. refl)
+    by_class (GoesTo Plain) is_token_byte 47 b _ _ (λ yes. plain_byte goes_on b (token_is_plain b yes)) (λ no. one Plain 47)
 grown (in_subtype top []) b =
-    cond_both (is_token_byte b) _ _ (λ o. MatchOption o (Unit {0}) (Leads_to Plain b))
-    (λ yes. after_plain_byte goes_on b (token_is_plain b yes)) (λ no. tt)
+    cond_both (is_token_byte b) _ _ (λ o. MatchOption o (Unit {0}) (GoesTo Plain b))
+    (λ yes. plain_byte goes_on b (token_is_plain b yes)) (λ no. tt)
 grown (in_subtype top (s ∷ sub)) b =
-    by_class (Leads_to Plain) is_token_byte 59 b _ _ (λ yes. after_plain_byte goes_on b (token_is_plain b yes)) (λ no. refl)
+    by_class (GoesTo Plain) is_token_byte 59 b _ _ (λ yes. plain_byte goes_on b (token_is_plain b yes)) (λ no. one Plain 59)
 grown (in_list top sub list) b =
-    mapped (in_list top sub) (Leads_to (place_in_list list.position) b) (grow_list list b) (grown_list list.closed list.position b)
+    mapped (in_list top sub) (GoesTo (place_in_list list.position) b) (grow_list list b) (grown_list list.closed list.position b)
 
-pub walked : (begun : Begun) (bytes : List ℕ) (last : Begun) → walk_from begun bytes ≡ Some last → place_from (place_at begun) bytes ≡ place_at last
-walked begun [] last e = ap place_at (same_Some begun last e)
+-- What the library walks comes out as it is, and leads to the place at its end.
+pub walked : (begun : Begun) (bytes : List ℕ) (last : Begun) → walk_from begun bytes ≡ Some last
+    → Leads (place_at begun) bytes bytes (place_at last)
+walked begun [] last e = so (no_bytes (place_at begun)) refl (ap place_at (same_Some begun last e))
 walked begun (b ∷ bytes) last e =
     option_and_then_some (λ next. walk_from next bytes) (grow begun b) last e
-    (λ next grew goes.
-    ap (λ place. place_from place bytes) (MatchOption-at_some (Unit {0}) (Leads_to (place_at begun) b) next grew (grown begun b))
-    ∙ walked next bytes last goes)
+    (λ next grew goes. both (MatchOption-at_some (Unit {0}) (GoesTo (place_at begun) b) next grew (grown begun b)) (walked next bytes last goes))
 
 -- ---- after white space that was left out only a semicolon or the end may follow, and only where the value may end
 
@@ -238,7 +238,7 @@ accepted_from_spaced front spaced viable =
     option_and_then_some (λ next. walk_from next (tight_from (place_from Start front) viable.0)) (walk (tight front)) found.0
     (sym (walk_by-append grow (in_type []) (tight front) _) ∙ found.2.0)
     (λ begun reached goes.
-    let there : place_at begun ≡ end.like = sym (walked (in_type []) (tight front) begun reached) ∙ end.leads.there in
+    let there : place_at begun ≡ end.like = sym (walked (in_type []) (tight front) begun reached).there ∙ end.leads.there in
     let may = ends_there begun (subst LeavesSpaces (sym there) (like_spaced end.is_like spaced)) viable.0 found.0
     (subst (λ place. walk_from begun (tight_from place viable.0) ≡ Some found.0) spaced goes) (found.1, found.2.1) in
     accepted-from_complete (tight front) begun may.0 reached may.1)

@@ -1,24 +1,24 @@
 -- What tightening does at the fault of a value: it leaves out the byte that is at fault, or nothing, and then the fault stands.
 use Rattle.std.proofs.Common.{◌≡◌, ◌∙◌, ◌==◌, ◌≢◌, refl, sym, ap, subst, arith, ℕ, suc, ◌+◌, ◌-◌, ◌<◌, ◌≤◌, Bool, true, false, List, [], ◌∷◌, ◌++◌, length, take, drop, get_or, Option, Some, None, length-append, length-drop}
 use Rattle.std.proofs.Math.Seq.{take-length, take-suc, drop-append_seam}
-use Rattle.std.specs.Prelude.{MatchOption, slice_get, ⊤, if◌then◌else◌}
+use Rattle.std.specs.Prelude.{slice_get, ⊤, if◌then◌else◌}
 use Rattle.std.specs.Option.{option_map, option_and_then}
-use Rattle.std.proofs.lemmas.Bool.{and_parts, cond_both, true≢false}
+use Rattle.std.proofs.lemmas.Bool.{and_parts, true≢false}
 use Rattle.std.proofs.lemmas.Bool.Decides.{nat_tests}
 use Rattle.std.proofs.lemmas.List.{append-nil, append_assoc, drop-drop, length-take-le, nil_from_length, take-append-drop}
 use Rattle.std.proofs.lemmas.Str.{IsCharBoundary-before_ascii}
-use Rattle.std.proofs.lemmas.Option.{none-some, option_and_then_some, MatchOption-at_some, slice_get_within, slice_get-get_or, get_or_from_slice_get}
-use Rattle.mime.specs.Bytes.{is_token_byte, is_quoted_byte}
+use Rattle.std.proofs.lemmas.Option.{none-some, slice_get_within, slice_get-get_or, get_or_from_slice_get}
+use Rattle.mime.specs.Bytes.{is_quoted_byte}
 use Rattle.mime.specs.Grammar.{is_space, AreSpaces}
 use Rattle.mime.specs.Values.{IsAccepted}
 use Rattle.mime.specs.Faults.{IsViable, IsDeadAt, Lacks, IsFault}
-use Rattle.mime.specs.Inner.Quoted.{takes, continues, awaits_after}
+use Rattle.mime.specs.Inner.Quoted.{takes, awaits_after}
 use Rattle.mime.specs.declared.scan.fault.ParseError.{ParseError}
 use Rattle.mime.specs.declared.scan.fault.ParseError.TheVariants.{InvalidToken}
 use Rattle.mime.proofs.BytesLemmas.{slice_get-prefix}
-use Rattle.mime.proofs.GrammarLemmas.Begun.{Closed as ClosedParameters, Begun, in_type, in_subtype, in_list, ListState, in_spaces, in_name, in_value, in_quotes, after_quotes, grow_state, grow_list, grow, walk, walk_from, walk_by-append_some}
+use Rattle.mime.proofs.GrammarLemmas.Begun.{Closed as ClosedParameters, Begun, in_type, in_subtype, in_list, ListState, in_spaces, in_name, in_value, in_quotes, after_quotes, grow_state, grow, walk, walk_from, walk_by-append_some}
 use Rattle.mime.proofs.GrammarLemmas.Faults.{completed_is_rejected}
-use Rattle.mime.proofs.GrammarLemmas.Spelling.{by_class, spelled-from_walk}
+use Rattle.mime.proofs.GrammarLemmas.Spelling.{spelled-from_walk}
 use Rattle.mime.proofs.GrammarLemmas.Viability.{viable-from_walk, walk-from_viable, viable-from_lacks, prefix_of_viable_is_viable}
 use Rattle.mime_http.specs.declared.tight.Place.{Place}
 use Rattle.mime_http.specs.declared.tight.Place.TheVariants.{Start, Plain, Spaced, Equals, Quoted, Paired, Closed, Semicolon}
@@ -28,78 +28,17 @@ use Rattle.mime_http.specs.HttpFaults.{IsHttpViable, IsHttpLongestPrefix, HttpLa
 use Rattle.mime_http.specs.Tightening.{is_separator, ends_in_separator, begins_with_semicolon, Stands, Begins, IsLoose}
 use Rattle.mime_http.specs.HttpList.{trim_start}
 use Rattle.mime_http.proofs.Highest.{item_left}
-use Rattle.mime_http.proofs.Places.{place_from, place_from-append, token_is_plain}
+use Rattle.mime_http.proofs.Places.{place_from, place_from-append, stays}
 use Rattle.mime_http.proofs.PlacesAgain.{IsSettled}
 use Rattle.mime_http.proofs.HttpLaws.{accepted_from_http}
 use Rattle.mime_http.proofs.Trims.{split_white, below_128}
-use Rattle.mime_http.proofs.HttpViability.{place_in_list, place_at, LeavesSpaces, mapped, walked, no_space_grows, tight-append, viable_from_tight, viable_from_accepted, tight_from_viable, accepted_from_spaced, prefix_of_http_viable}
+use Rattle.mime_http.proofs.HttpViability.{place_in_list, place_at, LeavesSpaces, walked, no_space_grows, tight-append, viable_from_tight, viable_from_accepted, tight_from_viable, accepted_from_spaced, prefix_of_http_viable}
 use Rattle.mime_http.proofs.HttpFaults.{Snoc, none, last, snoc, tight_one, longest_at, end_lacks}
 
 -- ---- a byte with which a begun tree goes on comes out as it is
 
 abbrev ComesOut : Place → ℕ → Type 0
 ComesOut place b = added place b ≡ b ∷ []
-
-token_comes_out : (place : Place) → IsSettled place → (b : ℕ) → is_token_byte b ≡ true → ComesOut place b
-token_comes_out Start at_rest b is = rw (token_is_plain b is).space refl
-token_comes_out Plain at_rest b is = rw (token_is_plain b is).space refl
-token_comes_out Spaced at_rest b is = absurd at_rest
-token_comes_out Equals at_rest b is = rw (token_is_plain b is).space refl
-token_comes_out Quoted at_rest b is = refl
-token_comes_out Paired at_rest b is = refl
-token_comes_out Closed at_rest b is = refl
-token_comes_out Semicolon at_rest b is = rw (token_is_plain b is).semicolon refl
-
-space_is_no_semicolon : (b : ℕ) → is_space b ≡ true → (b == 59) ≡ false
-space_is_no_semicolon b is = grind (arith, nat_tests)
-
-in_quotes_comes_out : (awaiting : Bool) (b : ℕ) → ComesOut (if awaiting then Paired else Quoted) b
-in_quotes_comes_out true b = refl
-in_quotes_comes_out false b = refl
-
-grows_so_in_list : (closed : ClosedParameters) (position : ListState) (b : ℕ)
-    → MatchOption (grow_state closed position b) (Unit {0}) (λ next. ComesOut (place_in_list position) b)
-grows_so_in_list closed (in_spaces n) b =
-    cond_both (is_space b) _ _ (λ o. MatchOption o (Unit {0}) (λ next. ComesOut Semicolon b))
-    (λ white. rw (space_is_no_semicolon b white) refl)
-    (λ other. cond_both (is_token_byte b) _ _ (λ o. MatchOption o (Unit {0}) (λ next. ComesOut Semicolon b))
-    (λ yes. token_comes_out Semicolon tt b yes) (λ no. tt))
-grows_so_in_list closed (in_name n name) b =
-    by_class (λ b next. ComesOut Plain b) is_token_byte 61 b _ _ (λ yes. token_comes_out Plain tt b yes) (λ no. refl)
-grows_so_in_list closed (in_value n name []) b =
-    by_class (λ b next. ComesOut Equals b) is_token_byte 34 b _ _ (λ yes. token_comes_out Equals tt b yes) (λ no. refl)
-grows_so_in_list closed (in_value n name (v ∷ value)) b =
-    by_class (λ b next. ComesOut Plain b) is_token_byte 59 b _ _ (λ yes. token_comes_out Plain tt b yes) (λ no. refl)
-grows_so_in_list closed (in_quotes n name content) b =
-    by_class (λ b next. ComesOut (place_in_list (in_quotes n name content)) b) (continues content) 34 b _ _
-    (λ yes. in_quotes_comes_out (awaits_after false content) b) (λ no. in_quotes_comes_out (awaits_after false content) 34)
-grows_so_in_list closed (after_quotes n name content m) b =
-    by_class (λ b next. ComesOut Closed b) is_space 59 b _ _ (λ white. refl) (λ no. refl)
-
-grows_so : (begun : Begun) (b : ℕ) → MatchOption (grow begun b) (Unit {0}) (λ next. ComesOut (place_at begun) b)
-grows_so (in_type []) b =
-    cond_both (is_token_byte b) _ _ (λ o. MatchOption o (Unit {0}) (λ next. ComesOut Start b))
-    (λ yes. token_comes_out Start tt b yes) (λ no. tt)
-grows_so (in_type (t ∷ top)) b =
-    by_class (λ b next. ComesOut Plain b) is_token_byte 47 b _ _ (λ yes. token_comes_out Plain tt b yes) (λ no. refl)
-grows_so (in_subtype top []) b =
-    cond_both (is_token_byte b) _ _ (λ o. MatchOption o (Unit {0}) (λ next. ComesOut Plain b))
-    (λ yes. token_comes_out Plain tt b yes) (λ no. tt)
-grows_so (in_subtype top (s ∷ sub)) b =
-    by_class (λ b next. ComesOut Plain b) is_token_byte 59 b _ _ (λ yes. token_comes_out Plain tt b yes) (λ no. refl)
-grows_so (in_list top sub list) b =
-    mapped (in_list top sub) (λ next. ComesOut (place_in_list list.position) b) (grow_list list b) (grows_so_in_list list.closed list.position b)
-
--- so what is walked comes out as it is
-comes_out : (begun : Begun) (bytes : List ℕ) (end : Begun) → walk_from begun bytes ≡ Some end → tight_from (place_at begun) bytes ≡ bytes
-comes_out begun [] end e = refl
-comes_out begun (b ∷ bytes) end e =
-    option_and_then_some (λ next. walk_from next bytes) (grow begun b) end e
-    (λ next grew goes.
-    let out = MatchOption-at_some (Unit {0}) (λ next. ComesOut (place_at begun) b) next grew (grows_so begun b) in
-    let there : place_after (place_at begun) b ≡ place_at next = walked begun (b ∷ []) next (ap (λ o. option_and_then (λ s. walk_from s []) o) grew) in
-    ap (λ a. a ++ tight_from (place_after (place_at begun) b) bytes) out
-    ∙ ap (λ x. b ∷ x) (ap (λ place. tight_from place bytes) there ∙ comes_out next bytes end goes))
 
 -- ---- a byte at fault
 
@@ -125,10 +64,10 @@ fault_of before b viable dead =
 
 -- the place there, and what came out before it
 pub there : {before : List ℕ} {b : ℕ} (fault : Fault before b) → place_from Start before ≡ place_at fault.begun
-there {before} fault = walked (in_type []) before fault.begun fault.reached
+there {before} fault = (walked (in_type []) before fault.begun fault.reached).there
 
 pub so_far : {before : List ℕ} {b : ℕ} (fault : Fault before b) → tight before ≡ before
-so_far {before} fault = comes_out (in_type []) before fault.begun fault.reached
+so_far {before} fault = stays (walked (in_type []) before fault.begun fault.reached)
 
 settled_in_list : (position : ListState) → IsSettled (place_in_list position)
 settled_in_list (in_spaces n) = tt
@@ -633,10 +572,11 @@ record Rejected (value : List ℕ) (X : Type 0) : Type 0 where
 lacks_too : (value : List ℕ) (fault : ParseError) → Lacks value fault → Rejected value (HttpLacks value fault)
 lacks_too value fault lacks =
     let walk = walk-from_viable value (viable-from_lacks value fault lacks) in
-    let same = comes_out (in_type []) value walk.0 walk.1 in
+    let walks = walked (in_type []) value walk.0 walk.1 in
+    let same : tight value ≡ value = stays walks in
     record {
       rejected = λ is. completed_is_rejected value fault lacks (subst IsAccepted same (accepted_from_http value is));
-      also = end_lacks value fault (subst IsSettled (sym (walked (in_type []) value walk.0 walk.1)) (settled_at walk.0))
+      also = end_lacks value fault (subst IsSettled (sym walks.there) (settled_at walk.0))
           (subst (λ text. Lacks text fault) (sym same) lacks);
     }
 

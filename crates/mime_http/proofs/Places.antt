@@ -43,6 +43,10 @@ pub so : {p q r : Place} {xs out add : List ℕ} → Leads p xs out q → out �
 so {p} {q} {r} {xs} {out} {add} leads same there =
     subst (λ place. Leads p xs add place) there (subst (λ o. Leads p xs o q) same leads)
 
+-- What is written as it is stays so if nothing follows.
+pub stays : {p q : Place} {text : List ℕ} → Leads p text text q → tight_from p text ≡ text
+stays {p} {text = text} leads = ap (tight_from p) (sym (append-nil text)) ∙ (leads.tightly [] ∙ append-nil text)
+
 -- a byte with no role
 pub record IsPlainByte (b : ℕ) : Type 0 where
   pub space : is_space b ≡ false
@@ -68,7 +72,8 @@ pub data TakesToken : Place → Type 0 where
   of_value : TakesToken Equals
   of_name : TakesToken Semicolon
 
-plain_byte : {place : Place} → TakesToken place → (b : ℕ) → IsPlainByte b → Leads place (b ∷ []) (b ∷ []) Plain
+-- A byte with no role comes out as it is, and a token goes on after it.
+pub plain_byte : {place : Place} → TakesToken place → (b : ℕ) → IsPlainByte b → Leads place (b ∷ []) (b ∷ []) Plain
 plain_byte of_type b is = so (one Start b) (rw is.space refl) (rw (is.space, is.semicolon, is.equals, is.quote) refl)
 plain_byte goes_on b is = so (one Plain b) (rw is.space refl) (rw (is.space, is.semicolon, is.equals, is.quote) refl)
 plain_byte of_value b is = so (one Equals b) (rw is.space refl) (rw (is.space, is.semicolon, is.equals, is.quote) refl)
@@ -91,13 +96,11 @@ pub data KeepsSpace : Place → Type 0 where
   after_value : KeepsSpace Closed
   before_name : KeepsSpace Semicolon
 
-no_comma : (b : ℕ) → is_space b ≡ true → (b == 44) ≡ false
-no_comma b is = grind (arith, nat_tests)
-
 space_is_no_semicolon : (b : ℕ) → is_space b ≡ true → (b == 59) ≡ false
 space_is_no_semicolon b is = grind (arith, nat_tests)
 
-space : {place : Place} → KeepsSpace place → (b : ℕ) → is_space b ≡ true → Leads place (b ∷ []) (b ∷ []) place
+-- White space that stays leads to the same place.
+pub space : {place : Place} → KeepsSpace place → (b : ℕ) → is_space b ≡ true → Leads place (b ∷ []) (b ∷ []) place
 space after_value b is = so (one Closed b) refl (rw is refl)
 space before_name b is = so (one Semicolon b) (rw (space_is_no_semicolon b is) refl) (rw is refl)
 
@@ -177,6 +180,4 @@ walk_text : {text : List ℕ} {value : MediaType} → Reads text value → Walk 
 walk_text reads = subst (λ text. Walk EndsText Start text) reads.spelled (tree reads.tree reads.well_formed)
 
 pub accepted_stays : (text : List ℕ) → IsAccepted text → tight text ≡ text
-accepted_stays text is =
-    let walk : Walk EndsText Start text = walk_text is.1 in
-    ap tight (sym (append-nil text)) ∙ (walk.leads.tightly [] ∙ append-nil text)
+accepted_stays text is = stays (walk_text is.1).leads
