@@ -302,57 +302,40 @@ goes_on_with out next = record {
       subst Rest (sym (there.split ∙ append_assoc m (59 ∷ []) there.rest)) (next there.rest there.left m [] white refl);
 }
 
--- after a semicolon: nothing but white space and semicolons, or these and a name
-blank_back : (bytes n : List ℕ) → AreSpaces n → tight_from Semicolon bytes ≡ n → Goes bytes
-blank_back [] n white e = goes_end
-blank_back (b ∷ bytes) n white e = go (blank_back bytes) n white e (b == 59) refl
+-- After a semicolon: white space and semicolons, and what follows them.
+separators_back : (bytes n out : List ℕ) → AreSpaces n → tight_from Semicolon bytes ≡ n ++ out
+    → ((b : ℕ) (rest : List ℕ) → b ∷ tight_from (place_after Semicolon b) rest ≡ out → Goes (b ∷ rest)) → Goes bytes
+separators_back [] n out white e next = goes_end
+separators_back (b ∷ bytes) n out white e next = go (λ n white e. separators_back bytes n out white e next) n white e (b == 59) refl
   where
-    go : ((n : List ℕ) → AreSpaces n → tight_from Semicolon bytes ≡ n → Goes bytes) → (n : List ℕ) → AreSpaces n
-        → tight_from Semicolon (b ∷ bytes) ≡ n → (t : Bool) → (b == 59) ≡ t → Goes (b ∷ bytes)
-    go rest n white e true is =
-        let same : b ≡ 59 = grind (arith, nat_tests) in
-        subst (λ x. Goes (x ∷ bytes)) (sym same)
-        (goes_semicolon bytes (rest n white (subst (λ x. tight_from Semicolon (x ∷ bytes) ≡ n) same e)))
-    go rest [] white e false is =
-        let both : b ∷ tight_from (place_after Semicolon b) bytes ≡ [] = said Semicolon b bytes (b ∷ []) _ (rw is refl) e in absurd (cc)
-    go rest (c ∷ n) white e false is =
-        let parts = and_parts (is_space c) _ white in
-        let both : b ∷ tight_from (place_after Semicolon b) bytes ≡ c ∷ n = said Semicolon b bytes (b ∷ []) _ (rw is refl) e in
-        let first : b ≡ c = cc in
-        let others : tight_from (place_after Semicolon b) bytes ≡ n = cc in
-        let space : is_space b ≡ true = ap is_space first ∙ parts.0 in
-        let there : place_after Semicolon b ≡ Semicolon = rw space refl in
-        goes_space b bytes space (rest n parts.1 (subst (λ p. tight_from p bytes ≡ n) there others))
-
-name_back : (bytes n : List ℕ) (x : ℕ) (out : List ℕ) → AreSpaces n → IsPlainByte x → tight_from Semicolon bytes ≡ n ++ (x ∷ out)
-    → ((rest : List ℕ) → tight_from Plain rest ≡ out → Goes (x ∷ rest)) → Goes bytes
-name_back [] n x out white is e named = absurd (some n e)
-  where
-    some : (n : List ℕ) → [] ≡ n ++ (x ∷ out) → ⊥
-    some [] e = cc
-    some (b ∷ n) e = cc
-name_back (b ∷ bytes) n x out white is e named = go (λ n white e. name_back bytes n x out white is e named) n white e (b == 59) refl
-  where
-    go : ((n : List ℕ) → AreSpaces n → tight_from Semicolon bytes ≡ n ++ (x ∷ out) → Goes bytes) → (n : List ℕ) → AreSpaces n
-        → tight_from Semicolon (b ∷ bytes) ≡ n ++ (x ∷ out) → (t : Bool) → (b == 59) ≡ t → Goes (b ∷ bytes)
+    go : ((n : List ℕ) → AreSpaces n → tight_from Semicolon bytes ≡ n ++ out → Goes bytes) → (n : List ℕ) → AreSpaces n
+        → tight_from Semicolon (b ∷ bytes) ≡ n ++ out → (t : Bool) → (b == 59) ≡ t → Goes (b ∷ bytes)
     go rest n white e true second =
         let same : b ≡ 59 = grind (arith, nat_tests) in
         subst (λ y. Goes (y ∷ bytes)) (sym same)
-        (goes_semicolon bytes (rest n white (subst (λ y. tight_from Semicolon (y ∷ bytes) ≡ n ++ (x ∷ out)) same e)))
-    go rest [] white e false other =
-        let both : b ∷ tight_from (place_after Semicolon b) bytes ≡ x ∷ out = said Semicolon b bytes (b ∷ []) _ (rw other refl) e in
-        let first : b ≡ x = cc in
-        let others : tight_from (place_after Semicolon b) bytes ≡ out = cc in
-        let there : place_after Semicolon b ≡ Plain = ap (place_after Semicolon) first ∙ after_plain_byte of_name x is in
-        subst (λ y. Goes (y ∷ bytes)) (sym first) (named bytes (subst (λ p. tight_from p bytes ≡ out) there others))
+        (goes_semicolon bytes (rest n white (subst (λ y. tight_from Semicolon (y ∷ bytes) ≡ n ++ out) same e)))
+    go rest [] white e false other = next b bytes (said Semicolon b bytes (b ∷ []) _ (rw other refl) e)
     go rest (c ∷ n) white e false other =
         let parts = and_parts (is_space c) _ white in
-        let both : b ∷ tight_from (place_after Semicolon b) bytes ≡ c ∷ (n ++ (x ∷ out)) = said Semicolon b bytes (b ∷ []) _ (rw other refl) e in
+        let both : b ∷ tight_from (place_after Semicolon b) bytes ≡ c ∷ (n ++ out) = said Semicolon b bytes (b ∷ []) _ (rw other refl) e in
         let first : b ≡ c = cc in
-        let others : tight_from (place_after Semicolon b) bytes ≡ n ++ (x ∷ out) = cc in
+        let others : tight_from (place_after Semicolon b) bytes ≡ n ++ out = cc in
         let space : is_space b ≡ true = ap is_space first ∙ parts.0 in
         let there : place_after Semicolon b ≡ Semicolon = rw space refl in
-        goes_space b bytes space (rest n parts.1 (subst (λ p. tight_from p bytes ≡ n ++ (x ∷ out)) there others))
+        goes_space b bytes space (rest n parts.1 (subst (λ p. tight_from p bytes ≡ n ++ out) there others))
+
+-- Nothing follows them,
+blank_back : (bytes n : List ℕ) → AreSpaces n → tight_from Semicolon bytes ≡ n → Goes bytes
+blank_back bytes n white e = separators_back bytes n [] white (e ∙ sym (append-nil n)) (λ b rest ends. absurd (cc))
+
+-- or a name.
+name_back : (bytes n : List ℕ) (x : ℕ) (out : List ℕ) → AreSpaces n → IsPlainByte x → tight_from Semicolon bytes ≡ n ++ (x ∷ out)
+    → ((rest : List ℕ) → tight_from Plain rest ≡ out → Goes (x ∷ rest)) → Goes bytes
+name_back bytes n x out white is e named = separators_back bytes n (x ∷ out) white e (λ b rest goes.
+    let first : b ≡ x = cc in
+    let others : tight_from (place_after Semicolon b) rest ≡ out = cc in
+    let there : place_after Semicolon b ≡ Plain = ap (place_after Semicolon) first ∙ after_plain_byte of_name x is in
+    subst (λ y. Goes (y ∷ rest)) (sym first) (named rest (subst (λ p. tight_from p rest ≡ out) there others)))
 
 -- a parameter, and what goes on after it
 parameter_back : (p : Parameter) → IsParameter p → (bytes n out : List ℕ) → AreSpaces n

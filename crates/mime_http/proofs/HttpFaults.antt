@@ -1,10 +1,11 @@
 -- The fault of a value, from that of what is left of it: how far the value goes before it.
-use Rattle.std.proofs.Common.{◌≡◌, ◌∙◌, ◌==◌, refl, sym, ap, subst, arith, ℕ, suc, ◌+◌, ◌-◌, ◌<◌, ◌≤◌, Bool, true, false, List, [], ◌∷◌, ◌++◌, length, length-append, take, Some, ◌⊎◌, inl, inr}
+use Rattle.std.proofs.Common.{◌≡◌, ◌∙◌, refl, sym, ap, subst, arith, ℕ, suc, ◌+◌, ◌-◌, ◌<◌, ◌≤◌, Bool, true, false, List, [], ◌∷◌, ◌++◌, length, length-append, take, Some, ◌⊎◌, inl, inr}
 use Rattle.std.proofs.Math.Seq.{take-append_seam, take-append-add, take-length}
 use Rattle.std.specs.Prelude.{⊤, nat_lt, slice_get}
+use Rattle.std.proofs.lemmas.Bool.{false≢true}
 use Rattle.std.proofs.lemmas.Bool.Decides.{nat_tests}
 use Rattle.std.proofs.lemmas.List.{append-nil, append_assoc}
-use Rattle.std.proofs.lemmas.Option.{slice_get_within}
+use Rattle.std.proofs.lemmas.Option.{same_Some, slice_get_within}
 use Rattle.std.proofs.lemmas.Str.{IsUtf8-nil, IsUtf8-take, IsCharBoundary-from_take}
 use Rattle.std.specs.Str.{IsUtf8, IsCharBoundary}
 use Rattle.mime.proofs.BytesLemmas.{boundary_after, slice_get-prefix}
@@ -19,11 +20,11 @@ use Rattle.mime.proofs.GrammarLemmas.Faults.{completed_is_rejected}
 use Rattle.mime_http.specs.declared.tight.Place.{Place}
 use Rattle.mime_http.specs.declared.tight.Place.TheVariants.{Start, Plain, Spaced, Equals, Quoted, Paired, Closed, Semicolon}
 use Rattle.mime_http.specs.declared.fault.Reach.{Reach}
-use Rattle.mime_http.specs.Tight.{place_after, added, tight_from, tight}
+use Rattle.mime_http.specs.Tight.{place_after, is_left_out, brought_back, added, tight_from, tight}
 use Rattle.mime_http.specs.Reached.{start, settled_at, reach_after, reach_from, limit_of}
 use Rattle.mime_http.specs.HttpFaults.{IsHttpViable, IsHttpLongestPrefix, HttpLacks, IsHttpFault}
 use Rattle.mime_http.proofs.Places.{place_from, place_from-append, after_value, before_name}
-use Rattle.mime_http.proofs.PlacesAgain.{IsSettled, outside_settled, within_settled, kept_settled, no_space}
+use Rattle.mime_http.proofs.PlacesAgain.{IsSettled, outside_settled, within_settled, kept_settled, kept_adds, no_space}
 use Rattle.mime_http.proofs.HttpViability.{tight-append, settled_end, goes_on_as, viable_from_tight, tight_from_viable, accepted_from_spaced, viable_from_accepted, prefix_of_http_viable}
 
 -- ---- a place is after white space that was left out, or settled
@@ -232,18 +233,12 @@ longest_at front after viable dies = record {
 
 -- ---- what is missing at the end
 
-none_ends : {X : Type 0} (front : List ℕ) (b : ℕ) → ◌≡◌ {A = List ℕ} [] (front ++ (b ∷ [])) → X
-none_ends [] b e = absurd (cc)
-none_ends (c ∷ front) b e = absurd (cc)
+-- Bytes that end in a byte, and those that end in the same.
+pub last_of : (front : List ℕ) (c : ℕ) → slice_get (front ++ (c ∷ [])) (length (front ++ (c ∷ [])) - 1) ≡ Some c
+last_of front c = slice_get-prefix front c [] _ (omega (arith, length-append front (c ∷ [])))
 
 pub same_last : (xs ys : List ℕ) (a b : ℕ) → xs ++ (a ∷ []) ≡ ys ++ (b ∷ []) → a ≡ b
-same_last [] [] a b e = cc
-same_last [] (y ∷ ys) a b e =
-    let rest : ◌≡◌ {A = List ℕ} [] (ys ++ (b ∷ [])) = cc in none_ends ys b rest
-same_last (x ∷ xs) [] a b e =
-    let rest : ◌≡◌ {A = List ℕ} [] (xs ++ (a ∷ [])) = cc in none_ends xs a rest
-same_last (x ∷ xs) (y ∷ ys) a b e =
-    let rest : xs ++ (a ∷ []) ≡ ys ++ (b ∷ []) = cc in same_last xs ys a b rest
+same_last xs ys a b e = same_Some a b (sym (last_of xs a) ∙ (ap (λ zs. slice_get zs (length zs - 1)) e ∙ last_of ys b))
 
 -- the places after a slash and after an equals sign, to which no byte leads that is left out
 abbrev pub IsBusy : Place → Type 0
@@ -253,57 +248,35 @@ IsBusy Quoted = ⊤
 IsBusy place = ⊥
 
 pub busy_after : (place : Place) → IsBusy (place_after place 47) × IsBusy (place_after place 61)
-busy_after Start = (tt, tt)
-busy_after Plain = (tt, tt)
-busy_after Spaced = (tt, tt)
 busy_after Equals = (tt, tt)
-busy_after Quoted = (tt, tt)
-busy_after Paired = (tt, tt)
-busy_after Closed = (tt, tt)
-busy_after Semicolon = (tt, tt)
+busy_after place = (tt, tt)
 
 -- a byte that leads there is the last that it adds
 pub record AddsItself (place : Place) (b : ℕ) : Type 0 where
   pub before : List ℕ
   pub adds : added place b ≡ before ++ (b ∷ [])
 
+left_out_idle : (place : Place) (b : ℕ) → is_left_out place b ≡ true → ¬ (IsBusy (place_after place b))
+left_out_idle Quoted b out busy = false≢true out
+left_out_idle Paired b out busy = false≢true out
+left_out_idle Closed b out busy = false≢true out
+left_out_idle Semicolon b out busy = subst IsBusy {y = Semicolon} (rw (no_space b out, out) refl) busy
+left_out_idle Start b out busy = subst IsBusy {y = Start} (rw out refl) busy
+left_out_idle place b out busy = subst IsBusy {y = Spaced} (rw out refl) busy
+
 pub adds_itself : (place : Place) (b : ℕ) → IsBusy (place_after place b) → AddsItself place b
-adds_itself Quoted b busy = record { before = []; adds = refl }
-adds_itself Paired b busy = record { before = []; adds = refl }
-adds_itself Closed b busy = record { before = []; adds = refl }
-adds_itself Semicolon b busy = go (b == 59) refl
+adds_itself place b busy = go (is_left_out place b) refl
   where
-    go : (t : Bool) → (b == 59) ≡ t → AddsItself Semicolon b
-    go true second = absurd (subst IsBusy {y = Semicolon} (rw (no_space b second, second) refl) busy)
-    go false other = record { before = []; adds = rw other refl }
-adds_itself Spaced b busy = go (is_space b) refl (b == 59) refl
-  where
-    go : (t : Bool) → is_space b ≡ t → (s : Bool) → (b == 59) ≡ s → AddsItself Spaced b
-    go true white s is = absurd (subst IsBusy {y = Spaced} (rw white refl) busy)
-    go false other true is = record { before = []; adds = rw (other, is) refl }
-    go false other false is = record { before = 32 ∷ []; adds = rw (other, is) refl }
-adds_itself Start b busy = go (is_space b) refl
-  where
-    go : (t : Bool) → is_space b ≡ t → AddsItself Start b
-    go true white = absurd (subst IsBusy {y = Start} (rw white refl) busy)
-    go false other = record { before = []; adds = rw other refl }
-adds_itself Plain b busy = go (is_space b) refl
-  where
-    go : (t : Bool) → is_space b ≡ t → AddsItself Plain b
-    go true white = absurd (subst IsBusy {y = Spaced} (rw white refl) busy)
-    go false other = record { before = []; adds = rw other refl }
-adds_itself Equals b busy = go (is_space b) refl
-  where
-    go : (t : Bool) → is_space b ≡ t → AddsItself Equals b
-    go true white = absurd (subst IsBusy {y = Spaced} (rw white refl) busy)
-    go false other = record { before = []; adds = rw other refl }
+    go : (t : Bool) → is_left_out place b ≡ t → AddsItself place b
+    go true out = absurd (left_out_idle place b out busy)
+    go false kept = record { before = brought_back place b; adds = kept_adds place b kept }
 
 ends_in : (value : List ℕ) (b : ℕ) → ((place : Place) → IsBusy (place_after place b)) → IsSettled (place_from Start value)
     → EndsIn (tight value) b → EndsIn value b
 ends_in value b busy at_rest (prefix, ends) = go (snoc value) at_rest ends
   where
     go : {value : List ℕ} → Snoc value → IsSettled (place_from Start value) → tight value ≡ prefix ++ (b ∷ []) → EndsIn value b
-    go none at_rest ends = none_ends prefix b ends
+    go none at_rest ends = absurd (omega (arith, ap length ends, length-append prefix (b ∷ [])))
     go (last front c) at_rest ends =
         let there : place_after (place_from Start prefix) b ≡ place_after (place_from Start front) c =
         sym (place_from-append Start prefix (b ∷ [])) ∙ (ap (place_from Start) (sym ends) ∙ (settled_end (front ++ (c ∷ [])) at_rest

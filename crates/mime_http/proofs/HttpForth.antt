@@ -5,6 +5,7 @@ use Rattle.std.proofs.lemmas.List.{append-nil, append_assoc}
 use Rattle.std.proofs.lemmas.List.Folds.{list_all-append}
 use Rattle.mime.specs.Grammar.{plain, quoted, Parameters, blank, final, more, Tail, no_list, listed, SyntaxTree, is_space, AreSpaces, text_of_list, text_of_tail, AreParameters, IsTail}
 use Rattle.mime.specs.Values.{value_of, lowered, lowered_value, lowered_list, lowered_tail, pairs_of_list, pairs_of_tail}
+use Rattle.mime_http.specs.declared.tight.Place.{Place}
 use Rattle.mime_http.specs.declared.tight.Place.TheVariants.{Start, Plain, Spaced, Equals, Quoted, Closed, Semicolon}
 use Rattle.mime_http.specs.Tight.{tight_from, tight}
 use Rattle.mime_http.specs.HttpMediaType.{IsHttpParameter, with_token, with_string, AreHttpParameters, no_more, semicolon, semicolon_and}
@@ -13,25 +14,32 @@ use Rattle.mime_http.proofs.Places.{Leads, one, both, of_type, goes_on, of_value
 
 -- ---- white space that is left out
 
-spaced_semicolon : (n w : List ℕ) → AreSpaces n → tight_from Spaced (n ++ (59 ∷ w)) ≡ 59 ∷ tight_from Semicolon w
-spaced_semicolon [] w all = refl
-spaced_semicolon (b ∷ n) w all = let parts = and_parts (is_space b) _ all in rw parts.0 (spaced_semicolon n w parts.1)
+-- Places at which white space is left out, and that it doesn't change.
+pub data SkipsWhite : Place → Type 0 where
+  at_start : SkipsWhite Start
+  spaced : SkipsWhite Spaced
 
+-- There bytes come out as without white space before them.
+pub skipped : {place : Place} → SkipsWhite place → (white rest : List ℕ) → AreSpaces white → tight_from place (white ++ rest) ≡ tight_from place rest
+skipped skips [] rest all = refl
+skipped at_start (b ∷ white) rest all =
+    let parts = and_parts (is_space b) _ all in rw parts.0 (skipped at_start white rest parts.1)
+skipped spaced (b ∷ white) rest all =
+    let parts = and_parts (is_space b) _ all in rw parts.0 (skipped spaced white rest parts.1)
+
+-- White space alone leaves nothing.
+pub nothing_out : {place : Place} → SkipsWhite place → (white : List ℕ) → AreSpaces white → tight_from place white ≡ []
+nothing_out {place} skips [] all = refl
+nothing_out {place} skips white all = ap (tight_from place) (sym (append-nil white)) ∙ skipped skips white [] all
+
+-- After a byte that stays it is left out before a semicolon, and at the end.
 plain_semicolon : (n w : List ℕ) → AreSpaces n → tight_from Plain (n ++ (59 ∷ w)) ≡ 59 ∷ tight_from Semicolon w
 plain_semicolon [] w all = refl
-plain_semicolon (b ∷ n) w all = let parts = and_parts (is_space b) _ all in rw parts.0 (spaced_semicolon n w parts.1)
-
-spaced_end : (n : List ℕ) → AreSpaces n → tight_from Spaced n ≡ []
-spaced_end [] all = refl
-spaced_end (b ∷ n) all = let parts = and_parts (is_space b) _ all in rw parts.0 (spaced_end n parts.1)
+plain_semicolon (b ∷ n) w all = let parts = and_parts (is_space b) _ all in rw parts.0 (skipped spaced n (59 ∷ w) parts.1)
 
 plain_end : (n : List ℕ) → AreSpaces n → tight_from Plain n ≡ []
 plain_end [] all = refl
-plain_end (b ∷ n) all = let parts = and_parts (is_space b) _ all in rw parts.0 (spaced_end n parts.1)
-
-start_spaces : (n w : List ℕ) → AreSpaces n → tight_from Start (n ++ w) ≡ tight_from Start w
-start_spaces [] w all = refl
-start_spaces (b ∷ n) w all = let parts = and_parts (is_space b) _ all in rw parts.0 (start_spaces n w parts.1)
+plain_end (b ∷ n) all = let parts = and_parts (is_space b) _ all in rw parts.0 (nothing_out spaced n parts.1)
 
 -- ---- what is left of bytes, from a token's end, from a quoted value's end and from a semicolon on
 
@@ -215,7 +223,7 @@ http_is_read value media reads =
       record {
         tree = strict;
         well_formed = (reads.is_top, reads.is_sub, from.is);
-        spelled = sym (ap tight (sym reads.spelled) ∙ (start_spaces reads.before _ reads.white_before
+        spelled = sym (ap tight (sym reads.spelled) ∙ (skipped at_start reads.before _ reads.white_before
             ∙ (ap (tight_from Start) (sym (append_assoc top (47 ∷ sub) _))
             ∙ (leads.tightly _ ∙ (ap (λ x. (top ++ (47 ∷ sub)) ++ x) from.same ∙ append_assoc top (47 ∷ sub) _)))));
         valued = same;

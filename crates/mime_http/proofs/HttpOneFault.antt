@@ -11,7 +11,7 @@ use Rattle.mime.specs.declared.scan.fault.ParseError.TheVariants.{MissingSlash, 
 use Rattle.mime.proofs.CutLemmas.Cuts.{accepted_or_rejected}
 use Rattle.mime.proofs.GrammarLemmas.Faults.{one_fault}
 use Rattle.mime_http.specs.declared.tight.Place.{Place}
-use Rattle.mime_http.specs.declared.tight.Place.TheVariants.{Start, Plain, Spaced, Equals, Quoted, Paired, Closed, Semicolon}
+use Rattle.mime_http.specs.declared.tight.Place.TheVariants.{Start, Spaced}
 use Rattle.mime_http.specs.Tight.{place_after, tight_from, tight}
 use Rattle.mime_http.specs.Reached.{start, reach_from, limit_of}
 use Rattle.mime_http.specs.HttpMediaType.{IsHttpMediaType}
@@ -71,14 +71,8 @@ record ComesOut (place : Place) : Type 0 where
   quote : tight_from place (codes "x\"") ≡ codes "x\""
 
 comes_out : (place : Place) → IsSettled place → ComesOut place
-comes_out Start is = record { slash = refl; text = refl; equal = refl; quote = refl }
-comes_out Plain is = record { slash = refl; text = refl; equal = refl; quote = refl }
 comes_out Spaced is = absurd is
-comes_out Equals is = record { slash = refl; text = refl; equal = refl; quote = refl }
-comes_out Quoted is = record { slash = refl; text = refl; equal = refl; quote = refl }
-comes_out Paired is = record { slash = refl; text = refl; equal = refl; quote = refl }
-comes_out Closed is = record { slash = refl; text = refl; equal = refl; quote = refl }
-comes_out Semicolon is = record { slash = refl; text = refl; equal = refl; quote = refl }
+comes_out place is = record { slash = refl; text = refl; equal = refl; quote = refl }
 
 ends_too : (value : List ℕ) (b : ℕ) → ((place : Place) → IsBusy (place_after place b)) → EndsIn value b → EndsIn (tight value) b
 ends_too value b busy (front, ends) =

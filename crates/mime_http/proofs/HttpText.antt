@@ -11,8 +11,9 @@ use Rattle.mime.proofs.ValueLemmas.Utf8.{high_bytes}
 use Rattle.mime.specs.Grammar.{is_space}
 use lib.Utf8.{scalars, scalar, encodes, encode}
 use Rattle.mime_http.specs.declared.tight.Place.{Place}
-use Rattle.mime_http.specs.declared.tight.Place.TheVariants.{Start, Plain, Spaced, Equals, Quoted, Paired, Closed, Semicolon}
+use Rattle.mime_http.specs.declared.tight.Place.TheVariants.{Start, Plain, Spaced, Quoted, Paired}
 use Rattle.mime_http.specs.Tight.{place_after, is_left_out, brought_back, added, tight_from, tight}
+use Rattle.mime_http.proofs.PlacesAgain.{kept_adds, is_kept}
 use Rattle.mime_http.proofs.HttpBack.{After, and_then, to_place, plain_back, any_back}
 
 -- ---- ASCII bytes
@@ -77,21 +78,19 @@ record First (place : Place) (b : ℕ) : Type 0 where
   adds : added place b ≡ before ++ (b ∷ [])
   holds : Holds (place_after place b)
 
+-- the place after it
+held : (place : Place) (b : ℕ) → IsHigh b → Holds (place_after place b)
+held Quoted b is = rw (is.backslash, is.quote) within
+held Paired b is = within
+held place b is = rw (is.space, is.semicolon, is.equals, is.quote) outside
+
 first : (place : Place) (b : ℕ) → IsHigh b → First place b
-first Start b is = record { before = []; ascii = tt; adds = rw is.space refl; holds = rw (is.space, is.semicolon, is.equals, is.quote) outside }
-first Plain b is = record { before = []; ascii = tt; adds = rw is.space refl; holds = rw (is.space, is.semicolon, is.equals, is.quote) outside }
-first Spaced b is = record {
-  before = 32 ∷ [];
-  ascii = (omega arith, tt);
-  adds = rw (is.space, is.semicolon) refl;
-  holds = rw (is.space, is.semicolon, is.equals, is.quote) outside;
+first place b is = record {
+  before = brought_back place b;
+  ascii = brought_ascii place b;
+  adds = kept_adds place b (is_kept place b is.space is.semicolon);
+  holds = held place b is;
 }
-first Equals b is = record { before = []; ascii = tt; adds = rw is.space refl; holds = rw (is.space, is.semicolon, is.equals, is.quote) outside }
-first Semicolon b is =
-    record { before = []; ascii = tt; adds = rw is.semicolon refl; holds = rw (is.space, is.semicolon, is.equals, is.quote) outside }
-first Closed b is = record { before = []; ascii = tt; adds = refl; holds = rw (is.space, is.semicolon, is.equals, is.quote) outside }
-first Quoted b is = record { before = []; ascii = tt; adds = refl; holds = rw (is.backslash, is.quote) within }
-first Paired b is = record { before = []; ascii = tt; adds = refl; holds = within }
 
 -- each next
 stays_there : {place : Place} → Holds place → (b : ℕ) → IsHigh b → place_after place b ≡ place

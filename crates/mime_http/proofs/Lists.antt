@@ -7,11 +7,11 @@ use Rattle.std.proofs.lemmas.List.{append-nil, append_assoc}
 use Rattle.mime.specs.Bytes.{is_token_byte}
 use Rattle.mime.specs.Grammar.{is_space, AreSpaces, AreTokenBytes, IsToken, IsContent, no_byte, text_byte, quoted_pair}
 use Rattle.mime.specs.Values.{MediaType, IsAccepted}
-use Rattle.mime_http.specs.Tight.{tight}
 use Rattle.mime_http.specs.HttpMediaType.{IsHttpParameter, with_token, with_string, AreHttpParameters, no_more, semicolon, semicolon_and, HttpReads, IsHttpMediaType}
 use Rattle.mime_http.specs.HttpList.{AreBetweenCommas, no_line, line_end, comma, trim_start, trim_end, AreSorted, no_text, blank, a_range, a_bad, IsInString, string_end, string_byte, string_pair, opens_string, IsPiece, piece_end, piece_byte, piece_string, BeginsPiece}
 use Rattle.mime_http.specs.ListLaws.{HttpListsAreRead, ReadAreHttpLists, AreSame, OneHeader, BadIsAlone}
 use Rattle.mime_http.proofs.Places.{token_is_plain, text_is_no_mark}
+use Rattle.mime_http.proofs.HttpForth.{at_start, nothing_out}
 use Rattle.mime_http.proofs.HttpLaws.{accepted_from_http, one_http_reading}
 use Rattle.mime_http.proofs.Cuts.{only_cut}
 
@@ -132,16 +132,6 @@ read_are_http_lists lines header is none = record {
   elements = subst (AreSorted is.pieces header.ranges) none is.sorted;
 }
 
--- ---- white space
-
-start_space : (b : ℕ) (bytes : List ℕ) → is_space b ≡ true → tight (b ∷ bytes) ≡ tight bytes
-start_space b bytes is = rw is refl
-
-tight_from_blank : (piece : List ℕ) → AreSpaces piece → tight piece ≡ []
-tight_from_blank [] all = refl
-tight_from_blank (b ∷ piece) all =
-    let parts = and_parts (is_space b) _ all in start_space b piece parts.0 ∙ tight_from_blank piece parts.1
-
 -- ---- pieces are sorted in one way
 
 nothing_is_no_value : ¬ (IsAccepted [])
@@ -153,7 +143,7 @@ nothing_is_no_value is = go is.1.tree.top _ is.1.well_formed.0 is.1.spelled
 
 http_is_not_blank : {piece : List ℕ} → AreSpaces piece → ¬ (IsHttpMediaType piece)
 http_is_not_blank {piece} white is =
-    nothing_is_no_value (subst IsAccepted (tight_from_blank piece white) (accepted_from_http piece is))
+    nothing_is_no_value (subst IsAccepted (nothing_out at_start piece white) (accepted_from_http piece is))
 
 one_sorting : {texts : List (List ℕ)} {ranges others : List MediaType} {bad poor : List (List ℕ)} → AreSorted texts ranges bad
     → AreSorted texts others poor → AreSame ranges others × (bad ≡ poor)

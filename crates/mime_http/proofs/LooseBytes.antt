@@ -15,25 +15,25 @@ use Rattle.mime.specs.Faults.{IsViable, IsDeadAt, Lacks, IsFault}
 use Rattle.mime.specs.Inner.Quoted.{takes, awaits_after}
 use Rattle.mime.specs.declared.scan.fault.ParseError.{ParseError}
 use Rattle.mime.specs.declared.scan.fault.ParseError.TheVariants.{InvalidToken}
-use Rattle.mime.proofs.BytesLemmas.{slice_get-prefix}
 use Rattle.mime.proofs.GrammarLemmas.Begun.{Closed as ClosedParameters, Begun, in_type, in_subtype, in_list, ListState, in_spaces, in_name, in_value, in_quotes, after_quotes, grow_state, grow, walk, walk_from, walk_by-append_some}
 use Rattle.mime.proofs.GrammarLemmas.Faults.{completed_is_rejected}
 use Rattle.mime.proofs.GrammarLemmas.Spelling.{spelled-from_walk}
 use Rattle.mime.proofs.GrammarLemmas.Viability.{viable-from_walk, walk-from_viable, viable-from_lacks, prefix_of_viable_is_viable}
 use Rattle.mime_http.specs.declared.tight.Place.{Place}
 use Rattle.mime_http.specs.declared.tight.Place.TheVariants.{Start, Plain, Spaced, Equals, Quoted, Paired, Closed, Semicolon}
-use Rattle.mime_http.specs.Tight.{after_quote, after_outside, place_after, added, tight_from, tight}
+use Rattle.mime_http.specs.Tight.{after_space, after_quote, after_outside, place_after, added, tight_from, tight}
 use Rattle.mime_http.specs.HttpMediaType.{IsHttpMediaType}
 use Rattle.mime_http.specs.HttpFaults.{IsHttpViable, IsHttpLongestPrefix, HttpLacks, IsHttpDeadAt}
 use Rattle.mime_http.specs.Tightening.{is_separator, ends_in_separator, begins_with_semicolon, Stands, Begins, IsLoose}
 use Rattle.mime_http.specs.HttpList.{trim_start}
 use Rattle.mime_http.proofs.Highest.{item_left}
 use Rattle.mime_http.proofs.Places.{place_from, place_from-append, stays}
-use Rattle.mime_http.proofs.PlacesAgain.{IsSettled}
+use Rattle.mime_http.proofs.PlacesAgain.{IsSettled, comes_out}
+use Rattle.mime_http.proofs.HttpForth.{SkipsWhite, at_start, spaced, skipped, nothing_out}
 use Rattle.mime_http.proofs.HttpLaws.{accepted_from_http}
 use Rattle.mime_http.proofs.Trims.{split_white, below_128}
 use Rattle.mime_http.proofs.HttpViability.{place_in_list, place_at, LeavesSpaces, walked, no_space_grows, tight-append, viable_from_tight, viable_from_accepted, tight_from_viable, accepted_from_spaced, prefix_of_http_viable}
-use Rattle.mime_http.proofs.HttpFaults.{Snoc, none, last, snoc, tight_one, longest_at, end_lacks}
+use Rattle.mime_http.proofs.HttpFaults.{Snoc, none, last, snoc, last_of, tight_one, longest_at, end_lacks}
 
 -- ---- a byte with which a begun tree goes on comes out as it is
 
@@ -123,18 +123,6 @@ no_more_white (b ∷ bytes) c rest e = go (no_more_white bytes c rest) (is_space
         let both : b ∷ bytes ≡ c ∷ rest = rw is at e in
         let first : b ≡ c = cc in
         subst (λ x. is_space x ≡ false) first is
-
--- places at which white space is left out, and that it doesn't change
-pub data SkipsWhite : Place → Type 0 where
-  at_start : SkipsWhite Start
-  spaced : SkipsWhite Spaced
-
-skipped : {place : Place} → SkipsWhite place → (white rest : List ℕ) → AreSpaces white → tight_from place (white ++ rest) ≡ tight_from place rest
-skipped skips [] rest all = refl
-skipped at_start (b ∷ white) rest all =
-    let parts = and_parts (is_space b) _ all in rw parts.0 (skipped at_start white rest parts.1)
-skipped spaced (b ∷ white) rest all =
-    let parts = and_parts (is_space b) _ all in rw parts.0 (skipped spaced white rest parts.1)
 
 still_spaced : (white : List ℕ) → AreSpaces white → place_from Spaced white ≡ Spaced
 still_spaced [] all = refl
@@ -228,12 +216,7 @@ space_leaves before b (in_list top sub list) reached some white stops = at list.
 left_out_after : (place : Place) → LeavesSpaces place → (b : ℕ) → is_space b ≡ true → (added place b ≡ []) × (place_after place b ≡ Spaced)
 left_out_after Plain is b white = (rw white refl, rw white refl)
 left_out_after Equals is b white = (rw white refl, rw white refl)
-left_out_after Start is b white = absurd is
-left_out_after Spaced is b white = absurd is
-left_out_after Quoted is b white = absurd is
-left_out_after Paired is b white = absurd is
-left_out_after Closed is b white = absurd is
-left_out_after Semicolon is b white = absurd is
+left_out_after place is b white = absurd is
 
 pub first_space : (value : List ℕ)
     → IsLoose value 0 (length value - length (trim_start value)) Start
@@ -289,10 +272,9 @@ module _ (value : List ℕ) (pos b : ℕ) (space : LaterSpace value pos b) where
   comes_alone : (white : List ℕ) → AreSpaces white → tight (begin ++ (b ∷ white)) ≡ begin
   comes_alone white all =
       let from = place_from Start begin in
-      let empty : tight_from Spaced white ≡ [] = ap (tight_from Spaced) (sym (append-nil white)) ∙ skipped spaced white [] all in
       tight-append Start begin (b ∷ white) ∙ (ap (λ x. x ++ tight_from from (b ∷ white)) (so_far space.cut.fault)
       ∙ (ap (λ x. begin ++ x) (ap (λ a. a ++ tight_from (place_after from b) white) space.nothing
-      ∙ (ap (λ place. tight_from place white) space.next ∙ empty)) ∙ append-nil begin))
+      ∙ (ap (λ place. tight_from place white) space.next ∙ nothing_out spaced white all)) ∙ append-nil begin))
 
   -- a space goes on with nothing
   no_space_after : ¬ (IsViable (begin ++ (32 ∷ [])))
@@ -423,17 +405,13 @@ semicolon_is_bare before (in_list top sub list) reached some stops = at list.clo
 
 -- after a separator it is one after a semicolon
 after_space_bare : (place : Place) (b : ℕ) → is_space b ≡ true → IsBare (place_after place b) → place_after place b ≡ Semicolon
-after_space_bare Start b white bare = absurd (subst IsBare {y = Start} (rw white refl) bare)
-after_space_bare Plain b white bare = absurd (subst IsBare {y = Spaced} (rw white refl) bare)
-after_space_bare Spaced b white bare = absurd (subst IsBare {y = Spaced} (rw white refl) bare)
-after_space_bare Equals b white bare = absurd (subst IsBare {y = Spaced} (rw white refl) bare)
 after_space_bare Quoted b white bare =
     let quote : (b == 34) ≡ false = grind (arith, nat_tests) in
     let backslash : (b == 92) ≡ false = grind (arith, nat_tests) in
     absurd (subst IsBare {y = Quoted} (rw (backslash, quote) refl) bare)
 after_space_bare Paired b white bare = absurd bare
-after_space_bare Closed b white bare = absurd (subst IsBare {y = Closed} (rw white refl) bare)
 after_space_bare Semicolon b white bare = rw white refl
+after_space_bare place b white bare = absurd (subst IsBare {y = after_space place} (rw white refl) bare)
 
 after_semicolon_bare : (place : Place) → IsBare (place_after place 59) → place_after place 59 ≡ Semicolon
 after_semicolon_bare Quoted bare = absurd bare
@@ -490,9 +468,6 @@ semicolon_comes_out Spaced at_rest other = absurd at_rest
 semicolon_comes_out Semicolon at_rest other = absurd other
 semicolon_comes_out place at_rest other = refl
 
-last_of : (front : List ℕ) (c : ℕ) → slice_get (front ++ (c ∷ [])) (length (front ++ (c ∷ [])) - 1) ≡ Some c
-last_of front c = slice_get-prefix front c [] _ (omega (arith, length-append front (c ∷ [])))
-
 separated : (before : List ℕ) → before ≢ [] → IsBare (place_from Start before) → ends_in_separator before ≡ true
     → place_from Start before ≡ Semicolon
 separated before some bare ends = go (snoc before) some bare ends
@@ -540,29 +515,12 @@ first_semicolon value pos b dead is ends =
 
 -- ---- another byte at fault, or none
 
-other_comes_out : (place : Place) → IsSettled place → (b : ℕ) → is_separator b ≡ false → ComesOut place b
-other_comes_out place at_rest b is = go place at_rest
-  where
-    space : is_space b ≡ false
-    space = grind (arith, nat_tests)
-
-    semicolon : (b == 59) ≡ false
-    semicolon = grind (arith, nat_tests)
-
-    go : (place : Place) → IsSettled place → ComesOut place b
-    go Start at_rest = rw space refl
-    go Plain at_rest = rw space refl
-    go Spaced at_rest = absurd at_rest
-    go Equals at_rest = rw space refl
-    go Quoted at_rest = refl
-    go Paired at_rest = refl
-    go Closed at_rest = refl
-    go Semicolon at_rest = rw semicolon refl
-
 pub other_byte : (value : List ℕ) (pos b : ℕ) → IsDeadAt value pos b → is_separator b ≡ false → Stands value (InvalidToken pos b)
 other_byte value pos b dead is =
     let cut = cut_at value pos b dead in
-    stays_dead value pos b cut dead.there (other_comes_out (place_from Start (take pos value)) (at_rest cut.fault) b is)
+    let space : is_space b ≡ false = grind (arith, nat_tests) in
+    let semicolon : (b == 59) ≡ false = grind (arith, nat_tests) in
+    stays_dead value pos b cut dead.there (comes_out (place_from Start (take pos value)) (at_rest cut.fault) b space semicolon)
 
 -- what is missing at the end is missing as HTTP writes it
 record Rejected (value : List ℕ) (X : Type 0) : Type 0 where

@@ -1,12 +1,12 @@
 -- What was written from a place on is written again.
-use Rattle.std.proofs.Common.{◌≡◌, ◌==◌, refl, sym, subst, arith, ℕ, Bool, true, false, List, [], ◌∷◌, ◌++◌}
+use Rattle.std.proofs.Common.{◌≡◌, ◌∙◌, ◌==◌, refl, ap, sym, subst, arith, ℕ, Bool, true, false, List, [], ◌∷◌, ◌++◌}
 use Rattle.std.specs.Prelude.{⊤, if◌then◌else◌}
 use Rattle.std.proofs.lemmas.Bool.Decides.{nat_tests}
 use Rattle.std.proofs.lemmas.List.{append-nil, append_assoc}
 use Rattle.mime.specs.Grammar.{is_space}
 use Rattle.mime_http.specs.declared.tight.Place.{Place}
 use Rattle.mime_http.specs.declared.tight.Place.TheVariants.{Start, Plain, Spaced, Equals, Quoted, Paired, Closed, Semicolon}
-use Rattle.mime_http.specs.Tight.{after_quote, after_outside, after_within, place_after, added, tight_from, tight}
+use Rattle.mime_http.specs.Tight.{after_quote, after_outside, after_within, place_after, is_left_out, brought_back, added, tight_from, tight}
 use Rattle.mime_http.proofs.Places.{place_from, Leads, both, one, so, no_bytes, KeepsSpace, after_value, before_name}
 
 -- a place after which no white space was left out
@@ -21,14 +21,8 @@ pub data IsLike : Place → Place → Type 0 where
   left_after_equals : IsLike Spaced Equals
 
 after_quote_settled : (place : Place) → IsSettled (after_quote place)
-after_quote_settled Start = tt
-after_quote_settled Plain = tt
-after_quote_settled Spaced = tt
 after_quote_settled Equals = tt
-after_quote_settled Quoted = tt
-after_quote_settled Paired = tt
-after_quote_settled Closed = tt
-after_quote_settled Semicolon = tt
+after_quote_settled place = tt
 
 -- a byte other than white space leads to a settled place
 pub outside_settled : (place : Place) (b : ℕ) → is_space b ≡ false → IsSettled (after_outside place b)
@@ -47,6 +41,28 @@ within_settled b = go (b == 92) (b == 34)
     go true q = tt
     go false true = tt
     go false false = tt
+
+-- A byte that isn't left out comes out, after what comes back before it,
+pub kept_adds : (place : Place) (b : ℕ) → is_left_out place b ≡ false → added place b ≡ brought_back place b ++ (b ∷ [])
+kept_adds place b kept = rw kept refl
+
+-- which is nothing at a settled place.
+nothing_back : (place : Place) → IsSettled place → (b : ℕ) → brought_back place b ≡ []
+nothing_back Spaced settled b = absurd settled
+nothing_back place settled b = refl
+
+-- Neither white space nor a semicolon: it isn't left out.
+pub is_kept : (place : Place) (b : ℕ) → is_space b ≡ false → (b == 59) ≡ false → is_left_out place b ≡ false
+is_kept Quoted b space semicolon = refl
+is_kept Paired b space semicolon = refl
+is_kept Closed b space semicolon = refl
+is_kept Semicolon b space semicolon = semicolon
+is_kept place b space semicolon = space
+
+-- So at a settled place it comes out as it is.
+pub comes_out : (place : Place) → IsSettled place → (b : ℕ) → is_space b ≡ false → (b == 59) ≡ false → added place b ≡ b ∷ []
+comes_out place settled b space semicolon =
+    kept_adds place b (is_kept place b space semicolon) ∙ ap (λ x. x ++ (b ∷ [])) (nothing_back place settled b)
 
 -- what a byte writes is written again from a like place, and leads to one
 record Again (place : Place) (b : ℕ) (like : Place) : Type 0 where

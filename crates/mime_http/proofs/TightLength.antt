@@ -2,7 +2,7 @@
 use Rattle.std.proofs.Common.{ℕ, ◌+◌, ◌≤◌, List, [], ◌∷◌, length, arith, length-append}
 use Rattle.mime_http.specs.Tight.{added, place_after, tight_from, tight}
 use Rattle.mime_http.specs.declared.tight.Place.{Place}
-use Rattle.mime_http.specs.declared.tight.Place.TheVariants.{Start, Plain, Spaced, Equals, Quoted, Paired, Closed, Semicolon}
+use Rattle.mime_http.specs.declared.tight.Place.TheVariants.{Start, Spaced}
 
 -- a space that was left out may come back
 abbrev owed : Place → ℕ
@@ -11,14 +11,8 @@ owed place = 0
 
 -- a byte adds no more than itself and what is owed
 adds_no_more : (place : Place) (b : ℕ) → length (added place b) + owed (place_after place b) ≤ 1 + owed place
-adds_no_more Start b = grind arith
-adds_no_more Plain b = grind arith
 adds_no_more Spaced b = grind arith
-adds_no_more Equals b = grind arith
-adds_no_more Quoted b = grind arith
-adds_no_more Paired b = grind arith
-adds_no_more Closed b = grind arith
-adds_no_more Semicolon b = grind arith
+adds_no_more place b = grind arith
 
 no_longer-from : (place : Place) (bytes : List ℕ) → length (tight_from place bytes) ≤ length bytes + owed place
 no_longer-from place [] = omega arith
