@@ -20,7 +20,8 @@ use Rattle.mime_http.specs.HeaderLaws.{OneHttpFault}
 use Rattle.mime_http.proofs.Places.{place_from}
 use Rattle.mime_http.proofs.PlacesAgain.{IsSettled}
 use Rattle.mime_http.proofs.HttpViability.{http_from_accepted, tight_accepted, accepted_from_spaced}
-use Rattle.mime_http.proofs.HttpFaults.{Kind, spaced, settled, kind, stops, IsBusy, busy_after, adds_itself, tight_one, FaultAt, fault_here, fault_before}
+use Rattle.mime_http.proofs.HowFar.{Kind, spaced, settled, kind, stops, tight_one}
+use Rattle.mime_http.proofs.HttpFaults.{IsBusy, busy_after, adds_itself, FaultAt, fault_here, fault_before}
 
 -- ---- one at least
 

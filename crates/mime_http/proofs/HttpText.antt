@@ -14,7 +14,7 @@ use Rattle.mime_http.specs.declared.tight.Place.{Place}
 use Rattle.mime_http.specs.declared.tight.Place.TheVariants.{Start, Plain, Spaced, Quoted, Paired}
 use Rattle.mime_http.specs.Tight.{place_after, is_left_out, brought_back, added, tight_from, tight}
 use Rattle.mime_http.proofs.PlacesAgain.{kept_adds, is_kept}
-use Rattle.mime_http.proofs.HttpBack.{After, and_then, to_place, plain_back, any_back}
+use Rattle.mime_http.proofs.OutAgain.{After, and_then, to_place, plain_back, any_back}
 
 -- ---- ASCII bytes
 

@@ -1,5 +1,6 @@
 -- What the proofs of several functions cite.
 pub mod Adds
+pub mod AtFault
 pub mod Closest
 pub mod Contents
 pub mod Cuts
@@ -7,6 +8,7 @@ pub mod Demanded
 pub mod First
 pub mod Forms
 pub mod Highest
+pub mod HowFar
 pub mod HttpBack
 pub mod HttpFacts
 pub mod HttpFaults
@@ -16,17 +18,19 @@ pub mod HttpOneFault
 pub mod HttpText
 pub mod HttpViability
 pub mod Lists
-pub mod LooseBytes
 pub mod NegotiationFacts
 pub mod Order
 pub mod Others
+pub mod OutAgain
 pub mod Pieces
 pub mod Places
 pub mod PlacesAgain
 pub mod Ranks
 pub mod Rejections
+pub mod SemicolonAtFault
 pub mod ShortWeight
 pub mod TightLength
 pub mod Trims
+pub mod WhiteAtFault
 pub mod Written
 pub mod WrittenFacts

@@ -9,7 +9,8 @@ use Rattle.mime_http.specs.declared.fault.Reach.{Reach}
 use Rattle.mime_http.specs.Tight.{tight}
 use Rattle.mime_http.specs.Reached.{start, reach_from, limit_of}
 use Rattle.mime_http.proofs.Places.{place_from}
-use Rattle.mime_http.proofs.HttpFaults.{Stops, stops, unspaced, goes, boundary, FaultAt, fault_here, fault_before}
+use Rattle.mime_http.proofs.HowFar.{Stops, stops, unspaced, goes, boundary}
+use Rattle.mime_http.proofs.HttpFaults.{FaultAt, fault_here, fault_before}
 use Rattle.mime_http.proofs.fault.viable_len.Goals as goal
 
 stopped : (value text : List ℕ) (fault : ParseError) (limit : ℕ) (reach : Reach) → text ≡ tight value → limit ≡ limit_of text fault

@@ -5,7 +5,7 @@ use Rattle.mime_http.specs.declared.tight.Place.TheVariants.{Spaced}
 use Rattle.mime_http.specs.HttpList.{trim_start}
 use Rattle.mime_http.specs.Tightening.{begins_with_semicolon, Begins, IsLoose}
 use Rattle.mime_http.proofs.Trims.{trimmed-le}
-use Rattle.mime_http.proofs.LooseBytes.{begins, later_space}
+use Rattle.mime_http.proofs.WhiteAtFault.{begins, later_space}
 use Rattle.mime_http.proofs.tight.tightening_at_white.Goals as goal
 
 pub overflow_sub-next : goal.overflow_sub-next

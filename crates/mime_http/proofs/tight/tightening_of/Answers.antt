@@ -10,7 +10,8 @@ use Rattle.mime.specs.declared.scan.fault.ParseError.TheVariants.{InvalidToken}
 use Rattle.mime_http.specs.Tightening.{Stands, IsLoose, IsTightening}
 use Rattle.mime_http.specs.declared.tight.Place.TheVariants.{Start}
 use Rattle.mime_http.proofs.Trims.{trimmed-le}
-use Rattle.mime_http.proofs.LooseBytes.{first_space, next_semicolon, first_semicolon, other_byte, stands_at_end}
+use Rattle.mime_http.proofs.WhiteAtFault.{first_space}
+use Rattle.mime_http.proofs.SemicolonAtFault.{next_semicolon, first_semicolon, other_byte, stands_at_end}
 use Rattle.mime_http.proofs.tight.tightening_of.Goals.{in_default-byte-via-in-59+else-ends_in_separator, in_default-byte-via-in_default-1}
 use Rattle.mime_http.proofs.tight.tightening_of.Goals as goal
 

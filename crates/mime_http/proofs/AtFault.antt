@@ -1,0 +1,182 @@
+-- A byte at fault in a value, and the bytes before it: the place there, and what is left of the value from there on.
+use Rattle.std.proofs.Common.{◌≡◌, ◌∙◌, refl, sym, ap, subst, arith, ℕ, suc, ◌+◌, ◌-◌, ◌<◌, ◌≤◌, Bool, true, false, List, [], ◌∷◌, ◌++◌, length, take, drop, get_or, Option, Some, None, length-append, length-drop}
+use Rattle.std.proofs.Math.Seq.{take-length, take-suc, drop-append_seam}
+use Rattle.std.specs.Prelude.{slice_get, if◌then◌else◌}
+use Rattle.std.specs.Option.{option_and_then}
+use Rattle.std.proofs.lemmas.Bool.{and_parts}
+use Rattle.std.proofs.lemmas.List.{append-nil, drop-drop, length-take-le, take-append-drop}
+use Rattle.std.proofs.lemmas.Option.{slice_get_within, get_or_from_slice_get}
+use Rattle.mime.specs.Grammar.{is_space, AreSpaces}
+use Rattle.mime.specs.Faults.{IsViable, IsDeadAt}
+use Rattle.mime.specs.Inner.Quoted.{awaits_after}
+use Rattle.mime.specs.declared.scan.fault.ParseError.TheVariants.{InvalidToken}
+use Rattle.mime.proofs.GrammarLemmas.Begun.{Begun, in_type, in_subtype, in_list, ListState, in_spaces, in_name, in_value, in_quotes, after_quotes, grow, walk, walk_from, walk_by-append_some}
+use Rattle.mime.proofs.GrammarLemmas.Viability.{viable-from_walk, walk-from_viable}
+use Rattle.mime_http.specs.declared.tight.Place.{Place}
+use Rattle.mime_http.specs.declared.tight.Place.TheVariants.{Start, Spaced, Quoted, Paired}
+use Rattle.mime_http.specs.Tight.{place_after, added, tight_from, tight}
+use Rattle.mime_http.specs.HttpMediaType.{IsHttpMediaType}
+use Rattle.mime_http.specs.HttpFaults.{IsHttpViable, IsHttpLongestPrefix, IsHttpDeadAt}
+use Rattle.mime_http.specs.Tightening.{Stands}
+use Rattle.mime_http.specs.HttpList.{trim_start}
+use Rattle.mime_http.proofs.Highest.{item_left}
+use Rattle.mime_http.proofs.Places.{place_from, stays}
+use Rattle.mime_http.proofs.PlacesAgain.{IsSettled}
+use Rattle.mime_http.proofs.HttpForth.{SkipsWhite, skipped}
+use Rattle.mime_http.proofs.Trims.{split_white}
+use Rattle.mime_http.proofs.HttpViability.{place_in_list, place_at, walked, tight-append, viable_from_tight, tight_from_viable}
+use Rattle.mime_http.proofs.HowFar.{tight_one}
+use Rattle.mime_http.proofs.HttpFaults.{longest_at}
+
+-- ---- a byte with which a begun tree goes on comes out as it is
+
+abbrev pub ComesOut : Place → ℕ → Type 0
+ComesOut place b = added place b ≡ b ∷ []
+
+-- ---- a byte at fault
+
+-- the walk up to it
+pub record Fault (before : List ℕ) (b : ℕ) : Type 0 where
+  pub viable : IsViable before
+  pub dead : ¬ (IsViable (before ++ (b ∷ [])))
+  pub begun : Begun
+  pub reached : walk before ≡ Some begun
+  pub stops : grow begun b ≡ None
+
+no_way_on : (before : List ℕ) (b : ℕ) (begun : Begun) → walk before ≡ Some begun → ¬ (IsViable (before ++ (b ∷ []))) → (o : Option Begun)
+    → grow begun b ≡ o → o ≡ None
+no_way_on before b begun reached dead None e = refl
+no_way_on before b begun reached dead (Some next) e =
+    absurd (dead (viable-from_walk (before ++ (b ∷ [])) next
+    (walk_by-append_some grow (in_type []) begun before (b ∷ []) reached ∙ ap (option_and_then (λ s. walk_from s [])) e)))
+
+pub fault_of : (before : List ℕ) (b : ℕ) → IsViable before → ¬ (IsViable (before ++ (b ∷ []))) → Fault before b
+fault_of before b viable dead =
+    let found = walk-from_viable before viable in
+    record { viable = viable; dead = dead; begun = found.0; reached = found.1; stops = no_way_on before b found.0 found.1 dead (grow found.0 b) refl }
+
+-- the place there, and what came out before it
+pub there : {before : List ℕ} {b : ℕ} (fault : Fault before b) → place_from Start before ≡ place_at fault.begun
+there {before} fault = (walked (in_type []) before fault.begun fault.reached).there
+
+pub so_far : {before : List ℕ} {b : ℕ} (fault : Fault before b) → tight before ≡ before
+so_far {before} fault = stays (walked (in_type []) before fault.begun fault.reached)
+
+settled_in_list : (position : ListState) → IsSettled (place_in_list position)
+settled_in_list (in_spaces n) = tt
+settled_in_list (in_name n name) = tt
+settled_in_list (in_value n name []) = tt
+settled_in_list (in_value n name (v ∷ value)) = tt
+settled_in_list (in_quotes n name content) = go (awaits_after false content)
+  where
+    go : (awaiting : Bool) → IsSettled (if awaiting then Paired else Quoted)
+    go true = tt
+    go false = tt
+settled_in_list (after_quotes n name content m) = tt
+
+pub settled_at : (begun : Begun) → IsSettled (place_at begun)
+settled_at (in_type []) = tt
+settled_at (in_type (t ∷ top)) = tt
+settled_at (in_subtype top sub) = tt
+settled_at (in_list top sub list) = settled_in_list list.position
+
+pub at_rest : {before : List ℕ} {b : ℕ} → Fault before b → IsSettled (place_from Start before)
+at_rest fault = subst IsSettled (sym (there fault)) (settled_at fault.begun)
+
+-- a value is cut at its fault
+pub record CutAt (value : List ℕ) (pos b : ℕ) : Type 0 where
+  pub split : take pos value ++ (b ∷ drop (pos + 1) value) ≡ value
+  pub long : length (take pos value) ≡ pos
+  pub fault : Fault (take pos value) b
+
+pub cut_at : (value : List ℕ) (pos b : ℕ) → IsDeadAt value pos b → CutAt value pos b
+cut_at value pos b dead =
+    let within = slice_get_within value pos b dead.there in
+    let here : get_or value pos 0 ≡ b = get_or_from_slice_get value pos b 0 dead.there in
+    let next : take pos value ++ (b ∷ []) ≡ take (pos + 1) value =
+    let one : suc pos ≡ pos + 1 = omega arith in
+    ap (λ x. take pos value ++ (x ∷ [])) (sym here) ∙ (sym (take-suc value pos 0 within) ∙ ap (λ n. take n value) one) in
+    record {
+      split = ap (λ x. take pos value ++ x) (ap (λ x. x ∷ drop (pos + 1) value) (sym here) ∙ sym (item_left value pos 0 within))
+          ∙ take-append-drop pos value;
+      long = length-take-le pos value (omega (arith, within));
+      fault = fault_of (take pos value) b dead.prefix.viable
+          (λ viable. dead.prefix.longest (pos + 1) (omega arith) (omega (arith, within)) (subst IsViable next viable));
+    }
+
+-- ---- what is left after it
+
+pub no_more_white : (bytes : List ℕ) (c : ℕ) (rest : List ℕ) → trim_start bytes ≡ c ∷ rest → is_space c ≡ false
+no_more_white [] c rest e = absurd (cc)
+no_more_white (b ∷ bytes) c rest e = go (no_more_white bytes c rest) (is_space b) refl
+  where
+    go : (trim_start bytes ≡ c ∷ rest → is_space c ≡ false) → (w : Bool) → is_space b ≡ w → is_space c ≡ false
+    go more true is = more (rw is at e)
+    go more false is =
+        let both : b ∷ bytes ≡ c ∷ rest = rw is at e in
+        let first : b ≡ c = cc in
+        subst (λ x. is_space x ≡ false) first is
+
+pub still_spaced : (white : List ℕ) → AreSpaces white → place_from Spaced white ≡ Spaced
+still_spaced [] all = refl
+still_spaced (b ∷ white) all =
+    let parts = and_parts (is_space b) _ all in rw parts.0 (still_spaced white parts.1)
+
+-- from the end of white space on
+dropped : (value : List ℕ) (n : ℕ) (white rest : List ℕ) → n ≤ length value → drop n value ≡ white ++ rest
+    → drop (length value - length rest) value ≡ rest
+dropped value n white rest within split =
+    let count : n + length white ≡ length value - length rest =
+    omega (arith, within, ap length split, length-append white rest, length-drop n value) in
+    ap (λ m. drop m value) (sym count)
+    ∙ (sym (drop-drop (length white) n value) ∙ (ap (drop (length white)) split ∙ drop-append_seam white rest))
+
+pub after_white : {place : Place} → SkipsWhite place → (value : List ℕ) (n : ℕ) → n ≤ length value
+    → tight_from place (drop n value) ≡ tight_from place (drop (length value - length (trim_start (drop n value))) value)
+after_white {place} skips value n within =
+    let split = split_white (drop n value) in
+    ap (tight_from place) split.2 ∙ (skipped skips split.0 (trim_start (drop n value)) split.1
+    ∙ ap (tight_from place) (sym (dropped value n split.0 (trim_start (drop n value)) within split.2)))
+
+-- left out, if it adds nothing
+pub leaves_out : (value : List ℕ) (pos b : ℕ) (place : Place) → CutAt value pos b → pos < length value
+    → added (place_from Start (take pos value)) b ≡ [] → place_after (place_from Start (take pos value)) b ≡ place
+    → tight value ≡ take pos value ++ tight_from place (drop (pos + 1) value)
+leaves_out value pos b place cut within nothing next =
+    let before = take pos value in
+    let rest = drop (pos + 1) value in
+    let from = place_from Start before in
+    ap tight (sym cut.split) ∙ (tight-append Start before (b ∷ rest)
+    ∙ (ap (λ x. x ++ tight_from from (b ∷ rest)) (so_far cut.fault)
+    ∙ ap (λ x. before ++ x) (ap (λ a. a ++ tight_from (place_after from b) rest) nothing ∙ ap (λ p. tight_from p rest) next)))
+
+-- at fault in the value too, if it comes out as it is
+dead_too : (value : List ℕ) (pos b : ℕ) → CutAt value pos b → slice_get value pos ≡ Some b → ComesOut (place_from Start (take pos value)) b
+    → IsHttpDeadAt value pos b
+dead_too value pos b cut here comes =
+    let before = take pos value in
+    let rest = drop (pos + 1) value in
+    let text : tight (before ++ (b ∷ [])) ≡ before ++ (b ∷ []) =
+    tight_one before b ∙ (ap (λ x. x ++ added (place_from Start before) b) (so_far cut.fault) ∙ ap (λ x. before ++ x) comes) in
+    record {
+      prefix = subst (λ n. IsHttpLongestPrefix value n) cut.long
+          (subst (λ v. IsHttpLongestPrefix v (length before)) cut.split
+          (longest_at before (b ∷ rest)
+          (viable_from_tight before (at_rest cut.fault) (subst IsViable (sym (so_far cut.fault)) cut.fault.viable))
+          (λ c bytes e viable.
+          let same : b ≡ c = cc in
+          let begins = subst (λ x. IsHttpViable (before ++ (x ∷ []))) (sym same) viable in
+          cut.fault.dead (subst IsViable text (tight_from_viable (before ++ (b ∷ [])) begins)))));
+      there = here;
+    }
+
+pub stays_dead : (value : List ℕ) (pos b : ℕ) → CutAt value pos b → slice_get value pos ≡ Some b → ComesOut (place_from Start (take pos value)) b
+    → Stands value (InvalidToken pos b)
+stays_dead value pos b cut here comes =
+    let dead = dead_too value pos b cut here comes in
+    record {
+      rejected = λ is.
+          dead.prefix.longest (length value) (slice_get_within value pos b here) (omega arith)
+          (subst IsHttpViable (sym (take-length value)) ([], subst IsHttpMediaType (sym (append-nil value)) is));
+      is = dead;
+    }

@@ -1,0 +1,192 @@
+-- How far a value goes before more than some bytes come out of it, and what is known there.
+use Rattle.std.proofs.Common.{◌≡◌, ◌∙◌, refl, sym, ap, subst, arith, ℕ, ◌+◌, ◌-◌, ◌<◌, ◌≤◌, Bool, true, false, List, [], ◌∷◌, ◌++◌, length, length-append, take, Some}
+use Rattle.std.proofs.Math.Seq.{take-append_seam, take-append-add}
+use Rattle.std.specs.Prelude.{nat_lt, slice_get}
+use Rattle.std.proofs.lemmas.Bool.Decides.{nat_tests}
+use Rattle.std.proofs.lemmas.List.{append-nil, append_assoc}
+use Rattle.std.proofs.lemmas.Str.{IsUtf8-nil, IsUtf8-take, IsCharBoundary-from_take}
+use Rattle.std.specs.Str.{IsUtf8, IsCharBoundary}
+use Rattle.mime.proofs.BytesLemmas.{boundary_after, slice_get-prefix}
+use Rattle.mime_http.proofs.HttpText.{tight_utf8}
+use Rattle.mime.specs.Grammar.{is_space}
+use Rattle.mime_http.specs.declared.tight.Place.{Place}
+use Rattle.mime_http.specs.declared.tight.Place.TheVariants.{Start, Spaced, Quoted, Paired, Closed, Semicolon}
+use Rattle.mime_http.specs.declared.fault.Reach.{Reach}
+use Rattle.mime_http.specs.Tight.{place_after, added, tight_from, tight}
+use Rattle.mime_http.specs.Reached.{start, settled_at, reach_after, reach_from}
+use Rattle.mime_http.proofs.Places.{place_from, place_from-append, after_value, before_name}
+use Rattle.mime_http.proofs.PlacesAgain.{IsSettled, outside_settled, within_settled, kept_settled}
+use Rattle.mime_http.proofs.HttpViability.{tight-append}
+
+-- ---- a place is after white space that was left out, or settled
+
+pub data Kind (place : Place) : Type 0 where
+  spaced : place ≡ Spaced → Kind place
+  settled : IsSettled place → ((before here : ℕ) → settled_at place before here ≡ here) → Kind place
+
+pub kind : (place : Place) → Kind place
+kind Spaced = spaced refl
+kind place = settled tt (λ before here. refl)
+
+pub unspaced : (place : Place) → ¬ (place ≡ Spaced) → IsSettled place
+unspaced Spaced isnt = absurd (isnt refl)
+unspaced place isnt = tt
+
+-- ---- how far a value goes
+
+-- where bytes end but for the white space after them that was left out
+pub data SettledAt : List ℕ → ℕ → Type 0 where
+  here : (front : List ℕ) → IsSettled (place_from Start front) → SettledAt front (length front)
+  back : (front : List ℕ) (c : ℕ) (white : List ℕ) → IsSettled (place_from Start front) → place_from Start (front ++ (c ∷ [])) ≡ Spaced
+      → tight (front ++ (c ∷ [])) ≡ tight front → tight (front ++ (c ∷ white)) ≡ tight front
+      → SettledAt (front ++ (c ∷ white)) (length front)
+
+-- what is known after these bytes
+pub record SoFar (front : List ℕ) (limit : ℕ) (reach : Reach) : Type 0 where
+  pub at : reach.at ≡ length front
+  pub place : place_from Start front ≡ reach.place
+  pub out : length (tight front) + reach.left ≡ limit
+  pub back_to : SettledAt front reach.settled
+
+-- the bytes that the value goes, and why it stops there
+pub record Stops (value : List ℕ) (limit : ℕ) (reach : Reach) : Type 0 where
+  pub front : List ℕ
+  pub after : List ℕ
+  pub split : value ≡ front ++ after
+  pub so_far : SoFar front limit reach
+  pub next : (b : ℕ) (bytes : List ℕ) → after ≡ b ∷ bytes → limit < length (tight (front ++ (b ∷ [])))
+
+-- only white space is left out so, and it adds nothing
+white_adds_nothing : (place : Place) (b : ℕ) → place_after place b ≡ Spaced → (is_space b ≡ true) × (added place b ≡ [])
+white_adds_nothing Quoted b e = absurd (subst IsSettled e (within_settled b))
+white_adds_nothing Paired b e = absurd (subst IsSettled e tt)
+white_adds_nothing Closed b e = absurd (subst IsSettled e (kept_settled after_value b))
+white_adds_nothing Semicolon b e = absurd (subst IsSettled e (kept_settled before_name b))
+white_adds_nothing place b e = go (is_space b) refl
+  where
+    go : (t : Bool) → is_space b ≡ t → (is_space b ≡ true) × (added place b ≡ [])
+    go true white = (white, rw white refl)
+    go false other = absurd (subst IsSettled e (outside_settled place b other))
+
+pub tight_one : (front : List ℕ) (b : ℕ) → tight (front ++ (b ∷ [])) ≡ tight front ++ added (place_from Start front) b
+tight_one front b = tight-append Start front (b ∷ []) ∙ ap (λ x. tight front ++ x) (append-nil _)
+
+more_white : {front : List ℕ} {n : ℕ} → SettledAt front n → (b : ℕ) → place_from Start (front ++ (b ∷ [])) ≡ Spaced
+    → tight (front ++ (b ∷ [])) ≡ tight front → SettledAt (front ++ (b ∷ [])) n
+more_white (here front at_rest) b spaced_there same = back front b [] at_rest spaced_there same same
+more_white (back front c white at_rest first one all) b spaced_there same =
+    let grouped : (front ++ (c ∷ white)) ++ (b ∷ []) ≡ front ++ (c ∷ (white ++ (b ∷ []))) = append_assoc front (c ∷ white) (b ∷ []) in
+    subst (λ x. SettledAt x (length front)) (sym grouped)
+    (back front c (white ++ (b ∷ [])) at_rest first one (ap tight (sym grouped) ∙ (same ∙ all)))
+
+-- one byte further
+step : (front : List ℕ) (limit : ℕ) (reach : Reach) (b : ℕ) → SoFar front limit reach → nat_lt reach.left (length (added reach.place b)) ≡ false
+    → SoFar (front ++ (b ∷ [])) limit (reach_after reach b)
+step front limit reach b is fits = record {
+  at = count;
+  place = there;
+  out =
+      let fewer : length (added reach.place b) ≤ reach.left = grind (arith, nat_tests) in
+      omega (arith, fewer, is.out, ap length same, length-append (tight front) (added reach.place b));
+  back_to = settle (kind (place_after reach.place b));
+}
+  where
+    count : reach.at + 1 ≡ length (front ++ (b ∷ []))
+    count = omega (arith, is.at, length-append front (b ∷ []))
+
+    there : place_from Start (front ++ (b ∷ [])) ≡ place_after reach.place b
+    there = place_from-append Start front (b ∷ []) ∙ ap (λ place. place_after place b) is.place
+
+    same : tight (front ++ (b ∷ [])) ≡ tight front ++ added reach.place b
+    same = tight_one front b ∙ ap (λ place. tight front ++ added place b) is.place
+
+    settle : Kind (place_after reach.place b)
+        → SettledAt (front ++ (b ∷ [])) (settled_at (place_after reach.place b) reach.settled (reach.at + 1))
+    settle (spaced e) =
+        subst (λ place. SettledAt (front ++ (b ∷ [])) (settled_at place reach.settled (reach.at + 1))) (sym e)
+        (more_white is.back_to b (there ∙ e)
+        (same ∙ (ap (λ x. tight front ++ x) (white_adds_nothing reach.place b e).1 ∙ append-nil (tight front))))
+    settle (settled is_settled e) =
+        subst (SettledAt (front ++ (b ∷ []))) (sym (e reach.settled (reach.at + 1) ∙ count))
+        (here (front ++ (b ∷ [])) (subst IsSettled (sym there) is_settled))
+
+stops_from : (bytes front : List ℕ) (limit : ℕ) (reach : Reach) → SoFar front limit reach → Stops (front ++ bytes) limit (reach_from reach bytes)
+stops_from [] front limit reach is =
+    record { front = front; after = []; split = refl; so_far = is; next = λ b bytes e. absurd (cc) }
+stops_from (b ∷ bytes) front limit reach is =
+    go (stops_from bytes (front ++ (b ∷ [])) limit (reach_after reach b)) (nat_lt reach.left (length (added reach.place b))) refl
+  where
+    go : (SoFar (front ++ (b ∷ [])) limit (reach_after reach b)
+        → Stops ((front ++ (b ∷ [])) ++ bytes) limit (reach_from (reach_after reach b) bytes))
+        → (t : Bool) → nat_lt reach.left (length (added reach.place b)) ≡ t → Stops (front ++ (b ∷ bytes)) limit (reach_from reach (b ∷ bytes))
+    go rest true over = rw over (record {
+      front = front;
+      after = b ∷ bytes;
+      split = refl;
+      so_far = is;
+      next = λ c more e.
+          let first : b ≡ c = cc in
+          let longer : reach.left < length (added reach.place b) = grind (arith, nat_tests) in
+          let same = tight_one front b ∙ ap (λ place. tight front ++ added place b) is.place in
+          subst (λ x. limit < length (tight (front ++ (x ∷ [])))) first
+          (omega (arith, longer, is.out, ap length same, length-append (tight front) (added reach.place b)));
+    })
+    go rest false fits =
+        rw fits (subst (λ value. Stops value limit (reach_from (reach_after reach b) bytes)) (append_assoc front (b ∷ []) bytes)
+        (rest (step front limit reach b is fits)))
+
+pub stops : (value : List ℕ) (limit : ℕ) → Stops value limit (reach_from (start limit) value)
+stops value limit =
+    stops_from value [] limit (start limit) (record { at = refl; place = refl; out = omega arith; back_to = here [] tt })
+
+pub data Snoc : List ℕ → Type 0 where
+  none : Snoc []
+  last : (front : List ℕ) (b : ℕ) → Snoc (front ++ (b ∷ []))
+
+pub snoc : (xs : List ℕ) → Snoc xs
+snoc [] = none
+snoc (x ∷ xs) = go (snoc xs)
+  where
+    go : {xs : List ℕ} → Snoc xs → Snoc (x ∷ xs)
+    go none = last [] x
+    go (last front b) = last (x ∷ front) b
+
+-- what comes out of the bytes that it goes
+pub goes : {value : List ℕ} {limit : ℕ} {reach : Reach} (stop : Stops value limit reach)
+    → (reach.left ≤ limit) × (take (limit - reach.left) (tight value) ≡ tight stop.front)
+goes {value} {limit} {reach} stop =
+    let count : limit - reach.left ≡ length (tight stop.front) = omega (arith, stop.so_far.out) in (
+      omega (arith, stop.so_far.out),
+      ap (λ n. take n (tight value)) count ∙ (ap (λ v. take (length (tight stop.front)) (tight v)) stop.split
+          ∙ (ap (take (length (tight stop.front))) (tight-append Start stop.front stop.after) ∙ take-append_seam (tight stop.front) _)),
+    )
+
+-- after white space the bytes may be cut
+utf8_to_space : {value : List ℕ} → IsUtf8 value → (front after : List ℕ) → value ≡ front ++ after → place_from Start front ≡ Spaced
+    → IsUtf8 front
+utf8_to_space {value} is front after split spaced_there = go (snoc front) split spaced_there
+  where
+    go : {front : List ℕ} → Snoc front → value ≡ front ++ after → place_from Start front ≡ Spaced → IsUtf8 front
+    go none split spaced_there = IsUtf8-nil
+    go (last front b) split spaced_there =
+        let white = (white_adds_nothing (place_from Start front) b (sym (place_from-append Start front (b ∷ [])) ∙ spaced_there)).0 in
+        let ascii : b < 128 = grind (arith, nat_tests) in
+        let there : slice_get value (length front) ≡ Some b =
+        ap (λ v. slice_get v (length front)) (split ∙ append_assoc front (b ∷ []) after) ∙ slice_get-prefix front b after (length front) refl in
+        let cut : take (length front + 1) value ≡ front ++ (b ∷ []) =
+        ap (take (length front + 1)) (split ∙ append_assoc front (b ∷ []) after) ∙ take-append-add front (b ∷ after) 1 in
+        subst IsUtf8 cut (IsUtf8-take value (length front + 1) is (boundary_after value (length front) b is there ascii))
+
+pub boundary : {value : List ℕ} {limit : ℕ} {reach : Reach} → IsUtf8 value → (stop : Stops value limit reach)
+    → place_from Start stop.front ≡ Spaced → IsCharBoundary (tight value) (limit - reach.left)
+boundary {value} {limit} {reach} is stop spaced_there =
+    let text = tight-append Start stop.front stop.after in
+    IsCharBoundary-from_take (tight value) (limit - reach.left) ((tight_utf8 value).0 is)
+    (omega (
+      arith,
+      stop.so_far.out,
+      ap (λ v. length (tight v)) stop.split,
+      ap length text,
+      length-append (tight stop.front) (tight_from (place_from Start stop.front) stop.after),
+    ))
+    (subst IsUtf8 (sym (goes stop).1) ((tight_utf8 stop.front).0 (utf8_to_space is stop.front stop.after stop.split spaced_there)))

@@ -1,0 +1,202 @@
+-- A semicolon at fault is left out after another, and else stands; so does each other byte, and what is missing at the end.
+use Rattle.std.proofs.Common.{◌≡◌, ◌∙◌, ◌==◌, ◌≢◌, refl, sym, ap, subst, arith, ℕ, ◌+◌, Bool, true, false, List, [], ◌∷◌, take, Some, None}
+use Rattle.std.specs.Prelude.{⊤, if◌then◌else◌}
+use Rattle.std.specs.Option.{option_map}
+use Rattle.std.proofs.lemmas.Bool.{true≢false}
+use Rattle.std.proofs.lemmas.Bool.Decides.{nat_tests}
+use Rattle.std.proofs.lemmas.Option.{none-some, slice_get_within}
+use Rattle.mime.specs.Bytes.{is_quoted_byte}
+use Rattle.mime.specs.Grammar.{is_space}
+use Rattle.mime.specs.Values.{IsAccepted}
+use Rattle.mime.specs.Faults.{IsDeadAt, Lacks, IsFault}
+use Rattle.mime.specs.Inner.Quoted.{takes, awaits_after}
+use Rattle.mime.specs.declared.scan.fault.ParseError.{ParseError}
+use Rattle.mime.specs.declared.scan.fault.ParseError.TheVariants.{InvalidToken}
+use Rattle.mime.proofs.GrammarLemmas.Begun.{Closed as ClosedParameters, Begun, in_type, in_subtype, in_list, ListState, in_spaces, in_name, in_value, in_quotes, after_quotes, grow_state, grow, walk}
+use Rattle.mime.proofs.GrammarLemmas.Faults.{completed_is_rejected}
+use Rattle.mime.proofs.GrammarLemmas.Spelling.{spelled-from_walk}
+use Rattle.mime.proofs.GrammarLemmas.Viability.{walk-from_viable, viable-from_lacks}
+use Rattle.mime_http.specs.declared.tight.Place.{Place}
+use Rattle.mime_http.specs.declared.tight.Place.TheVariants.{Start, Plain, Spaced, Equals, Quoted, Paired, Closed, Semicolon}
+use Rattle.mime_http.specs.Tight.{after_space, after_quote, after_outside, place_after, added, tight}
+use Rattle.mime_http.specs.HttpMediaType.{IsHttpMediaType}
+use Rattle.mime_http.specs.HttpFaults.{HttpLacks}
+use Rattle.mime_http.specs.Tightening.{is_separator, ends_in_separator, Stands, IsLoose}
+use Rattle.mime_http.proofs.Places.{place_from, place_from-append, stays}
+use Rattle.mime_http.proofs.PlacesAgain.{IsSettled, comes_out}
+use Rattle.mime_http.proofs.HttpLaws.{accepted_from_http}
+use Rattle.mime_http.proofs.HttpViability.{place_in_list, place_at, walked}
+use Rattle.mime_http.proofs.HowFar.{Snoc, none, last, snoc}
+use Rattle.mime_http.proofs.HttpFaults.{last_of, end_lacks}
+use Rattle.mime_http.proofs.AtFault.{ComesOut, there, settled_at, at_rest, cut_at, leaves_out, stays_dead}
+
+-- ---- a semicolon at fault
+
+-- it isn't one within or after quotes
+abbrev IsBare : Place → Type 0
+IsBare Plain = ⊤
+IsBare Equals = ⊤
+IsBare Semicolon = ⊤
+IsBare place = ⊥
+
+semicolon_is_bare : (before : List ℕ) (begun : Begun) → walk before ≡ Some begun → before ≢ [] → grow begun 59 ≡ None → IsBare (place_at begun)
+unfolding is_quoted_byte
+semicolon_is_bare before (in_type []) reached some stops = absurd (some (sym (spelled-from_walk before (in_type []) reached)))
+semicolon_is_bare before (in_type (t ∷ top)) reached some stops = tt
+semicolon_is_bare before (in_subtype top sub) reached some stops = tt
+semicolon_is_bare before (in_list top sub list) reached some stops = at list.closed list.position stops
+  where
+    in_quotes_goes : (awaiting : Bool) → takes awaiting 59 ≡ true
+    in_quotes_goes true = refl
+    in_quotes_goes false = refl
+
+    at : (closed : ClosedParameters) (position : ListState) → option_map (in_list top sub) (grow_state closed position 59) ≡ None
+        → IsBare (place_in_list position)
+    at closed (in_spaces n) stops = tt
+    at closed (in_name n name) stops = tt
+    at closed (in_value n name []) stops = tt
+    at closed (in_value n name (v ∷ value)) stops = tt
+    at closed (in_quotes n name content) stops =
+        let goes = in_quotes_goes (awaits_after false content) in absurd (none-some _ (sym (rw goes at stops)))
+    at closed (after_quotes n name content m) stops = absurd (none-some _ (sym stops))
+
+-- after a separator it is one after a semicolon
+after_space_bare : (place : Place) (b : ℕ) → is_space b ≡ true → IsBare (place_after place b) → place_after place b ≡ Semicolon
+after_space_bare Quoted b white bare =
+    let quote : (b == 34) ≡ false = grind (arith, nat_tests) in
+    let backslash : (b == 92) ≡ false = grind (arith, nat_tests) in
+    absurd (subst IsBare {y = Quoted} (rw (backslash, quote) refl) bare)
+after_space_bare Paired b white bare = absurd bare
+after_space_bare Semicolon b white bare = rw white refl
+after_space_bare place b white bare = absurd (subst IsBare {y = after_space place} (rw white refl) bare)
+
+after_semicolon_bare : (place : Place) → IsBare (place_after place 59) → place_after place 59 ≡ Semicolon
+after_semicolon_bare Quoted bare = absurd bare
+after_semicolon_bare Paired bare = absurd bare
+after_semicolon_bare place bare = refl
+
+after_separator : (place : Place) (b : ℕ) → is_separator b ≡ true → IsBare (place_after place b) → place_after place b ≡ Semicolon
+after_separator place b is bare = go (b == 59) refl
+  where
+    go : (t : Bool) → (b == 59) ≡ t → place_after place b ≡ Semicolon
+    go true semicolon =
+        let same : 59 ≡ b = grind (arith, nat_tests) in
+        subst (λ x. place_after place x ≡ Semicolon) same (after_semicolon_bare place (subst (λ x. IsBare (place_after place x)) (sym same) bare))
+    go false other = after_space_bare place b (rw other at is) bare
+
+-- and after another byte it isn't
+abbrev IsOther : Place → Type 0
+IsOther Semicolon = ⊥
+IsOther place = ⊤
+
+after_other : (place : Place) (b : ℕ) → is_separator b ≡ false → IsOther (place_after place b)
+after_other place b is = go place
+  where
+    space : is_space b ≡ false
+    space = grind (arith, nat_tests)
+
+    semicolon : (b == 59) ≡ false
+    semicolon = grind (arith, nat_tests)
+
+    quote : (place : Place) → IsOther (after_quote place)
+    quote Equals = tt
+    quote place = tt
+
+    outside : (place : Place) → IsOther (after_outside place b)
+    outside place = rw (space, semicolon) (choose (b == 61) (b == 34))
+      where
+        choose : (e q : Bool) → IsOther (if e then Equals else if q then after_quote place else Plain)
+        choose true q = tt
+        choose false true = quote place
+        choose false false = tt
+
+    within : (s q : Bool) → IsOther (if s then Paired else if q then Closed else Quoted)
+    within true q = tt
+    within false true = tt
+    within false false = tt
+
+    go : (place : Place) → IsOther (place_after place b)
+    go Quoted = within (b == 92) (b == 34)
+    go Paired = tt
+    go place = outside place
+
+semicolon_comes_out : (place : Place) → IsSettled place → IsOther place → ComesOut place 59
+semicolon_comes_out Spaced at_rest other = absurd at_rest
+semicolon_comes_out Semicolon at_rest other = absurd other
+semicolon_comes_out place at_rest other = refl
+
+separated : (before : List ℕ) → before ≢ [] → IsBare (place_from Start before) → ends_in_separator before ≡ true
+    → place_from Start before ≡ Semicolon
+separated before some bare ends = go (snoc before) some bare ends
+  where
+    go : {before : List ℕ} → Snoc before → before ≢ [] → IsBare (place_from Start before) → ends_in_separator before ≡ true
+        → place_from Start before ≡ Semicolon
+    go none some bare ends = absurd (some refl)
+    go (last front c) some bare ends =
+        let on = place_from-append Start front (c ∷ []) in
+        let there = last_of front c in
+        on ∙ after_separator (place_from Start front) c (rw there at ends) (subst IsBare on bare)
+
+not_separated : (before : List ℕ) → ends_in_separator before ≡ false → IsOther (place_from Start before)
+not_separated before ends = go (snoc before) ends
+  where
+    go : {before : List ℕ} → Snoc before → ends_in_separator before ≡ false → IsOther (place_from Start before)
+    go none ends = tt
+    go (last front c) ends =
+        let there = last_of front c in
+        subst IsOther (sym (place_from-append Start front (c ∷ []))) (after_other (place_from Start front) c (rw there at ends))
+
+pub next_semicolon : (value : List ℕ) (pos b : ℕ) → IsDeadAt value pos b → b ≡ 59 → ends_in_separator (take pos value) ≡ true
+    → IsLoose value pos (pos + 1) Semicolon
+next_semicolon value pos b dead is ends =
+    let cut = cut_at value pos b dead in
+    let within = slice_get_within value pos b dead.there in
+    let fault = cut.fault in
+    let some : take pos value ≢ [] = λ empty. true≢false (sym ends ∙ ap ends_in_separator empty) in
+    let bare = semicolon_is_bare (take pos value) fault.begun fault.reached some (subst (λ x. grow fault.begun x ≡ None) is fault.stops) in
+    let place = separated (take pos value) some (subst IsBare (sym (there fault)) bare) ends in
+    record {
+      within = omega (arith, within);
+      from_within = omega (arith, within);
+      tightly = leaves_out value pos b Semicolon cut within
+          (ap (λ p. added p b) place ∙ ap (added Semicolon) is) (ap (λ p. place_after p b) place ∙ ap (place_after Semicolon) is);
+    }
+
+pub first_semicolon : (value : List ℕ) (pos b : ℕ) → IsDeadAt value pos b → b ≡ 59 → ends_in_separator (take pos value) ≡ false
+    → Stands value (InvalidToken pos b)
+first_semicolon value pos b dead is ends =
+    let cut = cut_at value pos b dead in
+    stays_dead value pos b cut dead.there
+    (subst (ComesOut (place_from Start (take pos value))) (sym is)
+    (semicolon_comes_out (place_from Start (take pos value)) (at_rest cut.fault) (not_separated (take pos value) ends)))
+
+-- ---- another byte at fault, or none
+
+pub other_byte : (value : List ℕ) (pos b : ℕ) → IsDeadAt value pos b → is_separator b ≡ false → Stands value (InvalidToken pos b)
+other_byte value pos b dead is =
+    let cut = cut_at value pos b dead in
+    let space : is_space b ≡ false = grind (arith, nat_tests) in
+    let semicolon : (b == 59) ≡ false = grind (arith, nat_tests) in
+    stays_dead value pos b cut dead.there (comes_out (place_from Start (take pos value)) (at_rest cut.fault) b space semicolon)
+
+-- what is missing at the end is missing as HTTP writes it
+record Rejected (value : List ℕ) (X : Type 0) : Type 0 where
+  rejected : ¬ (IsHttpMediaType value)
+  also : X
+
+lacks_too : (value : List ℕ) (fault : ParseError) → Lacks value fault → Rejected value (HttpLacks value fault)
+lacks_too value fault lacks =
+    let walk = walk-from_viable value (viable-from_lacks value fault lacks) in
+    let walks = walked (in_type []) value walk.0 walk.1 in
+    let same : tight value ≡ value = stays walks in
+    record {
+      rejected = λ is. completed_is_rejected value fault lacks (subst IsAccepted same (accepted_from_http value is));
+      also = end_lacks value fault (subst IsSettled (sym walks.there) (settled_at walk.0))
+          (subst (λ text. Lacks text fault) (sym same) lacks);
+    }
+
+pub stands_at_end : (value : List ℕ) (fault : ParseError) → ((pos byte : ℕ) → ¬ (fault ≡ InvalidToken pos byte)) → IsFault value fault
+    → Stands value fault
+stands_at_end value (InvalidToken pos byte) other is = absurd (other pos byte refl)
+stands_at_end value fault other is =
+    let lacks = lacks_too value fault is in record { rejected = lacks.rejected; is = lacks.also }

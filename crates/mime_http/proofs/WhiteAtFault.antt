@@ -1,0 +1,216 @@
+-- White space at fault: what tightening leaves of a value, and what HTTP says if more follows.
+use Rattle.std.proofs.Common.{◌≡◌, ◌∙◌, ◌==◌, ◌≢◌, refl, sym, ap, subst, arith, ℕ, ◌+◌, ◌-◌, ◌<◌, ◌≤◌, Bool, true, false, List, [], ◌∷◌, ◌++◌, length, take, drop, get_or, Some, None, length-append}
+use Rattle.std.specs.Prelude.{slice_get}
+use Rattle.std.specs.Option.{option_map, option_and_then}
+use Rattle.std.proofs.lemmas.Bool.{true≢false}
+use Rattle.std.proofs.lemmas.Bool.Decides.{nat_tests}
+use Rattle.std.proofs.lemmas.List.{append-nil, append_assoc, length-take-le, nil_from_length}
+use Rattle.std.proofs.lemmas.Str.{IsCharBoundary-before_ascii}
+use Rattle.std.proofs.lemmas.Option.{none-some, slice_get_within, slice_get-get_or, get_or_from_slice_get}
+use Rattle.mime.specs.Bytes.{is_quoted_byte}
+use Rattle.mime.specs.Grammar.{is_space, AreSpaces}
+use Rattle.mime.specs.Values.{IsAccepted}
+use Rattle.mime.specs.Faults.{IsViable, IsDeadAt}
+use Rattle.mime.specs.Inner.Quoted.{takes, awaits_after}
+use Rattle.mime.proofs.GrammarLemmas.Begun.{Closed as ClosedParameters, Begun, in_type, in_subtype, in_list, ListState, in_spaces, in_name, in_value, in_quotes, after_quotes, grow_state, grow, walk, walk_from, walk_by-append_some}
+use Rattle.mime.proofs.GrammarLemmas.Spelling.{spelled-from_walk}
+use Rattle.mime.proofs.GrammarLemmas.Viability.{walk-from_viable, prefix_of_viable_is_viable}
+use Rattle.mime_http.specs.declared.tight.Place.{Place}
+use Rattle.mime_http.specs.declared.tight.Place.TheVariants.{Start, Plain, Spaced, Equals}
+use Rattle.mime_http.specs.Tight.{place_after, added, tight_from, tight}
+use Rattle.mime_http.specs.HttpMediaType.{IsHttpMediaType}
+use Rattle.mime_http.specs.HttpFaults.{IsHttpViable, IsHttpLongestPrefix, IsHttpDeadAt}
+use Rattle.mime_http.specs.Tightening.{begins_with_semicolon, Begins, IsLoose}
+use Rattle.mime_http.specs.HttpList.{trim_start}
+use Rattle.mime_http.proofs.Places.{place_from, place_from-append}
+use Rattle.mime_http.proofs.HttpForth.{at_start, spaced, nothing_out}
+use Rattle.mime_http.proofs.Trims.{split_white, below_128}
+use Rattle.mime_http.proofs.HttpViability.{place_in_list, place_at, LeavesSpaces, no_space_grows, tight-append, viable_from_tight, viable_from_accepted, tight_from_viable, accepted_from_spaced, prefix_of_http_viable}
+use Rattle.mime_http.proofs.HowFar.{tight_one}
+use Rattle.mime_http.proofs.HttpFaults.{longest_at}
+use Rattle.mime_http.proofs.AtFault.{there, so_far, at_rest, CutAt, cut_at, no_more_white, still_spaced, after_white, leaves_out}
+
+-- ---- white space at fault
+
+-- it isn't one that goes on after a semicolon, or in or after quotes
+space_leaves : (before : List ℕ) (b : ℕ) (begun : Begun) → walk before ≡ Some begun → before ≢ [] → is_space b ≡ true → grow begun b ≡ None
+    → LeavesSpaces (place_at begun)
+unfolding is_quoted_byte
+space_leaves before b (in_type []) reached some white stops = absurd (some (sym (spelled-from_walk before (in_type []) reached)))
+space_leaves before b (in_type (t ∷ top)) reached some white stops = tt
+space_leaves before b (in_subtype top sub) reached some white stops = tt
+space_leaves before b (in_list top sub list) reached some white stops = at list.closed list.position stops
+  where
+    in_quotes_goes : (awaiting : Bool) → takes awaiting b ≡ true
+    in_quotes_goes true = grind (arith, nat_tests)
+    in_quotes_goes false = grind (arith, nat_tests)
+
+    at : (closed : ClosedParameters) (position : ListState) → option_map (in_list top sub) (grow_state closed position b) ≡ None
+        → LeavesSpaces (place_in_list position)
+    at closed (in_spaces n) stops = absurd (none-some _ (sym (rw white at stops)))
+    at closed (in_name n name) stops = tt
+    at closed (in_value n name []) stops = tt
+    at closed (in_value n name (v ∷ value)) stops = tt
+    at closed (in_quotes n name content) stops =
+        let goes = in_quotes_goes (awaits_after false content) in absurd (none-some _ (sym (rw goes at stops)))
+    at closed (after_quotes n name content m) stops = absurd (none-some _ (sym (rw white at stops)))
+
+left_out_after : (place : Place) → LeavesSpaces place → (b : ℕ) → is_space b ≡ true → (added place b ≡ []) × (place_after place b ≡ Spaced)
+left_out_after Plain is b white = (rw white refl, rw white refl)
+left_out_after Equals is b white = (rw white refl, rw white refl)
+left_out_after place is b white = absurd is
+
+pub first_space : (value : List ℕ)
+    → IsLoose value 0 (length value - length (trim_start value)) Start
+first_space value =
+    record { within = omega arith; from_within = omega arith; tightly = after_white at_start value 0 (omega arith) }
+
+some_before : (value : List ℕ) (pos : ℕ) → 0 < pos → pos < length value → take pos value ≢ []
+some_before value pos some within empty =
+    omega (arith, some, within, length-take-le pos value (omega (arith, within)), ap length empty)
+
+record LaterSpace (value : List ℕ) (pos b : ℕ) : Type 0 where
+  cut : CutAt value pos b
+  within : pos < length value
+  leaves : LeavesSpaces (place_at cut.fault.begun)
+  nothing : added (place_from Start (take pos value)) b ≡ []
+  next : place_after (place_from Start (take pos value)) b ≡ Spaced
+
+later : (value : List ℕ) (pos b : ℕ) → IsDeadAt value pos b → 0 < pos → is_space b ≡ true → LaterSpace value pos b
+later value pos b dead some white =
+    let cut = cut_at value pos b dead in
+    let within = slice_get_within value pos b dead.there in
+    let fault = cut.fault in
+    let leaves = space_leaves (take pos value) b fault.begun fault.reached (some_before value pos some within) white fault.stops in
+    let out = left_out_after (place_from Start (take pos value)) (subst LeavesSpaces (sym (there fault)) leaves) b white in
+    record { cut = cut; within = within; leaves = leaves; nothing = out.0; next = out.1 }
+
+pub later_space : (value : List ℕ) (pos b : ℕ) → IsDeadAt value pos b → 0 < pos → is_space b ≡ true
+    → IsLoose value pos (length value - length (trim_start (drop (pos + 1) value))) Spaced
+later_space value pos b dead some white =
+    let space = later value pos b dead some white in
+    record {
+      within = omega (arith, space.within);
+      from_within = omega arith;
+      tightly = leaves_out value pos b Spaced space.cut space.within space.nothing space.next
+          ∙ ap (λ x. take pos value ++ x) (after_white spaced value (pos + 1) (omega (arith, space.within)));
+    }
+
+-- ---- what follows white space
+
+some_first : (xs : List ℕ) → 0 < length xs → (c : ℕ) × (more : List ℕ) × (xs ≡ c ∷ more)
+some_first [] some = absurd (omega (arith, some))
+some_first (c ∷ more) some = (c, more, refl)
+
+module _ (value : List ℕ) (pos b : ℕ) (space : LaterSpace value pos b) where
+  abbrev begin : List ℕ
+  begin = take pos value
+
+  -- up to the end of the white space, what is before it comes out
+  spaced_there : (white : List ℕ) → AreSpaces white → place_from Start (begin ++ (b ∷ white)) ≡ Spaced
+  spaced_there white all =
+      place_from-append Start begin (b ∷ white) ∙ (ap (λ place. place_from place white) space.next ∙ still_spaced white all)
+
+  comes_alone : (white : List ℕ) → AreSpaces white → tight (begin ++ (b ∷ white)) ≡ begin
+  comes_alone white all =
+      let from = place_from Start begin in
+      tight-append Start begin (b ∷ white) ∙ (ap (λ x. x ++ tight_from from (b ∷ white)) (so_far space.cut.fault)
+      ∙ (ap (λ x. begin ++ x) (ap (λ a. a ++ tight_from (place_after from b) white) space.nothing
+      ∙ (ap (λ place. tight_from place white) space.next ∙ nothing_out spaced white all)) ∙ append-nil begin))
+
+  -- a space goes on with nothing
+  no_space_after : ¬ (IsViable (begin ++ (32 ∷ [])))
+  no_space_after viable =
+      let fault = space.cut.fault in
+      let found = walk-from_viable (begin ++ (32 ∷ [])) viable in
+      none-some found.0
+      (sym (walk_by-append_some grow (in_type []) fault.begun begin (32 ∷ []) fault.reached
+      ∙ ap (option_and_then (λ s. walk_from s [])) (no_space_grows fault.begun space.leaves)) ∙ found.1)
+
+  dies_after : (white : List ℕ) → AreSpaces white → (c : ℕ) → is_space c ≡ false → (c == 59) ≡ false
+      → ¬ (IsHttpViable ((begin ++ (b ∷ white)) ++ (c ∷ [])))
+  dies_after white all c other semicolon viable =
+      let front = begin ++ (b ∷ white) in
+      let adds : added Spaced c ≡ 32 ∷ c ∷ [] = rw (other, semicolon) refl in
+      let text : tight (front ++ (c ∷ [])) ≡ (begin ++ (32 ∷ [])) ++ (c ∷ []) =
+      tight_one front c ∙ (ap (λ x. x ++ added (place_from Start front) c) (comes_alone white all)
+      ∙ (ap (λ x. begin ++ x) (ap (λ place. added place c) (spaced_there white all) ∙ adds) ∙ sym (append_assoc begin (32 ∷ []) (c ∷ [])))) in
+      no_space_after (prefix_of_viable_is_viable (begin ++ (32 ∷ [])) (c ∷ []) (subst IsViable text (tight_from_viable (front ++ (c ∷ [])) viable)))
+
+  module _ (here : slice_get value pos ≡ Some b) (below : b < 128) (white rest : List ℕ) (all : AreSpaces white) (split : drop (pos + 1) value ≡ white ++ rest)
+      (other : (c : ℕ) (more : List ℕ) → rest ≡ c ∷ more → (is_space c ≡ false) × ((c == 59) ≡ false)) where
+    abbrev front : List ℕ
+    front = begin ++ (b ∷ white)
+
+    whole : front ++ rest ≡ value
+    whole = append_assoc begin (b ∷ white) rest ∙ (ap (λ x. begin ++ (b ∷ x)) (sym split) ∙ space.cut.split)
+
+    long : length front ≡ length value - length rest
+    long = omega (arith, ap length whole, length-append front rest)
+
+    short : length rest ≤ length value
+    short = omega (arith, ap length whole, length-append front rest)
+
+    dies : (c : ℕ) (more : List ℕ) → rest ≡ c ∷ more → IsHttpViable (front ++ (c ∷ [])) → ⊥
+    dies c more is viable = let tests = other c more is in dies_after white all c tests.0 tests.1 viable
+
+    stops_there : length value - length rest < length value → ¬ (IsHttpMediaType value)
+    stops_there within is =
+        let first = some_first rest (omega (arith, within)) in
+        let text : value ≡ ((front ++ (first.0 ∷ [])) ++ first.1) ++ [] =
+        sym whole ∙ (ap (λ x. front ++ x) first.2 ∙ (sym (append_assoc front (first.0 ∷ []) first.1) ∙ sym (append-nil _))) in
+        dies first.0 first.1 first.2
+        (prefix_of_http_viable (front ++ (first.0 ∷ [])) first.1 ([], subst IsHttpMediaType text is))
+
+    dead_before : ¬ (IsAccepted begin) → IsHttpDeadAt value pos b
+    dead_before rejected = record {
+      prefix = subst (λ n. IsHttpLongestPrefix value n) space.cut.long
+          (subst (λ v. IsHttpLongestPrefix v (length begin)) space.cut.split
+          (longest_at begin (b ∷ drop (pos + 1) value)
+          (viable_from_tight begin (at_rest space.cut.fault) (subst IsViable (sym (so_far space.cut.fault)) space.cut.fault.viable))
+          (λ c bytes e viable.
+          let same : b ≡ c = cc in
+          let begins = subst (λ x. IsHttpViable (begin ++ (x ∷ []))) (sym same) viable in
+          rejected (subst IsAccepted (comes_alone [] refl) (accepted_from_spaced (begin ++ (b ∷ [])) (spaced_there [] refl) begins)))));
+      there = here;
+    }
+
+    dead_after : length value - length rest < length value → IsAccepted begin
+        → IsHttpDeadAt value (length value - length rest) (get_or value (length value - length rest) 0)
+    dead_after within accepted = record {
+      prefix = subst (λ n. IsHttpLongestPrefix value n) long
+          (subst (λ v. IsHttpLongestPrefix v (length front)) whole
+          (longest_at front rest (viable_from_accepted front (subst IsAccepted (sym (comes_alone white all)) accepted)) dies));
+      there = slice_get-get_or value (length value - length rest) 0 within;
+    }
+
+    begins_so : Begins value pos (length value - length rest)
+    begins_so = record {
+      within = space.within;
+      next_within = omega arith;
+      boundary =
+          let ascii : get_or value pos 0 < 128 = omega (arith, get_or_from_slice_get value pos b 0 here, below) in
+          IsCharBoundary-before_ascii value pos space.within ascii;
+      alone = λ past.
+          let empty : rest ≡ [] = nil_from_length rest (omega (arith, past, short)) in
+          ap tight (sym whole) ∙ (ap (λ x. tight (front ++ x)) empty ∙ (ap tight (append-nil front) ∙ comes_alone white all));
+      rejected = stops_there;
+      before = λ rejected. subst (IsHttpDeadAt value pos) (sym (get_or_from_slice_get value pos b 0 here)) (dead_before rejected);
+      after = dead_after;
+    }
+
+pub begins : (value : List ℕ) (pos b : ℕ) → IsDeadAt value pos b → 0 < pos → is_space b ≡ true
+    → begins_with_semicolon (trim_start (drop (pos + 1) value)) ≡ false
+    → Begins value pos (length value - length (trim_start (drop (pos + 1) value)))
+begins value pos b dead some white no_semicolon =
+    let split = split_white (drop (pos + 1) value) in
+    begins_so value pos b (later value pos b dead some white) dead.there (below_128 b white) split.0 (trim_start (drop (pos + 1) value)) split.1 split.2
+    (λ c more is. (no_more_white (drop (pos + 1) value) c more is, other_byte_than c more is))
+  where
+    other_byte_than : (c : ℕ) (more : List ℕ) → trim_start (drop (pos + 1) value) ≡ c ∷ more → (c == 59) ≡ false
+    other_byte_than c more is = go (c == 59) refl
+      where
+        go : (t : Bool) → (c == 59) ≡ t → (c == 59) ≡ false
+        go true semicolon =
+            absurd (true≢false (sym semicolon ∙ (sym (ap begins_with_semicolon is) ∙ no_semicolon)))
+        go false other = other
