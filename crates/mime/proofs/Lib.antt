@@ -14,3 +14,5 @@ pub mod CutLemmas
 pub mod IterLemmas
 -- laws on which no code rests
 pub mod LawsLemmas
+-- for crates over this one
+pub mod HandedOut

@@ -10,8 +10,7 @@ use Rattle.mime.specs.Grammar.{is_space, AreSpaces}
 use Rattle.mime.specs.Faults.{IsViable, IsDeadAt}
 use Rattle.mime.specs.Inner.Quoted.{awaits_after}
 use Rattle.mime.specs.declared.scan.fault.ParseError.TheVariants.{InvalidToken}
-use Rattle.mime.proofs.GrammarLemmas.Begun.{Begun, in_type, in_subtype, in_list, ListState, in_spaces, in_name, in_value, in_quotes, after_quotes, grow, walk, walk_from, walk_by-append_some}
-use Rattle.mime.proofs.GrammarLemmas.Viability.{viable-from_walk, walk-from_viable}
+use Rattle.mime.proofs.HandedOut.{Begun, in_type, in_subtype, in_list, ListState, in_spaces, in_name, in_value, in_quotes, after_quotes, grow, walk, walk_from, walk_by-append_some, viable-from_walk, walk-from_viable}
 use Rattle.mime_http.specs.declared.tight.Place.{Place}
 use Rattle.mime_http.specs.declared.tight.Place.TheVariants.{Start, Spaced, Quoted, Paired}
 use Rattle.mime_http.specs.Tight.{place_after, added, tight_from, tight}
@@ -30,6 +29,7 @@ use Rattle.mime_http.proofs.HttpFaults.{longest_at}
 
 -- ---- a byte with which a begun tree goes on comes out as it is
 
+-- a byte comes out as it is
 abbrev pub ComesOut : Place → ℕ → Type 0
 ComesOut place b = added place b ≡ b ∷ []
 
@@ -43,6 +43,7 @@ pub record Fault (before : List ℕ) (b : ℕ) : Type 0 where
   pub reached : walk before ≡ Some begun
   pub stops : grow begun b ≡ None
 
+-- a byte at fault leads nowhere
 no_way_on : (before : List ℕ) (b : ℕ) (begun : Begun) → walk before ≡ Some begun → ¬ (IsViable (before ++ (b ∷ []))) → (o : Option Begun)
     → grow begun b ≡ o → o ≡ None
 no_way_on before b begun reached dead None e = refl
@@ -50,6 +51,7 @@ no_way_on before b begun reached dead (Some next) e =
     absurd (dead (viable-from_walk (before ++ (b ∷ [])) next
     (walk_by-append_some grow (in_type []) begun before (b ∷ []) reached ∙ ap (option_and_then (λ s. walk_from s [])) e)))
 
+-- so each byte at fault has such a walk before it
 pub fault_of : (before : List ℕ) (b : ℕ) → IsViable before → ¬ (IsViable (before ++ (b ∷ []))) → Fault before b
 fault_of before b viable dead =
     let found = walk-from_viable before viable in
@@ -59,9 +61,11 @@ fault_of before b viable dead =
 pub there : {before : List ℕ} {b : ℕ} (fault : Fault before b) → place_from Start before ≡ place_at fault.begun
 there {before} fault = (walked (in_type []) before fault.begun fault.reached).there
 
+-- the bytes before it come out as they are
 pub so_far : {before : List ℕ} {b : ℕ} (fault : Fault before b) → tight before ≡ before
 so_far {before} fault = stays (walked (in_type []) before fault.begun fault.reached)
 
+-- no white space was left out in a list,
 settled_in_list : (position : ListState) → IsSettled (place_in_list position)
 settled_in_list (in_spaces n) = tt
 settled_in_list (in_name n name) = tt
@@ -74,12 +78,14 @@ settled_in_list (in_quotes n name content) = go (awaits_after false content)
     go false = tt
 settled_in_list (after_quotes n name content m) = tt
 
+-- nor elsewhere that the library walks,
 pub settled_at : (begun : Begun) → IsSettled (place_at begun)
 settled_at (in_type []) = tt
 settled_at (in_type (t ∷ top)) = tt
 settled_at (in_subtype top sub) = tt
 settled_at (in_list top sub list) = settled_in_list list.position
 
+-- nor before a fault
 pub at_rest : {before : List ℕ} {b : ℕ} → Fault before b → IsSettled (place_from Start before)
 at_rest fault = subst IsSettled (sym (there fault)) (settled_at fault.begun)
 
@@ -89,6 +95,7 @@ pub record CutAt (value : List ℕ) (pos b : ℕ) : Type 0 where
   pub long : length (take pos value) ≡ pos
   pub fault : Fault (take pos value) b
 
+-- each byte at fault cuts the value so
 pub cut_at : (value : List ℕ) (pos b : ℕ) → IsDeadAt value pos b → CutAt value pos b
 cut_at value pos b dead =
     let within = slice_get_within value pos b dead.there in
@@ -106,6 +113,7 @@ cut_at value pos b dead =
 
 -- ---- what is left after it
 
+-- what is left doesn't begin with white space
 pub no_more_white : (bytes : List ℕ) (c : ℕ) (rest : List ℕ) → trim_start bytes ≡ c ∷ rest → is_space c ≡ false
 no_more_white [] c rest e = absurd (cc)
 no_more_white (b ∷ bytes) c rest e = go (no_more_white bytes c rest) (is_space b) refl
@@ -117,6 +125,7 @@ no_more_white (b ∷ bytes) c rest e = go (no_more_white bytes c rest) (is_space
         let first : b ≡ c = cc in
         subst (λ x. is_space x ≡ false) first is
 
+-- after white space that was left out, more leads to the same place
 pub still_spaced : (white : List ℕ) → AreSpaces white → place_from Spaced white ≡ Spaced
 still_spaced [] all = refl
 still_spaced (b ∷ white) all =
@@ -131,6 +140,7 @@ dropped value n white rest within split =
     ap (λ m. drop m value) (sym count)
     ∙ (sym (drop-drop (length white) n value) ∙ (ap (drop (length white)) split ∙ drop-append_seam white rest))
 
+-- so from there a value comes out as from the end of its white space on
 pub after_white : {place : Place} → SkipsWhite place → (value : List ℕ) (n : ℕ) → n ≤ length value
     → tight_from place (drop n value) ≡ tight_from place (drop (length value - length (trim_start (drop n value))) value)
 after_white {place} skips value n within =
@@ -170,6 +180,7 @@ dead_too value pos b cut here comes =
       there = here;
     }
 
+-- so the fault stands
 pub stays_dead : (value : List ℕ) (pos b : ℕ) → CutAt value pos b → slice_get value pos ≡ Some b → ComesOut (place_from Start (take pos value)) b
     → Stands value (InvalidToken pos b)
 stays_dead value pos b cut here comes =

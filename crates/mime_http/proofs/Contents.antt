@@ -12,8 +12,7 @@ use Rattle.mime.specs.Bytes.{is_token_byte, is_quoted_byte, is_quoted_text_byte}
 use Rattle.mime.specs.Grammar.{IsToken, IsContent, no_byte, text_byte, quoted_pair}
 use Rattle.mime.specs.HeaderLaws.{AreHeaderBytes}
 use Rattle.mime.specs.Values.{lowered, is_charset}
-use Rattle.mime.proofs.BytesLemmas.{AreTokenBytes-from_token}
-use Rattle.mime.proofs.ValueLemmas.Utf8.{high_bytes}
+use Rattle.mime.proofs.HandedOut.{AreTokenBytes-from_token, high_bytes}
 use Rattle.mime_http.specs.Boundary.{is_bchar, IsBoundary}
 use Rattle.mime_http.specs.Unescaped.{unescaped, unescaped_from}
 use Rattle.mime_http.specs.Written.{escaped_byte, escaped, WrittenIsMeant}

@@ -13,41 +13,49 @@ use Rattle.mime_http.specs.ListLaws.{OneCut}
 record Passes (from : At) (bytes : List ℕ) (to : At) : Type 0 where
   same : (piece rest : List ℕ) → cut_from from piece (bytes ++ rest) ≡ cut_from to (piece ++ bytes) rest
 
+-- no bytes
 passes_none : (place : At) → Passes place [] place
 passes_none place = record { same = λ piece rest. ap (λ e. cut_from place e rest) (sym (append-nil piece)) }
 
+-- a byte that ends nothing
 passes_one : (place : At) (b : ℕ) → ends place b ≡ false → Passes place (b ∷ []) (after place b)
 passes_one place b on = record { same = λ piece rest. rw on refl }
 
+-- two after each other
 passes_both : {p q r : At} {xs ys : List ℕ} → Passes p xs q → Passes q ys r → Passes p (xs ++ ys) r
 passes_both {p} {q} {r} {xs} {ys} first second = record {
   same = λ piece rest. ap (cut_from p piece) (append_assoc xs ys rest) ∙ (first.same piece (ys ++ rest)
       ∙ (second.same (piece ++ xs) rest ∙ ap (λ e. cut_from r e rest) (append_assoc piece xs ys)));
 }
 
+-- the place may be said otherwise
 passes_to : {p q r : At} {xs : List ℕ} → q ≡ r → Passes p xs q → Passes p xs r
 passes_to {p} {q} {r} {xs} there passes = subst (λ place. Passes p xs place) there passes
 
 -- ---- the places outside strings
 
+-- a place outside strings
 abbrev pub IsOutside : At → Type 0
 IsOutside Outside = ⊤
 IsOutside Equals = ⊤
 IsOutside Quoted = ⊥
 IsOutside Paired = ⊥
 
+-- only a comma ends a piece,
 pub goes_on : (place : At) (b : ℕ) → (b == 44) ≡ false → ends place b ≡ false
 goes_on Outside b is = is
 goes_on Equals b is = is
 goes_on Quoted b is = refl
 goes_on Paired b is = refl
 
+-- and outside strings it does
 pub comma_ends : (place : At) → IsOutside place → ends place 44 ≡ true
 comma_ends Outside is = refl
 comma_ends Equals is = refl
 comma_ends Quoted is = absurd is
 comma_ends Paired is = absurd is
 
+-- an equals sign outside strings leads to a place after one
 equals_leads : (place : At) → IsOutside place → after place 61 ≡ Equals
 equals_leads Outside is = refl
 equals_leads Equals is = refl
@@ -59,22 +67,26 @@ abbrev begins_quote : List ℕ → Bool
 begins_quote [] = false
 begins_quote (b ∷ bytes) = b == 34
 
+-- bytes don't begin with a quote right after an equals sign
 abbrev Fits : At → List ℕ → Type 0
 Fits Outside bytes = ⊤
 Fits Equals bytes = begins_quote bytes ≡ false
 Fits Quoted bytes = ⊥
 Fits Paired bytes = ⊥
 
+-- they are outside strings
 outside : (place : At) (bytes : List ℕ) → Fits place bytes → IsOutside place
 outside Outside bytes is = tt
 outside Equals bytes is = tt
 outside Quoted bytes is = is
 outside Paired bytes is = is
 
+-- a byte that opens no string with the next is no equals sign before a quote
 no_quote : (b : ℕ) (bytes : List ℕ) → (b == 61) ≡ true → opens_string (b ∷ bytes) ≡ false → begins_quote bytes ≡ false
 no_quote b [] is opens = refl
 no_quote b (c ∷ bytes) is opens = rw is at opens
 
+-- so what follows it fits the place after it,
 after_outside_fits : (b : ℕ) (bytes : List ℕ) → opens_string (b ∷ bytes) ≡ false → Fits (after_outside b) bytes
 after_outside_fits b bytes opens = by_equals (b == 61) refl
   where
@@ -82,6 +94,7 @@ after_outside_fits b bytes opens = by_equals (b == 61) refl
     by_equals true is = rw is (no_quote b bytes is opens)
     by_equals false is = rw is tt
 
+-- from each place
 after_fits : (place : At) (b : ℕ) (bytes : List ℕ) → opens_string (b ∷ bytes) ≡ false → Fits place (b ∷ bytes) → Fits (after place b) bytes
 after_fits Outside b bytes opens fits = after_outside_fits b bytes opens
 after_fits Equals b bytes opens fits = rw fits (after_outside_fits b bytes opens)
@@ -90,21 +103,25 @@ after_fits Paired b bytes opens fits = absurd fits
 
 -- ---- a piece passes from outside strings to outside strings
 
+-- bytes pass from a place to one outside strings
 record Through (from : At) (bytes : List ℕ) : Type 0 where
   to : At
   passes : Passes from bytes to
   is_outside : IsOutside to
 
+-- the content of a string stays within
 in_string : {content : List ℕ} → IsInString content → Passes Quoted content Quoted
 in_string string_end = passes_none Quoted
 in_string (string_byte b content quote backslash rest) =
     passes_both (passes_to (rw (backslash, quote) refl) (passes_one Quoted b refl)) (in_string rest)
 in_string (string_pair b content rest) = passes_both (passes_one Quoted 92 refl) (passes_both (passes_one Paired b refl) (in_string rest))
 
+-- an equals sign and a quote lead into a string
 opened : (place : At) → IsOutside place → Passes place (61 ∷ 34 ∷ []) Quoted
 opened place is =
     passes_both (passes_to (equals_leads place is) (passes_one place 61 (goes_on place 61 refl))) (passes_one Equals 34 refl)
 
+-- a piece passes
 through : {piece : List ℕ} → IsPiece piece → (place : At) → Fits place piece → Through place piece
 through piece_end place fits = record { to = place; passes = passes_none place; is_outside = outside place [] fits }
 through (piece_byte b piece no_comma opens rest) place fits =
@@ -124,9 +141,11 @@ through (piece_string content piece inside rest) place fits =
 
 -- ---- the only cut
 
+-- so it is cut into itself
 pub cut_of_piece : {piece : List ℕ} → IsPiece piece → cut piece ≡ piece ∷ []
 cut_of_piece {piece} is = ap (cut_from Outside []) (sym (append-nil piece)) ∙ (through is Outside tt).passes.same [] []
 
+-- a cut has a piece
 some_piece : (place : At) (piece bytes : List ℕ) → 0 < length (cut_from place piece bytes)
 some_piece place piece [] = omega arith
 some_piece place piece (b ∷ bytes) = go (some_piece (after place b) (piece ++ (b ∷ [])) bytes) (ends place b) refl
@@ -153,9 +172,11 @@ cut_of_front (x ∷ xs) ys place piece is = go (cut_of_front xs ys (after place 
         rw on (rest (one ∙ ap (λ p. p ∷ []) (sym (append_assoc piece (x ∷ []) (xs ++ ys))))
         ∙ ap (λ p. p ∷ []) (append_assoc piece (x ∷ []) xs))
 
+-- a piece that a line's end ends is cut into itself
 cut_of_front_piece : (text : List ℕ) → BeginsPiece text → cut text ≡ text ∷ []
 cut_of_front_piece text begins = cut_of_front text begins.0 Outside [] (cut_of_piece begins.1)
 
+-- the pieces between commas are those of the cut
 pub only_cut : {lines pieces : List (List ℕ)} → AreBetweenCommas IsPiece BeginsPiece lines pieces → pieces ≡ flat_map cut lines
 only_cut no_line = refl
 only_cut (line_end text lines texts begins rest) =
@@ -167,9 +188,11 @@ only_cut (comma text line lines texts is rest) =
 
 -- ---- each line has a cut
 
+-- a line has these pieces
 abbrev IsCut : List ℕ → List (List ℕ) → Type 0
 IsCut value pieces = AreBetweenCommas IsPiece BeginsPiece (value ∷ []) pieces
 
+-- a line has some pieces
 record HasCut (value : List ℕ) : Type 0 where
   pieces : List (List ℕ)
   is : IsCut value pieces
@@ -179,20 +202,24 @@ data GoesOn : List ℕ → Type 0 where
   closes : (content rest : List ℕ) → IsInString content → HasCut rest → GoesOn (content ++ (34 ∷ rest))
   stays_open : (content more : List ℕ) → IsInString (content ++ more) → GoesOn content
 
+-- what is to be shown of all bytes, at the start and in a string
 record All (bytes : List ℕ) : Type 0 where
   cut : HasCut bytes
   equals : HasCut (61 ∷ bytes)
   string : GoesOn bytes
   backslash : GoesOn (92 ∷ bytes)
 
+-- a byte opens a string with what follows it alone
 shorter : (b : ℕ) (piece more : List ℕ) → opens_string (b ∷ (piece ++ more)) ≡ false → opens_string (b ∷ piece) ≡ false
 shorter b [] more is = refl
 shorter b (c ∷ piece) more is = is
 
+-- a byte that is no comma and opens no string begins a piece with what does
 begins_with : (b : ℕ) (text : List ℕ) → (b == 44) ≡ false → opens_string (b ∷ text) ≡ false → BeginsPiece text → BeginsPiece (b ∷ text)
 begins_with b [] none opens begins = ([], piece_byte b [] none refl piece_end)
 begins_with b (c ∷ text) none opens begins = (begins.0, piece_byte b (c ∷ (text ++ begins.0)) none opens begins.1)
 
+-- a byte more in the first piece
 grown : (b : ℕ) {value : List ℕ} {pieces : List (List ℕ)} → (b == 44) ≡ false → opens_string (b ∷ value) ≡ false → IsCut value pieces
     → HasCut (b ∷ value)
 grown b none opens (line_end text lines texts begins rest) =
@@ -216,6 +243,7 @@ with_string content inside (comma text line lines texts is rest) = record {
       (comma (61 ∷ 34 ∷ (content ++ (34 ∷ text))) line [] texts (piece_string content text inside is) rest);
 }
 
+-- a string that opens
 after_opening : {bytes : List ℕ} → GoesOn bytes → HasCut (61 ∷ 34 ∷ bytes)
 after_opening (closes content rest inside cut) = with_string content inside cut.is
 after_opening (stays_open content more inside) = record {
@@ -227,15 +255,18 @@ after_opening (stays_open content more inside) = record {
       no_line;
 }
 
+-- a byte of a string
 byte_before : (b : ℕ) {bytes : List ℕ} → (b == 34) ≡ false → (b == 92) ≡ false → GoesOn bytes → GoesOn (b ∷ bytes)
 byte_before b quote backslash (closes content rest inside cut) = closes (b ∷ content) rest (string_byte b content quote backslash inside) cut
 byte_before b quote backslash (stays_open content more inside) =
     stays_open (b ∷ content) more (string_byte b (content ++ more) quote backslash inside)
 
+-- a backslash and its byte in a string
 pair_before : (b : ℕ) {bytes : List ℕ} → GoesOn bytes → GoesOn (92 ∷ b ∷ bytes)
 pair_before b (closes content rest inside cut) = closes (92 ∷ b ∷ content) rest (string_pair b content inside) cut
 pair_before b (stays_open content more inside) = stays_open (92 ∷ b ∷ content) more (string_pair b (content ++ more) inside)
 
+-- a byte more
 next_of : (b : ℕ) (bytes : List ℕ) → All bytes → All (b ∷ bytes)
 next_of b bytes rest = record { cut = cut; equals = equals (b == 34) refl; string = string (b == 34) refl (b == 92) refl; backslash = pair_before b rest.string }
   where
@@ -270,6 +301,7 @@ next_of b bytes rest = record { cut = cut; equals = equals (b == 34) refl; strin
         subst (λ x. GoesOn (x ∷ bytes)) (sym same) rest.backslash
     string false is false backslash = byte_before b is backslash rest.string
 
+-- so it holds of all bytes
 all_of : (bytes : List ℕ) → All bytes
 all_of [] = record {
   cut = record { pieces = _; is = line_end [] [] [] ([], piece_end) no_line };
@@ -281,11 +313,13 @@ all_of (b ∷ bytes) = next_of b bytes (all_of bytes)
 
 -- ---- and so have lines
 
+-- a line's pieces are before those of the next lines
 joined : {line : List ℕ} {pieces lines others : List (List ℕ)} → IsCut line pieces → AreBetweenCommas IsPiece BeginsPiece lines others
     → AreBetweenCommas IsPiece BeginsPiece (line ∷ lines) (pieces ++ others)
 joined {lines = lines} {others = others} (line_end text _ texts begins no_line) more = line_end text lines others begins more
 joined {lines = lines} {others = others} (comma text line _ texts is rest) more = comma text line lines (texts ++ others) is (joined rest more)
 
+-- so the pieces of the cut are those between commas
 pub are_cut : (lines : List (List ℕ)) → AreBetweenCommas IsPiece BeginsPiece lines (flat_map cut lines)
 are_cut [] = no_line
 are_cut (line ∷ lines) =
@@ -293,5 +327,6 @@ are_cut (line ∷ lines) =
     let same : has.pieces ≡ cut line = only_cut has.is ∙ append-nil (cut line) in
     subst (λ pieces. AreBetweenCommas IsPiece BeginsPiece (line ∷ lines) (pieces ++ flat_map cut lines)) same (joined has.is (are_cut lines))
 
+-- lines are cut in one way
 pub one_cut : OneCut
 one_cut lines = (flat_map cut lines, are_cut lines, λ other is. only_cut is)

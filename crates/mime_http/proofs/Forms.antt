@@ -14,7 +14,7 @@ use Rattle.mime_http.specs.Forms.{kind_from, kind_of, is_plain, form_of, marks, 
 use Rattle.mime_http.specs.declared.quoted.Form.{Form}
 use Rattle.mime_http.specs.declared.quoted.Form.TheVariants.{Token, Quoted, Escaped}
 use Rattle.mime_http.proofs.Written.{token_from_test}
-use Rattle.mime.proofs.BytesLemmas.{list_all-wider, AreTokenBytes-from_token}
+use Rattle.mime.proofs.HandedOut.{list_all-wider, AreTokenBytes-from_token}
 use Rattle.mime_http.proofs.Contents.{is_special, token_plain, token_safe, token_is_plain, plain_class, text_plain, bchar_text}
 use Rattle.mime_http.specs.Boundary.{is_bchar, IsBoundary}
 use Rattle.mime_http.specs.Written.{escaped, is_token_value, quote_of, text_of_pair}
@@ -25,6 +25,7 @@ use Rattle.mime_http.specs.Written.{escaped, is_token_value, quote_of, text_of_p
 both : (Bool → Bool) → Bool
 both p = p true && p false
 
+-- what holds of both truth values holds of each
 at : (p : Bool → Bool) → both p ≡ true → (b : Bool) → p b ≡ true
 unfolding both
 at p is true = (and_parts (p true) (p false) is).0
@@ -63,9 +64,11 @@ pub record Seen (value : List ℕ) (kind : ℕ) (left : List ℕ) : Type 0 where
   pub split : bytes ++ left ≡ value
   pub is : kind ≡ kind_of bytes
 
+-- of no byte everything holds
 pub none_seen : (value : List ℕ) → Seen value 7 value
 none_seen value = record { bytes = []; split = refl; is = refl }
 
+-- a block more
 pub block_seen : {value : List ℕ} {kind : ℕ} {left : List ℕ} → Seen value kind left → (block rest : List ℕ) → left ≡ block ++ rest
     → Seen value (bit_and kind (kind_of block)) rest
 block_seen seen block rest is = record {
@@ -74,6 +77,7 @@ block_seen seen block rest is = record {
   is = ap (λ kind. bit_and kind (kind_of block)) seen.is ∙ sym (kind_of-append seen.bytes block);
 }
 
+-- after the last block the kind is the value's
 pub all_seen : {value : List ℕ} {kind : ℕ} {left : List ℕ} → Seen value kind left → left ≡ [] → kind ≡ kind_of value
 all_seen seen ended = seen.is ∙ ap kind_of (sym (append-nil seen.bytes) ∙ ap (λ left. seen.bytes ++ left) (sym ended) ∙ seen.split)
 
@@ -93,6 +97,7 @@ special_kind b special =
     (λ other. subst (λ b. kind_of (b ∷ []) ≡ 1) (sym (eqb-true b 92 (grind (arith, nat_tests, special, other)))) refl)
     (cases_Bool (b == 34))
 
+-- a byte that needs no backslash is plain
 pub plain_from_kind : (b : ℕ) → kind_of (b ∷ []) ≢ 1 → is_plain b ≡ true
 plain_from_kind b other = ⊎_elim (λ plain. plain) (λ special. absurd (other (special_kind b special))) (cases_Bool (is_plain b))
 
@@ -127,6 +132,7 @@ byte_written (b ∷ bytes) end some special is =
     ∙ sym (ap (λ n. 92 ∷ (take n (b ∷ bytes) ++ escaped (drop n (b ∷ bytes)))) longer)))
     (λ plain. absurd (false≢true (sym special ∙ ap not plain))) (cases_Bool (is_special b))
 
+-- what is written after a special byte, up to the next, and what is left
 pub more_written : (text left bytes whole : List ℕ) (run end : ℕ) → bytes ≡ drop run left → 0 < length bytes
     → is_plain (get_or bytes 0 0) ≡ false → end ≡ 1 + prefix_len is_plain (drop 1 bytes)
     → text ++ (take run left ++ escaped (drop run left)) ≡ whole
@@ -162,6 +168,7 @@ token_from_bits false true false plain fits n b q = absurd (false≢true (fits r
 token_from_bits false false true plain fits n b q = absurd (b refl)
 token_from_bits false false false plain fits n b q = absurd (n refl)
 
+-- a value of the last kind is a token
 pub token_from_kind : (value : List ℕ) → 0 < length value → kind_of value ≢ 0 → kind_of value ≢ 1 → kind_of value ≢ 3
     → (is_token_value value ≡ true) × (list_all is_quoted_byte value ≡ true)
 token_from_kind [] some = absurd (omega (arith, some))
@@ -172,6 +179,7 @@ token_from_kind (b ∷ bytes) some =
 
 -- ---- what is written in a form
 
+-- a form writes a value as the marks of its content say
 text_as : (form : Form) (name value content_bytes : List ℕ) → content form value ≡ content_bytes → marks form ≡ quote_of content_bytes
     → text_in form name value ≡ text_of_pair (name, content_bytes)
 text_as form name value bytes between sides = λ i. codes "; " ++ (name ++ (61 ∷ (sides i ++ (between i ++ sides i))))
@@ -180,6 +188,7 @@ text_as form name value bytes between sides = λ i. codes "; " ++ (name ++ (61 �
 as_token : (bytes : List ℕ) → is_token_value bytes ≡ true → [] ≡ quote_of bytes
 as_token bytes token = ap (λ is. if is then [] else (34 ∷ [])) (sym token)
 
+-- what is no token is in quotes
 in_quotes : (bytes : List ℕ) → is_token_value bytes ≡ false → 34 ∷ [] ≡ quote_of bytes
 in_quotes bytes other = ap (λ is. if is then [] else (34 ∷ [])) (sym other)
 
@@ -203,6 +212,7 @@ tokens_from_escaped (b ∷ value) all =
     and_from (is_token_byte b) (list_all is_token_byte value) parts.0 (tokens_from_escaped value parts.1))
     (cases_Bool (is_special b))
 
+-- a value that is a token once escaped is one
 token_from_escaped : (value : List ℕ) → is_token_value (escaped value) ≡ true → is_token_value value ≡ true
 token_from_escaped [] token = token
 token_from_escaped (b ∷ value) token =

@@ -6,7 +6,7 @@ use Rattle.std.proofs.lemmas.Bool.Decides.{nat_tests}
 use Rattle.std.proofs.lemmas.List.{append-nil, append_assoc}
 use Rattle.std.proofs.lemmas.Str.{IsUtf8-nil, IsUtf8-take, IsCharBoundary-from_take}
 use Rattle.std.specs.Str.{IsUtf8, IsCharBoundary}
-use Rattle.mime.proofs.BytesLemmas.{boundary_after, slice_get-prefix}
+use Rattle.mime.proofs.HandedOut.{boundary_after, slice_get-prefix}
 use Rattle.mime_http.proofs.HttpText.{tight_utf8}
 use Rattle.mime.specs.Grammar.{is_space}
 use Rattle.mime_http.specs.declared.tight.Place.{Place}
@@ -20,14 +20,17 @@ use Rattle.mime_http.proofs.HttpViability.{tight-append}
 
 -- ---- a place is after white space that was left out, or settled
 
+-- it is the one or the other
 pub data Kind (place : Place) : Type 0 where
   spaced : place ≡ Spaced → Kind place
   settled : IsSettled place → ((before here : ℕ) → settled_at place before here ≡ here) → Kind place
 
+-- each place is
 pub kind : (place : Place) → Kind place
 kind Spaced = spaced refl
 kind place = settled tt (λ before here. refl)
 
+-- a place that isn't after such white space is settled
 pub unspaced : (place : Place) → ¬ (place ≡ Spaced) → IsSettled place
 unspaced Spaced isnt = absurd (isnt refl)
 unspaced place isnt = tt
@@ -68,9 +71,11 @@ white_adds_nothing place b e = go (is_space b) refl
     go true white = (white, rw white refl)
     go false other = absurd (subst IsSettled e (outside_settled place b other))
 
+-- what comes out with one byte more
 pub tight_one : (front : List ℕ) (b : ℕ) → tight (front ++ (b ∷ [])) ≡ tight front ++ added (place_from Start front) b
 tight_one front b = tight-append Start front (b ∷ []) ∙ ap (λ x. tight front ++ x) (append-nil _)
 
+-- one byte of white space more may be left out
 more_white : {front : List ℕ} {n : ℕ} → SettledAt front n → (b : ℕ) → place_from Start (front ++ (b ∷ [])) ≡ Spaced
     → tight (front ++ (b ∷ [])) ≡ tight front → SettledAt (front ++ (b ∷ [])) n
 more_white (here front at_rest) b spaced_there same = back front b [] at_rest spaced_there same same
@@ -110,6 +115,7 @@ step front limit reach b is fits = record {
         subst (SettledAt (front ++ (b ∷ []))) (sym (e reach.settled (reach.at + 1) ∙ count))
         (here (front ++ (b ∷ [])) (subst IsSettled (sym there) is_settled))
 
+-- byte by byte, until more would come out,
 stops_from : (bytes front : List ℕ) (limit : ℕ) (reach : Reach) → SoFar front limit reach → Stops (front ++ bytes) limit (reach_from reach bytes)
 stops_from [] front limit reach is =
     record { front = front; after = []; split = refl; so_far = is; next = λ b bytes e. absurd (cc) }
@@ -135,14 +141,17 @@ stops_from (b ∷ bytes) front limit reach is =
         rw fits (subst (λ value. Stops value limit (reach_from (reach_after reach b) bytes)) (append_assoc front (b ∷ []) bytes)
         (rest (step front limit reach b is fits)))
 
+-- so it is known of the whole value how far it goes
 pub stops : (value : List ℕ) (limit : ℕ) → Stops value limit (reach_from (start limit) value)
 stops value limit =
     stops_from value [] limit (start limit) (record { at = refl; place = refl; out = omega arith; back_to = here [] tt })
 
+-- bytes are none, or some and a last one
 pub data Snoc : List ℕ → Type 0 where
   none : Snoc []
   last : (front : List ℕ) (b : ℕ) → Snoc (front ++ (b ∷ []))
 
+-- each list is so
 pub snoc : (xs : List ℕ) → Snoc xs
 snoc [] = none
 snoc (x ∷ xs) = go (snoc xs)
@@ -177,6 +186,7 @@ utf8_to_space {value} is front after split spaced_there = go (snoc front) split 
         ap (take (length front + 1)) (split ∙ append_assoc front (b ∷ []) after) ∙ take-append-add front (b ∷ after) 1 in
         subst IsUtf8 cut (IsUtf8-take value (length front + 1) is (boundary_after value (length front) b is there ascii))
 
+-- so the tightened value may be cut where those bytes come out
 pub boundary : {value : List ℕ} {limit : ℕ} {reach : Reach} → IsUtf8 value → (stop : Stops value limit reach)
     → place_from Start stop.front ≡ Spaced → IsCharBoundary (tight value) (limit - reach.left)
 boundary {value} {limit} {reach} is stop spaced_there =

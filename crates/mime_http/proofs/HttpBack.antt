@@ -6,8 +6,7 @@ use Rattle.std.proofs.lemmas.List.{append-nil, append_assoc}
 use Rattle.mime.specs.Bytes.{is_token_byte}
 use Rattle.mime.specs.Grammar.{Parameter, plain, quoted, Parameters, blank, final, more, Tail, no_list, listed, SyntaxTree, is_space, AreSpaces, text_of_parameter, text_of_list, text_of_tail, text_of, IsToken, IsParameter, AreParameters, IsTail, IsWellFormed}
 use Rattle.mime.specs.Values.{MediaType, lowered, last_plus}
-use Rattle.mime.proofs.BytesLemmas.{AreTokenBytes-from_token}
-use Rattle.mime.proofs.GrammarLemmas.Readings.{one_reading}
+use Rattle.mime.proofs.HandedOut.{AreTokenBytes-from_token, one_reading}
 use Rattle.mime_http.specs.declared.tight.Place.TheVariants.{Plain, Closed, Semicolon}
 use Rattle.mime_http.specs.Tight.{place_after, tight_from, tight}
 use Rattle.mime_http.specs.HttpMediaType.{IsHttpParameter, with_token, with_string, AreHttpParameters, no_more, semicolon, semicolon_and, HttpReads}
@@ -31,6 +30,7 @@ record Rest (bytes : List ℕ) : Type 0 where
 abbrev Goes : List ℕ → Type 0
 Goes bytes = (before after : List ℕ) → AreSpaces before → AreSpaces after → Rest (before ++ (59 ∷ (after ++ bytes)))
 
+-- at the end,
 goes_end : Goes []
 goes_end before after white also = record {
   text = before ++ (59 ∷ (after ++ []));
@@ -41,11 +41,13 @@ goes_end before after white also = record {
   split = sym (append-nil _);
 }
 
+-- before white space,
 goes_space : (b : ℕ) (bytes : List ℕ) → is_space b ≡ true → Goes bytes → Goes (b ∷ bytes)
 goes_space b bytes is goes before after white also =
     subst Rest (ap (λ x. before ++ (59 ∷ x)) (append_assoc after (b ∷ []) bytes))
     (goes before (after ++ (b ∷ [])) white (spaces-append after (b ∷ []) also (and_from (is_space b) true is refl)))
 
+-- before another semicolon,
 goes_semicolon : (bytes : List ℕ) → Goes bytes → Goes (59 ∷ bytes)
 goes_semicolon bytes goes before after white also =
     let next : Rest (59 ∷ bytes) = goes [] [] refl refl in
@@ -59,6 +61,7 @@ goes_semicolon bytes goes before after white also =
           ∙ sym (append_assoc before _ next.after ∙ ap (λ x. before ++ (59 ∷ x)) (append_assoc after next.text next.after));
     }
 
+-- and before a parameter, with what follows it
 goes_parameter : {text : List ℕ} {pair : List ℕ × List ℕ} → IsHttpParameter text pair → (bytes : List ℕ) → Rest bytes → Goes (text ++ bytes)
 goes_parameter {text} {pair} is bytes next before after white also = record {
   text = before ++ (59 ∷ (after ++ (text ++ next.text)));
@@ -76,6 +79,7 @@ record Continues (out : List ℕ) : Type 0 where
   plain : (bytes : List ℕ) → tight_from Plain bytes ≡ out → Rest bytes
   closed : (bytes m : List ℕ) → AreSpaces m → tight_from Closed bytes ≡ m ++ out → Rest bytes
 
+-- nothing follows: white space at most
 ends : Continues []
 ends = record {
   plain = λ bytes e. record { text = []; pairs = []; after = bytes; is = no_more; white = plain_end_back bytes e; split = refl };
@@ -95,6 +99,7 @@ ends = record {
     nothing [] e = refl
     nothing (b ∷ rest) e = absurd (cc)
 
+-- a semicolon follows, with white space around it
 goes_on_with : (out : List ℕ) → ((bytes : List ℕ) → tight_from Semicolon bytes ≡ out → Goes bytes) → Continues (59 ∷ out)
 goes_on_with out next = record {
   plain = λ bytes e.
@@ -166,18 +171,21 @@ parameter_back (quoted (x ∷ name) content m) is bytes n out white e goes =
     subst Goes (ap (λ r. x ∷ r) (sym there.split))
     (goes_parameter (with_string (x ∷ name) content is.0 is.1) there.rest (goes.closed there.rest m is.2 there.left)))
 
+-- a list that comes out is there, with white space and semicolons beside it,
 list_back : (list : Parameters) → AreParameters list → (bytes : List ℕ) → tight_from Semicolon bytes ≡ text_of_list list → Goes bytes
 list_back (blank n) is bytes e = blank_back bytes n is e
 list_back (final n p) is bytes e = parameter_back p is.1 bytes n [] is.0 (e ∙ ap (λ x. n ++ x) (sym (append-nil _))) ends
 list_back (more n p list) is bytes e =
     parameter_back p is.1 bytes n (59 ∷ text_of_list list) is.0 e (goes_on_with (text_of_list list) (list_back list is.2))
 
+-- and so is what follows an essence
 tail_back : (tail : Tail) → IsTail tail → Continues (text_of_tail tail)
 tail_back no_list is = ends
 tail_back (listed list) is = goes_on_with (text_of_list list) (list_back list is)
 
 -- ---- the whole
 
+-- so a value of which a syntax tree's text comes out is a media type as HTTP writes it
 tree_back : (strict : SyntaxTree) → IsWellFormed strict → (value : List ℕ) → tight value ≡ text_of strict
     → (media : MediaType) × HttpReads value media
 tree_back strict is value e = go strict.top is.0 e

@@ -4,10 +4,7 @@ use Rattle.std.specs.Prelude.{codes}
 use Rattle.mime.specs.Bytes.{is_token_byte, is_quoted_byte}
 use Rattle.mime.specs.Values.{IsAccepted}
 use Rattle.mime.specs.declared.scan.fault.ParseError.TheVariants.{MissingSubtype, MissingValue, InvalidToken}
-use Rattle.mime.proofs.GrammarLemmas.Begun.{in_subtype}
-use Rattle.mime.proofs.GrammarLemmas.Viability.{accepted-from_complete, viable-from_walk, dead-from_walk, not_viable-at_dead}
-use Rattle.mime.proofs.GrammarLemmas.Readings.{stopped-from_walk, rejected-from_walk}
-use Rattle.mime.proofs.GrammarLemmas.Content.{IsContent-taken}
+use Rattle.mime.proofs.HandedOut.{in_subtype, accepted-from_complete, viable-from_walk, dead-from_walk, not_viable-at_dead, stopped-from_walk, rejected-from_walk, IsContent-taken}
 use Rattle.mime_http.specs.Tight.{tight}
 use Rattle.mime_http.specs.HttpMediaType.{with_string, no_more, semicolon, semicolon_and, HttpReads, IsHttpMediaType}
 use Rattle.mime_http.specs.HttpFaults.{IsHttpViable, IsHttpFault}
@@ -43,10 +40,12 @@ no_space_at_slash : ¬ (IsHttpMediaType (codes "a /b"))
 unfolding is_token_byte
 no_space_at_slash is = stopped-from_walk (tight (codes "a /b")) refl (accepted_from_http _ is)
 
+-- no white space stands before an equals sign,
 no_space_before_equals : ¬ (IsHttpMediaType (codes "a/b; p =x"))
 unfolding is_token_byte
 no_space_before_equals is = stopped-from_walk (tight (codes "a/b; p =x")) refl (accepted_from_http _ is)
 
+-- nor after one
 no_space_after_equals : ¬ (IsHttpMediaType (codes "a/b; p= x"))
 unfolding is_token_byte
 no_space_after_equals is = stopped-from_walk (tight (codes "a/b; p= x")) refl (accepted_from_http _ is)
@@ -56,6 +55,7 @@ no_semicolon : ¬ (IsHttpMediaType (codes "a/b p=x"))
 unfolding is_token_byte
 no_semicolon is = stopped-from_walk (tight (codes "a/b p=x")) refl (accepted_from_http _ is)
 
+-- a value isn't empty
 no_value : ¬ (IsHttpMediaType (codes "a/b;p= ;q=x"))
 unfolding is_token_byte
 no_value is = stopped-from_walk (tight (codes "a/b;p= ;q=x")) refl (accepted_from_http _ is)
@@ -72,9 +72,11 @@ html : IsAccepted (codes "a/b")
 unfolding is_token_byte
 html = accepted-from_complete (codes "a/b") (in_subtype (codes "a") (codes "b")) _ refl refl
 
+-- white space may follow a media type
 after_space : IsHttpViable (codes "   a/b ")
 after_space = viable_from_accepted (codes "   a/b ") html
 
+-- so what follows it is at fault,
 at_c : IsHttpFault (codes "   a/b c") (InvalidToken 7 99)
 unfolding is_token_byte
 at_c = record {
@@ -85,6 +87,7 @@ at_c = record {
   there = refl;
 }
 
+-- and not the white space
 not_at_space : ¬ (IsHttpFault (codes "   a/b c") (InvalidToken 6 32))
 not_at_space fault = fault.prefix.longest 7 (omega arith) (omega arith) after_space
 
@@ -108,5 +111,6 @@ missing = (
   (codes " text", refl),
 )
 
+-- a text that lacks a subtype lacks no value
 not_missing : ¬ (IsHttpFault (codes " text/") MissingValue)
 not_missing fault = omega (arith, same_last (codes " text") fault.1.0 47 61 fault.1.1)

@@ -5,13 +5,11 @@ use Rattle.std.specs.Prelude.{⊤, slice_get}
 use Rattle.std.proofs.lemmas.Bool.{false≢true}
 use Rattle.std.proofs.lemmas.List.{append-nil, append_assoc}
 use Rattle.std.proofs.lemmas.Option.{same_Some, slice_get_within}
-use Rattle.mime.proofs.BytesLemmas.{slice_get-prefix}
+use Rattle.mime.proofs.HandedOut.{slice_get-prefix, viable-from_lacks, prefix_of_viable_is_viable, completed_is_rejected}
 use Rattle.mime.specs.Values.{IsAccepted}
 use Rattle.mime.specs.Faults.{IsViable, EndsIn, Lacks, IsFault}
 use Rattle.mime.specs.declared.scan.fault.ParseError.{ParseError}
 use Rattle.mime.specs.declared.scan.fault.ParseError.TheVariants.{MissingSlash, MissingSubtype, MissingEqual, MissingValue, MissingQuote, InvalidToken}
-use Rattle.mime.proofs.GrammarLemmas.Viability.{viable-from_lacks, prefix_of_viable_is_viable}
-use Rattle.mime.proofs.GrammarLemmas.Faults.{completed_is_rejected}
 use Rattle.mime_http.specs.declared.tight.Place.{Place}
 use Rattle.mime_http.specs.declared.tight.Place.TheVariants.{Start, Plain, Spaced, Equals, Quoted, Paired, Closed, Semicolon}
 use Rattle.mime_http.specs.declared.fault.Reach.{Reach}
@@ -25,10 +23,12 @@ use Rattle.mime_http.proofs.HowFar.{SettledAt, Stops, tight_one, Snoc, snoc, her
 
 -- ---- the longest beginning that is viable
 
+-- the bytes before a fault are viable,
 viable_to_limit : (text : List ℕ) (fault : ParseError) → IsFault text fault → IsViable (take (limit_of text fault) text)
 viable_to_limit text (InvalidToken pos byte) dead = dead.prefix.viable
 viable_to_limit text other lacks = subst IsViable (sym (take-length text)) (viable-from_lacks text other lacks)
 
+-- and no more are
 not_beyond : (text : List ℕ) (fault : ParseError) → IsFault text fault → (front rest : List ℕ) → text ≡ front ++ rest
     → limit_of text fault < length front → IsViable front → ⊥
 not_beyond text (InvalidToken pos byte) dead front rest split over viable =
@@ -36,6 +36,7 @@ not_beyond text (InvalidToken pos byte) dead front rest split over viable =
     (subst IsViable (sym (ap (take (length front)) split ∙ take-append_seam front rest)) viable)
 not_beyond text other lacks front rest split over viable = omega (arith, over, ap length split, length-append front rest)
 
+-- bytes are the longest prefix that is viable if they are viable and die with the next
 pub longest_at : (front after : List ℕ) → IsHttpViable front → ((b : ℕ) (bytes : List ℕ) → after ≡ b ∷ bytes → IsHttpViable (front ++ (b ∷ [])) → ⊥)
     → IsHttpLongestPrefix (front ++ after) (length front)
 longest_at front after viable dies = record {
@@ -60,6 +61,7 @@ longest_at front after viable dies = record {
 pub last_of : (front : List ℕ) (c : ℕ) → slice_get (front ++ (c ∷ [])) (length (front ++ (c ∷ [])) - 1) ≡ Some c
 last_of front c = slice_get-prefix front c [] _ (omega (arith, length-append front (c ∷ [])))
 
+-- the last byte is one
 pub same_last : (xs ys : List ℕ) (a b : ℕ) → xs ++ (a ∷ []) ≡ ys ++ (b ∷ []) → a ≡ b
 same_last xs ys a b e = same_Some a b (sym (last_of xs a) ∙ (ap (λ zs. slice_get zs (length zs - 1)) e ∙ last_of ys b))
 
@@ -70,6 +72,7 @@ IsBusy Equals = ⊤
 IsBusy Quoted = ⊤
 IsBusy place = ⊥
 
+-- a slash and an equals sign lead there
 pub busy_after : (place : Place) → IsBusy (place_after place 47) × IsBusy (place_after place 61)
 busy_after Equals = (tt, tt)
 busy_after place = (tt, tt)
@@ -79,6 +82,7 @@ pub record AddsItself (place : Place) (b : ℕ) : Type 0 where
   pub before : List ℕ
   pub adds : added place b ≡ before ++ (b ∷ [])
 
+-- and no byte that is left out
 left_out_idle : (place : Place) (b : ℕ) → is_left_out place b ≡ true → ¬ (IsBusy (place_after place b))
 left_out_idle Quoted b out busy = false≢true out
 left_out_idle Paired b out busy = false≢true out
@@ -87,6 +91,7 @@ left_out_idle Semicolon b out busy = subst IsBusy {y = Semicolon} (rw (no_space 
 left_out_idle Start b out busy = subst IsBusy {y = Start} (rw out refl) busy
 left_out_idle place b out busy = subst IsBusy {y = Spaced} (rw out refl) busy
 
+-- so a byte that leads there adds itself last
 pub adds_itself : (place : Place) (b : ℕ) → IsBusy (place_after place b) → AddsItself place b
 adds_itself place b busy = go (is_left_out place b) refl
   where
@@ -94,6 +99,7 @@ adds_itself place b busy = go (is_left_out place b) refl
     go true out = absurd (left_out_idle place b out busy)
     go false kept = record { before = brought_back place b; adds = kept_adds place b kept }
 
+-- a value ends in a byte that leads there if what comes out of it does
 ends_in : (value : List ℕ) (b : ℕ) → ((place : Place) → IsBusy (place_after place b)) → IsSettled (place_from Start value)
     → EndsIn (tight value) b → EndsIn value b
 ends_in value b busy at_rest (prefix, ends) = go (snoc value) at_rest ends
@@ -127,6 +133,7 @@ pub record FaultAt (value : List ℕ) (fault : ParseError) (pos : ℕ) : Type 0 
   pub prefix : IsHttpLongestPrefix value pos
   pub end : length value ≤ pos → IsHttpFault value fault
 
+-- what the tightened value lacks the value lacks, if it is settled or may end
 fault_at_end : (value : List ℕ) (fault : ParseError) → IsFault (tight value) fault
     → length (tight value) ≤ limit_of (tight value) fault → IsSettled (place_from Start value) ⊎ IsAccepted (tight value)
     → IsHttpFault value fault
@@ -135,11 +142,13 @@ fault_at_end value (InvalidToken pos byte) dead within or =
 fault_at_end value other lacks within (inl at_rest) = end_lacks value other at_rest lacks
 fault_at_end value other lacks within (inr is) = absurd (completed_is_rejected (tight value) other lacks is)
 
+-- how far the value goes is viable, and dies with the next byte
 record Reached (value : List ℕ) (fault : ParseError) (reach : Reach) (front after : List ℕ) : Type 0 where
   split : value ≡ front ++ after
   viable : IsViable (tight front)
   dies : (b : ℕ) (bytes : List ℕ) → after ≡ b ∷ bytes → IsHttpViable (front ++ (b ∷ [])) → ⊥
 
+-- so it is where the fault of the tightened value is reached
 reached : (value : List ℕ) (fault : ParseError) (reach : Reach) → IsFault (tight value) fault
     → (stop : Stops value (limit_of (tight value) fault) reach) → Reached value fault reach stop.front stop.after
 reached value fault reach is stop = record {

@@ -37,18 +37,21 @@ plain_semicolon : (n w : List ℕ) → AreSpaces n → tight_from Plain (n ++ (5
 plain_semicolon [] w all = refl
 plain_semicolon (b ∷ n) w all = let parts = and_parts (is_space b) _ all in rw parts.0 (skipped spaced n (59 ∷ w) parts.1)
 
+-- and at the end it is left out
 plain_end : (n : List ℕ) → AreSpaces n → tight_from Plain n ≡ []
 plain_end [] all = refl
 plain_end (b ∷ n) all = let parts = and_parts (is_space b) _ all in rw parts.0 (nothing_out spaced n parts.1)
 
 -- ---- what is left of bytes, from a token's end, from a quoted value's end and from a semicolon on
 
+-- from the end of a token on, a list or nothing is left, with these pairs
 record FromPlain (bytes : List ℕ) (pairs : List (List ℕ × List ℕ)) : Type 0 where
   tail : Tail
   is : IsTail tail
   same : tight_from Plain bytes ≡ text_of_tail tail
   has : pairs_of_tail (lowered_tail tail) ≡ pairs
 
+-- from a closing quote on, white space may be left before it
 record FromClosed (bytes : List ℕ) (pairs : List (List ℕ × List ℕ)) : Type 0 where
   spaces : List ℕ
   tail : Tail
@@ -57,12 +60,14 @@ record FromClosed (bytes : List ℕ) (pairs : List (List ℕ × List ℕ)) : Typ
   same : tight_from Closed bytes ≡ spaces ++ text_of_tail tail
   has : pairs_of_tail (lowered_tail tail) ≡ pairs
 
+-- from a semicolon on, a list is left
 record FromSemicolon (bytes : List ℕ) (pairs : List (List ℕ × List ℕ)) : Type 0 where
   list : Parameters
   is : AreParameters list
   same : tight_from Semicolon bytes ≡ text_of_list list
   has : pairs_of_list (lowered_list list) ≡ pairs
 
+-- white space after white space is white space
 pub spaces-append : (n m : List ℕ) → AreSpaces n → AreSpaces m → AreSpaces (n ++ m)
 spaces-append n m first second = list_all-append is_space n m ∙ and_from _ _ first second
 
@@ -146,6 +151,7 @@ with_parameter (with_string name content named valued) bytes {pairs} after close
 
 -- ---- from each place, of parameters and the white space after them
 
+-- bytes of which so much is left, from each of the three places on
 record FromAll (bytes : List ℕ) (pairs : List (List ℕ × List ℕ)) : Type 0 where
   plain : FromPlain bytes pairs
   closed : FromClosed bytes pairs
@@ -169,6 +175,7 @@ after_semicolon b bytes white from = record {
   list = indent b (59 ∷ bytes) white (record { list = from.list; is = from.is; same = from.same; has = from.has });
 }
 
+-- parameters as HTTP writes them, and white space, leave the parameters
 forth : {text : List ℕ} {pairs : List (List ℕ × List ℕ)} → AreHttpParameters text pairs → (after : List ℕ) → AreSpaces after
     → FromAll (text ++ after) pairs
 forth no_more after white = record {

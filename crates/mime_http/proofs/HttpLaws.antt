@@ -1,7 +1,7 @@
 -- The laws of a header's value.
 use Rattle.std.proofs.Common.{ap, subst, sym, ℕ, List}
 use Rattle.mime.specs.Values.{MediaType, Reads, IsAccepted}
-use Rattle.mime.proofs.GrammarLemmas.Readings.{one_reading}
+use Rattle.mime.proofs.HandedOut.{one_reading}
 use Rattle.mime_http.specs.Tight.{tight}
 use Rattle.mime_http.specs.HttpMediaType.{IsHttpMediaType}
 use Rattle.mime_http.specs.HeaderLaws.{PlainIsHttp, OneHttpReading}
@@ -9,13 +9,16 @@ use Rattle.mime_http.proofs.Places.{accepted_stays}
 use Rattle.mime_http.proofs.HttpForth.{http_is_read}
 use Rattle.mime_http.proofs.HttpBack.{read_is_http}
 
+-- the library accepts what is left of a media type as HTTP writes it
 pub accepted_from_http : (value : List ℕ) → IsHttpMediaType value → IsAccepted (tight value)
 accepted_from_http value is = (_, (http_is_read value is.0 is.1).1)
 
+-- what the library reads as it stands is what HTTP writes
 pub plain_is_http : PlainIsHttp
 plain_is_http value media reads =
     read_is_http value media (subst (λ text. Reads text media) (sym (accepted_stays value (media, reads))) reads)
 
+-- of a media type as HTTP writes it one essence and one list of pairs are read
 pub one_http_reading : OneHttpReading
 one_http_reading value first second one other =
     let read = http_is_read value first one in

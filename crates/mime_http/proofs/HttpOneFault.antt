@@ -8,8 +8,7 @@ use Rattle.mime.specs.Values.{IsAccepted}
 use Rattle.mime.specs.Faults.{EndsIn, Lacks, IsFault}
 use Rattle.mime.specs.declared.scan.fault.ParseError.{ParseError}
 use Rattle.mime.specs.declared.scan.fault.ParseError.TheVariants.{MissingSlash, MissingSubtype, MissingEqual, MissingValue, MissingQuote, InvalidToken}
-use Rattle.mime.proofs.CutLemmas.Cuts.{accepted_or_rejected}
-use Rattle.mime.proofs.GrammarLemmas.Faults.{one_fault}
+use Rattle.mime.proofs.HandedOut.{accepted_or_rejected, one_fault}
 use Rattle.mime_http.specs.declared.tight.Place.{Place}
 use Rattle.mime_http.specs.declared.tight.Place.TheVariants.{Start, Spaced}
 use Rattle.mime_http.specs.Tight.{place_after, tight_from, tight}
@@ -25,9 +24,11 @@ use Rattle.mime_http.proofs.HttpFaults.{IsBusy, busy_after, adds_itself, FaultAt
 
 -- ---- one at least
 
+-- the library rejects what is left of a value that HTTP rejects
 rejected_tight : (value : List ℕ) → ¬ (IsHttpMediaType value) → ¬ (IsAccepted (tight value))
 rejected_tight value isnt is = isnt (http_from_accepted value is)
 
+-- from its fault one of the value is found, at a position,
 found_at : (value : List ℕ) (fault : ParseError) → IsFault (tight value) fault → (pos : ℕ) × FaultAt value fault pos
 found_at value fault is =
     let limit = limit_of (tight value) fault in
@@ -42,6 +43,7 @@ found_at value fault is =
         (λ no. (_, fault_before value fault _ is (stops value (limit_of (tight value) fault)) e no))
         (accepted_or_rejected (tight (stops value (limit_of (tight value) fault)).front))
 
+-- so the value has one
 found : (value : List ℕ) → ¬ (IsHttpMediaType value) → (fault : ParseError) × IsHttpFault value fault
 found value isnt =
     let one = one_fault (tight value) (rejected_tight value isnt) in
@@ -52,6 +54,7 @@ found value isnt =
 
 -- ---- one at most
 
+-- the longest prefix is one
 prefix_unique : (value : List ℕ) (m n : ℕ) → IsHttpLongestPrefix value m → IsHttpLongestPrefix value n → m ≡ n
 prefix_unique value m n first second =
     let not_below : ¬ (m < n) = λ below. first.longest n below second.within second.viable in
@@ -71,10 +74,12 @@ record ComesOut (place : Place) : Type 0 where
   equal : tight_from place (codes "=x") ≡ codes "=x"
   quote : tight_from place (codes "x\"") ≡ codes "x\""
 
+-- it does from each settled place
 comes_out : (place : Place) → IsSettled place → ComesOut place
 comes_out Spaced is = absurd is
 comes_out place is = record { slash = refl; text = refl; equal = refl; quote = refl }
 
+-- a value that ends in a slash or an equals sign does so tightened
 ends_too : (value : List ℕ) (b : ℕ) → ((place : Place) → IsBusy (place_after place b)) → EndsIn value b → EndsIn (tight value) b
 ends_too value b busy (front, ends) =
     let adds = adds_itself (place_from Start front) b (busy (place_from Start front)) in (
@@ -82,6 +87,7 @@ ends_too value b busy (front, ends) =
       ap tight ends ∙ (tight_one front b ∙ (ap (λ x. tight front ++ x) adds.adds ∙ sym (append_assoc (tight front) adds.before (b ∷ [])))),
     )
 
+-- what a settled value lacks it lacks tightened,
 lacks_tight : (value : List ℕ) (fault : ParseError) → IsSettled (place_from Start value) → HttpLacks value fault → Lacks (tight value) fault
 lacks_tight value fault at_rest = go (comes_out (place_from Start value) at_rest) fault
   where
@@ -96,6 +102,7 @@ lacks_tight value fault at_rest = go (comes_out (place_from Start value) at_rest
     go out MissingQuote lacks = (accepted _ out.quote lacks.0, tt)
     go out other lacks = absurd lacks.0
 
+-- what a value lacks makes it viable,
 viable_from_lacks : (value : List ℕ) (fault : ParseError) → HttpLacks value fault → IsHttpViable value
 viable_from_lacks value MissingSlash lacks = (_, lacks.0)
 viable_from_lacks value MissingSubtype lacks = (_, lacks.0)
@@ -104,6 +111,7 @@ viable_from_lacks value MissingValue lacks = (_, lacks.0)
 viable_from_lacks value MissingQuote lacks = (_, lacks.0)
 viable_from_lacks value other lacks = absurd lacks.0
 
+-- so a rejected one is settled, and lacks the same tightened
 lacks_from_http : (value : List ℕ) (fault : ParseError) → ¬ (IsHttpMediaType value) → HttpLacks value fault → Lacks (tight value) fault
 lacks_from_http value fault isnt lacks = go (kind (place_from Start value))
   where
@@ -112,6 +120,7 @@ lacks_from_http value fault isnt lacks = go (kind (place_from Start value))
     go (spaced e) =
         absurd (isnt (http_from_accepted value (accepted_from_spaced value e (viable_from_lacks value fault lacks))))
 
+-- two faults of a value are the same
 same_fault : (value : List ℕ) → ¬ (IsHttpMediaType value) → (first second : ParseError) → IsHttpFault value first → IsHttpFault value second
     → first ≡ second
 same_fault value isnt (InvalidToken pos byte) (InvalidToken place other) one two =
@@ -124,6 +133,7 @@ same_fault value isnt first second one two =
     let core = one_fault (tight value) (rejected_tight value isnt) in
     core.2 first (lacks_from_http value first isnt one) ∙ sym (core.2 second (lacks_from_http value second isnt two))
 
+-- a value that HTTP rejects has exactly one fault
 pub one_http_fault : OneHttpFault
 one_http_fault value isnt =
     let one = found value isnt in

@@ -7,7 +7,7 @@ use Rattle.std.proofs.lemmas.Bool.Decides.{nat_tests}
 use Rattle.std.proofs.lemmas.List.{append_assoc}
 use Rattle.std.proofs.lemmas.Str.{IsUtf8-nil, IsUtf8-append, IsUtf8-encode, IsUtf8-from_ascii, encode_ascii, cons_from_encodes, length-encode, len_utf8_bounds}
 use Rattle.std.proofs.lemmas.Str.Ascii.{IsAscii-cons, IsAscii-nil}
-use Rattle.mime.proofs.ValueLemmas.Utf8.{high_bytes}
+use Rattle.mime.proofs.HandedOut.{high_bytes}
 use Rattle.mime.specs.Grammar.{is_space}
 use lib.Utf8.{scalars, scalar, encodes, encode}
 use Rattle.mime_http.specs.declared.tight.Place.{Place}
@@ -18,19 +18,23 @@ use Rattle.mime_http.proofs.OutAgain.{After, and_then, to_place, plain_back, any
 
 -- ---- ASCII bytes
 
+-- each byte is ASCII
 abbrev pub AreAscii : List ℕ → Type 0
 AreAscii [] = ⊤
 AreAscii (b ∷ bytes) = (b < 128) × AreAscii bytes
 
+-- joined ASCII bytes are ASCII
 ascii-append : (xs ys : List ℕ) → AreAscii xs → AreAscii ys → AreAscii (xs ++ ys)
 ascii-append [] ys first second = second
 ascii-append (b ∷ xs) ys first second = (first.0, ascii-append xs ys first.1 second)
 
+-- ASCII bytes may be put before a text in UTF-8,
 pub put_ascii : (xs ys : List ℕ) → AreAscii xs → IsUtf8 ys → IsUtf8 (xs ++ ys)
 put_ascii [] ys all is = is
 put_ascii (b ∷ xs) ys all is =
     IsUtf8-append (b ∷ []) (xs ++ ys) (IsUtf8-from_ascii (b ∷ []) (IsAscii-cons b [] all.0 IsAscii-nil)) (put_ascii xs ys all.1 is)
 
+-- or left out before it
 pub drop_ascii : (xs ys : List ℕ) → AreAscii xs → IsUtf8 (xs ++ ys) → IsUtf8 ys
 drop_ascii [] ys all is = is
 drop_ascii (b ∷ xs) ys all is =
@@ -43,6 +47,7 @@ brought_ascii : (place : Place) (b : ℕ) → AreAscii (brought_back place b)
 brought_ascii Spaced b = cond_both (b == 59) _ _ AreAscii (λ is. tt) (λ is. (omega arith, tt))
 brought_ascii place b = tt
 
+-- and so is all that it adds
 added_ascii : (place : Place) (b : ℕ) → b < 128 → AreAscii (added place b)
 added_ascii place b is =
     cond_both (is_left_out place b) _ _ AreAscii (λ out. tt)
@@ -50,6 +55,7 @@ added_ascii place b is =
 
 -- ---- bytes past ASCII
 
+-- a byte with no role outside quotes, nor within
 record IsHigh (b : ℕ) : Type 0 where
   space : is_space b ≡ false
   semicolon : (b == 59) ≡ false
@@ -57,6 +63,7 @@ record IsHigh (b : ℕ) : Type 0 where
   quote : (b == 34) ≡ false
   backslash : (b == 92) ≡ false
 
+-- a byte past ASCII is such
 high : (b : ℕ) → 128 ≤ b → IsHigh b
 high b is = record {
   space = grind (arith, nat_tests);
@@ -84,6 +91,7 @@ held Quoted b is = rw (is.backslash, is.quote) within
 held Paired b is = within
 held place b is = rw (is.space, is.semicolon, is.equals, is.quote) outside
 
+-- it comes out after a space at most
 first : (place : Place) (b : ℕ) → IsHigh b → First place b
 first place b is = record {
   before = brought_back place b;
@@ -97,16 +105,20 @@ stays_there : {place : Place} → Holds place → (b : ℕ) → IsHigh b → pla
 stays_there outside b is = rw (is.space, is.semicolon, is.equals, is.quote) refl
 stays_there within b is = rw (is.backslash, is.quote) refl
 
+-- it comes out alone there
 stays_as_it_is : {place : Place} → Holds place → (b : ℕ) → IsHigh b → added place b ≡ b ∷ []
 stays_as_it_is outside b is = rw is.space refl
 stays_as_it_is within b is = refl
 
+-- bytes of a character past ASCII
 abbrev AreHigh : List ℕ → Type 0
 AreHigh bytes = list_all (λ b. nat_le 128 b && nat_lt b 248) bytes ≡ true
 
+-- each of them has no role
 high_of : (b : ℕ) → (nat_le 128 b && nat_lt b 248) ≡ true → IsHigh b
 high_of b is = high b (grind (arith, nat_tests))
 
+-- they come out as they are,
 run : {place : Place} → Holds place → (hs rest : List ℕ) → AreHigh hs → tight_from place (hs ++ rest) ≡ hs ++ tight_from place rest
 run {place} holds [] rest all = refl
 run {place} holds (b ∷ hs) rest all =
@@ -115,11 +127,13 @@ run {place} holds (b ∷ hs) rest all =
     ap (λ a. a ++ tight_from (place_after place b) (hs ++ rest)) (stays_as_it_is holds b is)
     ∙ (ap (λ p. b ∷ tight_from p (hs ++ rest)) (stays_there holds b is) ∙ ap (λ x. b ∷ x) (run holds hs rest parts.1))
 
+-- a byte that comes out there was there,
 one_back : {place : Place} → Holds place → (bytes : List ℕ) (b : ℕ) (out : List ℕ) → IsHigh b → tight_from place bytes ≡ b ∷ out
     → After bytes (b ∷ []) (place_after place b) out
 one_back outside bytes b out is e = plain_back bytes b out is.space is.semicolon e
 one_back within bytes b out is e = any_back Quoted (λ b. refl) bytes b out e
 
+-- and so were all of them
 run_back : {place : Place} → Holds place → (hs bytes out : List ℕ) → AreHigh hs → tight_from place bytes ≡ hs ++ out
     → After bytes hs place out
 run_back holds [] bytes out all e = record { rest = bytes; split = refl; left = e }
@@ -131,6 +145,7 @@ run_back holds (b ∷ hs) bytes out all e =
 
 -- ---- there and back
 
+-- what comes out of characters is in UTF-8, from each place on
 utf8_tight : (cs : List ℕ) (place : Place) → scalars cs ≡ true → IsUtf8 (tight_from place (encodes cs))
 utf8_tight [] place are = IsUtf8-nil
 utf8_tight (c ∷ cs) place are = ⊎_elim
@@ -156,6 +171,7 @@ utf8_tight (c ∷ cs) place are = ⊎_elim
         subst IsUtf8 (sym same)
         (put_ascii begins.before _ begins.ascii (IsUtf8-append (b ∷ hs) _ utf8 (others (place_after place b))))
 
+-- and if what comes out is in UTF-8, the bytes are
 utf8_back : (fuel : ℕ) (bytes : List ℕ) (place : Place) → length bytes ≤ fuel → IsUtf8 (tight_from place bytes) → IsUtf8 bytes
 utf8_back fuel [] place fits is = IsUtf8-nil
 utf8_back zero (b ∷ bytes) place fits is = absurd (omega arith)
@@ -199,6 +215,7 @@ utf8_back (suc fuel) (b ∷ bytes) place fits is = ⊎_elim
             ap (λ x. x ++ there.rest) is ∙ (ap (λ x. x ∷ (hs ++ there.rest)) same ∙ ap (λ x. b ∷ x) (sym there.split)) in
             subst IsUtf8 text (IsUtf8-append (encode c) there.rest (IsUtf8-encode c parts.0) utf8)
 
+-- so a value is in UTF-8 exactly if it is so tightened
 pub tight_utf8 : (value : List ℕ) → IsUtf8 value ↔ IsUtf8 (tight value)
 tight_utf8 value = (
   λ is. subst (λ v. IsUtf8 (tight v)) is.1.1 (utf8_tight is.0 Start is.1.0),

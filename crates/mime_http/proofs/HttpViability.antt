@@ -11,11 +11,7 @@ use Rattle.mime.specs.Grammar.{SyntaxTree, is_space}
 use Rattle.mime.specs.Values.{IsAccepted}
 use Rattle.mime.specs.Faults.{IsViable}
 use Rattle.mime.specs.Inner.Quoted.{takes, continues, awaits_next, awaits_after}
-use Rattle.mime.proofs.GrammarLemmas.Begun.{Closed as ClosedParameters, Begun, in_type, in_subtype, in_list, ListState, in_spaces, in_name, in_value, in_quotes, after_quotes, grow_state, grow_list, list_at, grow, walk, walk_from, tree_of, walk_by-append}
-use Rattle.mime.proofs.GrammarLemmas.Content.{awaits_after-append}
-use Rattle.mime.proofs.GrammarLemmas.Spelling.{by_class}
-use Rattle.mime.proofs.GrammarLemmas.Readings.{walk-accepted}
-use Rattle.mime.proofs.GrammarLemmas.Viability.{accepted-from_complete}
+use Rattle.mime.proofs.HandedOut.{ClosedParameters, Begun, in_type, in_subtype, in_list, ListState, in_spaces, in_name, in_value, in_quotes, after_quotes, grow_state, grow_list, list_at, grow, walk, walk_from, tree_of, walk_by-append, awaits_after-append, by_class, walk-accepted, accepted-from_complete}
 use Rattle.mime_http.specs.declared.tight.Place.{Place}
 use Rattle.mime_http.specs.declared.tight.Place.TheVariants.{Start, Plain, Spaced, Equals, Quoted, Paired, Closed, Semicolon}
 use Rattle.mime_http.specs.Tight.{place_after, added, tight_from, tight}
@@ -28,6 +24,7 @@ use Rattle.mime_http.proofs.HttpLaws.{accepted_from_http}
 
 -- ---- the place at the end of what the library walks
 
+-- after what is read of a list
 abbrev pub place_in_list : ListState → Place
 place_in_list (in_spaces n) = Semicolon
 place_in_list (in_name n name) = Plain
@@ -36,6 +33,7 @@ place_in_list (in_value n name (v ∷ value)) = Plain
 place_in_list (in_quotes n name content) = if awaits_after false content then Paired else Quoted
 place_in_list (after_quotes n name content m) = Closed
 
+-- after what is read of a text
 abbrev pub place_at : Begun → Place
 place_at (in_type []) = Start
 place_at (in_type (t ∷ top)) = Plain
@@ -55,11 +53,13 @@ taken false b is =
     let other : (b == 34) ≡ false = grind (arith, nat_tests) in
     so (one Quoted b) refl (rw other refl)
 
+-- and a quote that it doesn't take
 closes : (awaiting : Bool) → IsFalse (takes awaiting 34) → Leads (if awaiting then Paired else Quoted) (34 ∷ []) (34 ∷ []) Closed
 unfolding is_quoted_byte
 closes true not_taken = absurd (false≢true (sym not_taken))
 closes false not_taken = one Quoted 34
 
+-- in a list each byte that goes on comes out, and leads to the place after it
 grown_list : (closed : ClosedParameters) (position : ListState) (b : ℕ)
     → MatchOption (grow_state closed position b) (Unit {0}) (λ next. Leads (place_in_list position) (b ∷ []) (b ∷ []) (place_in_list next.position))
 grown_list closed (in_spaces n) b =
@@ -85,11 +85,13 @@ grown_list closed (after_quotes n name content m) b =
     by_class (λ b next. Leads Closed (b ∷ []) (b ∷ []) (place_in_list next.position)) is_space 59 b _ _
     (λ white. space after_value b white) (λ no. one Closed 59)
 
+-- what holds of a part holds of the whole that it makes
 mapped : {X Y : Type 0} (f : X → Y) (P : Y → Type 0) (o : Option X) → MatchOption o (Unit {0}) (λ x. P (f x))
     → MatchOption (option_map f o) (Unit {0}) P
 mapped f P None is = tt
 mapped f P (Some x) is = is
 
+-- so it is in a whole text
 grown : (begun : Begun) (b : ℕ) → MatchOption (grow begun b) (Unit {0}) (GoesTo (place_at begun) b)
 grown (in_type []) b =
     cond_both (is_token_byte b) _ _ (λ o. MatchOption o (Unit {0}) (GoesTo Start b))
@@ -120,10 +122,12 @@ LeavesSpaces Plain = ⊤
 LeavesSpaces Equals = ⊤
 LeavesSpaces place = ⊥
 
+-- none is within quotes
 not_in_quotes : (awaiting : Bool) → LeavesSpaces (if awaiting then Paired else Quoted) → ⊥
 not_in_quotes true is = is
 not_in_quotes false is = is
 
+-- there a space goes on with nothing
 pub no_space_grows : (begun : Begun) → LeavesSpaces (place_at begun) → grow begun 32 ≡ None
 unfolding is_token_byte
 no_space_grows (in_type []) is = absurd is
@@ -144,6 +148,7 @@ no_space_grows (in_list top sub list) is = ap (option_map (in_list top sub)) (at
 abbrev MayEnd : Begun → Type 0
 MayEnd begun = (tree : SyntaxTree) × (tree_of begun ≡ Some tree)
 
+-- and a semicolon only if the text may end there
 semicolon_grows : (begun : Begun) → LeavesSpaces (place_at begun) → MatchOption (grow begun 59) (Unit {0}) (λ next. MayEnd begun)
 unfolding is_token_byte
 semicolon_grows (in_type []) is = absurd is
@@ -161,6 +166,7 @@ semicolon_grows (in_list top sub list) is = at list.closed list.position is
     at closed (in_quotes n name content) is = absurd (not_in_quotes (awaits_after false content) is)
     at closed (after_quotes n name content m) is = absurd is
 
+-- so if the library walks what comes out after white space that was left out, the text may end before it
 ends_there : (begun : Begun) → LeavesSpaces (place_at begun) → (bytes : List ℕ) (last : Begun)
     → walk_from begun (tight_from Spaced bytes) ≡ Some last → MayEnd last → MayEnd begun
 ends_there begun is [] last e may = subst MayEnd (sym (same_Some begun last e)) may
@@ -184,6 +190,7 @@ ends_there begun is (b ∷ bytes) last e may = go (ends_there begun is bytes las
 
 -- ---- what is left of a beginning
 
+-- what comes out of joined bytes
 pub tight-append : (place : Place) (xs ys : List ℕ) → tight_from place (xs ++ ys) ≡ tight_from place xs ++ tight_from (place_from place xs) ys
 tight-append place [] ys = refl
 tight-append place (b ∷ xs) ys =
@@ -200,11 +207,13 @@ like_settled (itself place settled) is = refl
 like_settled left_after_plain is = absurd is
 like_settled left_after_equals is = absurd is
 
+-- what was written before white space that was left out ends where such is left out
 like_spaced : {place like : Place} → IsLike place like → place ≡ Spaced → LeavesSpaces like
 like_spaced (itself place settled) same = absurd (subst IsSettled same settled)
 like_spaced left_after_plain same = tt
 like_spaced left_after_equals same = tt
 
+-- with no white space left out at its end, what comes out of a beginning ends where the beginning does
 pub settled_end : (front : List ℕ) → IsSettled (place_from Start front) → place_from Start (tight front) ≡ place_from Start front
 settled_end front settled = let end = ends front in end.leads.there ∙ like_settled end.is_like settled
 
@@ -220,12 +229,15 @@ goes_on_as front more settled is =
     http_from_accepted (front ++ more)
     (subst IsAccepted (sym (tight-append Start front more ∙ ap (λ x. tight front ++ x) same)) is)
 
+-- so if what comes out of it is viable, it is
 pub viable_from_tight : (front : List ℕ) → IsSettled (place_from Start front) → IsViable (tight front) → IsHttpViable front
 viable_from_tight front settled viable = (viable.0, goes_on_as front viable.0 settled viable.1)
 
+-- a media type as HTTP writes it comes out as one that the library accepts, in two parts
 pub tight_accepted : (front more : List ℕ) → IsHttpMediaType (front ++ more) → IsAccepted (tight front ++ tight_from (place_from Start front) more)
 tight_accepted front more is = subst IsAccepted (tight-append Start front more) (accepted_from_http (front ++ more) is)
 
+-- so what comes out of a viable beginning is viable
 pub tight_from_viable : (front : List ℕ) → IsHttpViable front → IsViable (tight front)
 tight_from_viable front viable = (_, tight_accepted front viable.0 viable.1)
 
@@ -243,8 +255,10 @@ accepted_from_spaced front spaced viable =
     (subst (λ place. walk_from begun (tight_from place viable.0) ≡ Some found.0) spaced goes) (found.1, found.2.1) in
     accepted-from_complete (tight front) begun may.0 reached may.1)
 
+-- a value of which an accepted text comes out is viable
 pub viable_from_accepted : (front : List ℕ) → IsAccepted (tight front) → IsHttpViable front
 viable_from_accepted front is = ([], subst IsHttpMediaType (sym (append-nil front)) (http_from_accepted front is))
 
+-- each prefix of a viable value is viable
 pub prefix_of_http_viable : (front more : List ℕ) → IsHttpViable (front ++ more) → IsHttpViable front
 prefix_of_http_viable front more viable = (more ++ viable.0, subst IsHttpMediaType (append_assoc front more viable.0) viable.1)

@@ -17,6 +17,7 @@ use Rattle.mime_http.proofs.Cuts.{only_cut}
 
 -- ---- what HTTP writes has no comma outside strings
 
+-- a byte that is no comma and no equals sign may stand before a piece,
 before : (b : ℕ) {piece : List ℕ} → (b == 44) ≡ false → (b == 61) ≡ false → IsPiece piece → IsPiece (b ∷ piece)
 before b {piece} other equals is = piece_byte b piece other (none piece) is
   where
@@ -24,6 +25,7 @@ before b {piece} other equals is = piece_byte b piece other (none piece) is
     none [] = refl
     none (c ∷ piece) = rw equals refl
 
+-- so may token bytes,
 before_token_bytes : (bytes : List ℕ) {piece : List ℕ} → AreTokenBytes bytes → IsPiece piece → IsPiece (bytes ++ piece)
 before_token_bytes [] all is = is
 before_token_bytes (b ∷ bytes) all is =
@@ -31,10 +33,12 @@ before_token_bytes (b ∷ bytes) all is =
     let marks = token_is_plain b parts.0 in
     before b marks.comma marks.equals (before_token_bytes bytes parts.1 is)
 
+-- a token,
 before_token : (bytes : List ℕ) {piece : List ℕ} → IsToken bytes → IsPiece piece → IsPiece (bytes ++ piece)
 before_token [] token is = absurd token
 before_token (b ∷ bytes) token is = before_token_bytes (b ∷ bytes) token is
 
+-- white space,
 before_spaces : (bytes : List ℕ) {piece : List ℕ} → AreSpaces bytes → IsPiece piece → IsPiece (bytes ++ piece)
 before_spaces [] all is = is
 before_spaces (b ∷ bytes) all is =
@@ -47,18 +51,21 @@ before_spaces (b ∷ bytes) all is =
     no_equals : (b : ℕ) → is_space b ≡ true → (b == 61) ≡ false
     no_equals b is = grind (arith, nat_tests)
 
+-- and the value of a parameter with its equals sign
 before_value : (value : List ℕ) {piece : List ℕ} → IsToken value → IsPiece piece → IsPiece (61 ∷ (value ++ piece))
 before_value [] token is = absurd token
 before_value (b ∷ value) token is =
     let marks = token_is_plain b (and_parts (is_token_byte b) _ token).0 in
     piece_byte 61 _ refl marks.quote (before_token (b ∷ value) token is)
 
+-- quoted content stands in a string
 content_in_string : {content : List ℕ} → IsContent content → IsInString content
 content_in_string no_byte = string_end
 content_in_string (text_byte b content is rest) =
     let marks = text_is_no_mark b is in string_byte b content marks.1 marks.0 (content_in_string rest)
 content_in_string (quoted_pair b content is rest) = string_pair b content (content_in_string rest)
 
+-- so a parameter may stand before a piece,
 before_parameter : {text : List ℕ} {pair : List ℕ × List ℕ} {piece : List ℕ} → IsHttpParameter text pair → IsPiece piece
     → IsPiece (text ++ piece)
 before_parameter {piece = piece} (with_token name value named valued) is =
@@ -69,10 +76,12 @@ before_parameter {piece = piece} (with_string name content named valued) is =
     ∙ ap (λ x. name ++ (61 ∷ 34 ∷ x)) (append_assoc content (34 ∷ []) piece)))
     (before_token name named (piece_string content piece (content_in_string valued) is))
 
+-- a semicolon with white space around it,
 before_semicolon : (white after : List ℕ) {piece : List ℕ} → AreSpaces white → AreSpaces after → IsPiece piece
     → IsPiece (white ++ (59 ∷ (after ++ piece)))
 before_semicolon white after first second is = before_spaces white first (before 59 refl refl (before_spaces after second is))
 
+-- and parameters
 before_parameters : {text : List ℕ} {pairs : List (List ℕ × List ℕ)} → AreHttpParameters text pairs → (piece : List ℕ) → IsPiece piece
     → IsPiece (text ++ piece)
 before_parameters no_more piece is = is
@@ -85,9 +94,11 @@ before_parameters (semicolon_and white after parameter rest pair pairs first sec
     ∙ ap (λ x. white ++ (59 ∷ (after ++ x))) (append_assoc parameter rest piece))))
     (before_semicolon white after first second (before_parameter one (before_parameters all piece is)))
 
+-- white space is a piece,
 spaces_are_piece : (white : List ℕ) → AreSpaces white → IsPiece white
 spaces_are_piece white all = subst IsPiece (append-nil white) (before_spaces white all piece_end)
 
+-- and so is a media type as HTTP writes it
 http_is_piece : {value : List ℕ} {media : MediaType} → HttpReads value media → IsPiece value
 http_is_piece reads =
     subst IsPiece reads.spelled
@@ -96,6 +107,7 @@ http_is_piece reads =
     (before_token reads.sub reads.is_sub (before_parameters reads.are_parameters reads.after
     (spaces_are_piece reads.after reads.white_after))))))
 
+-- a piece begins one
 begins : (text : List ℕ) → IsPiece text → BeginsPiece text
 begins text is = ([], subst IsPiece (sym (append-nil text)) is)
 
@@ -114,17 +126,20 @@ elements_are_pieces (comma text line lines texts any rest) (blank _ _ _ _ white 
 elements_are_pieces (comma text line lines texts any rest) (a_range _ _ _ _ _ utf8 reads others) =
     comma text line lines texts (http_is_piece reads) (elements_are_pieces rest others)
 
+-- a list as HTTP writes it is read as its elements
 pub http_lists_are_read : HttpListsAreRead
 http_lists_are_read lines media lists =
     record { pieces = lists.texts; cut = elements_are_pieces lists.between lists.elements; sorted = lists.elements }
 
 -- ---- and back
 
+-- pieces are texts between commas
 of_any : {lines texts : List (List ℕ)} → AreBetweenCommas IsPiece BeginsPiece lines texts → AreBetweenCommas (λ text. ⊤) (λ text. ⊤) lines texts
 of_any no_line = no_line
 of_any (line_end text lines texts begins rest) = line_end text lines texts tt (of_any rest)
 of_any (comma text line lines texts is rest) = comma text line lines texts tt (of_any rest)
 
+-- what is read with nothing bad is such a list
 pub read_are_http_lists : ReadAreHttpLists
 read_are_http_lists lines header is none = record {
   texts = is.pieces;
@@ -134,6 +149,7 @@ read_are_http_lists lines header is none = record {
 
 -- ---- pieces are sorted in one way
 
+-- no bytes are no media type,
 nothing_is_no_value : ¬ (IsAccepted [])
 nothing_is_no_value is = go is.1.tree.top _ is.1.well_formed.0 is.1.spelled
   where
@@ -141,10 +157,12 @@ nothing_is_no_value is = go is.1.tree.top _ is.1.well_formed.0 is.1.spelled
     go [] rest token e = absurd token
     go (b ∷ top) rest token e = absurd (cc)
 
+-- and so is white space, as HTTP writes it
 http_is_not_blank : {piece : List ℕ} → AreSpaces piece → ¬ (IsHttpMediaType piece)
 http_is_not_blank {piece} white is =
     nothing_is_no_value (subst IsAccepted (nothing_out at_start piece white) (accepted_from_http piece is))
 
+-- texts are sorted in one way
 one_sorting : {texts : List (List ℕ)} {ranges others : List MediaType} {bad poor : List (List ℕ)} → AreSorted texts ranges bad
     → AreSorted texts others poor → AreSame ranges others × (bad ≡ poor)
 one_sorting no_text no_text = (tt, refl)
@@ -160,11 +178,13 @@ one_sorting (a_bad text _ _ _ not_blank isnt rest) (a_range _ media _ _ _ utf8 r
 one_sorting (a_bad text _ _ _ not_blank isnt rest) (a_bad _ _ _ _ _ _ more) =
     let same = one_sorting rest more in (same.0, ap (λ x. trim_end (trim_start text) ∷ x) same.1)
 
+-- so lines are read as one header
 pub one_header : OneHeader
 one_header lines header other first second =
     let same : first.pieces ≡ second.pieces = only_cut first.cut ∙ sym (only_cut second.cut) in
     one_sorting (subst (λ pieces. AreSorted pieces header.ranges header.bad) same first.sorted) second.sorted
 
+-- a bad piece changes nothing of what follows it
 pub bad_is_alone : BadIsAlone
 bad_is_alone piece line lines header is not_blank isnt rest = record {
   pieces = piece ∷ rest.pieces;

@@ -12,7 +12,7 @@ use Rattle.mime_http.specs.Weight.{thousandths_of}
 use Rattle.mime_http.specs.Walk.{cut}
 use Rattle.mime_http.proofs.Cuts.{cut_of_piece, are_cut}
 use Rattle.std.proofs.lemmas.Bool.{true≢false}
-use Rattle.mime.proofs.GrammarLemmas.Readings.{stopped-from_walk}
+use Rattle.mime.proofs.HandedOut.{stopped-from_walk}
 use Rattle.mime_http.specs.Tight.{tight}
 use Rattle.mime_http.proofs.HttpLaws.{accepted_from_http}
 use Rattle.mime_http.proofs.Lists.{one_header, http_lists_are_read}

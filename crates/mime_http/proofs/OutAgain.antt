@@ -17,6 +17,7 @@ pub record After (bytes text : List ℕ) (to : Place) (out : List ℕ) : Type 0 
   pub split : bytes ≡ text ++ rest
   pub left : tight_from to rest ≡ out
 
+-- then the bytes go on with those that come out next
 pub and_then : {bytes xs mid ys out : List ℕ} {p q : Place} → After bytes xs p mid
     → ((rest : List ℕ) → tight_from p rest ≡ mid → After rest ys q out) → After bytes (xs ++ ys) q out
 and_then {bytes} {xs} {mid} {ys} first next =
@@ -27,6 +28,7 @@ and_then {bytes} {xs} {mid} {ys} first next =
       left = second.left;
     }
 
+-- the place may be said otherwise
 pub to_place : {bytes xs out : List ℕ} {p q : Place} → p ≡ q → After bytes xs p out → After bytes xs q out
 to_place {bytes} {xs} {out} there first = subst (λ place. After bytes xs place out) there first
 
@@ -83,6 +85,7 @@ plain_back (b ∷ bytes) x out no_space no_semicolon e = go (is_space b) refl
     go true white = absurd (spaced_other bytes x out no_space no_semicolon (rw white at e))
     go false other = kept_back Plain b bytes x out (rw other refl) e
 
+-- so does the first byte of a value
 pub equals_back : (bytes : List ℕ) (x : ℕ) (out : List ℕ) → is_space x ≡ false → (x == 59) ≡ false
     → tight_from Equals bytes ≡ x ∷ out → After bytes (x ∷ []) (place_after Equals x) out
 equals_back [] x out no_space no_semicolon e = absurd (cc)
@@ -104,6 +107,7 @@ spaced_end_back (b ∷ bytes) e = go (spaced_end_back bytes) (is_space b) refl (
     go rest false other false is =
         let both : 32 ∷ b ∷ tight_from (place_after Spaced b) bytes ≡ [] = said Spaced b bytes (32 ∷ b ∷ []) _ (rw (other, is) refl) e in absurd (cc)
 
+-- if nothing comes out after a token, there is nothing but white space
 pub plain_end_back : (bytes : List ℕ) → tight_from Plain bytes ≡ [] → AreSpaces bytes
 plain_end_back [] e = refl
 plain_end_back (b ∷ bytes) e = go (is_space b) refl
@@ -121,9 +125,11 @@ pub record AfterSpaces (bytes : List ℕ) (x : ℕ) (to : Place) (out : List ℕ
   pub split : bytes ≡ spaces ++ (x ∷ rest)
   pub left : tight_from to rest ≡ out
 
+-- there may be none,
 no_spaces : {bytes : List ℕ} {x : ℕ} {to : Place} {out : List ℕ} → After bytes (x ∷ []) to out → AfterSpaces bytes x to out
 no_spaces first = record { spaces = []; white = refl; rest = first.rest; split = first.split; left = first.left }
 
+-- or one more
 one_more : (b : ℕ) {bytes : List ℕ} {x : ℕ} {to : Place} {out : List ℕ} → is_space b ≡ true → AfterSpaces bytes x to out
     → AfterSpaces (b ∷ bytes) x to out
 one_more b white first = record {
@@ -134,6 +140,7 @@ one_more b white first = record {
   left = first.left;
 }
 
+-- a semicolon that comes out after white space was there,
 spaced_semicolon_back : (bytes out : List ℕ) → tight_from Spaced bytes ≡ 59 ∷ out → AfterSpaces bytes 59 Semicolon out
 spaced_semicolon_back [] out e = absurd (cc)
 spaced_semicolon_back (b ∷ bytes) out e = go (spaced_semicolon_back bytes out) (is_space b) refl (b == 59) refl
@@ -147,6 +154,7 @@ spaced_semicolon_back (b ∷ bytes) out e = go (spaced_semicolon_back bytes out)
         let first : ◌≡◌ {A = ℕ} 32 59 = cc in
         absurd (omega (arith, first))
 
+-- and so was one after a token, with white space before it,
 pub plain_semicolon_back : (bytes out : List ℕ) → tight_from Plain bytes ≡ 59 ∷ out → AfterSpaces bytes 59 Semicolon out
 plain_semicolon_back [] out e = absurd (cc)
 plain_semicolon_back (b ∷ bytes) out e = go (is_space b) refl
@@ -155,6 +163,7 @@ plain_semicolon_back (b ∷ bytes) out e = go (is_space b) refl
     go true white = one_more b white (spaced_semicolon_back bytes out (rw white at e))
     go false other = no_spaces (kept_back Plain b bytes 59 out (rw other refl) e)
 
+-- and the first byte of all
 pub start_back : (bytes : List ℕ) (x : ℕ) (out : List ℕ) → tight_from Start bytes ≡ x ∷ out → AfterSpaces bytes x (place_after Start x) out
 start_back [] x out e = absurd (cc)
 start_back (b ∷ bytes) x out e = go (start_back bytes x out) (is_space b) refl
@@ -170,6 +179,7 @@ start_back (b ∷ bytes) x out e = go (start_back bytes x out) (is_space b) refl
 pub after_plain_byte : {place : Place} → TakesToken place → (b : ℕ) → IsPlainByte b → place_after place b ≡ Plain
 after_plain_byte takes b is = (plain_byte takes b is).there
 
+-- a token that comes out is there,
 pub token_back : (xs bytes out : List ℕ) → AreTokenBytes xs → tight_from Plain bytes ≡ xs ++ out → After bytes xs Plain out
 token_back [] bytes out all e = record { rest = bytes; split = refl; left = e }
 token_back (x ∷ xs) bytes out all e =
@@ -187,6 +197,7 @@ value_back (x ∷ xs) bytes out token e =
     and_then (to_place (after_plain_byte of_value x is) (equals_back bytes x (xs ++ out) is.space is.semicolon e))
     (λ rest left. token_back xs rest out parts.1 left)
 
+-- and so is the content of a quoted value, with its closing quote,
 pub content_back : {content : List ℕ} → IsContent content → (bytes out : List ℕ) → tight_from Quoted bytes ≡ content ++ (34 ∷ out)
     → After bytes (content ++ (34 ∷ [])) Closed out
 content_back no_byte bytes out e = any_back Quoted (λ b. refl) bytes 34 out e
@@ -199,6 +210,7 @@ content_back (quoted_pair b content is more_content) bytes out e =
     (λ rest left. and_then (any_back Paired (λ b. refl) rest b (content ++ (34 ∷ out)) left)
     (λ rest left. content_back more_content rest out left))
 
+-- and the white space after that
 pub closed_back : (n bytes out : List ℕ) → AreSpaces n → tight_from Closed bytes ≡ n ++ out → After bytes n Closed out
 closed_back [] bytes out all e = record { rest = bytes; split = refl; left = e }
 closed_back (b ∷ n) bytes out all e =

@@ -15,6 +15,7 @@ abbrev pub place_from : Place → List ℕ → Place
 place_from place [] = place
 place_from place (b ∷ bytes) = place_from (place_after place b) bytes
 
+-- after joined bytes it is the place after the second, from the place after the first on
 pub place_from-append : (place : Place) (xs ys : List ℕ) → place_from place (xs ++ ys) ≡ place_from (place_from place xs) ys
 place_from-append place [] ys = refl
 place_from-append place (b ∷ xs) ys = place_from-append (place_after place b) xs ys
@@ -24,12 +25,15 @@ pub record Leads (from : Place) (bytes out : List ℕ) (to : Place) : Type 0 whe
   pub there : place_from from bytes ≡ to
   pub tightly : (rest : List ℕ) → tight_from from (bytes ++ rest) ≡ out ++ tight_from to rest
 
+-- nothing leads nowhere
 pub no_bytes : (place : Place) → Leads place [] [] place
 no_bytes place = record { there = refl; tightly = λ rest. refl }
 
+-- a byte adds what it adds, and leads to the place after it
 pub one : (place : Place) (b : ℕ) → Leads place (b ∷ []) (added place b) (place_after place b)
 one place b = record { there = refl; tightly = λ rest. refl }
 
+-- two that follow each other
 pub both : {p q r : Place} {xs ys out add : List ℕ} → Leads p xs out q → Leads q ys add r
     → Leads p (xs ++ ys) (out ++ add) r
 both {p} {q} {r} {xs} {ys} {out} {add} first second = record {
@@ -55,6 +59,7 @@ pub record IsPlainByte (b : ℕ) : Type 0 where
   pub quote : (b == 34) ≡ false
   pub comma : (b == 44) ≡ false
 
+-- a token byte has no role
 pub token_is_plain : (b : ℕ) → is_token_byte b ≡ true → IsPlainByte b
 unfolding is_token_byte
 token_is_plain b is = record {
@@ -79,12 +84,14 @@ plain_byte goes_on b is = so (one Plain b) (rw is.space refl) (rw (is.space, is.
 plain_byte of_value b is = so (one Equals b) (rw is.space refl) (rw (is.space, is.semicolon, is.equals, is.quote) refl)
 plain_byte of_name b is = so (one Semicolon b) (rw is.semicolon refl) (rw (is.space, is.semicolon, is.equals, is.quote) refl)
 
+-- within a token each byte comes out, and a token goes on
 walk_token : (bytes : List ℕ) → AreTokenBytes bytes → Leads Plain bytes bytes Plain
 walk_token [] all = no_bytes Plain
 walk_token (b ∷ bytes) all =
     let parts = and_parts (is_token_byte b) _ all in
     both (plain_byte goes_on b (token_is_plain b parts.0)) (walk_token bytes parts.1)
 
+-- so it does from wherever a token may be
 pub token : {place : Place} → TakesToken place → (bytes : List ℕ) → IsToken bytes → Leads place bytes bytes Plain
 token takes [] is = absurd is
 token takes (b ∷ bytes) is =
@@ -96,6 +103,7 @@ pub data KeepsSpace : Place → Type 0 where
   after_value : KeepsSpace Closed
   before_name : KeepsSpace Semicolon
 
+-- white space is no semicolon
 space_is_no_semicolon : (b : ℕ) → is_space b ≡ true → (b == 59) ≡ false
 space_is_no_semicolon b is = grind (arith, nat_tests)
 
@@ -104,16 +112,19 @@ pub space : {place : Place} → KeepsSpace place → (b : ℕ) → is_space b �
 space after_value b is = so (one Closed b) refl (rw is refl)
 space before_name b is = so (one Semicolon b) (rw (space_is_no_semicolon b is) refl) (rw is refl)
 
+-- white space that stays comes out as it is
 pub walk_spaces : {place : Place} → KeepsSpace place → (bytes : List ℕ) → AreSpaces bytes → Leads place bytes bytes place
 walk_spaces {place} kept [] all = no_bytes place
 walk_spaces kept (b ∷ bytes) all =
     let parts = and_parts (is_space b) _ all in
     both (space kept b parts.0) (walk_spaces kept bytes parts.1)
 
+-- a byte that stands in quotes as it is is neither a quote nor a backslash
 pub text_is_no_mark : (b : ℕ) → is_quoted_text_byte b ≡ true → ((b == 92) ≡ false) × ((b == 34) ≡ false)
 unfolding is_quoted_byte
 text_is_no_mark b is = (grind (arith, nat_tests), grind (arith, nat_tests))
 
+-- quoted content comes out as it is
 pub quoted_content : {bytes : List ℕ} → IsContent bytes → Leads Quoted bytes bytes Quoted
 quoted_content no_byte = no_bytes Quoted
 quoted_content (text_byte b content is rest) =
@@ -126,10 +137,12 @@ data EndsParameter : Place → Type 0 where
   in_token : EndsParameter Plain
   in_quotes : EndsParameter Closed
 
+-- and at the end of a text: after a value, or in a list
 data EndsText : Place → Type 0 where
   in_value : {place : Place} → EndsParameter place → EndsText place
   in_list : EndsText Semicolon
 
+-- a semicolon after a parameter comes out
 semicolon : {place : Place} → EndsParameter place → Leads place (59 ∷ []) (59 ∷ []) Semicolon
 semicolon in_token = one Plain 59
 semicolon in_quotes = one Closed 59
@@ -140,6 +153,7 @@ record Walk (Ends : Place → Type 0) (from : Place) (text : List ℕ) : Type 0 
   leads : Leads from text text to
   ends : Ends to
 
+-- a parameter comes out as it is,
 parameter : (it : Parameter) → IsParameter it → Walk EndsParameter Semicolon (text_of_parameter it)
 parameter (plain name value) is =
     record { to = Plain; leads = both (token of_name name is.0) (both (one Plain 61) (token of_value value is.1)); ends = in_token }
@@ -150,6 +164,7 @@ parameter (quoted name content n) is = record {
   ends = in_quotes;
 }
 
+-- and so does a list of them,
 list_walk : (list : Parameters) → AreParameters list → Walk EndsText Semicolon (text_of_list list)
 list_walk (blank n) is = record { to = Semicolon; leads = walk_spaces before_name n is; ends = in_list }
 list_walk (final n it) is =
@@ -160,12 +175,14 @@ list_walk (more n it list) is =
     let rest = list_walk list is.2 in
     record { to = rest.to; leads = both (walk_spaces before_name n is.0) (both read.leads (both (semicolon read.ends) rest.leads)); ends = rest.ends }
 
+-- what follows an essence,
 tail : (it : Tail) → IsTail it → Walk EndsText Plain (text_of_tail it)
 tail no_list is = record { to = Plain; leads = no_bytes Plain; ends = in_value in_token }
 tail (listed list) is =
     let rest = list_walk list is in
     record { to = rest.to; leads = both (one Plain 59) rest.leads; ends = rest.ends }
 
+-- and a whole text
 tree : (it : SyntaxTree) → IsWellFormed it → Walk EndsText Start (text_of it)
 tree it is =
     let rest = tail it.tail is.2 in
@@ -179,5 +196,6 @@ tree it is =
 walk_text : {text : List ℕ} {value : MediaType} → Reads text value → Walk EndsText Start text
 walk_text reads = subst (λ text. Walk EndsText Start text) reads.spelled (tree reads.tree reads.well_formed)
 
+-- so tightening leaves an accepted text as it is
 pub accepted_stays : (text : List ℕ) → IsAccepted text → tight text ≡ text
 accepted_stays text is = stays (walk_text is.1).leads

@@ -20,6 +20,7 @@ pub data IsLike : Place → Place → Type 0 where
   left_after_plain : IsLike Spaced Plain
   left_after_equals : IsLike Spaced Equals
 
+-- a quote leads to a settled place,
 after_quote_settled : (place : Place) → IsSettled (after_quote place)
 after_quote_settled Equals = tt
 after_quote_settled place = tt
@@ -34,6 +35,7 @@ outside_settled place b is = rw is (go (b == 59) (b == 61) (b == 34))
     go false false true = after_quote_settled place
     go false false false = tt
 
+-- and so does each byte within quotes,
 pub within_settled : (b : ℕ) → IsSettled (after_within b)
 within_settled b = go (b == 92) (b == 34)
   where
@@ -70,6 +72,7 @@ record Again (place : Place) (b : ℕ) (like : Place) : Type 0 where
   leads : Leads like (added place b) (added place b) to
   is_like : IsLike (place_after place b) to
 
+-- a byte that comes out is written again,
 written_again : (place : Place) (b : ℕ) → added place b ≡ b ∷ []
     → IsSettled (place_after place b) → Again place b place
 written_again place b e settled = record {
@@ -78,11 +81,13 @@ written_again place b e settled = record {
   is_like = itself _ settled;
 }
 
+-- and so is one that adds nothing
 left_out_again : (place like : Place) (b : ℕ) → added place b ≡ [] → IsLike (place_after place b) like
     → Again place b like
 left_out_again place like b e is =
     record { to = like; leads = subst (λ a. Leads like a a like) (sym e) (no_bytes like); is_like = is }
 
+-- after a quoted value, and after a semicolon
 pub kept_settled : {place : Place} → KeepsSpace place → (b : ℕ) → IsSettled (place_after place b)
 kept_settled after_value b = go (is_space b) refl
   where
@@ -95,9 +100,11 @@ kept_settled before_name b = go (is_space b) refl
     go true white = rw white tt
     go false other = outside_settled Semicolon b other
 
+-- a semicolon is no white space
 pub no_space : (b : ℕ) → (b == 59) ≡ true → is_space b ≡ false
 no_space b is = grind (arith, nat_tests)
 
+-- from a settled place each byte is written again
 settled_again : (place : Place) → IsSettled place → (b : ℕ) → Again place b place
 settled_again Spaced is b = absurd is
 settled_again Start is b = go (is_space b) refl
@@ -129,18 +136,22 @@ data LeavesSpace : Place → Type 0 where
   leaves_plain : LeavesSpace Plain
   leaves_equals : LeavesSpace Equals
 
+-- from a place after which white space is left out: a space adds nothing,
 white_held : {like : Place} → LeavesSpace like → Leads like (32 ∷ []) [] Spaced
 white_held leaves_plain = one Plain 32
 white_held leaves_equals = one Equals 32
 
+-- a semicolon adds itself,
 semicolon_written : {like : Place} → LeavesSpace like → Leads like (59 ∷ []) (59 ∷ []) Semicolon
 semicolon_written leaves_plain = one Plain 59
 semicolon_written leaves_equals = one Equals 59
 
+-- and the place is like that after the white space
 like_spaced : {like : Place} → LeavesSpace like → IsLike Spaced like
 like_spaced leaves_plain = left_after_plain
 like_spaced leaves_equals = left_after_equals
 
+-- so what a byte adds after white space that was left out is written again,
 spaced_again : {like : Place} → LeavesSpace like → (b : ℕ) → Again Spaced b like
 spaced_again {like} leaves b = go (is_space b) refl (b == 59) refl
   where
@@ -158,6 +169,7 @@ spaced_again {like} leaves b = go (is_space b) refl (b == 59) refl
           is_like = itself _ (outside_settled Spaced b other);
         }
 
+-- and from each like place
 again : {place like : Place} → IsLike place like → (b : ℕ) → Again place b like
 again (itself place settled) b = settled_again place settled b
 again left_after_plain b = spaced_again leaves_plain b
@@ -169,6 +181,7 @@ pub record Ends (place : Place) (text : List ℕ) : Type 0 where
   pub leads : Leads Start text text like
   pub is_like : IsLike place like
 
+-- byte by byte,
 ends_from : (bytes : List ℕ) (place like : Place) (out : List ℕ) → Leads Start out out like → IsLike place like
     → Ends (place_from place bytes) (out ++ tight_from place bytes)
 ends_from [] place like out leads is = subst (Ends place) (sym (append-nil out)) (record { like = like; leads = leads; is_like = is })
@@ -177,5 +190,6 @@ ends_from (b ∷ bytes) place like out leads is =
     subst (Ends (place_from (place_after place b) bytes)) (append_assoc out (added place b) (tight_from (place_after place b) bytes))
     (ends_from bytes (place_after place b) step.to (out ++ added place b) (both leads step.leads) step.is_like)
 
+-- so what comes out of a value leads to a place like the value's
 pub ends : (value : List ℕ) → Ends (place_from Start value) (tight value)
 ends value = ends_from value Start Start [] (no_bytes Start) (itself Start tt)

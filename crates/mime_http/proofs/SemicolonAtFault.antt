@@ -12,10 +12,7 @@ use Rattle.mime.specs.Faults.{IsDeadAt, Lacks, IsFault}
 use Rattle.mime.specs.Inner.Quoted.{takes, awaits_after}
 use Rattle.mime.specs.declared.scan.fault.ParseError.{ParseError}
 use Rattle.mime.specs.declared.scan.fault.ParseError.TheVariants.{InvalidToken}
-use Rattle.mime.proofs.GrammarLemmas.Begun.{Closed as ClosedParameters, Begun, in_type, in_subtype, in_list, ListState, in_spaces, in_name, in_value, in_quotes, after_quotes, grow_state, grow, walk}
-use Rattle.mime.proofs.GrammarLemmas.Faults.{completed_is_rejected}
-use Rattle.mime.proofs.GrammarLemmas.Spelling.{spelled-from_walk}
-use Rattle.mime.proofs.GrammarLemmas.Viability.{walk-from_viable, viable-from_lacks}
+use Rattle.mime.proofs.HandedOut.{ClosedParameters, Begun, in_type, in_subtype, in_list, ListState, in_spaces, in_name, in_value, in_quotes, after_quotes, grow_state, grow, walk, completed_is_rejected, spelled-from_walk, walk-from_viable, viable-from_lacks}
 use Rattle.mime_http.specs.declared.tight.Place.{Place}
 use Rattle.mime_http.specs.declared.tight.Place.TheVariants.{Start, Plain, Spaced, Equals, Quoted, Paired, Closed, Semicolon}
 use Rattle.mime_http.specs.Tight.{after_space, after_quote, after_outside, place_after, added, tight}
@@ -39,6 +36,7 @@ IsBare Equals = ⊤
 IsBare Semicolon = ⊤
 IsBare place = ⊥
 
+-- a semicolon at fault isn't in quotes or after them
 semicolon_is_bare : (before : List ℕ) (begun : Begun) → walk before ≡ Some begun → before ≢ [] → grow begun 59 ≡ None → IsBare (place_at begun)
 unfolding is_quoted_byte
 semicolon_is_bare before (in_type []) reached some stops = absurd (some (sym (spelled-from_walk before (in_type []) reached)))
@@ -70,11 +68,13 @@ after_space_bare Paired b white bare = absurd bare
 after_space_bare Semicolon b white bare = rw white refl
 after_space_bare place b white bare = absurd (subst IsBare {y = after_space place} (rw white refl) bare)
 
+-- after a semicolon outside quotes
 after_semicolon_bare : (place : Place) → IsBare (place_after place 59) → place_after place 59 ≡ Semicolon
 after_semicolon_bare Quoted bare = absurd bare
 after_semicolon_bare Paired bare = absurd bare
 after_semicolon_bare place bare = refl
 
+-- after one of either
 after_separator : (place : Place) (b : ℕ) → is_separator b ≡ true → IsBare (place_after place b) → place_after place b ≡ Semicolon
 after_separator place b is bare = go (b == 59) refl
   where
@@ -89,6 +89,7 @@ abbrev IsOther : Place → Type 0
 IsOther Semicolon = ⊥
 IsOther place = ⊤
 
+-- after such a byte
 after_other : (place : Place) (b : ℕ) → is_separator b ≡ false → IsOther (place_after place b)
 after_other place b is = go place
   where
@@ -120,11 +121,13 @@ after_other place b is = go place
     go Paired = tt
     go place = outside place
 
+-- there a semicolon comes out
 semicolon_comes_out : (place : Place) → IsSettled place → IsOther place → ComesOut place 59
 semicolon_comes_out Spaced at_rest other = absurd at_rest
 semicolon_comes_out Semicolon at_rest other = absurd other
 semicolon_comes_out place at_rest other = refl
 
+-- so it is after all bytes that end in a separator, outside quotes,
 separated : (before : List ℕ) → before ≢ [] → IsBare (place_from Start before) → ends_in_separator before ≡ true
     → place_from Start before ≡ Semicolon
 separated before some bare ends = go (snoc before) some bare ends
@@ -137,6 +140,7 @@ separated before some bare ends = go (snoc before) some bare ends
         let there = last_of front c in
         on ∙ after_separator (place_from Start front) c (rw there at ends) (subst IsBare on bare)
 
+-- and not after those that don't
 not_separated : (before : List ℕ) → ends_in_separator before ≡ false → IsOther (place_from Start before)
 not_separated before ends = go (snoc before) ends
   where
@@ -146,6 +150,7 @@ not_separated before ends = go (snoc before) ends
         let there = last_of front c in
         subst IsOther (sym (place_from-append Start front (c ∷ []))) (after_other (place_from Start front) c (rw there at ends))
 
+-- a semicolon at fault after a separator is left out,
 pub next_semicolon : (value : List ℕ) (pos b : ℕ) → IsDeadAt value pos b → b ≡ 59 → ends_in_separator (take pos value) ≡ true
     → IsLoose value pos (pos + 1) Semicolon
 next_semicolon value pos b dead is ends =
@@ -162,6 +167,7 @@ next_semicolon value pos b dead is ends =
           (ap (λ p. added p b) place ∙ ap (added Semicolon) is) (ap (λ p. place_after p b) place ∙ ap (place_after Semicolon) is);
     }
 
+-- after another byte it stands,
 pub first_semicolon : (value : List ℕ) (pos b : ℕ) → IsDeadAt value pos b → b ≡ 59 → ends_in_separator (take pos value) ≡ false
     → Stands value (InvalidToken pos b)
 first_semicolon value pos b dead is ends =
@@ -172,6 +178,7 @@ first_semicolon value pos b dead is ends =
 
 -- ---- another byte at fault, or none
 
+-- and so does each other byte
 pub other_byte : (value : List ℕ) (pos b : ℕ) → IsDeadAt value pos b → is_separator b ≡ false → Stands value (InvalidToken pos b)
 other_byte value pos b dead is =
     let cut = cut_at value pos b dead in
@@ -184,6 +191,7 @@ record Rejected (value : List ℕ) (X : Type 0) : Type 0 where
   rejected : ¬ (IsHttpMediaType value)
   also : X
 
+-- the library's fault is that of HTTP
 lacks_too : (value : List ℕ) (fault : ParseError) → Lacks value fault → Rejected value (HttpLacks value fault)
 lacks_too value fault lacks =
     let walk = walk-from_viable value (viable-from_lacks value fault lacks) in
@@ -195,6 +203,7 @@ lacks_too value fault lacks =
           (subst (λ text. Lacks text fault) (sym same) lacks);
     }
 
+-- so what is missing at the end stands
 pub stands_at_end : (value : List ℕ) (fault : ParseError) → ((pos byte : ℕ) → ¬ (fault ≡ InvalidToken pos byte)) → IsFault value fault
     → Stands value fault
 stands_at_end value (InvalidToken pos byte) other is = absurd (other pos byte refl)

@@ -11,8 +11,7 @@ use Rattle.mime.specs.Grammar.{plain, final, listed, SyntaxTree, AreSpaces, text
 use Rattle.mime.specs.Values.{MediaType, Reads, value_of, essence_of, lowered_tree}
 use Rattle.mime_http.specs.Weight.{thousandths_of}
 use Rattle.mime_http.specs.Ranges.{first_value, demanded, has}
-use Rattle.mime.proofs.LowercaseLemmas.{length-lowered}
-use Rattle.mime.proofs.GrammarLemmas.Readings.{one_reading}
+use Rattle.mime.proofs.HandedOut.{length-lowered, one_reading}
 use Rattle.mime_http.proofs.Demanded.{found_of}
 
 -- the text up to the tail, which is as long as the essence

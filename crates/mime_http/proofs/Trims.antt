@@ -42,6 +42,7 @@ trim_token (b ∷ top) rest token = rw (token_is_plain b (and_parts (is_token_by
 pub below_128 : (b : ℕ) → is_space b ≡ true → b < 128
 below_128 b is = grind (arith, nat_tests)
 
+-- and so is all of it
 white_is_ascii : (white : List ℕ) → AreSpaces white → AreAscii white
 white_is_ascii [] all = tt
 white_is_ascii (b ∷ white) all =
@@ -53,6 +54,7 @@ blank_from_trimmed piece is =
     let split = split_white piece in
     subst AreSpaces (sym (split.2 ∙ (ap (λ x. split.0 ++ x) is ∙ append-nil split.0))) split.1
 
+-- and nothing is left of white space
 pub trimmed_from_blank : (piece : List ℕ) → AreSpaces piece → trim_start piece ≡ []
 trimmed_from_blank piece all = ap trim_start (sym (append-nil piece)) ∙ trim_past piece [] all
 
@@ -72,6 +74,7 @@ utf8_before piece utf8 =
     let split = split_white piece in
     subst IsUtf8 (sym split.2) (put_ascii split.0 (trim_start piece) (white_is_ascii split.0 split.1) utf8)
 
+-- and the other way
 pub utf8_trimmed : (piece : List ℕ) → IsUtf8 piece → IsUtf8 (trim_start piece)
 utf8_trimmed piece utf8 =
     let split = split_white piece in
@@ -84,6 +87,7 @@ http_before piece media reads =
     respelled reads (split.0 ++ reads.before) media.kept (spaces-append split.0 reads.before split.1 reads.white_before)
     (append_assoc split.0 reads.before _ ∙ (ap (λ x. split.0 ++ x) reads.spelled ∙ sym split.2))
 
+-- and of what is left as of the piece
 pub http_trimmed : (piece : List ℕ) (media : MediaType) → HttpReads piece media → HttpReads (trim_start piece) media
 http_trimmed piece media reads =
     respelled reads [] media.kept refl
@@ -91,10 +95,12 @@ http_trimmed piece media reads =
 
 -- ---- at the end
 
+-- nothing is left of white space at the end
 all_trimmed : (bytes : List ℕ) → list_all is_space bytes ≡ true → trim_end bytes ≡ []
 all_trimmed [] all = refl
 all_trimmed (b ∷ bytes) all = rw all refl
 
+-- the first bytes and the next one are one more
 pub next_taken : (piece : List ℕ) (at : ℕ) → at < length piece → take at piece ++ (get_or piece at 0 ∷ []) ≡ take (at + 1) piece
 next_taken piece at within =
     let next : suc at ≡ at + 1 = omega arith in sym (take-suc piece at 0 within) ∙ ap (λ n. take n piece) next
@@ -131,16 +137,19 @@ trim_end-other (c ∷ bytes) b other =
     never_all [] = rw other refl
     never_all (d ∷ bytes) = ap (λ t. is_space d && t) (never_all bytes) ∙ nowhere (is_space d)
 
+-- the same, counted to the end
 last_taken : (piece : List ℕ) (end : ℕ) → 0 < end → end ≤ length piece → take (end - 1) piece ++ (get_or piece (end - 1) 0 ∷ []) ≡ take end piece
 last_taken piece end some within =
     let back : end - 1 + 1 ≡ end = omega (arith, some) in
     next_taken piece (end - 1) (omega (arith, some, within)) ∙ ap (λ n. take n piece) back
 
+-- so white space before an end may be taken from it,
 pub end_at_space : (piece : List ℕ) (end : ℕ) → 0 < end → end ≤ length piece → is_space (get_or piece (end - 1) 0) ≡ true
     → trim_end (take (end - 1) piece) ≡ trim_end (take end piece)
 end_at_space piece end some within white =
     sym (trim_end-space (take (end - 1) piece) (get_or piece (end - 1) 0) white) ∙ ap trim_end (last_taken piece end some within)
 
+-- and at another byte nothing is left out
 pub end_at_other : (piece : List ℕ) (end : ℕ) → 0 < end → end ≤ length piece → is_space (get_or piece (end - 1) 0) ≡ false
     → take end piece ≡ trim_end (take end piece)
 end_at_other piece end some within other =

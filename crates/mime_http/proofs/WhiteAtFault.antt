@@ -12,9 +12,7 @@ use Rattle.mime.specs.Grammar.{is_space, AreSpaces}
 use Rattle.mime.specs.Values.{IsAccepted}
 use Rattle.mime.specs.Faults.{IsViable, IsDeadAt}
 use Rattle.mime.specs.Inner.Quoted.{takes, awaits_after}
-use Rattle.mime.proofs.GrammarLemmas.Begun.{Closed as ClosedParameters, Begun, in_type, in_subtype, in_list, ListState, in_spaces, in_name, in_value, in_quotes, after_quotes, grow_state, grow, walk, walk_from, walk_by-append_some}
-use Rattle.mime.proofs.GrammarLemmas.Spelling.{spelled-from_walk}
-use Rattle.mime.proofs.GrammarLemmas.Viability.{walk-from_viable, prefix_of_viable_is_viable}
+use Rattle.mime.proofs.HandedOut.{ClosedParameters, Begun, in_type, in_subtype, in_list, ListState, in_spaces, in_name, in_value, in_quotes, after_quotes, grow_state, grow, walk, walk_from, walk_by-append_some, spelled-from_walk, walk-from_viable, prefix_of_viable_is_viable}
 use Rattle.mime_http.specs.declared.tight.Place.{Place}
 use Rattle.mime_http.specs.declared.tight.Place.TheVariants.{Start, Plain, Spaced, Equals}
 use Rattle.mime_http.specs.Tight.{place_after, added, tight_from, tight}
@@ -55,20 +53,24 @@ space_leaves before b (in_list top sub list) reached some white stops = at list.
         let goes = in_quotes_goes (awaits_after false content) in absurd (none-some _ (sym (rw goes at stops)))
     at closed (after_quotes n name content m) stops = absurd (none-some _ (sym (rw white at stops)))
 
+-- there a byte of white space adds nothing
 left_out_after : (place : Place) → LeavesSpaces place → (b : ℕ) → is_space b ≡ true → (added place b ≡ []) × (place_after place b ≡ Spaced)
 left_out_after Plain is b white = (rw white refl, rw white refl)
 left_out_after Equals is b white = (rw white refl, rw white refl)
 left_out_after place is b white = absurd is
 
+-- before the first byte white space is left out
 pub first_space : (value : List ℕ)
     → IsLoose value 0 (length value - length (trim_start value)) Start
 first_space value =
     record { within = omega arith; from_within = omega arith; tightly = after_white at_start value 0 (omega arith) }
 
+-- there are bytes before a position after the first
 some_before : (value : List ℕ) (pos : ℕ) → 0 < pos → pos < length value → take pos value ≢ []
 some_before value pos some within empty =
     omega (arith, some, within, length-take-le pos value (omega (arith, within)), ap length empty)
 
+-- white space at fault after other bytes is left out
 record LaterSpace (value : List ℕ) (pos b : ℕ) : Type 0 where
   cut : CutAt value pos b
   within : pos < length value
@@ -76,6 +78,7 @@ record LaterSpace (value : List ℕ) (pos b : ℕ) : Type 0 where
   nothing : added (place_from Start (take pos value)) b ≡ []
   next : place_after (place_from Start (take pos value)) b ≡ Spaced
 
+-- it is, wherever it is at fault
 later : (value : List ℕ) (pos b : ℕ) → IsDeadAt value pos b → 0 < pos → is_space b ≡ true → LaterSpace value pos b
 later value pos b dead some white =
     let cut = cut_at value pos b dead in
@@ -85,6 +88,7 @@ later value pos b dead some white =
     let out = left_out_after (place_from Start (take pos value)) (subst LeavesSpaces (sym (there fault)) leaves) b white in
     record { cut = cut; within = within; leaves = leaves; nothing = out.0; next = out.1 }
 
+-- so those bytes come out as they are, and the rest as after white space
 pub later_space : (value : List ℕ) (pos b : ℕ) → IsDeadAt value pos b → 0 < pos → is_space b ≡ true
     → IsLoose value pos (length value - length (trim_start (drop (pos + 1) value))) Spaced
 later_space value pos b dead some white =
@@ -98,6 +102,7 @@ later_space value pos b dead some white =
 
 -- ---- what follows white space
 
+-- bytes have a first one
 some_first : (xs : List ℕ) → 0 < length xs → (c : ℕ) × (more : List ℕ) × (xs ≡ c ∷ more)
 some_first [] some = absurd (omega (arith, some))
 some_first (c ∷ more) some = (c, more, refl)
@@ -199,6 +204,7 @@ module _ (value : List ℕ) (pos b : ℕ) (space : LaterSpace value pos b) where
       after = dead_after;
     }
 
+-- if no semicolon follows, what comes out is what stands before the white space
 pub begins : (value : List ℕ) (pos b : ℕ) → IsDeadAt value pos b → 0 < pos → is_space b ≡ true
     → begins_with_semicolon (trim_start (drop (pos + 1) value)) ≡ false
     → Begins value pos (length value - length (trim_start (drop (pos + 1) value)))

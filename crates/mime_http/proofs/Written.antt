@@ -9,12 +9,12 @@ use Rattle.mime.specs.Grammar.{Parameter, plain, quoted, Parameters, final, more
 use Rattle.mime.specs.HeaderLaws.{IsSafePair, IsSafe}
 use Rattle.mime.specs.Values.{MediaType, Reads, lowered, lowered_value, lowered_parameter, lowered_list, lowered_tree, kept_text, pair_of, pairs_of_list, pairs_of_tail, last_plus}
 use Rattle.mime.specs.Inner.KeptText.{lowered_pair, IsLowPair}
-use Rattle.mime.proofs.LawsLemmas.Written.{essence_is_read}
-use Rattle.mime.proofs.LowercaseLemmas.{lowered-lowered, length-lowered, list_all-lowered, IsToken-lowered, lowered_value-either, lowered_value-lowered, pairs_of_tail-lowered}
+use Rattle.mime.proofs.HandedOut.{essence_is_read, lowered-lowered, length-lowered, list_all-lowered, IsToken-lowered, lowered_value-either, lowered_value-lowered, pairs_of_tail-lowered}
 use Rattle.mime_http.specs.Written.{is_token_value, text_of_pair, text_of_pairs, others, with_pairs, with_pair}
 
 -- ---- one parameter
 
+-- a pair is written as a token or in quotes
 parameter_of : List ℕ × List ℕ → Parameter
 parameter_of pair = cond (is_token_value pair.1) (plain pair.0 pair.1) (quoted pair.0 pair.1 [])
 
@@ -28,14 +28,17 @@ parameter_text (name, value) = ap (λ rest. 59 ∷ 32 ∷ rest) (by_test (is_tok
     by_test true = ap (λ rest. name ++ (61 ∷ rest)) (sym (append-nil value))
     by_test false = refl
 
+-- the test for a token holds for tokens,
 pub token_from_test : (value : List ℕ) → is_token_value value ≡ true → IsToken value
 token_from_test [] is = absurd cc
 token_from_test (b ∷ value) is = is
 
+-- and for no others
 pub test_from_token : (value : List ℕ) → IsToken value → is_token_value value ≡ true
 test_from_token [] is = absurd is
 test_from_token (b ∷ value) is = is
 
+-- a safe pair is written as a parameter,
 parameter_fine : (pair : List ℕ × List ℕ) → IsSafePair pair → IsParameter (parameter_of pair)
 unfolding parameter_of
 parameter_fine (name, value) (named, is) =
@@ -47,6 +50,7 @@ unfolding is_token_byte
 test-lowered [] = refl
 test-lowered (b ∷ value) = list_all-lowered is_token_byte (λ x. grind (arith, nat_tests)) (b ∷ value)
 
+-- in lowercase as the pair in lowercase,
 parameter-lowered : (pair : List ℕ × List ℕ) → lowered_parameter (parameter_of pair) ≡ parameter_of (lowered_pair pair)
 unfolding parameter_of
 parameter-lowered (name, value) =
@@ -58,6 +62,7 @@ parameter-lowered (name, value) =
       | false ↦ refl
     ])
 
+-- and is read as itself
 parameter_pair : (pair : List ℕ × List ℕ) → pair_of (parameter_of pair) ≡ pair
 unfolding parameter_of
 parameter_pair (name, value) =
@@ -65,10 +70,12 @@ parameter_pair (name, value) =
 
 -- ---- a list of one or more
 
+-- pairs are written as a list
 list_of : List ℕ × List ℕ → List (List ℕ × List ℕ) → Parameters
 list_of pair [] = final (32 ∷ []) (parameter_of pair)
 list_of pair (next ∷ pairs) = more (32 ∷ []) (parameter_of pair) (list_of next pairs)
 
+-- its text is theirs,
 list_text : (pair : List ℕ × List ℕ) (pairs : List (List ℕ × List ℕ)) → 59 ∷ text_of_list (list_of pair pairs) ≡ text_of_pairs (pair ∷ pairs)
 unfolding list_of
 list_text pair [] = parameter_text pair ∙ sym (append-nil (text_of_pair pair))
@@ -76,17 +83,20 @@ list_text pair (next ∷ pairs) =
     ap (λ rest. 59 ∷ 32 ∷ (text_of_parameter (parameter_of pair) ++ rest)) (list_text next pairs)
     ∙ ap (λ text. text ++ text_of_pairs (next ∷ pairs)) (parameter_text pair)
 
+-- it is well-formed if they are safe,
 list_fine : (pair : List ℕ × List ℕ) (pairs : List (List ℕ × List ℕ)) → AllByRecursion IsSafePair (pair ∷ pairs) → AreParameters (list_of pair pairs)
 unfolding list_of
 list_fine pair [] (is, all) = (refl, parameter_fine pair is)
 list_fine pair (next ∷ pairs) (is, all) = (refl, parameter_fine pair is, list_fine next pairs all)
 
+-- in lowercase it is that of theirs,
 list-lowered : (pair : List ℕ × List ℕ) (pairs : List (List ℕ × List ℕ))
     → lowered_list (list_of pair pairs) ≡ list_of (lowered_pair pair) (map lowered_pair pairs)
 unfolding list_of
 list-lowered pair [] = ap (final (32 ∷ [])) (parameter-lowered pair)
 list-lowered pair (next ∷ pairs) = cc (parameter-lowered pair, list-lowered next pairs)
 
+-- and it is read as them
 list_pairs : (pair : List ℕ × List ℕ) (pairs : List (List ℕ × List ℕ)) → pairs_of_list (list_of pair pairs) ≡ pair ∷ pairs
 unfolding list_of
 list_pairs pair [] = ap (λ p. p ∷ []) (parameter_pair pair)
@@ -94,6 +104,7 @@ list_pairs pair (next ∷ pairs) = cc (parameter_pair pair, list_pairs next pair
 
 -- ---- an essence with parameters after it is read as the value with them
 
+-- so an essence and pairs are read as they are written
 pub written_is_read : (text : List ℕ) (value : MediaType) (pairs : List (List ℕ × List ℕ)) → Reads text value
     → AllByRecursion IsSafePair pairs → Reads (value.essence ++ text_of_pairs pairs) (with_pairs value (map lowered_pair pairs))
 written_is_read text value [] reads safe =
@@ -157,9 +168,11 @@ all_others P name (first ∷ pairs) pair all last =
     cond_both (not (bytes_eq (lowered first.0) (lowered name))) _ _ (λ ps. AllByRecursion P (ps ++ (pair ∷ [])))
     (λ other. (all.0, all_others P name pairs pair all.1 last)) (λ same. all_others P name pairs pair all.1 last)
 
+-- a pair in lowercase stays so,
 low_pair : (pair : List ℕ × List ℕ) → IsLowPair (lowered_pair pair)
 low_pair (name, value) = cc (lowered-lowered name, lowered_value-lowered name value)
 
+-- and so do several
 low_pairs : (pairs : List (List ℕ × List ℕ)) → AllByRecursion IsLowPair (map lowered_pair pairs)
 low_pairs [] = tt
 low_pairs (pair ∷ pairs) = (low_pair pair, low_pairs pairs)
@@ -170,6 +183,7 @@ pairs_are_low text value reads =
     subst (λ (v : MediaType). AllByRecursion IsLowPair v.pairs) reads.valued
     (subst (AllByRecursion IsLowPair) (sym (pairs_of_tail-lowered reads.tree.tail)) (low_pairs (pairs_of_tail reads.tree.tail)))
 
+-- pairs of other names stay as they are, before the new one
 others_stay : (name : List ℕ) (pairs : List (List ℕ × List ℕ)) (pair : List ℕ × List ℕ) → AllByRecursion IsLowPair pairs
     → map lowered_pair (others name pairs ++ (pair ∷ [])) ≡ others (lowered name) pairs ++ (lowered_pair pair ∷ [])
 others_stay name pairs pair all =

@@ -10,6 +10,7 @@ use Rattle.mime_http.specs.Boundary.{IsBoundary, IsBoundaryOf}
 use Rattle.mime_http.specs.Unescaped.{unescaped}
 use Rattle.mime_http.specs.Written.{escaped, is_token_value, text_of_pair, text_of_pairs, others, with_pairs, with_pair}
 
+-- bytes that aren't equal differ
 differ : (first second : List ℕ) → bytes_eq first second ≡ false → first ≢ second
 differ first second is same = true≢false (sym ((bytes_eq-Decides first second).1 same) ∙ is)
 
@@ -42,6 +43,7 @@ page : MediaType
 page = with_pairs (record { essence = codes "text/html"; slash = 4; plus = None; pairs = []; kept = [] })
     ((codes "charset", codes "utf-8") ∷ (codes "p", codes "1") ∷ (codes "q", codes "a b") ∷ (codes "p", codes "2") ∷ [])
 
+-- the page is written with all its pairs, and no pair as nothing
 all_written : (page.kept ≡ codes "text/html; charset=utf-8; p=1; q=\"a b\"; p=2") × (text_of_pairs [] ≡ [])
 unfolding is_token_byte page
 all_written = (refl, refl)
@@ -72,6 +74,7 @@ parts : MediaType
 parts = with_pairs (record { essence = codes "multipart/mixed"; slash = 9; plus = None; pairs = []; kept = [] })
     ((codes "boundary", codes "a b") ∷ (codes "boundary", codes "c") ∷ [])
 
+-- the boundary of the parts is `a b`, and no other
 boundary_of : IsBoundaryOf parts (codes "a b") × ¬ (IsBoundaryOf parts (codes "c"))
     × ¬ (IsBoundaryOf (record parts { essence = codes "text/plain"; slash = 4 }) (codes "a b"))
     × ¬ (IsBoundaryOf (record parts { pairs = (codes "boundary", codes "a ") ∷ [] }) (codes "a "))

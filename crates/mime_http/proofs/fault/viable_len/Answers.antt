@@ -13,11 +13,13 @@ use Rattle.mime_http.proofs.HowFar.{Stops, stops, unspaced, goes, boundary}
 use Rattle.mime_http.proofs.HttpFaults.{FaultAt, fault_here, fault_before}
 use Rattle.mime_http.proofs.fault.viable_len.Goals as goal
 
+-- how far the value goes before its fault,
 stopped : (value text : List ℕ) (fault : ParseError) (limit : ℕ) (reach : Reach) → text ≡ tight value → limit ≡ limit_of text fault
     → reach ≡ reach_from (start limit) value → Stops value (limit_of (tight value) fault) reach
 stopped value text fault limit reach same bound there =
     subst (λ n. Stops value n reach) (bound ∙ ap (λ t. limit_of t fault) same) (subst (Stops value limit) (sym there) (stops value limit))
 
+-- and what comes out of it so far
 came_out : (value text : List ℕ) (fault : ParseError) (limit : ℕ) (reach : Reach) → text ≡ tight value → limit ≡ limit_of text fault
     → (stop : Stops value (limit_of (tight value) fault) reach) → take (limit - reach.left) text ≡ tight stop.front
 came_out value text fault limit reach same bound stop =
@@ -33,6 +35,7 @@ ends value text fault limit reach same bound there is accepted =
     fault_here value fault reach (subst (λ t. IsFault t fault) same is) stop
     (inr (subst IsAccepted (came_out value text fault limit reach same bound stop) accepted))
 
+-- where it may not end
 ends_not : (value text : List ℕ) (fault : ParseError) (limit : ℕ) (reach : Reach) → text ≡ tight value → limit ≡ limit_of text fault
     → reach ≡ reach_from (start limit) value → IsFault text fault → reach.place ≡ Spaced → ¬ (IsAccepted (take (limit - reach.left) text))
     → FaultAt value fault reach.settled

@@ -4,7 +4,7 @@ use Rattle.std.specs.Prelude.{Result, Ok, Err, IfOk}
 use Rattle.mime.specs.Grammar.{IsToken}
 use Rattle.mime.specs.HeaderLaws.{AreHeaderBytes, IsSafe}
 use Rattle.mime.specs.Values.{MediaType, Reads, lowered, lowered_value}
-use Rattle.mime.proofs.LowercaseLemmas.{lowered-lowered}
+use Rattle.mime.proofs.HandedOut.{lowered-lowered}
 use Rattle.mime_http.specs.Forms.{form_of, text_in}
 use Rattle.mime_http.specs.Written.{escaped, text_of_pairs, others, with_pair}
 use Rattle.mime_http.specs.declared.quoted.Form.{Form}

@@ -20,6 +20,7 @@ record FaultAt (value : List ℕ) (fault : ParseError) (pos byte : ℕ) : Type 0
   dead : IsDeadAt value pos byte
   here : get_or value pos 0 ≡ byte
 
+-- so it does
 fault_at : (value : List ℕ) (fault : ParseError) (pos byte : ℕ) → IsFault value fault → fault ≡ InvalidToken pos byte → FaultAt value fault pos byte
 fault_at value fault pos byte at is =
     let dead : IsDeadAt value pos byte = subst (IsFault value) is at in

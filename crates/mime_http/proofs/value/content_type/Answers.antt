@@ -17,6 +17,7 @@ use Rattle.mime_http.proofs.HttpLaws.{plain_is_http}
 use Rattle.mime_http.proofs.Rejections.{fault_explains}
 use Rattle.mime_http.proofs.value.content_type.Goals as goal
 
+-- `*/*` is in UTF-8
 star : IsUtf8 (42 ∷ 47 ∷ 42 ∷ [])
 star =
     IsUtf8-from_ascii (42 ∷ 47 ∷ 42 ∷ []) (IsAscii-cons 42 (47 ∷ 42 ∷ []) (omega arith) (IsAscii-cons 47 (42 ∷ []) (omega arith)

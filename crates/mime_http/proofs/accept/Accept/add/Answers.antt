@@ -15,9 +15,11 @@ use Rattle.mime_http.proofs.HttpLaws.{plain_is_http}
 use Rattle.mime_http.proofs.Trims.{trimmed_from_blank, trim_twice}
 use Rattle.mime_http.proofs.accept.Accept.add.Goals as goal
 
+-- if bytes aren't empty there are some
 some_left : (trimmed : List ℕ) (empty : Bool) → empty ≡ (length trimmed == 0) → empty ≡ false → ¬ (trimmed ≡ [])
 some_left trimmed empty tells some none = true≢false (sym (tells ∙ eq-eqb (length trimmed) 0 (ap length none)) ∙ some)
 
+-- so a piece of which some are left isn't white space
 never_blank : (piece trimmed : List ℕ) (empty : Bool) → trimmed ≡ trim_start piece → empty ≡ (length trimmed == 0) → empty ≡ false → ¬ (AreSpaces piece)
 never_blank piece trimmed empty is tells some white = some_left trimmed empty tells some (is ∙ trimmed_from_blank piece white)
 

@@ -15,9 +15,11 @@ use Rattle.mime_http.proofs.Highest.{item_left}
 use Rattle.mime_http.proofs.accept.Accept.from_lines.Goals as goal
 use Rattle.mime_http.proofs.accept.Accept.from_lines.Goals.{then-is_empty+in_ok-add, else-is_empty}
 
+-- a header without ranges and bad entries
 abbrev nothing : Header
 nothing = record { ranges = []; bad = [] }
 
+-- such is one with neither
 is_nothing : (start : Header) → start.ranges ≡ [] → start.bad ≡ [] → start ≡ nothing
 is_nothing start ranges bad = λ i. record { ranges = ranges i; bad = bad i }
 
