@@ -1,11 +1,12 @@
 -- What the ranges of an `Accept` header give a media type, and which offer is the best (RFC 9110, 12.4.2 and 12.5.1).
-use Rattle.std.specs.Prelude.{◌≡◌, ◌⊎◌, ◌↔◌, ◌<◌, ℕ, ◌-◌, Bool, List, ◌++◌, length, Option, Some, None, IsTrue, Contains, option_map, unwrap_or, map, filter, find, fold, position, slice_index_or, not, if◌then◌else◌, ◌==◌, codes}
-use Rattle.std.specs.List.{list_all, enumerate_from, AllPairs}
-use Rattle.std.specs.Option.{option_eq, option_cmp}
+use Rattle.std.specs.Prelude.{◌≡◌, ◌⊎◌, ◌↔◌, ◌<◌, ℕ, ◌-◌, Bool, List, ◌++◌, length, Option, Some, None, IsTrue, Contains, option_map, unwrap_or, map, filter, find, fold, position, slice_index_or, not, ◌&&◌, if◌then◌else◌, ◌==◌, codes}
+use Rattle.std.specs.List.{list_all, list_any, enumerate_from, AllPairs}
+use Rattle.std.specs.Option.{option_cmp}
 use Rattle.std.specs.Ordering.{is_gt, nat_cmp, on, then_cmp, eq_by_cmp, ord_max}
 use Rattle.std.specs.Str.{bytes_eq}
 use Rattle.std.specs.declared.cmp.Ordering.{Ordering}
 use Rattle.mime.specs.Values.{MediaType, type_of}
+use Rattle.mime_http.specs.Unescaped.{unescaped}
 use Rattle.mime_http.specs.Weight.{thousandths_of}
 
 -- the first value under a name, if there is one
@@ -23,12 +24,13 @@ named_parts range offer =
     if bytes_eq range.essence (type_of offer ++ codes "/*") then Some 1 else
     if bytes_eq range.essence offer.essence then Some 2 else None
 
--- a range's parameters other than its weight, which an offer must have, with the same values
+-- a range's parameters other than its weight, before it and after it, each of which an offer must have
 abbrev pub demanded : List (List ℕ × List ℕ) → List (List ℕ × List ℕ)
 demanded pairs = filter (λ pair. not (bytes_eq pair.0 (codes "q"))) pairs
 
+-- an offer has a parameter if one of its own has the name, and a value that means the same (5.6.4). Only that of a charset is in lowercase
 abbrev pub has : MediaType → List ℕ × List ℕ → Bool
-has offer pair = option_eq bytes_eq (first_value pair.0 offer.pairs) (Some pair.1)
+has offer pair = list_any (λ own. bytes_eq own.0 pair.0 && bytes_eq (unescaped own.1) (unescaped pair.1)) offer.pairs
 
 -- numbers of four places, of which the first that differ decide
 abbrev pub Rank : Type 0

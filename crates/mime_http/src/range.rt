@@ -7,6 +7,7 @@ ghost use Rattle.mime.specs.Values.{Reads};
 ghost use Rattle.mime_http.specs.Weight.{thousandths_of};
 ghost use Rattle.mime_http.specs.Ranges.{first_value, weight_of, named_parts, demanded, has, closeness};
 
+use crate::meaning::mean_the_same;
 use crate::weights::{tenths, thousandths};
 use mime::{Mime, Name, ParamKey};
 
@@ -88,14 +89,16 @@ pub(crate) fn named_parts(range: &Mime, essence: &str, type_: &str) -> Option<u8
     }
 }
 
-/// Whether an offer has a parameter, with the same value.
+/// Whether an offer has a parameter of this name, with a value that means the same.
 fn has(offer: &Mime, name: &str, value: &str) -> bool
     ensures { result ≡ has offer.now.media (name.now, value.now) }
 {
-    match first_value(offer, name) {
-        Some(found) => found.text == value,
-        None => false,
+    for (own, own_value) in offer.params() {
+        if own.text == name && mean_the_same(own_value.text, value) {
+            return true;
+        }
     }
+    false
 }
 
 /// How many parameters a media type has.

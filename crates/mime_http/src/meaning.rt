@@ -1,0 +1,51 @@
+//! Do two values mean the same?
+
+ghost use Rattle.std.specs.Prelude.{◌≡◌, ◌<◌, [], ◌∷◌, IfSome, MatchOption, bytes_eq, length};
+ghost use Rattle.mime_http.specs.Unescaped.{unescaped};
+
+/// The first byte that a value means, and what is left after it.
+#[inline(always)]
+fn split_first(value: &[u8]) -> Option<(u8, &[u8])>
+    ensures meant { MatchOption result (unescaped value.now ≡ []) (λ first. unescaped value.now ≡ first.0 ∷ unescaped first.1.now) }
+    ensures shorter { IfSome result (λ first. length first.1.now < length value.now) }
+{
+    match value {
+        [b'\\', byte, rest @ ..] => Some((*byte, rest)),
+        [b'\\'] | [] => None,
+        [byte, rest @ ..] => Some((*byte, rest)),
+    }
+}
+
+/// Whether two values mean the same, of which one has a backslash. It isn't inlined: few have.
+#[inline(never)]
+fn mean_the_same_bytes(value: &[u8], other: &[u8]) -> bool
+    ensures { result ≡ bytes_eq (unescaped value.now) (unescaped other.now) }
+{
+    let mut left = value;
+    let mut other_left = other;
+    while let Some((byte, rest)) = split_first(left) {
+        match split_first(other_left) {
+            Some((other_byte, other_rest)) if byte == other_byte => {
+                left = rest;
+                other_left = other_rest;
+            }
+            _ => return false,
+        }
+    }
+    split_first(other_left).is_none()
+}
+
+/// Whether two values of parameters mean the same: a backslash and the byte after it mean that byte (RFC 9110, 5.6.4). It allocates
+/// nothing.
+pub(crate) fn mean_the_same(value: &str, other: &str) -> bool
+    ensures { result ≡ bytes_eq (unescaped value.now) (unescaped other.now) }
+{
+    if value == other {
+        return true;
+    }
+    // Two values without backslashes mean themselves.
+    if !value.contains('\\') && !other.contains('\\') {
+        return false;
+    }
+    mean_the_same_bytes(value.as_bytes(), other.as_bytes())
+}
