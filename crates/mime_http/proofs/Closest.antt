@@ -1,20 +1,15 @@
 -- The highest of a list is one of it, and none is higher; so the closest range is the closest.
-use Rattle.std.proofs.Common.{◌≡◌, ◌∙◌, ◌<◌, ◌⊎◌, inl, inr, refl, sym, ap, subst, arith, ⊎_elim, ℕ, zero, suc, Bool, true, false, List, [], ◌∷◌, map, Option, Some, None, is_some}
-use Rattle.std.specs.Prelude.{fold, if◌then◌else◌, Contains, MatchOption}
-use Rattle.std.specs.List.{enumerate_from}
-use Rattle.std.specs.Option.{option_cmp}
+use Rattle.std.proofs.Common.{◌≡◌, ◌∙◌, ◌<◌, ◌⊎◌, inl, inr, refl, sym, ap, subst, arith, ⊎_elim, ℕ, zero, suc, Bool, true, false, List, [], ◌∷◌, map}
+use Rattle.std.specs.Prelude.{fold, if◌then◌else◌, Contains}
 use Rattle.std.specs.Ordering.{is_lt, is_gt, ord_max, nat_cmp, ordering_then, MatchOrdering}
 use Rattle.std.specs.declared.cmp.Ordering.{Ordering}
 use Rattle.std.specs.declared.cmp.Ordering.TheVariants.{Less, Equal, Greater}
 use Rattle.std.specs.Cmp.{IsTotalOrder}
-use Rattle.std.specs.Cmp.Lexicographic.{options_total}
 use Rattle.std.proofs.lemmas.Bool.{true≢false}
 use Rattle.std.proofs.lemmas.Cmp.{ranked, upto, tied_itself}
-use Rattle.mime.specs.Values.{MediaType}
-use Rattle.mime_http.specs.Ranges.{Rank, rank_cmp, closeness, closest}
-use Rattle.mime_http.specs.RangesLaws.{IsAtMost, ClosestIsClosest}
+use Rattle.mime_http.specs.Ranges.{Rank, rank_cmp}
+use Rattle.mime_http.specs.RangesLaws.{IsAtMost}
 use Rattle.mime_http.proofs.Highest.{least}
-use Rattle.mime_http.proofs.Ranks.{ranks_total, one_rank}
 
 -- an item of a longer list, and of a mapped one
 pub in_more : {X : Type 0} (y : X) (xs : List X) (x : X) → Contains xs x → Contains (y ∷ xs) x
@@ -82,52 +77,3 @@ pub at_most : (x y : Rank) → is_gt (rank_cmp x y) ≡ false → IsAtMost x y
 at_most x y low =
     at_most_by x y (nat_cmp x.0 y.0) (nat_cmp x.1 y.1) (nat_cmp x.2 y.2) (nat_cmp x.3 y.3) (ranks x.0 y.0) (ranks x.1 y.1) (ranks x.2 y.2)
     (ranks x.3 y.3) low
-
-one_closeness : (x y : Option Rank) → option_cmp rank_cmp x y ≡ Equal → x ≡ y
-one_closeness None None is = refl
-one_closeness None (Some y) is = absurd (true≢false (ap is_lt is))
-one_closeness (Some x) None is = absurd (true≢false (ap is_gt is))
-one_closeness (Some x) (Some y) is = ap Some (one_rank x y is)
-
-none_by : (x : Option Rank) → is_gt (option_cmp rank_cmp x None) ≡ false → x ≡ None
-none_by None low = refl
-none_by (Some x) low = absurd (true≢false low)
-
-module _ (ranges : List MediaType) (offer : MediaType) where
-  -- no range is closer than the closest
-  none_is_closer : (item : ℕ × MediaType) → Contains (enumerate_from 0 ranges) item
-      → is_gt (option_cmp rank_cmp (closeness offer item) (closest ranges offer)) ≡ false
-  none_is_closer item there =
-      none_is_higher (options_total ranks_total) one_closeness None (map (closeness offer) (enumerate_from 0 ranges)) (closeness offer item)
-      (in_mapped (closeness offer) (enumerate_from 0 ranges) item there)
-
-  when_none : closest ranges offer ≡ None → (item : ℕ × MediaType) → Contains (enumerate_from 0 ranges) item → closeness offer item ≡ None
-  when_none is item there =
-      none_by (closeness offer item)
-      (subst (λ top. is_gt (option_cmp rank_cmp (closeness offer item) top) ≡ false) is (none_is_closer item there))
-
-  when_some : (close : Rank) → closest ranges offer ≡ Some close
-      → ((item : ℕ × MediaType) × Contains (enumerate_from 0 ranges) item × (closeness offer item ≡ Some close))
-      × ((item : ℕ × MediaType) (other : Rank) → Contains (enumerate_from 0 ranges) item → closeness offer item ≡ Some other
-      → IsAtMost other close)
-  when_some close is = (
-    ⊎_elim
-        (λ none. absurd (true≢false (ap is_some (sym is ∙ none))))
-        (λ there. of_mapped (closeness offer) (enumerate_from 0 ranges) (Some close)
-        (subst (Contains (map (closeness offer) (enumerate_from 0 ranges))) is there))
-        (highest_is_there (options_total ranks_total) None (map (closeness offer) (enumerate_from 0 ranges))),
-    λ item other there covers. at_most other close
-        (subst (λ o. is_gt (option_cmp rank_cmp o (Some close)) ≡ false) covers
-        (subst (λ top. is_gt (option_cmp rank_cmp (closeness offer item) top) ≡ false) is (none_is_closer item there))),
-  )
-
-pub closest_is_closest : ClosestIsClosest
-closest_is_closest ranges offer =
-    elim (closest ranges offer) as (λ o. closest ranges offer ≡ o → MatchOption o
-    ((item : ℕ × MediaType) → Contains (enumerate_from 0 ranges) item → closeness offer item ≡ None)
-    (λ close. ((item : ℕ × MediaType) × Contains (enumerate_from 0 ranges) item × (closeness offer item ≡ Some close))
-    × ((item : ℕ × MediaType) (other : Rank) → Contains (enumerate_from 0 ranges) item → closeness offer item ≡ Some other
-    → IsAtMost other close))) [
-      | None ↦ when_none ranges offer
-      | Some close ↦ when_some ranges offer close
-    ] refl

@@ -1,6 +1,6 @@
 -- The content of quoted strings: what is written for a value, and what needs no backslash.
 use Rattle.std.proofs.Common.{◌≡◌, ◌≢◌, ◌∙◌, ◌==◌, ◌<◌, ◌≤◌, ℕ, zero, suc, Bool, true, false, List, [], ◌∷◌, ◌++◌, arith, refl, sym, ap, ap₂, cond, ⊎_elim, append-nil, append_assoc, ◌+◌, ◌*◌, get_or, length, take, drop}
-use Rattle.std.specs.Prelude.{◌||◌, ◌&&◌, nat_le, nat_lt}
+use Rattle.std.specs.Prelude.{◌||◌, ◌&&◌, not, if◌then◌else◌, nat_le, nat_lt}
 use Rattle.std.specs.Char.{to_ascii_lowercase}
 use Rattle.std.specs.List.{list_all}
 use Rattle.std.proofs.Math.Seq.{take-length, drop-length, take-append-add, drop-append-add}
@@ -14,7 +14,7 @@ use Rattle.mime.specs.HeaderLaws.{AreHeaderBytes}
 use Rattle.mime.specs.Values.{lowered, is_charset}
 use Rattle.mime.proofs.HandedOut.{AreTokenBytes-from_token, high_bytes}
 use Rattle.mime_http.specs.Boundary.{is_bchar, IsBoundary}
-use Rattle.mime_http.specs.Unescaped.{unescaped, unescaped_from}
+use Rattle.mime_http.specs.Unescaped.{unescaped}
 use Rattle.mime_http.specs.Written.{escaped_byte, escaped, WrittenIsMeant}
 use lib.Utf8.{scalar, encode, encodes}
 
@@ -81,6 +81,26 @@ escaped-lowered (b ∷ bytes) low =
     cond_both (is_special b) (92 ∷ b ∷ []) (b ∷ []) (λ xs. lowered (xs ++ escaped bytes) ≡ xs ++ escaped bytes)
     (λ special. ap₂ (λ c cs. 92 ∷ c ∷ cs) same rest) (λ plain. ap₂ (λ c cs. c ∷ cs) same rest)
 
+-- a byte other than a backslash means itself
+plain_first : (b : ℕ) (bytes : List ℕ) → (b == 92) ≡ false → unescaped (b ∷ bytes) ≡ b ∷ unescaped bytes
+plain_first b [] other = rw other refl
+plain_first b (c ∷ bytes) other = rw other refl
+
+-- what the rest of a value means byte by byte, after a backslash that begins a pair, or not
+abbrev pub unescaped_from : Bool → List ℕ → List ℕ
+unescaped_from paired [] = []
+unescaped_from paired (b ∷ bytes) = if not paired && b == 92 then unescaped_from true bytes else b ∷ unescaped_from false bytes
+
+pub unescaped_is : (bytes : List ℕ) → unescaped bytes ≡ unescaped_from false bytes
+unescaped_is [] = refl
+unescaped_is (b ∷ []) = refl
+unescaped_is (b ∷ c ∷ bytes) =
+    elim (b == 92) as (λ begins. (if begins then c ∷ unescaped bytes else b ∷ unescaped (c ∷ bytes))
+    ≡ (if begins then unescaped_from true (c ∷ bytes) else b ∷ unescaped_from false (c ∷ bytes))) [
+      | true ↦ ap (λ rest. c ∷ rest) (unescaped_is bytes)
+      | false ↦ ap (λ rest. b ∷ rest) (unescaped_is (c ∷ bytes))
+    ]
+
 -- they mean themselves
 pub unescaped_before : (bytes : List ℕ) (at : ℕ) → at ≤ length bytes → ((i : ℕ) → i < at → get_or bytes i 0 ≢ 92)
     → unescaped bytes ≡ take at bytes ++ unescaped (drop at bytes)
@@ -88,7 +108,8 @@ unescaped_before bytes zero within none = refl
 unescaped_before [] (suc at) within none = refl
 unescaped_before (b ∷ bytes) (suc at) within none =
     let other : (b == 92) ≡ false = false_from_ne_true _ (λ is. none 0 (omega arith) (eqb-true b 92 is)) in
-    rw other (ap (λ rest. b ∷ rest) (unescaped_before bytes at (omega (arith, within)) (λ i below. none (suc i) (omega (arith, below)))))
+    plain_first b bytes other
+    ∙ ap (λ rest. b ∷ rest) (unescaped_before bytes at (omega (arith, within)) (λ i below. none (suc i) (omega (arith, below))))
 
 -- without a backslash all do
 pub unescaped_same : (bytes : List ℕ) → ((i : ℕ) → i < length bytes → get_or bytes i 0 ≢ 92) → unescaped bytes ≡ bytes
@@ -116,22 +137,25 @@ boundary_means_itself bytes is = go bytes is.all
     go (b ∷ bytes) all =
         let parts = and_parts (is_bchar b) (list_all is_bchar bytes) all in
         let other : (b == 92) ≡ false = grind (arith, nat_tests, parts.0) in
-        rw other (ap (λ rest. b ∷ rest) (go bytes parts.1))
+        plain_first b bytes other ∙ ap (λ rest. b ∷ rest) (go bytes parts.1)
 
 -- ---- how long a meaning is
 
 -- two bytes stand for each at most, and a backslash at the end for none
-length-unescaped_from : (bytes : List ℕ)
-    → (length bytes ≤ 2 * length (unescaped bytes) + 1) × (length bytes ≤ 2 * length (unescaped_from true bytes))
-length-unescaped_from [] = (omega arith, omega arith)
-length-unescaped_from (b ∷ bytes) =
-    let (plain, paired) = length-unescaped_from bytes in (
-      ⊎_elim (λ is. rw is (omega (arith, paired))) (λ other. rw other (omega (arith, plain))) (cases_Bool (b == 92)),
-      omega (arith, plain),
-    )
-
 pub length-unescaped : (bytes : List ℕ) → length bytes ≤ 2 * length (unescaped bytes) + 1
-length-unescaped bytes = (length-unescaped_from bytes).0
+length-unescaped [] = omega arith
+length-unescaped (b ∷ []) =
+    elim (b == 92) as (λ begins. 1 ≤ 2 * length (if begins then [] else b ∷ []) + 1) [
+      | true ↦ omega arith
+      | false ↦ omega arith
+    ]
+length-unescaped (b ∷ c ∷ bytes) =
+    let paired = length-unescaped bytes in
+    let plain = length-unescaped (c ∷ bytes) in
+    elim (b == 92) as (λ begins. length (b ∷ c ∷ bytes) ≤ 2 * length (if begins then c ∷ unescaped bytes else b ∷ unescaped (c ∷ bytes)) + 1) [
+      | true ↦ omega (arith, paired)
+      | false ↦ omega (arith, plain)
+    ]
 
 -- ---- what is written for a value
 
@@ -151,7 +175,7 @@ meant (b ∷ value) =
     ⊎_elim (λ special. rw special (ap (λ rest. b ∷ rest) (meant value)))
     (λ plain.
     let parts = or_parts (b == 34) (b == 92) plain in
-    rw (parts.0, parts.1, parts.1) (ap (λ rest. b ∷ rest) (meant value))) (cases_Bool (is_special b))
+    rw plain (plain_first b (escaped value) parts.1 ∙ ap (λ rest. b ∷ rest) (meant value))) (cases_Bool (is_special b))
 
 -- lowercasing it is writing the value in lowercase
 lowered_escaped : (value : List ℕ) → lowered (escaped value) ≡ escaped (lowered value)

@@ -9,10 +9,12 @@ use Rattle.std.proofs.lemmas.List.{get_or_default}
 use Rattle.std.proofs.lemmas.List.Elements.{Contains-get_or}
 use Rattle.std.proofs.lemmas.Iterator.Adapters.{position_from-zero}
 use Rattle.mime.specs.Values.{MediaType}
-use Rattle.mime_http.specs.Ranges.{Rank, rank_cmp, merit, best_offer, rank_at, ComesBefore, AreInOrder}
+use Rattle.mime_http.specs.Ranges.{Rank, rank_cmp, merit, best_offer, AreInOrder}
 use Rattle.mime_http.specs.RangesLaws.{BestIsFirst}
 use Rattle.mime_http.proofs.Closest.{highest_is_there, none_is_higher, at_most}
 use Rattle.mime_http.proofs.Highest.{same_by}
+use Rattle.mime_http.proofs.Order.{rank_at, ComesBefore}
+use Rattle.mime_http.proofs.Picked.{best_is_position}
 use Rattle.mime_http.proofs.Ranks.{ranks_total, one_rank}
 
 -- the first place at which a test passes
@@ -93,7 +95,8 @@ module _ (ranges offers : List MediaType) (best : ℕ) (others : List ℕ) (are 
       (λ level. absurd (omega (arith, below, (as_high j (same_by ranks_total one_rank (rank_at all j) (highest all) (rank_cmp (rank_at all j) (highest all)) refl level)).1)))
       (λ other. other)
       (cases_Bool (test (rank_at all j))) in
-      rw some (position_from-zero test all ∙ found_from test 0 all best none (weighs_within all best best_weighs) here before ∙ ap Some (omega arith))
+      best_is_position all
+      ∙ rw some (position_from-zero test all ∙ found_from test 0 all best none (weighs_within all best best_weighs) here before ∙ ap Some (omega arith))
 
 none_is_best : (ranges offers : List MediaType) → AreInOrder ranges offers [] → best_offer ranges offers ≡ None
 none_is_best ranges offers are = go ((highest all).0 == 0) refl
@@ -102,7 +105,7 @@ none_is_best ranges offers are = go ((highest all).0 == 0) refl
     all = map (merit ranges) offers
 
     go : (z : Bool) → ((highest (map (merit ranges) offers)).0 == 0) ≡ z → best_offer ranges offers ≡ None
-    go true is = rw is refl
+    go true is = best_is_position (map (merit ranges) offers) ∙ rw is refl
     go false is =
         let weighs : 0 < (highest (map (merit ranges) offers)).0 = grind (arith, is) in
         let high = somewhere (map (merit ranges) offers) weighs in

@@ -48,7 +48,7 @@ module _ {K : Type 0} {R : K → K → Ordering} (total : IsTotalOrder R) (one :
   same_by x y Equal is level = one x y is
   same_by x y Greater is level = absurd (true≢false (sym level))
 
-  between_by : (x y : K) (r : Ordering) → R x y ≡ r → is_gt r ≡ false → is_gt (ordering_reverse r) ≡ false → x ≡ y
+  pub between_by : (x y : K) (r : Ordering) → R x y ≡ r → is_gt r ≡ false → is_gt (ordering_reverse r) ≡ false → x ≡ y
   between_by x y Less is low high = absurd (true≢false high)
   between_by x y Equal is low high = one x y is
   between_by x y Greater is low high = absurd (true≢false low)

@@ -18,10 +18,13 @@ pub mod HttpOneFault
 pub mod HttpText
 pub mod HttpViability
 pub mod Lists
+pub mod Meanings
 pub mod NegotiationFacts
+pub mod Numbers
 pub mod Order
 pub mod Others
 pub mod OutAgain
+pub mod Picked
 pub mod Pieces
 pub mod Places
 pub mod PlacesAgain

@@ -16,9 +16,17 @@ use Rattle.std.proofs.lemmas.List.Elements.{Contains-get_or}
 use Rattle.std.proofs.lemmas.List.Sorted.{ranks_by, sorted_far, IsPermutation-sym, IsPermutation-map, Contains-permutation}
 use Rattle.std.proofs.lemmas.Map.Keys.{IsDistinct-IsPermutation, apart_from_distinct}
 use Rattle.mime.specs.Values.{MediaType}
-use Rattle.mime_http.specs.Ranges.{Rank, rank_cmp, merit, rank_at, ComesBefore, AreInOrder}
+use Rattle.mime_http.specs.Ranges.{Rank, rank_cmp, merit, AreInOrder}
 use Rattle.mime_http.proofs.Closest.{in_more, in_mapped, of_mapped}
 use Rattle.mime_http.proofs.Ranks.{ranks_total, one_rank}
+
+-- an offer comes before another: it ranks higher, or as high and is offered first
+abbrev pub rank_at : List Rank → ℕ → Rank
+rank_at ranks at = get_or ranks at (0, 0, 0, 0)
+
+abbrev pub ComesBefore : List Rank → ℕ → ℕ → Type 0
+ComesBefore ranks at other =
+    (is_gt (rank_cmp (rank_at ranks at) (rank_at ranks other)) ≡ true) ⊎ ((rank_at ranks at ≡ rank_at ranks other) × (at < other))
 
 abbrev pub entry_of : Reverse Rank × ℕ → Rank × ℕ
 entry_of entry = (entry.0.0, entry.1)

@@ -12,7 +12,9 @@ use Rattle.mime.specs.Values.{MediaType, Reads, value_of, essence_of, lowered_tr
 use Rattle.mime_http.specs.Weight.{thousandths_of}
 use Rattle.mime_http.specs.Ranges.{first_value, demanded, has}
 use Rattle.mime.proofs.HandedOut.{length-lowered, one_reading}
+use Rattle.mime_http.specs.Digits.{read_number}
 use Rattle.mime_http.proofs.Demanded.{found_of}
+use Rattle.mime_http.proofs.Numbers.{read_is}
 
 -- the text up to the tail, which is as long as the essence
 abbrev front_of : SyntaxTree → List ℕ
@@ -118,4 +120,6 @@ module _ (offer media : MediaType) (rest : List ℕ) (reads : Reads media.kept m
 
 -- a weight of one decimal in thousandths
 pub one_decimal : (d weight : ℕ) → is_ascii_digit d ≡ true → weight ≡ 100 * (d - 48) → weight ≡ thousandths_of (48 ∷ 46 ∷ d ∷ [])
-one_decimal d weight digit is = rw digit (omega (arith, is))
+one_decimal d weight digit is =
+    let read : weight ≡ read_number (48 ∷ 46 ∷ d ∷ []) = rw digit (omega (arith, is)) in
+    read ∙ read_is (48 ∷ 46 ∷ d ∷ [])

@@ -17,3 +17,4 @@ pub mod Tightening
 pub mod Reached
 pub mod Walk
 pub mod Forms
+pub mod Digits

@@ -1,8 +1,7 @@
 -- What the ranges of an `Accept` header give a media type, and which offer is the best (RFC 9110, 12.4.2 and 12.5.1).
-use Rattle.std.specs.Prelude.{◌≡◌, ◌⊎◌, ◌↔◌, ◌<◌, ℕ, ◌-◌, Bool, List, ◌++◌, length, Option, Some, None, IsTrue, Contains, option_map, unwrap_or, map, filter, find, fold, position, slice_index_or, not, ◌&&◌, if◌then◌else◌, ◌==◌, codes}
+use Rattle.std.specs.Prelude.{◌≡◌, ◌⊎◌, ◌↔◌, ◌<◌, ℕ, ◌-◌, Bool, List, ◌++◌, length, Option, Some, None, IsTrue, Contains, option_map, unwrap_or, map, filter, filter_map, find, position, slice_index_or, nat_lt, not, ◌&&◌, if◌then◌else◌, codes}
 use Rattle.std.specs.List.{list_all, list_any, enumerate_from, AllPairs}
-use Rattle.std.specs.Option.{option_cmp}
-use Rattle.std.specs.Ordering.{is_gt, nat_cmp, on, then_cmp, eq_by_cmp, ord_max}
+use Rattle.std.specs.Ordering.{is_gt, is_le, nat_cmp, on, then_cmp}
 use Rattle.std.specs.Str.{bytes_eq}
 use Rattle.std.specs.declared.cmp.Ordering.{Ordering}
 use Rattle.mime.specs.Values.{MediaType, type_of}
@@ -47,8 +46,10 @@ closeness offer item =
     then option_map (λ named. (named, length (demanded item.1.pairs), weight_of item.1, item.0)) (named_parts item.1 offer)
     else None
 
+-- the closest range is the one that no other is closer than
 abbrev pub closest : List MediaType → MediaType → Option Rank
-closest ranges offer = fold (ord_max (option_cmp rank_cmp)) None (map (closeness offer) (enumerate_from 0 ranges))
+closest ranges offer =
+    let all = filter_map (closeness offer) (enumerate_from 0 ranges) in find (λ one. list_all (λ other. is_le (rank_cmp other one)) all) all
 
 -- how an offer ranks: by the weight that the closest range gives it, then by how closely that covers it, then by how early that stands
 abbrev pub merit : List MediaType → MediaType → Rank
@@ -59,22 +60,17 @@ merit ranges offer =
 abbrev pub given_weight : List MediaType → MediaType → ℕ
 given_weight ranges offer = (merit ranges offer).0
 
--- the position of the first offer of the highest rank, if it weighs more than 0
+-- the position of the best offer: the first that weighs more than 0 and that no other ranks above
 abbrev pub best_offer : List MediaType → List MediaType → Option ℕ
 best_offer ranges offers =
-    let merits = map (merit ranges) offers in
-    let most = fold (ord_max rank_cmp) (0, 0, 0, 0) merits in
-    if most.0 == 0 then None else position (λ merit. eq_by_cmp rank_cmp merit most) merits
+    let all = map (merit ranges) offers in position (λ one. nat_lt 0 one.0 && list_all (λ other. is_le (rank_cmp other one)) all) all
 
--- an offer comes before another: it ranks higher, or as high and is offered first
-abbrev pub rank_at : List Rank → ℕ → Rank
-rank_at ranks at = slice_index_or ranks at (0, 0, 0, 0)
+-- the rank of the offer at a position
+abbrev pub merit_at : List MediaType → List MediaType → ℕ → Rank
+merit_at ranges offers at = slice_index_or (map (merit ranges) offers) at (0, 0, 0, 0)
 
-abbrev pub ComesBefore : List Rank → ℕ → ℕ → Type 0
-ComesBefore ranks at other =
-    IsTrue (is_gt (rank_cmp (rank_at ranks at) (rank_at ranks other))) ⊎ ((rank_at ranks at ≡ rank_at ranks other) × (at < other))
-
--- the positions of all offers that weigh more than 0, each before those that it comes before
+-- the positions of all offers that weigh more than 0: of two the first ranks higher, or as high and is offered first
 pub record AreInOrder (ranges offers : List MediaType) (order : List ℕ) : Type 0 where
-  pub best_first : AllPairs (ComesBefore (map (merit ranges) offers)) order
-  pub all : (at : ℕ) → Contains order at ↔ (0 < (rank_at (map (merit ranges) offers) at).0)
+  pub best_first : AllPairs (λ at other. IsTrue (is_gt (rank_cmp (merit_at ranges offers at) (merit_at ranges offers other)))
+      ⊎ ((merit_at ranges offers at ≡ merit_at ranges offers other) × (at < other))) order
+  pub all : (at : ℕ) → Contains order at ↔ (0 < (merit_at ranges offers at).0)

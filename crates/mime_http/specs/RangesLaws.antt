@@ -1,8 +1,25 @@
 -- What follows of the page Ranges, in other words (RFC 9110, 12.5.1).
-use Rattle.std.specs.Prelude.{◌≡◌, ◌⊎◌, ◌<◌, ◌≤◌, ℕ, List, Some, None, Contains, MatchOption, slice_get}
+use Rattle.std.specs.Prelude.{◌≡◌, ◌⊎◌, ◌<◌, ◌≤◌, ℕ, ◌+◌, ◌*◌, List, [], ◌∷◌, ◌++◌, codes, replicate, Some, None, IsTrue, Contains, MatchOption, is_some, map, slice_get}
 use Rattle.std.specs.List.{enumerate_from}
-use Rattle.mime.specs.Values.{MediaType}
-use Rattle.mime_http.specs.Ranges.{Rank, closeness, closest, best_offer, AreInOrder}
+use Rattle.mime.specs.Values.{MediaType, type_of}
+use Rattle.mime_http.specs.Ranges.{Rank, weight_of, closeness, closest, best_offer, AreInOrder}
+use Rattle.mime_http.specs.Unescaped.{unescaped}
+use Rattle.mime_http.specs.Weight.{thousandths_of}
+
+-- qvalue = ( "0" [ "." 0*3DIGIT ] ) / ( "1" [ "." 0*3("0") ] ), and how many thousandths it is (12.4.2)
+pub data IsQvalue : List ℕ → ℕ → Type 0 where
+  zero : IsQvalue (codes "0") 0
+  zero_dot : IsQvalue (codes "0.") 0
+  one_digit : (a : ℕ) → a ≤ 9 → IsQvalue (codes "0." ++ ((48 + a) ∷ [])) (100 * a)
+  two_digits : (a b : ℕ) → a ≤ 9 → b ≤ 9 → IsQvalue (codes "0." ++ ((48 + a) ∷ (48 + b) ∷ [])) (100 * a + 10 * b)
+  three_digits : (a b c : ℕ) → a ≤ 9 → b ≤ 9 → c ≤ 9
+      → IsQvalue (codes "0." ++ ((48 + a) ∷ (48 + b) ∷ (48 + c) ∷ [])) (100 * a + 10 * b + c)
+  one : IsQvalue (codes "1") 1000
+  one_dot : (zeros : ℕ) → zeros ≤ 3 → IsQvalue (codes "1." ++ replicate zeros 48) 1000
+
+-- A weight that RFC 9110 allows counts as its number.
+abbrev pub WeightIsNumber : Type 0
+WeightIsNumber = (text : List ℕ) (thousandths : ℕ) → IsQvalue text thousandths → thousandths_of text ≡ thousandths
 
 -- a rank is at most another: of the first places that differ its is the lower
 abbrev pub IsAtMost : Rank → Rank → Type 0
@@ -23,3 +40,23 @@ ClosestIsClosest =
 -- The best offer is the first in the order of all that weigh more than 0.
 abbrev pub BestIsFirst : Type 0
 BestIsFirst = (ranges offers : List MediaType) (order : List ℕ) → AreInOrder ranges offers order → best_offer ranges offers ≡ slice_get order 0
+
+-- Each media type covers itself.
+abbrev pub CoversItself : Type 0
+CoversItself = (media : MediaType) → IsTrue (is_some (closeness media (0, media)))
+
+-- two media types mean the same: they have the same essence and type, and one by one their parameters have the same names and mean the same
+abbrev pub meaning_of : List ℕ × List ℕ → List ℕ × List ℕ
+meaning_of pair = (pair.0, unescaped pair.1)
+
+pub record MeanTheSame (media other : MediaType) : Type 0 where
+  pub essence : media.essence ≡ other.essence
+  pub top : type_of media ≡ type_of other
+  pub pairs : map meaning_of media.pairs ≡ map meaning_of other.pairs
+
+-- How closely a range covers an offer doesn't change if both are written differently and mean the same, unless the weight changes, which is
+-- taken as it is written.
+abbrev pub MeaningCounts : Type 0
+MeaningCounts =
+    (range other offer offered : MediaType) (at : ℕ) → MeanTheSame range other → MeanTheSame offer offered → weight_of range ≡ weight_of other
+    → closeness offer (at, range) ≡ closeness offered (at, other)

@@ -1,16 +1,15 @@
 -- A weight in thousandths (RFC 9110, 12.4.2).
-use Rattle.std.specs.Prelude.{ℕ, ◌+◌, ◌*◌, ◌-◌, ◌/◌, List, [], ◌∷◌, if◌then◌else◌, ◌==◌}
+use Rattle.std.specs.Prelude.{ℕ, ◌+◌, ◌*◌, ◌-◌, List, [], ◌∷◌, ◌++◌, length, take, drop, take_while, fold, min, if◌then◌else◌, ◌==◌, codes}
 use Rattle.std.specs.Char.{is_ascii_digit}
 
--- what the digits that bytes begin with are worth, the first of them this unit, and each next a tenth of the one before
-abbrev pub decimals : ℕ → List ℕ → ℕ
-decimals unit [] = 0
-decimals unit (b ∷ bytes) = if is_ascii_digit b then unit * (b - 48) + decimals (unit / 10) bytes else 0
+-- the digits after a dot that bytes begin with
+abbrev pub decimals : List ℕ → List ℕ
+decimals [] = []
+decimals (b ∷ bytes) = if b == 46 then take_while is_ascii_digit bytes else []
 
--- the number that a string begins with, in thousandths: 1000 if it is 1 or more, and 0 if there is none
+-- the number that a text begins with, in thousandths and at most 1000: its digits before a dot, and three after it. What is no weight
+-- counts so, too: `.2` as 200, `2` as 1000, and `high` as 0
 abbrev pub thousandths_of : List ℕ → ℕ
-thousandths_of [] = 0
-thousandths_of (b ∷ bytes) =
-    if b == 48 then thousandths_of bytes else
-    if is_ascii_digit b then 1000 else
-    if b == 46 then decimals 100 bytes else 0
+thousandths_of text =
+    let whole = take_while is_ascii_digit text in
+    min 1000 (fold (λ n digit. 10 * n + (digit - 48)) 0 (whole ++ take 3 (decimals (drop (length whole) text) ++ codes "000")))

@@ -3,7 +3,7 @@
 ghost use Rattle.mime_http.specs.HeaderLaws.{HttpIsRead, ReadIsHttp, PlainIsHttp, OneHttpReading, OneHttpFault, TightIsUtf8};
 ghost use Rattle.mime_http.specs.ListLaws.{OneCut, HttpListsAreRead, ReadAreHttpLists, OneHeader, BadIsAlone};
 ghost use Rattle.mime_http.specs.Written.{WrittenIsMeant};
-ghost use Rattle.mime_http.specs.RangesLaws.{ClosestIsClosest, BestIsFirst};
+ghost use Rattle.mime_http.specs.RangesLaws.{ClosestIsClosest, BestIsFirst, CoversItself, MeaningCounts, WeightIsNumber};
 
 /// A media type as HTTP writes it is read as it, tightened: `text/html ;; charset=utf-8` as `text/html; charset=utf-8`
 /// (RFC 9110, 8.3.1).
@@ -76,4 +76,20 @@ pub fn written_is_meant()
 /// The best offer is the first in the order of all that weigh more than 0.
 pub fn best_is_first()
     ensures { BestIsFirst }
+{}
+
+/// Each media type covers itself: `a/b;p=1;p=2`, too.
+pub fn covers_itself()
+    ensures { CoversItself }
+{}
+
+/// How closely a range covers an offer is a matter of what both mean: `a/b;p="\x"` covers `a/b;p=x` as closely as `a/b;p=x` does (RFC 9110,
+/// 5.6.4).
+pub fn meaning_counts()
+    ensures { MeaningCounts }
+{}
+
+/// A weight that RFC 9110 allows counts as its number, in thousandths: `0.25` as 250, and `1.` as 1000 (12.4.2).
+pub fn weight_is_number()
+    ensures { WeightIsNumber }
 {}

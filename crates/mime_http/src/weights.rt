@@ -1,11 +1,12 @@
 //! A weight in thousandths.
 
 ghost use Rattle.std.specs.Prelude.{◌≡◌, ◌≤◌, ◌*◌, ◌-◌};
-ghost use Rattle.mime_http.specs.Weight.{decimals, thousandths_of};
+ghost use Rattle.mime_http.specs.Digits.{worth};
+ghost use Rattle.mime_http.specs.Weight.{thousandths_of};
 
 /// What the digits after a dot are worth in thousandths, as 500 for `5`.
 fn decimals_of(bytes: &[u8]) -> u16
-    ensures { result ≡ decimals 100 bytes.now }
+    ensures { result ≡ worth 100 bytes.now }
 {
     let mut unit = 100;
     let mut sum = 0;

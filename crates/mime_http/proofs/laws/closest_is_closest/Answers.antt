@@ -1,4 +1,4 @@
-use Rattle.mime_http.proofs.Closest.{closest_is_closest}
+use Rattle.mime_http.proofs.Picked.{closest_is_closest}
 use Rattle.mime_http.proofs.laws.closest_is_closest.Goals as goal
 
 pub returns : goal.returns

@@ -1,14 +1,15 @@
 -- The next merit is above the highest so far, or it isn't.
-use Rattle.std.proofs.Common.{◌≡◌, ◌≢◌, ◌∙◌, ◌+◌, ◌<◌, ◌≤◌, ◌==◌, false, arith, ℕ, Option, Some, None, ◌∷◌, map, drop, length, ap, sym, subst}
-use Rattle.std.specs.Prelude.{fold, IfSome}
-use Rattle.std.specs.Ordering.{is_gt, nat_cmp, ord_max}
+use Rattle.std.proofs.Common.{◌≡◌, ◌≢◌, ◌∙◌, ◌+◌, ◌<◌, ◌≤◌, ◌==◌, refl, true, false, arith, ℕ, List, Option, Some, None, ◌∷◌, map, drop, length, ap, sym, subst}
+use Rattle.std.specs.Prelude.{IfSome, position, if◌then◌else◌}
+use Rattle.std.specs.Ordering.{is_gt, nat_cmp, eq_by_cmp}
 use Rattle.std.proofs.Math.ListN.{drop_of_length-le}
-use Rattle.std.proofs.lemmas.Bool.{ne_eqb}
+use Rattle.std.proofs.lemmas.Bool.{ne_eqb, eq-eqb}
 use Rattle.std.proofs.lemmas.List.{length-map}
 use Rattle.std.proofs.lemmas.Iterator.Adapters.{position_from-zero}
-use Rattle.mime_http.specs.Ranges.{merit, rank_cmp}
+use Rattle.mime_http.specs.Ranges.{Rank, merit, rank_cmp}
 use Rattle.mime_http.proofs.Highest.{Highest, first_left, mapped_left, raised, stays, at_end}
 use Rattle.mime_http.proofs.Ranks.{ranks_total, one_rank, gt_of_ranks}
+use Rattle.mime_http.proofs.Picked.{highest, best_is_position}
 use Rattle.mime_http.proofs.offers.best_of.Goals as goal
 use Rattle.mime_http.proofs.offers.best_of.Goals.{then-gt, else-gt}
 
@@ -46,13 +47,31 @@ loop-at-preserved c =
 pub returns-then-most-gt0-clause-within : goal.returns-then-most-gt0-clause-within
 returns-then-most-gt0-clause-within c = below c.loop-at.best c.loop-at.at (length c.args.offers.now) c.loop-at.auto.at-end c.loop-at.invariant.within
 
+-- what the loop found is what a fold over the offers finds
+abbrev Found : List Rank → Option ℕ → Type 0
+Found all best = best ≡ (if (highest all).0 == 0 then None else position (λ rank. eq_by_cmp rank_cmp rank (highest all)) all)
+
 pub returns-then-most-gt0-clause-exact : goal.returns-then-most-gt0-clause-exact
 returns-then-most-gt0-clause-exact c =
     let merit_of = merit (map (λ range. range.media) c.args.ranges.now) in
     let offers = map (λ offer. offer.media) c.args.offers.now in
-    let long : length (map merit_of offers) ≤ c.loop-at.at = omega (arith, length-map offers merit_of, length-map c.args.offers.now (λ offer. offer.media)) in
-    let ended = at_end ranks_total one_rank c.loop-at.invariant.first (drop_of_length-le (map merit_of offers) long) in
+    let all = map merit_of offers in
+    let long : length all ≤ c.loop-at.at = omega (arith, length-map offers merit_of, length-map c.args.offers.now (λ offer. offer.media)) in
+    let ended = at_end ranks_total one_rank c.loop-at.invariant.first (drop_of_length-le all long) in
     let positive : c.loop-at.most ≢ (0, 0, 0, 0) = λ is. absurd (omega (arith, ap (λ merit. merit.0) is, c.if-most-gt0.true)) in
-    let weighs : ((fold (ord_max rank_cmp) (0, 0, 0, 0) (map merit_of offers)).0 == 0) ≡ false =
+    let weighs : ((highest all).0 == 0) ≡ false =
     ap (λ merit. merit.0 == 0) ended.0 ∙ ne_eqb c.loop-at.most.0 0 (λ is. absurd (omega (arith, is, c.if-most-gt0.true))) in
-    rw weighs (sym (position_from-zero _ (map merit_of offers) ∙ ended.1 positive))
+    let found : Found all c.loop-at.best = rw weighs (sym (position_from-zero _ all ∙ ended.1 positive)) in
+    found ∙ sym (best_is_position all)
+
+pub returns-else-most-gt0-clause-exact : goal.returns-else-most-gt0-clause-exact
+returns-else-most-gt0-clause-exact c =
+    let merit_of = merit (map (λ range. range.media) c.args.ranges.now) in
+    let offers = map (λ offer. offer.media) c.args.offers.now in
+    let all = map merit_of offers in
+    let long : length all ≤ c.loop-at.at = omega (arith, length-map offers merit_of, length-map c.args.offers.now (λ offer. offer.media)) in
+    let ended = at_end ranks_total one_rank c.loop-at.invariant.first (drop_of_length-le all long) in
+    let nothing : ((highest all).0 == 0) ≡ true =
+    ap (λ merit. merit.0 == 0) ended.0 ∙ eq-eqb c.loop-at.most.0 0 (omega (arith, c.if-most-gt0.false)) in
+    let found : Found all None = rw nothing refl in
+    found ∙ sym (best_is_position all)

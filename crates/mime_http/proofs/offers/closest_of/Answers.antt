@@ -6,7 +6,11 @@ use Rattle.std.specs.Option.{option_cmp}
 use Rattle.std.specs.Ordering.{ord_max}
 use Rattle.mime_http.specs.Ranges.{rank_cmp, closeness}
 use Rattle.mime_http.proofs.Highest.{first_left, mapped_left}
+use Rattle.mime_http.proofs.Picked.{closest_is_kept}
 use Rattle.mime_http.proofs.offers.closest_of.Goals as goal
+
+pub loop-at-init : goal.loop-at-init
+loop-at-init c = rw c.none-closest.ensures (closest_is_kept (map (λ range. range.media) c.args.ranges.now) c.args.offer.now.media)
 
 pub loop-at-preserved : goal.loop-at-preserved
 loop-at-preserved c =

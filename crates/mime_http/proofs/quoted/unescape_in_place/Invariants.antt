@@ -1,12 +1,12 @@
 -- What was moved so far, and then what is left, is the whole.
-use Rattle.std.proofs.Common.{◌≡◌, ◌++◌, ◌≤◌, length, take, drop}
-use Rattle.mime_http.specs.Unescaped.{unescaped, unescaped_from}
+use Rattle.std.proofs.Common.{◌≡◌, ◌++◌, ◌≤◌, false, length, take, drop}
+use Rattle.mime_http.proofs.Contents.{unescaped_from}
 use Rattle.mime_http.proofs.quoted.unescape_in_place.Given as goal
 
 abbrev pub invariant-loop-at : goal.invariant-loop-at
 invariant-loop-at l = record {
   moved :
-      take l.end l.bytes ++ unescaped_from l.is_paired (drop l.at l.bytes) ≡ take l.start l.fn.bytes ++ unescaped (drop l.start l.fn.bytes);
+      take l.end l.bytes ++ unescaped_from l.is_paired (drop l.at l.bytes) ≡ take l.start l.fn.bytes ++ unescaped_from false (drop l.start l.fn.bytes);
   behind : l.end ≤ l.at;
   long : length l.bytes ≡ length l.fn.bytes;
 }

@@ -1,0 +1,124 @@
+-- A media type covers itself, and what covers an offer is told by what both mean.
+use Rattle.std.proofs.Common.{◌≡◌, ◌∙◌, refl, sym, ap, ℕ, Bool, true, false, List, [], ◌∷◌, ◌++◌, length, map, Option, Some, None, is_some, codes, bytes_eq}
+use Rattle.std.specs.Prelude.{◌&&◌, ◌||◌, not, if◌then◌else◌, option_map}
+use Rattle.std.specs.List.{list_all, list_any}
+use Rattle.std.proofs.lemmas.Bool.{and_from}
+use Rattle.std.proofs.lemmas.List.{append_assoc}
+use Rattle.std.proofs.lemmas.Slice.Eq.{bytes_eq-Decides}
+use Rattle.mime.specs.Values.{MediaType, type_of}
+use Rattle.mime_http.specs.Ranges.{Rank, weight_of, named_parts, demanded, has, closeness}
+use Rattle.mime_http.specs.Unescaped.{unescaped}
+use Rattle.mime_http.specs.RangesLaws.{CoversItself, meaning_of, MeanTheSame, MeaningCounts}
+
+-- a list of parameters
+abbrev Pairs : Type 0
+Pairs = List (List ℕ × List ℕ)
+
+-- ---- a media type covers itself
+
+-- a list with this item, for which a test is true
+any_there : {X : Type 0} (test : X → Bool) (before : List X) (x : X) (after : List X) → test x ≡ true → list_any test (before ++ (x ∷ after)) ≡ true
+any_there test [] x after is = rw is refl
+any_there test (y ∷ before) x after is = elim (test y) as (λ b. (b || list_any test (before ++ (x ∷ after))) ≡ true) [
+  | true ↦ refl
+  | false ↦ any_there test before x after is
+]
+
+same_bytes : (bytes : List ℕ) → bytes_eq bytes bytes ≡ true
+same_bytes bytes = (bytes_eq-Decides bytes bytes).1 refl
+
+-- the offer has each of its own parameters
+has_own : (offer : MediaType) (before rest : Pairs) → offer.pairs ≡ before ++ rest → list_all (has offer) (demanded rest) ≡ true
+has_own offer before [] is = refl
+has_own offer before (pair ∷ rest) is =
+    let here : has offer pair ≡ true =
+    ap (list_any _) is ∙ any_there _ before pair rest (and_from _ _ (same_bytes pair.0) (same_bytes (unescaped pair.1))) in
+    let others : list_all (has offer) (demanded rest) ≡ true =
+    has_own offer (before ++ (pair ∷ [])) rest (is ∙ sym (append_assoc before (pair ∷ []) rest)) in
+    elim (not (bytes_eq pair.0 (codes "q"))) as (λ b. list_all (has offer) (if b then pair ∷ demanded rest else demanded rest) ≡ true) [
+      | true ↦ and_from _ _ here others
+      | false ↦ others
+    ]
+
+-- it names its own essence
+names_some : (any all same : Bool) → same ≡ true → is_some {T = ℕ} (if any then Some 0 else if all then Some 1 else if same then Some 2 else None) ≡ true
+names_some true all same is = refl
+names_some false true same is = refl
+names_some false false same is = rw is refl
+
+names_own : (media : MediaType) → is_some (named_parts media media) ≡ true
+names_own media = names_some _ (bytes_eq media.essence (type_of media ++ codes "/*")) _ (same_bytes media.essence)
+
+some_mapped : {X Y : Type 0} (f : X → Y) (found : Option X) → is_some (option_map f found) ≡ is_some found
+some_mapped f None = refl
+some_mapped f (Some x) = refl
+
+pub covers_itself : CoversItself
+covers_itself media = rw (has_own media [] media.pairs refl) (some_mapped _ (named_parts media media) ∙ names_own media)
+
+-- ---- what covers an offer is told by what both mean
+
+-- the same of parameters as they are meant
+abbrev has_meant : Pairs → List ℕ × List ℕ → Bool
+has_meant meant pair = list_any (λ own. bytes_eq own.0 pair.0 && bytes_eq own.1 pair.1) meant
+
+has_by_meaning : (pairs : Pairs) (pair : List ℕ × List ℕ)
+    → list_any (λ own. bytes_eq own.0 pair.0 && bytes_eq (meaning_of own).1 (meaning_of pair).1) pairs ≡ has_meant (map meaning_of pairs) (meaning_of pair)
+has_by_meaning [] pair = refl
+has_by_meaning (own ∷ pairs) pair =
+    ap (λ rest. (bytes_eq own.0 pair.0 && bytes_eq (meaning_of own).1 (meaning_of pair).1) || rest) (has_by_meaning pairs pair)
+
+all_by_meaning : (offer : MediaType) (pairs : Pairs)
+    → list_all (has offer) (demanded pairs) ≡ list_all (has_meant (map meaning_of offer.pairs)) (demanded (map meaning_of pairs))
+all_by_meaning offer [] = refl
+all_by_meaning offer (pair ∷ pairs) =
+    let meant = map meaning_of offer.pairs in
+    let rest = all_by_meaning offer pairs in
+    elim (not (bytes_eq pair.0 (codes "q"))) as (λ b. list_all (has offer) (if b then pair ∷ demanded pairs else demanded pairs)
+    ≡ list_all (has_meant meant) (if b then meaning_of pair ∷ demanded (map meaning_of pairs) else demanded (map meaning_of pairs))) [
+      | true ↦ ap (λ first. first && list_all (has offer) (demanded pairs)) (has_by_meaning offer.pairs pair)
+          ∙ ap (λ others. has_meant meant (meaning_of pair) && others) rest
+      | false ↦ rest
+    ]
+
+count_by_meaning : (pairs : Pairs) → length (demanded pairs) ≡ length (demanded (map meaning_of pairs))
+count_by_meaning [] = refl
+count_by_meaning (pair ∷ pairs) =
+    let rest = count_by_meaning pairs in
+    elim (not (bytes_eq pair.0 (codes "q"))) as (λ b. length (if b then pair ∷ demanded pairs else demanded pairs)
+    ≡ length (if b then meaning_of pair ∷ demanded (map meaning_of pairs) else demanded (map meaning_of pairs))) [
+      | true ↦ ap (λ n. Prim.Native.Nat.suc n) rest
+      | false ↦ rest
+    ]
+
+-- how closely a range covers an offer, by what both mean
+abbrev Meant : Type 0
+Meant = List ℕ × List ℕ × Pairs
+
+abbrev meant_of : MediaType → Meant
+meant_of media = (media.essence, type_of media, map meaning_of media.pairs)
+
+abbrev closeness_of : Meant → Meant → ℕ → ℕ → Option Rank
+closeness_of offer range weight at =
+    if list_all (has_meant offer.2) (demanded range.2)
+    then option_map (λ named. (named, length (demanded range.2), weight, at)) (if bytes_eq range.0 (codes "*/*") then Some 0 else
+    if bytes_eq range.0 (offer.1 ++ codes "/*") then Some 1 else
+    if bytes_eq range.0 offer.0 then Some 2 else None)
+    else None
+
+closeness_by_meaning : (offer range : MediaType) (at : ℕ)
+    → closeness offer (at, range) ≡ closeness_of (meant_of offer) (meant_of range) (weight_of range) at
+closeness_by_meaning offer range at =
+    ap (λ all. if all then option_map (λ named. (named, length (demanded range.pairs), weight_of range, at)) (named_parts range offer) else None)
+    (all_by_meaning offer range.pairs)
+    ∙ ap (λ count. if list_all (has_meant (map meaning_of offer.pairs)) (demanded (map meaning_of range.pairs))
+    then option_map (λ named. (named, count, weight_of range, at)) (named_parts range offer) else None) (count_by_meaning range.pairs)
+
+meant_alike : (media other : MediaType) → MeanTheSame media other → meant_of media ≡ meant_of other
+meant_alike media other same = λ i. (same.essence i, same.top i, same.pairs i)
+
+pub meaning_counts : MeaningCounts
+meaning_counts range other offer offered at same alike weighs =
+    closeness_by_meaning offer range at
+    ∙ (λ i. closeness_of (meant_alike offer offered alike i) (meant_alike range other same i) (weighs i) at)
+    ∙ sym (closeness_by_meaning offered other at)

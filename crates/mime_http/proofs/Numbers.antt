@@ -1,0 +1,154 @@
+-- A weight that is read digit by digit is the number that its text begins with.
+use Rattle.std.proofs.Common.{◌≡◌, ◌∙◌, refl, sym, ap, arith, ⊎_elim, ◌+◌, ◌*◌, ◌-◌, ◌≤◌, ◌==◌, ℕ, Bool, true, false, List, [], ◌∷◌, ◌++◌, length, take, drop}
+use Rattle.std.specs.Prelude.{codes, fold, min, take_while, if◌then◌else◌, replicate}
+use Rattle.std.specs.Char.{is_ascii_digit}
+use Rattle.std.proofs.lemmas.Bool.{cases_Bool, eqb-true}
+use Rattle.std.proofs.lemmas.Bool.Decides.{nat_tests}
+use Rattle.std.proofs.lemmas.List.Sums.{take_while-cons}
+use Rattle.mime_http.specs.Weight.{decimals, thousandths_of}
+use Rattle.mime_http.specs.Digits.{worth, read_number}
+use Rattle.mime_http.specs.RangesLaws.{zero, zero_dot, one_digit, two_digits, three_digits, one, one_dot, WeightIsNumber}
+
+-- a number with one more digit
+abbrev step : ℕ → ℕ → ℕ
+step n digit = 10 * n + (digit - 48)
+
+abbrev digits : List ℕ → List ℕ
+digits bytes = take_while is_ascii_digit bytes
+
+digits_more : (b : ℕ) (bytes : List ℕ) → is_ascii_digit b ≡ true → digits (b ∷ bytes) ≡ b ∷ digits bytes
+digits_more b bytes is = take_while-cons is_ascii_digit b bytes ∙ rw is refl
+
+digits_end : (b : ℕ) (bytes : List ℕ) → is_ascii_digit b ≡ false → digits (b ∷ bytes) ≡ []
+digits_end b bytes is = take_while-cons is_ascii_digit b bytes ∙ rw is refl
+
+-- ---- three digits after a dot
+
+no_unit : (bytes : List ℕ) → worth 0 bytes ≡ 0
+no_unit [] = refl
+no_unit (b ∷ bytes) = elim (is_ascii_digit b) as (λ is. (if is then 0 * (b - 48) + worth 0 bytes else 0) ≡ 0) [
+  | true ↦ omega (arith, no_unit bytes)
+  | false ↦ refl
+]
+
+abbrev padded : ℕ → List ℕ → List ℕ
+padded count bytes = take count (digits bytes ++ codes "000")
+
+one_more : (n : ℕ) (bytes : List ℕ) → fold step n (padded 1 bytes) ≡ 10 * n + worth 1 bytes
+one_more n [] = omega arith
+one_more n (b ∷ bytes) =
+    ⊎_elim
+    (λ is. rw (digits_more b bytes is, is) (omega (arith, no_unit bytes)))
+    (λ isnt. rw (digits_end b bytes isnt, isnt) (omega arith))
+    (cases_Bool (is_ascii_digit b))
+
+two_more : (n : ℕ) (bytes : List ℕ) → fold step n (padded 2 bytes) ≡ 100 * n + worth 10 bytes
+two_more n [] = omega arith
+two_more n (b ∷ bytes) =
+    ⊎_elim
+    (λ is. rw (digits_more b bytes is, is) (omega (arith, one_more (step n b) bytes)))
+    (λ isnt. rw (digits_end b bytes isnt, isnt) (omega arith))
+    (cases_Bool (is_ascii_digit b))
+
+three_more : (n : ℕ) (bytes : List ℕ) → fold step n (padded 3 bytes) ≡ 1000 * n + worth 100 bytes
+three_more n [] = omega arith
+three_more n (b ∷ bytes) =
+    ⊎_elim
+    (λ is. rw (digits_more b bytes is, is) (omega (arith, two_more (step n b) bytes)))
+    (λ isnt. rw (digits_end b bytes isnt, isnt) (omega arith))
+    (cases_Bool (is_ascii_digit b))
+
+-- a digit is worth at most nine of its unit
+digit_most : (b : ℕ) → is_ascii_digit b ≡ true → b - 48 ≤ 9
+digit_most b is = grind (arith, nat_tests)
+
+one_most : (bytes : List ℕ) → worth 1 bytes ≤ 9
+one_most [] = omega arith
+one_most (b ∷ bytes) =
+    ⊎_elim (λ is. rw is (omega (arith, digit_most b is, no_unit bytes))) (λ isnt. rw isnt (omega arith)) (cases_Bool (is_ascii_digit b))
+
+two_most : (bytes : List ℕ) → worth 10 bytes ≤ 99
+two_most [] = omega arith
+two_most (b ∷ bytes) =
+    ⊎_elim (λ is. rw is (omega (arith, digit_most b is, one_most bytes))) (λ isnt. rw isnt (omega arith)) (cases_Bool (is_ascii_digit b))
+
+three_most : (bytes : List ℕ) → worth 100 bytes ≤ 999
+three_most [] = omega arith
+three_most (b ∷ bytes) =
+    ⊎_elim (λ is. rw is (omega (arith, digit_most b is, two_most bytes))) (λ isnt. rw isnt (omega arith)) (cases_Bool (is_ascii_digit b))
+
+-- ---- from the first byte on
+
+-- the number that goes on with bytes, in thousandths
+abbrev number_from : ℕ → List ℕ → ℕ
+number_from n bytes = fold step n (digits bytes ++ take 3 (decimals (drop (length (digits bytes)) bytes) ++ codes "000"))
+
+goes_on : (n b : ℕ) (bytes : List ℕ) → is_ascii_digit b ≡ true → number_from n (b ∷ bytes) ≡ number_from (step n b) bytes
+goes_on n b bytes is = rw (digits_more b bytes is) refl
+
+stops : (n b : ℕ) (bytes : List ℕ) → is_ascii_digit b ≡ false → number_from n (b ∷ bytes) ≡ fold step n (take 3 (decimals (b ∷ bytes) ++ codes "000"))
+stops n b bytes isnt = rw (digits_end b bytes isnt) refl
+
+-- what stands after a dot makes it no less
+no_less : (n : ℕ) (bytes : List ℕ) → 1000 * n ≤ number_from n bytes
+no_less n [] = omega arith
+no_less n (b ∷ bytes) =
+    ⊎_elim
+    (λ is. rw (goes_on n b bytes is) (omega (arith, no_less (step n b) bytes)))
+    (λ isnt. rw (stops n b bytes isnt) (elim (b == 46) as (λ dot. 1000 * n ≤ fold step n (take 3 ((if dot then digits bytes else []) ++ codes "000"))) [
+      | true ↦ omega (arith, three_more n bytes)
+      | false ↦ omega arith
+    ]))
+    (cases_Bool (is_ascii_digit b))
+
+least : (n : ℕ) → n ≤ 1000 → min 1000 n ≡ n
+least n most = omega (arith, most)
+
+most : (n : ℕ) → 1000 ≤ n → min 1000 n ≡ 1000
+most n least = omega (arith, least)
+
+pub read_is : (text : List ℕ) → read_number text ≡ thousandths_of text
+read_is [] = refl
+read_is (b ∷ bytes) =
+    ⊎_elim
+    (λ is. rw (eqb-true b 48 is) (read_is bytes ∙ ap (min 1000) (sym (goes_on 0 48 bytes refl))))
+    (λ other. ap (λ zero. if zero then read_number bytes else if is_ascii_digit b then 1000 else if b == 46 then worth 100 bytes else 0) other
+    ∙ ⊎_elim
+    (λ is. ap (λ is. if is then 1000 else if b == 46 then worth 100 bytes else 0) is
+    ∙ sym (ap (min 1000) (goes_on 0 b bytes is) ∙ most (number_from (step 0 b) bytes) (omega (arith, above b is other, no_less (step 0 b) bytes))))
+    (λ isnt. ap (λ is. if is then 1000 else if b == 46 then worth 100 bytes else 0) isnt
+    ∙ (after_dot (b == 46) ∙ sym (ap (min 1000) (stops 0 b bytes isnt))))
+    (cases_Bool (is_ascii_digit b)))
+    (cases_Bool (b == 48))
+  where
+    above : (b : ℕ) → is_ascii_digit b ≡ true → (b == 48) ≡ false → 1 ≤ b - 48
+    above b is other = grind (arith, nat_tests)
+
+    after_dot : (dot : Bool) → (if dot then worth 100 bytes else 0) ≡ min 1000 (fold step 0 (take 3 ((if dot then digits bytes else []) ++ codes "000")))
+    after_dot true =
+        let same : fold step 0 (padded 3 bytes) ≡ worth 100 bytes = omega (arith, three_more 0 bytes) in
+        sym (ap (min 1000) same ∙ least (worth 100 bytes) (omega (arith, three_most bytes)))
+    after_dot false = refl
+
+-- ---- what RFC 9110 allows
+
+digit_of : (a : ℕ) → a ≤ 9 → is_ascii_digit (48 + a) ≡ true
+digit_of a most = grind (arith, nat_tests)
+
+pub weight_is_number : WeightIsNumber
+weight_is_number text thousandths zero = refl
+weight_is_number text thousandths zero_dot = refl
+weight_is_number text thousandths (one_digit a first) =
+    let text = codes "0." ++ ((48 + a) ∷ []) in
+    let read : read_number text ≡ 100 * a = rw (digit_of a first) (omega arith) in
+    sym (read_is text) ∙ read
+weight_is_number text thousandths (two_digits a b first second) =
+    let text = codes "0." ++ ((48 + a) ∷ (48 + b) ∷ []) in
+    let read : read_number text ≡ 100 * a + 10 * b = rw (digit_of a first, digit_of b second) (omega arith) in
+    sym (read_is text) ∙ read
+weight_is_number text thousandths (three_digits a b c first second third) =
+    let text = codes "0." ++ ((48 + a) ∷ (48 + b) ∷ (48 + c) ∷ []) in
+    let read : read_number text ≡ 100 * a + 10 * b + c = rw (digit_of a first, digit_of b second, digit_of c third) (omega arith) in
+    sym (read_is text) ∙ read
+weight_is_number text thousandths one = refl
+weight_is_number text thousandths (one_dot zeros few) = sym (read_is (codes "1." ++ replicate zeros 48))
