@@ -32,6 +32,7 @@ pub mod Ranks
 pub mod Rejections
 pub mod SemicolonAtFault
 pub mod ShortWeight
+pub mod Strangers
 pub mod TightLength
 pub mod Trims
 pub mod WhiteAtFault

@@ -2,7 +2,7 @@
 use Rattle.std.specs.Prelude.{◌≡◌, ◌⊎◌, ◌<◌, ◌≤◌, ℕ, ◌+◌, ◌*◌, List, [], ◌∷◌, ◌++◌, codes, replicate, Some, None, IsTrue, Contains, MatchOption, is_some, map, slice_get}
 use Rattle.std.specs.List.{enumerate_from}
 use Rattle.mime.specs.Values.{MediaType, type_of}
-use Rattle.mime_http.specs.Ranges.{Rank, weight_of, closeness, closest, best_offer, AreInOrder}
+use Rattle.mime_http.specs.Ranges.{Rank, weight_of, closeness, closest, given_weight, best_offer, AreInOrder}
 use Rattle.mime_http.specs.Unescaped.{unescaped}
 use Rattle.mime_http.specs.Weight.{thousandths_of}
 
@@ -60,3 +60,12 @@ abbrev pub MeaningCounts : Type 0
 MeaningCounts =
     (range other offer offered : MediaType) (at : ℕ) → MeanTheSame range other → MeanTheSame offer offered → weight_of range ≡ weight_of other
     → closeness offer (at, range) ≡ closeness offered (at, other)
+
+-- A range that covers none of the offers changes neither their weights nor which is the best nor their order, wherever it stands and
+-- whatever it weighs.
+abbrev pub StrangerChangesNothing : Type 0
+StrangerChangesNothing =
+    (before after offers : List MediaType) (range : MediaType) → ((offer : MediaType) → Contains offers offer → closeness offer (0, range) ≡ None)
+    → ((offer : MediaType) → Contains offers offer → given_weight (before ++ (range ∷ after)) offer ≡ given_weight (before ++ after) offer)
+    × (best_offer (before ++ (range ∷ after)) offers ≡ best_offer (before ++ after) offers)
+    × ((order : List ℕ) → AreInOrder (before ++ after) offers order → AreInOrder (before ++ (range ∷ after)) offers order)

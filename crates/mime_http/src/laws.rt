@@ -3,7 +3,7 @@
 ghost use Rattle.mime_http.specs.HeaderLaws.{HttpIsRead, ReadIsHttp, PlainIsHttp, OneHttpReading, OneHttpFault, TightIsUtf8};
 ghost use Rattle.mime_http.specs.ListLaws.{OneCut, HttpListsAreRead, ReadAreHttpLists, OneHeader, BadIsAlone};
 ghost use Rattle.mime_http.specs.Written.{WrittenIsMeant};
-ghost use Rattle.mime_http.specs.RangesLaws.{ClosestIsClosest, BestIsFirst, CoversItself, MeaningCounts, WeightIsNumber};
+ghost use Rattle.mime_http.specs.RangesLaws.{ClosestIsClosest, BestIsFirst, CoversItself, MeaningCounts, StrangerChangesNothing, WeightIsNumber};
 
 /// A media type as HTTP writes it is read as it, tightened: `text/html ;; charset=utf-8` as `text/html; charset=utf-8`
 /// (RFC 9110, 8.3.1).
@@ -92,4 +92,10 @@ pub fn meaning_counts()
 /// A weight that RFC 9110 allows counts as its number, in thousandths: `0.25` as 250, and `1.` as 1000 (12.4.2).
 pub fn weight_is_number()
     ensures { WeightIsNumber }
+{}
+
+/// A range that covers none of the offers changes neither their weights nor which is the best nor their order: for `text/html` and
+/// `text/plain` an `image/png;q=0` is of no account.
+pub fn stranger_changes_nothing()
+    ensures { StrangerChangesNothing }
 {}

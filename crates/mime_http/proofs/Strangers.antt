@@ -1,0 +1,248 @@
+-- A range that covers none of the offers only moves the ranges after it by one position, which changes no comparison.
+use Rattle.std.proofs.Common.{◌≡◌, ◌∙◌, ◌⊎◌, inl, inr, ◌<◌, ◌≤◌, ◌+◌, ◌-◌, refl, sym, ap, subst, arith, ⊎_elim, ℕ, zero, suc, Bool, true, false, List, [], ◌∷◌, ◌++◌, map, length, get_or, Option, Some, None}
+use Rattle.std.specs.Prelude.{filter_map, find, position, nat_lt, ◌&&◌, if◌then◌else◌, Contains, option_map, unwrap_or, is_some}
+use Rattle.std.specs.List.{list_all, cons_option, enumerate_from, position_from}
+use Rattle.std.specs.Ordering.{is_le, is_gt, nat_cmp, ordering_then}
+use Rattle.std.specs.declared.cmp.Ordering.{Ordering}
+use Rattle.std.proofs.lemmas.Bool.{true≢false}
+use Rattle.std.proofs.lemmas.Bool.Decides.{nat_tests}
+use Rattle.std.proofs.lemmas.Iterator.Adapters.{position_from-zero}
+use Rattle.std.proofs.lemmas.List.{length-append}
+use Rattle.mime.specs.Values.{MediaType}
+use Rattle.mime_http.specs.Ranges.{Rank, rank_cmp, named_parts, demanded, has, weight_of, closeness, closest, merit, given_weight, best_offer, merit_at, AreInOrder}
+use Rattle.mime_http.specs.RangesLaws.{StrangerChangesNothing}
+use Rattle.mime_http.proofs.Closest.{in_more}
+
+-- ---- positions after the range
+
+-- a position once there is one more range at another
+abbrev shifted : ℕ → ℕ → ℕ
+shifted k at = if nat_lt at k then at else at + 1
+
+abbrev shifted_item : ℕ → ℕ × MediaType → ℕ × MediaType
+shifted_item k item = (shifted k item.0, item.1)
+
+abbrev shifted_rank : ℕ → Rank → Rank
+shifted_rank k rank = (rank.0, rank.1, rank.2, shifted k rank.3)
+
+stays : (k at : ℕ) → at < k → shifted k at ≡ at
+stays k at before = let test : nat_lt at k ≡ true = grind (arith, nat_tests) in rw test refl
+
+moves : (k at : ℕ) → k ≤ at → shifted k at ≡ at + 1
+moves k at after = let test : nat_lt at k ≡ false = grind (arith, nat_tests) in rw test refl
+
+same_order : (k x y : ℕ) → nat_cmp (shifted k x) (shifted k y) ≡ nat_cmp x y
+same_order k x y = grind (arith, nat_tests)
+
+-- ranks of which the fourth place alone differs compare by it
+fourth : (a b : Ordering) (c d : Ordering) → c ≡ d → ordering_then (ordering_then a b) c ≡ ordering_then (ordering_then a b) d
+fourth a b c d same = ap (ordering_then (ordering_then a b)) same
+
+same_rank_order : (k : ℕ) (x y : Rank) → rank_cmp (shifted_rank k x) (shifted_rank k y) ≡ rank_cmp x y
+same_rank_order k x y = ap (ordering_then (ordering_then (ordering_then (nat_cmp x.0 y.0) (nat_cmp x.1 y.1)) (nat_cmp x.2 y.2))) (same_order k x.3 y.3)
+
+-- ---- maps that keep an order
+
+all_mapped : {X Y : Type 0} (f : X → Y) (p : Y → Bool) (q : X → Bool) → ((x : X) → p (f x) ≡ q x) → (xs : List X) → list_all p (map f xs) ≡ list_all q xs
+all_mapped f p q same [] = refl
+all_mapped f p q same (x ∷ xs) = ap (λ b. b && list_all p (map f xs)) (same x) ∙ ap (λ b. q x && b) (all_mapped f p q same xs)
+
+found_mapped : {X Y : Type 0} (f : X → Y) (p : Y → Bool) (q : X → Bool) → ((x : X) → p (f x) ≡ q x) → (xs : List X)
+    → find p (map f xs) ≡ option_map f (find q xs)
+found_mapped f p q same [] = refl
+found_mapped f p q same (x ∷ xs) =
+    ap (λ b. if b then Some (f x) else find p (map f xs)) (same x)
+    ∙ elim (q x) as (λ b. (if b then Some (f x) else find p (map f xs)) ≡ option_map f (if b then Some x else find q xs)) [
+      | true ↦ refl
+      | false ↦ found_mapped f p q same xs
+    ]
+
+place_mapped : {X Y : Type 0} (f : X → Y) (p : Y → Bool) (q : X → Bool) → ((x : X) → p (f x) ≡ q x) → (at : ℕ) (xs : List X)
+    → position_from p at (map f xs) ≡ position_from q at xs
+place_mapped f p q same at [] = refl
+place_mapped f p q same at (x ∷ xs) =
+    ap (λ b. if b then Some at else position_from p (at + 1) (map f xs)) (same x)
+    ∙ ap (λ rest. if q x then Some at else rest) (place_mapped f p q same (at + 1) xs)
+
+-- ---- what covers an offer
+
+-- how closely a range covers an offer, once it stands elsewhere
+covers_so : (offer range : MediaType) (k at : ℕ) → closeness offer (shifted k at, range) ≡ option_map (shifted_rank k) (closeness offer (at, range))
+covers_so offer range k at =
+    elim (list_all (has offer) (demanded range.pairs)) as (λ all. (if all
+    then option_map (λ named. (named, length (demanded range.pairs), weight_of range, shifted k at)) (named_parts range offer) else None)
+    ≡ option_map (shifted_rank k) (if all
+    then option_map (λ named. (named, length (demanded range.pairs), weight_of range, at)) (named_parts range offer) else None)) [
+      | true ↦ both (named_parts range offer)
+      | false ↦ refl
+    ]
+  where
+    both : (named : Option ℕ) → option_map (λ n. (n, length (demanded range.pairs), weight_of range, shifted k at)) named
+        ≡ option_map (shifted_rank k) (option_map (λ n. (n, length (demanded range.pairs), weight_of range, at)) named)
+    both None = refl
+    both (Some n) = refl
+
+covers_none : (offer range : MediaType) (at : ℕ) → closeness offer (0, range) ≡ None → closeness offer (at, range) ≡ None
+covers_none offer range at none = go (list_all (has offer) (demanded range.pairs)) (named_parts range offer) none
+  where
+    close : ℕ → ℕ → Rank
+    close at named = (named, length (demanded range.pairs), weight_of range, at)
+
+    go : (all : Bool) (named : Option ℕ) → (if all then option_map (close 0) named else None) ≡ None → (if all then option_map (close at) named else None) ≡ None
+    go false named is = refl
+    go true None is = refl
+    go true (Some n) is = absurd (true≢false (ap is_some is))
+
+onto_mapped : {X Y : Type 0} (f : X → Y) (first : Option X) (rest : List X) → cons_option (option_map f first) (map f rest) ≡ map f (cons_option first rest)
+onto_mapped f None rest = refl
+onto_mapped f (Some x) rest = refl
+
+module _ (offer : MediaType) where
+  -- the ranges that cover it, from a position on
+  abbrev covering : ℕ → List MediaType → List Rank
+  covering at ranges = filter_map (closeness offer) (enumerate_from at ranges)
+
+  later : (k at : ℕ) (ranges : List MediaType) → k ≤ at → covering (at + 1) ranges ≡ map (shifted_rank k) (covering at ranges)
+  later k at [] after = refl
+  later k at (range ∷ ranges) after =
+      let here : closeness offer (at + 1, range) ≡ option_map (shifted_rank k) (closeness offer (at, range)) =
+      ap (λ n. closeness offer (n, range)) (sym (moves k at after)) ∙ covers_so offer range k at in
+      ap (λ first. cons_option first (covering (at + 1 + 1) ranges)) here
+      ∙ (ap (cons_option (option_map (shifted_rank k) (closeness offer (at, range)))) (later k (at + 1) ranges (omega (arith, after)))
+      ∙ onto_mapped (shifted_rank k) (closeness offer (at, range)) (covering (at + 1) ranges))
+
+  module _ (range : MediaType) (none : closeness offer (0, range) ≡ None) (after : List MediaType) where
+    one_more : (k at : ℕ) (before : List MediaType) → k ≡ at + length before
+        → covering at (before ++ (range ∷ after)) ≡ map (shifted_rank k) (covering at (before ++ after))
+    one_more k at [] long =
+        ap (λ first. cons_option first (covering (at + 1) after)) (covers_none offer range at none) ∙ later k at after (omega (arith, long))
+    one_more k at (first ∷ before) long =
+        let here : closeness offer (at, first) ≡ option_map (shifted_rank k) (closeness offer (at, first)) =
+        ap (λ n. closeness offer (n, first)) (sym (stays k at (omega (arith, long)))) ∙ covers_so offer first k at in
+        ap (λ found. cons_option found (covering (at + 1) (before ++ (range ∷ after)))) here
+        ∙ (ap (cons_option (option_map (shifted_rank k) (closeness offer (at, first)))) (one_more k (at + 1) before (omega (arith, long)))
+        ∙ onto_mapped (shifted_rank k) (closeness offer (at, first)) (covering (at + 1) (before ++ after)))
+
+    still_closest : (before : List MediaType) → closest (before ++ (range ∷ after)) offer ≡ option_map (shifted_rank (length before)) (closest (before ++ after) offer)
+    still_closest before =
+        let k = length before in
+        let old = covering 0 (before ++ after) in
+        let top = λ (all : List Rank) (one : Rank). list_all (λ other. is_le (rank_cmp other one)) all in
+        ap (λ all. find (top all) all) (one_more k 0 before (omega arith))
+        ∙ found_mapped (shifted_rank k) (top (map (shifted_rank k) old)) (top old)
+        (λ one. all_mapped (shifted_rank k) (λ other. is_le (rank_cmp other (shifted_rank k one))) (λ other. is_le (rank_cmp other one))
+        (λ other. ap is_le (same_rank_order k other one)) old) old
+
+-- ---- ranks of offers
+
+-- how early a range stands, once there is one more at a position
+abbrev raised : ℕ → ℕ → ℕ → ℕ
+raised k long early = if nat_lt (long - early) k then early + 1 else early
+
+abbrev raised_rank : ℕ → ℕ → Rank → Rank
+raised_rank k long rank = (rank.0, rank.1, rank.2, raised k long rank.3)
+
+same_earliness : (k long x y : ℕ) → nat_cmp (raised k long x) (raised k long y) ≡ nat_cmp x y
+same_earliness k long x y = grind (arith, nat_tests)
+
+same_merit_order : (k long : ℕ) (x y : Rank) → rank_cmp (raised_rank k long x) (raised_rank k long y) ≡ rank_cmp x y
+same_merit_order k long x y =
+    ap (ordering_then (ordering_then (ordering_then (nat_cmp x.0 y.0) (nat_cmp x.1 y.1)) (nat_cmp x.2 y.2))) (same_earliness k long x.3 y.3)
+
+early_so : (k long at : ℕ) → k ≤ long → long + 1 - shifted k at ≡ raised k long (long - at)
+early_so k long at within = grind (arith, nat_tests)
+
+late_so : (k long : ℕ) → k ≤ long → raised k long 0 ≡ 0
+late_so k long within = grind (arith, nat_tests)
+
+module _ (before after : List MediaType) (range : MediaType) where
+  -- the ranges with it, and a rank among them
+  abbrev with_it : List MediaType
+  with_it = before ++ (range ∷ after)
+
+  abbrev raise : Rank → Rank
+  raise = raised_rank (length before) (length (before ++ after))
+
+  within : length before ≤ length (before ++ after)
+  within = omega (arith, length-append before after)
+
+  none_stays : raise (0, 0, 0, 0) ≡ (0, 0, 0, 0)
+  none_stays = λ i. (0, 0, 0, late_so (length before) (length (before ++ after)) within i)
+
+  longer : length with_it ≡ length (before ++ after) + 1
+  longer = omega (arith, length-append before after, length-append before (range ∷ after))
+
+  -- what is made of how closely the closest range covers an offer
+  abbrev merit_by : ℕ → Option Rank → Rank
+  merit_by long found = unwrap_or (option_map (λ close. (close.2, close.0, close.1, long - close.3)) found) (0, 0, 0, 0)
+
+  raised_by : (found : Option Rank) → merit_by (length with_it) (option_map (shifted_rank (length before)) found) ≡ raise (merit_by (length (before ++ after)) found)
+  raised_by None = sym none_stays
+  raised_by (Some close) =
+      let early : length with_it - shifted (length before) close.3 ≡ raised (length before) (length (before ++ after)) (length (before ++ after) - close.3) =
+      ap (λ n. n - shifted (length before) close.3) longer ∙ early_so (length before) (length (before ++ after)) close.3 within in
+      λ i. (close.2, close.0, close.1, early i)
+
+  merit_so : (offer : MediaType) → closeness offer (0, range) ≡ None → merit with_it offer ≡ raise (merit (before ++ after) offer)
+  merit_so offer none = ap (merit_by (length with_it)) (still_closest offer range none after before) ∙ raised_by (closest (before ++ after) offer)
+
+  merits_so : (offers : List MediaType) → ((offer : MediaType) → Contains offers offer → closeness offer (0, range) ≡ None)
+      → map (merit with_it) offers ≡ map raise (map (merit (before ++ after)) offers)
+  merits_so [] none = refl
+  merits_so (offer ∷ offers) none =
+      ap (λ first. first ∷ map (merit with_it) offers) (merit_so offer (none offer (zero, omega arith, refl)))
+      ∙ ap (λ rest. raise (merit (before ++ after) offer) ∷ rest) (merits_so offers (λ other there. none other (in_more offer offers other there)))
+
+  -- whether a rank is the best
+  abbrev is_best : List Rank → Rank → Bool
+  is_best all one = nat_lt 0 one.0 && list_all (λ other. is_le (rank_cmp other one)) all
+
+  same_best : (all : List Rank) → position (is_best (map raise all)) (map raise all) ≡ position (is_best all) all
+  same_best all =
+      position_from-zero (is_best (map raise all)) (map raise all)
+      ∙ (place_mapped raise (is_best (map raise all)) (is_best all)
+      (λ one. ap (λ b. nat_lt 0 one.0 && b) (all_mapped raise (λ other. is_le (rank_cmp other (raise one))) (λ other. is_le (rank_cmp other one))
+      (λ other. ap is_le (same_merit_order (length before) (length (before ++ after)) other one)) all)) 0 all
+      ∙ sym (position_from-zero (is_best all) all))
+
+  at_mapped : (all : List Rank) (at : ℕ) → get_or (map raise all) at (0, 0, 0, 0) ≡ raise (get_or all at (0, 0, 0, 0))
+  at_mapped [] at = sym none_stays
+  at_mapped (rank ∷ all) zero = refl
+  at_mapped (rank ∷ all) (suc at) = at_mapped all at
+
+  module _ (offers : List MediaType) (none : (offer : MediaType) → Contains offers offer → closeness offer (0, range) ≡ None) where
+    place_so : (at : ℕ) → merit_at with_it offers at ≡ raise (merit_at (before ++ after) offers at)
+    place_so at = ap (λ all. get_or all at (0, 0, 0, 0)) (merits_so offers none) ∙ at_mapped (map (merit (before ++ after)) offers) at
+
+    same_place_order : (at other : ℕ)
+        → rank_cmp (merit_at with_it offers at) (merit_at with_it offers other)
+        ≡ rank_cmp (merit_at (before ++ after) offers at) (merit_at (before ++ after) offers other)
+    same_place_order at other =
+        (λ i. rank_cmp (place_so at i) (place_so other i))
+        ∙ same_merit_order (length before) (length (before ++ after)) (merit_at (before ++ after) offers at) (merit_at (before ++ after) offers other)
+
+    still_before : (at other : ℕ)
+        → (is_gt (rank_cmp (merit_at (before ++ after) offers at) (merit_at (before ++ after) offers other)) ≡ true)
+        ⊎ ((merit_at (before ++ after) offers at ≡ merit_at (before ++ after) offers other) × (at < other))
+        → (is_gt (rank_cmp (merit_at with_it offers at) (merit_at with_it offers other)) ≡ true)
+        ⊎ ((merit_at with_it offers at ≡ merit_at with_it offers other) × (at < other))
+    still_before at other (inl above) = inl (ap is_gt (same_place_order at other) ∙ above)
+    still_before at other (inr level) = inr (place_so at ∙ (ap raise level.0 ∙ sym (place_so other)), level.1)
+
+    still_in_order : (order : List ℕ) → AreInOrder (before ++ after) offers order → AreInOrder with_it offers order
+    still_in_order order are = record {
+      best_first = λ i j d below within. still_before _ _ (are.best_first i j d below within);
+      all = λ at.
+          let weight = ap (λ (rank : Rank). rank.0) (place_so at) in (
+            λ there. subst (λ n. 0 < n) (sym weight) ((are.all at).0 there),
+            λ weighs. (are.all at).1 (subst (λ n. 0 < n) weight weighs),
+          );
+    }
+
+pub stranger_changes_nothing : StrangerChangesNothing
+stranger_changes_nothing before after offers range none = (
+  λ offer there. ap (λ (rank : Rank). rank.0) (merit_so before after range offer (none offer there)),
+  ap (λ all. position (λ one. nat_lt 0 one.0 && list_all (λ other. is_le (rank_cmp other one)) all) all) (merits_so before after range offers none)
+      ∙ same_best before after range (map (merit (before ++ after)) offers),
+  still_in_order before after range offers none,
+)
