@@ -1,4 +1,2 @@
 mod ProgramFacts
-mod LineCuts
-mod ReadingOn
 mod Rows

@@ -1,6 +1,6 @@
--- Lines, rows, reports and arguments for which each definition is true, and others for which it is false, so that a page that says
+-- Rows, reports and arguments for which each definition is true, and others for which it is false, so that a page that says
 -- less or more doesn't check.
-use Rattle.std.proofs.Common.{◌≡◌, ℕ, ◌*◌, List, [], ◌∷◌, map, length, refl, sym, ap, ◌∙◌, subst, arith, codes}
+use Rattle.std.proofs.Common.{◌≡◌, ℕ, List, [], ◌∷◌, length, refl, sym, ap, ◌∙◌, subst, arith, codes}
 use Rattle.std.proofs.Math.Seq.{take-length}
 use Rattle.std.proofs.lemmas.Option.{slice_get_within}
 use Rattle.std.specs.Prelude.{Some, None}
@@ -16,33 +16,13 @@ use Rattle.mime.specs.CutLaws.{OneCut}
 use Rattle.mime.specs.declared.scan.fault.ParseError.{ParseError}
 use Rattle.mime.specs.declared.scan.fault.ParseError.TheVariants.{InvalidToken}
 use Rattle.mime_lines.specs.declared.mode.Mode.{Mode}
-use Rattle.mime_lines.specs.declared.error.RunError.TheVariants.{Read, Write, TooLong, NoMemory}
-use Rattle.mime_lines.specs.Program.{limit, mode_named, stop_text}
-use Rattle.mime_lines.specs.Report.{lines_of, row, suffix_row, param_rows, value_rows, item_rows, ReportsText, ReportsLine, ReportsLines, IsReportOf}
+use Rattle.mime_io.specs.Lines.{row}
+use Rattle.mime_lines.specs.Program.{mode_named}
+use Rattle.mime_lines.specs.Report.{suffix_row, param_rows, value_rows, item_rows, ReportsText, ReportsLine, ReportsLines, IsReportOf}
 use Rattle.mime_lines.specs.Report.ReportsText.{read, rejected, listed}
 use Rattle.mime_lines.specs.Report.ReportsLine.{not_text, is_text}
 use Rattle.mime_lines.specs.Report.ReportsLines.{no_more, line_more}
 use lib.Utf8.{encode}
-
--- no bytes have no line
-no_lines : lines_of [] ≡ []
-no_lines = refl
-
--- byte 10 alone ends one empty line
-one_empty_line : lines_of (10 ∷ []) ≡ [] ∷ []
-one_empty_line = refl
-
--- the last line may lack its end
-last_line_without_end : lines_of (codes "a/b\n\nc") ≡ codes "a/b" ∷ [] ∷ codes "c" ∷ []
-last_line_without_end = refl
-
--- byte 13 belongs to its line
-line_with_return : lines_of (codes "a\r\nb\n") ≡ codes "a\r" ∷ codes "b" ∷ []
-line_with_return = refl
-
--- the row of an empty text ends with a space
-empty_row : row (codes "subtype ") [] ≡ codes "subtype \n"
-empty_row = refl
 
 -- the rows of a value with a suffix and a parameter
 rows_of_value :
@@ -73,15 +53,6 @@ list_names_a_mode = refl
 -- a mode is named in lowercase alone
 capitals_name_no_mode : mode_named (codes "LIST") ≡ None
 capitals_name_no_mode = refl
-
--- the most bytes of an input
-limit_of_input : limit ≡ 1024 * 1024
-limit_of_input = refl
-
--- what each error prints
-printed_errors :
-    map stop_text (Read ∷ Write ∷ TooLong ∷ NoMemory ∷ []) ≡ codes "read" ∷ codes "write" ∷ codes "too long" ∷ codes "no memory" ∷ []
-printed_errors = refl
 
 -- a value without suffix and parameters has no row for them
 rows_left_out : (suffix_row None ≡ []) × (param_rows [] ≡ [])

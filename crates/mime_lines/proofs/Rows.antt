@@ -1,10 +1,11 @@
 -- The rows of a report, as the code adds them one by one.
-use Rattle.std.proofs.Common.{◌≡◌, ℕ, List, [], ◌∷◌, ◌++◌, refl, ap, sym, subst, ◌∙◌, append_assoc, append-nil, ◌≢◌, length, arith, codes, Result, Ok, Err, OnOk}
+use Rattle.std.proofs.Common.{◌≡◌, ℕ, List, [], ◌∷◌, ◌++◌, refl, ap, sym, subst, ◌∙◌, append_assoc, append-nil, ◌≢◌, codes, Result, Ok, Err, OnOk}
 use Rattle.mime.specs.Items.{Item, items_of}
 use Rattle.std.specs.Str.{IsUtf8}
 use Rattle.mime.specs.Cut.{CutItem, Cut}
 use Rattle.mime.specs.Runs.{HasNoItem, IsFirstItem}
-use Rattle.mime_lines.specs.Report.{row, param_rows, lines_of, item_row, item_rows, ReportsText, ReportsLine, ReportsLines}
+use Rattle.mime_io.specs.Lines.{lines_of, row}
+use Rattle.mime_lines.specs.Report.{param_rows, item_row, item_rows, ReportsText, ReportsLine, ReportsLines}
 use Rattle.mime_lines.specs.Report.ReportsText.{listed}
 use Rattle.mime_lines.specs.Report.ReportsLine.{is_text}
 use Rattle.mime_lines.specs.Report.ReportsLines.{no_more, line_more}
@@ -49,12 +50,12 @@ ReportsLines-step mode input rest line tail old new cut whole (rows, report, add
     (whole (rows ++ more) (subst (λ lines. ReportsLines mode lines (rows ++ more)) (sym cut) (line_more report reports)))
 
 -- if no lines are left, the report is complete
-pub ReportsLines-end : (mode : Mode) (input rest report : List ℕ) → length rest ≡ 0
+pub ReportsLines-end : (mode : Mode) (input rest report : List ℕ) → lines_of rest ≡ []
     → ((more : List ℕ) → ReportsLines mode (lines_of rest) more → ReportsLines mode (lines_of input) (report ++ more))
     → ReportsLines mode (lines_of input) report
-ReportsLines-end mode input [] report none whole =
-    subst (λ text. ReportsLines mode (lines_of input) text) (append-nil report) (whole [] no_more)
-ReportsLines-end mode input (byte ∷ rest) report none whole = absurd (omega arith)
+ReportsLines-end mode input rest report none whole =
+    subst (λ text. ReportsLines mode (lines_of input) text) (append-nil report)
+    (whole [] (subst (λ lines. ReportsLines mode lines []) (sym none) no_more))
 
 -- ---- items
 

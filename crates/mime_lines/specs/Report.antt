@@ -1,22 +1,13 @@
 -- What the program writes of the bytes that it reads: a report on each line, in order.
-use Rattle.std.specs.Prelude.{ℕ, List, [], ◌∷◌, ◌++◌, Option, Some, None, if◌then◌else◌, ◌==◌, codes}
-use Rattle.std.specs.List.{onto_first}
+use Rattle.std.specs.Prelude.{ℕ, List, [], ◌∷◌, ◌++◌, Option, Some, None, codes}
 use Rattle.std.specs.Str.{IsUtf8}
 use Rattle.mime.specs.Values.{MediaType, type_of, subtype_of, suffix_of, Reads}
 use Rattle.mime.specs.Faults.{IsFault}
 use Rattle.mime.specs.Printed.{error_text}
 use Rattle.mime.specs.Cut.{CutItem, good, bad, Cut}
 use Rattle.mime.specs.declared.scan.fault.ParseError.{ParseError}
+use Rattle.mime_io.specs.Lines.{lines_of, row}
 use Rattle.mime_lines.specs.declared.mode.Mode.{Mode}
-
--- the lines of bytes: byte 10 ends a line, and what comes after the last byte 10 is a line if it isn't empty
-abbrev pub lines_of : List ℕ → List (List ℕ)
-lines_of [] = []
-lines_of (byte ∷ bytes) = if byte == 10 then [] ∷ lines_of bytes else onto_first byte (lines_of bytes)
-
--- a row of the report is a label, a text and byte 10
-abbrev pub row : List ℕ → List ℕ → List ℕ
-row label text = label ++ (text ++ 10 ∷ [])
 
 abbrev pub suffix_row : Option (List ℕ) → List ℕ
 suffix_row None = []

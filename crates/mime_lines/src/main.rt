@@ -1,14 +1,10 @@
 //! Reads media types, one a line or, with the argument `list`, lists of them, and reports on each.
 #![tactic(auto)]
 
-ghost use Rattle.std.specs.Prelude.{◌≡◌, ◌<◌, ◌≤◌, Some, None, IsSomeAnd, OnOk, OnErr, slice_get, string_bytes};
-ghost use Rattle.std.specs.Process.{exit_status};
+ghost use Rattle.std.specs.Prelude.{◌≡◌, ◌<◌, ◌≤◌, Some, None, IsSomeAnd, slice_get, string_bytes};
 ghost use Rattle.std.specs.Vec.Iter.{into_iter_items, into_iter_len};
 ghost use Rattle.mime_lines.specs.Program.{mode_named};
 
-mod device;
-mod error;
-mod input;
 pub mod laws;
 mod mode;
 mod program;
@@ -16,10 +12,10 @@ mod report;
 #[cfg(test)]
 mod tests;
 
-pub use crate::device::{Device, Failed, Sink, Source};
-pub use crate::error::RunError;
 pub use crate::mode::Mode;
 pub use crate::program::run;
+use mime_io::ended;
+pub use mime_io::{Device, Failed, RunError, Sink, Source};
 use std::env;
 use std::env::Args;
 use std::process::ExitCode;
@@ -73,18 +69,4 @@ fn main(rt: HostRuntime) -> ExitCode {
     };
     let outcome = run(rt.alloc(), &mut input, &mut output, mode);
     ended(&rt, outcome)
-}
-
-/// The exit status of a run, whose error is printed on standard error.
-fn ended(rt: &impl Eprint, outcome: Result<(), RunError>) -> ExitCode
-    ensures done { OnOk outcome (exit_status result ≡ 0) }
-    ensures stopped { OnErr outcome (exit_status result ≡ 1) }
-{
-    match outcome {
-        Ok(()) => ExitCode::SUCCESS,
-        Err(error) => {
-            let _ = eprintln!(rt; "{error}");
-            ExitCode::FAILURE
-        }
-    }
 }

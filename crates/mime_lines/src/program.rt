@@ -1,15 +1,13 @@
 //! One run of the program, from a source to a sink.
 
-ghost use Rattle.std.specs.Prelude.{◌≡◌, ◌≢◌, ℕ, List, ◌≤◌, ◌+◌, length, true, OnOk, OnErr, IfErr};
+ghost use Rattle.std.specs.Prelude.{◌≡◌, ◌≢◌, ℕ, List, ◌≤◌, ◌+◌, length, true, OnOk, IfErr};
 ghost use Rattle.std.specs.Io.KnownBytes.{Consumes, Appends, IsAtEnd};
-ghost use Rattle.mime_lines.specs.Program.{limit};
+ghost use Rattle.mime_io.specs.Stops.{limit};
 ghost use Rattle.mime_lines.specs.Report.{IsReportOf};
 
-use crate::device::{Sink, Source};
-use crate::error::RunError;
-use crate::input::read_to_limit;
 use crate::mode::Mode;
 use crate::report::report_of;
+use mime_io::{RunError, Sink, Source, read_to_limit, write_report};
 use std::alloc::Global;
 
 /// Reads a source to its end, and then writes the report on what it read to a sink. For `a/b` this is
@@ -50,19 +48,4 @@ pub fn run<S: Source, T: Sink>(
         return Err(RunError::NoMemory);
     };
     write_report(sink, report.as_str().as_bytes())
-}
-
-/// Writes a report to a sink, and flushes it.
-fn write_report<T: Sink>(sink: &mut T, report: &[u8]) -> Result<(), RunError>
-    ensures bytes { OnOk result (Appends (T.held sink.old) (T.held sink.new) report.now) }
-    ensures flushed { OnOk result (T.IsFlushed sink.new) }
-    // The sink fails exactly if the result isn't `Ok`, but `Write`.
-    ensures unfailed { OnOk result (T.has_failed sink.new ≡ T.has_failed sink.old) }
-    ensures failed { OnErr result (T.has_failed sink.new ≡ true) }
-    ensures write { IfErr result (λ error. error ≡ RunError.Write) }
-{
-    if sink.write_all(report).is_err() || sink.flush().is_err() {
-        return Err(RunError::Write);
-    }
-    Ok(())
 }

@@ -2,13 +2,14 @@
 
 ghost use Rattle.std.specs.Prelude.{◌≡◌, ◌++◌, OnOk, IfOk, string_bytes};
 ghost use Rattle.mime.specs.Values.{suffix_of};
-ghost use Rattle.mime_lines.specs.Report.{row, suffix_row, param_rows, value_rows};
+ghost use Rattle.mime_io.specs.Lines.{row};
+ghost use Rattle.mime_lines.specs.Report.{suffix_row, param_rows, value_rows};
 ghost use Rattle.mime_lines.specs.Report.{ReportsText, ReportsLine, IsReportOf};
 ghost use Rattle.mime_lines.specs.Inner.{Adds};
 
-use crate::input::first_line;
 use crate::mode::Mode;
 use mime::{Bad, Mime, MimeIter, ParseError};
+use mime_io::first_line;
 use std::alloc::{AllocError, Global};
 
 /// The report on an input, whose lines are validated one by one.
@@ -17,8 +18,7 @@ pub(crate) fn report_of(alloc: Global, input: &[u8], mode: Mode) -> Result<Strin
 {
     let mut report = String::new(alloc);
     let mut rest = input;
-    while !rest.is_empty() {
-        let (line, more) = first_line(rest);
+    while let Some((line, more)) = first_line(rest) {
         push_line(alloc, &mut report, line, mode)?;
         rest = more;
     }

@@ -2,7 +2,7 @@
 use Rattle.std.proofs.Common.{ap, codes, rules, ◌≡◌, subst, refl, ◌∙◌, Some, Err}
 use Rattle.mime.specs.declared.iter.Bad.TheVariants.{Piece}
 use Rattle.mime.specs.Runs.{GivesItem}
-use Rattle.mime_lines.specs.Report.{row}
+use Rattle.mime_io.specs.Lines.{row}
 use Rattle.mime_lines.proofs.Rows.{listing-step, listing-end}
 use Rattle.mime_lines.proofs.report.push_items.Goals.{in-Ok, in-Err-Piece, in-Err-NoMemory}
 use Rattle.mime_lines.proofs.report.push_items.Goals as goal

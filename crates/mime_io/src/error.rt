@@ -1,7 +1,7 @@
 //! Why a run stops before its end.
 
 ghost use Rattle.std.specs.Prelude.{◌≡◌, Some};
-ghost use Rattle.mime_lines.specs.Program.{stop_text};
+ghost use Rattle.mime_io.specs.Stops.{stop_text};
 
 use std::fmt;
 

@@ -1,7 +1,7 @@
 -- If too much was given, it is what was kept and what the last read gave.
 use Rattle.std.proofs.Common.{rules, ◌++◌, take}
-use Rattle.mime_lines.proofs.ReadingOn.{consumed_together, one_past_the_limit}
-use Rattle.mime_lines.proofs.input.read_to_limit.Goals as goal
+use Rattle.mime_io.proofs.ReadingOn.{consumed_together, one_past_the_limit}
+use Rattle.mime_io.proofs.input.read_to_limit.Goals as goal
 
 pub returns-then-count-len-clause-too_long : goal.returns-then-count-len-clause-too_long
 returns-then-count-len-clause-too_long g c _ = (

@@ -2,7 +2,7 @@
 use Rattle.std.proofs.Common.{◌≡◌, ℕ, ◌+◌, ◌-◌, ◌<◌, ◌≤◌, List, ◌++◌, length, take, Option, Some, None, arith, ap, sym, ◌∙◌}
 use Rattle.std.proofs.lemmas.List.{append_assoc, length-append, length-take-le}
 use Rattle.std.specs.Io.KnownBytes.{Consumes}
-use Rattle.mime_lines.specs.Program.{limit}
+use Rattle.mime_io.specs.Stops.{limit}
 
 -- what is consumed first and what is consumed next are consumed together
 pub consumed_together : (left between after : Option (List ℕ)) (xs ys : List ℕ) → Consumes left between xs → Consumes between after ys

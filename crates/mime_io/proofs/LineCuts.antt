@@ -4,7 +4,7 @@ use Rattle.std.proofs.lemmas.List.{take-append-drop, drop-drop, length-take-le}
 use Rattle.std.proofs.lemmas.Bool.{true≢false}
 use Rattle.std.specs.List.{list_any, position_or_len, onto_first}
 use Rattle.std.proofs.lemmas.List.Sums.{prefix_len-le-length}
-use Rattle.mime_lines.specs.Report.{lines_of}
+use Rattle.mime_io.specs.Lines.{lines_of}
 use Rattle.std.proofs.lemmas.Grind.{common_steps}
 
 -- a first line with one more byte in front of it

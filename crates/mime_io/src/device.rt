@@ -1,4 +1,4 @@
-//! What the program reads from and writes to: a source, a sink, and a device that is one of them.
+//! What a program reads from and writes to: a source, a sink, and a device that is one of them.
 
 ghost use Rattle.std.specs.Prelude.{◌≡◌, List, ℕ, Bool, true, Option, Ok, IsErr, MatchResult, OnOk, OnErr, ⊤};
 ghost use Rattle.std.specs.Io.{ReadsAtMost};

@@ -1,7 +1,7 @@
 -- If no line ends among the next bytes, the search goes on after them.
 use Rattle.std.proofs.Common.{◌+◌, ◌-◌, ◌∙◌, nat_eq, sym, arith}
-use Rattle.mime_lines.proofs.LineCuts.{passed_onward}
-use Rattle.mime_lines.proofs.input.whole_steps.Goals as goal
+use Rattle.mime_io.proofs.LineCuts.{passed_onward}
+use Rattle.mime_io.proofs.input.whole_steps.Goals as goal
 
 pub loop-end-preserved : goal.loop-end-preserved
 loop-end-preserved c =

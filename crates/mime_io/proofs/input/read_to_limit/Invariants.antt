@@ -1,8 +1,8 @@
 -- What is read so far is within the limit, and was taken off the source.
 use Rattle.std.proofs.Common.{◌≡◌, ◌+◌, ◌≤◌, ◌-◌, length}
 use Rattle.std.specs.Io.KnownBytes.{Consumes}
-use Rattle.mime_lines.specs.Program.{limit}
-use Rattle.mime_lines.proofs.input.read_to_limit.Given as goal
+use Rattle.mime_io.specs.Stops.{limit}
+use Rattle.mime_io.proofs.input.read_to_limit.Given as goal
 
 abbrev pub invariant-loop-count : goal.invariant-loop-count
 invariant-loop-count g l =

@@ -1,7 +1,7 @@
 -- After the steps that were passed the first line ends where it ends in the whole.
 use Rattle.std.proofs.Common.{◌-◌, length}
-use Rattle.mime_lines.proofs.LineCuts.{IsPassed}
-use Rattle.mime_lines.proofs.input.whole_steps.Given as goal
+use Rattle.mime_io.proofs.LineCuts.{IsPassed}
+use Rattle.mime_io.proofs.input.whole_steps.Given as goal
 
 abbrev pub invariant-loop-end : goal.invariant-loop-end
 invariant-loop-end l = IsPassed l.end l.fn.input

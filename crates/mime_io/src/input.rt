@@ -1,10 +1,10 @@
 //! The input: all bytes of a source up to a limit, and their lines.
 
-ghost use Rattle.std.specs.Prelude.{◌≡◌, ◌≢◌, ℕ, List, ◌<◌, ◌≤◌, ◌∷◌, ◌==◌, ◌+◌, length, drop, true, OnOk, IfOk};
+ghost use Rattle.std.specs.Prelude.{◌≡◌, ◌≢◌, ℕ, List, [], ◌<◌, ◌≤◌, ◌∷◌, ◌==◌, ◌+◌, length, drop, true, OnOk, IfOk, IfSome, MatchOption};
 ghost use Rattle.std.specs.List.{list_any, position_or_len};
 ghost use Rattle.std.specs.Io.KnownBytes.{Consumes, IsAtEnd};
-ghost use Rattle.mime_lines.specs.Program.{limit};
-ghost use Rattle.mime_lines.specs.Report.{lines_of};
+ghost use Rattle.mime_io.specs.Stops.{limit};
+ghost use Rattle.mime_io.specs.Lines.{lines_of};
 
 use crate::device::Source;
 use crate::error::RunError;
@@ -20,7 +20,7 @@ const BLOCK: usize = 8192;
 const STEP: usize = 8;
 
 /// Reads a source to its end, and no further than one byte past the limit.
-pub(crate) fn read_to_limit<S: Source>(alloc: Global, source: &mut S) -> Result<Vec<u8>, RunError>
+pub fn read_to_limit<S: Source>(alloc: Global, source: &mut S) -> Result<Vec<u8>, RunError>
     // What was left is read to its end, within the limit.
     ensures bytes { IfOk result (λ input. Consumes (S.left source.old) (S.left source.new) input.items) }
     ensures end { OnOk result (IsAtEnd (S.left source.new)) }
@@ -90,13 +90,15 @@ fn line_end(input: &[u8]) -> usize
     end
 }
 
-/// The first line of a nonempty input, and the rest after its line feed.
-pub(crate) fn first_line(input: &[u8]) -> (&[u8], &[u8])
-    requires { 0 < length input.now }
-    ensures lines { lines_of input.now ≡ result.0.now ∷ lines_of result.1.now }
-    ensures shorter { length result.1.now < length input.now }
+/// The first line of an input and the rest after its line feed, or `None` if the input is empty.
+pub fn first_line(input: &[u8]) -> Option<(&[u8], &[u8])>
+    ensures lines { MatchOption result (lines_of input.now ≡ []) (λ cut. lines_of input.now ≡ cut.0.now ∷ lines_of cut.1.now) }
+    ensures shorter { IfSome result (λ cut. length cut.1.now < length input.now) }
 {
+    if input.is_empty() {
+        return None;
+    }
     let end = line_end(input);
     let next = (end + 1).min(input.len());
-    (&input[..end], &input[next..])
+    Some((&input[..end], &input[next..]))
 }

@@ -1,0 +1,35 @@
+-- Lines, rows and errors for which each definition is true, and others for which it is false, so that a page that says less or more doesn't
+-- check.
+use Rattle.std.proofs.Common.{◌≡◌, ◌*◌, [], ◌∷◌, map, refl, codes}
+use Rattle.mime_io.specs.declared.error.RunError.TheVariants.{Read, Write, TooLong, NoMemory}
+use Rattle.mime_io.specs.Lines.{lines_of, row}
+use Rattle.mime_io.specs.Stops.{limit, stop_text}
+
+-- no bytes have no line
+no_lines : lines_of [] ≡ []
+no_lines = refl
+
+-- byte 10 alone ends one empty line
+one_empty_line : lines_of (10 ∷ []) ≡ [] ∷ []
+one_empty_line = refl
+
+-- the last line may lack its end
+last_line_without_end : lines_of (codes "a/b\n\nc") ≡ codes "a/b" ∷ [] ∷ codes "c" ∷ []
+last_line_without_end = refl
+
+-- byte 13 belongs to its line
+line_with_return : lines_of (codes "a\r\nb\n") ≡ codes "a\r" ∷ codes "b" ∷ []
+line_with_return = refl
+
+-- the row of an empty text ends with a space
+empty_row : row (codes "subtype ") [] ≡ codes "subtype \n"
+empty_row = refl
+
+-- the most bytes of an input
+limit_of_input : limit ≡ 1024 * 1024
+limit_of_input = refl
+
+-- what each error prints
+printed_errors :
+    map stop_text (Read ∷ Write ∷ TooLong ∷ NoMemory ∷ []) ≡ codes "read" ∷ codes "write" ∷ codes "too long" ∷ codes "no memory" ∷ []
+printed_errors = refl

@@ -1,0 +1,3 @@
+mod IoFacts
+mod LineCuts
+mod ReadingOn

@@ -1,0 +1,3 @@
+-- the trusted pages
+pub mod Lines
+pub mod Stops

@@ -1,0 +1,14 @@
+//! The laws of the public types, as a function that does nothing: whoever calls it has them in the proof.
+
+ghost use Rattle.std.specs.Prelude.{◌≡◌};
+
+use crate::device::Failed;
+use crate::error::RunError;
+
+/// An error and a failure can always be copied and cloned, and the copy is the same.
+pub fn copies_are_same()
+    ensures error { (value copy : RunError) → ⟦<RunError as Clone>⟧.is_clone value copy → copy ≡ value }
+    ensures error_always { (value : RunError) → ⟦<RunError as Clone>⟧.is_infallible value }
+    ensures failed { (value copy : Failed) → ⟦<Failed as Clone>⟧.is_clone value copy → copy ≡ value }
+    ensures failed_always { (value : Failed) → ⟦<Failed as Clone>⟧.is_infallible value }
+{}

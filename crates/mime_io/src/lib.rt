@@ -1,0 +1,14 @@
+//! What the programs share: sources and sinks, reading an input up to a limit and cutting it into lines, writing a report at once, and why
+//! a run stops.
+#![tactic(auto)]
+
+mod device;
+mod error;
+mod input;
+pub mod laws;
+mod output;
+
+pub use crate::device::{Device, Failed, Sink, Source};
+pub use crate::error::RunError;
+pub use crate::input::{first_line, read_to_limit};
+pub use crate::output::{ended, write_report};
