@@ -109,13 +109,14 @@ pub(crate) fn param_count(mime: &Mime) -> usize
     count
 }
 
-/// How many parameters a range has other than its weight `q`, before and after it (RFC 9110, 12.5.1), and that weight; `None` if an offer
-/// hasn't all of them. One walk finds both. It isn't inlined: most ranges have no parameter.
+/// In one walk: how many parameters a range has other than its weight `q`, before and after that (RFC 9110, 12.5.1), if an offer has them
+/// all; and the weight. It isn't inlined: most ranges have no parameter.
 #[inline(never)]
 fn demanded_among(range: &Mime, offer: &Mime) -> Option<(usize, u16)>
     ensures { result ≡ (if list_all (has offer.now.media) (demanded range.now.media.pairs)
         then Some (length (demanded range.now.media.pairs), weight_of range.now.media) else None) }
 {
+    // For the proof: the count stays below it.
     let most = param_count(range);
     let mut count = 0;
     let mut weight = None;
@@ -159,8 +160,8 @@ pub(crate) fn demanded(range: &Mime, offer: &Mime) -> Option<(usize, u16)>
 }
 
 /// Whether a range covers an offer: `text/*` covers `text/html`, and `text/html;level=1` covers `text/html;level=1` and not all HTML
-/// (RFC 9110, 12.5.1). The offer must have each parameter of the range, also those after its weight `q`, which itself doesn't matter.
-/// Case counts in the values, but for those of a charset.
+/// (RFC 9110, 12.5.1). The offer must have each parameter of the range, also those after its weight `q`, which itself doesn't matter, with a
+/// value that means the same: a backslash and the byte after it mean that byte, and case counts, but for a charset's.
 pub fn covers(range: &Mime, offer: &Mime) -> bool
     ensures { result ≡ is_some (closeness offer.now.media (0, range.now.media)) }
 {

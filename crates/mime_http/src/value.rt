@@ -130,9 +130,11 @@ fn read_rejected(alloc: Global, value: &str, fault: ParseError) -> Result<Mime, 
 ///
 /// A value that [`Mime::from_str`] accepts is read as it stands, with one allocation, or none for at most 40 bytes, and so is one
 /// with white space after it. Another is copied first, without that white space and those parameters, with one allocation more:
-/// ` text/html ;; charset=utf-8` is kept as `text/html; charset=utf-8`. The values of parameters keep their backslashes. Rejecting
-/// allocates nothing, but for a copy if something is left out before the fault, and for a media type of more than 40 bytes that white
-/// space and another byte follow. Both are freed.
+/// ` text/html ;; charset=utf-8` is kept as `text/html; charset=utf-8`. The values of parameters keep their backslashes.
+///
+/// Rejecting a value allocates at most twice, and frees it. It copies the value if the byte that `from_str` finds at fault is white space
+/// that begins the value or precedes a semicolon, or a semicolon after another, even if HTTP allows none there, as in `a ;`. And it
+/// reads what stands before white space and another byte, which allocates if that is a media type of more than 40 bytes.
 ///
 /// # Errors
 /// `NotUtf8` for a value that isn't valid UTF-8, before anything is allocated; `Invalid` with the fault of a value that
