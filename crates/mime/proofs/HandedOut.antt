@@ -16,5 +16,6 @@ pub use Rattle.mime.proofs.CutLemmas.Cuts.{accepted_or_rejected}
 -- Faults: a text is viable exactly if it can be walked, so are its prefixes, and a rejected one has one fault.
 pub use Rattle.mime.proofs.GrammarLemmas.Viability.{viable-from_walk, walk-from_viable, viable-from_lacks, dead-from_walk, not_viable-at_dead, prefix_of_viable_is_viable}
 pub use Rattle.mime.proofs.GrammarLemmas.Faults.{completed_is_rejected, one_fault}
+pub use Rattle.mime.proofs.ValueLemmas.Reading.{rejected-from_fault}
 -- The essence of a value that was read is read as the value without its parameters.
 pub use Rattle.mime.proofs.LawsLemmas.Written.{essence_is_read}

@@ -1,22 +1,19 @@
 -- The content of quoted strings: what is written for a value, and what needs no backslash.
 use Rattle.std.proofs.Common.{◌≡◌, ◌≢◌, ◌∙◌, ◌==◌, ◌<◌, ◌≤◌, ℕ, zero, suc, Bool, true, false, List, [], ◌∷◌, ◌++◌, arith, refl, sym, ap, ap₂, cond, ⊎_elim, append-nil, append_assoc, ◌+◌, ◌*◌, get_or, length, take, drop}
-use Rattle.std.specs.Prelude.{◌||◌, ◌&&◌, not, if◌then◌else◌, nat_le, nat_lt}
+use Rattle.std.specs.Prelude.{◌||◌, ◌&&◌, not, if◌then◌else◌}
 use Rattle.std.specs.Char.{to_ascii_lowercase}
 use Rattle.std.specs.List.{list_all}
 use Rattle.std.proofs.Math.Seq.{take-length, drop-length, take-append-add, drop-append-add}
-use Rattle.std.proofs.lemmas.Bool.{and_parts, and_from, or_parts, cond_both, cases_Bool, cases_lt, eqb-true, false_from_ne_true}
+use Rattle.std.proofs.lemmas.Bool.{and_parts, and_from, or_parts, cond_both, cases_Bool, eqb-true, false_from_ne_true}
 use Rattle.std.proofs.lemmas.Bool.Decides.{nat_tests}
-use Rattle.std.proofs.lemmas.Grind.{flat_map-append}
-use Rattle.std.proofs.lemmas.Str.{encode_ascii, encodes-append}
 use Rattle.mime.specs.Bytes.{is_token_byte, is_quoted_byte, is_quoted_text_byte}
 use Rattle.mime.specs.Grammar.{IsToken, IsContent, no_byte, text_byte, quoted_pair}
 use Rattle.mime.specs.HeaderLaws.{AreHeaderBytes}
 use Rattle.mime.specs.Values.{lowered, is_charset}
-use Rattle.mime.proofs.HandedOut.{AreTokenBytes-from_token, high_bytes}
+use Rattle.mime.proofs.HandedOut.{AreTokenBytes-from_token}
 use Rattle.mime_http.specs.Boundary.{is_bchar, IsBoundary}
 use Rattle.mime_http.specs.Unescaped.{unescaped}
-use Rattle.mime_http.specs.Written.{escaped_byte, escaped, WrittenIsMeant}
-use lib.Utf8.{scalar, encode, encodes}
+use Rattle.mime_http.specs.Written.{escaped, WrittenIsMeant}
 
 -- whether a byte is written after a backslash
 abbrev pub is_special : ℕ → Bool
@@ -191,28 +188,3 @@ written_is_meant name value =
       | true ↦ ap unescaped (lowered_escaped value) ∙ meant (lowered value)
       | false ↦ meant value
     ]
-
--- the bytes of a character past ASCII need no backslash
-abbrev is_high : ℕ → Bool
-is_high b = nat_le 128 b && nat_lt b 248
-
-high_plain : (b : ℕ) → is_high b ≡ true → is_special b ≡ false
-high_plain b high = grind (arith, nat_tests)
-
--- what is written for a character
-pub escaped_character : (c : ℕ) → scalar c ≡ true → escaped (encode c) ≡ cond (is_special c) (92 ∷ []) [] ++ encode c
-escaped_character c is =
-    ⊎_elim (λ ascii. rw (encode_ascii c ascii) (one c))
-    (λ above.
-    let other : is_special c ≡ false = grind (arith, nat_tests) in
-    rw other (plain_class is_high high_plain (encode c) (high_bytes c is above)))
-    (cases_lt c 128)
-  where
-    one : (c : ℕ) → escaped_byte c ++ [] ≡ cond (is_special c) (92 ∷ []) [] ++ (c ∷ [])
-    one c = ⊎_elim (λ special. rw special refl) (λ plain. rw plain refl) (cases_Bool (is_special c))
-
--- and for one more
-pub escaped_more : (characters : List ℕ) (c : ℕ) → escaped (encodes characters) ++ escaped (encode c) ≡ escaped (encodes (characters ++ (c ∷ [])))
-escaped_more characters c =
-    sym (flat_map-append escaped_byte (encodes characters) (encode c))
-    ∙ ap escaped (ap (λ last. encodes characters ++ last) (sym (append-nil (encode c))) ∙ sym (encodes-append characters (c ∷ [])))

@@ -1,8 +1,7 @@
 -- The kinds of a value's bytes, and the form in which it is written.
-use Rattle.std.proofs.Common.{◌≡◌, ◌≢◌, ◌∙◌, ◌==◌, ◌<◌, ◌≤◌, ℕ, suc, Bool, true, false, List, [], ◌∷◌, ◌++◌, arith, refl, sym, ap, subst, ⊎_elim, drop, get_or, take, length, append-nil, append_assoc, ◌+◌}
+use Rattle.std.proofs.Common.{◌≡◌, ◌≢◌, ◌∙◌, ◌==◌, ◌<◌, ◌≤◌, ℕ, suc, Bool, true, false, List, [], ◌∷◌, ◌++◌, arith, refl, sym, ap, subst, ⊎_elim, drop, get_or, take, length, append_assoc, ◌+◌}
 use Rattle.std.specs.Prelude.{◌&&◌, bit_and, not, codes, if◌then◌else◌}
 use Rattle.std.specs.List.{list_all, prefix_len}
-use Rattle.std.specs.Int.Bits.{and_zero_l}
 use Rattle.std.proofs.Math.Seq.{drop-cons}
 use Rattle.std.proofs.lemmas.List.{take_more}
 use Rattle.std.proofs.lemmas.List.Sums.{prefix_len-le-length, prefix_len_stops}
@@ -64,10 +63,6 @@ pub record Seen (value : List ℕ) (kind : ℕ) (left : List ℕ) : Type 0 where
   pub split : bytes ++ left ≡ value
   pub is : kind ≡ kind_of bytes
 
--- of no byte everything holds
-pub none_seen : (value : List ℕ) → Seen value 7 value
-none_seen value = record { bytes = []; split = refl; is = refl }
-
 -- a block more
 pub block_seen : {value : List ℕ} {kind : ℕ} {left : List ℕ} → Seen value kind left → (block rest : List ℕ) → left ≡ block ++ rest
     → Seen value (bit_and kind (kind_of block)) rest
@@ -76,16 +71,6 @@ block_seen seen block rest is = record {
   split = append_assoc seen.bytes block rest ∙ ap (λ left. seen.bytes ++ left) (sym is) ∙ seen.split;
   is = ap (λ kind. bit_and kind (kind_of block)) seen.is ∙ sym (kind_of-append seen.bytes block);
 }
-
--- after the last block the kind is the value's
-pub all_seen : {value : List ℕ} {kind : ℕ} {left : List ℕ} → Seen value kind left → left ≡ [] → kind ≡ kind_of value
-all_seen seen ended = seen.is ∙ ap kind_of (sym (append-nil seen.bytes) ∙ ap (λ left. seen.bytes ++ left) (sym ended) ∙ seen.split)
-
--- a byte that no quoted string can hold decides
-pub bad_seen : {value : List ℕ} {kind : ℕ} {left : List ℕ} → Seen value kind left → kind ≡ 0 → kind ≡ kind_of value
-bad_seen {left = left} seen bad =
-    bad ∙ sym (and_zero_l (kind_of left)) ∙ ap (λ kind. bit_and kind (kind_of left)) (sym bad ∙ seen.is)
-    ∙ sym (kind_of-append seen.bytes left) ∙ ap kind_of seen.split
 
 -- ---- bytes before the first quote or backslash
 

@@ -28,15 +28,10 @@ parameter_text (name, value) = ap (λ rest. 59 ∷ 32 ∷ rest) (by_test (is_tok
     by_test true = ap (λ rest. name ++ (61 ∷ rest)) (sym (append-nil value))
     by_test false = refl
 
--- the test for a token holds for tokens,
+-- the test for a token holds for tokens alone
 pub token_from_test : (value : List ℕ) → is_token_value value ≡ true → IsToken value
 token_from_test [] is = absurd cc
 token_from_test (b ∷ value) is = is
-
--- and for no others
-pub test_from_token : (value : List ℕ) → IsToken value → is_token_value value ≡ true
-test_from_token [] is = absurd is
-test_from_token (b ∷ value) is = is
 
 -- a safe pair is written as a parameter,
 parameter_fine : (pair : List ℕ × List ℕ) → IsSafePair pair → IsParameter (parameter_of pair)

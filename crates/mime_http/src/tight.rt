@@ -1,6 +1,6 @@
 //! A header's value without what HTTP allows there and the library rejects.
 
-ghost use Rattle.std.specs.Prelude.{◌≡◌, ◌<◌, [], ◌∷◌, ◌++◌, true, length, slice_index, OnOk, IfOk};
+ghost use Rattle.std.specs.Prelude.{◌≡◌, ◌<◌, [], ◌∷◌, ◌++◌, true, length, slice_index, OnOk, IfOk, IsOk};
 ghost use Rattle.std.specs.Str.{IsUtf8};
 ghost use Rattle.std.specs.Vec.{vec_items};
 ghost use Rattle.mime.specs.Grammar.{is_space};
@@ -174,7 +174,8 @@ fn tightening_at_white(alloc: Global, value: &[u8], pos: usize) -> Result<Tighte
     requires some { 0 < pos }
     requires fault { IsDeadAt value.now pos (slice_index value.now pos) }
     requires white { is_space (slice_index value.now pos) ≡ true }
-    ensures { IfOk result (IsTightening value.now (InvalidToken pos (slice_index value.now pos))) }
+    ensures left { IfOk result (IsTightening value.now (InvalidToken pos (slice_index value.now pos))) }
+    ensures memory { tight value.now ≡ value.now → IsOk result }
 {
     let rest = trim_start(&value[pos + 1..]);
     let next = value.len() - rest.len();
@@ -193,7 +194,8 @@ pub(crate) fn tightening_of(
 ) -> Result<Tightening, AllocError>
     requires utf8 { IsUtf8 value.now }
     requires fault { IsFault value.now fault }
-    ensures { IfOk result (IsTightening value.now fault) }
+    ensures left { IfOk result (IsTightening value.now fault) }
+    ensures memory { tight value.now ≡ value.now → IsOk result }
 {
     let ParseError::InvalidToken { pos, byte } = fault else {
         return Ok(Tightening::Nothing);

@@ -1,9 +1,9 @@
 //! The media type of a header's value, which comes as bytes.
 
-ghost use Rattle.std.specs.Prelude.{◌≡◌, ◌≢◌, codes, Some, IfOk, IfErr, IsOk, MatchResult};
+ghost use Rattle.std.specs.Prelude.{◌≡◌, ◌≢◌, ◌≤◌, codes, length, Some, IfOk, IfErr, IsOk, MatchResult};
 ghost use Rattle.std.specs.Fmt.InlineText.{inline_text};
 ghost use Rattle.std.specs.Str.{IsUtf8, IsValidUpTo, valid_up_to};
-ghost use Rattle.mime.specs.Values.{Reads};
+ghost use Rattle.mime.specs.Values.{Reads, IsAccepted};
 ghost use Rattle.mime.specs.Faults.{IsFault};
 ghost use Rattle.mime_http.specs.HttpMediaType.{HttpReads, IsHttpMediaType};
 ghost use Rattle.mime_http.specs.HttpFaults.{HttpExplains};
@@ -87,7 +87,8 @@ pub(crate) fn read_tight(
     fault: ParseError,
 ) -> Result<Result<Mime, Rejected>, AllocError>
     requires { IsFault value.now fault }
-    ensures { IfOk result (λ answer. MatchResult answer (λ mime. Reads (tight value.now) mime.media) (IsRejected value.now)) }
+    ensures read { IfOk result (λ answer. MatchResult answer (λ mime. Reads (tight value.now) mime.media) (IsRejected value.now)) }
+    ensures memory { tight value.now ≡ value.now → IsOk result }
 {
     let left = tightening_of(alloc, value.as_bytes(), fault)?;
     let text = match &left {
@@ -116,6 +117,7 @@ fn read_rejected(alloc: Global, value: &str, fault: ParseError) -> Result<Mime, 
     ensures kept { IfOk result (λ mime. Reads (tight value.now) mime.media) }
     ensures explained { IfErr result (λ error. HttpExplains value.now error) }
     ensures accepted { IsHttpMediaType value.now → IfErr result (λ error. error ≡ FieldError.NoMemory) }
+    ensures rejected { tight value.now ≡ value.now → IfErr result (λ error. error ≢ FieldError.NoMemory) }
 {
     match read_tight(alloc, value, fault) {
         Ok(Ok(mime)) => Ok(mime),
@@ -138,7 +140,8 @@ fn read_rejected(alloc: Global, value: &str, fault: ParseError) -> Result<Mime, 
 ///
 /// # Errors
 /// `NotUtf8` for a value that isn't valid UTF-8, before anything is allocated; `Invalid` with the fault of a value that
-/// isn't a media type, at its position in `value`: 7 for `   a/b c`; `NoMemory` if memory runs out, which is never for `*/*`.
+/// isn't a media type, at its position in `value`: 7 for `   a/b c`; `NoMemory` if memory runs out, which is never for `*/*`, nor for at
+/// most 40 bytes that [`Mime::from_str`] accepts, nor for a value that is rejected and of which nothing would be left out.
 #[inline(always)]
 pub fn content_type(alloc: Global, value: &[u8]) -> Result<Mime, FieldError>
     // The result is the media type that HTTP writes there,
@@ -149,8 +152,11 @@ pub fn content_type(alloc: Global, value: &[u8]) -> Result<Mime, FieldError>
     ensures explained { IfErr result (λ error. HttpExplains value.now error) }
     // So what HTTP writes, in UTF-8, is read, or memory ran out,
     ensures accepted { IsUtf8 value.now → IsHttpMediaType value.now → IfErr result (λ error. error ≡ FieldError.NoMemory) }
-    // and `*/*` is always read.
+    // and `*/*` is always read, as is what the library accepts of at most 40 bytes.
     ensures star { value.now ≡ codes "*/*" → IsOk result }
+    ensures short { IsUtf8 value.now → IsAccepted value.now → length value.now ≤ 40 → IsOk result }
+    // If nothing is left out, rejecting a value needs no memory.
+    ensures rejected { tight value.now ≡ value.now → ¬ (IsAccepted value.now) → IfErr result (λ error. error ≢ FieldError.NoMemory) }
 {
     let text = match text_of(value) {
         Ok(text) => text,

@@ -65,10 +65,6 @@ passing_skip class text at n before known room all = record {
   };
 }
 
--- nothing was skipped
-pub passing_none : (class : ℕ → Bool) (now : Remaining) → Passing class now now
-passing_none class now = record { run = []; of_class = refl; given = record { bytes = refl; counted = omega arith } }
-
 -- a run of a class is one of a wider class
 pub passing_wider : {class wider : ℕ → Bool} {old new : Remaining} → ((b : ℕ) → class b ≡ true → wider b ≡ true)
     → Passing class old new → Passing wider old new

@@ -109,23 +109,6 @@ len_from-at : (text : List ℕ) (position : ℕ) → position < length text
     ≡ cond (get_or text position 0 == quote_byte) 0 (suc (len_from (get_or text position 0 == backslash_byte) (drop (position + 1) text)))
 len_from-at text position within = ap (len_from false) (drop_more text position 0 within)
 
--- in that search a byte that is no quote and no backslash is passed alone
-pub search_past : (text : List ℕ) (position whole : ℕ) → position + len_from false (drop position text) ≡ whole → position < length text
-    → get_or text position 0 ≢ quote_byte → get_or text position 0 ≢ backslash_byte
-    → position + 1 + len_from false (drop (position + 1) text) ≡ whole
-search_past text position whole e within no_quote no_backslash =
-    let at = len_from-at text position within in
-    omega (arith, e, rw (ne_eqb (get_or text position 0) quote_byte no_quote, ne_eqb (get_or text position 0) backslash_byte no_backslash) at at)
-
--- in that search a backslash at the end is passed alone
-pub search_past_last : (text : List ℕ) (position whole : ℕ) → position + len_from false (drop position text) ≡ whole → position < length text
-    → get_or text position 0 ≡ backslash_byte → length text ≤ position + 1
-    → position + 1 + len_from false (drop (position + 1) text) ≡ whole
-search_past_last text position whole e within backslash last =
-    let at = rw backslash at (len_from-at text position within) in
-    let after = drop_all (position + 1) text last in
-    omega (arith, e, rw after at at, ap (len_from false) after)
-
 -- in that search a backslash is passed with the byte that it pairs
 pub search_past_pair : (text : List ℕ) (position whole : ℕ) → position + len_from false (drop position text) ≡ whole → position + 1 < length text
     → get_or text position 0 ≡ backslash_byte → position + 2 + len_from false (drop (position + 2) text) ≡ whole

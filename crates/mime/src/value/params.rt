@@ -4,7 +4,6 @@ ghost use Rattle.std.specs.Prelude.{◌≡◌, codes, length, IfSome, Some};
 ghost use Rattle.std.specs.Iterator.{YieldsFirstBy, item_count, UpTo, at_most};
 ghost use Rattle.std.specs.Iterator.SizeHint.{IsWithinCount};
 ghost use Rattle.mime.specs.Items.{items_of, item_seen};
-ghost use Rattle.mime.specs.Inner.Pairs.{pairs_within};
 
 use crate::name::Name;
 use crate::name::constants::CHARSET;

@@ -1,5 +1,5 @@
 -- The byte at fault is left out, or the fault stands.
-use Rattle.std.proofs.Common.{arith, ◌≡◌, ◌∙◌, ◌-◌, ap, subst, sym, ℕ, List, length, get_or}
+use Rattle.std.proofs.Common.{arith, ◌≡◌, ◌∙◌, ◌+◌, ◌-◌, true, ap, subst, sym, ℕ, List, length, drop, get_or}
 use Rattle.std.specs.Prelude.{IfOk}
 use Rattle.std.proofs.lemmas.Bool.Decides.{nat_tests}
 use Rattle.std.proofs.lemmas.Option.{slice_get_within, get_or_from_slice_get}
@@ -8,8 +8,10 @@ use Rattle.mime.specs.Faults.{IsFault, IsDeadAt}
 use Rattle.mime.specs.declared.scan.fault.ParseError.{ParseError}
 use Rattle.mime.specs.declared.scan.fault.ParseError.TheVariants.{InvalidToken}
 use Rattle.mime_http.specs.Tightening.{Stands, IsLoose, IsTightening}
-use Rattle.mime_http.specs.declared.tight.Place.TheVariants.{Start}
+use Rattle.mime_http.specs.declared.tight.Place.TheVariants.{Start, Semicolon}
 use Rattle.mime_http.proofs.Trims.{trimmed-le}
+use Rattle.mime_http.specs.HttpList.{trim_start}
+use Rattle.mime_http.proofs.TightLength.{no_longer-start, no_longer-semicolon, something_left_out, trimmed_some}
 use Rattle.mime_http.proofs.WhiteAtFault.{first_space}
 use Rattle.mime_http.proofs.SemicolonAtFault.{next_semicolon, first_semicolon, other_byte, stands_at_end}
 use Rattle.mime_http.proofs.tight.tightening_of.Goals.{in_default-byte-via-in-59+else-ends_in_separator, in_default-byte-via-in_default-1}
@@ -26,8 +28,8 @@ fault_at value fault pos byte at is =
     let dead : IsDeadAt value pos byte = subst (IsFault value) is at in
     record { dead = dead; here = get_or_from_slice_get value pos byte 0 dead.there }
 
-pub returns-in_default : goal.returns-in_default
-returns-in_default c = stands_at_end c.args.value.now c.args.fault c.in_default.not-InvalidToken c.requires.fault
+pub returns-in_default-clause-left : goal.returns-in_default-clause-left
+returns-in_default-clause-left c = stands_at_end c.args.value.now c.args.fault c.in_default.not-InvalidToken c.requires.fault
 
 pub overflow_sub-from : goal.overflow_sub-from
 overflow_sub-from c = omega (arith, ap length c.trim_start.ensures, trimmed-le c.args.value.now)
@@ -37,8 +39,8 @@ copied-requires-clause-loose c =
     let value = c.args.value.now in
     subst (λ rest. IsLoose value 0 (length value - length rest) Start) (sym c.trim_start.ensures) (first_space value)
 
-pub returns-in-32 : goal.returns-in-32
-returns-in-32 c = c.copied.ensures c.args.fault
+pub returns-in-32-clause-left : goal.returns-in-32-clause-left
+returns-in-32-clause-left c = c.copied.ensures c.args.fault
 
 pub tightening_at_white-requires-clause-within : goal.tightening_at_white-requires-clause-within
 tightening_at_white-requires-clause-within c =
@@ -55,11 +57,11 @@ tightening_at_white-requires-clause-white c =
     let at = fault_at c.args.value.now c.args.fault _ _ c.requires.fault c.in-InvalidToken.is in
     ap is_space at.here ∙ grind (arith, nat_tests, c.in-32.is)
 
-pub returns-in-32-2 : goal.returns-in-32-2
-returns-in-32-2 c =
+pub returns-in-32-2-clause-left : goal.returns-in-32-2-clause-left
+returns-in-32-2-clause-left c =
     let at = fault_at c.args.value.now c.args.fault _ _ c.requires.fault c.in-InvalidToken.is in
     subst (λ fault. IfOk c.tightening_at_white.result (IsTightening c.args.value.now fault))
-    (ap (InvalidToken c.in-InvalidToken.pos) at.here ∙ sym c.in-InvalidToken.is) c.tightening_at_white.ensures
+    (ap (InvalidToken c.in-InvalidToken.pos) at.here ∙ sym c.in-InvalidToken.is) c.tightening_at_white.ensures.left
 
 pub copied-requires-in-59-clause-loose : goal.copied-requires-in-59-clause-loose
 copied-requires-in-59-clause-loose c =
@@ -67,11 +69,11 @@ copied-requires-in-59-clause-loose c =
     next_semicolon c.args.value.now c.in-InvalidToken.pos c.in-InvalidToken.byte at.dead c.in-59.is
     (sym c.ends_in_separator.ensures ∙ c.if-ends_in_separator.true)
 
-pub returns-in-59 : goal.returns-in-59
-returns-in-59 c = c.copied-in-59.ensures c.args.fault
+pub returns-in-59-clause-left : goal.returns-in-59-clause-left
+returns-in-59-clause-left c = c.copied-in-59.ensures c.args.fault
 
-pub returns-in_default-byte : goal.returns-in_default-byte
-returns-in_default-byte c =
+pub returns-in_default-byte-clause-left : goal.returns-in_default-byte-clause-left
+returns-in_default-byte-clause-left c =
     let value = c.args.value.now in
     let pos = c.in-InvalidToken.pos in
     let byte = c.in-InvalidToken.byte in
@@ -83,3 +85,25 @@ returns-in_default-byte c =
       | in_default-byte-via-in_default-1 w ↦ other_byte value pos byte at.dead (grind (arith, nat_tests, w))
     ] in
     subst (Stands value) (sym c.in-InvalidToken.is) stands
+
+pub returns-in-32-clause-memory : goal.returns-in-32-clause-memory
+returns-in-32-clause-memory c = λ same.
+    let value = c.args.value.now in
+    let from = length value - length (trim_start value) in
+    let at = fault_at value c.args.fault _ _ c.requires.fault c.in-InvalidToken.is in
+    let within = slice_get_within value c.in-InvalidToken.pos c.in-InvalidToken.byte at.dead.there in
+    let white : is_space (get_or value 0 0) ≡ true =
+    ap (λ n. is_space (get_or value n 0)) (sym c.if-pos-eq0.true) ∙ (ap is_space at.here ∙ grind (arith, nat_tests, c.in-32.is)) in
+    let trimmed = trimmed_some value (omega (arith, within)) white in
+    absurd (something_left_out value 0 from Start (first_space value) (omega (arith, trimmed)) (no_longer-start (drop from value)) same)
+
+pub returns-in-32-2-clause-memory : goal.returns-in-32-2-clause-memory
+returns-in-32-2-clause-memory c = c.tightening_at_white.ensures.memory
+
+pub returns-in-59-clause-memory : goal.returns-in-59-clause-memory
+returns-in-59-clause-memory c = λ same.
+    let value = c.args.value.now in
+    let at = fault_at value c.args.fault _ _ c.requires.fault c.in-InvalidToken.is in
+    let loose = next_semicolon value c.in-InvalidToken.pos c.in-InvalidToken.byte at.dead c.in-59.is
+    (sym c.ends_in_separator.ensures ∙ c.if-ends_in_separator.true) in
+    absurd (something_left_out value _ _ Semicolon loose (omega arith) (no_longer-semicolon (drop (c.in-InvalidToken.pos + 1) value)) same)

@@ -1,11 +1,11 @@
 -- What the library reads as it stands is what HTTP writes, and stays as it is.
-use Rattle.std.proofs.Common.{rules, arith, ◌≡◌, ◌∙◌, ℕ, List, [], ◌∷◌, subst, sym}
+use Rattle.std.proofs.Common.{rules, arith, ◌≡◌, ◌≢◌, ◌∙◌, ℕ, List, [], ◌∷◌, subst, sym}
 use Rattle.std.specs.Str.{IsUtf8}
 use Rattle.std.proofs.lemmas.Bool.{true≢false}
 use Rattle.std.proofs.lemmas.Str.{IsUtf8-from_ascii}
 use Rattle.std.proofs.lemmas.Str.Ascii.{IsAscii-cons, IsAscii-nil}
 use Rattle.std.specs.Prelude.{Result, Ok, Err, IfOk, IfErr}
-use Rattle.mime.specs.Values.{OwnedMedia, Reads}
+use Rattle.mime.specs.Values.{OwnedMedia, Reads, IsAccepted}
 use Rattle.mime.specs.Faults.{Explains}
 use Rattle.mime_http.specs.declared.value.FieldError.{FieldError}
 use Rattle.mime_http.specs.HttpMediaType.{HttpReads, IsHttpMediaType}
@@ -65,4 +65,9 @@ returns-in_default c =
       explained = subst (λ t. IfErr result (λ error. HttpExplains t error)) text said.explained;
       accepted = λ utf8. subst (λ t. IsHttpMediaType t → IfErr result (λ error. error ≡ FieldError.NoMemory)) text said.accepted;
       star = λ is. absurd (true≢false (sym (c.in-Err-from_str.ensures.star (text ∙ is)).1));
+      short = λ utf8 accepted few.
+          absurd (c.in_default.not-NoMemory
+          (c.fault.ensures ∙ c.in-Err-from_str.ensures.accepted (subst IsAccepted (sym text) accepted)));
+      rejected = λ same isnt.
+          subst (λ t. tight t ≡ t → IfErr result (λ error. error ≢ FieldError.NoMemory)) text said.rejected same;
     }

@@ -2,13 +2,15 @@
 use Rattle.std.proofs.Common.{rules, ◌≡◌, ◌∙◌, sym, subst, take, string_bytes}
 use Rattle.mime.specs.Values.{IsAccepted}
 use Rattle.mime.specs.Faults.{IsFault, Explains}
-use Rattle.mime_http.specs.Tightening.{IsTightening}
+use Rattle.mime.proofs.HandedOut.{rejected-from_fault}
+use Rattle.mime_http.specs.Tight.{tight}
+use Rattle.mime_http.specs.Tightening.{Begins, IsTightening}
 use Rattle.mime_http.proofs.Rejections.{fault_explains, rejected_nothing, rejected_at_next, rejected_prefix, rejected_copy}
 use Rattle.mime_http.proofs.value.read_tight.Goals.{in_default-via-in-Prefix+else-next-value, in_default-via-in_default, in-Prefix, in-Copy}
 use Rattle.mime_http.proofs.value.read_tight.Goals as goal
 
-pub returns-in_default : goal.returns-in_default
-returns-in_default c =
+pub returns-in_default-clause-read : goal.returns-in_default-clause-read
+returns-in_default-clause-read c =
     let value = c.args.value.now in
     let left = c.in_ok-left.left in
     let is : IsTightening value c.args.fault left = search rules in
@@ -17,8 +19,8 @@ returns-in_default c =
       | in_default-via-in_default w ↦ rejected_nothing value c.args.fault left is w.in_default.is
     ]
 
-pub returns-in_default-fault : goal.returns-in_default-fault
-returns-in_default-fault c =
+pub returns-in_default-fault-clause-read : goal.returns-in_default-fault-clause-read
+returns-in_default-fault-clause-read c =
     let value = c.args.value.now in
     let left = c.in_ok-left.left in
     let text = c.match-left.text.now in
@@ -35,3 +37,23 @@ returns-in_default-fault c =
           rejected_copy value c.args.fault fault left w.in-Copy.copy is w.in-Copy.is (subst (λ t. ¬ (IsAccepted t)) here rejected)
           (subst (λ t. IsFault t fault) here faulty)
     ]
+
+pub returns-in-NoMemory-clause-memory : goal.returns-in-NoMemory-clause-memory
+returns-in-NoMemory-clause-memory c = λ same.
+    let value = c.args.value.now in
+    let left = c.in_ok-left.left in
+    let text = c.match-left.text.now in
+    let is : IsTightening value c.args.fault left = search rules in
+    let explained = subst (Explains text) (sym c.fault.ensures ∙ c.in-NoMemory.is) c.in-Err.ensures.explained in
+    let tightly : text ≡ tight value =
+    elim c.match-left.branch [
+      | in-Prefix w ↦
+          let here : text ≡ take w.in-Prefix.end value = search rules in
+          let begins : Begins value w.in-Prefix.end w.in-Prefix.next = subst (IsTightening value c.args.fault) w.in-Prefix.is is in
+          here ∙ sym (begins.alone w.if-next-value.true)
+      | in-Copy w ↦
+          let here : text ≡ string_bytes w.in-Copy.copy = search rules in
+          let copied : string_bytes w.in-Copy.copy ≡ tight value = subst (IsTightening value c.args.fault) w.in-Copy.is is in
+          here ∙ copied
+    ] in
+    absurd (rejected-from_fault value c.args.fault c.requires (subst IsAccepted (tightly ∙ same) explained.0))
