@@ -1,27 +1,11 @@
 -- A byte at fault in a value, and the bytes before it: the place there, and what is left of the value from there on.
-use Rattle.std.proofs.Common.{◌≡◌, ◌∙◌, refl, sym, ap, subst, arith, ℕ, suc, ◌+◌, ◌-◌, ◌<◌, ◌≤◌, Bool, true, false, List, [], ◌∷◌, ◌++◌, length, take, drop, get_or, Option, Some, None, length-append, length-drop}
-use Rattle.std.proofs.Math.Seq.{take-length, take-suc, drop-append_seam}
-use Rattle.std.specs.Prelude.{slice_get, if◌then◌else◌}
-use Rattle.std.specs.Option.{option_and_then}
-use Rattle.std.proofs.lemmas.Bool.{and_parts}
-use Rattle.std.proofs.lemmas.List.{append-nil, drop-drop, length-take-le, take-append-drop}
-use Rattle.std.proofs.lemmas.Option.{slice_get_within, get_or_from_slice_get}
-use Rattle.mime.specs.Grammar.{is_space, AreSpaces}
-use Rattle.mime.specs.Faults.{IsViable, IsDeadAt}
-use Rattle.mime.specs.Inner.Quoted.{awaits_after}
-use Rattle.mime.specs.declared.scan.fault.ParseError.TheVariants.{InvalidToken}
-use Rattle.mime.proofs.HandedOut.{Begun, in_type, in_subtype, in_list, ListState, in_spaces, in_name, in_value, in_quotes, after_quotes, grow, walk, walk_from, walk_by-append_some, viable-from_walk, walk-from_viable}
-use Rattle.mime_http.specs.declared.tight.Place.{Place}
-use Rattle.mime_http.specs.declared.tight.Place.TheVariants.{Start, Spaced, Quoted, Paired}
-use Rattle.mime_http.specs.Tight.{place_after, added, tight_from, tight}
-use Rattle.mime_http.specs.HttpMediaType.{IsHttpMediaType}
-use Rattle.mime_http.specs.HttpFaults.{IsHttpViable, IsHttpLongestPrefix, IsHttpDeadAt}
-use Rattle.mime_http.specs.Tightening.{Stands}
-use Rattle.mime_http.specs.HttpList.{trim_start}
+use Rattle.mime_http.proofs.Common.{◌≡◌, ◌∙◌, refl, sym, ap, subst, arith, ℕ, suc, ◌+◌, ◌-◌, ◌<◌, ◌≤◌, Bool, true, false, List, [], ◌∷◌, ◌++◌, length, take, drop, get_or, Option, Some, None, length-append, length-drop, take-length, take-suc, drop-append_seam, slice_get, if◌then◌else◌, option_and_then, and_parts, drop-drop, length-take-le, take-append-drop, slice_get_within, get_or_from_slice_get, is_space, AreSpaces, IsViable, IsDeadAt, awaits_after, InvalidToken, Begun, in_type, in_subtype, in_list, ListState, in_spaces, in_name, in_value, in_quotes, after_quotes, grow, walk, walk_from, walk_by-append_some, viable-from_walk, walk-from_viable, Place, Start, Spaced, place_after, added, tight_from, tight, IsHttpMediaType, IsHttpViable, IsHttpLongestPrefix, IsHttpDeadAt, Stands, trim_start}
+use Rattle.std.proofs.lemmas.List.{append-nil}
+use Rattle.mime_http.specs.declared.tight.Place.TheVariants.{Quoted, Paired}
 use Rattle.mime_http.proofs.Highest.{item_left}
-use Rattle.mime_http.proofs.Places.{place_from, stays}
+use Rattle.mime_http.proofs.Places.{place_from, comes_out_whole}
 use Rattle.mime_http.proofs.PlacesAgain.{IsSettled}
-use Rattle.mime_http.proofs.HttpForth.{SkipsWhite, skipped}
+use Rattle.mime_http.proofs.HttpForth.{SkipsWhite, white_skipped}
 use Rattle.mime_http.proofs.Trims.{split_white}
 use Rattle.mime_http.proofs.HttpViability.{place_in_list, place_at, walked, tight-append, viable_from_tight, tight_from_viable}
 use Rattle.mime_http.proofs.HowFar.{tight_one}
@@ -63,7 +47,7 @@ there {before} fault = (walked (in_type []) before fault.begun fault.reached).th
 
 -- the bytes before it come out as they are
 pub so_far : {before : List ℕ} {b : ℕ} (fault : Fault before b) → tight before ≡ before
-so_far {before} fault = stays (walked (in_type []) before fault.begun fault.reached)
+so_far {before} fault = comes_out_whole (walked (in_type []) before fault.begun fault.reached)
 
 -- no white space was left out in a list,
 settled_in_list : (position : ListState) → IsSettled (place_in_list position)
@@ -79,15 +63,15 @@ settled_in_list (in_quotes n name content) = go (awaits_after false content)
 settled_in_list (after_quotes n name content m) = tt
 
 -- nor elsewhere that the library walks,
-pub settled_at : (begun : Begun) → IsSettled (place_at begun)
-settled_at (in_type []) = tt
-settled_at (in_type (t ∷ top)) = tt
-settled_at (in_subtype top sub) = tt
-settled_at (in_list top sub list) = settled_in_list list.position
+pub walk_is_settled : (begun : Begun) → IsSettled (place_at begun)
+walk_is_settled (in_type []) = tt
+walk_is_settled (in_type (t ∷ top)) = tt
+walk_is_settled (in_subtype top sub) = tt
+walk_is_settled (in_list top sub list) = settled_in_list list.position
 
 -- nor before a fault
 pub at_rest : {before : List ℕ} {b : ℕ} → Fault before b → IsSettled (place_from Start before)
-at_rest fault = subst IsSettled (sym (there fault)) (settled_at fault.begun)
+at_rest fault = subst IsSettled (sym (there fault)) (walk_is_settled fault.begun)
 
 -- a value is cut at its fault
 pub record CutAt (value : List ℕ) (pos b : ℕ) : Type 0 where
@@ -151,7 +135,7 @@ pub after_white : {place : Place} → SkipsWhite place → (value : List ℕ) (n
     → tight_from place (drop n value) ≡ tight_from place (drop (length value - length (trim_start (drop n value))) value)
 after_white {place} skips value n within =
     let split = split_white (drop n value) in
-    ap (tight_from place) split.2 ∙ (skipped skips split.0 (trim_start (drop n value)) split.1
+    ap (tight_from place) split.2 ∙ (white_skipped skips split.0 (trim_start (drop n value)) split.1
     ∙ ap (tight_from place) (sym (dropped value n split.0 (trim_start (drop n value)) within split.2)))
 
 -- left out, if it adds nothing

@@ -1,10 +1,7 @@
 -- The pieces of lines: lines have exactly one cut, which a function gives.
-use Rattle.std.proofs.Common.{◌≡◌, ◌∙◌, ◌==◌, refl, sym, ap, subst, arith, ℕ, Bool, true, false, List, [], ◌∷◌, ◌++◌, ◌<◌, length}
-use Rattle.std.specs.Prelude.{⊤, flat_map}
-use Rattle.std.proofs.lemmas.Bool.Decides.{nat_tests}
+use Rattle.mime_http.proofs.Common.{◌≡◌, ◌∙◌, ◌==◌, refl, sym, ap, subst, arith, ℕ, Bool, true, false, List, [], ◌∷◌, ◌++◌, ◌<◌, length, ⊤, flat_map, nat_tests, AreBetweenCommas, no_line, line_end, comma, IsInString, string_end, string_byte, string_pair, opens_string, IsPiece, piece_end, piece_byte, piece_string, BeginsPiece}
 use Rattle.std.proofs.lemmas.List.{append-nil, append_assoc}
 use Rattle.mime_http.specs.Walk.{At, Outside, Equals, Quoted, Paired, after_outside, after, ends, cut_from, cut}
-use Rattle.mime_http.specs.HttpList.{AreBetweenCommas, no_line, line_end, comma, IsInString, string_end, string_byte, string_pair, opens_string, IsPiece, piece_end, piece_byte, piece_string, BeginsPiece}
 use Rattle.mime_http.specs.ListLaws.{OneCut}
 
 -- ---- from a place on

@@ -1,19 +1,11 @@
 -- The kinds of a value's bytes, and the form in which it is written.
-use Rattle.std.proofs.Common.{◌≡◌, ◌≢◌, ◌∙◌, ◌==◌, ◌<◌, ◌≤◌, ℕ, suc, Bool, true, false, List, [], ◌∷◌, ◌++◌, arith, refl, sym, ap, subst, ⊎_elim, drop, get_or, take, length, append_assoc, ◌+◌}
-use Rattle.std.specs.Prelude.{◌&&◌, bit_and, not, codes, if◌then◌else◌}
-use Rattle.std.specs.List.{list_all, prefix_len}
-use Rattle.std.proofs.Math.Seq.{drop-cons}
-use Rattle.std.proofs.lemmas.List.{take_more}
+use Rattle.mime_http.proofs.Common.{◌≡◌, ◌≢◌, ◌∙◌, ◌==◌, ◌<◌, ◌≤◌, ℕ, suc, Bool, true, false, List, [], ◌∷◌, ◌++◌, arith, refl, sym, ap, subst, ⊎_elim, drop, get_or, take, length, ◌+◌, ◌&&◌, bit_and, not, codes, if◌then◌else◌, list_all, prefix_len, drop-cons, take_more, and_parts, and_from, eqb-true, cases_Bool, false≢true, false_from_ne_true, nat_tests, list_all-append, is_token_byte, is_quoted_byte, is_quoted_text_byte, list_all-wider, AreTokenBytes-from_token}
+use Rattle.std.proofs.Common.{append_assoc}
 use Rattle.std.proofs.lemmas.List.Sums.{prefix_len-le-length, prefix_len_stops}
-use Rattle.std.proofs.lemmas.Bool.{and_parts, and_from, eqb-true, cases_Bool, false≢true, false_from_ne_true}
-use Rattle.std.proofs.lemmas.Bool.Decides.{nat_tests}
-use Rattle.std.proofs.lemmas.List.Folds.{list_all-append}
-use Rattle.mime.specs.Bytes.{is_token_byte, is_quoted_byte, is_quoted_text_byte}
 use Rattle.mime_http.specs.Forms.{kind_from, kind_of, is_plain, form_of, marks, content, text_in}
 use Rattle.mime_http.specs.declared.quoted.Form.{Form}
 use Rattle.mime_http.specs.declared.quoted.Form.TheVariants.{Token, Quoted, Escaped}
 use Rattle.mime_http.proofs.Written.{token_from_test}
-use Rattle.mime.proofs.HandedOut.{list_all-wider, AreTokenBytes-from_token}
 use Rattle.mime_http.proofs.Contents.{is_special, token_plain, token_safe, token_is_plain, plain_class, text_plain, bchar_text}
 use Rattle.mime_http.specs.Boundary.{is_bchar, IsBoundary}
 use Rattle.mime_http.specs.Written.{escaped, is_token_value, quote_of, text_of_pair}
@@ -21,26 +13,26 @@ use Rattle.mime_http.specs.Written.{escaped, is_token_value, quote_of, text_of_p
 -- ---- bits
 
 -- a test of both Booleans
-both : (Bool → Bool) → Bool
-both p = p true && p false
+holds_of_both : (Bool → Bool) → Bool
+holds_of_both p = p true && p false
 
 -- what holds of both truth values holds of each
-at : (p : Bool → Bool) → both p ≡ true → (b : Bool) → p b ≡ true
-unfolding both
+at : (p : Bool → Bool) → holds_of_both p ≡ true → (b : Bool) → p b ≡ true
+unfolding holds_of_both
 at p is true = (and_parts (p true) (p false) is).0
 at p is false = (and_parts (p true) (p false) is).1
 
 -- the bits of two kinds
 and_kinds : (t q e t2 q2 e2 : Bool) → bit_and (kind_from t q e) (kind_from t2 q2 e2) ≡ kind_from (t && t2) (q && q2) (e && e2)
-unfolding both
+unfolding holds_of_both
 and_kinds t q e t2 q2 e2 =
     eqb-true _ _
     (at (λ e2. bit_and (kind_from t q e) (kind_from t2 q2 e2) == kind_from (t && t2) (q && q2) (e && e2))
-    (at (λ q2. both (λ e2. bit_and (kind_from t q e) (kind_from t2 q2 e2) == kind_from (t && t2) (q && q2) (e && e2)))
-    (at (λ t2. both (λ q2. both (λ e2. bit_and (kind_from t q e) (kind_from t2 q2 e2) == kind_from (t && t2) (q && q2) (e && e2))))
-    (at (λ e. both (λ t2. both (λ q2. both (λ e2. bit_and (kind_from t q e) (kind_from t2 q2 e2) == kind_from (t && t2) (q && q2) (e && e2)))))
-    (at (λ q. both (λ e. both (λ t2. both (λ q2. both (λ e2. bit_and (kind_from t q e) (kind_from t2 q2 e2) == kind_from (t && t2) (q && q2) (e && e2))))))
-    (at (λ t. both (λ q. both (λ e. both (λ t2. both (λ q2. both (λ e2. bit_and (kind_from t q e) (kind_from t2 q2 e2) == kind_from (t && t2) (q && q2) (e && e2)))))))
+    (at (λ q2. holds_of_both (λ e2. bit_and (kind_from t q e) (kind_from t2 q2 e2) == kind_from (t && t2) (q && q2) (e && e2)))
+    (at (λ t2. holds_of_both (λ q2. holds_of_both (λ e2. bit_and (kind_from t q e) (kind_from t2 q2 e2) == kind_from (t && t2) (q && q2) (e && e2))))
+    (at (λ e. holds_of_both (λ t2. holds_of_both (λ q2. holds_of_both (λ e2. bit_and (kind_from t q e) (kind_from t2 q2 e2) == kind_from (t && t2) (q && q2) (e && e2)))))
+    (at (λ q. holds_of_both (λ e. holds_of_both (λ t2. holds_of_both (λ q2. holds_of_both (λ e2. bit_and (kind_from t q e) (kind_from t2 q2 e2) == kind_from (t && t2) (q && q2) (e && e2))))))
+    (at (λ t. holds_of_both (λ q. holds_of_both (λ e. holds_of_both (λ t2. holds_of_both (λ q2. holds_of_both (λ e2. bit_and (kind_from t q e) (kind_from t2 q2 e2) == kind_from (t && t2) (q && q2) (e && e2)))))))
     refl t) q) e) t2) q2) e2)
 
 -- the kind of joined bytes

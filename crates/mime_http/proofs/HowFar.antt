@@ -1,18 +1,10 @@
 -- How far a value goes before more than some bytes come out of it, and what is known there.
-use Rattle.std.proofs.Common.{◌≡◌, ◌∙◌, refl, sym, ap, subst, arith, ℕ, ◌+◌, ◌-◌, ◌<◌, ◌≤◌, Bool, true, false, List, [], ◌∷◌, ◌++◌, length, length-append, take, Some}
-use Rattle.std.proofs.Math.Seq.{take-append_seam, take-append-add}
-use Rattle.std.specs.Prelude.{nat_lt, slice_get}
-use Rattle.std.proofs.lemmas.Bool.Decides.{nat_tests}
+use Rattle.mime_http.proofs.Common.{◌≡◌, ◌∙◌, refl, sym, ap, subst, arith, ℕ, ◌+◌, ◌-◌, ◌<◌, ◌≤◌, Bool, true, false, List, [], ◌∷◌, ◌++◌, length, length-append, take, Some, take-append_seam, take-append-add, nat_lt, slice_get, nat_tests, IsUtf8-nil, IsUtf8-take, IsCharBoundary-from_take, IsCharBoundary, boundary_after, slice_get-prefix, is_space, Place, Start, Spaced, Closed, Semicolon, place_after, added, tight_from, tight}
 use Rattle.std.proofs.lemmas.List.{append-nil, append_assoc}
-use Rattle.std.proofs.lemmas.Str.{IsUtf8-nil, IsUtf8-take, IsCharBoundary-from_take}
-use Rattle.std.specs.Str.{IsUtf8, IsCharBoundary}
-use Rattle.mime.proofs.HandedOut.{boundary_after, slice_get-prefix}
+use Rattle.std.specs.Str.{IsUtf8}
 use Rattle.mime_http.proofs.HttpText.{tight_utf8}
-use Rattle.mime.specs.Grammar.{is_space}
-use Rattle.mime_http.specs.declared.tight.Place.{Place}
-use Rattle.mime_http.specs.declared.tight.Place.TheVariants.{Start, Spaced, Quoted, Paired, Closed, Semicolon}
+use Rattle.mime_http.specs.declared.tight.Place.TheVariants.{Quoted, Paired}
 use Rattle.mime_http.specs.declared.fault.Reach.{Reach}
-use Rattle.mime_http.specs.Tight.{place_after, added, tight_from, tight}
 use Rattle.mime_http.specs.Reached.{start, settled_at, reach_after, reach_from}
 use Rattle.mime_http.proofs.Places.{place_from, place_from-append, after_value, before_name}
 use Rattle.mime_http.proofs.PlacesAgain.{IsSettled, outside_settled, within_settled, kept_settled}

@@ -1,15 +1,7 @@
 -- What is read is what HTTP writes: bytes that tightening makes a syntax tree's text are a media type as HTTP writes it.
-use Rattle.std.proofs.Common.{◌≡◌, ◌∙◌, ◌==◌, refl, sym, ap, subst, arith, ℕ, Bool, true, false, List, [], ◌∷◌, ◌++◌, length, drop, ◌+◌}
-use Rattle.std.proofs.lemmas.Bool.{and_parts, and_from}
-use Rattle.std.proofs.lemmas.Bool.Decides.{nat_tests}
+use Rattle.mime_http.proofs.Common.{◌≡◌, ◌∙◌, ◌==◌, refl, sym, ap, subst, arith, ℕ, Bool, true, false, List, [], ◌∷◌, ◌++◌, length, drop, ◌+◌, and_parts, and_from, nat_tests, is_token_byte, Parameter, plain, quoted, Parameters, final, more, Tail, no_list, listed, SyntaxTree, is_space, AreSpaces, text_of_parameter, text_of_list, text_of_tail, text_of, IsToken, IsParameter, AreParameters, IsTail, IsWellFormed, MediaType, lowered, last_plus, AreTokenBytes-from_token, one_reading, Plain, Closed, Semicolon, place_after, tight_from, tight, IsHttpParameter, with_token, with_string, AreHttpParameters, no_more, semicolon, semicolon_and, HttpReads}
 use Rattle.std.proofs.lemmas.List.{append-nil, append_assoc}
-use Rattle.mime.specs.Bytes.{is_token_byte}
-use Rattle.mime.specs.Grammar.{Parameter, plain, quoted, Parameters, blank, final, more, Tail, no_list, listed, SyntaxTree, is_space, AreSpaces, text_of_parameter, text_of_list, text_of_tail, text_of, IsToken, IsParameter, AreParameters, IsTail, IsWellFormed}
-use Rattle.mime.specs.Values.{MediaType, lowered, last_plus}
-use Rattle.mime.proofs.HandedOut.{AreTokenBytes-from_token, one_reading}
-use Rattle.mime_http.specs.declared.tight.Place.TheVariants.{Plain, Closed, Semicolon}
-use Rattle.mime_http.specs.Tight.{place_after, tight_from, tight}
-use Rattle.mime_http.specs.HttpMediaType.{IsHttpParameter, with_token, with_string, AreHttpParameters, no_more, semicolon, semicolon_and, HttpReads}
+use Rattle.mime.specs.Grammar.{blank}
 use Rattle.mime_http.specs.HeaderLaws.{ReadIsHttp}
 use Rattle.mime_http.proofs.Places.{IsPlainByte, token_is_plain, of_type, of_name}
 use Rattle.mime_http.proofs.HttpForth.{spaces-append, http_is_read}
@@ -80,8 +72,8 @@ record Continues (out : List ℕ) : Type 0 where
   closed : (bytes m : List ℕ) → AreSpaces m → tight_from Closed bytes ≡ m ++ out → Rest bytes
 
 -- nothing follows: white space at most
-ends : Continues []
-ends = record {
+nothing_follows : Continues []
+nothing_follows = record {
   plain = λ bytes e. record { text = []; pairs = []; after = bytes; is = no_more; white = plain_end_back bytes e; split = refl };
   closed = λ bytes m white e.
       let there = closed_back m bytes [] white e in
@@ -134,7 +126,7 @@ separators_back (b ∷ bytes) n out white e next = go (λ n white e. separators_
 
 -- Nothing follows them,
 blank_back : (bytes n : List ℕ) → AreSpaces n → tight_from Semicolon bytes ≡ n → Goes bytes
-blank_back bytes n white e = separators_back bytes n [] white (e ∙ sym (append-nil n)) (λ b rest ends. absurd (cc))
+blank_back bytes n white e = separators_back bytes n [] white (e ∙ sym (append-nil n)) (λ b rest nothing_follows. absurd (cc))
 
 -- or a name.
 name_back : (bytes n : List ℕ) (x : ℕ) (out : List ℕ) → AreSpaces n → IsPlainByte x → tight_from Semicolon bytes ≡ n ++ (x ∷ out)
@@ -174,13 +166,13 @@ parameter_back (quoted (x ∷ name) content m) is bytes n out white e goes =
 -- a list that comes out is there, with white space and semicolons beside it,
 list_back : (list : Parameters) → AreParameters list → (bytes : List ℕ) → tight_from Semicolon bytes ≡ text_of_list list → Goes bytes
 list_back (blank n) is bytes e = blank_back bytes n is e
-list_back (final n p) is bytes e = parameter_back p is.1 bytes n [] is.0 (e ∙ ap (λ x. n ++ x) (sym (append-nil _))) ends
+list_back (final n p) is bytes e = parameter_back p is.1 bytes n [] is.0 (e ∙ ap (λ x. n ++ x) (sym (append-nil _))) nothing_follows
 list_back (more n p list) is bytes e =
     parameter_back p is.1 bytes n (59 ∷ text_of_list list) is.0 e (goes_on_with (text_of_list list) (list_back list is.2))
 
 -- and so is what follows an essence
 tail_back : (tail : Tail) → IsTail tail → Continues (text_of_tail tail)
-tail_back no_list is = ends
+tail_back no_list is = nothing_follows
 tail_back (listed list) is = goes_on_with (text_of_list list) (list_back list is)
 
 -- ---- the whole

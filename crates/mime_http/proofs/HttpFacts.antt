@@ -1,13 +1,5 @@
 -- Worked facts of the pages `HttpMediaType` and `HttpFaults`: a value that is read, values that aren't media types, and their faults.
-use Rattle.std.proofs.Common.{◌≡◌, refl, sym, subst, arith, [], ◌∷◌, ◌++◌, None}
-use Rattle.std.specs.Prelude.{codes}
-use Rattle.mime.specs.Bytes.{is_token_byte, is_quoted_byte}
-use Rattle.mime.specs.Values.{IsAccepted}
-use Rattle.mime.specs.declared.scan.fault.ParseError.TheVariants.{MissingSubtype, MissingValue, InvalidToken}
-use Rattle.mime.proofs.HandedOut.{in_subtype, accepted-from_complete, viable-from_walk, dead-from_walk, not_viable-at_dead, stopped-from_walk, rejected-from_walk, IsContent-taken}
-use Rattle.mime_http.specs.Tight.{tight}
-use Rattle.mime_http.specs.HttpMediaType.{with_string, no_more, semicolon, semicolon_and, HttpReads, IsHttpMediaType}
-use Rattle.mime_http.specs.HttpFaults.{IsHttpViable, IsHttpFault}
+use Rattle.mime_http.proofs.Common.{◌≡◌, refl, sym, subst, arith, [], ◌∷◌, ◌++◌, None, codes, is_token_byte, is_quoted_byte, IsAccepted, MissingSubtype, MissingValue, InvalidToken, in_subtype, accepted-from_complete, viable-from_walk, dead-from_walk, not_viable-at_dead, stopped-from_walk, rejected-from_walk, IsContent-taken, tight, with_string, no_more, semicolon, semicolon_and, HttpReads, IsHttpMediaType, IsHttpViable, IsHttpFault}
 use Rattle.mime_http.proofs.HttpFaults.{longest_at, same_last}
 use Rattle.mime_http.proofs.HttpLaws.{accepted_from_http}
 use Rattle.mime_http.proofs.HttpViability.{http_from_accepted, viable_from_tight, tight_from_viable, viable_from_accepted, accepted_from_spaced}
@@ -73,14 +65,14 @@ unfolding is_token_byte
 html = accepted-from_complete (codes "a/b") (in_subtype (codes "a") (codes "b")) _ refl refl
 
 -- white space may follow a media type
-after_space : IsHttpViable (codes "   a/b ")
-after_space = viable_from_accepted (codes "   a/b ") html
+space_may_follow : IsHttpViable (codes "   a/b ")
+space_may_follow = viable_from_accepted (codes "   a/b ") html
 
 -- so what follows it is at fault,
 at_c : IsHttpFault (codes "   a/b c") (InvalidToken 7 99)
 unfolding is_token_byte
 at_c = record {
-  prefix = longest_at (codes "   a/b ") (codes "c") after_space (λ b bytes e viable.
+  prefix = longest_at (codes "   a/b ") (codes "c") space_may_follow (λ b bytes e viable.
       let first : 99 ≡ b = cc in
       not_viable-at_dead (codes "a/b c") 3 32 (dead-from_walk (codes "a/b") (codes "c") 32 _ refl refl)
       (tight_from_viable (codes "   a/b c") (subst (λ x. IsHttpViable (codes "   a/b " ++ (x ∷ []))) (sym first) viable)));
@@ -89,7 +81,7 @@ at_c = record {
 
 -- and not the white space
 not_at_space : ¬ (IsHttpFault (codes "   a/b c") (InvalidToken 6 32))
-not_at_space fault = fault.prefix.longest 7 (omega arith) (omega arith) after_space
+not_at_space fault = fault.prefix.longest 7 (omega arith) (omega arith) space_may_follow
 
 -- `text `: the space, since nothing goes on so
 at_space : IsHttpFault (codes "text ") (InvalidToken 4 32)

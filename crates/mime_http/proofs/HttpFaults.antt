@@ -1,21 +1,9 @@
 -- The fault of a value, from that of what is left of it.
-use Rattle.std.proofs.Common.{◌≡◌, ◌∙◌, refl, sym, ap, subst, arith, ℕ, suc, ◌+◌, ◌-◌, ◌<◌, ◌≤◌, Bool, true, false, List, [], ◌∷◌, ◌++◌, length, length-append, take, Some, ◌⊎◌, inl, inr}
-use Rattle.std.proofs.Math.Seq.{take-append_seam, take-append-add, take-length}
-use Rattle.std.specs.Prelude.{⊤, slice_get}
-use Rattle.std.proofs.lemmas.Bool.{false≢true}
+use Rattle.mime_http.proofs.Common.{◌≡◌, ◌∙◌, refl, sym, ap, subst, arith, ℕ, suc, ◌+◌, ◌-◌, ◌<◌, ◌≤◌, Bool, true, false, List, [], ◌∷◌, ◌++◌, length, length-append, take, Some, ◌⊎◌, inl, inr, take-append_seam, take-append-add, take-length, ⊤, slice_get, false≢true, same_Some, slice_get_within, slice_get-prefix, viable-from_lacks, prefix_of_viable_is_viable, completed_is_rejected, IsAccepted, IsViable, EndsIn, Lacks, IsFault, ParseError, MissingSlash, MissingSubtype, MissingEqual, MissingValue, MissingQuote, InvalidToken, Place, Start, Plain, Spaced, Closed, Semicolon, place_after, is_left_out, brought_back, added, tight_from, tight, IsHttpViable, IsHttpLongestPrefix, HttpLacks, IsHttpFault}
 use Rattle.std.proofs.lemmas.List.{append-nil, append_assoc}
-use Rattle.std.proofs.lemmas.Option.{same_Some, slice_get_within}
-use Rattle.mime.proofs.HandedOut.{slice_get-prefix, viable-from_lacks, prefix_of_viable_is_viable, completed_is_rejected}
-use Rattle.mime.specs.Values.{IsAccepted}
-use Rattle.mime.specs.Faults.{IsViable, EndsIn, Lacks, IsFault}
-use Rattle.mime.specs.declared.scan.fault.ParseError.{ParseError}
-use Rattle.mime.specs.declared.scan.fault.ParseError.TheVariants.{MissingSlash, MissingSubtype, MissingEqual, MissingValue, MissingQuote, InvalidToken}
-use Rattle.mime_http.specs.declared.tight.Place.{Place}
-use Rattle.mime_http.specs.declared.tight.Place.TheVariants.{Start, Plain, Spaced, Equals, Quoted, Paired, Closed, Semicolon}
+use Rattle.mime_http.specs.declared.tight.Place.TheVariants.{Equals, Quoted, Paired}
 use Rattle.mime_http.specs.declared.fault.Reach.{Reach}
-use Rattle.mime_http.specs.Tight.{place_after, is_left_out, brought_back, added, tight_from, tight}
 use Rattle.mime_http.specs.Reached.{limit_of}
-use Rattle.mime_http.specs.HttpFaults.{IsHttpViable, IsHttpLongestPrefix, HttpLacks, IsHttpFault}
 use Rattle.mime_http.proofs.Places.{place_from, place_from-append}
 use Rattle.mime_http.proofs.PlacesAgain.{IsSettled, kept_adds, no_space}
 use Rattle.mime_http.proofs.HttpViability.{tight-append, settled_end, goes_on_as, viable_from_tight, tight_from_viable, accepted_from_spaced, viable_from_accepted, prefix_of_http_viable}

@@ -1,14 +1,8 @@
 -- What HTTP writes is read: tightened, it is the text of a syntax tree with the same parts.
-use Rattle.std.proofs.Common.{◌≡◌, ◌∙◌, refl, sym, ap, subst, ℕ, List, [], ◌∷◌, ◌++◌}
-use Rattle.std.proofs.lemmas.Bool.{and_parts, and_from}
+use Rattle.mime_http.proofs.Common.{◌≡◌, ◌∙◌, refl, sym, ap, subst, ℕ, List, [], ◌∷◌, ◌++◌, and_parts, and_from, list_all-append, plain, quoted, Parameters, final, more, Tail, no_list, listed, SyntaxTree, is_space, AreSpaces, text_of_list, text_of_tail, AreParameters, IsTail, value_of, lowered, lowered_value, lowered_list, lowered_tail, pairs_of_list, pairs_of_tail, Place, Start, Plain, Spaced, Closed, Semicolon, tight_from, tight, IsHttpParameter, with_token, with_string, AreHttpParameters, no_more, semicolon, semicolon_and}
 use Rattle.std.proofs.lemmas.List.{append-nil, append_assoc}
-use Rattle.std.proofs.lemmas.List.Folds.{list_all-append}
-use Rattle.mime.specs.Grammar.{plain, quoted, Parameters, blank, final, more, Tail, no_list, listed, SyntaxTree, is_space, AreSpaces, text_of_list, text_of_tail, AreParameters, IsTail}
-use Rattle.mime.specs.Values.{value_of, lowered, lowered_value, lowered_list, lowered_tail, pairs_of_list, pairs_of_tail}
-use Rattle.mime_http.specs.declared.tight.Place.{Place}
-use Rattle.mime_http.specs.declared.tight.Place.TheVariants.{Start, Plain, Spaced, Equals, Quoted, Closed, Semicolon}
-use Rattle.mime_http.specs.Tight.{tight_from, tight}
-use Rattle.mime_http.specs.HttpMediaType.{IsHttpParameter, with_token, with_string, AreHttpParameters, no_more, semicolon, semicolon_and}
+use Rattle.mime.specs.Grammar.{blank}
+use Rattle.mime_http.specs.declared.tight.Place.TheVariants.{Equals, Quoted}
 use Rattle.mime_http.specs.HeaderLaws.{HttpIsRead}
 use Rattle.mime_http.proofs.Places.{Leads, one, both, of_type, goes_on, of_value, of_name, token, walk_spaces, after_value, before_name, quoted_content}
 
@@ -20,22 +14,22 @@ pub data SkipsWhite : Place → Type 0 where
   spaced : SkipsWhite Spaced
 
 -- There bytes come out as without white space before them.
-pub skipped : {place : Place} → SkipsWhite place → (white rest : List ℕ) → AreSpaces white → tight_from place (white ++ rest) ≡ tight_from place rest
-skipped skips [] rest all = refl
-skipped at_start (b ∷ white) rest all =
-    let parts = and_parts (is_space b) _ all in rw parts.0 (skipped at_start white rest parts.1)
-skipped spaced (b ∷ white) rest all =
-    let parts = and_parts (is_space b) _ all in rw parts.0 (skipped spaced white rest parts.1)
+pub white_skipped : {place : Place} → SkipsWhite place → (white rest : List ℕ) → AreSpaces white → tight_from place (white ++ rest) ≡ tight_from place rest
+white_skipped skips [] rest all = refl
+white_skipped at_start (b ∷ white) rest all =
+    let parts = and_parts (is_space b) _ all in rw parts.0 (white_skipped at_start white rest parts.1)
+white_skipped spaced (b ∷ white) rest all =
+    let parts = and_parts (is_space b) _ all in rw parts.0 (white_skipped spaced white rest parts.1)
 
 -- White space alone leaves nothing.
 pub nothing_out : {place : Place} → SkipsWhite place → (white : List ℕ) → AreSpaces white → tight_from place white ≡ []
 nothing_out {place} skips [] all = refl
-nothing_out {place} skips white all = ap (tight_from place) (sym (append-nil white)) ∙ skipped skips white [] all
+nothing_out {place} skips white all = ap (tight_from place) (sym (append-nil white)) ∙ white_skipped skips white [] all
 
 -- After a byte that stays it is left out before a semicolon, and at the end.
 plain_semicolon : (n w : List ℕ) → AreSpaces n → tight_from Plain (n ++ (59 ∷ w)) ≡ 59 ∷ tight_from Semicolon w
 plain_semicolon [] w all = refl
-plain_semicolon (b ∷ n) w all = let parts = and_parts (is_space b) _ all in rw parts.0 (skipped spaced n (59 ∷ w) parts.1)
+plain_semicolon (b ∷ n) w all = let parts = and_parts (is_space b) _ all in rw parts.0 (white_skipped spaced n (59 ∷ w) parts.1)
 
 -- and at the end it is left out
 plain_end : (n : List ℕ) → AreSpaces n → tight_from Plain n ≡ []
@@ -230,7 +224,7 @@ http_is_read value media reads =
       record {
         tree = strict;
         well_formed = (reads.is_top, reads.is_sub, from.is);
-        spelled = sym (ap tight (sym reads.spelled) ∙ (skipped at_start reads.before _ reads.white_before
+        spelled = sym (ap tight (sym reads.spelled) ∙ (white_skipped at_start reads.before _ reads.white_before
             ∙ (ap (tight_from Start) (sym (append_assoc top (47 ∷ sub) _))
             ∙ (leads.tightly _ ∙ (ap (λ x. (top ++ (47 ∷ sub)) ++ x) from.same ∙ append_assoc top (47 ∷ sub) _)))));
         valued = same;

@@ -1,9 +1,5 @@
 -- The laws of a header's value.
-use Rattle.std.proofs.Common.{ap, subst, sym, ℕ, List}
-use Rattle.mime.specs.Values.{MediaType, Reads, IsAccepted}
-use Rattle.mime.proofs.HandedOut.{one_reading}
-use Rattle.mime_http.specs.Tight.{tight}
-use Rattle.mime_http.specs.HttpMediaType.{IsHttpMediaType}
+use Rattle.mime_http.proofs.Common.{ap, subst, sym, ℕ, List, MediaType, Reads, IsAccepted, one_reading, tight, IsHttpMediaType}
 use Rattle.mime_http.specs.HeaderLaws.{PlainIsHttp, OneHttpReading}
 use Rattle.mime_http.proofs.Places.{accepted_stays}
 use Rattle.mime_http.proofs.HttpForth.{http_is_read}

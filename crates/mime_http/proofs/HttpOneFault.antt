@@ -1,20 +1,7 @@
 -- A value that is no media type has exactly one fault.
-use Rattle.std.proofs.Common.{◌≡◌, ◌∙◌, refl, sym, ap, subst, arith, ℕ, ◌<◌, List, [], ◌∷◌, ◌++◌, length, inl, inr, ⊎_elim, append_assoc}
-use Rattle.std.proofs.Math.Seq.{take-length}
-use Rattle.std.specs.Prelude.{slice_get, codes}
-use Rattle.std.proofs.lemmas.Bool.{cases_lt}
-use Rattle.std.proofs.lemmas.Option.{same_Some, slice_get_within, slice_get-get_or}
-use Rattle.mime.specs.Values.{IsAccepted}
-use Rattle.mime.specs.Faults.{EndsIn, Lacks, IsFault}
-use Rattle.mime.specs.declared.scan.fault.ParseError.{ParseError}
-use Rattle.mime.specs.declared.scan.fault.ParseError.TheVariants.{MissingSlash, MissingSubtype, MissingEqual, MissingValue, MissingQuote, InvalidToken}
-use Rattle.mime.proofs.HandedOut.{accepted_or_rejected, one_fault}
-use Rattle.mime_http.specs.declared.tight.Place.{Place}
-use Rattle.mime_http.specs.declared.tight.Place.TheVariants.{Start, Spaced}
-use Rattle.mime_http.specs.Tight.{place_after, tight_from, tight}
+use Rattle.mime_http.proofs.Common.{◌≡◌, ◌∙◌, refl, sym, ap, subst, arith, ℕ, ◌<◌, List, [], ◌∷◌, ◌++◌, length, inl, inr, ⊎_elim, take-length, slice_get, codes, cases_lt, same_Some, slice_get_within, slice_get-get_or, IsAccepted, EndsIn, Lacks, IsFault, ParseError, MissingSlash, MissingSubtype, MissingEqual, MissingValue, MissingQuote, InvalidToken, accepted_or_rejected, one_fault, Place, Start, Spaced, place_after, tight_from, tight, IsHttpMediaType, IsHttpViable, IsHttpLongestPrefix, HttpLacks, IsHttpFault}
+use Rattle.std.proofs.Common.{append_assoc}
 use Rattle.mime_http.specs.Reached.{start, reach_from, limit_of}
-use Rattle.mime_http.specs.HttpMediaType.{IsHttpMediaType}
-use Rattle.mime_http.specs.HttpFaults.{IsHttpViable, IsHttpLongestPrefix, HttpLacks, IsHttpFault}
 use Rattle.mime_http.specs.HeaderLaws.{OneHttpFault}
 use Rattle.mime_http.proofs.Places.{place_from}
 use Rattle.mime_http.proofs.PlacesAgain.{IsSettled}
@@ -75,9 +62,9 @@ record ComesOut (place : Place) : Type 0 where
   quote : tight_from place (codes "x\"") ≡ codes "x\""
 
 -- it does from each settled place
-comes_out : (place : Place) → IsSettled place → ComesOut place
-comes_out Spaced is = absurd is
-comes_out place is = record { slash = refl; text = refl; equal = refl; quote = refl }
+completion_comes_out : (place : Place) → IsSettled place → ComesOut place
+completion_comes_out Spaced is = absurd is
+completion_comes_out place is = record { slash = refl; text = refl; equal = refl; quote = refl }
 
 -- a value that ends in a slash or an equals sign does so tightened
 ends_too : (value : List ℕ) (b : ℕ) → ((place : Place) → IsBusy (place_after place b)) → EndsIn value b → EndsIn (tight value) b
@@ -89,7 +76,7 @@ ends_too value b busy (front, ends) =
 
 -- what a settled value lacks it lacks tightened,
 lacks_tight : (value : List ℕ) (fault : ParseError) → IsSettled (place_from Start value) → HttpLacks value fault → Lacks (tight value) fault
-lacks_tight value fault at_rest = go (comes_out (place_from Start value) at_rest) fault
+lacks_tight value fault at_rest = go (completion_comes_out (place_from Start value) at_rest) fault
   where
     accepted : (more : List ℕ) → tight_from (place_from Start value) more ≡ more → IsHttpMediaType (value ++ more) → IsAccepted (tight value ++ more)
     accepted more same is = subst (λ x. IsAccepted (tight value ++ x)) same (tight_accepted value more is)

@@ -1,18 +1,10 @@
 -- Tightening leaves bytes in UTF-8 exactly if they are.
-use Rattle.std.proofs.Common.{◌≡◌, ◌∙◌, ◌==◌, ◌<◌, ◌≤◌, refl, sym, ap, subst, arith, ℕ, zero, suc, true, false, List, [], ◌∷◌, ◌++◌, length, ⊎_elim, length-append}
-use Rattle.std.specs.Prelude.{IsUtf8, ⊤, nat_le, nat_lt, ◌&&◌, ◌↔◌}
-use Rattle.std.specs.List.{list_all}
-use Rattle.std.proofs.lemmas.Bool.{and_parts, cond_both, cases_lt}
-use Rattle.std.proofs.lemmas.Bool.Decides.{nat_tests}
+use Rattle.mime_http.proofs.Common.{◌≡◌, ◌∙◌, ◌==◌, ◌<◌, ◌≤◌, refl, sym, ap, subst, arith, ℕ, zero, suc, true, false, List, [], ◌∷◌, ◌++◌, length, ⊎_elim, length-append, ⊤, nat_le, nat_lt, ◌&&◌, ◌↔◌, list_all, and_parts, cond_both, cases_lt, nat_tests, IsUtf8-nil, IsUtf8-append, IsUtf8-encode, IsUtf8-from_ascii, encode_ascii, cons_from_encodes, length-encode, len_utf8_bounds, high_bytes, is_space, Place, Start, Plain, Spaced, place_after, is_left_out, brought_back, added, tight_from, tight}
+use Rattle.std.specs.Prelude.{IsUtf8}
 use Rattle.std.proofs.lemmas.List.{append_assoc}
-use Rattle.std.proofs.lemmas.Str.{IsUtf8-nil, IsUtf8-append, IsUtf8-encode, IsUtf8-from_ascii, encode_ascii, cons_from_encodes, length-encode, len_utf8_bounds}
 use Rattle.std.proofs.lemmas.Str.Ascii.{IsAscii-cons, IsAscii-nil}
-use Rattle.mime.proofs.HandedOut.{high_bytes}
-use Rattle.mime.specs.Grammar.{is_space}
 use lib.Utf8.{scalars, scalar, encodes, encode}
-use Rattle.mime_http.specs.declared.tight.Place.{Place}
-use Rattle.mime_http.specs.declared.tight.Place.TheVariants.{Start, Plain, Spaced, Quoted, Paired}
-use Rattle.mime_http.specs.Tight.{place_after, is_left_out, brought_back, added, tight_from, tight}
+use Rattle.mime_http.specs.declared.tight.Place.TheVariants.{Quoted, Paired}
 use Rattle.mime_http.proofs.PlacesAgain.{kept_adds, is_kept}
 use Rattle.mime_http.proofs.OutAgain.{After, and_then, to_place, plain_back, any_back}
 
@@ -25,8 +17,8 @@ AreAscii (b ∷ bytes) = (b < 128) × AreAscii bytes
 
 -- joined ASCII bytes are ASCII
 ascii-append : (xs ys : List ℕ) → AreAscii xs → AreAscii ys → AreAscii (xs ++ ys)
-ascii-append [] ys first second = second
-ascii-append (b ∷ xs) ys first second = (first.0, ascii-append xs ys first.1 second)
+ascii-append [] ys high_first second = second
+ascii-append (b ∷ xs) ys high_first second = (high_first.0, ascii-append xs ys high_first.1 second)
 
 -- ASCII bytes may be put before a text in UTF-8,
 pub put_ascii : (xs ys : List ℕ) → AreAscii xs → IsUtf8 ys → IsUtf8 (xs ++ ys)
@@ -92,8 +84,8 @@ held Paired b is = within
 held place b is = rw (is.space, is.semicolon, is.equals, is.quote) outside
 
 -- it comes out after a space at most
-first : (place : Place) (b : ℕ) → IsHigh b → First place b
-first place b is = record {
+high_first : (place : Place) (b : ℕ) → IsHigh b → First place b
+high_first place b is = record {
   before = brought_back place b;
   ascii = brought_ascii place b;
   adds = kept_adds place b (is_kept place b is.space is.semicolon);
@@ -163,7 +155,7 @@ utf8_tight (c ∷ cs) place are = ⊎_elim
     go others [] all utf8 = others place
     go others (b ∷ hs) all utf8 =
         let tests = and_parts (nat_le 128 b && nat_lt b 248) _ all in
-        let begins = first place b (high_of b tests.0) in
+        let begins = high_first place b (high_of b tests.0) in
         let same : tight_from place (b ∷ (hs ++ encodes cs))
         ≡ begins.before ++ ((b ∷ hs) ++ tight_from (place_after place b) (encodes cs)) =
         ap (λ a. a ++ tight_from (place_after place b) (hs ++ encodes cs)) begins.adds
@@ -180,7 +172,7 @@ utf8_back (suc fuel) (b ∷ bytes) place fits is = ⊎_elim
     put_ascii (b ∷ []) bytes (ascii, tt)
     (utf8_back fuel bytes (place_after place b) (omega arith) (drop_ascii (added place b) _ (added_ascii place b ascii) is)))
     (λ above.
-    let begins = first place b (high b above) in
+    let begins = high_first place b (high b above) in
     let same : tight_from place (b ∷ bytes) ≡ begins.before ++ (b ∷ tight_from (place_after place b) bytes) =
     ap (λ a. a ++ tight_from (place_after place b) bytes) begins.adds ∙ append_assoc begins.before (b ∷ []) _ in
     let left = drop_ascii begins.before (b ∷ tight_from (place_after place b) bytes) begins.ascii (subst IsUtf8 same is) in

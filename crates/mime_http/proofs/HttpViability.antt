@@ -1,24 +1,9 @@
 -- Which beginnings of a value may still become a media type as HTTP writes it: by the library's walk over what is left of them.
-use Rattle.std.proofs.Common.{◌≡◌, ◌∙◌, ◌==◌, refl, sym, ap, subst, arith, ℕ, Bool, true, false, List, [], ◌∷◌, ◌++◌, Option, Some, None}
-use Rattle.std.specs.Prelude.{⊤, IsTrue, IsFalse, MatchOption, if◌then◌else◌}
-use Rattle.std.specs.Option.{option_map}
-use Rattle.std.proofs.lemmas.Bool.{and_parts, cond_both, false≢true}
-use Rattle.std.proofs.lemmas.Bool.Decides.{nat_tests}
-use Rattle.std.proofs.lemmas.List.{append-nil, append_assoc, append_cancel_left}
-use Rattle.std.proofs.lemmas.Option.{none-some, same_Some, option_and_then_some, MatchOption-at_some}
-use Rattle.mime.specs.Bytes.{is_token_byte, is_quoted_byte}
-use Rattle.mime.specs.Grammar.{SyntaxTree, is_space}
-use Rattle.mime.specs.Values.{IsAccepted}
-use Rattle.mime.specs.Faults.{IsViable}
-use Rattle.mime.specs.Inner.Quoted.{takes, continues, awaits_next, awaits_after}
-use Rattle.mime.proofs.HandedOut.{ClosedParameters, Begun, in_type, in_subtype, in_list, ListState, in_spaces, in_name, in_value, in_quotes, after_quotes, grow_state, grow_list, list_at, grow, walk, walk_from, tree_of, walk_by-append, awaits_after-append, by_class, walk-accepted, accepted-from_complete}
-use Rattle.mime_http.specs.declared.tight.Place.{Place}
-use Rattle.mime_http.specs.declared.tight.Place.TheVariants.{Start, Plain, Spaced, Equals, Quoted, Paired, Closed, Semicolon}
-use Rattle.mime_http.specs.Tight.{place_after, added, tight_from, tight}
-use Rattle.mime_http.specs.HttpMediaType.{IsHttpMediaType}
-use Rattle.mime_http.specs.HttpFaults.{IsHttpViable}
+use Rattle.mime_http.proofs.Common.{◌≡◌, ◌∙◌, ◌==◌, refl, sym, ap, subst, arith, ℕ, Bool, true, false, List, [], ◌∷◌, ◌++◌, Option, Some, None, ⊤, IsTrue, IsFalse, MatchOption, if◌then◌else◌, option_map, and_parts, cond_both, false≢true, nat_tests, append_cancel_left, none-some, same_Some, option_and_then_some, MatchOption-at_some, is_token_byte, is_quoted_byte, SyntaxTree, is_space, IsAccepted, IsViable, takes, continues, awaits_next, awaits_after, ClosedParameters, Begun, in_type, in_subtype, in_list, ListState, in_spaces, in_name, in_value, in_quotes, after_quotes, grow_state, grow_list, list_at, grow, walk, walk_from, tree_of, walk_by-append, awaits_after-append, by_class, walk-accepted, accepted-from_complete, Place, Start, Plain, Spaced, Closed, Semicolon, place_after, added, tight_from, tight, IsHttpMediaType, IsHttpViable}
+use Rattle.std.proofs.lemmas.List.{append-nil, append_assoc}
+use Rattle.mime_http.specs.declared.tight.Place.TheVariants.{Equals, Quoted, Paired}
 use Rattle.mime_http.proofs.Places.{place_from, Leads, no_bytes, one, both, so, token_is_plain, of_type, goes_on, of_value, of_name, plain_byte, before_name, after_value, space, accepted_stays}
-use Rattle.mime_http.proofs.PlacesAgain.{IsSettled, IsLike, itself, left_after_plain, left_after_equals, ends}
+use Rattle.mime_http.proofs.PlacesAgain.{IsSettled, IsLike, itself, left_after_plain, left_after_equals, ends_like}
 use Rattle.mime_http.proofs.HttpBack.{read_is_http}
 use Rattle.mime_http.proofs.HttpLaws.{accepted_from_http}
 
@@ -92,18 +77,18 @@ mapped f P None is = tt
 mapped f P (Some x) is = is
 
 -- so it is in a whole text
-grown : (begun : Begun) (b : ℕ) → MatchOption (grow begun b) (Unit {0}) (GoesTo (place_at begun) b)
-grown (in_type []) b =
+grows_to : (begun : Begun) (b : ℕ) → MatchOption (grow begun b) (Unit {0}) (GoesTo (place_at begun) b)
+grows_to (in_type []) b =
     cond_both (is_token_byte b) _ _ (λ o. MatchOption o (Unit {0}) (GoesTo Start b))
     (λ yes. plain_byte of_type b (token_is_plain b yes)) (λ no. tt)
-grown (in_type (t ∷ top)) b =
+grows_to (in_type (t ∷ top)) b =
     by_class (GoesTo Plain) is_token_byte 47 b _ _ (λ yes. plain_byte goes_on b (token_is_plain b yes)) (λ no. one Plain 47)
-grown (in_subtype top []) b =
+grows_to (in_subtype top []) b =
     cond_both (is_token_byte b) _ _ (λ o. MatchOption o (Unit {0}) (GoesTo Plain b))
     (λ yes. plain_byte goes_on b (token_is_plain b yes)) (λ no. tt)
-grown (in_subtype top (s ∷ sub)) b =
+grows_to (in_subtype top (s ∷ sub)) b =
     by_class (GoesTo Plain) is_token_byte 59 b _ _ (λ yes. plain_byte goes_on b (token_is_plain b yes)) (λ no. one Plain 59)
-grown (in_list top sub list) b =
+grows_to (in_list top sub list) b =
     mapped (in_list top sub) (GoesTo (place_in_list list.position) b) (grow_list list b) (grown_list list.closed list.position b)
 
 -- What the library walks comes out as it is, and leads to the place at its end.
@@ -112,7 +97,7 @@ pub walked : (begun : Begun) (bytes : List ℕ) (last : Begun) → walk_from beg
 walked begun [] last e = so (no_bytes (place_at begun)) refl (ap place_at (same_Some begun last e))
 walked begun (b ∷ bytes) last e =
     option_and_then_some (λ next. walk_from next bytes) (grow begun b) last e
-    (λ next grew goes. both (MatchOption-at_some (Unit {0}) (GoesTo (place_at begun) b) next grew (grown begun b)) (walked next bytes last goes))
+    (λ next grew goes. both (MatchOption-at_some (Unit {0}) (GoesTo (place_at begun) b) next grew (grows_to begun b)) (walked next bytes last goes))
 
 -- ---- after white space that was left out only a semicolon or the end may follow, and only where the value may end
 
@@ -208,20 +193,20 @@ like_settled left_after_plain is = absurd is
 like_settled left_after_equals is = absurd is
 
 -- what was written before white space that was left out ends where such is left out
-like_spaced : {place like : Place} → IsLike place like → place ≡ Spaced → LeavesSpaces like
-like_spaced (itself place settled) same = absurd (subst IsSettled same settled)
-like_spaced left_after_plain same = tt
-like_spaced left_after_equals same = tt
+leaves_like : {place like : Place} → IsLike place like → place ≡ Spaced → LeavesSpaces like
+leaves_like (itself place settled) same = absurd (subst IsSettled same settled)
+leaves_like left_after_plain same = tt
+leaves_like left_after_equals same = tt
 
 -- with no white space left out at its end, what comes out of a beginning ends where the beginning does
 pub settled_end : (front : List ℕ) → IsSettled (place_from Start front) → place_from Start (tight front) ≡ place_from Start front
-settled_end front settled = let end = ends front in end.leads.there ∙ like_settled end.is_like settled
+settled_end front settled = let end = ends_like front in end.leads.there ∙ like_settled end.is_like settled
 
 -- with no white space left out at its end, a beginning goes on as what is left of it
 pub goes_on_as : (front more : List ℕ) → IsSettled (place_from Start front) → IsAccepted (tight front ++ more)
     → IsHttpMediaType (front ++ more)
 goes_on_as front more settled is =
-    let end = ends front in
+    let end = ends_like front in
     let written : tight front ++ tight_from end.like more ≡ tight front ++ more =
     sym (end.leads.tightly more) ∙ accepted_stays (tight front ++ more) is in
     let same : tight_from (place_from Start front) more ≡ more =
@@ -246,12 +231,12 @@ pub accepted_from_spaced : (front : List ℕ) → place_from Start front ≡ Spa
 accepted_from_spaced front spaced viable =
     let text = tight front ++ tight_from (place_from Start front) viable.0 in
     let found = walk-accepted text (tight_accepted front viable.0 viable.1) in
-    let end = ends front in
+    let end = ends_like front in
     option_and_then_some (λ next. walk_from next (tight_from (place_from Start front) viable.0)) (walk (tight front)) found.0
     (sym (walk_by-append grow (in_type []) (tight front) _) ∙ found.2.0)
     (λ begun reached goes.
     let there : place_at begun ≡ end.like = sym (walked (in_type []) (tight front) begun reached).there ∙ end.leads.there in
-    let may = ends_there begun (subst LeavesSpaces (sym there) (like_spaced end.is_like spaced)) viable.0 found.0
+    let may = ends_there begun (subst LeavesSpaces (sym there) (leaves_like end.is_like spaced)) viable.0 found.0
     (subst (λ place. walk_from begun (tight_from place viable.0) ≡ Some found.0) spaced goes) (found.1, found.2.1) in
     accepted-from_complete (tight front) begun may.0 reached may.1)
 

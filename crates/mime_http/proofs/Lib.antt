@@ -2,6 +2,7 @@
 pub mod Adds
 pub mod AtFault
 pub mod Closest
+pub mod Common
 pub mod Contents
 pub mod Cuts
 pub mod Demanded

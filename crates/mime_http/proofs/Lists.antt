@@ -1,14 +1,7 @@
 -- Lists as HTTP writes them are read as their elements, and what is read with nothing bad are such lists.
-use Rattle.std.proofs.Common.{◌≡◌, ◌∙◌, ◌==◌, refl, sym, ap, subst, arith, ℕ, true, false, List, [], ◌∷◌, ◌++◌}
-use Rattle.std.specs.Prelude.{⊤}
-use Rattle.std.proofs.lemmas.Bool.{and_parts}
-use Rattle.std.proofs.lemmas.Bool.Decides.{nat_tests}
+use Rattle.mime_http.proofs.Common.{◌≡◌, ◌∙◌, ◌==◌, refl, sym, ap, subst, arith, ℕ, true, false, List, [], ◌∷◌, ◌++◌, ⊤, and_parts, nat_tests, is_token_byte, is_space, AreSpaces, AreTokenBytes, IsToken, IsContent, no_byte, text_byte, quoted_pair, MediaType, IsAccepted, IsHttpParameter, with_token, with_string, AreHttpParameters, no_more, semicolon, semicolon_and, HttpReads, IsHttpMediaType, AreBetweenCommas, no_line, line_end, comma, trim_start, trim_end, AreSorted, no_text, a_range, a_bad, IsInString, string_end, string_byte, string_pair, opens_string, IsPiece, piece_end, piece_byte, piece_string, BeginsPiece}
 use Rattle.std.proofs.lemmas.List.{append-nil, append_assoc}
-use Rattle.mime.specs.Bytes.{is_token_byte}
-use Rattle.mime.specs.Grammar.{is_space, AreSpaces, AreTokenBytes, IsToken, IsContent, no_byte, text_byte, quoted_pair}
-use Rattle.mime.specs.Values.{MediaType, IsAccepted}
-use Rattle.mime_http.specs.HttpMediaType.{IsHttpParameter, with_token, with_string, AreHttpParameters, no_more, semicolon, semicolon_and, HttpReads, IsHttpMediaType}
-use Rattle.mime_http.specs.HttpList.{AreBetweenCommas, no_line, line_end, comma, trim_start, trim_end, AreSorted, no_text, blank, a_range, a_bad, IsInString, string_end, string_byte, string_pair, opens_string, IsPiece, piece_end, piece_byte, piece_string, BeginsPiece}
+use Rattle.mime_http.specs.HttpList.{blank}
 use Rattle.mime_http.specs.ListLaws.{HttpListsAreRead, ReadAreHttpLists, AreSame, OneHeader, BadIsAlone}
 use Rattle.mime_http.proofs.Places.{token_is_plain, text_is_no_mark}
 use Rattle.mime_http.proofs.HttpForth.{at_start, nothing_out}
@@ -108,8 +101,8 @@ http_is_piece reads =
     (spaces_are_piece reads.after reads.white_after))))))
 
 -- a piece begins one
-begins : (text : List ℕ) → IsPiece text → BeginsPiece text
-begins text is = ([], subst IsPiece (sym (append-nil text)) is)
+begins_itself : (text : List ℕ) → IsPiece text → BeginsPiece text
+begins_itself text is = ([], subst IsPiece (sym (append-nil text)) is)
 
 -- ---- forth
 
@@ -118,9 +111,9 @@ elements_are_pieces : {lines texts : List (List ℕ)} {media : List MediaType} �
     → AreSorted texts media [] → AreBetweenCommas IsPiece BeginsPiece lines texts
 elements_are_pieces no_line no_text = no_line
 elements_are_pieces (line_end text lines texts any rest) (blank _ _ _ _ white others) =
-    line_end text lines texts (begins text (spaces_are_piece text white)) (elements_are_pieces rest others)
+    line_end text lines texts (begins_itself text (spaces_are_piece text white)) (elements_are_pieces rest others)
 elements_are_pieces (line_end text lines texts any rest) (a_range _ _ _ _ _ utf8 reads others) =
-    line_end text lines texts (begins text (http_is_piece reads)) (elements_are_pieces rest others)
+    line_end text lines texts (begins_itself text (http_is_piece reads)) (elements_are_pieces rest others)
 elements_are_pieces (comma text line lines texts any rest) (blank _ _ _ _ white others) =
     comma text line lines texts (spaces_are_piece text white) (elements_are_pieces rest others)
 elements_are_pieces (comma text line lines texts any rest) (a_range _ _ _ _ _ utf8 reads others) =
@@ -136,7 +129,7 @@ http_lists_are_read lines media lists =
 -- pieces are texts between commas
 of_any : {lines texts : List (List ℕ)} → AreBetweenCommas IsPiece BeginsPiece lines texts → AreBetweenCommas (λ text. ⊤) (λ text. ⊤) lines texts
 of_any no_line = no_line
-of_any (line_end text lines texts begins rest) = line_end text lines texts tt (of_any rest)
+of_any (line_end text lines texts begins_itself rest) = line_end text lines texts tt (of_any rest)
 of_any (comma text line lines texts is rest) = comma text line lines texts tt (of_any rest)
 
 -- what is read with nothing bad is such a list

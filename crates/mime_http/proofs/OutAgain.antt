@@ -1,12 +1,7 @@
 -- Bytes of which these come out begin with these, but for white space that is left out.
-use Rattle.std.proofs.Common.{◌≡◌, ◌∙◌, ◌==◌, refl, sym, ap, subst, arith, ℕ, Bool, true, false, List, [], ◌∷◌, ◌++◌}
-use Rattle.std.proofs.lemmas.Bool.{and_parts, and_from, true≢false}
+use Rattle.mime_http.proofs.Common.{◌≡◌, ◌∙◌, ◌==◌, refl, sym, ap, subst, arith, ℕ, Bool, true, false, List, [], ◌∷◌, ◌++◌, and_parts, and_from, true≢false, is_token_byte, is_space, AreSpaces, AreTokenBytes, IsToken, IsContent, no_byte, text_byte, quoted_pair, Place, Start, Plain, Spaced, Closed, Semicolon, place_after, added, tight_from}
 use Rattle.std.proofs.lemmas.List.{append_assoc}
-use Rattle.mime.specs.Bytes.{is_token_byte}
-use Rattle.mime.specs.Grammar.{is_space, AreSpaces, AreTokenBytes, IsToken, IsContent, no_byte, text_byte, quoted_pair}
-use Rattle.mime_http.specs.declared.tight.Place.{Place}
-use Rattle.mime_http.specs.declared.tight.Place.TheVariants.{Start, Plain, Spaced, Equals, Quoted, Paired, Closed, Semicolon}
-use Rattle.mime_http.specs.Tight.{place_after, added, tight_from}
+use Rattle.mime_http.specs.declared.tight.Place.TheVariants.{Equals, Quoted, Paired}
 use Rattle.mime_http.proofs.Places.{IsPlainByte, token_is_plain, TakesToken, goes_on, of_value, plain_byte, text_is_no_mark}
 
 -- ---- bytes that come out as they are

@@ -1,14 +1,8 @@
 -- What is read from a place on: an accepted text is written as it is.
-use Rattle.std.proofs.Common.{◌≡◌, ◌∙◌, ◌==◌, refl, sym, ap, subst, arith, ℕ, true, false, List, [], ◌∷◌, ◌++◌}
-use Rattle.std.proofs.lemmas.Bool.{and_parts}
-use Rattle.std.proofs.lemmas.Bool.Decides.{nat_tests}
+use Rattle.mime_http.proofs.Common.{◌≡◌, ◌∙◌, ◌==◌, refl, sym, ap, subst, arith, ℕ, true, false, List, [], ◌∷◌, ◌++◌, and_parts, nat_tests, is_token_byte, is_quoted_byte, is_quoted_text_byte, Parameter, plain, quoted, Parameters, final, more, Tail, no_list, listed, SyntaxTree, is_space, AreSpaces, text_of_parameter, text_of_list, text_of_tail, text_of, AreTokenBytes, IsToken, IsContent, no_byte, text_byte, quoted_pair, IsParameter, AreParameters, IsTail, IsWellFormed, MediaType, Reads, IsAccepted, Place, Start, Plain, Closed, Semicolon, place_after, added, tight_from, tight}
 use Rattle.std.proofs.lemmas.List.{append-nil, append_assoc}
-use Rattle.mime.specs.Bytes.{is_token_byte, is_quoted_byte, is_quoted_text_byte}
-use Rattle.mime.specs.Grammar.{Parameter, plain, quoted, Parameters, blank, final, more, Tail, no_list, listed, SyntaxTree, is_space, AreSpaces, text_of_parameter, text_of_list, text_of_tail, text_of, AreTokenBytes, IsToken, IsContent, no_byte, text_byte, quoted_pair, IsParameter, AreParameters, IsTail, IsWellFormed}
-use Rattle.mime.specs.Values.{MediaType, Reads, IsAccepted}
-use Rattle.mime_http.specs.declared.tight.Place.{Place}
-use Rattle.mime_http.specs.declared.tight.Place.TheVariants.{Start, Plain, Equals, Quoted, Paired, Closed, Semicolon}
-use Rattle.mime_http.specs.Tight.{place_after, added, tight_from, tight}
+use Rattle.mime.specs.Grammar.{blank}
+use Rattle.mime_http.specs.declared.tight.Place.TheVariants.{Equals, Quoted, Paired}
 
 -- the place after bytes
 abbrev pub place_from : Place → List ℕ → Place
@@ -48,8 +42,8 @@ so {p} {q} {r} {xs} {out} {add} leads same there =
     subst (λ place. Leads p xs add place) there (subst (λ o. Leads p xs o q) same leads)
 
 -- What is written as it is stays so if nothing follows.
-pub stays : {p q : Place} {text : List ℕ} → Leads p text text q → tight_from p text ≡ text
-stays {p} {text = text} leads = ap (tight_from p) (sym (append-nil text)) ∙ (leads.tightly [] ∙ append-nil text)
+pub comes_out_whole : {p q : Place} {text : List ℕ} → Leads p text text q → tight_from p text ≡ text
+comes_out_whole {p} {text = text} leads = ap (tight_from p) (sym (append-nil text)) ∙ (leads.tightly [] ∙ append-nil text)
 
 -- a byte with no role
 pub record IsPlainByte (b : ℕ) : Type 0 where
@@ -198,4 +192,4 @@ walk_text reads = subst (λ text. Walk EndsText Start text) reads.spelled (tree 
 
 -- so tightening leaves an accepted text as it is
 pub accepted_stays : (text : List ℕ) → IsAccepted text → tight text ≡ text
-accepted_stays text is = stays (walk_text is.1).leads
+accepted_stays text is = comes_out_whole (walk_text is.1).leads

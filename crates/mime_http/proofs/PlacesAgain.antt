@@ -1,12 +1,8 @@
 -- What was written from a place on is written again.
-use Rattle.std.proofs.Common.{◌≡◌, ◌∙◌, ◌==◌, refl, ap, sym, subst, arith, ℕ, Bool, true, false, List, [], ◌∷◌, ◌++◌}
-use Rattle.std.specs.Prelude.{⊤, if◌then◌else◌}
-use Rattle.std.proofs.lemmas.Bool.Decides.{nat_tests}
+use Rattle.mime_http.proofs.Common.{◌≡◌, ◌∙◌, ◌==◌, refl, ap, sym, subst, arith, ℕ, Bool, true, false, List, [], ◌∷◌, ◌++◌, ⊤, if◌then◌else◌, nat_tests, is_space, Place, Start, Plain, Spaced, Closed, Semicolon, after_quote, after_within, place_after, is_left_out, brought_back, added, tight_from, tight}
 use Rattle.std.proofs.lemmas.List.{append-nil, append_assoc}
-use Rattle.mime.specs.Grammar.{is_space}
-use Rattle.mime_http.specs.declared.tight.Place.{Place}
-use Rattle.mime_http.specs.declared.tight.Place.TheVariants.{Start, Plain, Spaced, Equals, Quoted, Paired, Closed, Semicolon}
-use Rattle.mime_http.specs.Tight.{after_quote, after_outside, after_within, place_after, is_left_out, brought_back, added, tight_from, tight}
+use Rattle.mime_http.specs.declared.tight.Place.TheVariants.{Equals, Quoted, Paired}
+use Rattle.mime_http.specs.Tight.{after_unquoted}
 use Rattle.mime_http.proofs.Places.{place_from, Leads, both, one, so, no_bytes, KeepsSpace, after_value, before_name}
 
 -- a place after which no white space was left out
@@ -26,7 +22,7 @@ after_quote_settled Equals = tt
 after_quote_settled place = tt
 
 -- a byte other than white space leads to a settled place
-pub outside_settled : (place : Place) (b : ℕ) → is_space b ≡ false → IsSettled (after_outside place b)
+pub outside_settled : (place : Place) (b : ℕ) → is_space b ≡ false → IsSettled (after_unquoted place b)
 outside_settled place b is = rw is (go (b == 59) (b == 61) (b == 34))
   where
     go : (s e q : Bool) → IsSettled (if s then Semicolon else if e then Equals else if q then after_quote place else Plain)
@@ -191,5 +187,5 @@ ends_from (b ∷ bytes) place like out leads is =
     (ends_from bytes (place_after place b) step.to (out ++ added place b) (both leads step.leads) step.is_like)
 
 -- so what comes out of a value leads to a place like the value's
-pub ends : (value : List ℕ) → Ends (place_from Start value) (tight value)
-ends value = ends_from value Start Start [] (no_bytes Start) (itself Start tt)
+pub ends_like : (value : List ℕ) → Ends (place_from Start value) (tight value)
+ends_like value = ends_from value Start Start [] (no_bytes Start) (itself Start tt)

@@ -1,14 +1,7 @@
 -- Why HTTP rejects a value, from what tightening leaves of it.
-use Rattle.std.proofs.Common.{arith, ◌≡◌, refl, sym, subst, ℕ, ◌≤◌, List, length, take, string_bytes, String, Global}
-use Rattle.mime.specs.Values.{Reads, IsAccepted}
-use Rattle.mime.specs.Faults.{IsFault, Explains}
-use Rattle.mime.specs.declared.scan.fault.ParseError.{ParseError}
-use Rattle.mime.specs.declared.scan.fault.ParseError.TheVariants.{NoMemory}
+use Rattle.mime_http.proofs.Common.{arith, ◌≡◌, refl, sym, subst, ℕ, ◌≤◌, List, length, take, string_bytes, String, Global, Reads, IsAccepted, IsFault, Explains, ParseError, NoMemory, IsHttpMediaType, tight, Begins, IsTightening, LeavesFault, IsRejected}
 use Rattle.mime_http.specs.declared.tight.Tightening.{Tightening}
 use Rattle.mime_http.specs.declared.tight.Tightening.TheVariants.{Nothing, Prefix, Copy}
-use Rattle.mime_http.specs.HttpMediaType.{IsHttpMediaType}
-use Rattle.mime_http.specs.Tight.{tight}
-use Rattle.mime_http.specs.Tightening.{Begins, IsTightening, LeavesFault, IsRejected}
 use Rattle.mime_http.proofs.HttpBack.{read_is_http}
 use Rattle.mime_http.proofs.HttpLaws.{accepted_from_http}
 

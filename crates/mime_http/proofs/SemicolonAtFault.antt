@@ -1,31 +1,14 @@
 -- A semicolon at fault is left out after another, and else stands; so does each other byte, and what is missing at the end.
-use Rattle.std.proofs.Common.{◌≡◌, ◌∙◌, ◌==◌, ◌≢◌, refl, sym, ap, subst, arith, ℕ, ◌+◌, Bool, true, false, List, [], ◌∷◌, take, Some, None}
-use Rattle.std.specs.Prelude.{⊤, if◌then◌else◌}
-use Rattle.std.specs.Option.{option_map}
-use Rattle.std.proofs.lemmas.Bool.{true≢false}
-use Rattle.std.proofs.lemmas.Bool.Decides.{nat_tests}
-use Rattle.std.proofs.lemmas.Option.{none-some, slice_get_within}
-use Rattle.mime.specs.Bytes.{is_quoted_byte}
-use Rattle.mime.specs.Grammar.{is_space}
-use Rattle.mime.specs.Values.{IsAccepted}
-use Rattle.mime.specs.Faults.{IsDeadAt, Lacks, IsFault}
-use Rattle.mime.specs.Inner.Quoted.{takes, awaits_after}
-use Rattle.mime.specs.declared.scan.fault.ParseError.{ParseError}
-use Rattle.mime.specs.declared.scan.fault.ParseError.TheVariants.{InvalidToken}
-use Rattle.mime.proofs.HandedOut.{ClosedParameters, Begun, in_type, in_subtype, in_list, ListState, in_spaces, in_name, in_value, in_quotes, after_quotes, grow_state, grow, walk, completed_is_rejected, spelled-from_walk, walk-from_viable, viable-from_lacks}
-use Rattle.mime_http.specs.declared.tight.Place.{Place}
-use Rattle.mime_http.specs.declared.tight.Place.TheVariants.{Start, Plain, Spaced, Equals, Quoted, Paired, Closed, Semicolon}
-use Rattle.mime_http.specs.Tight.{after_space, after_quote, after_outside, place_after, added, tight}
-use Rattle.mime_http.specs.HttpMediaType.{IsHttpMediaType}
-use Rattle.mime_http.specs.HttpFaults.{HttpLacks}
-use Rattle.mime_http.specs.Tightening.{is_separator, ends_in_separator, Stands, IsLoose}
-use Rattle.mime_http.proofs.Places.{place_from, place_from-append, stays}
+use Rattle.mime_http.proofs.Common.{◌≡◌, ◌∙◌, ◌==◌, ◌≢◌, refl, sym, ap, subst, arith, ℕ, ◌+◌, Bool, true, false, List, [], ◌∷◌, take, Some, None, ⊤, if◌then◌else◌, option_map, true≢false, nat_tests, none-some, slice_get_within, is_quoted_byte, is_space, IsAccepted, IsDeadAt, Lacks, IsFault, takes, awaits_after, ParseError, InvalidToken, ClosedParameters, Begun, in_type, in_subtype, in_list, ListState, in_spaces, in_name, in_value, in_quotes, after_quotes, grow_state, grow, walk, completed_is_rejected, spelled-from_walk, walk-from_viable, viable-from_lacks, Place, Start, Plain, Spaced, Closed, Semicolon, after_space, after_quote, place_after, added, tight, IsHttpMediaType, HttpLacks, is_semicolon_or_space, ends_in_semicolon_or_space, Stands, IsLoose}
+use Rattle.mime_http.specs.declared.tight.Place.TheVariants.{Equals, Quoted, Paired}
+use Rattle.mime_http.specs.Tight.{after_unquoted}
+use Rattle.mime_http.proofs.Places.{place_from, place_from-append, comes_out_whole}
 use Rattle.mime_http.proofs.PlacesAgain.{IsSettled, comes_out}
 use Rattle.mime_http.proofs.HttpLaws.{accepted_from_http}
 use Rattle.mime_http.proofs.HttpViability.{place_in_list, place_at, walked}
 use Rattle.mime_http.proofs.HowFar.{Snoc, none, last, snoc}
 use Rattle.mime_http.proofs.HttpFaults.{last_of, end_lacks}
-use Rattle.mime_http.proofs.AtFault.{ComesOut, there, settled_at, at_rest, cut_at, leaves_out, stays_dead}
+use Rattle.mime_http.proofs.AtFault.{ComesOut, there, walk_is_settled, at_rest, cut_at, leaves_out, stays_dead}
 
 -- ---- a semicolon at fault
 
@@ -75,7 +58,7 @@ after_semicolon_bare Paired bare = absurd bare
 after_semicolon_bare place bare = refl
 
 -- after one of either
-after_separator : (place : Place) (b : ℕ) → is_separator b ≡ true → IsBare (place_after place b) → place_after place b ≡ Semicolon
+after_separator : (place : Place) (b : ℕ) → is_semicolon_or_space b ≡ true → IsBare (place_after place b) → place_after place b ≡ Semicolon
 after_separator place b is bare = go (b == 59) refl
   where
     go : (t : Bool) → (b == 59) ≡ t → place_after place b ≡ Semicolon
@@ -90,7 +73,7 @@ IsOther Semicolon = ⊥
 IsOther place = ⊤
 
 -- after such a byte
-after_other : (place : Place) (b : ℕ) → is_separator b ≡ false → IsOther (place_after place b)
+after_other : (place : Place) (b : ℕ) → is_semicolon_or_space b ≡ false → IsOther (place_after place b)
 after_other place b is = go place
   where
     space : is_space b ≡ false
@@ -103,7 +86,7 @@ after_other place b is = go place
     quote Equals = tt
     quote place = tt
 
-    outside : (place : Place) → IsOther (after_outside place b)
+    outside : (place : Place) → IsOther (after_unquoted place b)
     outside place = rw (space, semicolon) (choose (b == 61) (b == 34))
       where
         choose : (e q : Bool) → IsOther (if e then Equals else if q then after_quote place else Plain)
@@ -123,16 +106,16 @@ after_other place b is = go place
 
 -- there a semicolon comes out
 semicolon_comes_out : (place : Place) → IsSettled place → IsOther place → ComesOut place 59
-semicolon_comes_out Spaced at_rest other = absurd at_rest
-semicolon_comes_out Semicolon at_rest other = absurd other
-semicolon_comes_out place at_rest other = refl
+semicolon_comes_out Spaced settled other = absurd settled
+semicolon_comes_out Semicolon settled other = absurd other
+semicolon_comes_out place settled other = refl
 
 -- so it is after all bytes that end in a separator, outside quotes,
-separated : (before : List ℕ) → before ≢ [] → IsBare (place_from Start before) → ends_in_separator before ≡ true
+separated : (before : List ℕ) → before ≢ [] → IsBare (place_from Start before) → ends_in_semicolon_or_space before ≡ true
     → place_from Start before ≡ Semicolon
 separated before some bare ends = go (snoc before) some bare ends
   where
-    go : {before : List ℕ} → Snoc before → before ≢ [] → IsBare (place_from Start before) → ends_in_separator before ≡ true
+    go : {before : List ℕ} → Snoc before → before ≢ [] → IsBare (place_from Start before) → ends_in_semicolon_or_space before ≡ true
         → place_from Start before ≡ Semicolon
     go none some bare ends = absurd (some refl)
     go (last front c) some bare ends =
@@ -141,23 +124,23 @@ separated before some bare ends = go (snoc before) some bare ends
         on ∙ after_separator (place_from Start front) c (rw there at ends) (subst IsBare on bare)
 
 -- and not after those that don't
-not_separated : (before : List ℕ) → ends_in_separator before ≡ false → IsOther (place_from Start before)
+not_separated : (before : List ℕ) → ends_in_semicolon_or_space before ≡ false → IsOther (place_from Start before)
 not_separated before ends = go (snoc before) ends
   where
-    go : {before : List ℕ} → Snoc before → ends_in_separator before ≡ false → IsOther (place_from Start before)
+    go : {before : List ℕ} → Snoc before → ends_in_semicolon_or_space before ≡ false → IsOther (place_from Start before)
     go none ends = tt
     go (last front c) ends =
         let there = last_of front c in
         subst IsOther (sym (place_from-append Start front (c ∷ []))) (after_other (place_from Start front) c (rw there at ends))
 
 -- a semicolon at fault after a separator is left out,
-pub next_semicolon : (value : List ℕ) (pos b : ℕ) → IsDeadAt value pos b → b ≡ 59 → ends_in_separator (take pos value) ≡ true
+pub next_semicolon : (value : List ℕ) (pos b : ℕ) → IsDeadAt value pos b → b ≡ 59 → ends_in_semicolon_or_space (take pos value) ≡ true
     → IsLoose value pos (pos + 1) Semicolon
 next_semicolon value pos b dead is ends =
     let cut = cut_at value pos b dead in
     let within = slice_get_within value pos b dead.there in
     let fault = cut.fault in
-    let some : take pos value ≢ [] = λ empty. true≢false (sym ends ∙ ap ends_in_separator empty) in
+    let some : take pos value ≢ [] = λ empty. true≢false (sym ends ∙ ap ends_in_semicolon_or_space empty) in
     let bare = semicolon_is_bare (take pos value) fault.begun fault.reached some (subst (λ x. grow fault.begun x ≡ None) is fault.stops) in
     let place = separated (take pos value) some (subst IsBare (sym (there fault)) bare) ends in
     record {
@@ -168,7 +151,7 @@ next_semicolon value pos b dead is ends =
     }
 
 -- after another byte it stands,
-pub first_semicolon : (value : List ℕ) (pos b : ℕ) → IsDeadAt value pos b → b ≡ 59 → ends_in_separator (take pos value) ≡ false
+pub first_semicolon : (value : List ℕ) (pos b : ℕ) → IsDeadAt value pos b → b ≡ 59 → ends_in_semicolon_or_space (take pos value) ≡ false
     → Stands value (InvalidToken pos b)
 first_semicolon value pos b dead is ends =
     let cut = cut_at value pos b dead in
@@ -179,7 +162,7 @@ first_semicolon value pos b dead is ends =
 -- ---- another byte at fault, or none
 
 -- and so does each other byte
-pub other_byte : (value : List ℕ) (pos b : ℕ) → IsDeadAt value pos b → is_separator b ≡ false → Stands value (InvalidToken pos b)
+pub other_byte : (value : List ℕ) (pos b : ℕ) → IsDeadAt value pos b → is_semicolon_or_space b ≡ false → Stands value (InvalidToken pos b)
 other_byte value pos b dead is =
     let cut = cut_at value pos b dead in
     let space : is_space b ≡ false = grind (arith, nat_tests) in
@@ -196,10 +179,10 @@ lacks_too : (value : List ℕ) (fault : ParseError) → Lacks value fault → Re
 lacks_too value fault lacks =
     let walk = walk-from_viable value (viable-from_lacks value fault lacks) in
     let walks = walked (in_type []) value walk.0 walk.1 in
-    let same : tight value ≡ value = stays walks in
+    let same : tight value ≡ value = comes_out_whole walks in
     record {
       rejected = λ is. completed_is_rejected value fault lacks (subst IsAccepted same (accepted_from_http value is));
-      also = end_lacks value fault (subst IsSettled (sym walks.there) (settled_at walk.0))
+      also = end_lacks value fault (subst IsSettled (sym walks.there) (walk_is_settled walk.0))
           (subst (λ text. Lacks text fault) (sym same) lacks);
     }
 

@@ -1,16 +1,7 @@
 -- A piece without the white space around it.
-use Rattle.std.proofs.Common.{◌≡◌, ◌∙◌, ◌<◌, ◌≤◌, refl, sym, ap, subst, arith, suc, ℕ, Bool, true, false, List, [], ◌∷◌, ◌++◌, ◌+◌, ◌-◌, length, take, get_or, append-nil, append_assoc, length-append}
-use Rattle.std.specs.Prelude.{◌&&◌}
-use Rattle.std.specs.List.{list_all}
+use Rattle.mime_http.proofs.Common.{◌≡◌, ◌∙◌, ◌<◌, ◌≤◌, refl, sym, ap, subst, arith, suc, ℕ, Bool, true, false, List, [], ◌∷◌, ◌++◌, ◌+◌, ◌-◌, length, take, get_or, length-append, ◌&&◌, list_all, and_parts, nat_tests, take-suc, is_token_byte, is_space, AreSpaces, IsToken, MediaType, HttpReads, trim_start, trim_end}
+use Rattle.std.proofs.Common.{append-nil, append_assoc}
 use Rattle.std.specs.Str.{IsUtf8}
-use Rattle.std.proofs.lemmas.Bool.{and_parts}
-use Rattle.std.proofs.lemmas.Bool.Decides.{nat_tests}
-use Rattle.std.proofs.Math.Seq.{take-suc}
-use Rattle.mime.specs.Bytes.{is_token_byte}
-use Rattle.mime.specs.Grammar.{is_space, AreSpaces, IsToken}
-use Rattle.mime.specs.Values.{MediaType}
-use Rattle.mime_http.specs.HttpMediaType.{HttpReads}
-use Rattle.mime_http.specs.HttpList.{trim_start, trim_end}
 use Rattle.mime_http.proofs.HttpBack.{respelled}
 use Rattle.mime_http.proofs.HttpForth.{spaces-append}
 use Rattle.mime_http.proofs.HttpText.{AreAscii, put_ascii, drop_ascii}

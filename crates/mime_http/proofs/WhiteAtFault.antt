@@ -1,25 +1,7 @@
 -- White space at fault: what tightening leaves of a value, and what HTTP says if more follows.
-use Rattle.std.proofs.Common.{◌≡◌, ◌∙◌, ◌==◌, ◌≢◌, refl, sym, ap, subst, arith, ℕ, ◌+◌, ◌-◌, ◌<◌, ◌≤◌, Bool, true, false, List, [], ◌∷◌, ◌++◌, length, take, drop, get_or, Some, None, length-append}
-use Rattle.std.specs.Prelude.{slice_get}
-use Rattle.std.specs.Option.{option_map, option_and_then}
-use Rattle.std.proofs.lemmas.Bool.{true≢false}
-use Rattle.std.proofs.lemmas.Bool.Decides.{nat_tests}
-use Rattle.std.proofs.lemmas.List.{append-nil, append_assoc, length-take-le, nil_from_length}
-use Rattle.std.proofs.lemmas.Str.{IsCharBoundary-before_ascii}
-use Rattle.std.proofs.lemmas.Option.{none-some, slice_get_within, slice_get-get_or, get_or_from_slice_get}
-use Rattle.mime.specs.Bytes.{is_quoted_byte}
-use Rattle.mime.specs.Grammar.{is_space, AreSpaces}
-use Rattle.mime.specs.Values.{IsAccepted}
-use Rattle.mime.specs.Faults.{IsViable, IsDeadAt}
-use Rattle.mime.specs.Inner.Quoted.{takes, awaits_after}
-use Rattle.mime.proofs.HandedOut.{ClosedParameters, Begun, in_type, in_subtype, in_list, ListState, in_spaces, in_name, in_value, in_quotes, after_quotes, grow_state, grow, walk, walk_from, walk_by-append_some, spelled-from_walk, walk-from_viable, prefix_of_viable_is_viable}
-use Rattle.mime_http.specs.declared.tight.Place.{Place}
-use Rattle.mime_http.specs.declared.tight.Place.TheVariants.{Start, Plain, Spaced, Equals}
-use Rattle.mime_http.specs.Tight.{place_after, added, tight_from, tight}
-use Rattle.mime_http.specs.HttpMediaType.{IsHttpMediaType}
-use Rattle.mime_http.specs.HttpFaults.{IsHttpViable, IsHttpLongestPrefix, IsHttpDeadAt}
-use Rattle.mime_http.specs.Tightening.{begins_with_semicolon, Begins, IsLoose}
-use Rattle.mime_http.specs.HttpList.{trim_start}
+use Rattle.mime_http.proofs.Common.{◌≡◌, ◌∙◌, ◌==◌, ◌≢◌, refl, sym, ap, subst, arith, ℕ, ◌+◌, ◌-◌, ◌<◌, ◌≤◌, Bool, true, false, List, [], ◌∷◌, ◌++◌, length, take, drop, get_or, Some, None, length-append, slice_get, option_map, option_and_then, true≢false, nat_tests, length-take-le, nil_from_length, IsCharBoundary-before_ascii, none-some, slice_get_within, slice_get-get_or, get_or_from_slice_get, is_quoted_byte, is_space, AreSpaces, IsAccepted, IsViable, IsDeadAt, takes, awaits_after, ClosedParameters, Begun, in_type, in_subtype, in_list, ListState, in_spaces, in_name, in_value, in_quotes, after_quotes, grow_state, grow, walk, walk_from, walk_by-append_some, spelled-from_walk, walk-from_viable, prefix_of_viable_is_viable, Place, Start, Plain, Spaced, place_after, added, tight_from, tight, IsHttpMediaType, IsHttpViable, IsHttpLongestPrefix, IsHttpDeadAt, begins_with_semicolon, Begins, IsLoose, trim_start}
+use Rattle.std.proofs.lemmas.List.{append-nil, append_assoc}
+use Rattle.mime_http.specs.declared.tight.Place.TheVariants.{Equals}
 use Rattle.mime_http.proofs.Places.{place_from, place_from-append}
 use Rattle.mime_http.proofs.HttpForth.{at_start, spaced, nothing_out}
 use Rattle.mime_http.proofs.Trims.{split_white, below_128}

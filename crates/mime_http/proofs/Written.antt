@@ -1,15 +1,8 @@
 -- What is written of parameters is read as them.
-use Rattle.std.proofs.Common.{◌≡◌, ◌∙◌, ◌+◌, refl, sym, ap, subst, ℕ, Bool, true, false, cond, List, [], ◌∷◌, ◌++◌, drop, map, append-nil, append_assoc, drop, arith}
-use Rattle.std.specs.Prelude.{not, bytes_eq}
-use Rattle.std.specs.List.{AllByRecursion}
-use Rattle.std.proofs.lemmas.Bool.{cond_both}
-use Rattle.std.proofs.lemmas.Bool.Decides.{nat_tests}
-use Rattle.mime.specs.Bytes.{is_token_byte}
-use Rattle.mime.specs.Grammar.{Parameter, plain, quoted, Parameters, final, more, listed, SyntaxTree, IsToken, IsContent, IsParameter, AreParameters, text_of_parameter, text_of_list}
+use Rattle.mime_http.proofs.Common.{◌≡◌, ◌∙◌, ◌+◌, refl, sym, ap, subst, ℕ, Bool, true, false, cond, List, [], ◌∷◌, ◌++◌, drop, map, drop, arith, not, bytes_eq, AllByRecursion, cond_both, nat_tests, is_token_byte, Parameter, plain, quoted, Parameters, final, more, listed, SyntaxTree, IsToken, IsContent, IsParameter, AreParameters, text_of_parameter, text_of_list, MediaType, Reads, lowered, lowered_value, lowered_parameter, lowered_list, lowered_tree, kept_text, pair_of, pairs_of_list, pairs_of_tail, last_plus, essence_is_read, lowered-lowered, length-lowered, list_all-lowered, IsToken-lowered, lowered_value-either, lowered_value-lowered, pairs_of_tail-lowered}
+use Rattle.std.proofs.Common.{append-nil, append_assoc}
 use Rattle.mime.specs.HeaderLaws.{IsSafePair, IsSafe}
-use Rattle.mime.specs.Values.{MediaType, Reads, lowered, lowered_value, lowered_parameter, lowered_list, lowered_tree, kept_text, pair_of, pairs_of_list, pairs_of_tail, last_plus}
 use Rattle.mime.specs.Inner.KeptText.{lowered_pair, IsLowPair}
-use Rattle.mime.proofs.HandedOut.{essence_is_read, lowered-lowered, length-lowered, list_all-lowered, IsToken-lowered, lowered_value-either, lowered_value-lowered, pairs_of_tail-lowered}
 use Rattle.mime_http.specs.Written.{is_token_value, text_of_pair, text_of_pairs, others, with_pairs, with_pair}
 
 -- ---- one parameter

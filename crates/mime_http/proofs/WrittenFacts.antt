@@ -1,11 +1,6 @@
 -- Worked facts of the pages Unescaped, Written and Boundary.
-use Rattle.std.proofs.Common.{◌≡◌, ◌≢◌, ℕ, List, [], ◌∷◌, true, false, None, refl, sym, ◌∙◌, arith}
-use Rattle.std.specs.Prelude.{codes, bytes_eq}
-use Rattle.std.proofs.lemmas.Bool.{true≢false}
-use Rattle.std.proofs.lemmas.Option.{same_Some}
+use Rattle.mime_http.proofs.Common.{◌≡◌, ◌≢◌, ℕ, List, [], ◌∷◌, true, false, None, refl, sym, ◌∙◌, arith, codes, bytes_eq, true≢false, same_Some, is_token_byte, MediaType}
 use Rattle.std.proofs.lemmas.Slice.Eq.{bytes_eq-Decides}
-use Rattle.mime.specs.Bytes.{is_token_byte}
-use Rattle.mime.specs.Values.{MediaType}
 use Rattle.mime_http.specs.Boundary.{IsBoundary, IsBoundaryOf}
 use Rattle.mime_http.specs.Unescaped.{unescaped}
 use Rattle.mime_http.specs.Written.{escaped, is_token_value, text_of_pair, text_of_pairs, others, with_pairs, with_pair}

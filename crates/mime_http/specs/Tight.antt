@@ -18,8 +18,8 @@ after_quote Equals = Quoted
 after_quote place = Plain
 
 -- the place after a byte outside quotes, and within
-abbrev pub after_outside : Place → ℕ → Place
-after_outside place b =
+abbrev pub after_unquoted : Place → ℕ → Place
+after_unquoted place b =
     if is_space b then after_space place else
     if b == semicolon_byte then Semicolon else
     if b == equals_byte then Equals else
@@ -32,7 +32,7 @@ after_within b = if b == backslash_byte then Paired else if b == quote_byte then
 abbrev pub place_after : Place → ℕ → Place
 place_after Quoted b = after_within b
 place_after Paired b = Quoted
-place_after place b = after_outside place b
+place_after place b = after_unquoted place b
 
 -- whether a byte is left out: white space outside quotes, unless it is after a quoted value or a semicolon, and a semicolon after
 -- another with at most white space between them

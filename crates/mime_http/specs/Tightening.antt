@@ -16,11 +16,11 @@ use Rattle.mime_http.specs.HttpMediaType.{IsHttpMediaType}
 use Rattle.mime_http.specs.HttpFaults.{IsHttpFault}
 
 -- whether the last byte is a semicolon or white space
-abbrev pub is_separator : ℕ → Bool
-is_separator b = b == semicolon_byte || is_space b
+abbrev pub is_semicolon_or_space : ℕ → Bool
+is_semicolon_or_space b = b == semicolon_byte || is_space b
 
-abbrev pub ends_in_separator : List ℕ → Bool
-ends_in_separator bytes = unwrap_or (option_map is_separator (slice_get bytes (length bytes - 1))) false
+abbrev pub ends_in_semicolon_or_space : List ℕ → Bool
+ends_in_semicolon_or_space bytes = unwrap_or (option_map is_semicolon_or_space (slice_get bytes (length bytes - 1))) false
 
 -- whether the first byte is a semicolon
 abbrev pub begins_with_semicolon : List ℕ → Bool

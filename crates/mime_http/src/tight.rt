@@ -7,8 +7,8 @@ ghost use Rattle.mime.specs.Grammar.{is_space};
 ghost use Rattle.mime.specs.Faults.{IsDeadAt, IsFault};
 ghost use Rattle.mime.specs.declared.scan.fault.ParseError.{ParseError};
 ghost use Rattle.mime.specs.declared.scan.fault.ParseError.TheVariants.{InvalidToken};
-ghost use Rattle.mime_http.specs.Tight.{after_space, after_outside, place_after, is_left_out, added, tight};
-ghost use Rattle.mime_http.specs.Tightening.{ends_in_separator, begins_with_semicolon, IsLoose, IsTightening};
+ghost use Rattle.mime_http.specs.Tight.{after_space, after_unquoted, place_after, is_left_out, added, tight};
+ghost use Rattle.mime_http.specs.Tightening.{ends_in_semicolon_or_space, begins_with_semicolon, IsLoose, IsTightening};
 
 use crate::list::trim_start;
 use mime::ParseError;
@@ -57,8 +57,8 @@ fn next_after_space(place: Place) -> Place
 }
 
 /// The place after a byte outside quotes. A quote opens a quoted value only right after an equals sign.
-fn next_outside(place: Place, byte: u8) -> Place
-    ensures { result ≡ after_outside place byte }
+fn next_unquoted(place: Place, byte: u8) -> Place
+    ensures { result ≡ after_unquoted place byte }
 {
     match byte {
         b' ' | b'\t' => next_after_space(place),
@@ -80,7 +80,7 @@ pub(crate) fn next(place: Place, byte: u8) -> Place
             _ => Place::Quoted,
         },
         Place::Paired => Place::Quoted,
-        _ => next_outside(place, byte),
+        _ => next_unquoted(place, byte),
     }
 }
 
@@ -110,8 +110,8 @@ pub(crate) fn push_byte(out: &mut Vec<u8>, place: Place, byte: u8) -> Result<(),
 }
 
 /// Whether bytes end in a semicolon or white space.
-fn ends_in_separator(bytes: &[u8]) -> bool
-    ensures { result ≡ ends_in_separator bytes.now }
+fn ends_in_semicolon_or_space(bytes: &[u8]) -> bool
+    ensures { result ≡ ends_in_semicolon_or_space bytes.now }
 {
     matches!(bytes.last(), Some(b';' | b' ' | b'\t'))
 }
@@ -206,7 +206,7 @@ pub(crate) fn tightening_of(
             copied(alloc, value, 0, from, Place::Start)
         }
         b' ' | b'\t' => tightening_at_white(alloc, value, pos),
-        b';' if ends_in_separator(&value[..pos]) => {
+        b';' if ends_in_semicolon_or_space(&value[..pos]) => {
             copied(alloc, value, pos, pos + 1, Place::Semicolon)
         }
         _ => Ok(Tightening::Nothing),

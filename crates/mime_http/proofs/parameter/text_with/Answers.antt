@@ -5,7 +5,7 @@ use Rattle.mime.specs.Names.{NameIs}
 use Rattle.mime_http.specs.Forms.{text_in}
 use Rattle.mime_http.specs.Written.{text_of_pairs, others}
 use Rattle.mime_http.proofs.Forms.{kept_text}
-use Rattle.mime_http.proofs.Others.{Left, none_left, skipped, copied, others_within}
+use Rattle.mime_http.proofs.Others.{Left, none_left, named_skipped, copied, others_within}
 use Rattle.mime_http.proofs.parameter.text_with.Goals as goal
 
 pub loop-other-preserved : goal.loop-other-preserved
@@ -38,7 +38,7 @@ pub loop-other-preserved-then-name_eq_str : goal.loop-other-preserved-then-name_
 loop-other-preserved-then-name_eq_str c =
     let first : c.loop-other.other-iterator ≡ item_seen (c.in-Some.other, c.in-Some.kept) ∷ c.next.new.self = search rules in
     let same : NameIs c.in-Some.other.text.now c.in-Some.other.ignores_case c.args.name.now = search rules in
-    skipped c.loop-other.invariant first same
+    named_skipped c.loop-other.invariant first same
 
 pub returns-clause-text : goal.returns-clause-text
 returns-clause-text c =

@@ -14,7 +14,7 @@ use Rattle.mime_http.specs.HttpList.{trim_start}
 use Rattle.mime_http.proofs.TightLength.{no_longer-start, no_longer-semicolon, something_left_out, trimmed_some}
 use Rattle.mime_http.proofs.WhiteAtFault.{first_space}
 use Rattle.mime_http.proofs.SemicolonAtFault.{next_semicolon, first_semicolon, other_byte, stands_at_end}
-use Rattle.mime_http.proofs.tight.tightening_of.Goals.{in_default-byte-via-in-59+else-ends_in_separator, in_default-byte-via-in_default-1}
+use Rattle.mime_http.proofs.tight.tightening_of.Goals.{in_default-byte-via-in-59+else-ends_in_semicolon_or_space, in_default-byte-via-in_default-1}
 use Rattle.mime_http.proofs.tight.tightening_of.Goals as goal
 
 -- A byte at fault, which stands at its position.
@@ -67,7 +67,7 @@ pub copied-requires-in-59-clause-loose : goal.copied-requires-in-59-clause-loose
 copied-requires-in-59-clause-loose c =
     let at = fault_at c.args.value.now c.args.fault _ _ c.requires.fault c.in-InvalidToken.is in
     next_semicolon c.args.value.now c.in-InvalidToken.pos c.in-InvalidToken.byte at.dead c.in-59.is
-    (sym c.ends_in_separator.ensures ∙ c.if-ends_in_separator.true)
+    (sym c.ends_in_semicolon_or_space.ensures ∙ c.if-ends_in_semicolon_or_space.true)
 
 pub returns-in-59-clause-left : goal.returns-in-59-clause-left
 returns-in-59-clause-left c = c.copied-in-59.ensures c.args.fault
@@ -80,8 +80,8 @@ returns-in_default-byte-clause-left c =
     let at = fault_at value c.args.fault pos byte c.requires.fault c.in-InvalidToken.is in
     let stands : Stands value (InvalidToken pos byte) =
     elim c.in_default-byte.branch [
-      | in_default-byte-via-in-59+else-ends_in_separator w ↦
-          first_semicolon value pos byte at.dead w.in-59.is (sym w.ends_in_separator.ensures ∙ w.if-ends_in_separator.false)
+      | in_default-byte-via-in-59+else-ends_in_semicolon_or_space w ↦
+          first_semicolon value pos byte at.dead w.in-59.is (sym w.ends_in_semicolon_or_space.ensures ∙ w.if-ends_in_semicolon_or_space.false)
       | in_default-byte-via-in_default-1 w ↦ other_byte value pos byte at.dead (grind (arith, nat_tests, w))
     ] in
     subst (Stands value) (sym c.in-InvalidToken.is) stands
