@@ -40,10 +40,10 @@ fn unescape_in_place(bytes: &mut [u8], start: usize) -> usize
     let mut is_paired = false;
     for at in start..bytes.len() {
         let byte = bytes[at];
-        let begins_pair = !is_paired && byte == b'\\';
+        let begins_quoted_pair = !is_paired && byte == b'\\';
         bytes[end] = byte;
-        end += !begins_pair as usize;
-        is_paired = begins_pair;
+        end += !begins_quoted_pair as usize;
+        is_paired = begins_quoted_pair;
     }
     end
 }
@@ -85,7 +85,7 @@ static KINDS: [u8; 256] = [
 ];
 
 /// The size of a block. The search for a byte that may stand in no quoted string stops between blocks alone.
-const BLOCK: usize = 64;
+const KIND_BLOCK: usize = 64;
 
 /// The kind of a byte.
 #[inline(always)]
@@ -114,7 +114,7 @@ fn kind_of(value: &[u8]) -> u8
     let mut kind = T;
     let mut left = value;
     while !left.is_empty() && kind != N {
-        let (block, rest) = left.split_at(BLOCK.min(left.len()));
+        let (block, rest) = left.split_at(KIND_BLOCK.min(left.len()));
         kind &= kind_of_block(block);
         left = rest;
     }

@@ -109,14 +109,14 @@ pub(crate) fn param_count(mime: &Mime) -> usize
     count
 }
 
-/// In one walk: how many parameters a range has other than its weight `q`, before and after that (RFC 9110, 12.5.1), if an offer has them
-/// all; and the weight. It isn't inlined: most ranges have no parameter.
+/// In one walk: how many parameters other than `q` the range has, before and after it (RFC 9110, 12.5.1), if the offer has them all, and its
+/// weight. It isn't inlined: most ranges have no parameter.
 #[inline(never)]
 fn demanded_among(range: &Mime, offer: &Mime) -> Option<(usize, u16)>
     ensures { result ≡ (if list_all (has offer.now.media) (demanded range.now.media.pairs)
         then Some (length (demanded range.now.media.pairs), weight_of range.now.media) else None) }
 {
-    // For the proof: the count stays below it.
+    // For the proof alone: it bounds the count.
     let most = param_count(range);
     let mut count = 0;
     let mut weight = None;

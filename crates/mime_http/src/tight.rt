@@ -27,7 +27,7 @@ pub(crate) enum Place {
     Equals,
     /// In a quoted value.
     Quoted,
-    /// Right after a backslash in a quoted value.
+    /// Right after the backslash of a quoted-pair.
     Paired,
     /// After a quoted value, and any white space after it.
     Closed,
@@ -40,7 +40,7 @@ pub(crate) enum Place {
 pub(crate) enum Tightening {
     /// Nothing that HTTP allows: the fault stands.
     Nothing,
-    /// The bytes before `end`. White space stands from there to `next`, then the end or a byte that no media type has after white space.
+    /// White space from `end` to `next`, then the end or a byte other than a semicolon. Only the bytes before `end` can be a media type.
     Prefix { end: usize, next: usize },
     /// What comes out of the whole value.
     Copy(String),
