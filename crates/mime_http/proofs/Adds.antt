@@ -62,6 +62,7 @@ sorted_before piece text {ranges = ranges} is (a_bad _ _ _ bad some isnt rest) =
       (both.1.0, subst (λ t. HttpReads t both.1.0) (sym is) (http_trimmed piece both.1.0 both.1.1)),
     )) rest)
 
+-- a piece adds what it adds without white space before it
 pub add_trimmed : (piece text : List ℕ) {old new : Header} → text ≡ trim_start piece → Adds (text ∷ []) old new → Adds (piece ∷ []) old new
 add_trimmed piece text is adds = record {
   ranges = adds.ranges;
@@ -71,6 +72,7 @@ add_trimmed piece text is adds = record {
   now_bad = adds.now_bad;
 }
 
+-- two runs of texts are sorted one after the other
 sorted_both : {texts more : List (List ℕ)} {ranges others : List MediaType} {bad poor : List (List ℕ)} → AreSorted texts ranges bad
     → AreSorted more others poor → AreSorted (texts ++ more) (ranges ++ others) (bad ++ poor)
 sorted_both no_text second = second
@@ -78,10 +80,12 @@ sorted_both (blank text texts ranges bad white rest) second = blank text _ _ _ w
 sorted_both (a_range text range texts ranges bad utf8 reads rest) second = a_range text range _ _ _ utf8 reads (sorted_both rest second)
 sorted_both (a_bad text texts ranges bad some isnt rest) second = a_bad text _ _ _ some isnt (sorted_both rest second)
 
+-- no pieces add nothing,
 pub adds_none : (header : Header) → Adds [] header header
 adds_none header =
     record { ranges = []; bad = []; sorted = no_text; now_ranges = sym (append-nil header.ranges); now_bad = sym (append-nil header.bad) }
 
+-- and two runs of pieces what each adds
 pub adds_both : {pieces more : List (List ℕ)} {old now new : Header} → Adds pieces old now → Adds more now new → Adds (pieces ++ more) old new
 adds_both {old = old} first second = record {
   ranges = first.ranges ++ second.ranges;
@@ -97,9 +101,11 @@ pub record SoFar (all rest : List (List ℕ)) (old now : Header) : Type 0 where
   pub whole : before ++ rest ≡ all
   pub added : Adds before old now
 
+-- before the first piece
 pub none_so_far : (all : List (List ℕ)) (old : Header) → SoFar all all old old
 none_so_far all old = record { before = []; whole = refl; added = adds_none old }
 
+-- after some more pieces
 pub some_more : {all rest more : List (List ℕ)} {old now new : Header} → SoFar all (more ++ rest) old now → Adds more now new
     → SoFar all rest old new
 some_more {rest = rest} {more = more} so_far added = record {
@@ -108,6 +114,7 @@ some_more {rest = rest} {more = more} so_far added = record {
   added = adds_both so_far.added added;
 }
 
+-- after the last
 pub all_added : {all : List (List ℕ)} {old now : Header} → SoFar all [] old now → Adds all old now
 all_added {old = old} {now = now} so_far =
     subst (λ pieces. Adds pieces old now) (sym (append-nil so_far.before) ∙ so_far.whole) so_far.added
@@ -116,9 +123,11 @@ all_added {old = old} {now = now} so_far =
 pub lines_added : (lines : List (List ℕ)) {old new : Header} → Adds (flat_map cut lines) old new → AddsLines lines old new
 lines_added lines added = record { pieces = flat_map cut lines; cut = are_cut lines; added = added }
 
+-- lines add what the pieces of their cuts add
 pub pieces_added : {lines : List (List ℕ)} {old new : Header} → AddsLines lines old new → Adds (flat_map cut lines) old new
 pieces_added {old = old} {new = new} lines = subst (λ pieces. Adds pieces old new) (only_cut lines.cut) lines.added
 
+-- so a header holds what its lines add to nothing
 pub is_header : (lines : List (List ℕ)) (header : Header) → Adds (flat_map cut (lines_or_any lines)) (record { ranges = []; bad = [] }) header
     → IsHeader lines header
 is_header lines header added = record {
@@ -135,14 +144,17 @@ pub middle_is_blank : (before : List (List ℕ)) (piece : List ℕ) (rest : List
 middle_is_blank [] piece rest (blank _ _ _ _ white others) = white
 middle_is_blank (text ∷ before) piece rest (blank _ _ _ _ white others) = middle_is_blank before piece rest others
 
+-- if nothing is read, neither is of the last texts,
 pub left_is_nothing : (before rest : List (List ℕ)) → AreSorted (before ++ rest) [] [] → AreSorted rest [] []
 left_is_nothing [] rest sorted = sorted
 left_is_nothing (text ∷ before) rest (blank _ _ _ _ white others) = left_is_nothing before rest others
 
+-- nor of the first
 pub first_is_nothing : (first rest : List (List ℕ)) → AreSorted (first ++ rest) [] [] → AreSorted first [] []
 first_is_nothing [] rest sorted = no_text
 first_is_nothing (text ∷ first) rest (blank _ _ _ _ white others) = blank text first [] [] white (first_is_nothing first rest others)
 
+-- so each piece is white space
 pub piece_is_blank : {line piece : List ℕ} {rest pieces : List (List ℕ)} {old now : Header} → SoFar (cut line) (piece ∷ rest) old now
     → AreBetweenCommas IsPiece BeginsPiece (line ∷ []) pieces → AreSorted pieces [] [] → AreSpaces piece
 piece_is_blank {line} {piece} {rest} so_far are sorted =

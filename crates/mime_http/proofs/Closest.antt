@@ -15,11 +15,13 @@ use Rattle.mime_http.proofs.Highest.{least}
 pub in_more : {X : Type 0} (y : X) (xs : List X) (x : X) → Contains xs x → Contains (y ∷ xs) x
 in_more y xs x (k, within, is) = (suc k, omega (arith, within), is)
 
+-- what a list contains, the list of its values contains,
 pub in_mapped : {X Y : Type 0} (f : X → Y) (xs : List X) (x : X) → Contains xs x → Contains (map f xs) (f x)
 in_mapped f [] x (k, within, is) = absurd (omega (arith, within))
 in_mapped f (y ∷ xs) x (zero, within, is) = (zero, omega arith, ap f is)
 in_mapped f (y ∷ xs) x (suc k, within, is) = in_more (f y) (map f xs) (f x) (in_mapped f xs x (k, omega (arith, within), is))
 
+-- and the other way
 pub of_mapped : {X Y : Type 0} (f : X → Y) (xs : List X) (y : Y) → Contains (map f xs) y → (x : X) × Contains xs x × (f x ≡ y)
 of_mapped f [] y (k, within, is) = absurd (omega (arith, within))
 of_mapped f (x ∷ xs) y (zero, within, is) = (x, (zero, omega arith, refl), is)
@@ -55,6 +57,7 @@ module _ {K : Type 0} {R : K → K → Ordering} (total : IsTotalOrder R) where
       (upto total y (ord_max R m y) _ (no_less_by m y (R y m) refl) (least total one (ord_max R m y) xs))
   none_is_higher one m (y ∷ xs) x (suc k, within, is) = none_is_higher one (ord_max R m y) xs x (k, omega (arith, within), is)
 
+-- two numbers are less, the same or more
 ranks : (x y : ℕ) → MatchOrdering (nat_cmp x y) (x < y) (x ≡ y) (y < x)
 ranks x y = ranked x y (nat_cmp x y) refl
 
@@ -73,6 +76,7 @@ at_most_by x y Equal Equal Equal Less first second third fourth low = inr (first
 at_most_by x y Equal Equal Equal Equal first second third fourth low = inr (first, inr (second, inr (third, omega (arith, fourth))))
 at_most_by x y Equal Equal Equal Greater first second third fourth low = absurd (true≢false low)
 
+-- a rank that isn't above another is at most as high
 pub at_most : (x y : Rank) → is_gt (rank_cmp x y) ≡ false → IsAtMost x y
 at_most x y low =
     at_most_by x y (nat_cmp x.0 y.0) (nat_cmp x.1 y.1) (nat_cmp x.2 y.2) (nat_cmp x.3 y.3) (ranks x.0 y.0) (ranks x.1 y.1) (ranks x.2 y.2)

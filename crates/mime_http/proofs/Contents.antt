@@ -21,6 +21,7 @@ is_special b = b == 34 || b == 92
 
 -- ---- bytes that need no backslash
 
+-- bytes of a class without quotes and backslashes need no backslashes,
 pub plain_class : (p : ℕ → Bool) → ((b : ℕ) → p b ≡ true → is_special b ≡ false) → (bytes : List ℕ) → list_all p bytes ≡ true
     → escaped bytes ≡ bytes
 plain_class p fits [] all = refl
@@ -28,6 +29,7 @@ plain_class p fits (b ∷ bytes) all =
     let parts = and_parts (p b) (list_all p bytes) all in
     rw (fits b parts.0) (ap (λ rest. b ∷ rest) (plain_class p fits bytes parts.1))
 
+-- and those of one within quoted strings may stand in a header
 safe_class : (p : ℕ → Bool) → ((b : ℕ) → p b ≡ true → is_quoted_byte b ≡ true) → (bytes : List ℕ) → list_all p bytes ≡ true
     → AreHeaderBytes bytes
 safe_class p fits [] all = refl
@@ -35,35 +37,44 @@ safe_class p fits (b ∷ bytes) all =
     let parts = and_parts (p b) (list_all p bytes) all in
     and_from (is_quoted_byte b) (list_all is_quoted_byte bytes) (fits b parts.0) (safe_class p fits bytes parts.1)
 
+-- a token byte is no quote and no backslash,
 pub token_plain : (b : ℕ) → is_token_byte b ≡ true → is_special b ≡ false
 unfolding is_token_byte
 token_plain b is = grind (arith, nat_tests)
 
+-- and may stand in a quoted string,
 pub token_safe : (b : ℕ) → is_token_byte b ≡ true → is_quoted_byte b ≡ true
 unfolding is_token_byte is_quoted_byte
 token_safe b is = grind (arith, nat_tests)
 
+-- and so may a byte of a boundary
 bchar_safe : (b : ℕ) → is_bchar b ≡ true → is_quoted_byte b ≡ true
 unfolding is_quoted_byte
 bchar_safe b is = grind (arith, nat_tests)
 
+-- a byte that stands in quotes as it is needs no backslash,
 pub text_plain : (b : ℕ) → is_quoted_text_byte b ≡ true → is_special b ≡ false
 text_plain b is = grind (arith, nat_tests, (and_parts (is_quoted_byte b) _ is).1)
 
+-- and that of a boundary is such
 pub bchar_text : (b : ℕ) → is_bchar b ≡ true → is_quoted_text_byte b ≡ true
 bchar_text b is =
     let plain : is_special b ≡ false = grind (arith, nat_tests) in
     rw (bchar_safe b is, plain) refl
 
+-- so a token needs none,
 pub token_is_plain : (bytes : List ℕ) → IsToken bytes → escaped bytes ≡ bytes
 token_is_plain bytes token = plain_class is_token_byte token_plain bytes (AreTokenBytes-from_token bytes token)
 
+-- and may stand in a header,
 pub token_is_safe : (bytes : List ℕ) → IsToken bytes → AreHeaderBytes bytes
 token_is_safe bytes token = safe_class is_token_byte token_safe bytes (AreTokenBytes-from_token bytes token)
 
+-- and so does a boundary,
 pub boundary_is_plain : (bytes : List ℕ) → IsBoundary bytes → escaped bytes ≡ bytes
 boundary_is_plain bytes is = plain_class is_bchar (λ b is. grind (arith, nat_tests)) bytes is.all
 
+-- which may stand there, too
 pub boundary_is_safe : (bytes : List ℕ) → IsBoundary bytes → AreHeaderBytes bytes
 boundary_is_safe bytes is = safe_class is_bchar bchar_safe bytes is.all
 
@@ -88,6 +99,7 @@ abbrev pub unescaped_from : Bool → List ℕ → List ℕ
 unescaped_from paired [] = []
 unescaped_from paired (b ∷ bytes) = if not paired && b == 92 then unescaped_from true bytes else b ∷ unescaped_from false bytes
 
+-- what a value means, by what its rest means
 pub unescaped_is : (bytes : List ℕ) → unescaped bytes ≡ unescaped_from false bytes
 unescaped_is [] = refl
 unescaped_is (b ∷ []) = refl
@@ -182,6 +194,7 @@ lowered_escaped (b ∷ value) =
     rw same (⊎_elim (λ special. rw special (ap (λ rest. 92 ∷ to_ascii_lowercase b ∷ rest) (lowered_escaped value)))
     (λ plain. rw plain (ap (λ rest. to_ascii_lowercase b ∷ rest) (lowered_escaped value))) (cases_Bool (is_special b)))
 
+-- what is written for a value means the value
 pub written_is_meant : WrittenIsMeant
 written_is_meant name value =
     elim (is_charset name) as (λ low. unescaped (cond low (lowered (escaped value)) (escaped value)) ≡ cond low (lowered value) value) [

@@ -29,6 +29,7 @@ record First (rest : List (List ℕ × List ℕ)) (item : Item) (next : List Ite
   seen : item_of pair ≡ item
   after : next ≡ items_of more
 
+-- the first item is that of the first pair
 first : (rest : List (List ℕ × List ℕ)) (item : Item) (next : List Item) → items_of rest ≡ item ∷ next → First rest item next
 first [] item next is = absurd (omega (arith, ap length is))
 first (pair ∷ more) item next is = record {
@@ -39,10 +40,12 @@ first (pair ∷ more) item next is = record {
   after = sym (ap (drop 1) is);
 }
 
+-- a weight isn't demanded,
 skipped : {rest more : List (List ℕ × List ℕ)} {pair : List ℕ × List ℕ} → rest ≡ pair ∷ more → is_weight pair.0 ≡ true
     → demanded rest ≡ demanded more
 skipped is weight = rw is (rw weight refl)
 
+-- and another parameter is,
 kept : {rest more : List (List ℕ × List ℕ)} {pair : List ℕ × List ℕ} → rest ≡ pair ∷ more → is_weight pair.0 ≡ false
     → demanded rest ≡ pair ∷ demanded more
 kept is other = rw is (rw other refl)
@@ -52,6 +55,7 @@ weight_first : {rest more : List (List ℕ × List ℕ)} {pair : List ℕ × Lis
     → first_value (codes "q") rest ≡ Some pair.1
 weight_first is weight = rw is (rw weight refl)
 
+-- which isn't the weight
 other_first : {rest more : List (List ℕ × List ℕ)} {pair : List ℕ × List ℕ} → rest ≡ pair ∷ more → is_weight pair.0 ≡ false
     → first_value (codes "q") rest ≡ first_value (codes "q") more
 other_first is other = rw is (rw other refl)
@@ -62,6 +66,7 @@ first_of_two : (weight : Option (List ℕ)) (value : List ℕ) (more : Option (L
 first_of_two None value more = refl
 first_of_two (Some w) value more = refl
 
+-- before the first parameter
 pub none_yet : (offer : MediaType) (pairs : List (List ℕ × List ℕ)) (items : List Item) → items ≡ items_of pairs
     → Counted offer pairs items 0 None
 none_yet offer pairs items same = record { rest = pairs; same = same; all = refl; counted = omega arith; weighed = refl }
@@ -125,6 +130,7 @@ no_pair (pair ∷ more) is = absurd (omega (arith, ap length is))
 abbrev pub Found : Type 0
 Found = ℕ × ℕ
 
+-- the count and the weight that were found
 abbrev pub found_of : ℕ → Option (List ℕ) → Option Found
 found_of count weight = Some (count, unwrap_or (option_map thousandths_of weight) 1000)
 
@@ -133,6 +139,7 @@ found_alone : (weight : Option (List ℕ)) → option_or weight None ≡ weight
 found_alone None = refl
 found_alone (Some w) = refl
 
+-- after the last
 pub all_counted : {offer : MediaType} {pairs : List (List ℕ × List ℕ)} {items : List Item} {count : ℕ} {weight : Option (List ℕ)}
     → Counted offer pairs items count weight → items ≡ []
     → found_of count weight
@@ -149,6 +156,7 @@ all_counted {offer} {pairs} {items} {count} {weight} so_far none =
     let is : found ≡ whole = λ i. (same i, unwrap_or (option_map thousandths_of (first i)) 1000) in
     rw all (ap Some is)
 
+-- no more parameters are demanded than there are
 pub demanded_within : (pairs : List (List ℕ × List ℕ)) → length (demanded pairs) ≤ length pairs
 demanded_within [] = omega arith
 demanded_within (pair ∷ pairs) =

@@ -27,12 +27,15 @@ found_from p n (x ∷ xs) (suc k) d within here before =
     rw (before 0 (omega arith))
     (found_from p (n + 1) xs k d (omega (arith, within)) here (λ j below. before (suc j) (omega (arith, below))) ∙ ap Some next)
 
+-- the rank of an offer that weighs nothing
 abbrev none : Rank
 none = (0, 0, 0, 0)
 
+-- the highest of some ranks
 abbrev highest : List Rank → Rank
 highest ranks = fold (ord_max rank_cmp) (0, 0, 0, 0) ranks
 
+-- an offer that weighs more than 0 is one of them
 weighs_within : (ranks : List Rank) (at : ℕ) → 0 < (rank_at ranks at).0 → at < length ranks
 weighs_within [] at weighs = absurd (omega (arith, weighs))
 weighs_within (rank ∷ ranks) zero weighs = omega arith
@@ -98,6 +101,7 @@ module _ (ranges offers : List MediaType) (best : ℕ) (others : List ℕ) (are 
       best_is_position all
       ∙ rw some (position_from-zero test all ∙ found_from test 0 all best none (weighs_within all best best_weighs) here before ∙ ap Some (omega arith))
 
+-- if none is in order, none is best
 none_is_best : (ranges offers : List MediaType) → AreInOrder ranges offers [] → best_offer ranges offers ≡ None
 none_is_best ranges offers are = go ((highest all).0 == 0) refl
   where
@@ -112,6 +116,7 @@ none_is_best ranges offers are = go ((highest all).0 == 0) refl
         let there = (are.all high.0).1 (subst (λ (r : Rank). 0 < r.0) (sym high.1) weighs) in
         absurd (omega (arith, there.1))
 
+-- the best offer is the first in order
 pub best_is_first : BestIsFirst
 best_is_first ranges offers [] are = none_is_best ranges offers are
 best_is_first ranges offers (best ∷ others) are = first_is_best ranges offers best others are

@@ -15,9 +15,11 @@ item_left xs i d within =
     let next : Prim.Native.Nat.suc i ≡ i + 1 = omega arith in
     drop-cons xs i d within ∙ ap (λ j. get_or xs i d ∷ drop j xs) next
 
+-- the first that is left is the one at this position,
 pub first_left : {X : Type 0} (xs : List X) (i : ℕ) (x : X) → i < length xs → x ≡ get_or xs i x → drop i xs ≡ x ∷ drop (i + 1) xs
 first_left xs i x within is = item_left xs i x within ∙ ap (λ y. y ∷ drop (i + 1) xs) (sym is)
 
+-- and so is its value
 pub mapped_left : {X Y : Type 0} (f : X → Y) (xs : List X) (i : ℕ) (x : X) → drop i xs ≡ x ∷ drop (i + 1) xs
     → drop i (map f xs) ≡ f x ∷ drop (i + 1) (map f xs)
 mapped_left f xs i x is = drop-map f i xs ∙ (ap (map f) is ∙ ap (λ ys. f x ∷ ys) (sym (drop-map f (i + 1) xs)))

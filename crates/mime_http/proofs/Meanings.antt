@@ -24,6 +24,7 @@ any_there test (y ∷ before) x after is = elim (test y) as (λ b. (b || list_an
   | false ↦ any_there test before x after is
 ]
 
+-- bytes are equal to themselves
 same_bytes : (bytes : List ℕ) → bytes_eq bytes bytes ≡ true
 same_bytes bytes = (bytes_eq-Decides bytes bytes).1 refl
 
@@ -46,13 +47,16 @@ names_some true all same is = refl
 names_some false true same is = refl
 names_some false false same is = rw is refl
 
+-- a media type names its own parts
 names_own : (media : MediaType) → is_some (named_parts media media) ≡ true
 names_own media = names_some _ (bytes_eq media.essence (type_of media ++ codes "/*")) _ (same_bytes media.essence)
 
+-- a value is there as the one that it is made of
 some_mapped : {X Y : Type 0} (f : X → Y) (found : Option X) → is_some (option_map f found) ≡ is_some found
 some_mapped f None = refl
 some_mapped f (Some x) = refl
 
+-- a media type covers itself, but for a weight
 pub covers_itself : CoversItself
 covers_itself media = rw (has_own media [] media.pairs refl) (some_mapped _ (named_parts media media) ∙ names_own media)
 
@@ -62,12 +66,14 @@ covers_itself media = rw (has_own media [] media.pairs refl) (some_mapped _ (nam
 abbrev has_meant : Pairs → List ℕ × List ℕ → Bool
 has_meant meant pair = list_any (λ own. bytes_eq own.0 pair.0 && bytes_eq own.1 pair.1) meant
 
+-- an offer has a parameter if it has what that means,
 has_by_meaning : (pairs : Pairs) (pair : List ℕ × List ℕ)
     → list_any (λ own. bytes_eq own.0 pair.0 && bytes_eq (meaning_of own).1 (meaning_of pair).1) pairs ≡ has_meant (map meaning_of pairs) (meaning_of pair)
 has_by_meaning [] pair = refl
 has_by_meaning (own ∷ pairs) pair =
     ap (λ rest. (bytes_eq own.0 pair.0 && bytes_eq (meaning_of own).1 (meaning_of pair).1) || rest) (has_by_meaning pairs pair)
 
+-- all that are demanded if it has what they mean,
 all_by_meaning : (offer : MediaType) (pairs : Pairs)
     → list_all (has offer) (demanded pairs) ≡ list_all (has_meant (map meaning_of offer.pairs)) (demanded (map meaning_of pairs))
 all_by_meaning offer [] = refl
@@ -81,6 +87,7 @@ all_by_meaning offer (pair ∷ pairs) =
       | false ↦ rest
     ]
 
+-- and as many are demanded
 count_by_meaning : (pairs : Pairs) → length (demanded pairs) ≡ length (demanded (map meaning_of pairs))
 count_by_meaning [] = refl
 count_by_meaning (pair ∷ pairs) =
@@ -95,9 +102,11 @@ count_by_meaning (pair ∷ pairs) =
 abbrev Meant : Type 0
 Meant = List ℕ × List ℕ × Pairs
 
+-- what a media type means
 abbrev meant_of : MediaType → Meant
 meant_of media = (media.essence, type_of media, map meaning_of media.pairs)
 
+-- how close a range is to an offer, by what both mean
 abbrev closeness_of : Meant → Meant → ℕ → ℕ → Option Rank
 closeness_of offer range weight at =
     if list_all (has_meant offer.2) (demanded range.2)
@@ -106,6 +115,7 @@ closeness_of offer range weight at =
     if bytes_eq range.0 offer.0 then Some 2 else None)
     else None
 
+-- so it is by what they mean alone
 closeness_by_meaning : (offer range : MediaType) (at : ℕ)
     → closeness offer (at, range) ≡ closeness_of (meant_of offer) (meant_of range) (weight_of range) at
 closeness_by_meaning offer range at =
@@ -114,9 +124,11 @@ closeness_by_meaning offer range at =
     ∙ ap (λ count. if list_all (has_meant (map meaning_of offer.pairs)) (demanded (map meaning_of range.pairs))
     then option_map (λ named. (named, count, weight_of range, at)) (named_parts range offer) else None) (count_by_meaning range.pairs)
 
+-- media types that mean the same are alike
 meant_alike : (media other : MediaType) → MeanTheSame media other → meant_of media ≡ meant_of other
 meant_alike media other same = λ i. (same.essence i, same.top i, same.pairs i)
 
+-- so a header says the same of them
 pub meaning_counts : MeaningCounts
 meaning_counts range other offer offered at same alike weighs =
     closeness_by_meaning offer range at

@@ -21,15 +21,19 @@ use Rattle.mime_http.proofs.HttpText.{put_ascii}
 
 -- ---- weights (RFC 9110, 12.4.2)
 
+-- `0.5` is 500 thousandths,
 half : thousandths_of (codes "0.5") ≡ 500
 half = refl
 
+-- `1.000` 1000,
 one : thousandths_of (codes "1.000") ≡ 1000
 one = refl
 
+-- `0.001` 1,
 least : thousandths_of (codes "0.001") ≡ 1
 least = refl
 
+-- and `0` none
 nothing : thousandths_of (codes "0") ≡ 0
 nothing = refl
 
@@ -37,17 +41,21 @@ nothing = refl
 no_whole : thousandths_of (codes ".2") ≡ 200
 no_whole = refl
 
+-- `2` is worth no more than 1,
 too_high : thousandths_of (codes "2") ≡ 1000
 too_high = refl
 
+-- and a word nothing
 word : thousandths_of (codes "high") ≡ 0
 word = refl
 
 -- ---- pieces
 
+-- a comma in a string ends no piece,
 two_pieces : cut (codes "a/b;p=\"x,y\",c/d") ≡ codes "a/b;p=\"x,y\"" ∷ codes "c/d" ∷ []
 two_pieces = refl
 
+-- nor does one after a quote that a backslash stands before
 hidden_quote : cut (codes "a/b;p=\"\\\",\",c/d") ≡ codes "a/b;p=\"\\\",\"" ∷ codes "c/d" ∷ []
 hidden_quote = refl
 
@@ -59,41 +67,53 @@ open_string = refl
 quote_alone : cut (codes "a\"b,c\"d") ≡ codes "a\"b" ∷ codes "c\"d" ∷ []
 quote_alone = refl
 
+-- a piece has no comma outside strings
 comma_outside : ¬ (IsPiece (codes "a/b,c/d"))
 comma_outside is = absurd (omega (arith, ap length (cut_of_piece is)))
 
+-- white space is left out on both sides
 trimmed : trim_end (trim_start (codes " \t x y ")) ≡ codes "x y"
 trimmed = refl
 
 -- ---- ranges and offers
 
+-- a media type of this essence
 abbrev of : List ℕ → ℕ → List (List ℕ × List ℕ) → MediaType
 of essence slash pairs = record { essence = essence; slash = slash; plus = None; pairs = pairs; kept = [] }
 
+-- a weight
 abbrev q : List ℕ → List ℕ × List ℕ
 q weight = (codes "q", weight)
 
+-- the media types of RFC 9110's examples: `text/html`,
 abbrev html : List (List ℕ × List ℕ) → MediaType
 html pairs = of (codes "text/html") 4 pairs
 
+-- `text/plain`,
 abbrev plain : List (List ℕ × List ℕ) → MediaType
 plain pairs = of (codes "text/plain") 4 pairs
 
+-- `application/json`,
 abbrev json : MediaType
 json = of (codes "application/json") 11 []
 
+-- `application/xml`,
 abbrev xml : List (List ℕ × List ℕ) → MediaType
 xml pairs = of (codes "application/xml") 11 pairs
 
+-- `image/jpeg`,
 abbrev jpeg : MediaType
 jpeg = of (codes "image/jpeg") 5 []
 
+-- `*/*`,
 abbrev any : List (List ℕ × List ℕ) → MediaType
 any pairs = of (codes "*/*") 1 pairs
 
+-- and `text/*`
 abbrev text : List (List ℕ × List ℕ) → MediaType
 text pairs = of (codes "text/*") 4 pairs
 
+-- a parameter `level`
 abbrev level : List ℕ → List ℕ × List ℕ
 level value = (codes "level", value)
 
@@ -101,12 +121,15 @@ level value = (codes "level", value)
 covered : is_some (closeness (html (level (codes "1") ∷ level (codes "2") ∷ [])) (0, html (level (codes "1") ∷ []))) ≡ true
 covered = refl
 
+-- a range with a parameter covers no offer without it,
 not_covered : closeness (html []) (0, html (level (codes "1") ∷ [])) ≡ None
 not_covered = refl
 
+-- none with another value,
 other_value : closeness (html (level (codes "1") ∷ [])) (0, html (level (codes "2") ∷ [])) ≡ None
 other_value = refl
 
+-- and `text/*` no image
 other_type : closeness jpeg (0, text []) ≡ None
 other_type = refl
 
@@ -114,26 +137,33 @@ other_type = refl
 abbrev flowed : List ℕ × List ℕ
 flowed = (codes "format", codes "flowed")
 
+-- the parameter `format` of the example, with another value
 abbrev fixed : List ℕ × List ℕ
 fixed = (codes "format", codes "fixed")
 
+-- the header of RFC 9110, 12.5.1
 abbrev example : List MediaType
 example =
     text (q (codes "0.3") ∷ []) ∷ plain (q (codes "0.7") ∷ []) ∷ plain (flowed ∷ []) ∷ plain (fixed ∷ q (codes "0.4") ∷ [])
     ∷ any (q (codes "0.5") ∷ []) ∷ []
 
+-- its table: `text/plain;format=flowed` weighs 1,
 example_flowed : given_weight example (plain (flowed ∷ [])) ≡ 1000
 example_flowed = refl
 
+-- `text/plain` 0.7,
 example_plain : given_weight example (plain []) ≡ 700
 example_plain = refl
 
+-- `text/html` 0.3,
 example_html : given_weight example (html []) ≡ 300
 example_html = refl
 
+-- `image/jpeg` 0.5,
 example_jpeg : given_weight example jpeg ≡ 500
 example_jpeg = refl
 
+-- and `text/plain;format=fixed` 0.4
 example_fixed : given_weight example (plain (fixed ∷ [])) ≡ 400
 example_fixed = refl
 
@@ -141,9 +171,11 @@ example_fixed = refl
 first_weight : given_weight (html (q (codes "0.2") ∷ q (codes "0.9") ∷ []) ∷ []) (html []) ≡ 200
 first_weight = refl
 
+-- of ranges as close the highest weight counts
 higher_weight : given_weight (html (q (codes "0.2") ∷ []) ∷ html (q (codes "0.9") ∷ []) ∷ html (q (codes "0.5") ∷ []) ∷ []) (html []) ≡ 900
 higher_weight = refl
 
+-- a weight of 0 rejects what a wider range accepts
 rejected : given_weight (any [] ∷ html (q (codes "0") ∷ []) ∷ []) (html []) ≡ 0
 rejected = refl
 
@@ -167,9 +199,11 @@ twice = refl
 first_offered : best_offer (any [] ∷ []) (html [] ∷ json ∷ []) ≡ Some 0
 first_offered = refl
 
+-- if each offer weighs 0, none is the best,
 none_acceptable : best_offer (json ∷ html (q (codes "0") ∷ []) ∷ []) (html [] ∷ jpeg ∷ []) ≡ None
 none_acceptable = refl
 
+-- and neither is one of none
 no_offer : best_offer (any [] ∷ []) [] ≡ None
 no_offer = refl
 
@@ -182,9 +216,11 @@ not_in_order are =
 
 -- ---- lists, of which this one has two elements among empty ones
 
+-- a media type of a type of one letter, and a subtype
 abbrev short : List ℕ → MediaType
 short essence = of essence 1 []
 
+-- it is read, with white space around it
 short_read : (before top sub after : List ℕ) → AreSpaces before → IsToken top → IsToken sub → AreSpaces after → (slash : 1 ≡ length top)
     → (essence : List ℕ) → essence ≡ lowered top ++ (47 ∷ lowered sub) → None ≡ last_plus (length top + 2) (drop 1 (lowered sub))
     → HttpReads (before ++ (top ++ (47 ∷ (sub ++ after)))) (short essence)
@@ -205,6 +241,7 @@ short_read before top sub after first is_top is_sub last slash essence is plus =
   plus = plus;
 }
 
+-- empty elements are no elements
 two_elements : AreHttpLists (codes ",a/b , ,c/d" ∷ []) (short (codes "a/b") ∷ short (codes "c/d") ∷ [])
 unfolding is_token_byte
 two_elements = record {
@@ -221,6 +258,7 @@ not_media_type : ¬ (IsHttpMediaType (codes " a b"))
 unfolding is_token_byte
 not_media_type is = stopped-from_walk (tight (codes " a b")) refl (accepted_from_http _ is)
 
+-- an entry that is no range is bad
 bad_entry : IsHeader (codes "c/d, a b" ∷ []) (record { ranges = short (codes "c/d") ∷ []; bad = codes "a b" ∷ [] })
 unfolding is_token_byte
 bad_entry = record {
@@ -231,6 +269,7 @@ bad_entry = record {
       (a_bad (codes " a b") _ _ _ (λ blank. true≢false (sym blank)) (λ is. not_media_type is.1) no_text);
 }
 
+-- and a list with one is none
 not_a_list : (media : List MediaType) → ¬ (AreHttpLists (codes "c/d, a b" ∷ []) media)
 not_a_list media is =
     let same = (one_header (codes "c/d, a b" ∷ []) _ _ bad_entry (http_lists_are_read (codes "c/d, a b" ∷ []) media is)).1 in

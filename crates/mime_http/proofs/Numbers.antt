@@ -13,17 +13,21 @@ use Rattle.mime_http.specs.RangesLaws.{zero, zero_dot, one_digit, two_digits, th
 abbrev step : ℕ → ℕ → ℕ
 step n digit = 10 * n + (digit - 48)
 
+-- the digits that bytes begin with
 abbrev digits : List ℕ → List ℕ
 digits bytes = take_while is_ascii_digit bytes
 
+-- a digit is one of them,
 digits_more : (b : ℕ) (bytes : List ℕ) → is_ascii_digit b ≡ true → digits (b ∷ bytes) ≡ b ∷ digits bytes
 digits_more b bytes is = take_while-cons is_ascii_digit b bytes ∙ rw is refl
 
+-- and they end before another byte
 digits_end : (b : ℕ) (bytes : List ℕ) → is_ascii_digit b ≡ false → digits (b ∷ bytes) ≡ []
 digits_end b bytes is = take_while-cons is_ascii_digit b bytes ∙ rw is refl
 
 -- ---- three digits after a dot
 
+-- digits without a unit are worth nothing
 no_unit : (bytes : List ℕ) → worth 0 bytes ≡ 0
 no_unit [] = refl
 no_unit (b ∷ bytes) = elim (is_ascii_digit b) as (λ is. (if is then 0 * (b - 48) + worth 0 bytes else 0) ≡ 0) [
@@ -31,9 +35,11 @@ no_unit (b ∷ bytes) = elim (is_ascii_digit b) as (λ is. (if is then 0 * (b - 
   | false ↦ refl
 ]
 
+-- the first digits, with zeros if there are fewer
 abbrev padded : ℕ → List ℕ → List ℕ
 padded count bytes = take count (digits bytes ++ codes "000")
 
+-- a number with one digit more,
 one_more : (n : ℕ) (bytes : List ℕ) → fold step n (padded 1 bytes) ≡ 10 * n + worth 1 bytes
 one_more n [] = omega arith
 one_more n (b ∷ bytes) =
@@ -42,6 +48,7 @@ one_more n (b ∷ bytes) =
     (λ isnt. rw (digits_end b bytes isnt, isnt) (omega arith))
     (cases_Bool (is_ascii_digit b))
 
+-- with two,
 two_more : (n : ℕ) (bytes : List ℕ) → fold step n (padded 2 bytes) ≡ 100 * n + worth 10 bytes
 two_more n [] = omega arith
 two_more n (b ∷ bytes) =
@@ -50,6 +57,7 @@ two_more n (b ∷ bytes) =
     (λ isnt. rw (digits_end b bytes isnt, isnt) (omega arith))
     (cases_Bool (is_ascii_digit b))
 
+-- and with three
 three_more : (n : ℕ) (bytes : List ℕ) → fold step n (padded 3 bytes) ≡ 1000 * n + worth 100 bytes
 three_more n [] = omega arith
 three_more n (b ∷ bytes) =
@@ -62,16 +70,19 @@ three_more n (b ∷ bytes) =
 digit_most : (b : ℕ) → is_ascii_digit b ≡ true → b - 48 ≤ 9
 digit_most b is = grind (arith, nat_tests)
 
+-- a digit is worth 9 at most,
 one_most : (bytes : List ℕ) → worth 1 bytes ≤ 9
 one_most [] = omega arith
 one_most (b ∷ bytes) =
     ⊎_elim (λ is. rw is (omega (arith, digit_most b is, no_unit bytes))) (λ isnt. rw isnt (omega arith)) (cases_Bool (is_ascii_digit b))
 
+-- two are worth 99,
 two_most : (bytes : List ℕ) → worth 10 bytes ≤ 99
 two_most [] = omega arith
 two_most (b ∷ bytes) =
     ⊎_elim (λ is. rw is (omega (arith, digit_most b is, one_most bytes))) (λ isnt. rw isnt (omega arith)) (cases_Bool (is_ascii_digit b))
 
+-- and three 999
 three_most : (bytes : List ℕ) → worth 100 bytes ≤ 999
 three_most [] = omega arith
 three_most (b ∷ bytes) =
@@ -83,9 +94,11 @@ three_most (b ∷ bytes) =
 abbrev number_from : ℕ → List ℕ → ℕ
 number_from n bytes = fold step n (digits bytes ++ take 3 (decimals (drop (length (digits bytes)) bytes) ++ codes "000"))
 
+-- a number goes on with a digit,
 goes_on : (n b : ℕ) (bytes : List ℕ) → is_ascii_digit b ≡ true → number_from n (b ∷ bytes) ≡ number_from (step n b) bytes
 goes_on n b bytes is = rw (digits_more b bytes is) refl
 
+-- and else with its decimals
 stops : (n b : ℕ) (bytes : List ℕ) → is_ascii_digit b ≡ false → number_from n (b ∷ bytes) ≡ fold step n (take 3 (decimals (b ∷ bytes) ++ codes "000"))
 stops n b bytes isnt = rw (digits_end b bytes isnt) refl
 
@@ -101,12 +114,15 @@ no_less n (b ∷ bytes) =
     ]))
     (cases_Bool (is_ascii_digit b))
 
+-- at most 1000 is the least of it and 1000,
 least : (n : ℕ) → n ≤ 1000 → min 1000 n ≡ n
 least n most = omega (arith, most)
 
+-- and from 1000 on that is 1000
 most : (n : ℕ) → 1000 ≤ n → min 1000 n ≡ 1000
 most n least = omega (arith, least)
 
+-- so the number of thousandths is read
 pub read_is : (text : List ℕ) → read_number text ≡ thousandths_of text
 read_is [] = refl
 read_is (b ∷ bytes) =
@@ -132,9 +148,11 @@ read_is (b ∷ bytes) =
 
 -- ---- what RFC 9110 allows
 
+-- a number below 10 has a digit
 digit_of : (a : ℕ) → a ≤ 9 → is_ascii_digit (48 + a) ≡ true
 digit_of a most = grind (arith, nat_tests)
 
+-- a weight is the number that it begins with
 pub weight_is_number : WeightIsNumber
 weight_is_number text thousandths zero = refl
 weight_is_number text thousandths zero_dot = refl

@@ -24,10 +24,12 @@ use Rattle.mime_http.proofs.Ranks.{ranks_total, one_rank}
 abbrev pub rank_at : List Rank → ℕ → Rank
 rank_at ranks at = get_or ranks at (0, 0, 0, 0)
 
+-- an offer comes before another
 abbrev pub ComesBefore : List Rank → ℕ → ℕ → Type 0
 ComesBefore ranks at other =
     (is_gt (rank_cmp (rank_at ranks at) (rank_at ranks other)) ≡ true) ⊎ ((rank_at ranks at ≡ rank_at ranks other) × (at < other))
 
+-- the rank of an offer, and its position
 abbrev pub entry_of : Reverse Rank × ℕ → Rank × ℕ
 entry_of entry = (entry.0.0, entry.1)
 
@@ -45,9 +47,11 @@ record IsAt (at : ℕ) (ranks : List Rank) (entry : Rank × ℕ) : Type 0 where
   is : entry.0 ≡ rank_at ranks far
   weighs : 0 < entry.0.0
 
+-- after one offer more
 one_further : {at : ℕ} {rank : Rank} {ranks : List Rank} {entry : Rank × ℕ} → IsAt (at + 1) ranks entry → IsAt at (rank ∷ ranks) entry
 one_further is = record { far = suc is.far; there = omega (arith, is.there); is = is.is; weighs = is.weighs }
 
+-- what is found of the offers is at its position,
 weighing_is_at : (at : ℕ) (ranks : List Rank) (entry : Rank × ℕ) → Contains (weighing at ranks) entry → IsAt at ranks entry
 weighing_is_at at [] entry (k, within, is) = absurd (omega (arith, within))
 weighing_is_at at (rank ∷ ranks) entry there = go (weighing_is_at (at + 1) ranks entry) (rank.0 == 0) refl
@@ -66,6 +70,7 @@ weighing_is_at at (rank ∷ ranks) entry there = go (weighing_is_at (at + 1) ran
     go rest true is = one_further (rest (rw is at there))
     go rest false is = here (grind (arith, is)) (rw is at there) rest
 
+-- and what weighs something is found
 at_is_weighing : (at : ℕ) (ranks : List Rank) (far : ℕ) → 0 < (rank_at ranks far).0 → Contains (weighing at ranks) (rank_at ranks far, at + far)
 at_is_weighing at [] far weighs = absurd (omega (arith, weighs))
 at_is_weighing at (rank ∷ ranks) zero weighs =
@@ -82,6 +87,7 @@ at_is_weighing at (rank ∷ ranks) (suc far) weighs =
 
 -- ---- their positions differ
 
+-- those after an offer have other positions
 further : (low at : ℕ) (ranks : List Rank) → low < at → AllByRecursion (λ y. (low == y) ≡ false) (map (λ e. e.1) (weighing at ranks))
 further low at [] below = tt
 further low at (rank ∷ ranks) below = go (further low (at + 1) ranks (omega (arith, below))) (rank.0 == 0) refl
@@ -91,6 +97,7 @@ further low at (rank ∷ ranks) below = go (further low (at + 1) ranks (omega (a
     go rest true is = rw is rest
     go rest false is = rw is (ne_eqb low at (λ same. absurd (omega (arith, same, below))), rest)
 
+-- so all positions differ
 are_distinct : (at : ℕ) (ranks : List Rank) → IsDistinct (λ x y. x == y) (map (λ e. e.1) (weighing at ranks))
 unfolding IsDistinct
 are_distinct at [] = tt
@@ -103,12 +110,15 @@ are_distinct at (rank ∷ ranks) = go (are_distinct (at + 1) ranks) (rank.0 == 0
 
 -- ---- sorted, they are in order
 
+-- offers are compared by their ranks, the higher first, and then by their positions
 abbrev pub offer_cmp : Reverse Rank × ℕ → Reverse Rank × ℕ → Ordering
 offer_cmp = then_cmp (flip_args (on (λ offer. offer.0.0) rank_cmp)) (on (λ offer. offer.1) nat_cmp)
 
+-- that is a total order
 offers_total : IsTotalOrder offer_cmp
 offers_total = then_total (back_total (on_total (λ offer. offer.0.0) ranks_total)) (on_total (λ offer. offer.1) nat_cmp_total)
 
+-- one that isn't after another is higher, or as high and offered earlier
 first_by : (x y : Rank) (i j : ℕ) (a b : Ordering) → rank_cmp x y ≡ a → MatchOrdering b (j < i) (j ≡ i) (i < j) → is_lt (ordering_then a b) ≡ false → i ≢ j
     → (is_gt (rank_cmp x y) ≡ true) ⊎ ((x ≡ y) × (i < j))
 first_by x y i j Greater b is far low differ = inl (ap is_gt is)
@@ -117,13 +127,16 @@ first_by x y i j Equal Less is far low differ = absurd (true≢false low)
 first_by x y i j Equal Equal is far low differ = absurd (differ (sym far))
 first_by x y i j Equal Greater is far low differ = inr (one_rank x y is, far)
 
+-- two numbers are equal either way
 flips : (x y : ℕ) → (x == y) ≡ (y == x)
 flips x y = grind (arith, nat_tests)
 
+-- the positions are those of the entries
 same_positions : (found : List (Reverse Rank × ℕ)) → map (λ entry. entry.1) (map entry_of found) ≡ map (λ offer. offer.1) found
 same_positions [] = refl
 same_positions (offer ∷ found) = ap (λ positions. offer.1 ∷ positions) (same_positions found)
 
+-- so it comes before it
 come_before : (ranks : List Rank) (x y : Rank) (i j : ℕ) → x ≡ rank_at ranks i → y ≡ rank_at ranks j
     → (is_gt (rank_cmp x y) ≡ true) ⊎ ((x ≡ y) × (i < j)) → ComesBefore ranks i j
 come_before ranks x y i j first second found =
@@ -178,10 +191,12 @@ module _ (ranks : List Rank) (found sorted : List (Reverse Rank × ℕ)) (all : 
       subst (Contains (map (λ offer. offer.1) sorted)) same
       (in_mapped (λ offer. offer.1) sorted offer.0 (Contains-permutation found sorted offer.0 moved offer.1))
 
+-- an offer, if there is one
 some_default : (sorted : List (Reverse Rank × ℕ)) (j : ℕ) → j < length (map (λ offer. offer.1) sorted) → Reverse Rank × ℕ
 some_default [] j within = absurd (omega (arith, within))
 some_default (offer ∷ sorted) j within = offer
 
+-- so what is sorted is in order
 pub are_in_order : (ranges offers : List MediaType) (found sorted : List (Reverse Rank × ℕ)) → map entry_of found ≡ weighing 0 (map (merit ranges) offers)
     → IsPermutation found sorted → IsSorted offer_cmp sorted → AreInOrder ranges offers (map (λ offer. offer.1) sorted)
 are_in_order ranges offers found sorted all moved up = record {

@@ -16,6 +16,7 @@ pub record Left (name whole text : List ℕ) (total count : ℕ) (items : List I
   pub written : text ++ text_of_pairs (others name rest) ≡ whole
   pub counted : count + length (others name rest) ≡ total
 
+-- if no item is left, all is written and counted
 pub none_left : {name whole text : List ℕ} {total count : ℕ} {items : List Item} → Left name whole text total count items → items ≡ []
     → (text ≡ whole) × (count ≡ total)
 none_left {name} {whole} {text} {total} {count} left ended = go left.rest (sym left.same ∙ ended) left.written left.counted

@@ -27,6 +27,7 @@ each_passes p [] x all (k, within, is) = absurd (omega (arith, within))
 each_passes p (y ∷ xs) x all (zero, within, is) = subst (λ z. p z ≡ true) is (and_parts (p y) (list_all p xs) all).0
 each_passes p (y ∷ xs) x all (suc k, within, is) = each_passes p xs x (and_parts (p y) (list_all p xs) all).1 (k, omega (arith, within), is)
 
+-- a test that each passes all pass
 all_pass : {X : Type 0} (p : X → Bool) (xs : List X) → ((x : X) → Contains xs x → p x ≡ true) → list_all p xs ≡ true
 all_pass p [] each = refl
 all_pass p (x ∷ xs) each =
@@ -53,6 +54,7 @@ same_position p q at (x ∷ xs) each =
     ap (λ found. if found then Some at else position_from p (at + 1) xs) (each x (zero, omega arith, refl))
     ∙ ap (λ rest. if q x then Some at else rest) (same_position p q (at + 1) xs (λ y there. each y (in_more x xs y there)))
 
+-- what a list contains, the list of its results contains,
 in_filtered : {X Y : Type 0} (f : X → Option Y) (xs : List X) (x : X) (y : Y) → Contains xs x → f x ≡ Some y → Contains (filter_map f xs) y
 in_filtered f [] x y (k, within, is) some = absurd (omega (arith, within))
 in_filtered f (z ∷ xs) x y (zero, within, is) some = rw (ap f is ∙ some) (zero, omega arith, refl)
@@ -62,6 +64,7 @@ in_filtered {Y = Y} f (z ∷ xs) x y (suc k, within, is) some = onto (f z) (in_f
     onto None there = there
     onto (Some w) there = in_more w (filter_map f xs) y there
 
+-- and the other way
 of_filtered : {X Y : Type 0} (f : X → Option Y) (xs : List X) (y : Y) → Contains (filter_map f xs) y → (x : X) × Contains xs x × (f x ≡ Some y)
 of_filtered f [] y (k, within, is) = absurd (omega (arith, within))
 of_filtered {X} {Y} f (z ∷ xs) y there = by (of_filtered f xs y) (f z) refl there
@@ -77,11 +80,13 @@ of_filtered {X} {Y} f (z ∷ xs) y there = by (of_filtered f xs y) (f z) refl th
 
 -- ---- the highest
 
+-- what isn't above is at most as high,
 le_by : (r : Ordering) → is_gt r ≡ false → is_le r ≡ true
 le_by Less low = refl
 le_by Equal low = refl
 le_by Greater low = absurd (true≢false low)
 
+-- and the other way
 gt_by : (r : Ordering) → is_le r ≡ true → is_gt r ≡ false
 gt_by Less low = refl
 gt_by Equal low = refl
@@ -146,6 +151,7 @@ module _ {K : Type 0} {R : K → K → Ordering} (total : IsTotalOrder R) (one :
 abbrev pub kept_closest : List MediaType → MediaType → Option Rank
 kept_closest ranges offer = fold (ord_max (option_cmp rank_cmp)) None (map (closeness offer) (enumerate_from 0 ranges))
 
+-- the range that is kept as the closest is the closest,
 pub closest_is_kept : (ranges : List MediaType) (offer : MediaType) → kept_closest ranges offer ≡ closest ranges offer
 closest_is_kept ranges offer = highest_is_found ranks_total one_rank (closeness offer) (enumerate_from 0 ranges)
 
@@ -177,6 +183,7 @@ module _ (ranges : List MediaType) (offer : MediaType) where
         (subst (λ top. is_gt (option_cmp rank_cmp (closeness offer item) top) ≡ false) is (none_is_closer item there))),
   )
 
+-- that is, no other is closer
 pub closest_is_closest : ClosestIsClosest
 closest_is_closest ranges offer =
     subst (λ o. MatchOption o
@@ -196,6 +203,7 @@ closest_is_closest ranges offer =
 
 -- ---- the best offer
 
+-- no position passes a test that fails
 never : {X : Type 0} (at : ℕ) (xs : List X) → position_from (λ x. false) at xs ≡ None
 never at [] = refl
 never at (x ∷ xs) = never (at + 1) xs
@@ -241,6 +249,7 @@ module _ (all : List Rank) where
       (λ isnt. isnt)
       (cases_Bool (is_best rank))
 
+-- the best offer stands first of those that none is above
 pub best_is_position : (all : List Rank)
     → position (λ one. nat_lt 0 one.0 && list_all (λ other. is_le (rank_cmp other one)) all) all
     ≡ (if (highest all).0 == 0 then None else position (λ rank. eq_by_cmp rank_cmp rank (highest all)) all)

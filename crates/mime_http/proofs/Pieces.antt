@@ -15,18 +15,21 @@ use Rattle.mime_http.proofs.Trims.{next_taken}
 
 -- ---- a byte further
 
+-- a byte that doesn't end a piece belongs to it,
 pub cut_goes_on : (place : At) (line : List ℕ) (at : ℕ) → at < length line → ends place (get_or line at 0) ≡ false
     → cut_from place (take at line) (drop at line) ≡ cut_from (after place (get_or line at 0)) (take (at + 1) line) (drop (at + 1) line)
 cut_goes_on place line at within on =
     ap (cut_from place (take at line)) (item_left line at 0 within)
     ∙ (rw on (ap (λ piece. cut_from (after place (get_or line at 0)) piece (drop (at + 1) line)) (next_taken line at within)))
 
+-- and a comma ends it,
 pub cut_ends : (place : At) (line : List ℕ) (at : ℕ) → at < length line → ends place (get_or line at 0) ≡ true
     → cut_from place (take at line) (drop at line) ≡ take at line ∷ cut_after (drop at line)
 cut_ends place line at within end =
     let left = item_left line at 0 within in
     ap (cut_from place (take at line)) left ∙ (rw end (ap (λ x. take at line ∷ cut_after x) (sym left)))
 
+-- as the line's end does
 pub cut_at_end : (place : At) (line : List ℕ) (at : ℕ) → length line ≤ at
     → cut_from place (take at line) (drop at line) ≡ take at line ∷ cut_after (drop at line)
 cut_at_end place line at past =
@@ -35,12 +38,14 @@ cut_at_end place line at past =
 
 -- ---- bytes without a mark
 
+-- outside strings only a quote leads into one
 after_unmarked : (place : At) → IsOutside place → (b : ℕ) → (b == 34) ≡ false → after place b ≡ after_outside b
 after_unmarked Outside is b quote = refl
 after_unmarked Equals is b quote = rw quote refl
 after_unmarked Quoted is b quote = absurd is
 after_unmarked Paired is b quote = absurd is
 
+-- so a byte leads to a place outside strings
 outside_after : (b : ℕ) → IsOutside (after_outside b)
 outside_after b = go (b == 61) refl
   where
@@ -56,6 +61,7 @@ pub record Led (line : List ℕ) (n : ℕ) : Type 0 where
   pub first : n ≡ 0 → place ≡ Outside
   pub later : 0 < n → place ≡ after_outside (get_or line (n - 1) 0)
 
+-- a byte more that is no comma and no quote
 led_further : (line : List ℕ) (n : ℕ) → suc n ≤ length line → AreUnmarked 44 34 line 0 (suc n) → Led line n → Led line (suc n)
 led_further line n within unmarked before =
     let b = get_or line n 0 in
@@ -75,12 +81,14 @@ led_further line n within unmarked before =
       later = λ some. ap (λ i. after_outside (get_or line i 0)) last;
     }
 
+-- so bytes without them lead to a place outside strings
 pub unmarked_lead : (line : List ℕ) (n : ℕ) → n ≤ length line → AreUnmarked 44 34 line 0 n → Led line n
 unmarked_lead line zero within unmarked =
     record { place = Outside; is_outside = tt; so_far = refl; first = λ none. refl; later = λ some. absurd (omega (arith, some)) }
 unmarked_lead line (suc n) within unmarked =
     led_further line n within unmarked (unmarked_lead line n (omega (arith, within)) (λ k from to. unmarked k from (omega (arith, to))))
 
+-- and a comma or the end after them ends the first piece
 pub piece_ends : (line : List ℕ) (at : ℕ) → at ≤ length line → AreUnmarked 44 34 line 0 at → (at < length line → get_or line at 0 ≡ 44)
     → cut line ≡ take at line ∷ cut_after (drop at line)
 piece_ends line at within unmarked comma =
@@ -110,6 +118,7 @@ stays place one other on still line from (suc n) within unmarked =
     ∙ (sym (cut_goes_on place line at (omega (arith, within)) (on b plain))
     ∙ stays place one other on still line from n (omega (arith, within)) (λ k least most. unmarked k least (omega (arith, most)))))
 
+-- bytes that stay in a place change nothing of the cut
 stays_to : (place : At) (one other : ℕ) (on : (b : ℕ) → is_mark one other b ≡ false → ends place b ≡ false)
     (still : (b : ℕ) → is_mark one other b ≡ false → after place b ≡ place) (line : List ℕ) (from to : ℕ) → from ≤ to → to ≤ length line
     → AreUnmarked one other line from to → cut_from place (take to line) (drop to line) ≡ cut_from place (take from line) (drop from line)
@@ -123,11 +132,13 @@ stays_to place one other on still line from to least within unmarked =
 outside_on : (b : ℕ) → is_mark 44 61 b ≡ false → ends Outside b ≡ false
 outside_on b plain = grind (arith, nat_tests, plain)
 
+-- a byte that is no comma and no equals sign stays outside,
 outside_still : (b : ℕ) → is_mark 44 61 b ≡ false → after Outside b ≡ Outside
 outside_still b plain =
     let equals : (b == 61) ≡ false = grind (arith, nat_tests, plain) in
     rw equals refl
 
+-- and so does a run of them
 pub outside_run : (line : List ℕ) (from to : ℕ) → from ≤ to → to ≤ length line → AreUnmarked 44 61 line from to
     → cut_from Outside (take to line) (drop to line) ≡ cut_from Outside (take from line) (drop from line)
 outside_run = stays_to Outside 44 61 outside_on outside_still
@@ -139,6 +150,7 @@ string_still b plain =
     let backslash : (b == 92) ≡ false = grind (arith, nat_tests, plain) in
     rw (backslash, quote) refl
 
+-- a run without quotes and backslashes stays in a string,
 pub string_run : (line : List ℕ) (from to : ℕ) → from ≤ to → to ≤ length line → AreUnmarked 34 92 line from to
     → cut_from Quoted (take to line) (drop to line) ≡ cut_from Quoted (take from line) (drop from line)
 string_run = stays_to Quoted 34 92 (λ b plain. refl) string_still
@@ -149,6 +161,7 @@ pub string_byte : (line : List ℕ) (at : ℕ) (place : At) → at < length line
 string_byte line at place within there =
     sym (ap (λ p. cut_from p (take (at + 1) line) (drop (at + 1) line)) there) ∙ sym (cut_goes_on Quoted line at within refl)
 
+-- and so does one such byte
 pub string_plain : (line : List ℕ) (at : ℕ) → at < length line → ¬ (get_or line at 0 ≡ 34) → ¬ (get_or line at 0 ≡ 92)
     → cut_from Quoted (take (at + 1) line) (drop (at + 1) line) ≡ cut_from Quoted (take at line) (drop at line)
 string_plain line at within no_quote no_backslash =
@@ -177,12 +190,14 @@ alike_at_other Equals is line at within other =
 alike_at_other Quoted is line at within other = absurd is
 alike_at_other Paired is line at within other = absurd is
 
+-- after an equals sign the cut is as before it,
 pub equals_past : (line : List ℕ) (at : ℕ) → at < length line → get_or line at 0 ≡ 61
     → cut_from Equals (take (at + 1) line) (drop (at + 1) line) ≡ cut_from Outside (take at line) (drop at line)
 equals_past line at within equals =
     sym (ap (λ b. cut_from (after Outside b) (take (at + 1) line) (drop (at + 1) line)) equals)
     ∙ sym (cut_goes_on Outside line at within (ap (ends Outside) equals))
 
+-- if no quote follows,
 pub equals_alone : (line : List ℕ) (at : ℕ) → at < length line → get_or line at 0 ≡ 61 → (at + 1 < length line → ¬ (get_or line (at + 1) 0 ≡ 34))
     → cut_from Outside (take (at + 1) line) (drop (at + 1) line) ≡ cut_from Outside (take at line) (drop at line)
 equals_alone line at within equals other =
@@ -192,6 +207,7 @@ equals_alone line at within equals other =
     (cases_lt (at + 1) (length line))
     ∙ equals_past line at within equals
 
+-- and else a string opens
 pub string_opens : (line : List ℕ) (at : ℕ) → at + 1 < length line → get_or line at 0 ≡ 61 → get_or line (at + 1) 0 ≡ 34
     → cut_from Quoted (take (at + 1 + 1) line) (drop (at + 1 + 1) line) ≡ cut_from Outside (take at line) (drop at line)
 string_opens line at within equals quote =

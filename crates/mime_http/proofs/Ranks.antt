@@ -8,6 +8,7 @@ use Rattle.std.proofs.lemmas.Bool.{true≢false}
 use Rattle.std.proofs.lemmas.Cmp.{ranked, nat_cmp_total, on_total, then_total}
 use Rattle.mime_http.specs.Ranges.{Rank, rank_cmp}
 
+-- ranks are in a total order
 pub ranks_total : IsTotalOrder rank_cmp
 ranks_total =
     then_total (then_total (then_total (on_total (λ rank. rank.0) nat_cmp_total) (on_total (λ rank. rank.1) nat_cmp_total))
@@ -19,9 +20,11 @@ both_level Less s is = absurd (true≢false (ap is_lt is))
 both_level Equal s is = (refl, is)
 both_level Greater s is = absurd (true≢false (ap is_gt is))
 
+-- numbers that compare as equal are equal,
 level : (x y : ℕ) → nat_cmp x y ≡ Equal → x ≡ y
 level x y is = subst (λ o. MatchOrdering o (x < y) (x ≡ y) (y < x)) is (ranked x y (nat_cmp x y) refl)
 
+-- and so are ranks
 pub one_rank : (x y : Rank) → rank_cmp x y ≡ Equal → x ≡ y
 one_rank x y same =
     let fourth = both_level _ (nat_cmp x.3 y.3) same in

@@ -20,6 +20,7 @@ use Rattle.mime_http.proofs.Numbers.{read_is}
 abbrev front_of : SyntaxTree → List ℕ
 front_of tree = tree.top ++ (47 ∷ tree.sub)
 
+-- it is as long as the essence in lowercase
 front_length : (tree : SyntaxTree) → length (essence_of (lowered_tree tree)) ≡ length (front_of tree)
 front_length tree =
     omega (
@@ -53,10 +54,12 @@ digit_is_token : (d : ℕ) → is_ascii_digit d ≡ true → is_token_byte d ≡
 unfolding is_token_byte
 digit_is_token d is = rw is refl
 
+-- the name `q` is a token,
 name_is_token : IsToken (113 ∷ [])
 unfolding is_token_byte
 name_is_token = refl
 
+-- and so is `0.` and a digit
 zero_and_dot : (last : Bool) → last ≡ true → (is_token_byte 48 && (is_token_byte 46 && (last && true))) ≡ true
 unfolding is_token_byte
 zero_and_dot last is = rw is refl
@@ -95,6 +98,7 @@ DemandsNothing offer media d =
     ≡ (if list_all (has offer) (demanded media.pairs)
     then found_of (length (demanded media.pairs)) (first_value (codes "q") media.pairs) else None)
 
+-- a range of which the weight is the only parameter does
 demands_nothing : (offer media : MediaType) (d : ℕ) → media.pairs ≡ (113 ∷ [], 48 ∷ 46 ∷ d ∷ []) ∷ [] → DemandsNothing offer media d
 demands_nothing offer media d pairs = rw pairs refl
 

@@ -19,18 +19,23 @@ use Rattle.mime_http.proofs.Closest.{in_more}
 abbrev shifted : ℕ → ℕ → ℕ
 shifted k at = if nat_lt at k then at else at + 1
 
+-- a range of which the position is shifted
 abbrev shifted_item : ℕ → ℕ × MediaType → ℕ × MediaType
 shifted_item k item = (shifted k item.0, item.1)
 
+-- a rank of which the position is shifted
 abbrev shifted_rank : ℕ → Rank → Rank
 shifted_rank k rank = (rank.0, rank.1, rank.2, shifted k rank.3)
 
+-- a position before the stranger stays,
 stays : (k at : ℕ) → at < k → shifted k at ≡ at
 stays k at before = let test : nat_lt at k ≡ true = grind (arith, nat_tests) in rw test refl
 
+-- and one from it on is one more
 moves : (k at : ℕ) → k ≤ at → shifted k at ≡ at + 1
 moves k at after = let test : nat_lt at k ≡ false = grind (arith, nat_tests) in rw test refl
 
+-- shifted positions are in the same order,
 same_order : (k x y : ℕ) → nat_cmp (shifted k x) (shifted k y) ≡ nat_cmp x y
 same_order k x y = grind (arith, nat_tests)
 
@@ -38,15 +43,18 @@ same_order k x y = grind (arith, nat_tests)
 fourth : (a b : Ordering) (c d : Ordering) → c ≡ d → ordering_then (ordering_then a b) c ≡ ordering_then (ordering_then a b) d
 fourth a b c d same = ap (ordering_then (ordering_then a b)) same
 
+-- and so are ranks
 same_rank_order : (k : ℕ) (x y : Rank) → rank_cmp (shifted_rank k x) (shifted_rank k y) ≡ rank_cmp x y
 same_rank_order k x y = ap (ordering_then (ordering_then (ordering_then (nat_cmp x.0 y.0) (nat_cmp x.1 y.1)) (nat_cmp x.2 y.2))) (same_order k x.3 y.3)
 
 -- ---- maps that keep an order
 
+-- all values pass a test if all that they are made of do
 all_mapped : {X Y : Type 0} (f : X → Y) (p : Y → Bool) (q : X → Bool) → ((x : X) → p (f x) ≡ q x) → (xs : List X) → list_all p (map f xs) ≡ list_all q xs
 all_mapped f p q same [] = refl
 all_mapped f p q same (x ∷ xs) = ap (λ b. b && list_all p (map f xs)) (same x) ∙ ap (λ b. q x && b) (all_mapped f p q same xs)
 
+-- the first that passes is made of the first,
 found_mapped : {X Y : Type 0} (f : X → Y) (p : Y → Bool) (q : X → Bool) → ((x : X) → p (f x) ≡ q x) → (xs : List X)
     → find p (map f xs) ≡ option_map f (find q xs)
 found_mapped f p q same [] = refl
@@ -57,6 +65,7 @@ found_mapped f p q same (x ∷ xs) =
       | false ↦ found_mapped f p q same xs
     ]
 
+-- at the same position
 place_mapped : {X Y : Type 0} (f : X → Y) (p : Y → Bool) (q : X → Bool) → ((x : X) → p (f x) ≡ q x) → (at : ℕ) (xs : List X)
     → position_from p at (map f xs) ≡ position_from q at xs
 place_mapped f p q same at [] = refl
@@ -82,6 +91,7 @@ covers_so offer range k at =
     both None = refl
     both (Some n) = refl
 
+-- a range that covers nothing covers nothing at another position
 covers_none : (offer range : MediaType) (at : ℕ) → closeness offer (0, range) ≡ None → closeness offer (at, range) ≡ None
 covers_none offer range at none = go (list_all (has offer) (demanded range.pairs)) (named_parts range offer) none
   where
@@ -93,6 +103,7 @@ covers_none offer range at none = go (list_all (has offer) (demanded range.pairs
     go true None is = refl
     go true (Some n) is = absurd (true≢false (ap is_some is))
 
+-- a value before values
 onto_mapped : {X Y : Type 0} (f : X → Y) (first : Option X) (rest : List X) → cons_option (option_map f first) (map f rest) ≡ map f (cons_option first rest)
 onto_mapped f None rest = refl
 onto_mapped f (Some x) rest = refl
@@ -139,19 +150,24 @@ module _ (offer : MediaType) where
 abbrev raised : ℕ → ℕ → ℕ → ℕ
 raised k long early = if nat_lt (long - early) k then early + 1 else early
 
+-- a rank of which the earliness is raised
 abbrev raised_rank : ℕ → ℕ → Rank → Rank
 raised_rank k long rank = (rank.0, rank.1, rank.2, raised k long rank.3)
 
+-- raised earliness is in the same order,
 same_earliness : (k long x y : ℕ) → nat_cmp (raised k long x) (raised k long y) ≡ nat_cmp x y
 same_earliness k long x y = grind (arith, nat_tests)
 
+-- and so are ranks
 same_merit_order : (k long : ℕ) (x y : Rank) → rank_cmp (raised_rank k long x) (raised_rank k long y) ≡ rank_cmp x y
 same_merit_order k long x y =
     ap (ordering_then (ordering_then (ordering_then (nat_cmp x.0 y.0) (nat_cmp x.1 y.1)) (nat_cmp x.2 y.2))) (same_earliness k long x.3 y.3)
 
+-- the earliness of a shifted position is raised,
 early_so : (k long at : ℕ) → k ≤ long → long + 1 - shifted k at ≡ raised k long (long - at)
 early_so k long at within = grind (arith, nat_tests)
 
+-- and none stays none
 late_so : (k long : ℕ) → k ≤ long → raised k long 0 ≡ 0
 late_so k long within = grind (arith, nat_tests)
 
@@ -239,6 +255,7 @@ module _ (before after : List MediaType) (range : MediaType) where
           );
     }
 
+-- so a range that covers none of the offers changes nothing
 pub stranger_changes_nothing : StrangerChangesNothing
 stranger_changes_nothing before after offers range none = (
   λ offer there. ap (λ (rank : Rank). rank.0) (merit_so before after range offer (none offer there)),

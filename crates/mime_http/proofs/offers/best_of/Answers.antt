@@ -13,6 +13,7 @@ use Rattle.mime_http.proofs.Picked.{highest, best_is_position}
 use Rattle.mime_http.proofs.offers.best_of.Goals as goal
 use Rattle.mime_http.proofs.offers.best_of.Goals.{then-gt, else-gt}
 
+-- a position that is below one bound is below a higher one
 below : (best : Option ℕ) (most more : ℕ) → most ≤ more → IfSome best (λ b. b < most) → IfSome best (λ b. b < more)
 below None most more fits is = is
 below (Some b) most more fits is = omega (arith, fits, is)

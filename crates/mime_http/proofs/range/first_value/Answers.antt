@@ -14,6 +14,7 @@ text_of_seen : (found : Option Name) (value : Option (List ℕ × Bool)) → opt
 text_of_seen None value is = ap (option_map (λ seen. seen.0)) is
 text_of_seen (Some name) value is = ap (option_map (λ seen. seen.0)) is
 
+-- the value of the first parameter that is accepted is the first of that name
 first_is : (name : List ℕ) (found : Option Name) (pairs : List (List ℕ × List ℕ))
     → IsFirstAccepted (λ text flag. text ≡ name) (items_of pairs) (option_map name_seen found)
     → option_map name_text found ≡ first_value name pairs
