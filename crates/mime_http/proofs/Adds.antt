@@ -12,7 +12,8 @@ use Rattle.mime_http.proofs.Cuts.{are_cut, only_cut}
 use Rattle.mime_http.proofs.Trims.{blank_from_trimmed, trimmed_from_blank, trim_twice, utf8_before, utf8_trimmed, http_before, http_trimmed}
 
 -- what was pushed is last
-pub pushed : {X Y : Type 0} (f : X → Y) (old new : List X) (x : X) (y : Y) → new ≡ old ++ (x ∷ []) → f x ≡ y → map f new ≡ map f old ++ (y ∷ [])
+pub pushed : {X Y : Type 0} (f : X → Y) (old new : List X) (x : X) (y : Y) → new ≡ old ++ (x ∷ []) → f x ≡ y
+    → map f new ≡ map f old ++ (y ∷ [])
 pushed f old new x y is same = rw is (map-append f old (x ∷ []) ∙ ap (λ z. map f old ++ (z ∷ [])) same)
 
 module _ (piece : List ℕ) {old new : Header} where
@@ -47,12 +48,14 @@ module _ (piece : List ℕ) {old new : Header} where
   }
 
 -- what a piece adds without the white space before it, it adds
-sorted_before : (piece text : List ℕ) {ranges : List MediaType} {bad : List (List ℕ)} → text ≡ trim_start piece → AreSorted (text ∷ []) ranges bad
+sorted_before : (piece text : List ℕ) {ranges : List MediaType} {bad : List (List ℕ)} → text ≡ trim_start piece
+    → AreSorted (text ∷ []) ranges bad
     → AreSorted (piece ∷ []) ranges bad
 sorted_before piece text is (blank _ _ _ _ white rest) =
     blank piece [] _ _ (blank_from_trimmed piece (sym (trim_twice piece) ∙ (ap trim_start (sym is) ∙ trimmed_from_blank text white))) rest
 sorted_before piece text is (a_range _ range _ _ _ utf8 reads rest) =
-    a_range piece range [] _ _ (utf8_before piece (subst IsUtf8 is utf8)) (http_before piece range (subst (λ t. HttpReads t range) is reads)) rest
+    a_range piece range [] _ _ (utf8_before piece (subst IsUtf8 is utf8))
+    (http_before piece range (subst (λ t. HttpReads t range) is reads)) rest
 sorted_before piece text {ranges = ranges} is (a_bad _ _ _ bad some isnt rest) =
     let same : trim_end (trim_start piece) ≡ trim_end (trim_start text) = ap trim_end (sym (ap trim_start is ∙ trim_twice piece)) in
     subst (λ entry. AreSorted (piece ∷ []) ranges (entry ∷ bad)) same
@@ -86,7 +89,8 @@ adds_none header =
     record { ranges = []; bad = []; sorted = no_text; now_ranges = sym (append-nil header.ranges); now_bad = sym (append-nil header.bad) }
 
 -- and two runs of pieces what each adds
-pub adds_both : {pieces more : List (List ℕ)} {old now new : Header} → Adds pieces old now → Adds more now new → Adds (pieces ++ more) old new
+pub adds_both : {pieces more : List (List ℕ)} {old now new : Header} → Adds pieces old now → Adds more now new
+    → Adds (pieces ++ more) old new
 adds_both {old = old} first second = record {
   ranges = first.ranges ++ second.ranges;
   bad = first.bad ++ second.bad;
@@ -128,7 +132,8 @@ pub pieces_added : {lines : List (List ℕ)} {old new : Header} → AddsLines li
 pieces_added {old = old} {new = new} lines = subst (λ pieces. Adds pieces old new) (only_cut lines.cut) lines.added
 
 -- so a header holds what its lines add to nothing
-pub is_header : (lines : List (List ℕ)) (header : Header) → Adds (flat_map cut (lines_or_any lines)) (record { ranges = []; bad = [] }) header
+pub is_header : (lines : List (List ℕ)) (header : Header)
+    → Adds (flat_map cut (lines_or_any lines)) (record { ranges = []; bad = [] }) header
     → IsHeader lines header
 is_header lines header added = record {
   pieces = flat_map cut (lines_or_any lines);
@@ -140,7 +145,8 @@ is_header lines header added = record {
 -- ---- of nothing but white space
 
 -- each piece of nothing is white space
-pub middle_is_blank : (before : List (List ℕ)) (piece : List ℕ) (rest : List (List ℕ)) → AreSorted (before ++ (piece ∷ rest)) [] [] → AreSpaces piece
+pub middle_is_blank : (before : List (List ℕ)) (piece : List ℕ) (rest : List (List ℕ)) → AreSorted (before ++ (piece ∷ rest)) [] []
+    → AreSpaces piece
 middle_is_blank [] piece rest (blank _ _ _ _ white others) = white
 middle_is_blank (text ∷ before) piece rest (blank _ _ _ _ white others) = middle_is_blank before piece rest others
 

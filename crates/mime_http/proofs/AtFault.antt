@@ -39,7 +39,13 @@ no_way_on before b begun reached dead (Some next) e =
 pub fault_of : (before : List ℕ) (b : ℕ) → IsViable before → ¬ (IsViable (before ++ (b ∷ []))) → Fault before b
 fault_of before b viable dead =
     let found = walk-from_viable before viable in
-    record { viable = viable; dead = dead; begun = found.0; reached = found.1; stops = no_way_on before b found.0 found.1 dead (grow found.0 b) refl }
+    record {
+      viable = viable;
+      dead = dead;
+      begun = found.0;
+      reached = found.1;
+      stops = no_way_on before b found.0 found.1 dead (grow found.0 b) refl;
+    }
 
 -- the place there, and what came out before it
 pub there : {before : List ℕ} {b : ℕ} (fault : Fault before b) → place_from Start before ≡ place_at fault.begun
@@ -171,7 +177,8 @@ dead_too value pos b cut here comes =
     }
 
 -- so the fault stands
-pub stays_dead : (value : List ℕ) (pos b : ℕ) → CutAt value pos b → slice_get value pos ≡ Some b → ComesOut (place_from Start (take pos value)) b
+pub stays_dead : (value : List ℕ) (pos b : ℕ) → CutAt value pos b → slice_get value pos ≡ Some b
+    → ComesOut (place_from Start (take pos value)) b
     → Stands value (InvalidToken pos b)
 stays_dead value pos b cut here comes =
     let dead = dead_too value pos b cut here comes in

@@ -124,7 +124,8 @@ unescaped_before (b ∷ bytes) (suc at) within none =
 pub unescaped_same : (bytes : List ℕ) → ((i : ℕ) → i < length bytes → get_or bytes i 0 ≢ 92) → unescaped bytes ≡ bytes
 unescaped_same bytes none =
     unescaped_before bytes (length bytes) (omega arith) none
-    ∙ ap (λ rest. take (length bytes) bytes ++ unescaped rest) (drop-length bytes) ∙ append-nil (take (length bytes) bytes) ∙ take-length bytes
+    ∙ ap (λ rest. take (length bytes) bytes ++ unescaped rest) (drop-length bytes) ∙ append-nil (take (length bytes) bytes)
+    ∙ take-length bytes
 
 -- so do those at the end of a buffer
 pub unescaped_end : (front value : List ℕ) (start at : ℕ) → start ≡ length front → at ≤ length value
@@ -161,7 +162,8 @@ length-unescaped (b ∷ []) =
 length-unescaped (b ∷ c ∷ bytes) =
     let paired = length-unescaped bytes in
     let plain = length-unescaped (c ∷ bytes) in
-    elim (b == 92) as (λ begins. length (b ∷ c ∷ bytes) ≤ 2 * length (if begins then c ∷ unescaped bytes else b ∷ unescaped (c ∷ bytes)) + 1) [
+    elim (b == 92) as (λ begins. length (b ∷ c ∷ bytes) ≤ 2 * length
+    (if begins then c ∷ unescaped bytes else b ∷ unescaped (c ∷ bytes)) + 1) [
       | true ↦ omega (arith, paired)
       | false ↦ omega (arith, plain)
     ]

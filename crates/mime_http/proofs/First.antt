@@ -49,7 +49,8 @@ module _ (ranks : List Rank) where
 
   no_less : (at : ℕ) → 0 < (rank_at ranks at).0 → 0 < (highest ranks).0
   no_less at weighs =
-      ⊎_elim (λ less. omega (arith, weighs, less)) (λ more. omega (arith, weighs, more.0)) (at_most (rank_at ranks at) (highest ranks) (none_above at weighs))
+      ⊎_elim (λ less. omega (arith, weighs, less)) (λ more. omega (arith, weighs, more.0))
+      (at_most (rank_at ranks at) (highest ranks) (none_above at weighs))
 
   -- the highest rank is that of an offer, if it weighs more than 0
   somewhere : 0 < (highest ranks).0 → (at : ℕ) × (rank_at ranks at ≡ highest ranks)
@@ -62,7 +63,8 @@ module _ (ranks : List Rank) where
   first_or_before : (best : ℕ) (others : List ℕ) → AllPairs (ComesBefore ranks) (best ∷ others) → (at : ℕ) → Contains (best ∷ others) at
       → (best ≡ at) ⊎ ComesBefore ranks best at
   first_or_before best others pairs at (zero, within, is) = inl is
-  first_or_before best others pairs at (suc k, within, is) = inr (subst (ComesBefore ranks best) is (pairs 0 (suc k) at (omega arith) within))
+  first_or_before best others pairs at (suc k, within, is) =
+      inr (subst (ComesBefore ranks best) is (pairs 0 (suc k) at (omega arith) within))
 
 module _ (ranges offers : List MediaType) (best : ℕ) (others : List ℕ) (are : AreInOrder ranges offers (best ∷ others)) where
   abbrev ranks : List Rank
@@ -80,7 +82,8 @@ module _ (ranges offers : List MediaType) (best : ℕ) (others : List ℕ) (are 
       ⊎_elim
       (λ same. (ap (rank_at all) same ∙ is, omega (arith, same)))
       (λ after. ⊎_elim
-      (λ above. absurd (true≢false (sym above ∙ subst (λ r. is_gt (rank_cmp (rank_at all best) r) ≡ false) (sym is) (none_above all best best_weighs))))
+      (λ above. absurd (true≢false (sym above ∙ subst (λ r. is_gt (rank_cmp (rank_at all best) r) ≡ false) (sym is)
+      (none_above all best best_weighs))))
       (λ level. (level.0 ∙ is, omega (arith, level.1)))
       after)
       (first_or_before all best others are.best_first at ((are.all at).1 weighs))
@@ -95,11 +98,17 @@ module _ (ranges offers : List MediaType) (best : ℕ) (others : List ℕ) (are 
       let some : ((highest all).0 == 0) ≡ false = ne_eqb (highest all).0 0 (λ no. absurd (omega (arith, no, weighs))) in
       let here : test (rank_at all best) ≡ true = subst (λ r. test r ≡ true) (sym is) (ap is_eq (tied_itself ranks_total (highest all))) in
       let before : (j : ℕ) → j < best → test (rank_at all j) ≡ false = λ j below. ⊎_elim
-      (λ level. absurd (omega (arith, below, (as_high j (same_by ranks_total one_rank (rank_at all j) (highest all) (rank_cmp (rank_at all j) (highest all)) refl level)).1)))
+      (λ level. absurd (omega (
+        arith,
+        below,
+        (as_high j (same_by ranks_total one_rank (rank_at all j) (highest all)
+            (rank_cmp (rank_at all j) (highest all)) refl level)).1,
+      )))
       (λ other. other)
       (cases_Bool (test (rank_at all j))) in
       best_is_position all
-      ∙ rw some (position_from-zero test all ∙ found_from test 0 all best none (weighs_within all best best_weighs) here before ∙ ap Some (omega arith))
+      ∙ rw some (position_from-zero test all ∙ found_from test 0 all best none (weighs_within all best best_weighs) here before ∙ ap Some
+      (omega arith))
 
 -- if none is in order, none is best
 none_is_best : (ranges offers : List MediaType) → AreInOrder ranges offers [] → best_offer ranges offers ≡ None

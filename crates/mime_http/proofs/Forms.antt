@@ -29,21 +29,28 @@ and_kinds t q e t2 q2 e2 =
     eqb-true _ _
     (at (λ e2. bit_and (kind_from t q e) (kind_from t2 q2 e2) == kind_from (t && t2) (q && q2) (e && e2))
     (at (λ q2. holds_of_both (λ e2. bit_and (kind_from t q e) (kind_from t2 q2 e2) == kind_from (t && t2) (q && q2) (e && e2)))
-    (at (λ t2. holds_of_both (λ q2. holds_of_both (λ e2. bit_and (kind_from t q e) (kind_from t2 q2 e2) == kind_from (t && t2) (q && q2) (e && e2))))
-    (at (λ e. holds_of_both (λ t2. holds_of_both (λ q2. holds_of_both (λ e2. bit_and (kind_from t q e) (kind_from t2 q2 e2) == kind_from (t && t2) (q && q2) (e && e2)))))
-    (at (λ q. holds_of_both (λ e. holds_of_both (λ t2. holds_of_both (λ q2. holds_of_both (λ e2. bit_and (kind_from t q e) (kind_from t2 q2 e2) == kind_from (t && t2) (q && q2) (e && e2))))))
-    (at (λ t. holds_of_both (λ q. holds_of_both (λ e. holds_of_both (λ t2. holds_of_both (λ q2. holds_of_both (λ e2. bit_and (kind_from t q e) (kind_from t2 q2 e2) == kind_from (t && t2) (q && q2) (e && e2)))))))
+    (at (λ t2. holds_of_both (λ q2. holds_of_both (λ e2. bit_and (kind_from t q e) (kind_from t2 q2 e2) == kind_from (t && t2) (q && q2)
+    (e && e2))))
+    (at (λ e. holds_of_both (λ t2. holds_of_both (λ q2. holds_of_both
+    (λ e2. bit_and (kind_from t q e) (kind_from t2 q2 e2) == kind_from (t && t2) (q && q2) (e && e2)))))
+    (at (λ q. holds_of_both (λ e. holds_of_both (λ t2. holds_of_both
+    (λ q2. holds_of_both (λ e2. bit_and (kind_from t q e) (kind_from t2 q2 e2) == kind_from (t && t2) (q && q2) (e && e2))))))
+    (at (λ t. holds_of_both (λ q. holds_of_both (λ e. holds_of_both
+    (λ t2. holds_of_both (λ q2. holds_of_both (λ e2. bit_and (kind_from t q e) (kind_from t2 q2 e2) == kind_from (t && t2) (q && q2)
+    (e && e2)))))))
     refl t) q) e) t2) q2) e2)
 
 -- the kind of joined bytes
 pub kind_of-append : (xs ys : List ℕ) → kind_of (xs ++ ys) ≡ bit_and (kind_of xs) (kind_of ys)
 kind_of-append xs ys =
-    (λ i. kind_from (list_all-append is_token_byte xs ys i) (list_all-append is_quoted_text_byte xs ys i) (list_all-append is_quoted_byte xs ys i))
+    (λ i. kind_from (list_all-append is_token_byte xs ys i) (list_all-append is_quoted_text_byte xs ys i)
+    (list_all-append is_quoted_byte xs ys i))
     ∙ sym (and_kinds (list_all is_token_byte xs) (list_all is_quoted_text_byte xs) (list_all is_quoted_byte xs)
     (list_all is_token_byte ys) (list_all is_quoted_text_byte ys) (list_all is_quoted_byte ys))
 
 -- the kind of the bytes so far and one more
-pub kind_of_more : (xs : List ℕ) (i : ℕ) → i < length xs → bit_and (kind_of (take i xs)) (kind_of (get_or xs i 0 ∷ [])) ≡ kind_of (take (i + 1) xs)
+pub kind_of_more : (xs : List ℕ) (i : ℕ) → i < length xs
+    → bit_and (kind_of (take i xs)) (kind_of (get_or xs i 0 ∷ [])) ≡ kind_of (take (i + 1) xs)
 kind_of_more xs i within =
     sym (kind_of-append (take i xs) (get_or xs i 0 ∷ [])) ∙ ap kind_of (sym (take_more xs i 0 within))
 
@@ -89,7 +96,8 @@ plain_more bytes n within plain =
 -- ---- what is written, run by run
 
 -- a run stands as it is
-pub run_written : (bytes : List ℕ) → take (prefix_len is_plain bytes) bytes ++ escaped (drop (prefix_len is_plain bytes) bytes) ≡ escaped bytes
+pub run_written : (bytes : List ℕ)
+    → take (prefix_len is_plain bytes) bytes ++ escaped (drop (prefix_len is_plain bytes) bytes) ≡ escaped bytes
 run_written [] = refl
 run_written (b ∷ bytes) =
     ⊎_elim (λ special. rw special (rw special refl))

@@ -33,7 +33,8 @@ module _ {K : Type 0} {R : K → K → Ordering} (total : IsTotalOrder R) (one :
   -- the highest is no less than what it began with
   pub least : (m : K) (xs : List K) → is_gt (R m (fold (ord_max R) m xs)) ≡ false
   least m [] = ap is_gt (tied_itself total m)
-  least m (x ∷ xs) = upto total m (ord_max R m x) (fold (ord_max R) (ord_max R m x) xs) (least_by m x (R x m) refl) (least (ord_max R m x) xs)
+  least m (x ∷ xs) =
+      upto total m (ord_max R m x) (fold (ord_max R) (ord_max R m x) xs) (least_by m x (R x m) refl) (least (ord_max R m x) xs)
 
   raised_by : (m x : K) (r : Ordering) → is_gt r ≡ true → (if is_lt r then m else x) ≡ x
   raised_by m x Less is = absurd (true≢false (sym is))
@@ -87,7 +88,9 @@ module _ {K : Type 0} {R : K → K → Ordering} (total : IsTotalOrder R) (one :
         let found = so_far.after higher ∙ looked_at test all at x is in
         record {
           high = high;
-          here = λ positive same. found ∙ (let yes : test x ≡ true = subst (λ y. is_eq (R x y) ≡ true) (sym same) (ap is_eq (tied_itself total x)) in rw yes refl);
+          here =
+              λ positive same. found ∙ (let yes : test x ≡ true =
+              subst (λ y. is_eq (R x y) ≡ true) (sym same) (ap is_eq (tied_itself total x)) in rw yes refl);
           after = λ other. found ∙ (⊎_elim
               (λ yes. absurd (other (sym (same_by x top (R x top) refl yes))))
               (λ no. let missed : test x ≡ false = no in rw missed refl)

@@ -77,7 +77,8 @@ more_white (back front c white at_rest first one all) b spaced_there same =
     (back front c (white ++ (b ∷ [])) at_rest first one (ap tight (sym grouped) ∙ (same ∙ all)))
 
 -- one byte further
-step : (front : List ℕ) (limit : ℕ) (reach : Reach) (b : ℕ) → SoFar front limit reach → nat_lt reach.left (length (added reach.place b)) ≡ false
+step : (front : List ℕ) (limit : ℕ) (reach : Reach) (b : ℕ) → SoFar front limit reach
+    → nat_lt reach.left (length (added reach.place b)) ≡ false
     → SoFar (front ++ (b ∷ [])) limit (reach_after reach b)
 step front limit reach b is fits = record {
   at = count;
@@ -108,7 +109,8 @@ step front limit reach b is fits = record {
         (here (front ++ (b ∷ [])) (subst IsSettled (sym there) is_settled))
 
 -- byte by byte, until more would come out,
-stops_from : (bytes front : List ℕ) (limit : ℕ) (reach : Reach) → SoFar front limit reach → Stops (front ++ bytes) limit (reach_from reach bytes)
+stops_from : (bytes front : List ℕ) (limit : ℕ) (reach : Reach) → SoFar front limit reach
+    → Stops (front ++ bytes) limit (reach_from reach bytes)
 stops_from [] front limit reach is =
     record { front = front; after = []; split = refl; so_far = is; next = λ b bytes e. absurd (cc) }
 stops_from (b ∷ bytes) front limit reach is =
@@ -116,7 +118,8 @@ stops_from (b ∷ bytes) front limit reach is =
   where
     go : (SoFar (front ++ (b ∷ [])) limit (reach_after reach b)
         → Stops ((front ++ (b ∷ [])) ++ bytes) limit (reach_from (reach_after reach b) bytes))
-        → (t : Bool) → nat_lt reach.left (length (added reach.place b)) ≡ t → Stops (front ++ (b ∷ bytes)) limit (reach_from reach (b ∷ bytes))
+        → (t : Bool) → nat_lt reach.left (length (added reach.place b)) ≡ t
+        → Stops (front ++ (b ∷ bytes)) limit (reach_from reach (b ∷ bytes))
     go rest true over = rw over (record {
       front = front;
       after = b ∷ bytes;
@@ -173,7 +176,8 @@ utf8_to_space {value} is front after split spaced_there = go (snoc front) split 
         let white = (white_adds_nothing (place_from Start front) b (sym (place_from-append Start front (b ∷ [])) ∙ spaced_there)).0 in
         let ascii : b < 128 = grind (arith, nat_tests) in
         let there : slice_get value (length front) ≡ Some b =
-        ap (λ v. slice_get v (length front)) (split ∙ append_assoc front (b ∷ []) after) ∙ slice_get-prefix front b after (length front) refl in
+        ap (λ v. slice_get v (length front)) (split ∙ append_assoc front (b ∷ []) after) ∙ slice_get-prefix front b after
+        (length front) refl in
         let cut : take (length front + 1) value ≡ front ++ (b ∷ []) =
         ap (take (length front + 1)) (split ∙ append_assoc front (b ∷ []) after) ∙ take-append-add front (b ∷ after) 1 in
         subst IsUtf8 cut (IsUtf8-take value (length front + 1) is (boundary_after value (length front) b is there ascii))

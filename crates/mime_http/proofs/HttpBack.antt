@@ -182,7 +182,8 @@ tree_back : (strict : SyntaxTree) → IsWellFormed strict → (value : List ℕ)
     → (media : MediaType) × HttpReads value media
 tree_back strict is value e = go strict.top is.0 e
   where
-    finish : (x : ℕ) (top : List ℕ) → IsToken (x ∷ top) → (spaces : List ℕ) → AreSpaces spaces → (here : List ℕ) → value ≡ spaces ++ (x ∷ here)
+    finish : (x : ℕ) (top : List ℕ) → IsToken (x ∷ top) → (spaces : List ℕ) → AreSpaces spaces → (here : List ℕ)
+        → value ≡ spaces ++ (x ∷ here)
         → (rest : List ℕ) → here ≡ (top ++ (47 ∷ strict.sub)) ++ rest → Rest rest → (media : MediaType) × HttpReads value media
     finish x top token spaces white here first rest then end = (
       record {

@@ -25,7 +25,8 @@ not_beyond text (InvalidToken pos byte) dead front rest split over viable =
 not_beyond text other lacks front rest split over viable = omega (arith, over, ap length split, length-append front rest)
 
 -- bytes are the longest prefix that is viable if they are viable and die with the next
-pub longest_at : (front after : List ℕ) → IsHttpViable front → ((b : ℕ) (bytes : List ℕ) → after ≡ b ∷ bytes → IsHttpViable (front ++ (b ∷ [])) → ⊥)
+pub longest_at : (front after : List ℕ) → IsHttpViable front
+    → ((b : ℕ) (bytes : List ℕ) → after ≡ b ∷ bytes → IsHttpViable (front ++ (b ∷ [])) → ⊥)
     → IsHttpLongestPrefix (front ++ after) (length front)
 longest_at front after viable dies = record {
   within = omega (arith, length-append front after);
@@ -40,7 +41,8 @@ longest_at front after viable dies = record {
         let k = n - suc (length front) in
         let is : n ≡ length front + suc k = omega arith in
         let text : take n (front ++ (b ∷ bytes)) ≡ (front ++ (b ∷ [])) ++ take k bytes =
-        ap (λ i. take i (front ++ (b ∷ bytes))) is ∙ (take-append-add front (b ∷ bytes) (suc k) ∙ sym (append_assoc front (b ∷ []) (take k bytes))) in
+        ap (λ i. take i (front ++ (b ∷ bytes))) is ∙ (take-append-add front (b ∷ bytes) (suc k) ∙ sym
+        (append_assoc front (b ∷ []) (take k bytes))) in
         dies b bytes refl (prefix_of_http_viable (front ++ (b ∷ [])) (take k bytes) (subst IsHttpViable text more))
 
 -- ---- what is missing at the end
@@ -104,7 +106,8 @@ ends_in value b busy at_rest (prefix, ends) = go (snoc value) at_rest ends
         (front, ap (λ x. front ++ (x ∷ [])) (same_last (tight front ++ adds.before) prefix c b text))
 
 -- what is missing from what is left is missing from the value, unless white space was left out at its end
-pub end_lacks : (value : List ℕ) (fault : ParseError) → IsSettled (place_from Start value) → Lacks (tight value) fault → HttpLacks value fault
+pub end_lacks : (value : List ℕ) (fault : ParseError) → IsSettled (place_from Start value) → Lacks (tight value) fault
+    → HttpLacks value fault
 end_lacks value MissingSlash at_rest lacks = (goes_on_as value _ at_rest lacks.0, tt)
 end_lacks value MissingSubtype at_rest lacks =
     (goes_on_as value _ at_rest lacks.0, ends_in value 47 (λ place. (busy_after place).0) at_rest lacks.1)
@@ -144,7 +147,8 @@ reached value fault reach is stop = record {
   viable =
       let rest = tight_from (place_from Start stop.front) stop.after in
       let text : take (limit_of (tight value) fault) (tight value) ≡ tight stop.front ++ take reach.left rest =
-      ap (λ n. take n (tight value)) (sym stop.so_far.out) ∙ (ap (take (length (tight stop.front) + reach.left)) (left_of stop.front stop.after stop.split)
+      ap (λ n. take n (tight value)) (sym stop.so_far.out) ∙
+      (ap (take (length (tight stop.front) + reach.left)) (left_of stop.front stop.after stop.split)
       ∙ take-append-add (tight stop.front) rest reach.left) in
       prefix_of_viable_is_viable (tight stop.front) (take reach.left rest)
       (subst IsViable text (viable_to_limit (tight value) fault is));

@@ -14,7 +14,8 @@ pub data SkipsWhite : Place → Type 0 where
   spaced : SkipsWhite Spaced
 
 -- There bytes come out as without white space before them.
-pub white_skipped : {place : Place} → SkipsWhite place → (white rest : List ℕ) → AreSpaces white → tight_from place (white ++ rest) ≡ tight_from place rest
+pub white_skipped : {place : Place} → SkipsWhite place → (white rest : List ℕ) → AreSpaces white
+    → tight_from place (white ++ rest) ≡ tight_from place rest
 white_skipped skips [] rest all = refl
 white_skipped at_start (b ∷ white) rest all =
     let parts = and_parts (is_space b) _ all in rw parts.0 (white_skipped at_start white rest parts.1)
@@ -155,7 +156,12 @@ record FromAll (bytes : List ℕ) (pairs : List (List ℕ × List ℕ)) : Type 0
 after_semicolon : (b bytes : List ℕ) {pairs : List (List ℕ × List ℕ)} → AreSpaces b → FromSemicolon bytes pairs
     → FromAll (b ++ (59 ∷ bytes)) pairs
 after_semicolon b bytes white from = record {
-  plain = record { tail = listed from.list; is = from.is; same = plain_semicolon b bytes white ∙ ap (λ x. 59 ∷ x) from.same; has = from.has };
+  plain = record {
+    tail = listed from.list;
+    is = from.is;
+    same = plain_semicolon b bytes white ∙ ap (λ x. 59 ∷ x) from.same;
+    has = from.has;
+  };
   closed =
       let kept : Leads Closed b b Closed = walk_spaces after_value b white in
       record {

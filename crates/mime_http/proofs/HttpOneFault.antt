@@ -78,7 +78,8 @@ ends_too value b busy (front, ends) =
 lacks_tight : (value : List ℕ) (fault : ParseError) → IsSettled (place_from Start value) → HttpLacks value fault → Lacks (tight value) fault
 lacks_tight value fault at_rest = go (completion_comes_out (place_from Start value) at_rest) fault
   where
-    accepted : (more : List ℕ) → tight_from (place_from Start value) more ≡ more → IsHttpMediaType (value ++ more) → IsAccepted (tight value ++ more)
+    accepted : (more : List ℕ) → tight_from (place_from Start value) more ≡ more → IsHttpMediaType (value ++ more)
+        → IsAccepted (tight value ++ more)
     accepted more same is = subst (λ x. IsAccepted (tight value ++ x)) same (tight_accepted value more is)
 
     go : ComesOut (place_from Start value) → (fault : ParseError) → HttpLacks value fault → Lacks (tight value) fault

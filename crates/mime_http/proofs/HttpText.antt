@@ -189,7 +189,8 @@ utf8_back (suc fuel) (b ∷ bytes) place fits is = ⊎_elim
       where
         low : c < 128 → encode c ++ encodes cs ≡ b ∷ tight_from (place_after place b) bytes → ⊥
         low ascii e =
-            let both : c ∷ encodes cs ≡ b ∷ tight_from (place_after place b) bytes = ap (λ x. x ++ encodes cs) (sym (encode_ascii c ascii)) ∙ e in
+            let both : c ∷ encodes cs ≡ b ∷ tight_from (place_after place b) bytes =
+            ap (λ x. x ++ encodes cs) (sym (encode_ascii c ascii)) ∙ e in
             let same : c ≡ b = cc in
             omega (arith, same, above)
 
@@ -202,7 +203,8 @@ utf8_back (suc fuel) (b ∷ bytes) place fits is = ⊎_elim
             let left : tight_from (place_after place b) bytes ≡ hs ++ encodes cs = cc in
             let there = run_back holds hs bytes (encodes cs) tests.1 left in
             let utf8 : IsUtf8 there.rest =
-            others there.rest (place_after place b) (omega (arith, ap length there.split, length-append hs there.rest)) (cs, (parts.1, sym there.left)) in
+            others there.rest (place_after place b) (omega (arith, ap length there.split, length-append hs there.rest))
+            (cs, (parts.1, sym there.left)) in
             let text : encode c ++ there.rest ≡ b ∷ bytes =
             ap (λ x. x ++ there.rest) is ∙ (ap (λ x. x ∷ (hs ++ there.rest)) same ∙ ap (λ x. b ∷ x) (sym there.split)) in
             subst IsUtf8 text (IsUtf8-append (encode c) there.rest (IsUtf8-encode c parts.0) utf8)

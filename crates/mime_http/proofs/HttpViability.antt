@@ -46,11 +46,13 @@ closes false not_taken = one Quoted 34
 
 -- in a list each byte that goes on comes out, and leads to the place after it
 grown_list : (closed : ClosedParameters) (position : ListState) (b : ℕ)
-    → MatchOption (grow_state closed position b) (Unit {0}) (λ next. Leads (place_in_list position) (b ∷ []) (b ∷ []) (place_in_list next.position))
+    → MatchOption (grow_state closed position b) (Unit {0})
+    (λ next. Leads (place_in_list position) (b ∷ []) (b ∷ []) (place_in_list next.position))
 grown_list closed (in_spaces n) b =
     cond_both (is_space b) _ _ (λ o. MatchOption o (Unit {0}) (λ next. Leads Semicolon (b ∷ []) (b ∷ []) (place_in_list next.position)))
     (λ white. space before_name b white)
-    (λ other. cond_both (is_token_byte b) _ _ (λ o. MatchOption o (Unit {0}) (λ next. Leads Semicolon (b ∷ []) (b ∷ []) (place_in_list next.position)))
+    (λ other. cond_both (is_token_byte b) _ _ (λ o. MatchOption o (Unit {0})
+    (λ next. Leads Semicolon (b ∷ []) (b ∷ []) (place_in_list next.position)))
     (λ yes. plain_byte of_name b (token_is_plain b yes)) (λ no. tt))
 grown_list closed (in_name n name) b =
     by_class (λ b next. Leads Plain (b ∷ []) (b ∷ []) (place_in_list next.position)) is_token_byte 61 b _ _
@@ -62,7 +64,8 @@ grown_list closed (in_value n name (v ∷ value)) b =
     by_class (λ b next. Leads Plain (b ∷ []) (b ∷ []) (place_in_list next.position)) is_token_byte 59 b _ _
     (λ yes. plain_byte goes_on b (token_is_plain b yes)) (λ no. one Plain 59)
 grown_list closed (in_quotes n name content) b =
-    by_class (λ b next. Leads (place_in_list (in_quotes n name content)) (b ∷ []) (b ∷ []) (place_in_list next.position)) (continues content) 34 b _ _
+    by_class (λ b next. Leads (place_in_list (in_quotes n name content)) (b ∷ []) (b ∷ []) (place_in_list next.position))
+    (continues content) 34 b _ _
     (λ yes. so (taken (awaits_after false content) b yes) refl
     (ap (λ (t : Bool). if t then Paired else Quoted) (sym (awaits_after-append false content (b ∷ [])))))
     (λ no. closes (awaits_after false content) no)
@@ -97,7 +100,8 @@ pub walked : (begun : Begun) (bytes : List ℕ) (last : Begun) → walk_from beg
 walked begun [] last e = so (no_bytes (place_at begun)) refl (ap place_at (same_Some begun last e))
 walked begun (b ∷ bytes) last e =
     option_and_then_some (λ next. walk_from next bytes) (grow begun b) last e
-    (λ next grew goes. both (MatchOption-at_some (Unit {0}) (GoesTo (place_at begun) b) next grew (grows_to begun b)) (walked next bytes last goes))
+    (λ next grew goes. both (MatchOption-at_some (Unit {0}) (GoesTo (place_at begun) b) next grew (grows_to begun b))
+    (walked next bytes last goes))
 
 -- ---- after white space that was left out only a semicolon or the end may follow, and only where the value may end
 
@@ -143,7 +147,8 @@ semicolon_grows (in_subtype top (s ∷ sub)) is = (_, refl)
 semicolon_grows (in_list top sub list) is = at list.closed list.position is
   where
     at : (closed : ClosedParameters) (position : ListState) → LeavesSpaces (place_in_list position)
-        → MatchOption (grow (in_list top sub (list_at closed position)) 59) (Unit {0}) (λ next. MayEnd (in_list top sub (list_at closed position)))
+        → MatchOption (grow (in_list top sub (list_at closed position)) 59) (Unit {0})
+        (λ next. MayEnd (in_list top sub (list_at closed position)))
     at closed (in_spaces n) is = absurd is
     at closed (in_name n name) is = tt
     at closed (in_value n name []) is = tt
@@ -176,7 +181,8 @@ ends_there begun is (b ∷ bytes) last e may = go (ends_there begun is bytes las
 -- ---- what is left of a beginning
 
 -- what comes out of joined bytes
-pub tight-append : (place : Place) (xs ys : List ℕ) → tight_from place (xs ++ ys) ≡ tight_from place xs ++ tight_from (place_from place xs) ys
+pub tight-append : (place : Place) (xs ys : List ℕ)
+    → tight_from place (xs ++ ys) ≡ tight_from place xs ++ tight_from (place_from place xs) ys
 tight-append place [] ys = refl
 tight-append place (b ∷ xs) ys =
     ap (λ x. added place b ++ x) (tight-append (place_after place b) xs ys)
@@ -219,7 +225,8 @@ pub viable_from_tight : (front : List ℕ) → IsSettled (place_from Start front
 viable_from_tight front settled viable = (viable.0, goes_on_as front viable.0 settled viable.1)
 
 -- a media type as HTTP writes it comes out as one that the library accepts, in two parts
-pub tight_accepted : (front more : List ℕ) → IsHttpMediaType (front ++ more) → IsAccepted (tight front ++ tight_from (place_from Start front) more)
+pub tight_accepted : (front more : List ℕ) → IsHttpMediaType (front ++ more)
+    → IsAccepted (tight front ++ tight_from (place_from Start front) more)
 tight_accepted front more is = subst IsAccepted (tight-append Start front more) (accepted_from_http (front ++ more) is)
 
 -- so what comes out of a viable beginning is viable

@@ -25,6 +25,7 @@ pub mod Numbers
 pub mod Order
 pub mod Others
 pub mod OutAgain
+pub mod Passes
 pub mod Picked
 pub mod Pieces
 pub mod Places

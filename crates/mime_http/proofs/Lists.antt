@@ -127,7 +127,8 @@ http_lists_are_read lines media lists =
 -- ---- and back
 
 -- pieces are texts between commas
-of_any : {lines texts : List (List ℕ)} → AreBetweenCommas IsPiece BeginsPiece lines texts → AreBetweenCommas (λ text. ⊤) (λ text. ⊤) lines texts
+of_any : {lines texts : List (List ℕ)} → AreBetweenCommas IsPiece BeginsPiece lines texts
+    → AreBetweenCommas (λ text. ⊤) (λ text. ⊤) lines texts
 of_any no_line = no_line
 of_any (line_end text lines texts begins_itself rest) = line_end text lines texts tt (of_any rest)
 of_any (comma text line lines texts is rest) = comma text line lines texts tt (of_any rest)

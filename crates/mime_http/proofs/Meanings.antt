@@ -17,7 +17,8 @@ Pairs = List (List ℕ × List ℕ)
 -- ---- a media type covers itself
 
 -- a list with this item, for which a test is true
-any_there : {X : Type 0} (test : X → Bool) (before : List X) (x : X) (after : List X) → test x ≡ true → list_any test (before ++ (x ∷ after)) ≡ true
+any_there : {X : Type 0} (test : X → Bool) (before : List X) (x : X) (after : List X) → test x ≡ true
+    → list_any test (before ++ (x ∷ after)) ≡ true
 any_there test [] x after is = rw is refl
 any_there test (y ∷ before) x after is = elim (test y) as (λ b. (b || list_any test (before ++ (x ∷ after))) ≡ true) [
   | true ↦ refl
@@ -42,7 +43,8 @@ has_own offer before (pair ∷ rest) is =
     ]
 
 -- it names its own essence
-names_some : (any all same : Bool) → same ≡ true → is_some {T = ℕ} (if any then Some 0 else if all then Some 1 else if same then Some 2 else None) ≡ true
+names_some : (any all same : Bool) → same ≡ true
+    → is_some {T = ℕ} (if any then Some 0 else if all then Some 1 else if same then Some 2 else None) ≡ true
 names_some true all same is = refl
 names_some false true same is = refl
 names_some false false same is = rw is refl
@@ -68,7 +70,8 @@ has_meant meant pair = list_any (λ own. bytes_eq own.0 pair.0 && bytes_eq own.1
 
 -- an offer has a parameter if it has what that means,
 has_by_meaning : (pairs : Pairs) (pair : List ℕ × List ℕ)
-    → list_any (λ own. bytes_eq own.0 pair.0 && bytes_eq (meaning_of own).1 (meaning_of pair).1) pairs ≡ has_meant (map meaning_of pairs) (meaning_of pair)
+    → list_any (λ own. bytes_eq own.0 pair.0 && bytes_eq (meaning_of own).1 (meaning_of pair).1) pairs
+    ≡ has_meant (map meaning_of pairs) (meaning_of pair)
 has_by_meaning [] pair = refl
 has_by_meaning (own ∷ pairs) pair =
     ap (λ rest. (bytes_eq own.0 pair.0 && bytes_eq (meaning_of own).1 (meaning_of pair).1) || rest) (has_by_meaning pairs pair)
@@ -119,7 +122,8 @@ closeness_of offer range weight at =
 closeness_by_meaning : (offer range : MediaType) (at : ℕ)
     → closeness offer (at, range) ≡ closeness_of (meant_of offer) (meant_of range) (weight_of range) at
 closeness_by_meaning offer range at =
-    ap (λ all. if all then option_map (λ named. (named, length (demanded range.pairs), weight_of range, at)) (named_parts range offer) else None)
+    ap (λ all. if all then option_map (λ named. (named, length (demanded range.pairs), weight_of range, at))
+    (named_parts range offer) else None)
     (all_by_meaning offer range.pairs)
     ∙ ap (λ count. if list_all (has_meant (map meaning_of offer.pairs)) (demanded (map meaning_of range.pairs))
     then option_map (λ named. (named, count, weight_of range, at)) (named_parts range offer) else None) (count_by_meaning range.pairs)

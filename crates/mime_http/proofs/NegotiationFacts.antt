@@ -247,9 +247,12 @@ unfolding is_token_byte
 two_elements = record {
   texts = [] ∷ codes "a/b " ∷ codes " " ∷ codes "c/d" ∷ [];
   between = comma [] _ [] _ tt (comma (codes "a/b ") _ [] _ tt (comma (codes " ") _ [] _ tt (line_end (codes "c/d") [] [] tt no_line)));
-  elements = blank [] _ _ _ refl (a_range (codes "a/b ") _ _ _ _ (put_ascii (codes "a/b ") [] (omega arith, (omega arith, (omega arith, (omega arith, tt)))) IsUtf8-nil)
+  elements =
+      blank [] _ _ _ refl (a_range (codes "a/b ") _ _ _ _ (put_ascii (codes "a/b ") []
+      (omega arith, (omega arith, (omega arith, (omega arith, tt)))) IsUtf8-nil)
       (short_read [] (codes "a") (codes "b") (codes " ") refl refl refl refl refl (codes "a/b") refl refl)
-      (blank (codes " ") _ _ _ refl (a_range (codes "c/d") _ _ _ _ (put_ascii (codes "c/d") [] (omega arith, (omega arith, (omega arith, tt))) IsUtf8-nil)
+      (blank (codes " ") _ _ _ refl (a_range (codes "c/d") _ _ _ _
+      (put_ascii (codes "c/d") [] (omega arith, (omega arith, (omega arith, tt))) IsUtf8-nil)
       (short_read [] (codes "c") (codes "d") [] refl refl refl refl refl (codes "c/d") refl refl) no_text)));
 }
 

@@ -99,7 +99,8 @@ goes_on : (n b : ℕ) (bytes : List ℕ) → is_ascii_digit b ≡ true → numbe
 goes_on n b bytes is = rw (digits_more b bytes is) refl
 
 -- and else with its decimals
-stops : (n b : ℕ) (bytes : List ℕ) → is_ascii_digit b ≡ false → number_from n (b ∷ bytes) ≡ fold step n (take 3 (decimals (b ∷ bytes) ++ codes "000"))
+stops : (n b : ℕ) (bytes : List ℕ) → is_ascii_digit b ≡ false
+    → number_from n (b ∷ bytes) ≡ fold step n (take 3 (decimals (b ∷ bytes) ++ codes "000"))
 stops n b bytes isnt = rw (digits_end b bytes isnt) refl
 
 -- what stands after a dot makes it no less
@@ -108,7 +109,8 @@ no_less n [] = omega arith
 no_less n (b ∷ bytes) =
     ⊎_elim
     (λ is. rw (goes_on n b bytes is) (omega (arith, no_less (step n b) bytes)))
-    (λ isnt. rw (stops n b bytes isnt) (elim (b == 46) as (λ dot. 1000 * n ≤ fold step n (take 3 ((if dot then digits bytes else []) ++ codes "000"))) [
+    (λ isnt. rw (stops n b bytes isnt) (elim (b == 46) as (λ dot. 1000 * n ≤ fold step n
+    (take 3 ((if dot then digits bytes else []) ++ codes "000"))) [
       | true ↦ omega (arith, three_more n bytes)
       | false ↦ omega arith
     ]))
@@ -128,10 +130,12 @@ read_is [] = refl
 read_is (b ∷ bytes) =
     ⊎_elim
     (λ is. rw (eqb-true b 48 is) (read_is bytes ∙ ap (min 1000) (sym (goes_on 0 48 bytes refl))))
-    (λ other. ap (λ zero. if zero then read_number bytes else if is_ascii_digit b then 1000 else if b == 46 then worth 100 bytes else 0) other
+    (λ other. ap
+    (λ zero. if zero then read_number bytes else if is_ascii_digit b then 1000 else if b == 46 then worth 100 bytes else 0) other
     ∙ ⊎_elim
     (λ is. ap (λ is. if is then 1000 else if b == 46 then worth 100 bytes else 0) is
-    ∙ sym (ap (min 1000) (goes_on 0 b bytes is) ∙ most (number_from (step 0 b) bytes) (omega (arith, above b is other, no_less (step 0 b) bytes))))
+    ∙ sym (ap (min 1000) (goes_on 0 b bytes is) ∙ most (number_from (step 0 b) bytes)
+    (omega (arith, above b is other, no_less (step 0 b) bytes))))
     (λ isnt. ap (λ is. if is then 1000 else if b == 46 then worth 100 bytes else 0) isnt
     ∙ (after_dot (b == 46) ∙ sym (ap (min 1000) (stops 0 b bytes isnt))))
     (cases_Bool (is_ascii_digit b)))
@@ -140,7 +144,8 @@ read_is (b ∷ bytes) =
     above : (b : ℕ) → is_ascii_digit b ≡ true → (b == 48) ≡ false → 1 ≤ b - 48
     above b is other = grind (arith, nat_tests)
 
-    after_dot : (dot : Bool) → (if dot then worth 100 bytes else 0) ≡ min 1000 (fold step 0 (take 3 ((if dot then digits bytes else []) ++ codes "000")))
+    after_dot : (dot : Bool)
+        → (if dot then worth 100 bytes else 0) ≡ min 1000 (fold step 0 (take 3 ((if dot then digits bytes else []) ++ codes "000")))
     after_dot true =
         let same : fold step 0 (padded 3 bytes) ≡ worth 100 bytes = omega (arith, three_more 0 bytes) in
         sym (ap (min 1000) same ∙ least (worth 100 bytes) (omega (arith, three_most bytes)))

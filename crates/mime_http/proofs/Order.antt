@@ -56,7 +56,8 @@ weighing_is_at : (at : ℕ) (ranks : List Rank) (entry : Rank × ℕ) → Contai
 weighing_is_at at [] entry (k, within, is) = absurd (omega (arith, within))
 weighing_is_at at (rank ∷ ranks) entry there = go (weighing_is_at (at + 1) ranks entry) (rank.0 == 0) refl
   where
-    here : 0 < rank.0 → Contains ((rank, at) ∷ weighing (at + 1) ranks) entry → (Contains (weighing (at + 1) ranks) entry → IsAt (at + 1) ranks entry)
+    here : 0 < rank.0 → Contains ((rank, at) ∷ weighing (at + 1) ranks) entry
+        → (Contains (weighing (at + 1) ranks) entry → IsAt (at + 1) ranks entry)
         → IsAt at (rank ∷ ranks) entry
     here weighs (zero, within, is) rest = record {
       far = 0;
@@ -66,12 +67,14 @@ weighing_is_at at (rank ∷ ranks) entry there = go (weighing_is_at (at + 1) ran
     }
     here weighs (suc k, within, is) rest = one_further (rest (k, omega (arith, within), is))
 
-    go : (Contains (weighing (at + 1) ranks) entry → IsAt (at + 1) ranks entry) → (z : Bool) → (rank.0 == 0) ≡ z → IsAt at (rank ∷ ranks) entry
+    go : (Contains (weighing (at + 1) ranks) entry → IsAt (at + 1) ranks entry) → (z : Bool) → (rank.0 == 0) ≡ z
+        → IsAt at (rank ∷ ranks) entry
     go rest true is = one_further (rest (rw is at there))
     go rest false is = here (grind (arith, is)) (rw is at there) rest
 
 -- and what weighs something is found
-at_is_weighing : (at : ℕ) (ranks : List Rank) (far : ℕ) → 0 < (rank_at ranks far).0 → Contains (weighing at ranks) (rank_at ranks far, at + far)
+at_is_weighing : (at : ℕ) (ranks : List Rank) (far : ℕ) → 0 < (rank_at ranks far).0
+    → Contains (weighing at ranks) (rank_at ranks far, at + far)
 at_is_weighing at [] far weighs = absurd (omega (arith, weighs))
 at_is_weighing at (rank ∷ ranks) zero weighs =
     let some : (rank.0 == 0) ≡ false = ne_eqb rank.0 0 (λ none. absurd (omega (arith, none, weighs))) in
@@ -79,9 +82,11 @@ at_is_weighing at (rank ∷ ranks) zero weighs =
     rw some (0, omega arith, ap (λ n. (rank, n)) same)
 at_is_weighing at (rank ∷ ranks) (suc far) weighs =
     let next : at + 1 + far ≡ at + suc far = omega arith in
-    go (subst (λ n. Contains (weighing (at + 1) ranks) (rank_at ranks far, n)) next (at_is_weighing (at + 1) ranks far weighs)) (rank.0 == 0) refl
+    go (subst (λ n. Contains (weighing (at + 1) ranks) (rank_at ranks far, n)) next (at_is_weighing (at + 1) ranks far weighs))
+    (rank.0 == 0) refl
   where
-    go : Contains (weighing (at + 1) ranks) (rank_at ranks far, at + suc far) → (z : Bool) → (rank.0 == 0) ≡ z → Contains (weighing at (rank ∷ ranks)) (rank_at ranks far, at + suc far)
+    go : Contains (weighing (at + 1) ranks) (rank_at ranks far, at + suc far) → (z : Bool) → (rank.0 == 0) ≡ z
+        → Contains (weighing at (rank ∷ ranks)) (rank_at ranks far, at + suc far)
     go there true is = rw is there
     go there false is = rw is (in_more (rank, at) (weighing (at + 1) ranks) _ there)
 
@@ -119,7 +124,8 @@ offers_total : IsTotalOrder offer_cmp
 offers_total = then_total (back_total (on_total (λ offer. offer.0.0) ranks_total)) (on_total (λ offer. offer.1) nat_cmp_total)
 
 -- one that isn't after another is higher, or as high and offered earlier
-first_by : (x y : Rank) (i j : ℕ) (a b : Ordering) → rank_cmp x y ≡ a → MatchOrdering b (j < i) (j ≡ i) (i < j) → is_lt (ordering_then a b) ≡ false → i ≢ j
+first_by : (x y : Rank) (i j : ℕ) (a b : Ordering) → rank_cmp x y ≡ a → MatchOrdering b (j < i) (j ≡ i) (i < j)
+    → is_lt (ordering_then a b) ≡ false → i ≢ j
     → (is_gt (rank_cmp x y) ≡ true) ⊎ ((x ≡ y) × (i < j))
 first_by x y i j Greater b is far low differ = inl (ap is_gt is)
 first_by x y i j Less b is far low differ = absurd (true≢false low)
@@ -150,7 +156,8 @@ module _ (ranks : List Rank) (found sorted : List (Reverse Rank × ℕ)) (all : 
   ranks_are : (offer : Reverse Rank × ℕ) → Contains sorted offer → (offer.0.0 ≡ rank_at ranks offer.1) × (0 < offer.0.0.0)
   ranks_are offer there =
       let before = Contains-permutation sorted found offer (IsPermutation-sym found sorted moved) there in
-      let is = weighing_is_at 0 ranks (entry_of offer) (subst (λ entries. Contains entries (entry_of offer)) all (in_mapped entry_of found offer before)) in
+      let is = weighing_is_at 0 ranks (entry_of offer) (subst (λ entries. Contains entries (entry_of offer)) all
+      (in_mapped entry_of found offer before)) in
       let same : is.far ≡ offer.1 = omega (arith, is.there) in
       (is.is ∙ ap (rank_at ranks) same, is.weighs)
 
@@ -172,10 +179,13 @@ module _ (ranks : List Rank) (found sorted : List (Reverse Rank × ℕ)) (all : 
       let second : get_or (map (λ offer. offer.1) sorted) j e ≡ y.1 = get_or-map (λ offer. offer.1) sorted j d e within_j in
       let apart = apart_from_distinct (λ x y. x == y) (map (λ offer. offer.1) sorted) i j e distinct before within in
       let differ : x.1 ≢ y.1 = λ same. true≢false (sym (eq-eqb _ _ (first ∙ (same ∙ sym second))) ∙ apart) in
-      let far = sorted_far (λ a b. is_lt (offer_cmp a b)) (ranks_by offers_total (λ offer. offer)) sorted up i j d (omega (arith, before)) within_j in
-      let came = come_before ranks x.0.0 y.0.0 x.1 y.1 (ranks_are x (Contains-get_or sorted i d within_i)).0 (ranks_are y (Contains-get_or sorted j d within_j)).0
+      let far = sorted_far (λ a b. is_lt (offer_cmp a b)) (ranks_by offers_total (λ offer. offer)) sorted up i j d
+      (omega (arith, before)) within_j in
+      let came = come_before ranks x.0.0 y.0.0 x.1 y.1 (ranks_are x (Contains-get_or sorted i d within_i)).0
+      (ranks_are y (Contains-get_or sorted j d within_j)).0
       (first_by x.0.0 y.0.0 x.1 y.1 (rank_cmp x.0.0 y.0.0) (nat_cmp y.1 x.1) refl (ranked y.1 x.1 (nat_cmp y.1 x.1) refl) far differ) in
-      subst (λ n. ComesBefore ranks n (get_or (map (λ offer. offer.1) sorted) j e)) (sym first) (subst (ComesBefore ranks x.1) (sym second) came)
+      subst (λ n. ComesBefore ranks n (get_or (map (λ offer. offer.1) sorted) j e)) (sym first)
+      (subst (ComesBefore ranks x.1) (sym second) came)
 
   they_weigh : (at : ℕ) → Contains (map (λ offer. offer.1) sorted) at → 0 < (rank_at ranks at).0
   they_weigh at there =
@@ -197,9 +207,17 @@ some_default [] j within = absurd (omega (arith, within))
 some_default (offer ∷ sorted) j within = offer
 
 -- so what is sorted is in order
-pub are_in_order : (ranges offers : List MediaType) (found sorted : List (Reverse Rank × ℕ)) → map entry_of found ≡ weighing 0 (map (merit ranges) offers)
+pub are_in_order : (ranges offers : List MediaType) (found sorted : List (Reverse Rank × ℕ))
+    → map entry_of found ≡ weighing 0 (map (merit ranges) offers)
     → IsPermutation found sorted → IsSorted offer_cmp sorted → AreInOrder ranges offers (map (λ offer. offer.1) sorted)
 are_in_order ranges offers found sorted all moved up = record {
-  best_first = λ i j e before within. in_turn (map (merit ranges) offers) found sorted all moved up (some_default sorted j within) i j e before within;
-  all = λ at. (they_weigh (map (merit ranges) offers) found sorted all moved up at, each_is_there (map (merit ranges) offers) found sorted all moved up at);
+  best_first =
+      λ i j e before within. in_turn (map (merit ranges) offers) found sorted all moved up
+      (some_default sorted j within) i j e before within;
+  all =
+      λ at. (
+        they_weigh (map (merit ranges) offers) found sorted all moved up at,
+        each_is_there
+            (map (merit ranges) offers) found sorted all moved up at,
+      );
 }

@@ -27,9 +27,11 @@ none_left {name} {whole} {text} {total} {count} left ended = go left.rest (sym l
     go (pair ∷ rest) is written counted = absurd (omega (arith, ap length is))
 
 -- the next is of this name
-pub named_skipped : {name whole text : List ℕ} {total count : ℕ} {items next : List Item} {item : Item} → Left name whole text total count items
+pub named_skipped : {name whole text : List ℕ} {total count : ℕ} {items next : List Item} {item : Item}
+    → Left name whole text total count items
     → items ≡ item ∷ next → NameIs item.name item.name_ignores_case name → Left name whole text total count next
-named_skipped {name} {whole} {text} {total} {count} {next = next} {item = item} left is named = go left.rest (sym left.same ∙ is) left.written left.counted
+named_skipped {name} {whole} {text} {total} {count} {next =
+    next} {item = item} left is named = go left.rest (sym left.same ∙ is) left.written left.counted
   where
     go : (rest : List (List ℕ × List ℕ)) → items_of rest ≡ item ∷ next → text ++ text_of_pairs (others name rest) ≡ whole
         → count + length (others name rest) ≡ total → Left name whole text total count next
@@ -44,7 +46,8 @@ named_skipped {name} {whole} {text} {total} {count} {next = next} {item = item} 
 pub copied : {name whole text : List ℕ} {total count : ℕ} {items next : List Item} {item : Item} → Left name whole text total count items
     → items ≡ item ∷ next → ¬ (NameIs item.name item.name_ignores_case name)
     → (count + 1 ≤ total) × Left name whole (text ++ text_of_pair (item.name, item.value)) total (count + 1) next
-copied {name} {whole} {text} {total} {count} {next = next} {item = item} left is other = go left.rest (sym left.same ∙ is) left.written left.counted
+copied {name} {whole} {text} {total} {count} {next =
+    next} {item = item} left is other = go left.rest (sym left.same ∙ is) left.written left.counted
   where
     go : (rest : List (List ℕ × List ℕ)) → items_of rest ≡ item ∷ next → text ++ text_of_pairs (others name rest) ≡ whole
         → count + length (others name rest) ≡ total

@@ -66,7 +66,8 @@ spaced_other (b ∷ bytes) x out no_space no_semicolon e = go (spaced_other byte
         let first : b ≡ x = cc in
         true≢false (sym is ∙ (ap (λ y. y == 59) first ∙ no_semicolon))
     go rest false other false is =
-        let both : 32 ∷ b ∷ tight_from (place_after Spaced b) bytes ≡ x ∷ out = said Spaced b bytes (32 ∷ b ∷ []) _ (rw (other, is) refl) e in
+        let both : 32 ∷ b ∷ tight_from (place_after Spaced b) bytes ≡ x ∷ out =
+        said Spaced b bytes (32 ∷ b ∷ []) _ (rw (other, is) refl) e in
         let first : 32 ≡ x = cc in
         true≢false (ap is_space first ∙ no_space)
 
@@ -100,7 +101,8 @@ spaced_end_back (b ∷ bytes) e = go (spaced_end_back bytes) (is_space b) refl (
     go rest false other true is =
         let both : b ∷ tight_from Semicolon bytes ≡ [] = rw (other, is) at e in absurd (cc)
     go rest false other false is =
-        let both : 32 ∷ b ∷ tight_from (place_after Spaced b) bytes ≡ [] = said Spaced b bytes (32 ∷ b ∷ []) _ (rw (other, is) refl) e in absurd (cc)
+        let both : 32 ∷ b ∷ tight_from (place_after Spaced b) bytes ≡ [] =
+        said Spaced b bytes (32 ∷ b ∷ []) _ (rw (other, is) refl) e in absurd (cc)
 
 -- if nothing comes out after a token, there is nothing but white space
 pub plain_end_back : (bytes : List ℕ) → tight_from Plain bytes ≡ [] → AreSpaces bytes
@@ -145,7 +147,8 @@ spaced_semicolon_back (b ∷ bytes) out e = go (spaced_semicolon_back bytes out)
     go rest true white s is = one_more b white (rest (rw white at e))
     go rest false other true is = no_spaces (kept_back Spaced b bytes 59 out (rw (other, is) refl) e)
     go rest false other false is =
-        let both : 32 ∷ b ∷ tight_from (place_after Spaced b) bytes ≡ 59 ∷ out = said Spaced b bytes (32 ∷ b ∷ []) _ (rw (other, is) refl) e in
+        let both : 32 ∷ b ∷ tight_from (place_after Spaced b) bytes ≡ 59 ∷ out =
+        said Spaced b bytes (32 ∷ b ∷ []) _ (rw (other, is) refl) e in
         let first : ◌≡◌ {A = ℕ} 32 59 = cc in
         absurd (omega (arith, first))
 

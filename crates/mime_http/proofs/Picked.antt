@@ -48,7 +48,8 @@ find_one p (y ∷ xs) x there passes one =
     further (suc k, within, is) other = (k, omega (arith, within), is)
 
 -- tests that agree on each item find the same
-same_position : {X : Type 0} (p q : X → Bool) (at : ℕ) (xs : List X) → ((x : X) → Contains xs x → p x ≡ q x) → position_from p at xs ≡ position_from q at xs
+same_position : {X : Type 0} (p q : X → Bool) (at : ℕ) (xs : List X) → ((x : X) → Contains xs x → p x ≡ q x)
+    → position_from p at xs ≡ position_from q at xs
 same_position p q at [] each = refl
 same_position p q at (x ∷ xs) each =
     ap (λ found. if found then Some at else position_from p (at + 1) xs) (each x (zero, omega arith, refl))
@@ -65,7 +66,8 @@ in_filtered {Y = Y} f (z ∷ xs) x y (suc k, within, is) some = onto (f z) (in_f
     onto (Some w) there = in_more w (filter_map f xs) y there
 
 -- and the other way
-of_filtered : {X Y : Type 0} (f : X → Option Y) (xs : List X) (y : Y) → Contains (filter_map f xs) y → (x : X) × Contains xs x × (f x ≡ Some y)
+of_filtered : {X Y : Type 0} (f : X → Option Y) (xs : List X) (y : Y) → Contains (filter_map f xs) y
+    → (x : X) × Contains xs x × (f x ≡ Some y)
 of_filtered f [] y (k, within, is) = absurd (omega (arith, within))
 of_filtered {X} {Y} f (z ∷ xs) y there = by (of_filtered f xs y) (f z) refl there
   where
@@ -116,7 +118,8 @@ module _ {K : Type 0} {R : K → K → Ordering} (total : IsTotalOrder R) (one :
       → fold (ord_max (option_cmp R)) None (map f xs) ≡ find (λ x. list_all (λ y. is_le (R y x)) (filter_map f xs)) (filter_map f xs)
   highest_is_found {X} f xs = by (fold (ord_max (option_cmp R)) None (map f xs)) refl
     where
-      low : (x : X) (top : Option K) → fold (ord_max (option_cmp R)) None (map f xs) ≡ top → Contains xs x → is_gt (option_cmp R (f x) top) ≡ false
+      low : (x : X) (top : Option K) → fold (ord_max (option_cmp R)) None (map f xs) ≡ top → Contains xs x
+          → is_gt (option_cmp R (f x) top) ≡ false
       low x top is there =
           subst (λ t. is_gt (option_cmp R (f x) t) ≡ false) is
           (none_is_higher (options_total total) one_option None (map f xs) (f x) (in_mapped f xs x there))
@@ -138,7 +141,8 @@ module _ {K : Type 0} {R : K → K → Ordering} (total : IsTotalOrder R) (one :
       by : (top : Option K) → fold (ord_max (option_cmp R)) None (map f xs) ≡ top
           → fold (ord_max (option_cmp R)) None (map f xs) ≡ find (λ x. list_all (λ y. is_le (R y x)) (filter_map f xs)) (filter_map f xs)
       by None is =
-          is ∙ sym (ap (λ ys. find (λ x. list_all (λ y. is_le (R y x)) ys) ys) (nothing_filtered f xs (λ x there. none_by (f x) (low x None is there))))
+          is ∙ sym (ap (λ ys. find (λ x. list_all (λ y. is_le (R y x)) ys) ys)
+          (nothing_filtered f xs (λ x there. none_by (f x) (low x None is there))))
       by (Some t) is =
           is ∙ sym (find_one (λ x. list_all (λ y. is_le (R y x)) (filter_map f xs)) (filter_map f xs) t (among t is)
           (all_pass (λ y. is_le (R y t)) (filter_map f xs) (λ y there. le_by (R y t) (below y t is there)))
@@ -160,10 +164,12 @@ module _ (ranges : List MediaType) (offer : MediaType) where
   none_is_closer : (item : ℕ × MediaType) → Contains (enumerate_from 0 ranges) item
       → is_gt (option_cmp rank_cmp (closeness offer item) (kept_closest ranges offer)) ≡ false
   none_is_closer item there =
-      none_is_higher (options_total ranks_total) (one_option ranks_total one_rank) None (map (closeness offer) (enumerate_from 0 ranges)) (closeness offer item)
+      none_is_higher (options_total ranks_total) (one_option ranks_total one_rank) None (map (closeness offer) (enumerate_from 0 ranges))
+      (closeness offer item)
       (in_mapped (closeness offer) (enumerate_from 0 ranges) item there)
 
-  when_none : kept_closest ranges offer ≡ None → (item : ℕ × MediaType) → Contains (enumerate_from 0 ranges) item → closeness offer item ≡ None
+  when_none : kept_closest ranges offer ≡ None → (item : ℕ × MediaType) → Contains (enumerate_from 0 ranges) item
+      → closeness offer item ≡ None
   when_none is item there =
       none_by ranks_total one_rank (closeness offer item)
       (subst (λ top. is_gt (option_cmp rank_cmp (closeness offer item) top) ≡ false) is (none_is_closer item there))
@@ -229,13 +235,15 @@ module _ (all : List Rank) where
       let light : nat_lt 0 rank.0 ≡ false = grind (arith, nat_tests, no_more rank there, light_all) in rw light refl
 
   -- the highest rank is the best, and no other
-  one_best : (b : Bool) → ((highest all).0 == 0) ≡ false → (rank : Rank) → Contains all rank → eq_by_cmp rank_cmp rank (highest all) ≡ b → is_best rank ≡ b
+  one_best : (b : Bool) → ((highest all).0 == 0) ≡ false → (rank : Rank) → Contains all rank → eq_by_cmp rank_cmp rank (highest all) ≡ b
+      → is_best rank ≡ b
   one_best true weighs rank there level =
       let same = same_by ranks_total one_rank rank (highest all) (rank_cmp rank (highest all)) refl level in
       let heavy : nat_lt 0 (highest all).0 ≡ true = grind (arith, nat_tests, weighs) in
       subst (λ r. is_best r ≡ true) (sym same)
       (and_from (nat_lt 0 (highest all).0) _ heavy
-      (all_pass (λ other. is_le (rank_cmp other (highest all))) all (λ other among. le_by (rank_cmp other (highest all)) (not_above other among))))
+      (all_pass (λ other. is_le (rank_cmp other (highest all))) all
+      (λ other among. le_by (rank_cmp other (highest all)) (not_above other among))))
   one_best false weighs rank there apart = ⊎_elim
       (λ best.
       let parts = and_parts (nat_lt 0 rank.0) (list_all (λ other. is_le (rank_cmp other rank)) all) best in
@@ -244,7 +252,8 @@ module _ (all : List Rank) where
       (λ among.
       let low = gt_by (rank_cmp (highest all) rank) (each_passes (λ other. is_le (rank_cmp other rank)) all (highest all) parts.1 among) in
       let same : rank ≡ highest all = same_if_both ranks_total one_rank rank (highest all) (not_above rank there) low in
-      absurd (true≢false (sym (ap is_eq (tied_itself ranks_total (highest all))) ∙ subst (λ r. eq_by_cmp rank_cmp r (highest all) ≡ false) same apart)))
+      absurd (true≢false (sym (ap is_eq (tied_itself ranks_total (highest all))) ∙ subst
+      (λ r. eq_by_cmp rank_cmp r (highest all) ≡ false) same apart)))
       (highest_is_there ranks_total (0, 0, 0, 0) all))
       (λ isnt. isnt)
       (cases_Bool (is_best rank))
@@ -262,5 +271,6 @@ best_is_position all = go ((highest all).0 == 0) refl
         ∙ (same_position (is_best all) (λ rank. false) 0 all (none_weighs all (eqb-true (highest all).0 0 is)) ∙ never 0 all))
     go false is =
         rw is (position_from-zero (is_best all) all
-        ∙ (same_position (is_best all) (λ rank. eq_by_cmp rank_cmp rank (highest all)) 0 all (λ rank there. one_best all _ is rank there refl)
+        ∙ (same_position (is_best all) (λ rank. eq_by_cmp rank_cmp rank (highest all)) 0 all
+        (λ rank there. one_best all _ is rank there refl)
         ∙ sym (position_from-zero (λ rank. eq_by_cmp rank_cmp rank (highest all)) all)))

@@ -9,7 +9,7 @@ use Rattle.std.specs.List.{prefix_len}
 use lib.Count.{count_trailing_zeros}
 use lib.Lanes.{chunk, mask_l, top}
 use Rattle.mime_http.specs.Walk.{At, Outside, Equals, Quoted, Paired, after_outside, after, ends, cut_from, cut, cut_after, is_mark, AreUnmarked}
-use Rattle.mime_http.proofs.Cuts.{IsOutside, goes_on, comma_ends}
+use Rattle.mime_http.proofs.Passes.{IsOutside, goes_on, comma_ends}
 use Rattle.mime_http.proofs.Highest.{item_left}
 use Rattle.mime_http.proofs.Trims.{next_taken}
 
@@ -75,7 +75,8 @@ led_further line n within unmarked before =
       is_outside = outside_after b;
       so_far =
           sym (ap (λ m. cut_from (after_outside b) (take m line) (drop m line)) one)
-          ∙ (sym (ap (λ place. cut_from place (take (n + 1) line) (drop (n + 1) line)) (after_unmarked before.place before.is_outside b quote))
+          ∙ (sym (ap (λ place. cut_from place (take (n + 1) line) (drop (n + 1) line))
+          (after_unmarked before.place before.is_outside b quote))
           ∙ (sym (cut_goes_on before.place line n (omega (arith, within)) (goes_on before.place b comma)) ∙ before.so_far));
       first = λ none. absurd (omega (arith, none));
       later = λ some. ap (λ i. after_outside (get_or line i 0)) last;
@@ -126,7 +127,8 @@ stays_to place one other on still line from to least within unmarked =
     let n = to - from in
     let is : from + n ≡ to = omega (arith, least) in
     sym (ap (λ m. cut_from place (take m line) (drop m line)) is)
-    ∙ stays place one other on still line from n (omega (arith, within, least)) (λ k from_k to_k. unmarked k from_k (omega (arith, to_k, least)))
+    ∙ stays place one other on still line from n (omega (arith, within, least))
+    (λ k from_k to_k. unmarked k from_k (omega (arith, to_k, least)))
 
 -- outside strings any byte but a comma and an equals sign
 outside_on : (b : ℕ) → is_mark 44 61 b ≡ false → ends Outside b ≡ false
@@ -173,7 +175,8 @@ pub string_pair : (line : List ℕ) (at : ℕ) → at + 1 < length line → get_
 string_pair line at within backslash =
     let next : at + 1 + 1 ≡ at + 2 = omega arith in
     sym (ap (λ m. cut_from Quoted (take m line) (drop m line)) next)
-    ∙ (sym (cut_goes_on Paired line (at + 1) within refl) ∙ string_byte line at Paired (omega (arith, within)) (ap (after Quoted) backslash))
+    ∙ (sym (cut_goes_on Paired line (at + 1) within refl) ∙ string_byte line at Paired (omega (arith, within))
+    (ap (after Quoted) backslash))
 
 -- at the end all places are alike
 pub alike_at_end : (place other : At) (line : List ℕ) (at : ℕ) → length line ≤ at
@@ -198,7 +201,8 @@ equals_past line at within equals =
     ∙ sym (cut_goes_on Outside line at within (ap (ends Outside) equals))
 
 -- if no quote follows,
-pub equals_alone : (line : List ℕ) (at : ℕ) → at < length line → get_or line at 0 ≡ 61 → (at + 1 < length line → ¬ (get_or line (at + 1) 0 ≡ 34))
+pub equals_alone : (line : List ℕ) (at : ℕ) → at < length line → get_or line at 0 ≡ 61
+    → (at + 1 < length line → ¬ (get_or line (at + 1) 0 ≡ 34))
     → cut_from Outside (take (at + 1) line) (drop (at + 1) line) ≡ cut_from Outside (take at line) (drop at line)
 equals_alone line at within equals other =
     ⊎_elim

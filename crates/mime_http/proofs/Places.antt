@@ -167,7 +167,11 @@ list_walk (final n it) is =
 list_walk (more n it list) is =
     let read = parameter it is.1 in
     let rest = list_walk list is.2 in
-    record { to = rest.to; leads = both (walk_spaces before_name n is.0) (both read.leads (both (semicolon read.ends) rest.leads)); ends = rest.ends }
+    record {
+      to = rest.to;
+      leads = both (walk_spaces before_name n is.0) (both read.leads (both (semicolon read.ends) rest.leads));
+      ends = rest.ends;
+    }
 
 -- what follows an essence,
 tail : (it : Tail) → IsTail it → Walk EndsText Plain (text_of_tail it)

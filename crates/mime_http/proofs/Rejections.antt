@@ -33,7 +33,8 @@ rejected_at_next value fault left end next is here more =
 
 -- and if the library rejects what is left: the bytes before white space at the end,
 pub rejected_prefix : (value : List ℕ) (fault other : ParseError) (left : Tightening) (end next : ℕ) → IsTightening value fault left
-    → left ≡ Prefix end next → next ≡ length value → ¬ (IsAccepted (take end value)) → IsRejected value (record { left = left; fault = other })
+    → left ≡ Prefix end next → next ≡ length value → ¬ (IsAccepted (take end value))
+    → IsRejected value (record { left = left; fault = other })
 rejected_prefix value fault other left end next is here last rejected =
     let begins = subst (IsTightening value fault) here is in
     record {

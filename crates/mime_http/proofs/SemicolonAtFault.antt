@@ -20,7 +20,8 @@ IsBare Semicolon = ⊤
 IsBare place = ⊥
 
 -- a semicolon at fault isn't in quotes or after them
-semicolon_is_bare : (before : List ℕ) (begun : Begun) → walk before ≡ Some begun → before ≢ [] → grow begun 59 ≡ None → IsBare (place_at begun)
+semicolon_is_bare : (before : List ℕ) (begun : Begun) → walk before ≡ Some begun → before ≢ [] → grow begun 59 ≡ None
+    → IsBare (place_at begun)
 unfolding is_quoted_byte
 semicolon_is_bare before (in_type []) reached some stops = absurd (some (sym (spelled-from_walk before (in_type []) reached)))
 semicolon_is_bare before (in_type (t ∷ top)) reached some stops = tt
@@ -64,7 +65,8 @@ after_separator place b is bare = go (b == 59) refl
     go : (t : Bool) → (b == 59) ≡ t → place_after place b ≡ Semicolon
     go true semicolon =
         let same : 59 ≡ b = grind (arith, nat_tests) in
-        subst (λ x. place_after place x ≡ Semicolon) same (after_semicolon_bare place (subst (λ x. IsBare (place_after place x)) (sym same) bare))
+        subst (λ x. place_after place x ≡ Semicolon) same (after_semicolon_bare place
+        (subst (λ x. IsBare (place_after place x)) (sym same) bare))
     go false other = after_space_bare place b (rw other at is) bare
 
 -- and after another byte it isn't

@@ -1,5 +1,5 @@
 -- A media type whose kept text ends in a weight of one decimal, right after the essence, has no other parameter.
-use Rattle.std.proofs.Common.{◌≡◌, ◌∙◌, refl, sym, ap, arith, ℕ, Bool, true, List, [], ◌∷◌, ◌++◌, length, drop, get_or, Some, None, codes}
+use Rattle.std.proofs.Common.{◌≡◌, ◌∙◌, refl, sym, ap, arith, ℕ, suc, ◌+◌, Bool, true, List, [], ◌∷◌, ◌++◌, length, drop, get_or, Some, None, codes}
 use Rattle.std.specs.Prelude.{◌&&◌, ◌*◌, ◌-◌, if◌then◌else◌}
 use Rattle.std.specs.List.{list_all}
 use Rattle.std.proofs.lemmas.Slice.Eq.{HasBytesAt, text_from_reads}
@@ -102,6 +102,12 @@ DemandsNothing offer media d =
 demands_nothing : (offer media : MediaType) (d : ℕ) → media.pairs ≡ (113 ∷ [], 48 ∷ 46 ∷ d ∷ []) ∷ [] → DemandsNothing offer media d
 demands_nothing offer media d pairs = rw pairs refl
 
+-- bytes at a position and one more after them
+one_more_byte : (text bytes : List ℕ) (at end d : ℕ) → end ≡ at + length bytes → HasBytesAt text at bytes → get_or text end 0 ≡ d
+    → HasBytesAt text at (bytes ++ (d ∷ []))
+one_more_byte text [] at end d is has last = (ap (λ i. get_or text i 0) (omega (arith, is)) ∙ last, tt)
+one_more_byte text (b ∷ bytes) at end d is has last = (has.0, one_more_byte text bytes (suc at) end d (omega (arith, is)) has.1 last)
+
 -- both ways in which the weight is written
 module _ (offer media : MediaType) (rest : List ℕ) (reads : Reads media.kept media)
     (after : rest ≡ drop (length media.essence) media.kept) where
@@ -110,7 +116,7 @@ module _ (offer media : MediaType) (rest : List ℕ) (reads : Reads media.kept m
   at_once long bytes digit =
       let d = get_or rest 5 0 in
       let whole : rest ≡ 59 ∷ 113 ∷ 61 ∷ 48 ∷ 46 ∷ d ∷ [] =
-      text_from_reads rest _ long (bytes.0, (bytes.1.0, (bytes.1.1.0, (bytes.1.1.1.0, (bytes.1.1.1.1.0, (refl, tt)))))) in
+      text_from_reads rest _ long (one_more_byte rest (59 ∷ 113 ∷ 61 ∷ 48 ∷ 46 ∷ []) 0 5 d refl bytes refl) in
       demands_nothing offer media d (weight_alone media rest [] d reads after whole refl digit)
 
   pub after_a_space : length rest ≡ 7 → HasBytesAt rest 0 (59 ∷ 32 ∷ 113 ∷ 61 ∷ 48 ∷ 46 ∷ []) → is_ascii_digit (get_or rest 6 0) ≡ true
@@ -118,8 +124,7 @@ module _ (offer media : MediaType) (rest : List ℕ) (reads : Reads media.kept m
   after_a_space long bytes digit =
       let d = get_or rest 6 0 in
       let whole : rest ≡ 59 ∷ 32 ∷ 113 ∷ 61 ∷ 48 ∷ 46 ∷ d ∷ [] =
-      text_from_reads rest _ long
-      (bytes.0, (bytes.1.0, (bytes.1.1.0, (bytes.1.1.1.0, (bytes.1.1.1.1.0, (bytes.1.1.1.1.1.0, (refl, tt))))))) in
+      text_from_reads rest _ long (one_more_byte rest (59 ∷ 32 ∷ 113 ∷ 61 ∷ 48 ∷ 46 ∷ []) 0 6 d refl bytes refl) in
       demands_nothing offer media d (weight_alone media rest (32 ∷ []) d reads after whole refl digit)
 
 -- a weight of one decimal in thousandths

@@ -45,12 +45,14 @@ fourth a b c d same = ap (ordering_then (ordering_then a b)) same
 
 -- and so are ranks
 same_rank_order : (k : ℕ) (x y : Rank) → rank_cmp (shifted_rank k x) (shifted_rank k y) ≡ rank_cmp x y
-same_rank_order k x y = ap (ordering_then (ordering_then (ordering_then (nat_cmp x.0 y.0) (nat_cmp x.1 y.1)) (nat_cmp x.2 y.2))) (same_order k x.3 y.3)
+same_rank_order k x y =
+    ap (ordering_then (ordering_then (ordering_then (nat_cmp x.0 y.0) (nat_cmp x.1 y.1)) (nat_cmp x.2 y.2))) (same_order k x.3 y.3)
 
 -- ---- maps that keep an order
 
 -- all values pass a test if all that they are made of do
-all_mapped : {X Y : Type 0} (f : X → Y) (p : Y → Bool) (q : X → Bool) → ((x : X) → p (f x) ≡ q x) → (xs : List X) → list_all p (map f xs) ≡ list_all q xs
+all_mapped : {X Y : Type 0} (f : X → Y) (p : Y → Bool) (q : X → Bool) → ((x : X) → p (f x) ≡ q x) → (xs : List X)
+    → list_all p (map f xs) ≡ list_all q xs
 all_mapped f p q same [] = refl
 all_mapped f p q same (x ∷ xs) = ap (λ b. b && list_all p (map f xs)) (same x) ∙ ap (λ b. q x && b) (all_mapped f p q same xs)
 
@@ -76,7 +78,8 @@ place_mapped f p q same at (x ∷ xs) =
 -- ---- what covers an offer
 
 -- how closely a range covers an offer, once it stands elsewhere
-covers_so : (offer range : MediaType) (k at : ℕ) → closeness offer (shifted k at, range) ≡ option_map (shifted_rank k) (closeness offer (at, range))
+covers_so : (offer range : MediaType) (k at : ℕ)
+    → closeness offer (shifted k at, range) ≡ option_map (shifted_rank k) (closeness offer (at, range))
 covers_so offer range k at =
     elim (list_all (has offer) (demanded range.pairs)) as (λ all. (if all
     then option_map (λ named. (named, length (demanded range.pairs), weight_of range, shifted k at)) (named_parts range offer) else None)
@@ -98,13 +101,15 @@ covers_none offer range at none = go (list_all (has offer) (demanded range.pairs
     close : ℕ → ℕ → Rank
     close at named = (named, length (demanded range.pairs), weight_of range, at)
 
-    go : (all : Bool) (named : Option ℕ) → (if all then option_map (close 0) named else None) ≡ None → (if all then option_map (close at) named else None) ≡ None
+    go : (all : Bool) (named : Option ℕ) → (if all then option_map (close 0) named else None) ≡ None
+        → (if all then option_map (close at) named else None) ≡ None
     go false named is = refl
     go true None is = refl
     go true (Some n) is = absurd (true≢false (ap is_some is))
 
 -- a value before values
-onto_mapped : {X Y : Type 0} (f : X → Y) (first : Option X) (rest : List X) → cons_option (option_map f first) (map f rest) ≡ map f (cons_option first rest)
+onto_mapped : {X Y : Type 0} (f : X → Y) (first : Option X) (rest : List X)
+    → cons_option (option_map f first) (map f rest) ≡ map f (cons_option first rest)
 onto_mapped f None rest = refl
 onto_mapped f (Some x) rest = refl
 
@@ -134,7 +139,8 @@ module _ (offer : MediaType) where
         ∙ (ap (cons_option (option_map (shifted_rank k) (closeness offer (at, first)))) (one_more k (at + 1) before (omega (arith, long)))
         ∙ onto_mapped (shifted_rank k) (closeness offer (at, first)) (covering (at + 1) (before ++ after)))
 
-    still_closest : (before : List MediaType) → closest (before ++ (range ∷ after)) offer ≡ option_map (shifted_rank (length before)) (closest (before ++ after) offer)
+    still_closest : (before : List MediaType)
+        → closest (before ++ (range ∷ after)) offer ≡ option_map (shifted_rank (length before)) (closest (before ++ after) offer)
     still_closest before =
         let k = length before in
         let old = covering 0 (before ++ after) in
@@ -192,22 +198,26 @@ module _ (before after : List MediaType) (range : MediaType) where
   abbrev merit_by : ℕ → Option Rank → Rank
   merit_by long found = unwrap_or (option_map (λ close. (close.2, close.0, close.1, long - close.3)) found) (0, 0, 0, 0)
 
-  raised_by : (found : Option Rank) → merit_by (length with_it) (option_map (shifted_rank (length before)) found) ≡ raise (merit_by (length (before ++ after)) found)
+  raised_by : (found : Option Rank)
+      → merit_by (length with_it) (option_map (shifted_rank (length before)) found) ≡ raise (merit_by (length (before ++ after)) found)
   raised_by None = sym none_stays
   raised_by (Some close) =
-      let early : length with_it - shifted (length before) close.3 ≡ raised (length before) (length (before ++ after)) (length (before ++ after) - close.3) =
+      let early : length with_it - shifted (length before) close.3 ≡ raised (length before) (length (before ++ after))
+      (length (before ++ after) - close.3) =
       ap (λ n. n - shifted (length before) close.3) longer ∙ early_so (length before) (length (before ++ after)) close.3 within in
       λ i. (close.2, close.0, close.1, early i)
 
   merit_so : (offer : MediaType) → closeness offer (0, range) ≡ None → merit with_it offer ≡ raise (merit (before ++ after) offer)
-  merit_so offer none = ap (merit_by (length with_it)) (still_closest offer range none after before) ∙ raised_by (closest (before ++ after) offer)
+  merit_so offer none =
+      ap (merit_by (length with_it)) (still_closest offer range none after before) ∙ raised_by (closest (before ++ after) offer)
 
   merits_so : (offers : List MediaType) → ((offer : MediaType) → Contains offers offer → closeness offer (0, range) ≡ None)
       → map (merit with_it) offers ≡ map raise (map (merit (before ++ after)) offers)
   merits_so [] none = refl
   merits_so (offer ∷ offers) none =
       ap (λ first. first ∷ map (merit with_it) offers) (merit_so offer (none offer (zero, omega arith, refl)))
-      ∙ ap (λ rest. raise (merit (before ++ after) offer) ∷ rest) (merits_so offers (λ other there. none other (in_more offer offers other there)))
+      ∙ ap (λ rest. raise (merit (before ++ after) offer) ∷ rest)
+      (merits_so offers (λ other there. none other (in_more offer offers other there)))
 
   -- whether a rank is the best
   abbrev is_best : List Rank → Rank → Bool
@@ -217,7 +227,8 @@ module _ (before after : List MediaType) (range : MediaType) where
   same_best all =
       position_from-zero (is_best (map raise all)) (map raise all)
       ∙ (place_mapped raise (is_best (map raise all)) (is_best all)
-      (λ one. ap (λ b. nat_lt 0 one.0 && b) (all_mapped raise (λ other. is_le (rank_cmp other (raise one))) (λ other. is_le (rank_cmp other one))
+      (λ one. ap (λ b. nat_lt 0 one.0 && b) (all_mapped raise (λ other. is_le (rank_cmp other (raise one)))
+      (λ other. is_le (rank_cmp other one))
       (λ other. ap is_le (same_merit_order (length before) (length (before ++ after)) other one)) all)) 0 all
       ∙ sym (position_from-zero (is_best all) all))
 
@@ -235,7 +246,8 @@ module _ (before after : List MediaType) (range : MediaType) where
         ≡ rank_cmp (merit_at (before ++ after) offers at) (merit_at (before ++ after) offers other)
     same_place_order at other =
         (λ i. rank_cmp (place_so at i) (place_so other i))
-        ∙ same_merit_order (length before) (length (before ++ after)) (merit_at (before ++ after) offers at) (merit_at (before ++ after) offers other)
+        ∙ same_merit_order (length before) (length (before ++ after)) (merit_at (before ++ after) offers at)
+        (merit_at (before ++ after) offers other)
 
     still_before : (at other : ℕ)
         → (is_gt (rank_cmp (merit_at (before ++ after) offers at) (merit_at (before ++ after) offers other)) ≡ true)
@@ -259,7 +271,8 @@ module _ (before after : List MediaType) (range : MediaType) where
 pub stranger_changes_nothing : StrangerChangesNothing
 stranger_changes_nothing before after offers range none = (
   λ offer there. ap (λ (rank : Rank). rank.0) (merit_so before after range offer (none offer there)),
-  ap (λ all. position (λ one. nat_lt 0 one.0 && list_all (λ other. is_le (rank_cmp other one)) all) all) (merits_so before after range offers none)
+  ap (λ all. position (λ one. nat_lt 0 one.0 && list_all (λ other. is_le (rank_cmp other one)) all) all)
+      (merits_so before after range offers none)
       ∙ same_best before after range (map (merit (before ++ after)) offers),
   still_in_order before after range offers none,
 )

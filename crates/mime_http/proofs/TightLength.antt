@@ -25,7 +25,13 @@ adds_no_more place b = grind arith
 no_longer-from : (place : Place) (bytes : List ℕ) → length (tight_from place bytes) ≤ length bytes + owed place
 no_longer-from place [] = omega arith
 no_longer-from place (b ∷ bytes) =
-    omega (arith, adds_no_more place b, no_longer-from (place_after place b) bytes, length-append (added place b) (tight_from (place_after place b) bytes))
+    omega (
+      arith,
+      adds_no_more place b,
+      no_longer-from (place_after place b) bytes,
+      length-append (added place b)
+          (tight_from (place_after place b) bytes),
+    )
 
 -- and what comes out of a value is no longer than it
 pub no_longer : (value : List ℕ) → length (tight value) ≤ length value

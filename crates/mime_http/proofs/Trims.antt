@@ -129,7 +129,8 @@ trim_end-other (c ∷ bytes) b other =
     never_all (d ∷ bytes) = ap (λ t. is_space d && t) (never_all bytes) ∙ nowhere (is_space d)
 
 -- the same, counted to the end
-last_taken : (piece : List ℕ) (end : ℕ) → 0 < end → end ≤ length piece → take (end - 1) piece ++ (get_or piece (end - 1) 0 ∷ []) ≡ take end piece
+last_taken : (piece : List ℕ) (end : ℕ) → 0 < end → end ≤ length piece
+    → take (end - 1) piece ++ (get_or piece (end - 1) 0 ∷ []) ≡ take end piece
 last_taken piece end some within =
     let back : end - 1 + 1 ≡ end = omega (arith, some) in
     next_taken piece (end - 1) (omega (arith, some, within)) ∙ ap (λ n. take n piece) back

@@ -121,10 +121,13 @@ module _ (value : List ℕ) (pos b : ℕ) (space : LaterSpace value pos b) where
       let adds : added Spaced c ≡ 32 ∷ c ∷ [] = rw (other, semicolon) refl in
       let text : tight (front ++ (c ∷ [])) ≡ (begin ++ (32 ∷ [])) ++ (c ∷ []) =
       tight_one front c ∙ (ap (λ x. x ++ added (place_from Start front) c) (comes_alone white all)
-      ∙ (ap (λ x. begin ++ x) (ap (λ place. added place c) (spaced_there white all) ∙ adds) ∙ sym (append_assoc begin (32 ∷ []) (c ∷ [])))) in
-      no_space_after (prefix_of_viable_is_viable (begin ++ (32 ∷ [])) (c ∷ []) (subst IsViable text (tight_from_viable (front ++ (c ∷ [])) viable)))
+      ∙ (ap (λ x. begin ++ x) (ap (λ place. added place c) (spaced_there white all) ∙ adds) ∙ sym
+      (append_assoc begin (32 ∷ []) (c ∷ [])))) in
+      no_space_after (prefix_of_viable_is_viable (begin ++ (32 ∷ [])) (c ∷ [])
+      (subst IsViable text (tight_from_viable (front ++ (c ∷ [])) viable)))
 
-  module _ (here : slice_get value pos ≡ Some b) (below : b < 128) (white rest : List ℕ) (all : AreSpaces white) (split : drop (pos + 1) value ≡ white ++ rest)
+  module _ (here : slice_get value pos ≡ Some b) (below : b < 128) (white rest : List ℕ) (all : AreSpaces white)
+      (split : drop (pos + 1) value ≡ white ++ rest)
       (other : (c : ℕ) (more : List ℕ) → rest ≡ c ∷ more → (is_space c ≡ false) × ((c == 59) ≡ false)) where
     abbrev front : List ℕ
     front = begin ++ (b ∷ white)
@@ -192,7 +195,8 @@ pub begins : (value : List ℕ) (pos b : ℕ) → IsDeadAt value pos b → 0 < p
     → Begins value pos (length value - length (trim_start (drop (pos + 1) value)))
 begins value pos b dead some white no_semicolon =
     let split = split_white (drop (pos + 1) value) in
-    begins_so value pos b (later value pos b dead some white) dead.there (below_128 b white) split.0 (trim_start (drop (pos + 1) value)) split.1 split.2
+    begins_so value pos b (later value pos b dead some white) dead.there (below_128 b white) split.0
+    (trim_start (drop (pos + 1) value)) split.1 split.2
     (λ c more is. (no_more_white (drop (pos + 1) value) c more is, other_byte_than c more is))
   where
     other_byte_than : (c : ℕ) (more : List ℕ) → trim_start (drop (pos + 1) value) ≡ c ∷ more → (c == 59) ≡ false

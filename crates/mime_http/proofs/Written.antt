@@ -54,7 +54,8 @@ parameter-lowered (name, value) =
 parameter_pair : (pair : List ℕ × List ℕ) → pair_of (parameter_of pair) ≡ pair
 unfolding parameter_of
 parameter_pair (name, value) =
-    elim (is_token_value value) as (λ b. pair_of (cond b (plain name value) (quoted name value [])) ≡ (name, value)) [ true ↦ refl | false ↦ refl ]
+    elim (is_token_value value) as (λ b. pair_of (cond b (plain name value) (quoted name value [])) ≡
+    (name, value)) [ true ↦ refl | false ↦ refl ]
 
 -- ---- a list of one or more
 
@@ -64,7 +65,8 @@ list_of pair [] = final (32 ∷ []) (parameter_of pair)
 list_of pair (next ∷ pairs) = more (32 ∷ []) (parameter_of pair) (list_of next pairs)
 
 -- its text is theirs,
-list_text : (pair : List ℕ × List ℕ) (pairs : List (List ℕ × List ℕ)) → 59 ∷ text_of_list (list_of pair pairs) ≡ text_of_pairs (pair ∷ pairs)
+list_text : (pair : List ℕ × List ℕ) (pairs : List (List ℕ × List ℕ))
+    → 59 ∷ text_of_list (list_of pair pairs) ≡ text_of_pairs (pair ∷ pairs)
 unfolding list_of
 list_text pair [] = parameter_text pair ∙ sym (append-nil (text_of_pair pair))
 list_text pair (next ∷ pairs) =
@@ -72,7 +74,8 @@ list_text pair (next ∷ pairs) =
     ∙ ap (λ text. text ++ text_of_pairs (next ∷ pairs)) (parameter_text pair)
 
 -- it is well-formed if they are safe,
-list_fine : (pair : List ℕ × List ℕ) (pairs : List (List ℕ × List ℕ)) → AllByRecursion IsSafePair (pair ∷ pairs) → AreParameters (list_of pair pairs)
+list_fine : (pair : List ℕ × List ℕ) (pairs : List (List ℕ × List ℕ)) → AllByRecursion IsSafePair (pair ∷ pairs)
+    → AreParameters (list_of pair pairs)
 unfolding list_of
 list_fine pair [] (is, all) = (refl, parameter_fine pair is)
 list_fine pair (next ∷ pairs) (is, all) = (refl, parameter_fine pair is, list_fine next pairs all)
@@ -96,9 +99,11 @@ list_pairs pair (next ∷ pairs) = cc (parameter_pair pair, list_pairs next pair
 pub written_is_read : (text : List ℕ) (value : MediaType) (pairs : List (List ℕ × List ℕ)) → Reads text value
     → AllByRecursion IsSafePair pairs → Reads (value.essence ++ text_of_pairs pairs) (with_pairs value (map lowered_pair pairs))
 written_is_read text value [] reads safe =
-    subst (λ essence. Reads essence (record value { pairs = []; kept = essence })) (sym (append-nil value.essence)) (essence_is_read text value reads)
+    subst (λ essence. Reads essence (record value { pairs = []; kept = essence })) (sym (append-nil value.essence))
+    (essence_is_read text value reads)
 written_is_read text value (pair ∷ pairs) reads safe =
-    subst (λ (v : MediaType). Reads (v.essence ++ text_of_pairs (pair ∷ pairs)) (with_pairs v (map lowered_pair (pair ∷ pairs)))) reads.valued
+    subst (λ (v : MediaType). Reads (v.essence ++ text_of_pairs (pair ∷ pairs)) (with_pairs v (map lowered_pair (pair ∷ pairs))))
+    reads.valued
     (record {
       tree = tree;
       well_formed = (

@@ -46,7 +46,8 @@ loop-at-preserved-then-line-at-eq34 c =
     record {
       within = c.string_end-at.ensures.within;
       left = c.string_end-at.ensures.left ∙ (string_opens line next.result c.if-at-line-2.true equals c.if-line-at-eq34.true
-          ∙ (outside_run line c.loop-at.at next.result next.ensures.least next.ensures.within next.ensures.unmarked ∙ c.loop-at.invariant.left));
+          ∙ (outside_run line c.loop-at.at next.result next.ensures.least next.ensures.within next.ensures.unmarked
+          ∙ c.loop-at.invariant.left));
     }
 
 pub loop-at-preserved : goal.loop-at-preserved
@@ -55,11 +56,14 @@ loop-at-preserved c =
     let next = c.next_outside-at in
     let within : next.result < length line = omega (arith, c.if-at-line.false, next.ensures.within) in
     let equals : get_or line next.result 0 ≡ 61 = grind (arith, nat_tests, next.ensures.mark within, c.if-line-at-eq44.false) in
-    let so_far = outside_run line c.loop-at.at next.result next.ensures.least next.ensures.within next.ensures.unmarked ∙ c.loop-at.invariant.left in
+    let so_far = outside_run line c.loop-at.at next.result next.ensures.least next.ensures.within next.ensures.unmarked
+    ∙ c.loop-at.invariant.left in
     record {
       within = omega (arith, within);
       left = elim c.else-at-line-2.branch [
-        | else-at-line-2-via-then-at-line-2+else-line-at-eq34 w ↦ equals_alone line next.result within equals (λ _. w.if-line-at-eq34.false) ∙ so_far
-        | else-at-line-2-via-else-at-line-2 w ↦ equals_alone line next.result within equals (λ more. absurd (omega (arith, more, w.if-at-line-2.false))) ∙ so_far
+        | else-at-line-2-via-then-at-line-2+else-line-at-eq34 w ↦ equals_alone line next.result within equals
+            (λ _. w.if-line-at-eq34.false) ∙ so_far
+        | else-at-line-2-via-else-at-line-2 w ↦ equals_alone line next.result within equals
+            (λ more. absurd (omega (arith, more, w.if-at-line-2.false))) ∙ so_far
       ];
     }

@@ -18,7 +18,8 @@ returns c =
     let end = c.loop-end.end in
     elim c.loop-end-test.branch [
       | then-loop-end-test+else-is_space w ↦
-          end_at_other piece end w.loop-end-test.true c.loop-end.invariant.0 (sym w.is_space.ensures ∙ w.if-is_space.false) ∙ c.loop-end.invariant.1
+          end_at_other piece end w.loop-end-test.true c.loop-end.invariant.0 (sym w.is_space.ensures ∙ w.if-is_space.false)
+          ∙ c.loop-end.invariant.1
       | else-loop-end-test w ↦
           let none : end ≡ 0 = omega (arith, w.loop-end-test.false) in
           ap (λ n. take n piece) none ∙ (ap (λ n. trim_end (take n piece)) (sym none) ∙ c.loop-end.invariant.1)

@@ -24,12 +24,14 @@ loop-at-preserved c =
     let at = c.loop-at.at in
     let offers = map (λ offer. offer.media) c.args.offers.now in
     let next_media = mapped_left merit_of offers at _
-    (mapped_left (λ offer. offer.media) c.args.offers.now at _ (first_left c.args.offers.now at _ c.loop-at-test.true c.index-offers-at.is)) in
+    (mapped_left (λ offer. offer.media) c.args.offers.now at _
+    (first_left c.args.offers.now at _ c.loop-at-test.true c.index-offers-at.is)) in
     let all = map merit_of offers in
     let found = c.merit-merit.result in
     let next = next_media ∙ ap (λ merit. merit ∷ drop (at + 1) all) (sym c.merit-merit.ensures) in
     let above : c.gt.result ≡ is_gt (rank_cmp found c.loop-at.most) =
-    c.gt.ensures ∙ gt_of_ranks (nat_cmp found.0 c.loop-at.most.0) (nat_cmp found.1 c.loop-at.most.1) (nat_cmp found.2 c.loop-at.most.2) (nat_cmp found.3 c.loop-at.most.3) in
+    c.gt.ensures ∙ gt_of_ranks (nat_cmp found.0 c.loop-at.most.0) (nat_cmp found.1 c.loop-at.most.1) (nat_cmp found.2 c.loop-at.most.2)
+    (nat_cmp found.3 c.loop-at.most.3) in
     let So = Highest ranks_total one_rank (0, 0, 0, 0) all (at + 1) in
     elim c.if-gt.branch [
       | then-gt w ↦ record {
@@ -46,7 +48,8 @@ loop-at-preserved c =
     ]
 
 pub returns-then-most-gt0-clause-within : goal.returns-then-most-gt0-clause-within
-returns-then-most-gt0-clause-within c = below c.loop-at.best c.loop-at.at (length c.args.offers.now) c.loop-at.auto.at-end c.loop-at.invariant.within
+returns-then-most-gt0-clause-within c =
+    below c.loop-at.best c.loop-at.at (length c.args.offers.now) c.loop-at.auto.at-end c.loop-at.invariant.within
 
 -- what the loop found is what a fold over the offers finds
 abbrev Found : List Rank → Option ℕ → Type 0

@@ -8,6 +8,7 @@ use Rattle.mime_http.proofs.offers.best_of.Given as goal
 
 abbrev pub invariant-loop-at : goal.invariant-loop-at
 invariant-loop-at l = record {
-  first : Highest ranks_total one_rank (0, 0, 0, 0) (map (merit (map (λ range. range.media) l.ranges)) (map (λ offer. offer.media) l.offers)) l.at l.most l.best;
+  first : Highest ranks_total one_rank (0, 0, 0, 0)
+      (map (merit (map (λ range. range.media) l.ranges)) (map (λ offer. offer.media) l.offers)) l.at l.most l.best;
   within : IfSome l.best (λ best. best < l.at);
 }

@@ -17,7 +17,8 @@ loop-at-preserved c =
     let higher = ord_max (option_cmp rank_cmp) in
     let close = closeness c.args.offer.now.media in
     let at = c.loop-at.at in
-    let next = mapped_left (λ range. range.media) c.args.ranges.now at _ (first_left c.args.ranges.now at _ c.loop-at-test.true c.index-ranges-at.is) in
+    let next = mapped_left (λ range. range.media) c.args.ranges.now at _
+    (first_left c.args.ranges.now at _ c.loop-at-test.true c.index-ranges-at.is) in
     ap (λ found. fold higher found (map close (enumerate_from (at + 1) (drop (at + 1) (map (λ range. range.media) c.args.ranges.now)))))
     (c.look_at.ensures ∙ ap (λ media. higher c.loop-at.closest (closeness media (at, c.index-ranges-at.result.media))) c.of-parts.ensures)
     ∙ (sym (ap (λ ranges. fold higher c.loop-at.closest (map close (enumerate_from at ranges))) next) ∙ c.loop-at.invariant)

@@ -47,7 +47,8 @@ loop-at-preserved c =
     ]
 
 -- what is in order is what comes back
-when_ok : {V E : Type 0} (items : V → List ℕ) (ranges offers : List MediaType) (order : List ℕ) (result : Result V E) → AreInOrder ranges offers order
+when_ok : {V E : Type 0} (items : V → List ℕ) (ranges offers : List MediaType) (order : List ℕ) (result : Result V E)
+    → AreInOrder ranges offers order
     → IfOk result (λ v. items v ≡ order) → IfOk result (λ v. AreInOrder ranges offers (items v))
 when_ok items ranges offers order (Ok v) are is = subst (AreInOrder ranges offers) (sym is) are
 when_ok items ranges offers order (Err e) are is = is
@@ -57,10 +58,14 @@ returns-clause-order c =
     let ranges = map (λ range. range.media) c.args.ranges.now in
     let offers = map (λ offer. offer.media) c.args.offers.now in
     let all = map (merit ranges) offers in
-    let past : length all ≤ c.loop-at.at = omega (arith, length-map offers (merit ranges), length-map c.args.offers.now (λ offer. offer.media)) in
+    let past : length all ≤ c.loop-at.at =
+    omega (arith, length-map offers (merit ranges), length-map c.args.offers.now (λ offer. offer.media)) in
     let whole : map entry_of (vec_items c.loop-at.ranked) ≡ weighing 0 all =
     sym (append-nil (map entry_of (vec_items c.loop-at.ranked)))
-    ∙ (ap (λ ranks. map entry_of (vec_items c.loop-at.ranked) ++ weighing c.loop-at.at ranks) (sym (drop_of_length-le all past)) ∙ c.loop-at.invariant) in
+    ∙ (ap (λ ranks. map entry_of (vec_items c.loop-at.ranked) ++ weighing c.loop-at.at ranks) (sym (drop_of_length-le all past))
+    ∙ c.loop-at.invariant) in
     when_ok vec_items ranges offers _ c.positions.result
-    (are_in_order ranges offers (vec_items c.loop-at.ranked) (vec_items c.sort.new.self) whole c.in_ok-sort.ensures.permutation c.in_ok-sort.ensures.sorted)
-    (subst (λ sorted. IfOk c.positions.result (λ order. vec_items order ≡ map (λ offer. offer.1) sorted)) c.deref.ensures.value c.positions.ensures)
+    (are_in_order ranges offers (vec_items c.loop-at.ranked)
+    (vec_items c.sort.new.self) whole c.in_ok-sort.ensures.permutation c.in_ok-sort.ensures.sorted)
+    (subst (λ sorted. IfOk c.positions.result (λ order. vec_items order ≡ map
+    (λ offer. offer.1) sorted)) c.deref.ensures.value c.positions.ensures)

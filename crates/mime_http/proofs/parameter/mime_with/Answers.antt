@@ -26,10 +26,18 @@ is_written media name value text form fits made =
     ∙ and_last media.essence pairs (name, escaped value)
 
 -- so it has as many bytes as parameters, at least
-fits_text : (essence text : List ℕ) (pairs : List (List ℕ × List ℕ)) (pair : List ℕ × List ℕ) → text ≡ essence ++ text_of_pairs (pairs ++ (pair ∷ []))
+fits_text : (essence text : List ℕ) (pairs : List (List ℕ × List ℕ)) (pair : List ℕ × List ℕ)
+    → text ≡ essence ++ text_of_pairs (pairs ++ (pair ∷ []))
     → length pairs + 1 ≤ length text
 fits_text essence text pairs pair is =
-    omega (arith, ap length is, length-append essence (text_of_pairs (pairs ++ (pair ∷ []))), pairs_within_text (pairs ++ (pair ∷ [])), length-append pairs (pair ∷ []))
+    omega (
+      arith,
+      ap length is,
+      length-append essence (text_of_pairs (pairs ++ (pair ∷ []))),
+      pairs_within_text
+          (pairs ++ (pair ∷ [])),
+      length-append pairs (pair ∷ []),
+    )
 
 -- there is one parameter more than those of other names
 one_more : (media : MediaType) (name content : List ℕ)
@@ -38,7 +46,8 @@ one_more media name content =
     rw (lowered-lowered name) (length-append (others name media.pairs) ((lowered name, content) ∷ []))
 
 -- what is written is read as the media type with the parameter
-is_read : (media : MediaType) (name value text : List ℕ) → {kept : List ℕ} → Reads kept media → IsSafe media → IsToken name → AreHeaderBytes value
+is_read : (media : MediaType) (name value text : List ℕ) → {kept : List ℕ} → Reads kept media → IsSafe media → IsToken name
+    → AreHeaderBytes value
     → text ≡ media.essence ++ text_of_pairs (others name media.pairs ++ ((name, escaped value) ∷ []))
     → Reads text (with_pair media (lowered name) (lowered_value name (escaped value)))
 is_read media name value text reads header named safe is =

@@ -18,7 +18,8 @@ loop-other-preserved c =
     ≡ string_bytes c.loop-other.text ++ text_in c.form_of_content.result name kept = search rules in
     let written = pushed ∙ ap (λ form. string_bytes c.loop-other.text ++ text_in form name kept) c.form_of_content.ensures
     ∙ ap (λ last. string_bytes c.loop-other.text ++ last) (kept_text name kept) in
-    subst (λ text. Left c.args.name.now (c.args.mime.now.media.essence ++ text_of_pairs (others c.args.name.now c.args.mime.now.media.pairs)) text
+    subst (λ text. Left c.args.name.now (c.args.mime.now.media.essence ++ text_of_pairs
+    (others c.args.name.now c.args.mime.now.media.pairs)) text
     (length (others c.args.name.now c.args.mime.now.media.pairs)) (c.loop-other.count + 1) c.next.new.self) (sym written)
     (copied c.loop-other.invariant first differ).1
 

@@ -26,5 +26,6 @@ unfolding is_token_byte
 returns-clause-made c =
     let charset = c.args.charset.now in
     let plain = token_is_plain charset (token_from_test charset (search rules)) in
-    let made : c.in_ok-mime_with.field-0.media ≡ with_pair c.args.mime.now.media (codes "charset") (lowered (escaped charset)) = search rules in
+    let made : c.in_ok-mime_with.field-0.media ≡ with_pair c.args.mime.now.media (codes "charset") (lowered (escaped charset)) =
+    search rules in
     made ∙ ap (λ bytes. with_pair c.args.mime.now.media (codes "charset") (lowered bytes)) plain

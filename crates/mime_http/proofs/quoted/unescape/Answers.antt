@@ -27,7 +27,8 @@ returns-in-Some-clause-meant c =
     ∙ ap (take end) (take-append_seam moved (drop (length moved) c.extend_from_slice.new.self.items)) in
     let before : c.deref_mut.result.now ≡ vec_items c.args.buffer.now ++ value = search rules in
     let start : c.len-start.result ≡ length (vec_items c.args.buffer.now) = search rules in
-    kept ∙ subst (λ bytes. take end moved ≡ take (c.len-start.result + c.in-Some.first) bytes ++ unescaped (drop (c.len-start.result + c.in-Some.first) bytes)) before c.unescape_in_place-end.ensures.meant
+    kept ∙ subst (λ bytes. take end moved ≡ take (c.len-start.result + c.in-Some.first) bytes ++ unescaped
+    (drop (c.len-start.result + c.in-Some.first) bytes)) before c.unescape_in_place-end.ensures.meant
     ∙ unescaped_end (vec_items c.args.buffer.now) value c.len-start.result c.in-Some.first start (omega (arith, first.0)) first.2
 
 pub returns-in_default-clause-meant : goal.returns-in_default-clause-meant

@@ -14,7 +14,8 @@ text_of_first None value = refl
 text_of_first (Some text) value = refl
 
 -- what is returned is what was found
-found_as : (weight : Option (Bor (List ℕ))) (count thousandths : ℕ) → thousandths ≡ unwrap_or (option_map (λ text. thousandths_of text.now) weight) 1000
+found_as : (weight : Option (Bor (List ℕ))) (count thousandths : ℕ)
+    → thousandths ≡ unwrap_or (option_map (λ text. thousandths_of text.now) weight) 1000
     → Some (count, thousandths) ≡ found_of count (option_map (λ text. text.now) weight)
 found_as None count thousandths is = rw is refl
 found_as (Some text) count thousandths is = rw is refl

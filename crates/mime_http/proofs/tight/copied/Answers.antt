@@ -9,7 +9,8 @@ use Rattle.mime_http.proofs.HttpText.{tight_utf8}
 use Rattle.mime_http.proofs.tight.copied.Goals as goal
 
 -- after the last byte all came out
-all_out : (out rest value : List ℕ) (place : Place) (n : ℕ) → length rest ≤ n → out ++ tight_from place (drop n rest) ≡ tight value → out ≡ tight value
+all_out : (out rest value : List ℕ) (place : Place) (n : ℕ) → length rest ≤ n → out ++ tight_from place (drop n rest) ≡ tight value
+    → out ≡ tight value
 all_out out rest value place n past invariant =
     sym (append-nil out) ∙ (ap (λ xs. out ++ tight_from place xs) (sym (drop_all n rest past)) ∙ invariant)
 

@@ -23,7 +23,8 @@ record FaultAt (value : List ℕ) (fault : ParseError) (pos byte : ℕ) : Type 0
   here : get_or value pos 0 ≡ byte
 
 -- so it does
-fault_at : (value : List ℕ) (fault : ParseError) (pos byte : ℕ) → IsFault value fault → fault ≡ InvalidToken pos byte → FaultAt value fault pos byte
+fault_at : (value : List ℕ) (fault : ParseError) (pos byte : ℕ) → IsFault value fault → fault ≡ InvalidToken pos byte
+    → FaultAt value fault pos byte
 fault_at value fault pos byte at is =
     let dead : IsDeadAt value pos byte = subst (IsFault value) is at in
     record { dead = dead; here = get_or_from_slice_get value pos byte 0 dead.there }
@@ -81,7 +82,8 @@ returns-in_default-byte-clause-left c =
     let stands : Stands value (InvalidToken pos byte) =
     elim c.in_default-byte.branch [
       | in_default-byte-via-in-59+else-ends_in_semicolon_or_space w ↦
-          first_semicolon value pos byte at.dead w.in-59.is (sym w.ends_in_semicolon_or_space.ensures ∙ w.if-ends_in_semicolon_or_space.false)
+          first_semicolon value pos byte at.dead w.in-59.is (sym w.ends_in_semicolon_or_space.ensures
+          ∙ w.if-ends_in_semicolon_or_space.false)
       | in_default-byte-via-in_default-1 w ↦ other_byte value pos byte at.dead (grind (arith, nat_tests, w))
     ] in
     subst (Stands value) (sym c.in-InvalidToken.is) stands

@@ -26,12 +26,15 @@ returns-in_default-fault-clause-read c =
     let text = c.match-left.text.now in
     let fault = c.fault.result.now in
     let is : IsTightening value c.args.fault left = search rules in
-    let rejected : ¬ (IsAccepted text) = λ accepted. c.in_default-fault.not-NoMemory (c.fault.ensures ∙ c.in-Err.ensures.accepted accepted) in
-    let faulty = fault_explains text fault c.in_default-fault.not-NoMemory (subst (Explains text) (sym c.fault.ensures) c.in-Err.ensures.explained) in
+    let rejected : ¬ (IsAccepted text) =
+    λ accepted. c.in_default-fault.not-NoMemory (c.fault.ensures ∙ c.in-Err.ensures.accepted accepted) in
+    let faulty = fault_explains text fault c.in_default-fault.not-NoMemory
+    (subst (Explains text) (sym c.fault.ensures) c.in-Err.ensures.explained) in
     elim c.match-left.branch [
       | in-Prefix w ↦
           let here : text ≡ take w.in-Prefix.end value = search rules in
-          rejected_prefix value c.args.fault fault left _ _ is w.in-Prefix.is w.if-next-value.true (subst (λ t. ¬ (IsAccepted t)) here rejected)
+          rejected_prefix value c.args.fault fault left _ _ is w.in-Prefix.is w.if-next-value.true
+          (subst (λ t. ¬ (IsAccepted t)) here rejected)
       | in-Copy w ↦
           let here : text ≡ string_bytes w.in-Copy.copy = search rules in
           rejected_copy value c.args.fault fault left w.in-Copy.copy is w.in-Copy.is (subst (λ t. ¬ (IsAccepted t)) here rejected)

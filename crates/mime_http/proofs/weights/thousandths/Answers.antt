@@ -6,7 +6,8 @@ use Rattle.mime_http.proofs.Numbers.{read_is}
 use Rattle.mime_http.proofs.weights.thousandths.Goals as goal
 
 pub returns-in-46 : goal.returns-in-46
-returns-in-46 c = let read : c.decimals_of.result ≡ read_number c.args.weight.now = grind (arith, common_steps) in read ∙ read_is c.args.weight.now
+returns-in-46 c =
+    let read : c.decimals_of.result ≡ read_number c.args.weight.now = grind (arith, common_steps) in read ∙ read_is c.args.weight.now
 
 pub returns-in-49-to-57 : goal.returns-in-49-to-57
 returns-in-49-to-57 c = let read : 1000 ≡ read_number c.args.weight.now = grind (arith, common_steps) in read ∙ read_is c.args.weight.now

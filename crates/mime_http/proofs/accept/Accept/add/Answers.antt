@@ -20,11 +20,13 @@ some_left : (trimmed : List ℕ) (empty : Bool) → empty ≡ (length trimmed ==
 some_left trimmed empty tells some none = true≢false (sym (tells ∙ eq-eqb (length trimmed) 0 (ap length none)) ∙ some)
 
 -- so a piece of which some are left isn't white space
-never_blank : (piece trimmed : List ℕ) (empty : Bool) → trimmed ≡ trim_start piece → empty ≡ (length trimmed == 0) → empty ≡ false → ¬ (AreSpaces piece)
+never_blank : (piece trimmed : List ℕ) (empty : Bool) → trimmed ≡ trim_start piece → empty ≡ (length trimmed == 0) → empty ≡ false
+    → ¬ (AreSpaces piece)
 never_blank piece trimmed empty is tells some white = some_left trimmed empty tells some (is ∙ trimmed_from_blank piece white)
 
 -- what isn't UTF-8 is bad
-bad_added : {E X : Type 0} (result : Result X E) (piece : List ℕ) {entry : List ℕ} (old new : Header) → entry ≡ trim_start piece → ¬ (entry ≡ [])
+bad_added : {E X : Type 0} (result : Result X E) (piece : List ℕ) {entry : List ℕ} (old new : Header) → entry ≡ trim_start piece
+    → ¬ (entry ≡ [])
     → ¬ (IsUtf8 entry) → OnOk result (new.ranges ≡ old.ranges) → OnOk result (new.bad ≡ old.bad ++ (trim_end entry ∷ []))
     → OnOk result (Adds (piece ∷ []) old new)
 bad_added (Ok x) piece old new is some isnt ranges bad =
@@ -60,7 +62,8 @@ returns-in_ok-push-in-Ok-from_str-clause-added c =
     let utf8 : IsUtf8 (trim_start piece) = subst IsUtf8 c.trim_start-piece.ensures c.in-Ok.ensures.cases.1 in
     let read = subst (λ text. Reads text media) text c.in-Ok-from_str.ensures.read in
     add_range piece media (utf8, plain_is_http (trim_start piece) media read)
-    (pushed (λ range. range.media) (vec_items c.self.inside.ranges) (vec_items c.push.new.self) c.in-Ok-from_str.range media (search rules) refl
+    (pushed (λ range. range.media) (vec_items c.self.inside.ranges) (vec_items c.push.new.self) c.in-Ok-from_str.range media
+    (search rules) refl
     ∙ ap (λ (h : Header). h.ranges ++ (media ∷ [])) c.self.view_is)
     (ap (λ (h : Header). h.bad) c.self.view_is)
 

@@ -14,7 +14,8 @@ loop-comma-preserved c =
     let left = c.loop-comma.left.now in
     let end = c.piece_len-end.result in
     let rest : drop end left ≡ c.in-Some._comma.now ∷ c.in-Some.rest.now = sym (take_rest left end) ∙ c.in-Some.ensures.cases.0 in
-    let all : cut left ≡ take end left ∷ cut c.in-Some.rest.now = c.piece_len-end.ensures.piece ∙ ap (λ x. take end left ∷ cut_after x) rest in
+    let all : cut left ≡ take end left ∷ cut c.in-Some.rest.now =
+    c.piece_len-end.ensures.piece ∙ ap (λ x. take end left ∷ cut_after x) rest in
     some_more (subst (λ pieces. SoFar (cut c.args.line.now) pieces c.args.self.now c.loop-comma.self) all c.loop-comma.invariant)
     c.in_ok-add.ensures.added
 
@@ -27,7 +28,8 @@ returns-in-None-clause-added c =
     let all : cut left ≡ take end left ∷ [] = c.piece_len-end.ensures.piece ∙ ap (λ x. take end left ∷ cut_after x) rest in
     let last = subst (λ pieces. SoFar (cut line) pieces c.args.self.now c.loop-comma.self) all c.loop-comma.invariant in
     lines_added (line ∷ [])
-    (subst (λ pieces. Adds pieces c.args.self.now c.add.new.self) (sym (append-nil (cut line))) (all_added (some_more last c.in_ok-add.ensures.added)))
+    (subst (λ pieces. Adds pieces c.args.self.now c.add.new.self) (sym (append-nil (cut line)))
+    (all_added (some_more last c.in_ok-add.ensures.added)))
 
 pub returns-in_err-add-clause-nothing : goal.returns-in_err-add-clause-nothing
 returns-in_err-add-clause-nothing c = λ pieces are sorted.

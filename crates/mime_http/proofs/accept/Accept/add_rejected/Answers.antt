@@ -27,7 +27,8 @@ pub returns-in_ok-push-in-Some : goal.returns-in_ok-push-in-Some
 returns-in_ok-push-in-Some c =
     let entry = c.args.entry.now in
     let media = c.in-Some.range.media in
-    let reads : HttpReads entry media = read_http entry _ (Some c.in-Some.range) (sym c.ok.ensures.value ∙ c.in-Some.is) c.in_ok-read_tight.ensures.read in
+    let reads : HttpReads entry media =
+    read_http entry _ (Some c.in-Some.range) (sym c.ok.ensures.value ∙ c.in-Some.is) c.in_ok-read_tight.ensures.read in
     add_range entry media (subst (λ t. IsUtf8 t × HttpReads t media) (sym c.requires.trimmed) (c.utf8.entry, reads))
     (pushed (λ range. range.media) (vec_items c.self.inside.ranges) (vec_items c.push.new.self) c.in-Some.range media (search rules) refl
     ∙ ap (λ (h : Header). h.ranges ++ (media ∷ [])) c.self.view_is)

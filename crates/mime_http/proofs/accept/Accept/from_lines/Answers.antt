@@ -39,13 +39,15 @@ module _ {X : Type 0} (f : X → List ℕ) where
   next : (all rest more : List X) (line : X) (now new : Header) → rest ≡ line ∷ more → Left all rest now → AddsLines (f line ∷ []) now new
       → Left all more new
   next all rest more line now new is left added =
-      some_more (subst (λ lines. Left all lines now) is left) (subst (λ pieces. Adds pieces now new) (append-nil (cut (f line))) (pieces_added added))
+      some_more (subst (λ lines. Left all lines now) is left)
+      (subst (λ pieces. Adds pieces now new) (append-nil (cut (f line))) (pieces_added added))
 
   done : (all : List X) (now : Header) → Left all [] now → IsHeader (map f all) now
   done all now left = is_header (map f all) now (all_added left)
 
   -- of lines that hold nothing each holds nothing, and there is one
-  line_is_nothing : (all rest more : List X) (line : X) (now : Header) → rest ≡ line ∷ more → Left all rest now → IsHeader (map f all) nothing
+  line_is_nothing : (all rest more : List X) (line : X) (now : Header) → rest ≡ line ∷ more → Left all rest now
+      → IsHeader (map f all) nothing
       → AreSorted (flat_map cut (f line ∷ [])) [] []
   line_is_nothing all rest more line now is left holds =
       let next = subst (λ lines. Left all lines now) is left in
