@@ -1,0 +1,3 @@
+mod HeadLines
+mod Rows
+mod Words

@@ -1,0 +1,6 @@
+-- the trusted pages
+pub mod Head
+pub mod Report
+pub mod Program
+-- private
+pub mod Inner

@@ -1,0 +1,102 @@
+//! A head: its lines, and the values of a field.
+
+ghost use Rattle.std.specs.Prelude.{◌≡◌, ◌<◌, ◌∷◌, ◌++◌, ◌==◌, [], None, Some, length, drop, map, OnOk, IfOk, IfSome, MatchOption, if◌then◌else◌};
+ghost use Rattle.std.specs.Vec.{vec_items};
+ghost use Rattle.mime_headers.specs.Head.{without_end, without_space, without_mark, head_of, goes_on, continued, begins, values_of};
+
+use mime_io::first_line;
+use std::alloc::{AllocError, Global};
+
+/// A line without one space before it.
+fn unspaced(line: &[u8]) -> &[u8]
+    ensures { result.now ≡ without_space line.now }
+{
+    match line.split_first() {
+        Some((b' ', rest)) => rest,
+        _ => line,
+    }
+}
+
+/// A line without the mark that `curl -v` writes before it.
+fn unmarked(line: &[u8]) -> &[u8]
+    ensures { result.now ≡ without_mark line.now }
+{
+    match line.split_first() {
+        Some((b'<' | b'>', rest)) => unspaced(rest),
+        _ => line,
+    }
+}
+
+/// The first line of a head and the input after it, or `None` if the head has ended: with an empty line, or with the input.
+fn head_line(input: &[u8]) -> Option<(&[u8], &[u8])>
+    ensures lines { MatchOption result (head_of input.now ≡ []) (λ cut. head_of input.now ≡ cut.0.now ∷ head_of cut.1.now) }
+    ensures shorter { IfSome result (λ cut. length cut.1.now < length input.now) }
+{
+    let (line, rest) = first_line(input)?;
+    let line = unmarked(line).trim_ascii_end();
+    if line.is_empty() {
+        None
+    } else {
+        Some((line, rest))
+    }
+}
+
+/// Whether a line goes on with the field before it.
+fn goes_on(line: &[u8]) -> bool
+    ensures { result ≡ goes_on line.now }
+{
+    match line.first() {
+        Some(byte) => byte.is_ascii_whitespace(),
+        None => false,
+    }
+}
+
+/// Whether a line begins with a label, in any case.
+fn begins(label: &[u8], line: &[u8]) -> bool
+    ensures { result ≡ begins label.now line.now }
+{
+    line.len() >= label.len() && line[..label.len()].eq_ignore_ascii_case(label)
+}
+
+/// What the lines after a field's add to its value, after what it has.
+fn push_continued(value: &mut Vec<u8>, after: &[u8]) -> Result<(), AllocError>
+    ensures { OnOk result (vec_items value.new ≡ vec_items value.old ++ continued (head_of after.now)) }
+{
+    let mut rest = after;
+    while let Some((line, more)) = head_line(rest) {
+        if !goes_on(line) {
+            return Ok(());
+        }
+        value.extend_from_slice(line)?;
+        rest = more;
+    }
+    Ok(())
+}
+
+/// A field's value, which begins in its line and goes on in those after it.
+fn whole_value(alloc: Global, begin: &[u8], after: &[u8]) -> Result<Vec<u8>, AllocError>
+    ensures { IfOk result (λ value. vec_items value ≡ begin.now ++ continued (head_of after.now)) }
+{
+    let mut value = begin.to_vec(alloc)?;
+    push_continued(&mut value, after)?;
+    Ok(value)
+}
+
+/// The values of a field in a head, in their order. A label is a field's name and a colon.
+pub(crate) fn values_of(
+    alloc: Global,
+    label: &[u8],
+    input: &[u8],
+) -> Result<Vec<Vec<u8>>, AllocError>
+    ensures { IfOk result (λ values. map vec_items (vec_items values) ≡ values_of label.now (head_of input.now)) }
+{
+    let mut values = Vec::new(alloc);
+    let mut rest = input;
+    while let Some((line, more)) = head_line(rest) {
+        if begins(label, line) {
+            values.push(whole_value(alloc, &line[label.len()..], more)?)?;
+        }
+        rest = more;
+    }
+    Ok(values)
+}

@@ -1,0 +1,72 @@
+//! The offers that the arguments name.
+
+ghost use Rattle.std.specs.Prelude.{◌≡◌, ◌≢◌, drop, take, map, string_bytes, IfOk};
+ghost use Rattle.std.specs.Process.{exit_status};
+ghost use Rattle.std.specs.Vec.{vec_items};
+ghost use Rattle.std.specs.Vec.Iter.{into_iter_items, into_iter_len};
+ghost use Rattle.mime_http.specs.HttpMediaType.{HttpReads};
+ghost use Rattle.mime_headers.specs.Program.{AreOffers};
+
+use mime::Mime;
+use mime_http::{FieldError, content_type};
+use mime_io::{RunError, ended};
+use std::alloc::Global;
+use std::env::Args;
+use std::process::ExitCode;
+
+/// Why the arguments aren't offers.
+#[derive(Drop)]
+pub(crate) enum BadOffer {
+    /// Memory ran out.
+    NoMemory,
+    /// An argument is no media type: the first that isn't, and its fault.
+    Fault(String, FieldError),
+}
+
+/// The offers that the arguments name, each a media type as a header has it. The first argument is the program's name.
+pub(crate) fn read_offers(alloc: Global, mut arguments: Args) -> Result<Vec<Mime>, BadOffer>
+    ensures { IfOk result (λ offers. AreOffers (map string_bytes (drop 1 (take (into_iter_len arguments) (into_iter_items arguments)))) (map (λ offer. offer.media) (vec_items offers))) }
+{
+    let _program = arguments.next();
+    offers_of(alloc, arguments)
+}
+
+/// The offers that words name.
+fn offers_of(alloc: Global, mut words: Args) -> Result<Vec<Mime>, BadOffer>
+    ensures { IfOk result (λ offers. AreOffers (map string_bytes (take (into_iter_len words) (into_iter_items words))) (map (λ offer. offer.media) (vec_items offers))) }
+{
+    let mut offers = Vec::new(alloc);
+    while let Some(word) = words.next() {
+        let offer = offer_of(alloc, word)?;
+        let Ok(()) = offers.push(offer) else {
+            return Err(BadOffer::NoMemory);
+        };
+    }
+    Ok(offers)
+}
+
+/// The offer that a word names.
+fn offer_of(alloc: Global, word: String) -> Result<Mime, BadOffer>
+    ensures { IfOk result (λ offer. HttpReads (string_bytes word) offer.media) }
+{
+    match content_type(alloc, word.as_bytes()) {
+        Ok(offer) => Ok(offer),
+        Err(FieldError::NoMemory) => Err(BadOffer::NoMemory),
+        Err(error) => Err(BadOffer::Fault(word, error)),
+    }
+}
+
+/// The exit status if the arguments aren't offers, which is said on standard error.
+pub(crate) fn refused(rt: &impl Eprint, error: BadOffer) -> ExitCode
+    ensures memory { error ≡ BadOffer.NoMemory → exit_status result ≡ 1 }
+    ensures other { error ≢ BadOffer.NoMemory → exit_status result ≡ 2 }
+{
+    match error {
+        BadOffer::NoMemory => ended(rt, Err(RunError::NoMemory)),
+        BadOffer::Fault(word, fault) => {
+            let _ = eprintln!(rt; "bad offer {word}: {fault}");
+            let _ = eprintln!(rt; "usage: mime_headers [OFFER..]");
+            ExitCode::from(2)
+        }
+    }
+}
