@@ -1,3 +1,4 @@
 mod HeadLines
+mod HeaderFacts
 mod Rows
 mod Words
