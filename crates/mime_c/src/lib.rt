@@ -4,7 +4,7 @@
 //! each, into the caller's buffer. The pages `Strings` and `Answers` of `Rattle.mime_c.specs` say which.
 #![tactic(auto)]
 
-ghost use Rattle.std.specs.Prelude.{◌≡◌, ◌+◌, ◌<◌, ◌≤◌, ◌∷◌, length, IfOk, IfErr, IsOk};
+ghost use Rattle.std.specs.Prelude.{◌≡◌, ◌≢◌, ◌⊎◌, [], ◌+◌, ◌<◌, ◌≤◌, ◌∷◌, length, IfOk, IfErr, IsOk};
 ghost use Rattle.std.specs.Str.{IsUtf8};
 ghost use Rattle.mime.specs.Values.{Reads};
 ghost use Rattle.mime.specs.CutLaws.{IsRead};
@@ -13,7 +13,7 @@ ghost use Rattle.mime_c.specs.Writing.{Writes};
 ghost use Rattle.mime_c.specs.Answers.{number_of, found_of_fault, found_of, Fails, ReadsTo, ListsTo, Compares};
 ghost use Rattle.mime_http.specs.HttpMediaType.{HttpReads};
 ghost use Rattle.mime_http.specs.Tight.{tight};
-ghost use Rattle.mime_http.specs.HttpList.{IsHeader};
+ghost use Rattle.mime_http.specs.HttpList.{Header, IsHeader};
 ghost use Rattle.mime_http.specs.Ranges.{weight_of};
 ghost use Rattle.mime_c.specs.HeaderAnswers.{number_of_error, found_of_error, HeaderReadsTo, four_digits, range_texts, AcceptsTo, lines_of, HaveNoEntry, BestIs};
 
@@ -397,6 +397,21 @@ fn accepted(alloc: Global, is_there: bool, line: &[u8]) -> Result<Accept, AllocE
     }
 }
 
+/// The answer if there is no memory for a header: the offers are looked at still, since a bad one counts first.
+#[inline(never)]
+fn without_header(alloc: Global, offers: &[u8]) -> u32
+    ensures { (result ≡ MIME_NO_MEMORY) ⊎ ((result ≡ MIME_BAD_OFFER)
+        × ((offered : Header) × IsHeader (offers.now ∷ []) offered × (offered.bad ≢ []))) }
+{
+    let Ok(nothing) = Accept::from_lines(alloc, &[b""]) else {
+        return MIME_NO_MEMORY;
+    };
+    match nothing.best_listed(alloc, offers) {
+        Ok((_, bad)) if bad > 0 => MIME_BAD_OFFER,
+        _ => MIME_NO_MEMORY,
+    }
+}
+
 /// Sets `best` to the position in a list of offers, such as `text/html, application/json`, of the one that an Accept header
 /// likes best (RFC 9110, 12.5.1). A request without the header, for which `is_there` is false, accepts everything.
 #[unsafe(no_mangle)]
@@ -410,16 +425,16 @@ pub extern "C" fn mime_best(
     ensures { BestIs is_there accept.now offers.now result best.new }
 {
     *best = 0;
-    let Ok(offered) = Accept::from_lines(alloc, &[offers]) else {
+    let Ok(header) = accepted(alloc, is_there, accept) else {
+        return without_header(alloc, offers);
+    };
+    let Ok((position, bad)) = header.best_listed(alloc, offers) else {
         return MIME_NO_MEMORY;
     };
-    if !offered.bad().is_empty() {
+    if bad > 0 {
         return MIME_BAD_OFFER;
     }
-    let Ok(header) = accepted(alloc, is_there, accept) else {
-        return MIME_NO_MEMORY;
-    };
-    match header.best(offered.ranges()) {
+    match position {
         Some(at) => {
             *best = at;
             MIME_OK

@@ -36,12 +36,12 @@ module _ {K : Type 0} {R : K → K → Ordering} (total : IsTotalOrder R) (one :
   least m (x ∷ xs) =
       upto total m (ord_max R m x) (fold (ord_max R) (ord_max R m x) xs) (least_by m x (R x m) refl) (least (ord_max R m x) xs)
 
-  raised_by : (m x : K) (r : Ordering) → is_gt r ≡ true → (if is_lt r then m else x) ≡ x
+  pub raised_by : (m x : K) (r : Ordering) → is_gt r ≡ true → (if is_lt r then m else x) ≡ x
   raised_by m x Less is = absurd (true≢false (sym is))
   raised_by m x Equal is = refl
   raised_by m x Greater is = refl
 
-  stays_by : (m x : K) (r : Ordering) → R x m ≡ r → is_gt r ≡ false → (if is_lt r then m else x) ≡ m
+  pub stays_by : (m x : K) (r : Ordering) → R x m ≡ r → is_gt r ≡ false → (if is_lt r then m else x) ≡ m
   stays_by m x Less is low = refl
   stays_by m x Equal is low = one x m is
   stays_by m x Greater is low = absurd (true≢false low)

@@ -1,6 +1,7 @@
 -- What the proofs of several functions cite.
 pub mod Adds
 pub mod AtFault
+pub mod Chosen
 pub mod Closest
 pub mod Common
 pub mod Contents

@@ -16,5 +16,6 @@ pub mod Tight
 pub mod Tightening
 pub mod Reached
 pub mod Walk
+pub mod Chosen
 pub mod Forms
 pub mod Digits

@@ -45,6 +45,7 @@ mod accept;
 mod fault;
 pub mod laws;
 mod list;
+mod listed;
 mod meaning;
 mod multipart;
 mod offers;

@@ -1,0 +1,157 @@
+-- The next offer ranks above all before it, or it doesn't.
+use Rattle.std.proofs.Common.{◌≡◌, ◌≢◌, ◌∙◌, ◌+◌, ◌==◌, refl, sym, ap, subst, arith, ⊎_elim, ℕ, Bool, true, false, List, [], ◌∷◌, ◌++◌, length, map, Option, Some, None, length-append}
+use Rattle.std.specs.Prelude.{fold, position, if◌then◌else◌}
+use Rattle.std.specs.List.{position_from}
+use Rattle.std.specs.Ordering.{is_lt, is_eq, is_gt, ord_max, eq_by_cmp}
+use Rattle.std.specs.declared.cmp.Ordering.{Ordering}
+use Rattle.std.specs.declared.cmp.Ordering.TheVariants.{Less, Equal, Greater}
+use Rattle.std.specs.Cmp.{IsTotalOrder}
+use Rattle.std.proofs.lemmas.Bool.{cases_Bool, true≢false, ne_eqb, eq-eqb}
+use Rattle.std.proofs.lemmas.Cmp.{upto, tied_itself}
+use Rattle.std.proofs.lemmas.List.{map-append, length-map}
+use Rattle.std.proofs.lemmas.List.Sums.{fold_push}
+use Rattle.std.proofs.lemmas.Iterator.Adapters.{position_from-zero}
+use Rattle.std.specs.Str.{IsUtf8}
+use Rattle.mime.specs.Values.{MediaType}
+use Rattle.mime_http.specs.HttpMediaType.{HttpReads, IsHttpMediaType}
+use Rattle.mime_http.specs.HttpList.{trim_start, trim_end, Header}
+use Rattle.mime_http.specs.Ranges.{Rank, rank_cmp, merit, best_offer}
+use Rattle.mime_http.specs.Chosen.{lowest, IsChosen, ChoosesOn}
+use Rattle.mime_http.specs.declared.listed.Chosen.{Chosen}
+use Rattle.mime_http.proofs.Adds.{add_nothing, add_range, add_bad, add_trimmed}
+use Rattle.mime_http.proofs.Highest.{raised_by, stays_by, same_by}
+use Rattle.mime_http.proofs.Ranks.{ranks_total, one_rank}
+
+module _ {K : Type 0} {R : K → K → Ordering} (total : IsTotalOrder R) (one : (x y : K) → R x y ≡ Equal → x ≡ y) where
+  -- an item is no more than the higher of it and another,
+  item_by : (m x : K) (r : Ordering) → R x m ≡ r → is_gt (R x (if is_lt r then m else x)) ≡ false
+  item_by m x Less is = ap is_gt is
+  item_by m x Equal is = ap is_gt (tied_itself total x)
+  item_by m x Greater is = ap is_gt (tied_itself total x)
+
+  -- which is no more than the highest of all,
+  least : (m : K) (xs : List K) → is_gt (R m (fold (ord_max R) m xs)) ≡ false
+  least = Rattle.mime_http.proofs.Highest.least total one
+
+  -- so one above the highest is the first of its rank
+  first_place : (x m : K) (xs : List K) (at : ℕ) → is_gt (R x (fold (ord_max R) m xs)) ≡ true
+      → position_from (λ y. eq_by_cmp R y x) at (xs ++ (x ∷ [])) ≡ Some (at + length xs)
+  first_place x m [] at above =
+      let yes : eq_by_cmp R x x ≡ true = ap is_eq (tied_itself total x) in
+      rw yes (ap Some (omega arith))
+  first_place x m (y ∷ xs) at above =
+      let higher = ord_max R m y in
+      let low = upto total y higher (fold (ord_max R) higher xs) (item_by m y (R y m) refl) (least higher xs) in
+      let no : eq_by_cmp R y x ≡ false = ⊎_elim
+      (λ yes. absurd (true≢false (sym above ∙ subst (λ z. is_gt (R z (fold (ord_max R) higher xs)) ≡ false) (same_by total one y x (R y x) refl yes) low)))
+      (λ no. no) (cases_Bool (eq_by_cmp R y x)) in
+      rw no (first_place x higher xs (at + 1) above ∙ ap Some (omega arith))
+
+-- a place that was found stays, if more follows
+found_by : (b : Bool) (p q : Option ℕ) (a : ℕ) {i : ℕ} → (if b then Some a else p) ≡ Some i → (p ≡ Some i → q ≡ Some i)
+    → (if b then Some a else q) ≡ Some i
+found_by true p q a is next = is
+found_by false p q a is next = next is
+
+none_is_none : {i : ℕ} → ¬ (◌≡◌ {A = Option ℕ} None (Some i))
+none_is_none is = absurd (cc)
+
+found_still : {K : Type 0} (test : K → Bool) (xs more : List K) (at : ℕ) {i : ℕ} → position_from test at xs ≡ Some i
+    → position_from test at (xs ++ more) ≡ Some i
+found_still test [] more at is = absurd (none_is_none is)
+found_still test (x ∷ xs) more at is =
+    found_by (test x) (position_from test (at + 1) xs) (position_from test (at + 1) (xs ++ more)) at is (found_still test xs more (at + 1))
+
+module _ {ranges : List MediaType} {before : Header} {old : Chosen} (media : MediaType) (was : IsChosen ranges before old) where
+  -- the highest rank of the offers with one more is the higher of two
+  highest : fold (ord_max rank_cmp) lowest (map (merit ranges) (before.ranges ++ (media ∷ []))) ≡ ord_max rank_cmp old.most (merit ranges media)
+  highest =
+      ap (fold (ord_max rank_cmp) lowest) (map-append (merit ranges) before.ranges (media ∷ []))
+      ∙ (fold_push (ord_max rank_cmp) lowest (map (merit ranges) before.ranges) (merit ranges media)
+      ∙ ap (λ m. ord_max rank_cmp m (merit ranges media)) (sym was.most))
+
+  module _ {new : Chosen} (count : new.count ≡ old.count + 1) (bad : new.bad ≡ old.bad) where
+    -- an offer that ranks above all before it is chosen,
+    pub raised : is_gt (rank_cmp (merit ranges media) old.most) ≡ true → new.most ≡ merit ranges media → new.best ≡ old.count
+        → IsChosen ranges (record before { ranges = before.ranges ++ (media ∷ []) }) new
+    raised above most best =
+        let rank = merit ranges media in
+        let ranks = map (merit ranges) before.ranges in
+        let top = ap (λ m. is_gt (rank_cmp rank m)) (sym was.most) ∙ above in
+        let place = first_place ranks_total one_rank rank lowest ranks 0 top in
+        let size : 0 + length ranks ≡ new.best = omega (arith, best, was.count, length-map before.ranges (merit ranges)) in
+        record {
+          most = most ∙ sym (highest ∙ raised_by ranks_total one_rank old.most rank (rank_cmp rank old.most) above);
+          best = λ some.
+              ap (λ m. position (λ r. eq_by_cmp rank_cmp r m) (map (merit ranges) (before.ranges ++ (media ∷ [])))) most
+              ∙ (ap (position (λ r. eq_by_cmp rank_cmp r rank)) (map-append (merit ranges) before.ranges (media ∷ []))
+              ∙ (position_from-zero (λ r. eq_by_cmp rank_cmp r rank) (ranks ++ (rank ∷ [])) ∙ (place ∙ ap Some size)));
+          count = omega (arith, count, was.count, length-append before.ranges (media ∷ []));
+          bad = bad ∙ was.bad;
+        }
+
+    -- and another isn't
+    pub stays : is_gt (rank_cmp (merit ranges media) old.most) ≡ false → new.most ≡ old.most → new.best ≡ old.best
+        → IsChosen ranges (record before { ranges = before.ranges ++ (media ∷ []) }) new
+    stays below most best =
+        let rank = merit ranges media in
+        let ranks = map (merit ranges) before.ranges in
+        record {
+          most = most ∙ sym (highest ∙ stays_by ranks_total one_rank old.most rank (rank_cmp rank old.most) refl below);
+          best = λ some.
+              let test = λ (r : Rank). eq_by_cmp rank_cmp r old.most in
+              let there = found_still test ranks (rank ∷ []) 0 (sym (position_from-zero test ranks) ∙ was.best (λ is. some (most ∙ is))) in
+              ap (λ m. position (λ r. eq_by_cmp rank_cmp r m) (map (merit ranges) (before.ranges ++ (media ∷ [])))) most
+              ∙ (ap (position test) (map-append (merit ranges) before.ranges (media ∷ []))
+              ∙ (position_from-zero test (ranks ++ (rank ∷ [])) ∙ (there ∙ ap Some (sym best))));
+          count = omega (arith, count, was.count, length-append before.ranges (media ∷ []));
+          bad = bad ∙ was.bad;
+        }
+
+-- ---- a piece of the list
+
+module _ (ranges : List MediaType) (piece : List ℕ) {old : Chosen} where
+  -- white space alone changes nothing,
+  pub chooses_nothing : trim_start piece ≡ [] → ChoosesOn ranges piece old old
+  chooses_nothing none before was = (before, add_nothing piece none refl refl, was)
+
+  -- a media type is an offer,
+  pub chooses_offer : (media : MediaType) {new : Chosen} → IsUtf8 (trim_start piece) × HttpReads (trim_start piece) media
+      → ((before : Header) → IsChosen ranges before old → IsChosen ranges (record before { ranges = before.ranges ++ (media ∷ []) }) new)
+      → ChoosesOn ranges piece old new
+  chooses_offer media is takes before was =
+      (record before { ranges = before.ranges ++ (media ∷ []) }, add_range piece media is refl refl, takes before was)
+
+  -- and anything else is counted
+  pub chooses_bad : ¬ (trim_start piece ≡ []) → ¬ (IsUtf8 (trim_start piece) × IsHttpMediaType (trim_start piece))
+      → ChoosesOn ranges piece old (record old { bad = old.bad + 1 })
+  chooses_bad some isnt before was =
+      let entry = trim_end (trim_start piece) in
+      (record before { bad = before.bad ++ (entry ∷ []) }, add_bad piece some isnt refl refl, record {
+        most = was.most;
+        best = was.best;
+        count = was.count;
+        bad = omega (arith, was.bad, length-append before.bad (entry ∷ []));
+      })
+
+-- what is chosen after an entry is chosen after the piece that it is trimmed of
+pub chooses_trimmed : (ranges : List MediaType) (piece text : List ℕ) {old new : Chosen} → text ≡ trim_start piece → ChoosesOn ranges text old new
+    → ChoosesOn ranges piece old new
+chooses_trimmed ranges piece text is chooses before was = let after = chooses before was in (after.0, add_trimmed piece text is after.1, after.2)
+
+-- ---- the end of the list
+
+-- what was chosen is the best, if it weighs anything, and else there is none
+module _ {ranges : List MediaType} {offered : Header} {chosen : Chosen} (is : IsChosen ranges offered chosen) where
+  pub best_is_chosen : chosen.most.0 ≢ 0 → Some chosen.best ≡ best_offer ranges offered.ranges
+  best_is_chosen some =
+      let merits = map (merit ranges) offered.ranges in
+      let weighs : ((fold (ord_max rank_cmp) lowest merits).0 == 0) ≡ false = ap (λ m. m.0 == 0) (sym is.most) ∙ ne_eqb chosen.most.0 0 some in
+      rw weighs
+      (sym (ap (λ m. position (λ r. eq_by_cmp rank_cmp r m) merits) (sym is.most) ∙ is.best (λ low. some (ap (λ m. m.0) low))))
+
+  pub none_is_chosen : chosen.most.0 ≡ 0 → ◌≡◌ {A = Option ℕ} None (best_offer ranges offered.ranges)
+  none_is_chosen none =
+      let merits = map (merit ranges) offered.ranges in
+      let nothing : ((fold (ord_max rank_cmp) lowest merits).0 == 0) ≡ true = ap (λ m. m.0 == 0) (sym is.most) ∙ eq-eqb chosen.most.0 0 none in
+      rw nothing refl
