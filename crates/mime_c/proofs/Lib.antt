@@ -2,6 +2,7 @@ pub mod NoZero
 pub mod Room
 pub mod Writing
 pub mod HeaderRoom
+pub mod ParameterRoom
 pub mod OneOutcome
 mod AnswerFacts
 mod HeaderFacts

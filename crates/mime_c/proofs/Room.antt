@@ -43,9 +43,11 @@ room-kept tree (pair ∷ pairs) = omega arith
 
 -- ---- the strings of a media type
 
--- how long a kept text, the strings of a media type and the text that is read as it are
+-- how long a kept text, the strings of a media type and the text that is read as it are, and those of its pairs with its essence
 abbrev pub Lengths : List ℕ → MediaType → Type 0
-Lengths text media = (length media.kept ≤ length text) × (length (strings (texts_of media)) ≤ 2 * length text + 2) × (2 < length text)
+Lengths text media =
+    (length media.kept ≤ length text) × (length (strings (texts_of media)) ≤ 2 * length text + 2) × (2 < length text)
+    × (length media.essence + length (strings (pair_texts media.pairs)) ≤ length text)
 
 lengths-low : (text : List ℕ) (tree : SyntaxTree) → length (text_of tree) ≤ length text → 2 < length text → Lengths text (value_of_low tree)
 lengths-low text tree size some =
@@ -53,7 +55,9 @@ lengths-low text tree size some =
     let parts = essence_of tree ∷ pair_texts pairs in
     let kept = room-kept tree pairs in
     let all = ap length (flat_map-append string_of parts (kept_text pairs tree ∷ [])) in
-    (omega arith, omega (arith, length-append {A = ℕ}, length-strings, room-tail tree.tail, ap length (text_of-essence tree)), some)
+    let essence = ap length (text_of-essence tree) in
+    (omega arith, omega (arith, length-append {A = ℕ}, length-strings, room-tail tree.tail, essence), some,
+    omega (arith, length-append {A = ℕ}, room-tail tree.tail, essence))
 
 -- a kept text is no longer than the text that it is of,
 length-kept : (pairs : ℕ) (semicolon : Option ℕ) (text : List ℕ) → length (kept_text_of pairs semicolon text) ≤ length text

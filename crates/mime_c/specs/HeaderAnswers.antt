@@ -5,7 +5,7 @@ use Rattle.mime.specs.Values.{MediaType, Reads}
 use Rattle.mime_http.specs.HttpMediaType.{HttpReads}
 use Rattle.mime_http.specs.HttpFaults.{HttpExplains}
 use Rattle.mime_http.specs.HttpList.{Header, IsHeader}
-use Rattle.mime_http.specs.Ranges.{weight_of, best_offer}
+use Rattle.mime_http.specs.Ranges.{weight_of, best_offer, AreInOrder}
 use Rattle.mime_http.specs.Tight.{tight}
 use Rattle.mime_http.specs.declared.value.FieldError.{FieldError}
 use Rattle.mime_http.specs.declared.value.FieldError.TheVariants.{NotUtf8, Invalid, NoMemory}
@@ -74,3 +74,18 @@ pub data BestIs (is_there : Bool) (line offers : List ℕ) : ℕ → ℕ → Typ
       → BestIs is_there line offers MIME_NOT_ACCEPTABLE 0
   an_offer_is_bad : (offered : Header) → IsHeader (offers ∷ []) offered → offered.bad ≢ [] → BestIs is_there line offers MIME_BAD_OFFER 0
   best_has_no_memory : ¬ (HaveNoEntry (offers ∷ []) × HaveNoEntry (lines_of is_there line)) → BestIs is_there line offers MIME_NO_MEMORY 0
+
+-- `mime_order` of a header, which may be missing, and of a list of offers, with the caller's places: the answer, what the places hold then,
+-- and how many offers are acceptable. There may be fewer places than those
+pub data OrderIs (is_there : Bool) (line offers old : List ℕ) : ℕ → List ℕ → ℕ → Type 0 where
+  order_is : (header offered : Header) (order : List ℕ) → IsHeader (lines_of is_there line) header → IsHeader (offers ∷ []) offered
+      → offered.bad ≡ [] → AreInOrder header.ranges offered.ranges order → order ≢ [] → length order ≤ length old
+      → OrderIs is_there line offers old MIME_OK (written order old) (length order)
+  none_is_ordered : (header offered : Header) → IsHeader (lines_of is_there line) header → IsHeader (offers ∷ []) offered
+      → offered.bad ≡ [] → AreInOrder header.ranges offered.ranges [] → OrderIs is_there line offers old MIME_NOT_ACCEPTABLE old 0
+  order_has_no_room : (header offered : Header) (order : List ℕ) → IsHeader (lines_of is_there line) header → IsHeader (offers ∷ []) offered
+      → offered.bad ≡ [] → AreInOrder header.ranges offered.ranges order → length old < length order
+      → OrderIs is_there line offers old MIME_NO_ROOM old 0
+  an_ordered_is_bad : (offered : Header) → IsHeader (offers ∷ []) offered → offered.bad ≢ []
+      → OrderIs is_there line offers old MIME_BAD_OFFER old 0
+  order_has_no_memory : ¬ (HaveNoEntry (offers ∷ []) × HaveNoEntry (lines_of is_there line)) → OrderIs is_there line offers old MIME_NO_MEMORY old 0

@@ -4,7 +4,7 @@
 //! each, into the caller's buffer. The pages `Strings` and `Answers` of `Rattle.mime_c.specs` say which.
 #![tactic(auto)]
 
-ghost use Rattle.std.specs.Prelude.{◌≡◌, ◌≢◌, ◌⊎◌, [], ◌+◌, ◌<◌, ◌≤◌, ◌∷◌, length, IfOk, IfErr, IsOk};
+ghost use Rattle.std.specs.Prelude.{◌≡◌, ◌+◌, ◌<◌, ◌≤◌, ◌∷◌, length, IfOk, IfErr, IsOk};
 ghost use Rattle.std.specs.Str.{IsUtf8};
 ghost use Rattle.mime.specs.Values.{Reads};
 ghost use Rattle.mime.specs.CutLaws.{IsRead};
@@ -13,11 +13,12 @@ ghost use Rattle.mime_c.specs.Writing.{Writes};
 ghost use Rattle.mime_c.specs.Answers.{number_of, found_of_fault, found_of, Fails, ReadsTo, ListsTo, Compares};
 ghost use Rattle.mime_http.specs.HttpMediaType.{HttpReads};
 ghost use Rattle.mime_http.specs.Tight.{tight};
-ghost use Rattle.mime_http.specs.HttpList.{Header, IsHeader};
+ghost use Rattle.mime_http.specs.HttpList.{IsHeader};
 ghost use Rattle.mime_http.specs.Ranges.{weight_of};
-ghost use Rattle.mime_c.specs.HeaderAnswers.{number_of_error, found_of_error, HeaderReadsTo, four_digits, range_texts, AcceptsTo, lines_of, HaveNoEntry, BestIs};
+ghost use Rattle.mime_c.specs.HeaderAnswers.{number_of_error, found_of_error, HeaderReadsTo, four_digits, range_texts, AcceptsTo, lines_of, HaveNoEntry, BestIs, OrderIs};
 
 pub mod laws;
+mod parameter;
 
 use mime::{Bad, Mime, MimeIter, ParseError};
 use mime_http::{Accept, FieldError, content_type, weight_of};
@@ -47,6 +48,10 @@ const MIME_NO_ROOM: u32 = 9;
 const MIME_NOT_ACCEPTABLE: u32 = 10;
 
 const MIME_BAD_OFFER: u32 = 11;
+
+const MIME_NO_BOUNDARY: u32 = 12;
+
+const MIME_BAD_PARAMETER: u32 = 13;
 
 // The first byte of each string of `mime_list`: of a media type, and of a bad piece.
 const MIME_GOOD: u8 = b'+';
@@ -397,21 +402,6 @@ fn accepted(alloc: Global, is_there: bool, line: &[u8]) -> Result<Accept, AllocE
     }
 }
 
-/// The answer if there is no memory for a header: the offers are looked at still, since a bad one counts first.
-#[inline(never)]
-fn without_header(alloc: Global, offers: &[u8]) -> u32
-    ensures { (result ≡ MIME_NO_MEMORY) ⊎ ((result ≡ MIME_BAD_OFFER)
-        × ((offered : Header) × IsHeader (offers.now ∷ []) offered × (offered.bad ≢ []))) }
-{
-    let Ok(nothing) = Accept::from_lines(alloc, &[b""]) else {
-        return MIME_NO_MEMORY;
-    };
-    match nothing.best_listed(alloc, offers) {
-        Ok((_, bad)) if bad > 0 => MIME_BAD_OFFER,
-        _ => MIME_NO_MEMORY,
-    }
-}
-
 /// Sets `best` to the position in a list of offers, such as `text/html, application/json`, of the one that an Accept header
 /// likes best (RFC 9110, 12.5.1). A request without the header, for which `is_there` is false, accepts everything.
 #[unsafe(no_mangle)]
@@ -426,7 +416,7 @@ pub extern "C" fn mime_best(
 {
     *best = 0;
     let Ok(header) = accepted(alloc, is_there, accept) else {
-        return without_header(alloc, offers);
+        return MIME_NO_MEMORY;
     };
     let Ok((position, bad)) = header.best_listed(alloc, offers) else {
         return MIME_NO_MEMORY;
@@ -441,4 +431,44 @@ pub extern "C" fn mime_best(
         }
         None => MIME_NOT_ACCEPTABLE,
     }
+}
+
+/// Sets the first places of `order` to the positions of the acceptable offers of a list, the best first, as `mime_best` chooses it
+/// (RFC 9110, 12.5.1), and `count` to how many they are. It returns `MIME_OK`, or why it wrote nothing: mime.h.
+#[unsafe(no_mangle)]
+pub extern "C" fn mime_order(
+    alloc: Global,
+    is_there: bool,
+    accept: &[u8],
+    offers: &[u8],
+    order: &mut [usize],
+    count: &mut usize,
+) -> u32
+    ensures { OrderIs is_there accept.now offers.now order.old result order.new count.new }
+{
+    *count = 0;
+    let Ok(offered) = Accept::from_lines(alloc, &[offers]) else {
+        return MIME_NO_MEMORY;
+    };
+    if !offered.bad().is_empty() {
+        return MIME_BAD_OFFER;
+    }
+    let Ok(header) = accepted(alloc, is_there, accept) else {
+        return MIME_NO_MEMORY;
+    };
+    if offered.ranges().is_empty() {
+        return MIME_NOT_ACCEPTABLE;
+    }
+    let Ok(positions) = header.order(alloc, offered.ranges()) else {
+        return MIME_NO_MEMORY;
+    };
+    if positions.is_empty() {
+        return MIME_NOT_ACCEPTABLE;
+    }
+    if positions.len() > order.len() {
+        return MIME_NO_ROOM;
+    }
+    order[..positions.len()].copy_from_slice(&positions);
+    *count = positions.len();
+    MIME_OK
 }

@@ -1,17 +1,12 @@
 -- Each answer is what it says.
-use Rattle.std.proofs.Common.{◌≡◌, ◌∙◌, inl, inr, ⊎_elim, sym, ap, subst, arith, length, IsOk}
+use Rattle.std.proofs.Common.{◌∙◌, sym, ap, subst, arith, length, IsOk}
 use Rattle.std.proofs.lemmas.Bool.{true≢false}
 use Rattle.std.proofs.lemmas.List.{nil_from_length}
-use Rattle.mime_c.specs.HeaderAnswers.{BestIs, best_is, none_is_best, an_offer_is_bad, best_has_no_memory}
+use Rattle.mime_c.specs.HeaderAnswers.{best_is, none_is_best, an_offer_is_bad, best_has_no_memory}
 use Rattle.mime_c.proofs.mime_best.Goals as goal
 
 pub returns-in_default : goal.returns-in_default
-returns-in_default c =
-    ⊎_elim
-    (λ memory. subst (λ answer. BestIs c.args.is_there c.args.accept.now c.args.offers.now answer 0) (sym memory)
-    (best_has_no_memory (λ none. true≢false (sym (subst IsOk c.in_default.is (c.accepted.ensures.nothing none.1))))))
-    (λ bad. subst (λ answer. BestIs c.args.is_there c.args.accept.now c.args.offers.now answer 0) (sym bad.0)
-    (an_offer_is_bad bad.1.0 bad.1.1 bad.1.2)) c.without_header.ensures
+returns-in_default c = best_has_no_memory (λ none. true≢false (sym (subst IsOk c.in_default.is (c.accepted.ensures.nothing none.1))))
 
 pub returns-in_default-best_listed : goal.returns-in_default-best_listed
 returns-in_default-best_listed c =

@@ -1,0 +1,146 @@
+//! The calls for parameters: what they mean, and one that is written.
+
+ghost use Rattle.std.specs.Prelude.{◌≡◌, ◌↔◌, ◌<◌, ◌≤◌, ◌==◌, ◌&&◌, not, IsTrue, length};
+ghost use Rattle.mime.specs.Bytes.{backslash_byte};
+ghost use Rattle.mime_http.specs.Unescaped.{unescaped};
+ghost use Rattle.mime_c.specs.Strings.{string_of, written};
+ghost use Rattle.mime_c.specs.Writing.{HasWritten};
+ghost use Rattle.mime_c.specs.ParameterAnswers.{BoundaryIs, UnescapesTo, room_with, SetsTo};
+
+use crate::{
+    MIME_BAD_PARAMETER, MIME_NO_BOUNDARY, MIME_NO_MEMORY, MIME_NO_ROOM, MIME_OK, copy, number_of_error,
+};
+use mime_http::{boundary, content_type, with_parameter};
+use std::alloc::Global;
+
+/// The most bytes that a boundary has, and a 0 (RFC 2046, 5.1.1).
+const BOUNDARY_ROOM: usize = 71;
+
+/// Writes a string at the beginning, and returns how long it is without its 0.
+#[tactic(auto, using(crate::proofs::Writing::both_written))]
+fn put_string(out: &mut [u8], text: &[u8]) -> usize
+    requires { length text.now < length out.old }
+    ensures bytes { out.new ≡ written (string_of text.now) out.old }
+    ensures size { result ≡ length text.now }
+{
+    let end = copy(out, 0, text);
+    copy(out, end, b"\0");
+    end
+}
+
+/// Writes the boundary of a body to `out`, of at least 71 bytes, by the value of its Content-Type (RFC 2046, 5.1.1), and sets `size` to its
+/// number of bytes. It returns `MIME_OK`, or why it wrote nothing: mime.h.
+#[unsafe(no_mangle)]
+pub extern "C" fn mime_boundary(
+    alloc: Global,
+    value: &[u8],
+    out: &mut [u8],
+    size: &mut usize,
+) -> u32
+    ensures { BoundaryIs value.now out.old result out.new size.new }
+{
+    *size = 0;
+    if out.len() < BOUNDARY_ROOM {
+        return MIME_NO_ROOM;
+    }
+    let mime = match content_type(alloc, value) {
+        Ok(mime) => mime,
+        Err(error) => return number_of_error(&error),
+    };
+    match boundary(alloc, &mime) {
+        Ok(Some(found)) => {
+            *size = put_string(out, &found);
+            MIME_OK
+        }
+        Ok(None) => MIME_NO_BOUNDARY,
+        Err(_) => MIME_NO_MEMORY,
+    }
+}
+
+/// Whether a byte is a backslash that begins a pair, after one or not.
+fn begins_pair(is_paired: bool, byte: u8) -> bool
+    ensures { result ≡ (not is_paired && byte == backslash_byte) }
+{
+    !is_paired && byte == b'\\'
+}
+
+/// Writes what a value means, and returns how many bytes that is: each backslash and the byte after it are that byte.
+fn put_unescaped(out: &mut [u8], value: &[u8]) -> usize
+    requires { length value.now < length out.old }
+    ensures written { HasWritten out.old out.new result (unescaped value.now) }
+    ensures within { result ≤ length value.now }
+{
+    let mut end = 0;
+    let mut is_paired = false;
+    for (at, &byte) in value.iter().enumerate() {
+        if begins_pair(is_paired, byte) {
+            is_paired = true;
+            continue;
+        }
+        end = copy(out, end, &[byte]);
+        is_paired = false;
+    }
+    end
+}
+
+/// Writes what a parameter's value means (RFC 9110, 5.6.4) to `out`, of at least `value.len() + 1` bytes, and sets `size` to its number of
+/// bytes: `a\"b` means `a"b`. It returns `MIME_OK`, or `MIME_NO_ROOM` if it wrote nothing.
+#[unsafe(no_mangle)]
+pub extern "C" fn mime_unescape(value: &[u8], out: &mut [u8], size: &mut usize) -> u32
+    ensures { UnescapesTo value.now out.old result out.new size.new }
+{
+    *size = 0;
+    if out.len() <= value.len() {
+        return MIME_NO_ROOM;
+    }
+    let end = put_unescaped(out, value);
+    *size = end;
+    copy(out, end, b"\0");
+    MIME_OK
+}
+
+/// Whether a buffer has room for a media type with a parameter.
+fn has_room(out: &[u8], text: &[u8], name: &[u8], value: &[u8]) -> bool
+    ensures { IsTrue result ↔ (room_with text.now name.now value.now ≤ length out.now) }
+{
+    let most = 2 * text.len() as u128 + name.len() as u128 + 2 * value.len() as u128 + 6;
+    most <= out.len() as u128
+}
+
+/// Writes a media type with a parameter in place of those of its name (RFC 9110, 5.6.6) to `out`, of at least
+/// `2 * text.len() + name.len() + 2 * value.len() + 6` bytes, and sets `size` to its number of bytes. It returns `MIME_OK`, or why it wrote
+/// nothing: mime.h.
+#[unsafe(no_mangle)]
+pub extern "C" fn mime_set_parameter(
+    alloc: Global,
+    text: &[u8],
+    name: &[u8],
+    value: &[u8],
+    out: &mut [u8],
+    size: &mut usize,
+) -> u32
+    ensures { SetsTo text.now name.now value.now out.old result out.new size.new }
+{
+    *size = 0;
+    if !has_room(out, text, name, value) {
+        return MIME_NO_ROOM;
+    }
+    let mime = match content_type(alloc, text) {
+        Ok(mime) => mime,
+        Err(error) => return number_of_error(&error),
+    };
+    let Ok(name) = str::from_utf8(name) else {
+        return MIME_BAD_PARAMETER;
+    };
+    let Ok(value) = str::from_utf8(value) else {
+        return MIME_BAD_PARAMETER;
+    };
+    match with_parameter(alloc, &mime, name, value) {
+        Ok(Some(made)) => {
+            *size = put_string(out, made.as_str().as_bytes());
+            MIME_OK
+        }
+        Ok(None) => MIME_BAD_PARAMETER,
+        Err(_) => MIME_NO_MEMORY,
+    }
+}
