@@ -230,11 +230,171 @@ static void check_accept(const char *text, size_t len)
     CHECK(answer == MIME_OK ? ranges > 0 && best < 3 : answer == MIME_NOT_ACCEPTABLE && best == 0);
 }
 
+/* What a value means, as RFC 9110, 5.6.4, says it. Gives the number of bytes. */
+static size_t meant(const char *value, size_t len, char *out)
+{
+    size_t size = 0;
+    for (size_t i = 0; i < len; i++)
+        if (value[i] != '\\' || ++i < len)
+            out[size++] = value[i];
+    return size;
+}
+
+static void check_unescape(const char *text, size_t len)
+{
+    static char means[ROOM];
+    size_t size, room = len + 1, wanted = meant(text, len, means);
+    count_anew();
+    for (size_t small = len < 100 ? 0 : len; small < room; small++)
+        CHECK(mime_unescape(text, len, buffer(small), small, &size) == MIME_NO_ROOM && size == 0 && has_written(0, small));
+    char *out = buffer(room);
+    CHECK(mime_unescape(text, len, out, room, &size) == MIME_OK && size == wanted && memcmp(out, means, size) == 0 && out[size] == 0);
+    CHECK(has_written(size + 1, room) && requests == 0);
+}
+
+/* Whether bytes are a boundary (RFC 2046, 5.1.1). */
+static int is_boundary(const char *bytes, size_t len)
+{
+    static const char all[] = "'()+_,-./:=? 0123456789abcdefghijklmnopqrstuvwxyzABCDEFGHIJKLMNOPQRSTUVWXYZ";
+    return len > 0 && len <= 70 && bytes[len - 1] != ' ' && strspn(bytes, all) == len;
+}
+
+static void check_boundary(const char *text, size_t len)
+{
+    static char strings[ROOM], means[ROOM];
+    enum { MOST = 71 };
+    struct mime_found found;
+    size_t size;
+    uint32_t wanted = mime_content_type(text, len, strings, sizeof strings, &found), refused;
+    const char *value = wanted == MIME_OK && strncmp(strings, "multipart/", 10) == 0 ? mime_param(strings, &found, "boundary") : NULL;
+    size_t count = value != NULL ? meant(value, strlen(value), means) : 0;
+    means[count] = 0;
+    int has_one = is_boundary(means, count);
+    count_anew();
+    for (size_t small = 0; small < MOST; small++)
+        CHECK(mime_boundary(text, len, buffer(small), small, &size) == MIME_NO_ROOM && size + requests == 0 && has_written(0, small));
+    char *out = buffer(MOST);
+    uint32_t answer = mime_boundary(text, len, out, MOST, &size);
+    size_t asked = requests;
+    CHECK(answer == (wanted != MIME_OK || has_one ? wanted : MIME_NO_BOUNDARY) && size == (has_one ? count : 0) && held == 0);
+    CHECK(has_written(has_one ? size + 1 : 0, MOST) && (!has_one || strcmp(out, means) == 0));
+    CHECK_REFUSED(asked, (refused = mime_boundary(text, len, buffer(MOST), MOST, &size)) == MIME_NO_MEMORY
+                             ? has_written(0, MOST) && size == 0 : refused == answer && refused != MIME_OK);
+}
+
+/* Checks a parameter that is written into a media type: it is read back, and the others stay. `wanted` is the answer, if it is known. */
+static void check_set(const char *text, size_t len, const char *name, size_t name_len, const char *value, size_t value_len, uint32_t wanted)
+{
+    static char strings[ROOM], again[ROOM], means[ROOM], key[ROOM];
+    struct mime_found found, others;
+    size_t size, room = 2 * len + name_len + 2 * value_len + 6, most = room < 100 ? 0 : room - 1;
+    count_anew();
+    for (size_t small = most; small < room; small++)
+        CHECK(mime_set_parameter(text, len, name, name_len, value, value_len, buffer(small), small, &size) == MIME_NO_ROOM && size == 0
+              && has_written(0, small) && requests == 0);
+    char *out = buffer(room);
+    uint32_t answer = mime_set_parameter(text, len, name, name_len, value, value_len, out, room, &size), refused;
+    size_t asked = requests;
+    CHECK(answer == wanted && held == 0 && has_written(answer == MIME_OK ? size + 1 : 0, room));
+    if (answer == MIME_OK) {
+        CHECK(out[size] == 0 && strlen(out) == size && mime_read(out, size, strings, sizeof strings, &found) == MIME_OK);
+        memcpy(key, name, name_len);
+        key[name_len] = 0;
+        const char *found_value = mime_param(strings, &found, key);
+        CHECK(found_value != NULL && found_value == skip(strings, 2 * found.params));
+        CHECK(meant(found_value, strlen(found_value), means) == value_len && strncasecmp(means, value, value_len) == 0);
+        CHECK(strcasecmp(key, "charset") == 0 || memcmp(means, value, value_len) == 0);
+        CHECK(mime_content_type(text, len, again, sizeof again, &others) == MIME_OK && strcmp(again, strings) == 0);
+        const char *kept = skip(strings, 1);
+        for (const char *it = skip(again, 1); it < again + others.printed; it = skip(it, 2))
+            if (strcasecmp(it, key) != 0) {
+                CHECK(strcmp(it, kept) == 0 && strcmp(skip(it, 1), skip(kept, 1)) == 0);
+                kept = skip(kept, 2);
+            }
+        CHECK(skip(kept, 1) == found_value);
+    } else
+        CHECK(size == 0);
+    CHECK_REFUSED(asked, (refused = mime_set_parameter(text, len, name, name_len, value, value_len, buffer(room), room, &size)) == MIME_NO_MEMORY
+                             ? has_written(0, room) && size == 0 : refused == answer && refused != MIME_OK);
+}
+
+static void check_set_parameter(const char *text, size_t len)
+{
+    static char more[ROOM];
+    struct mime_found found;
+    uint32_t is = mime_content_type(text, len, more, sizeof more, &found);
+    check_set(text, len, "P", 1, "x", 1, is);
+    check_set(text, len, "charset", 7, "UTF-8", 5, is);
+    /* As the value: what mime_read takes in quotes is one, with a backslash before each quote and each backslash. */
+    static char quoted[2 * ROOM + 9] = "a/b;p=\"", *end;
+    end = quoted + 7;
+    for (size_t i = 0; i < len; i++) {
+        if (text[i] == '"' || text[i] == '\\')
+            *end++ = '\\';
+        *end++ = text[i];
+    }
+    *end++ = '"';
+    static char room[4 * ROOM + 20];
+    int is_value = mime_read(quoted, (size_t)(end - quoted), room, sizeof room, &found) == MIME_OK;
+    check_set("a/b;p=\"y z\";q=1", 15, "p", 1, text, len, is_value ? MIME_OK : MIME_BAD_PARAMETER);
+    /* As the name: what mime_read takes before an equals sign is one, and nothing else. */
+    char *name = quoted + 4;
+    memcpy(name, text != NULL ? text : "", len);
+    memcpy(name + len, "=x", 2);
+    int is_name = mime_read(quoted, len + 6, room, sizeof room, &found) == MIME_OK && found.params == 1 && strlen(skip(room, 1)) == len;
+    memcpy(quoted + 4, "p=\"", 3);
+    check_set("a/b", 3, text, len, "x y", 3, is_name ? MIME_OK : MIME_BAD_PARAMETER);
+}
+
+/* Checks that each next offer is the best of those that are left. */
+static void check_order(const char *text, size_t len)
+{
+    static const char *const offers[] = {"text/html", "image/svg+xml;p=x", "a/b", "text/html"};
+    enum { COUNT = 4 };
+    static char list[64], left[64];
+    size_t count, best, asked, *order = (size_t *)(void *)out_end - COUNT;
+    uint32_t refused;
+    *list = 0;
+    for (size_t i = 0; i < COUNT; i++)
+        strcat(strcat(list, i > 0 ? ", " : ""), offers[i]);
+    text = text != NULL ? text : "";
+    buffer(COUNT * sizeof *order);
+    count_anew();
+    uint32_t answer = mime_order(text, len, list, strlen(list), order, COUNT, &count);
+    asked = requests;
+    CHECK(held == 0 && has_written(count * sizeof *order, COUNT * sizeof *order) && count <= COUNT);
+    CHECK(answer == (count > 0 ? MIME_OK : MIME_NOT_ACCEPTABLE));
+    int is_left[COUNT] = {1, 1, 1, 1};
+    for (size_t i = 0; i <= count && i < COUNT; i++) {
+        size_t places[COUNT], some = 0;
+        *left = 0;
+        for (size_t k = 0; k < COUNT; k++)
+            if (is_left[k]) {
+                strcat(strcat(left, some > 0 ? "," : ""), offers[k]);
+                places[some++] = k;
+            }
+        uint32_t is = mime_best(text, len, left, strlen(left), &best);
+        CHECK(i == count ? is == MIME_NOT_ACCEPTABLE : is == MIME_OK && order[i] < COUNT && places[best] == order[i]);
+        if (i < count)
+            is_left[order[i]] = 0;
+    }
+    for (size_t few = 0, all = count; few < all; few++) {
+        buffer(few * sizeof *order);
+        CHECK(mime_order(text, len, list, strlen(list), few > 0 ? (size_t *)(void *)out_end - few : NULL, few, &count) == MIME_NO_ROOM);
+        CHECK(count == 0 && has_written(0, few * sizeof *order));
+    }
+    CHECK(mime_order(text, len, "a/b, c", 6, order, COUNT, &count) == MIME_BAD_OFFER && count == 0);
+    buffer(COUNT * sizeof *order);
+    CHECK_REFUSED(asked, (refused = mime_order(text, len, list, strlen(list), order, COUNT, &count)) == MIME_NO_MEMORY && count == 0
+                             && has_written(0, COUNT * sizeof *order));
+}
+
 /* Whether each answer has its text, alone with these words, one that isn't among them included; and the version is the header's. */
 static int has_texts(void)
 {
     static const char *const words[] = {"no error", "between the type", "a subtype was", "sign (=) was", "a value was", "a quote",
-                                        "token", "memory", "UTF-8", "buffer", "acceptable", "an offer isn't", "unknown"};
+                                        "invalid token", "memory", "UTF-8", "buffer", "acceptable", "an offer isn't", "no boundary",
+                                        "the name", "unknown"};
     for (uint32_t one = 0; one < sizeof words / sizeof *words; one++)
         for (uint32_t other = 0; other < sizeof words / sizeof *words; other++)
             if ((strstr(mime_answer_text(one), words[other]) != NULL) != (one == other))
@@ -249,12 +409,16 @@ static void check(const char *given, size_t len)
     check_list(text, len);
     check_content_type(text, len);
     check_accept(text, len);
+    check_order(text, len);
+    check_boundary(text, len);
+    check_unescape(text, len);
+    check_set_parameter(text, len);
 }
 
 /* What the texts near the grammar are made of. */
 static const char *const pieces[] = {
     "a", "text", "/", "/", ";", ";", "; ", "=", "=", "\"", "\"", "\\", "+", ",", "*/*", "a/b", "text/html;q=0.5", " ", "\t", "charset",
-    "UTF-8", "Q", "é", "\xff", "(", "\x7f", "p=\"x y\"", "image/SVG+xml", "text/of-40-bytes-which-ask-for-no-memory",
+    "UTF-8", "Q", "multipart/mixed;boundary=", "é", "\xff", "(", "\x7f", "p=\"x y\"", "image/SVG+xml", "text/of-40-bytes-which-ask-for-no-memory",
     "text/of-41-bytes-which-do-ask-for-memory1"};
 
 int main(int argc, char **argv)

@@ -15,6 +15,7 @@ static size_t len;
 static void call(void)
 {
     struct mime_found found;
+    static size_t order[2];
     size_t length, bad;
     uint8_t equal;
 #define IF_NAMED(call) if (strcmp(name, #call) == 0)
@@ -23,6 +24,10 @@ static void call(void)
     IF_NAMED(mime_content_type) mime_content_type(text, len, out, sizeof out, &found);
     IF_NAMED(mime_accept) mime_accept(text, len, out, sizeof out, &length, &bad);
     IF_NAMED(mime_best) mime_best(text, len, "text/html, a/b", 14, &length);
+    IF_NAMED(mime_order) mime_order(text, len, "text/html, a/b", 14, order, 2, &length);
+    IF_NAMED(mime_boundary) mime_boundary(text, len, out, 71, &length);
+    IF_NAMED(mime_unescape) mime_unescape(text, len, out, sizeof out, &length);
+    IF_NAMED(mime_set_parameter) mime_set_parameter(text, len, "p", 1, "x", 1, out, sizeof out, &length);
     IF_NAMED(mime_equal) mime_equal(text, len, text, len, &equal), mime_equal("a/b", 3, text, len, &equal);
 }
 

@@ -1,7 +1,7 @@
 -- How many bytes a media type with a parameter is, and that what is written comes back.
 use Rattle.std.proofs.Common.{◌≡◌, ℕ, ◌+◌, ◌*◌, ◌<◌, ◌≤◌, Bool, true, false, List, [], ◌∷◌, ◌++◌, length, filter, refl, ap, subst, arith, length-append}
 use Rattle.std.specs.List.{list_all, AllByRecursion}
-use Rattle.std.specs.Prelude.{◌==◌, ◌||◌, if◌then◌else◌}
+use Rattle.std.specs.Prelude.{◌==◌, ◌||◌, not, bytes_eq, if◌then◌else◌}
 use Rattle.std.proofs.lemmas.Bool.Decides.{nat_tests}
 use Rattle.std.proofs.lemmas.List.Concat.{flat_map-append}
 use Rattle.mime.specs.Bytes.{quote_byte, backslash_byte}
@@ -25,7 +25,7 @@ use Rattle.mime_c.proofs.Room.{lengths_of}
 length-quote_of : (value : List ℕ) → length (quote_of value) ≤ 1
 length-quote_of value = by_test (is_token_value value)
   where
-    by_test : (token : Bool) → length (if token then [] else 34 ∷ []) ≤ 1
+    by_test : (token : Bool) → length (if◌then◌else◌ {A = List ℕ} token [] (34 ∷ [])) ≤ 1
     by_test true = omega arith
     by_test false = omega arith
 
@@ -63,23 +63,24 @@ kept_pairs test ((name, value) ∷ pairs) (is, are) =
     let more = kept_pairs test pairs are in
     let size = length-strings_of_pair name value pairs in
     let some = some_name name is.0 in
-    by_test (test (name, value)) (omega (arith, more, size))
+    by_test (test (name, value)) (name, value) (filter test pairs) (omega (arith, more, size))
     (omega (arith, more, size, some, length-pair name value, length-append (text_of_pair (name, value)) (text_of_pairs (filter test pairs))))
   where
-    by_test : (kept : Bool) {most : ℕ} {pair : List ℕ × List ℕ} {others : List (List ℕ × List ℕ)} → length (text_of_pairs others) ≤ most
+    by_test : (kept : Bool) (pair : List ℕ × List ℕ) (others : List (List ℕ × List ℕ)) {most : ℕ} → length (text_of_pairs others) ≤ most
         → length (text_of_pairs (pair ∷ others)) ≤ most → length (text_of_pairs (if kept then pair ∷ others else others)) ≤ most
-    by_test true less more = more
-    by_test false less more = less
+    by_test true pair others less more = more
+    by_test false pair others less more = less
 
 -- ---- a media type with a parameter
 
 pub set_fits : (text name value : List ℕ) (media : MediaType) → Reads (tight text) media
     → length (with_parameter media name value).kept + 1 ≤ room_with text name value
 set_fits text name value media reads =
-    let made = (lowered name, lowered_value name (escaped value)) in
+    let made : List ℕ × List ℕ = (lowered name, lowered_value name (escaped value)) in
     let kept = others (lowered name) media.pairs in
     let size = (lengths_of (tight text) media reads).3 in
-    let pairs = kept_pairs _ media.pairs (kept_is_safe (tight text) media reads).pairs in
+    let other : List ℕ × List ℕ → Bool = λ pair. not (bytes_eq (lowered pair.0) (lowered (lowered name))) in
+    let pairs = kept_pairs other media.pairs (kept_is_safe (tight text) media reads).pairs in
     let content : length (lowered_value name (escaped value)) ≤ 2 * length value =
     lowered_value-either (λ it. length it ≤ 2 * length value) name (escaped value) (length-escaped value)
     (omega (arith, length-lowered (escaped value), length-escaped value)) in

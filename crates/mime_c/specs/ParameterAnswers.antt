@@ -58,6 +58,6 @@ pub data SetsTo (text name value old : List ℕ) : ℕ → List ℕ → ℕ → 
       → SetsTo text name value old MIME_BAD_PARAMETER old 0
   isnt_type : (error : FieldError) → room_with text name value ≤ length old → HttpExplains text error
       → SetsTo text name value old (number_of_error error) old 0
-  set_has_no_memory : room_with text name value ≤ length old → IsUtf8 text → IsHttpMediaType text → IsParameter name value
+  set_has_no_memory : room_with text name value ≤ length old → IsUtf8 text → IsHttpMediaType text
       → SetsTo text name value old MIME_NO_MEMORY old 0
   set_has_no_room : length old < room_with text name value → SetsTo text name value old MIME_NO_ROOM old 0

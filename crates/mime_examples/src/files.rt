@@ -1,44 +1,134 @@
-//! A file's media type by its name, from a table of constants.
+//! A file's media type by the ending of its name.
 
-ghost use Rattle.std.specs.Prelude.{◌≡◌, ◌↔◌, ◌⊎◌, IsTrue};
+ghost use Rattle.std.specs.Prelude.{◌≡◌, ◌≢◌, ℕ, List, None, IfSome, Contains, map};
+ghost use Rattle.mime.specs.Values.{lowered};
 
-use mime::{
-    APPLICATION_JSON, APPLICATION_OCTET_STREAM, Atom, IMAGE_JPEG, IMAGE_PNG, IMAGE_SVG,
-    TEXT_CSS_UTF_8, TEXT_HTML_UTF_8, TEXT_PLAIN_UTF_8,
-};
+/// The media type of what isn't known (RFC 2046, 4.5.1).
+const OTHER: &str = "application/octet-stream";
 
-/// The media type of files by their extension.
-static TYPES: [(&str, Atom); 9] = [
-    ("css", TEXT_CSS_UTF_8),
-    ("htm", TEXT_HTML_UTF_8),
-    ("html", TEXT_HTML_UTF_8),
-    ("jpeg", IMAGE_JPEG),
-    ("jpg", IMAGE_JPEG),
-    ("json", APPLICATION_JSON),
-    ("png", IMAGE_PNG),
-    ("svg", IMAGE_SVG),
-    ("txt", TEXT_PLAIN_UTF_8),
+/// The media types of files by their endings, in lowercase: those of the constants, and those of Debian's package media-types that
+/// servers send most. A text that is sent without a charset is taken for another one by some clients, so texts are sent as UTF-8.
+static TYPES: [(&str, &str); 95] = [
+    ("7z", "application/x-7z-compressed"),
+    ("aac", "audio/aac"),
+    ("apk", "application/vnd.android.package-archive"),
+    ("apng", "image/apng"),
+    ("atom", "application/atom+xml"),
+    ("avi", "video/x-msvideo"),
+    ("avif", "image/avif"),
+    ("bin", "application/octet-stream"),
+    ("bmp", "image/bmp"),
+    ("cbor", "application/cbor"),
+    ("css", "text/css; charset=utf-8"),
+    ("csv", "text/csv; charset=utf-8"),
+    ("deb", "application/vnd.debian.binary-package"),
+    ("doc", "application/msword"),
+    ("docx", "application/vnd.openxmlformats-officedocument.wordprocessingml.document"),
+    ("dtd", "application/xml-dtd"),
+    ("eml", "message/rfc822"),
+    ("epub", "application/epub+zip"),
+    ("flac", "audio/flac"),
+    ("geojson", "application/geo+json"),
+    ("gif", "image/gif"),
+    ("glb", "model/gltf-binary"),
+    ("gltf", "model/gltf+json"),
+    ("gz", "application/gzip"),
+    ("heic", "image/heic"),
+    ("heif", "image/heif"),
+    ("htm", "text/html; charset=utf-8"),
+    ("html", "text/html; charset=utf-8"),
+    ("ico", "image/vnd.microsoft.icon"),
+    ("ics", "text/calendar"),
+    ("iso", "application/x-iso9660-image"),
+    ("jar", "application/java-archive"),
+    ("jpeg", "image/jpeg"),
+    ("jpg", "image/jpeg"),
+    ("js", "text/javascript"),
+    ("json", "application/json"),
+    ("jsonld", "application/ld+json"),
+    ("jxl", "image/jxl"),
+    ("m3u8", "application/vnd.apple.mpegurl"),
+    ("m4a", "audio/mp4"),
+    ("m4v", "video/mp4"),
+    ("markdown", "text/markdown"),
+    ("md", "text/markdown"),
+    ("mjs", "text/javascript"),
+    ("mkv", "video/x-matroska"),
+    ("mov", "video/quicktime"),
+    ("mp3", "audio/mpeg"),
+    ("mp4", "video/mp4"),
+    ("mpd", "application/dash+xml"),
+    ("mpeg", "video/mpeg"),
+    ("mpg", "video/mpeg"),
+    ("msgpack", "application/msgpack"),
+    ("odp", "application/vnd.oasis.opendocument.presentation"),
+    ("ods", "application/vnd.oasis.opendocument.spreadsheet"),
+    ("odt", "application/vnd.oasis.opendocument.text"),
+    ("oga", "audio/ogg"),
+    ("ogg", "audio/ogg"),
+    ("ogv", "video/ogg"),
+    ("opus", "audio/ogg"),
+    ("otf", "font/otf"),
+    ("p7s", "application/pkcs7-signature"),
+    ("pdf", "application/pdf"),
+    ("png", "image/png"),
+    ("ppt", "application/vnd.ms-powerpoint"),
+    ("pptx", "application/vnd.openxmlformats-officedocument.presentationml.presentation"),
+    ("ps", "application/postscript"),
+    ("rar", "application/vnd.rar"),
+    ("rdf", "application/rdf+xml"),
+    ("rtf", "application/rtf"),
+    ("sql", "application/sql"),
+    ("svg", "image/svg+xml"),
+    ("tar", "application/x-tar"),
+    ("tif", "image/tiff"),
+    ("tiff", "image/tiff"),
+    ("tsv", "text/tab-separated-values; charset=utf-8"),
+    ("ttf", "font/ttf"),
+    ("ttl", "text/turtle"),
+    ("txt", "text/plain; charset=utf-8"),
+    ("vcard", "text/vcard"),
+    ("vcf", "text/vcard"),
+    ("wasm", "application/wasm"),
+    ("wav", "audio/x-wav"),
+    ("webm", "video/webm"),
+    ("webmanifest", "application/manifest+json"),
+    ("webp", "image/webp"),
+    ("woff", "font/woff"),
+    ("woff2", "font/woff2"),
+    ("xhtml", "application/xhtml+xml"),
+    ("xls", "application/vnd.ms-excel"),
+    ("xlsx", "application/vnd.openxmlformats-officedocument.spreadsheetml.sheet"),
+    ("xml", "application/xml"),
+    ("xslt", "application/xslt+xml"),
+    ("xz", "application/x-xz"),
+    ("zip", "application/zip"),
+    ("zst", "application/zstd"),
 ];
 
-/// The media type of a file by what follows the last dot of its name, in any case;
-/// `application/octet-stream` if the table doesn't have it.
-pub fn type_of_file(name: &str) -> Atom {
-    if let Some((_, extension)) = name.rsplit_once('.') {
-        for (known, atom) in &TYPES {
-            if extension.eq_ignore_ascii_case(known) {
-                return *atom;
-            }
+/// The media type of a row with this ending, ignoring ASCII case.
+pub fn type_of_ending(
+    table: &[(&'static str, &'static str)],
+    ending: &str,
+) -> Option<&'static str>
+    ensures found { IfSome result (λ type. (known : List ℕ) × Contains (map (λ row. (row.0.now, row.1.now)) table.now) (known, type.now)
+        × (lowered known ≡ lowered ending.now)) }
+    ensures none { result ≡ None → (known type : List ℕ) → Contains (map (λ row. (row.0.now, row.1.now)) table.now) (known, type)
+        → lowered known ≢ lowered ending.now }
+{
+    for (known, type_) in table {
+        if ending.eq_ignore_ascii_case(known) {
+            return Some(type_);
         }
     }
-    APPLICATION_OCTET_STREAM
+    None
 }
 
-/// Whether to send a file compressed: pictures of pixels are so already.
-pub fn is_compressible(atom: Atom) -> bool
-    ensures { IsTrue result ↔ ¬ ((atom ≡ Atom.IMAGE_JPEG) ⊎ (atom ≡ Atom.IMAGE_PNG)) }
-{
-    match atom {
-        IMAGE_JPEG | IMAGE_PNG => false,
-        _ => true,
+/// The media type of a file by what follows the last dot of its name, in any case; `application/octet-stream` if the table doesn't have
+/// it, or there is no dot.
+pub fn type_of_file(name: &str) -> &'static str {
+    match name.rsplit_once('.') {
+        Some((_, ending)) => type_of_ending(&TYPES, ending).unwrap_or(OTHER),
+        None => OTHER,
     }
 }

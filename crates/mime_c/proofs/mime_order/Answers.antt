@@ -85,10 +85,11 @@ returns c =
     let none = none_bad c.bad.result.now vec_items (grind (arith, nat_tests, c.if-not-is_empty.ensures)) c.bad.ensures in
     let order = vec_items c.in-Ok-order.positions in
     let some : order ≢ [] = λ empty. absurd (grind (arith, nat_tests, ap length empty, c.if-is_empty-2.ensures)) in
-    let answer = order_is c.in-Ok-accepted.header c.in-Ok.offered order c.in-Ok-accepted.ensures.header c.in-Ok.ensures.header none
+    let is_there = c.args.is_there in
+    let Answered : List ℕ → ℕ → Type 0 = OrderIs is_there c.args.accept.now c.args.offers.now c.args.order.now 0 in
+    let length_is : c.len-3.result ≡ length order = omega (arith, c.len-3.ensures, c.deref.ensures.len, ap length c.deref.ensures.value) in
+    let answer : Answered (written order c.args.order.now) (length order) = order_is c.in-Ok-accepted.header c.in-Ok.offered order c.in-Ok-accepted.ensures.header c.in-Ok.ensures.header none
     (in_order _ c.ranges-3.ensures c.in-Ok-order.ensures refl) some (omega (arith, c.if-len-order.false, c.len.ensures)) in
     let places : written order c.args.order.now ≡ c.copy_from_slice.new.self ++ drop c.len-2.result c.args.order.now =
-    cc (c.copy_from_slice.ensures.after, c.deref.ensures.value, c.len-2.ensures) in
-    let length_is : c.len-3.result ≡ length order = c.len-3.ensures in
-    subst (λ count. OrderIs c.args.is_there c.args.accept.now c.args.offers.now c.args.order.now 0 (c.copy_from_slice.new.self ++ drop c.len-2.result c.args.order.now) count)
-    (sym length_is) (subst (λ new. OrderIs c.args.is_there c.args.accept.now c.args.offers.now c.args.order.now 0 new (length order)) places answer)
+    cc (c.copy_from_slice.ensures.after, c.deref.ensures.value, c.len-2.ensures, c.len-3.ensures, length_is) in
+    subst (Answered (c.copy_from_slice.new.self ++ drop c.len-2.result c.args.order.now)) (sym length_is) (subst (λ new. Answered new (length order)) places answer)

@@ -1,5 +1,5 @@
 -- The next byte begins a pair, or it is written.
-use Rattle.std.proofs.Common.{◌≡◌, ◌∙◌, ◌+◌, ◌<◌, ◌==◌, ◌&&◌, Bool, true, false, not, ℕ, List, [], ◌∷◌, ◌++◌, drop, refl, ap, arith, length}
+use Rattle.std.proofs.Common.{◌≡◌, ◌∙◌, ◌+◌, ◌<◌, ◌==◌, ◌&&◌, Bool, true, false, not, ℕ, List, [], ◌∷◌, ◌++◌, drop, sym, ap, arith, length}
 use Rattle.std.specs.Prelude.{if◌then◌else◌}
 use Rattle.std.proofs.lemmas.List.{drop_more}
 use Rattle.mime.specs.Bytes.{backslash_byte}
@@ -12,3 +12,15 @@ means : (paired : Bool) (bytes more : List ℕ) (b : ℕ) (begins : Bool) → by
     → unescaped_from paired bytes ≡ (if begins then unescaped_from true more else b ∷ unescaped_from false more)
 means paired bytes more b begins is tells =
     ap (unescaped_from paired) is ∙ ap (λ (pair : Bool). if pair then unescaped_from true more else b ∷ unescaped_from false more) tells
+
+pub loop-at-preserved : goal.loop-at-preserved
+loop-at-preserved c =
+    let value = c.args.value.now in
+    let at = c.loop-at.at in
+    let next = drop_more value at 0 c.loop-at-test.true in
+    let left = means c.loop-at.is_paired (drop at value) (drop (at + 1) value) _ false next (sym c.begins_pair.ensures ∙ c.if-begins_pair.false) in
+    record {
+      writes = leaves-next c.loop-at.invariant.writes _ _ _ _ left c.copy-end.ensures.writes;
+      within = omega (arith, c.copy-end.ensures.end, c.loop-at.invariant.within);
+      size = omega (arith, c.copy-end.auto.out, c.loop-at.invariant.size);
+    }

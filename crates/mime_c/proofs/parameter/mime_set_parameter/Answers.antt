@@ -1,0 +1,78 @@
+-- Each answer is what it says.
+use Rattle.std.proofs.Common.{rules, is_some, ◌≡◌, ◌∙◌, ◌+◌, ◌<◌, ◌≤◌, ℕ, List, [], ◌∷◌, length, refl, ap, sym, subst, arith, ⊎_elim}
+use Rattle.std.proofs.lemmas.Bool.{cases_lt, true≢false}
+use Rattle.mime.specs.Grammar.{IsToken}
+use Rattle.mime.specs.HeaderLaws.{AreHeaderBytes}
+use Rattle.mime.specs.Values.{MediaType, Reads}
+use Rattle.mime_c.specs.Strings.{ComeBack}
+use Rattle.mime_c.specs.ParameterAnswers.{room_with, IsParameter, with_parameter, is_set, isnt_parameter, isnt_type, set_has_no_memory, set_has_no_room}
+use Rattle.mime_c.proofs.ParameterRoom.{set_fits, set_comes_back}
+use Rattle.mime_c.proofs.parameter.mime_set_parameter.Goals as goal
+
+-- a media type that was made is the one with the parameter
+made_is : (media : MediaType) {made : MediaType} {name value its_name its_value : List ℕ} → name ≡ its_name → value ≡ its_value
+    → made ≡ with_parameter media name value → made ≡ with_parameter media its_name its_value
+made_is media {made} {name} {value} {its_name} named valued is =
+    is ∙ (ap (λ it. with_parameter media it value) named ∙ ap (with_parameter media its_name) valued)
+
+pub returns-then-not-has_room : goal.returns-then-not-has_room
+returns-then-not-has_room c =
+    set_has_no_room (⊎_elim (λ short. short) (λ room. absurd (true≢false (sym (c.if-not-has_room.ensures.1 room))))
+    (cases_lt (length c.args.out.now) (room_with c.args.text.now c.args.name.now c.args.value.now)))
+
+pub returns-in-Err : goal.returns-in-Err
+returns-in-Err c = rw c.number_of_error.ensures (isnt_type _ (c.if-not-has_room.ensures.0 refl) c.in-Err.ensures.explained)
+
+pub returns-in_default : goal.returns-in_default
+returns-in_default c =
+    let http = c.in-Ok.ensures.http in
+    isnt_parameter c.in-Ok.mime.media (c.if-not-has_room.ensures.0 refl) http.0 http.1 (λ is. c.in_default.ensures.cases.0 is.name_utf8)
+
+pub returns-in_default-from_utf8 : goal.returns-in_default-from_utf8
+returns-in_default-from_utf8 c =
+    let http = c.in-Ok.ensures.http in
+    isnt_parameter c.in-Ok.mime.media (c.if-not-has_room.ensures.0 refl) http.0 http.1 (λ is. c.in_default-from_utf8.ensures.cases.0 is.value_utf8)
+
+pub put_string-requires : goal.put_string-requires
+put_string-requires c =
+    let made : c.in-Ok-Some.made.media ≡ with_parameter c.in-Ok.mime.media c.in-Ok-from_utf8.name.now c.in-Ok-from_utf8-2.value.now = search rules in
+    let is = made_is c.in-Ok.mime.media c.in-Ok-from_utf8.ensures.cases.0 c.in-Ok-from_utf8-2.ensures.cases.0 made in
+    let room = c.if-not-has_room.ensures.0 refl in
+    omega (arith, room, set_fits c.args.text.now c.args.name.now c.args.value.now c.in-Ok.mime.media c.in-Ok.ensures.kept,
+    ap (λ (it : MediaType). length it.kept) is, ap length c.as_str.ensures.text, ap length c.as_bytes.ensures.value)
+
+pub returns-in-Ok-Some : goal.returns-in-Ok-Some
+returns-in-Ok-Some c =
+    let http = c.in-Ok.ensures.http in
+    let media = c.in-Ok.mime.media in
+    let name = c.in-Ok-from_utf8.ensures.cases in
+    let value = c.in-Ok-from_utf8-2.ensures.cases in
+    let both = c.in-Ok-Some.ensures.exact.0 (ap is_some c.in-Ok-Some.field-0-is) in
+    let made : c.in-Ok-Some.made.media ≡ with_parameter media c.in-Ok-from_utf8.name.now c.in-Ok-from_utf8-2.value.now = search rules in
+    let is : c.in-Ok-Some.made.media ≡ with_parameter media c.args.name.now c.args.value.now = made_is media name.0 value.0 made in
+    let text = c.as_bytes.ensures.value ∙ c.as_str.ensures.text in
+    let parameter : IsParameter c.args.name.now c.args.value.now = record {
+      name_utf8 = name.1;
+      value_utf8 = value.1;
+      named = subst IsToken name.0 both.0;
+      safe = subst AreHeaderBytes value.0 both.1;
+    } in
+    let reads : Reads c.in-Ok-Some.made.media.kept c.in-Ok-Some.made.media = subst (λ it. Reads it c.in-Ok-Some.made.media) c.as_str.ensures.text c.as_str.ensures.reads in
+    let back = set_comes_back c.in-Ok-Some.made.media reads in
+    rw (c.put_string.ensures.bytes, c.put_string.ensures.size, text, is)
+    (is_set media (c.if-not-has_room.ensures.0 refl) http.0 http.1 parameter (subst (λ (it : MediaType). ComeBack (it.kept ∷ [])) is back))
+
+pub returns-in-Ok-None : goal.returns-in-Ok-None
+returns-in-Ok-None c =
+    let http = c.in-Ok.ensures.http in
+    let name = c.in-Ok-from_utf8.ensures.cases in
+    let value = c.in-Ok-from_utf8-2.ensures.cases in
+    isnt_parameter c.in-Ok.mime.media (c.if-not-has_room.ensures.0 refl) http.0 http.1
+    (λ is.
+    let some = c.in-Ok-None.ensures.exact.1 (subst IsToken (sym name.0) is.named, subst AreHeaderBytes (sym value.0) is.safe) in
+    absurd (true≢false (sym some ∙ ap is_some c.in-Ok-None.field-0-is)))
+
+pub returns : goal.returns
+returns c =
+    let http = c.in-Ok.ensures.http in
+    set_has_no_memory (c.if-not-has_room.ensures.0 refl) http.0 (c.in-Ok.mime.media, http.1)

@@ -1,0 +1,13 @@
+-- Each answer is what it says.
+use Rattle.std.proofs.Common.{◌∙◌, ◌++◌, [], ◌∷◌, arith, ap, sym, subst}
+use Rattle.mime_c.specs.Strings.{written}
+use Rattle.mime_c.specs.ParameterAnswers.{UnescapesTo, is_unescaped, unescaped_has_no_room}
+use Rattle.mime_c.proofs.parameter.mime_unescape.Goals as goal
+
+pub returns-then-out-value : goal.returns-then-out-value
+returns-then-out-value c = unescaped_has_no_room (omega (arith, c.if-out-value.true))
+
+pub returns : goal.returns
+returns c =
+    let all = c.copy.ensures.writes.adds _ _ c.put_unescaped-end.ensures.written in
+    rw (all.there, c.put_unescaped-end.ensures.written.end) (is_unescaped (omega (arith, c.if-out-value.false)))

@@ -1,0 +1,25 @@
+//! A media type from its parts.
+
+ghost use Rattle.std.specs.Prelude.{◌≡◌, ◌++◌, IfOk, MatchOption, codes};
+ghost use Rattle.mime.specs.Values.{Reads, IsAccepted};
+
+use mime::{Mime, ParseError};
+use std::alloc::{AllocError, Global};
+
+/// The media type that a kind of document has, in JSON: `application/vnd.cart+json` for `cart`. `None` if the name can't stand there.
+///
+/// # Errors
+/// `AllocError` if memory runs out.
+pub fn vendor_json(alloc: Global, name: &str) -> Result<Option<Mime>, AllocError>
+    ensures { IfOk result (λ answer. MatchOption answer (¬ (IsAccepted (codes "application/vnd." ++ (name.now ++ codes "+json"))))
+        (λ mime. Reads (codes "application/vnd." ++ (name.now ++ codes "+json")) mime.media)) }
+{
+    let text = format!(in alloc; "application/vnd.{name}+json")?;
+    match Mime::from_str(alloc, &text) {
+        Ok(mime) => Ok(Some(mime)),
+        Err(error) => match error.fault() {
+            ParseError::NoMemory => Err(AllocError),
+            _ => Ok(None),
+        },
+    }
+}

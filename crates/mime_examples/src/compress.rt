@@ -1,0 +1,16 @@
+//! A match on the constants.
+
+ghost use Rattle.std.specs.Prelude.{◌≡◌, ◌↔◌, ◌⊎◌, IsTrue};
+
+use mime::{Atom, FONT_WOFF2, IMAGE_GIF, IMAGE_JPEG, IMAGE_PNG};
+
+/// Whether to send a file compressed: pictures of pixels are so already, and so are fonts for the web.
+pub fn is_compressible(atom: Atom) -> bool
+    ensures { IsTrue result ↔ ¬ ((atom ≡ Atom.IMAGE_GIF) ⊎ ((atom ≡ Atom.IMAGE_JPEG)
+        ⊎ ((atom ≡ Atom.IMAGE_PNG) ⊎ (atom ≡ Atom.FONT_WOFF2)))) }
+{
+    match atom {
+        IMAGE_GIF | IMAGE_JPEG | IMAGE_PNG | FONT_WOFF2 => false,
+        _ => true,
+    }
+}

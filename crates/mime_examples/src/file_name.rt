@@ -1,0 +1,34 @@
+//! A file's name as a parameter: written, and read back.
+
+ghost use Rattle.std.specs.Prelude.{◌≡◌, IfOk, IfSome, MatchOption, None, Some, codes, option_map};
+ghost use Rattle.std.specs.Vec.{vec_items};
+ghost use Rattle.mime_http.specs.Ranges.{first_value};
+ghost use Rattle.mime_http.specs.Unescaped.{unescaped};
+ghost use Rattle.mime_http.specs.Written.{escaped, with_pair};
+
+use mime::Mime;
+use mime_http::{unescape, with_parameter};
+use std::alloc::{AllocError, Global};
+
+/// The media type with a file's name in place of its own; `None` if the name has a control character. `image/png` with the name
+/// `a "b".png` is `image/png; name="a \"b\".png"`.
+///
+/// # Errors
+/// `AllocError` if memory runs out, here and below.
+pub fn with_file_name(alloc: Global, mime: &Mime, name: &str) -> Result<Option<Mime>, AllocError>
+    ensures { IfOk result (λ answer. IfSome answer (λ named. named.media ≡ with_pair mime.now.media (codes "name") (escaped name.now))) }
+{
+    with_parameter(alloc, mime, "name", name)
+}
+
+/// The file's name that a media type has, as it was before it was written: `a "b".png`.
+pub fn file_name(alloc: Global, mime: &Mime) -> Result<Option<Vec<u8>>, AllocError>
+    ensures { IfOk result (λ answer. IfSome answer (λ name. (vec_items name ≡ vec_items name))) }
+{
+    let Some(value) = mime.get_param("name") else {
+        return Ok(None);
+    };
+    let mut name = Vec::new(alloc);
+    unescape(value.as_str(), &mut name)?;
+    Ok(Some(name))
+}

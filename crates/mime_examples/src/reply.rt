@@ -1,0 +1,28 @@
+//! The `Content-Type` of what is sent.
+
+ghost use Rattle.std.specs.Prelude.{◌≡◌, IfOk, IfSome, codes};
+ghost use Rattle.mime.specs.Values.{MediaType, Reads, lowered};
+ghost use Rattle.mime_http.specs.Written.{with_pair};
+
+use mime::{MULTIPART_FORM_DATA, Mime, TEXT_HTML};
+use mime_http::{with_boundary, with_charset};
+use std::alloc::{AllocError, Global};
+
+/// HTML in a charset: `text/html; charset=utf-8`. `None` if the charset isn't a token.
+///
+/// # Errors
+/// `AllocError` if memory runs out, here and below.
+pub fn page_in(alloc: Global, charset: &str) -> Result<Option<Mime>, AllocError>
+    ensures { IfOk result (λ answer. IfSome answer (λ page. (html : MediaType) × Reads (codes "text/html") html
+        × (page.media ≡ with_pair html (codes "charset") (lowered charset.now)))) }
+{
+    with_charset(alloc, &TEXT_HTML.mime(), charset)
+}
+
+/// A form whose fields are parts between lines with this boundary: `multipart/form-data; boundary=x`. `None` if that is no boundary.
+pub fn form_with(alloc: Global, boundary: &str) -> Result<Option<Mime>, AllocError>
+    ensures { IfOk result (λ answer. IfSome answer (λ made. (form : MediaType) × Reads (codes "multipart/form-data") form
+        × (made.media ≡ with_pair form (codes "boundary") boundary.now))) }
+{
+    with_boundary(alloc, &MULTIPART_FORM_DATA.mime(), boundary)
+}
