@@ -1,11 +1,11 @@
 // SPDX-License-Identifier: MIT
-//! Reads media types from an ordinary Rust program, of edition 2021 or later:
-//!     rustc -O --edition 2024 examples/read.rs -L native=out -l static=mime -o read && ./read TEXT..
+//! Reads headers of HTTP from an ordinary Rust program, of edition 2021 or later:
+//!     rustc -O --edition 2024 examples/read.rs -L native=out -l static=mime -o read && ./read VALUE..
 
 use std::ffi::{CStr, c_char};
 use std::fmt;
 
-/// What `mime_read` finds besides the strings: `struct mime_found` of include/mime.h.
+/// What `mime_content_type` finds besides the strings: `struct mime_found` of include/mime.h.
 #[repr(C)]
 #[derive(Default)]
 struct Found {
@@ -21,11 +21,11 @@ struct Found {
 const INVALID_BYTE: u32 = 6;
 
 unsafe extern "C" {
-    fn mime_read(text: *const c_char, text_len: usize, out: *mut c_char, out_len: usize, found: *mut Found) -> u32;
+    fn mime_content_type(value: *const c_char, value_len: usize, out: *mut c_char, out_len: usize, found: *mut Found) -> u32;
     fn mime_answer_text(answer: u32) -> *const c_char;
 }
 
-/// Why a text isn't read: the answer of `mime_read`, which include/mime.h explains, and of an invalid byte its position.
+/// Why a value isn't read: the answer of `mime_content_type`, which include/mime.h explains, and of an invalid byte its position.
 #[derive(Debug, PartialEq)]
 pub struct Error {
     pub answer: u32,
@@ -50,12 +50,12 @@ pub struct Media {
     pub printed: String,
 }
 
-/// Reads a media type.
-pub fn read(text: &str) -> Result<Media, Error> {
-    let mut out = vec![0u8; 2 * text.len() + 2];
+/// Reads the media type of a header's value, such as that of a Content-Type.
+pub fn read(value: &[u8]) -> Result<Media, Error> {
+    let mut out = vec![0u8; 2 * value.len() + 2];
     let mut found = Found::default();
     // SAFETY: each pointer is to a block of its own of the length given, and none is null.
-    let answer = unsafe { mime_read(text.as_ptr().cast(), text.len(), out.as_mut_ptr().cast(), out.len(), &mut found) };
+    let answer = unsafe { mime_content_type(value.as_ptr().cast(), value.len(), out.as_mut_ptr().cast(), out.len(), &mut found) };
     if answer != 0 {
         return Err(Error { answer, pos: (answer == INVALID_BYTE).then_some(found.pos) });
     }
@@ -71,7 +71,7 @@ pub fn read(text: &str) -> Result<Media, Error> {
 
 fn main() {
     for text in std::env::args().skip(1) {
-        match read(&text) {
+        match read(text.as_bytes()) {
             Ok(media) => println!("{media:?}"),
             Err(error) => println!("not a media type: {error}"),
         }

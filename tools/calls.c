@@ -302,8 +302,9 @@ static void check_set(const char *text, size_t len, const char *name, size_t nam
         key[name_len] = 0;
         const char *found_value = mime_param(strings, &found, key);
         CHECK(found_value != NULL && found_value == skip(strings, 2 * found.params));
-        CHECK(meant(found_value, strlen(found_value), means) == value_len && strncasecmp(means, value, value_len) == 0);
-        CHECK(strcasecmp(key, "charset") == 0 || memcmp(means, value, value_len) == 0);
+        CHECK(meant(found_value, strlen(found_value), means) == value_len);
+        CHECK(value_len == 0 || strncasecmp(means, value, value_len) == 0);
+        CHECK(value_len == 0 || strcasecmp(key, "charset") == 0 || memcmp(means, value, value_len) == 0);
         CHECK(mime_content_type(text, len, again, sizeof again, &others) == MIME_OK && strcmp(again, strings) == 0);
         const char *kept = skip(strings, 1);
         for (const char *it = skip(again, 1); it < again + others.printed; it = skip(it, 2))
@@ -384,9 +385,9 @@ static void check_order(const char *text, size_t len)
         CHECK(count == 0 && has_written(0, few * sizeof *order));
     }
     CHECK(mime_order(text, len, "a/b, c", 6, order, COUNT, &count) == MIME_BAD_OFFER && count == 0);
-    buffer(COUNT * sizeof *order);
-    CHECK_REFUSED(asked, (refused = mime_order(text, len, list, strlen(list), order, COUNT, &count)) == MIME_NO_MEMORY && count == 0
-                             && has_written(0, COUNT * sizeof *order));
+    /* One of the requests isn't needed: without its memory the order is found in another way. */
+    CHECK_REFUSED(asked, (buffer(COUNT * sizeof *order), refused = mime_order(text, len, list, strlen(list), order, COUNT, &count)) == MIME_NO_MEMORY
+                             ? count == 0 && has_written(0, COUNT * sizeof *order) : refused == answer);
 }
 
 /* Whether each answer has its text, alone with these words, one that isn't among them included; and the version is the header's. */

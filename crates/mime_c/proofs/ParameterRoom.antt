@@ -86,8 +86,19 @@ set_fits text name value media reads =
     (omega (arith, length-lowered (escaped value), length-escaped value)) in
     let pair = length-pair (lowered name) (lowered_value name (escaped value)) in
     let all = ap length (flat_map-append text_of_pair kept (made ∷ [])) in
-    omega (arith, no_longer text, size, pairs, content, pair, all, length-lowered name, length-append media.essence (text_of_pairs (kept ++ (made ∷ []))),
-    length-append (text_of_pairs kept) (text_of_pairs (made ∷ [])), length-append (text_of_pair made) [])
+    omega (
+      arith,
+      no_longer text,
+      size,
+      pairs,
+      content,
+      pair,
+      all,
+      length-lowered name,
+      length-append media.essence (text_of_pairs (kept ++ (made ∷ []))),
+      length-append (text_of_pairs kept) (text_of_pairs (made ∷ [])),
+      length-append (text_of_pair made) [],
+    )
 
 pub set_comes_back : (media : MediaType) → Reads media.kept media → ComeBack (media.kept ∷ [])
 set_comes_back media reads = come_back (media.kept ∷ []) (no_zero-read media.kept media reads, tt)

@@ -55,9 +55,12 @@ lengths-low text tree size some =
     let parts = essence_of tree ∷ pair_texts pairs in
     let kept = room-kept tree pairs in
     let all = ap length (flat_map-append string_of parts (kept_text pairs tree ∷ [])) in
-    let essence = ap length (text_of-essence tree) in
-    (omega arith, omega (arith, length-append {A = ℕ}, length-strings, room-tail tree.tail, essence), some,
-    omega (arith, length-append {A = ℕ}, room-tail tree.tail, essence))
+    let essence = ap length (text_of-essence tree) in (
+      omega arith,
+      omega (arith, length-append {A = ℕ}, length-strings, room-tail tree.tail, essence),
+      some,
+      omega (arith, length-append {A = ℕ}, room-tail tree.tail, essence),
+    )
 
 -- a kept text is no longer than the text that it is of,
 length-kept : (pairs : ℕ) (semicolon : Option ℕ) (text : List ℕ) → length (kept_text_of pairs semicolon text) ≤ length text

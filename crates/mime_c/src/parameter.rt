@@ -8,7 +8,8 @@ ghost use Rattle.mime_c.specs.Writing.{HasWritten};
 ghost use Rattle.mime_c.specs.ParameterAnswers.{BoundaryIs, UnescapesTo, room_with, SetsTo};
 
 use crate::{
-    MIME_BAD_PARAMETER, MIME_NO_BOUNDARY, MIME_NO_MEMORY, MIME_NO_ROOM, MIME_OK, copy, number_of_error,
+    MIME_BAD_PARAMETER, MIME_NO_BOUNDARY, MIME_NO_MEMORY, MIME_NO_ROOM, MIME_OK, copy,
+    number_of_error,
 };
 use mime_http::{boundary, content_type, with_parameter};
 use std::alloc::Global;

@@ -1,8 +1,9 @@
 //! A file's name as a parameter: written, and read back.
 
-ghost use Rattle.std.specs.Prelude.{◌≡◌, IfOk, IfSome, MatchOption, None, Some, codes, option_map};
+ghost use Rattle.std.specs.Prelude.{◌≡◌, ℕ, List, Bool, Some, IfOk, IfSome, codes};
 ghost use Rattle.std.specs.Vec.{vec_items};
-ghost use Rattle.mime_http.specs.Ranges.{first_value};
+ghost use Rattle.mime.specs.Names.{NameIs};
+ghost use Rattle.mime.specs.Items.{items_of, IsFirstAccepted};
 ghost use Rattle.mime_http.specs.Unescaped.{unescaped};
 ghost use Rattle.mime_http.specs.Written.{escaped, with_pair};
 
@@ -23,7 +24,9 @@ pub fn with_file_name(alloc: Global, mime: &Mime, name: &str) -> Result<Option<M
 
 /// The file's name that a media type has, as it was before it was written: `a "b".png`.
 pub fn file_name(alloc: Global, mime: &Mime) -> Result<Option<Vec<u8>>, AllocError>
-    ensures { IfOk result (λ answer. IfSome answer (λ name. (vec_items name ≡ vec_items name))) }
+    ensures { IfOk result (λ answer. IfSome answer (λ name. (value : List ℕ) × (flag : Bool)
+        × IsFirstAccepted (λ name flag. NameIs name flag (codes "name")) (items_of mime.now.media.pairs) (Some (value, flag))
+        × (vec_items name ≡ unescaped value))) }
 {
     let Some(value) = mime.get_param("name") else {
         return Ok(None);

@@ -23,7 +23,10 @@ static TYPES: [(&str, &str); 95] = [
     ("csv", "text/csv; charset=utf-8"),
     ("deb", "application/vnd.debian.binary-package"),
     ("doc", "application/msword"),
-    ("docx", "application/vnd.openxmlformats-officedocument.wordprocessingml.document"),
+    (
+        "docx",
+        "application/vnd.openxmlformats-officedocument.wordprocessingml.document",
+    ),
     ("dtd", "application/xml-dtd"),
     ("eml", "message/rfc822"),
     ("epub", "application/epub+zip"),
@@ -73,7 +76,10 @@ static TYPES: [(&str, &str); 95] = [
     ("pdf", "application/pdf"),
     ("png", "image/png"),
     ("ppt", "application/vnd.ms-powerpoint"),
-    ("pptx", "application/vnd.openxmlformats-officedocument.presentationml.presentation"),
+    (
+        "pptx",
+        "application/vnd.openxmlformats-officedocument.presentationml.presentation",
+    ),
     ("ps", "application/postscript"),
     ("rar", "application/vnd.rar"),
     ("rdf", "application/rdf+xml"),
@@ -98,7 +104,10 @@ static TYPES: [(&str, &str); 95] = [
     ("woff2", "font/woff2"),
     ("xhtml", "application/xhtml+xml"),
     ("xls", "application/vnd.ms-excel"),
-    ("xlsx", "application/vnd.openxmlformats-officedocument.spreadsheetml.sheet"),
+    (
+        "xlsx",
+        "application/vnd.openxmlformats-officedocument.spreadsheetml.sheet",
+    ),
     ("xml", "application/xml"),
     ("xslt", "application/xslt+xml"),
     ("xz", "application/x-xz"),
@@ -107,13 +116,10 @@ static TYPES: [(&str, &str); 95] = [
 ];
 
 /// The media type of a row with this ending, ignoring ASCII case.
-pub fn type_of_ending(
-    table: &[(&'static str, &'static str)],
-    ending: &str,
-) -> Option<&'static str>
-    ensures found { IfSome result (λ type. (known : List ℕ) × Contains (map (λ row. (row.0.now, row.1.now)) table.now) (known, type.now)
+pub fn type_of_ending(table: &[(&'static str, &'static str)], ending: &str) -> Option<&'static str>
+    ensures found { IfSome result (λ type. (known : List ℕ) × Contains {X = List ℕ × List ℕ} (map (λ row. (row.0.now, row.1.now)) table.now) (known, type.now)
         × (lowered known ≡ lowered ending.now)) }
-    ensures none { result ≡ None → (known type : List ℕ) → Contains (map (λ row. (row.0.now, row.1.now)) table.now) (known, type)
+    ensures none { result ≡ None → (known type : List ℕ) → Contains {X = List ℕ × List ℕ} (map (λ row. (row.0.now, row.1.now)) table.now) (known, type)
         → lowered known ≢ lowered ending.now }
 {
     for (known, type_) in table {

@@ -126,13 +126,16 @@ module _ (ranges : List MediaType) (piece : List ℕ) {old : Chosen} where
   pub chooses_bad : ¬ (trim_start piece ≡ []) → ¬ (IsUtf8 (trim_start piece) × IsHttpMediaType (trim_start piece))
       → ChoosesOn ranges piece old (record old { bad = old.bad + 1 })
   chooses_bad some isnt before was =
-      let entry = trim_end (trim_start piece) in
-      (record before { bad = before.bad ++ (entry ∷ []) }, add_bad piece some isnt refl refl, record {
-        most = was.most;
-        best = was.best;
-        count = was.count;
-        bad = omega (arith, was.bad, length-append before.bad (entry ∷ []));
-      })
+      let entry = trim_end (trim_start piece) in (
+        record before { bad = before.bad ++ (entry ∷ []) },
+        add_bad piece some isnt refl refl,
+        record {
+          most = was.most;
+          best = was.best;
+          count = was.count;
+          bad = omega (arith, was.bad, length-append before.bad (entry ∷ []));
+        },
+      )
 
 -- what is chosen after an entry is chosen after the piece that it is trimmed of
 pub chooses_trimmed : (ranges : List MediaType) (piece text : List ℕ) {old new : Chosen} → text ≡ trim_start piece → ChoosesOn ranges text old new

@@ -73,12 +73,7 @@ impl Chosen {
 
     /// Takes a piece of the list: white space alone is nothing.
     #[inline(always)]
-    fn take_piece(
-        &mut self,
-        alloc: Global,
-        ranges: &[Mime],
-        piece: &[u8],
-    ) -> Result<(), AllocError>
+    fn take_piece(&mut self, alloc: Global, ranges: &[Mime], piece: &[u8]) -> Result<(), AllocError>
         requires few { self.old.count + self.old.bad + length piece.now ≤ usize.MAX }
         ensures piece { OnOk result (ChoosesOn (map (λ range. range.media) ranges.now) piece.now self.old self.new) }
         ensures few { OnOk result (self.new.count + self.new.bad ≤ self.old.count + self.old.bad + length piece.now) }

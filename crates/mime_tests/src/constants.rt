@@ -20,7 +20,7 @@ use std::fmt;
 use std::fmt::Write;
 
 /// The constant media types, each with its identifier. The last is an old spelling of another.
-static ATOMS: &[(&str, Atom)] = &[
+pub(crate) static ATOMS: &[(&str, Atom)] = &[
     ("STAR_STAR", STAR_STAR),
     ("TEXT_STAR", TEXT_STAR),
     ("TEXT_PLAIN", TEXT_PLAIN),

@@ -1,24 +1,33 @@
 //! What the recipes answer. An answer is written with a bar after it.
 
+use crate::constants::ATOMS;
 use crate::fields::string_at;
 use crate::http::{lines_of, offers_of, show, show_text, shown};
 use crate::values::read_or_not;
 use mime::Mime;
+use mime_examples::accepted::explained;
 use mime_examples::bare::bare_of;
+use mime_examples::build::vendor_json;
 use mime_examples::callers::{has_param, printed};
 use mime_examples::caret::caret_line;
+use mime_examples::compress::is_compressible;
 use mime_examples::counts::{count, no_counts};
 use mime_examples::document::received;
-use mime_examples::files::{is_compressible, type_of_file};
+use mime_examples::file_name::{file_name, with_file_name};
+use mime_examples::files::type_of_file;
 use mime_examples::handler::handler_of;
 use mime_examples::header::header_text;
 use mime_examples::html::accepts_html;
 use mime_examples::json::is_json;
 use mime_examples::key::quality_of;
+use mime_examples::multipart::{may_delimit, parts};
 use mime_examples::negotiate::chosen;
+use mime_examples::order::in_order;
 use mime_examples::parts::described;
 use mime_examples::plain::is_plain;
-use std::alloc::Global;
+use mime_examples::reply::{form_with, page_in};
+use mime_examples::route::takes;
+use std::alloc::{AllocError, Global};
 use std::fmt::{Display, Write};
 
 /// Shows whether something is so, or why that isn't known.
@@ -148,9 +157,98 @@ pub(crate) fn show_received(alloc: Global, out: &mut String, value: &str, body: 
     }
 }
 
-/// Shows the media type of a file, and whether to send it compressed.
-pub(crate) fn show_type_of_file(out: &mut String, name: &str) {
-    let atom = type_of_file(name);
-    show(out, &atom);
-    show(out, &is_compressible(atom));
+/// Shows the media type of a file, and that it is read as it stands.
+pub(crate) fn show_type_of_file(alloc: Global, out: &mut String, name: &str) {
+    let type_ = type_of_file(name);
+    show_text(out, Some(type_));
+    if let Some(mime) = read_or_not(alloc, out, type_) {
+        show(out, &(mime.as_str() == type_));
+    }
+}
+
+/// Shows whether files of the constants' media types are sent compressed.
+pub(crate) fn show_is_compressible(out: &mut String) {
+    for (name, atom) in ATOMS {
+        if !is_compressible(*atom) {
+            show_text(out, Some(name));
+        }
+    }
+}
+
+/// Shows a media type that was made, or that it wasn't.
+fn show_made(out: &mut String, made: Result<Option<Mime>, AllocError>) {
+    match made {
+        Ok(Some(mime)) => show(out, &mime),
+        Ok(None) => show_text(out, None),
+        Err(error) => show(out, &error),
+    }
+}
+
+pub(crate) fn show_vendor_json(alloc: Global, out: &mut String, name: &str) {
+    show_made(out, vendor_json(alloc, name));
+}
+
+pub(crate) fn show_page_in(alloc: Global, out: &mut String, charset: &str) {
+    show_made(out, page_in(alloc, charset));
+}
+
+pub(crate) fn show_form_with(alloc: Global, out: &mut String, boundary: &str) {
+    show_made(out, form_with(alloc, boundary));
+}
+
+/// Shows a media type with a file's name, and the name that is read back from it.
+pub(crate) fn show_file_name(alloc: Global, out: &mut String, field: &str, name: &str) {
+    let Some(mime) = read_or_not(alloc, out, field) else {
+        return;
+    };
+    match with_file_name(alloc, &mime, name) {
+        Ok(Some(named)) => {
+            show(out, &named);
+            if let Ok(Some(back)) = file_name(alloc, &named) {
+                show_text(out, Some(shown(&back)));
+            }
+        }
+        _ => show_text(out, None),
+    }
+}
+
+/// Shows the parts of a body.
+pub(crate) fn show_body_parts(alloc: Global, out: &mut String, field: &str, body: &str) {
+    let Some(mime) = read_or_not(alloc, out, field) else {
+        return;
+    };
+    if let Ok(parts) = parts(alloc, &mime, body.as_bytes()) {
+        for part in &parts {
+            show_text(out, Some(shown(part)));
+        }
+    }
+}
+
+pub(crate) fn show_may_delimit(out: &mut String, boundary: &str, part: &str) {
+    show(out, &may_delimit(boundary.as_bytes(), part.as_bytes()));
+}
+
+/// Shows the positions of the offers in order.
+pub(crate) fn show_in_order(alloc: Global, out: &mut String, strings: &[String]) {
+    let lines = lines_of(alloc, string_at(strings, 0));
+    if let Ok(order) = in_order(alloc, &lines, &offers_of(alloc, strings)) {
+        for at in &order {
+            show(out, at);
+        }
+    }
+}
+
+pub(crate) fn show_takes(alloc: Global, out: &mut String, range: &str, body: &str) {
+    let Some(range) = read_or_not(alloc, out, range) else {
+        return;
+    };
+    if let Some(body) = read_or_not(alloc, out, body) {
+        show(out, &takes(&range, &body));
+    }
+}
+
+pub(crate) fn show_explained(alloc: Global, out: &mut String, field: &str) {
+    if let Ok(said) = explained(alloc, &lines_of(alloc, field)) {
+        show_text(out, Some(said.as_str()));
+    }
 }

@@ -33,9 +33,11 @@ use crate::http::{
 };
 use crate::items::{show_again, show_items, show_list};
 use crate::recipes::{
-    show_accepts_html, show_bare_of, show_caret_line, show_chosen, show_counts, show_described,
-    show_handler_of, show_has_param, show_is_json, show_is_plain, show_quality_of, show_received,
-    show_status, show_type_of_file, show_whether,
+    show_accepts_html, show_bare_of, show_body_parts, show_caret_line, show_chosen, show_counts,
+    show_described, show_explained, show_file_name, show_form_with, show_handler_of,
+    show_has_param, show_in_order, show_is_compressible, show_is_json, show_is_plain,
+    show_may_delimit, show_page_in, show_quality_of, show_received, show_status, show_takes,
+    show_type_of_file, show_vendor_json, show_whether,
 };
 use crate::relations::{show_against, show_compared, show_names, show_pair, show_sets};
 use crate::short::show_short_verdicts;
@@ -95,11 +97,19 @@ pub(crate) fn show_row(rt: &HostRuntime, out: &mut String, word: &str, strings: 
         "chosen" => show_chosen(alloc, out, strings),
         "count" => show_counts(rt, out, strings),
         "described" => show_described(alloc, out, one),
+        "explained" => show_explained(alloc, out, one),
+        "file_name" => show_file_name(alloc, out, one, two),
+        "form_with" => show_form_with(alloc, out, one),
         "handler_of" => show_handler_of(alloc, out, one),
         "has_param" => show_has_param(alloc, out, one, two),
         "has_suffix" => show_whether(out, has_suffix(alloc, one)),
+        "in_order" => show_in_order(alloc, out, strings),
+        "is_compressible" => show_is_compressible(out),
         "is_json" => show_is_json(alloc, out, one),
         "is_plain" => show_is_plain(alloc, out, one),
+        "may_delimit" => show_may_delimit(out, one, two),
+        "multipart::parts" => show_body_parts(alloc, out, one, two),
+        "page_in" => show_page_in(alloc, out, one),
         "quality_of" => show_quality_of(alloc, out, one),
         "reader_of" => show_text(out, Some(reader_of(one))),
         "reads_alike" => show_whether(out, reads_alike(alloc, one)),
@@ -107,7 +117,9 @@ pub(crate) fn show_row(rt: &HostRuntime, out: &mut String, word: &str, strings: 
         "refusal" => show_status(out, refusal(alloc, one.as_bytes())),
         "says_utf8" => show_whether(out, says_utf8(alloc, one.as_bytes())),
         "status_of no memory" => show(out, &status_of(&FieldError::NoMemory)),
-        "type_of_file" => show_type_of_file(out, one),
+        "takes" => show_takes(alloc, out, one, two),
+        "type_of_file" => show_type_of_file(alloc, out, one),
+        "vendor_json" => show_vendor_json(alloc, out, one),
         _ => show_text(out, None),
     }
     if !out.ends_with('\n') {

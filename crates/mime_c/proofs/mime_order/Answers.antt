@@ -64,8 +64,13 @@ returns-then-is_empty c =
 
 pub returns-in_default-order : goal.returns-in_default-order
 returns-in_default-order c =
-    order_has_no_memory (λ none. absurd (grind (arith, nat_tests, c.if-is_empty.ensures, ap length (c.ranges-2.ensures ∙ no_offer c.in-Ok.ensures.header none.0),
-    length-map c.ranges-2.result.now (λ (range : OwnedMedia). range.media))))
+    order_has_no_memory (λ none. absurd (grind (
+      arith,
+      nat_tests,
+      c.if-is_empty.ensures,
+      ap length (c.ranges-2.ensures ∙ no_offer c.in-Ok.ensures.header none.0),
+      length-map c.ranges-2.result.now (λ (range : OwnedMedia). range.media),
+    )))
 
 pub returns-then-is_empty-2 : goal.returns-then-is_empty-2
 returns-then-is_empty-2 c =

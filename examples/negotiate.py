@@ -1,0 +1,23 @@
+#!/usr/bin/env python3
+# SPDX-License-Identifier: MIT
+"""What a program in Python sends back, by the Accept header of a request, as negotiate.c and negotiate.rs choose it:
+examples/negotiate.py LIBRARY [ACCEPT]"""
+import ctypes
+import sys
+
+# What is sent, the best first.
+TYPES = ["text/html; charset=utf-8", "application/json", "text/plain; charset=utf-8"]
+OK, NOT_ACCEPTABLE = 0, 10
+
+
+def choose(library, accept, offers):
+    """The status, and the best of these offers, or None. `accept` is what the request has, or None if it has no such header; several lines
+    are joined by a comma."""
+    best, listed = ctypes.c_size_t(), ", ".join(offers).encode()
+    answer = library.mime_best(accept, ctypes.c_size_t(len(accept or b"")), listed, ctypes.c_size_t(len(listed)), ctypes.byref(best))
+    status = {OK: 200, NOT_ACCEPTABLE: 406}.get(answer, 503)
+    return status, offers[best.value] if answer == OK else None
+
+
+if __name__ == "__main__":
+    print(*(it for it in choose(ctypes.CDLL(sys.argv[1]), sys.argv[2].encode() if sys.argv[2:] else None, TYPES) if it is not None))

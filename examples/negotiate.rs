@@ -1,0 +1,38 @@
+// SPDX-License-Identifier: MIT
+//! What an ordinary Rust program sends back, by the Accept header of a request, as negotiate.c and negotiate.py choose it:
+//!     rustc -O --edition 2024 examples/negotiate.rs -L native=out -l static=mime -o negotiate && ./negotiate [ACCEPT]
+
+use std::ffi::c_char;
+
+/// What is sent, the best first.
+const TYPES: [&str; 3] = ["text/html; charset=utf-8", "application/json", "text/plain; charset=utf-8"];
+
+const OK: u32 = 0;
+const NOT_ACCEPTABLE: u32 = 10;
+
+unsafe extern "C" {
+    fn mime_best(accept: *const c_char, accept_len: usize, offers: *const c_char, offers_len: usize, best: *mut usize) -> u32;
+}
+
+/// The best of these offers, or the status without one: 406 if the client accepts none, 503 if memory ran out. `accept` is what the request
+/// has, if it has such a header; several lines are joined by a comma.
+pub fn choose<'o>(accept: Option<&[u8]>, offers: &[&'o str]) -> Result<&'o str, u16> {
+    let list = offers.join(", ");
+    let mut best = 0;
+    let (header, len) = accept.map_or((std::ptr::null(), 0), |accept| (accept.as_ptr(), accept.len()));
+    // SAFETY: each pointer is to a block of the length given; the header's is null only if there is none.
+    let answer = unsafe { mime_best(header.cast(), len, list.as_ptr().cast(), list.len(), &mut best) };
+    match answer {
+        OK => Ok(offers[best]),
+        NOT_ACCEPTABLE => Err(406),
+        _ => Err(503),
+    }
+}
+
+fn main() {
+    let accept = std::env::args().nth(1);
+    match choose(accept.as_deref().map(str::as_bytes), &TYPES) {
+        Ok(offer) => println!("200 {offer}"),
+        Err(status) => println!("{status}"),
+    }
+}
