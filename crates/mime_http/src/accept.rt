@@ -16,7 +16,7 @@ use std::alloc::{AllocError, Global};
 use std::marker::Model;
 
 /// What an `Accept` header accepts (RFC 9110, 12.5.1).
-#[derive(Drop)]
+#[derive(Drop, Debug)]
 pub struct Accept {
     ranges: Vec<Mime>,
     bad: Vec<Vec<u8>>,

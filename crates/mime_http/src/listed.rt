@@ -96,9 +96,9 @@ impl Chosen {
 }
 
 impl Accept {
-    /// The position of the best of the offers of a list such as `text/html, application/json`, as [`best`](Accept::best) chooses it, and
-    /// the number of entries that are no media types, which aren't counted. The list is read as a line of an `Accept` header is, and no
-    /// offer is kept: each is read as [`content_type`](crate::content_type) reads it, which allocates nothing for up to 40 bytes.
+    /// The position of the best offer of a list such as `text/html, application/json`, as [`Accept::best`] chooses it, and the number of
+    /// entries that are no media types, which have no position. The list is read as a line of an `Accept` header is. No offer is kept:
+    /// each is read as by [`content_type`](crate::content_type), which allocates nothing for up to 40 bytes that `mime` takes.
     ///
     /// # Errors
     /// `AllocError` if memory runs out, which is never for a list that holds nothing but commas and white space.
