@@ -456,9 +456,6 @@ pub extern "C" fn mime_order(
     let Ok(header) = accepted(alloc, is_there, accept) else {
         return MIME_NO_MEMORY;
     };
-    if offered.ranges().is_empty() {
-        return MIME_NOT_ACCEPTABLE;
-    }
     let Ok(positions) = header.order(alloc, offered.ranges()) else {
         return MIME_NO_MEMORY;
     };

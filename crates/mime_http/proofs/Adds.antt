@@ -1,15 +1,30 @@
 -- What is added to a header, piece by piece and line by line.
 use Rattle.std.proofs.Common.{◌≡◌, ◌∙◌, refl, sym, ap, subst, ℕ, List, [], ◌∷◌, ◌++◌, map}
 use Rattle.std.specs.Prelude.{flat_map}
+use Rattle.std.specs.Prelude.{Result, Option, Ok, Err, MatchResult, MatchOption}
+use Rattle.std.specs.Result.{result_ok}
 use Rattle.std.specs.Str.{IsUtf8}
 use Rattle.std.proofs.lemmas.List.{append-nil, append_assoc, map-append}
 use Rattle.mime.specs.Grammar.{AreSpaces}
-use Rattle.mime.specs.Values.{MediaType}
+use Rattle.mime.specs.Values.{MediaType, OwnedMedia, Reads}
 use Rattle.mime_http.specs.HttpMediaType.{HttpReads, IsHttpMediaType}
 use Rattle.mime_http.specs.HttpList.{lines_or_any, AreBetweenCommas, IsPiece, BeginsPiece, trim_start, trim_end, AreSorted, no_text, blank, a_range, a_bad, Header, IsHeader}
 use Rattle.mime_http.specs.Walk.{cut, Adds, AddsLines}
+use Rattle.mime_http.specs.declared.fault.Rejected.{Rejected}
+use Rattle.mime_http.specs.Tight.{tight}
+use Rattle.mime_http.specs.Tightening.{IsRejected}
+use Rattle.mime_http.proofs.HttpBack.{read_is_http}
 use Rattle.mime_http.proofs.Cuts.{are_cut, only_cut}
 use Rattle.mime_http.proofs.Trims.{blank_from_trimmed, trimmed_from_blank, trim_twice, utf8_before, utf8_trimmed, http_before, http_trimmed}
+
+-- What is read of an entry is a media type as HTTP writes it, or there is none.
+pub read_http : (entry : List ℕ) (answer : Result OwnedMedia Rejected) (o : Option OwnedMedia) → result_ok answer ≡ o
+    → MatchResult answer (λ mime. Reads (tight entry) mime.media) (IsRejected entry)
+    → MatchOption o (¬ (IsHttpMediaType entry)) (λ mime. HttpReads entry mime.media)
+read_http entry (Ok mime) o is reads =
+    subst (λ o. MatchOption o (¬ (IsHttpMediaType entry)) (λ mime. HttpReads entry mime.media)) is (read_is_http entry mime.media reads)
+read_http entry (Err rejected) o is isnt =
+    subst (λ o. MatchOption o (¬ (IsHttpMediaType entry)) (λ mime. HttpReads entry mime.media)) is isnt.is
 
 -- what was pushed is last
 pub pushed : {X Y : Type 0} (f : X → Y) (old new : List X) (x : X) (y : Y) → new ≡ old ++ (x ∷ []) → f x ≡ y

@@ -20,6 +20,7 @@ use Rattle.mime_http.specs.Chosen.{lowest, IsChosen, ChoosesOn}
 use Rattle.mime_http.specs.declared.listed.Chosen.{Chosen}
 use Rattle.mime_http.proofs.Adds.{add_nothing, add_range, add_bad, add_trimmed}
 use Rattle.mime_http.proofs.Highest.{raised_by, stays_by, same_by}
+use Rattle.mime_http.proofs.Picked.{highest, best_is_position}
 use Rattle.mime_http.proofs.Ranks.{ranks_total, one_rank}
 
 module _ {K : Type 0} {R : K → K → Ordering} (total : IsTotalOrder R) (one : (x y : K) → R x y ≡ Equal → x ≡ y) where
@@ -64,8 +65,8 @@ found_still test (x ∷ xs) more at is =
 
 module _ {ranges : List MediaType} {before : Header} {old : Chosen} (media : MediaType) (was : IsChosen ranges before old) where
   -- the highest rank of the offers with one more is the higher of two
-  highest : fold (ord_max rank_cmp) lowest (map (merit ranges) (before.ranges ++ (media ∷ []))) ≡ ord_max rank_cmp old.most (merit ranges media)
-  highest =
+  higher_of_two : fold (ord_max rank_cmp) lowest (map (merit ranges) (before.ranges ++ (media ∷ []))) ≡ ord_max rank_cmp old.most (merit ranges media)
+  higher_of_two =
       ap (fold (ord_max rank_cmp) lowest) (map-append (merit ranges) before.ranges (media ∷ []))
       ∙ (fold_push (ord_max rank_cmp) lowest (map (merit ranges) before.ranges) (merit ranges media)
       ∙ ap (λ m. ord_max rank_cmp m (merit ranges media)) (sym was.most))
@@ -81,7 +82,7 @@ module _ {ranges : List MediaType} {before : Header} {old : Chosen} (media : Med
         let place = first_place ranks_total one_rank rank lowest ranks 0 top in
         let size : 0 + length ranks ≡ new.best = omega (arith, best, was.count, length-map before.ranges (merit ranges)) in
         record {
-          most = most ∙ sym (highest ∙ raised_by ranks_total one_rank old.most rank (rank_cmp rank old.most) above);
+          most = most ∙ sym (higher_of_two ∙ raised_by ranks_total one_rank old.most rank (rank_cmp rank old.most) above);
           best = λ some.
               ap (λ m. position (λ r. eq_by_cmp rank_cmp r m) (map (merit ranges) (before.ranges ++ (media ∷ [])))) most
               ∙ (ap (position (λ r. eq_by_cmp rank_cmp r rank)) (map-append (merit ranges) before.ranges (media ∷ []))
@@ -97,7 +98,7 @@ module _ {ranges : List MediaType} {before : Header} {old : Chosen} (media : Med
         let rank = merit ranges media in
         let ranks = map (merit ranges) before.ranges in
         record {
-          most = most ∙ sym (highest ∙ stays_by ranks_total one_rank old.most rank (rank_cmp rank old.most) refl below);
+          most = most ∙ sym (higher_of_two ∙ stays_by ranks_total one_rank old.most rank (rank_cmp rank old.most) refl below);
           best = λ some.
               let test = λ (r : Rank). eq_by_cmp rank_cmp r old.most in
               let there = found_still test ranks (rank ∷ []) 0 (sym (position_from-zero test ranks) ∙ was.best (λ is. some (most ∙ is))) in
@@ -146,15 +147,23 @@ chooses_trimmed ranges piece text is chooses before was = let after = chooses be
 
 -- what was chosen is the best, if it weighs anything, and else there is none
 module _ {ranges : List MediaType} {offered : Header} {chosen : Chosen} (is : IsChosen ranges offered chosen) where
+  -- what a fold over the ranks finds
+  abbrev Found : Option ℕ → Type 0
+  Found best =
+      let merits = map (merit ranges) offered.ranges in
+      best ≡ (if (highest merits).0 == 0 then None else position (λ rank. eq_by_cmp rank_cmp rank (highest merits)) merits)
+
   pub best_is_chosen : chosen.most.0 ≢ 0 → Some chosen.best ≡ best_offer ranges offered.ranges
   best_is_chosen some =
       let merits = map (merit ranges) offered.ranges in
-      let weighs : ((fold (ord_max rank_cmp) lowest merits).0 == 0) ≡ false = ap (λ m. m.0 == 0) (sym is.most) ∙ ne_eqb chosen.most.0 0 some in
-      rw weighs
-      (sym (ap (λ m. position (λ r. eq_by_cmp rank_cmp r m) merits) (sym is.most) ∙ is.best (λ low. some (ap (λ m. m.0) low))))
+      let weighs : ((highest merits).0 == 0) ≡ false = ap (λ m. m.0 == 0) (sym is.most) ∙ ne_eqb chosen.most.0 0 some in
+      let found : Found (Some chosen.best) =
+      rw weighs (sym (ap (λ m. position (λ r. eq_by_cmp rank_cmp r m) merits) (sym is.most) ∙ is.best (λ low. some (ap (λ m. m.0) low)))) in
+      found ∙ sym (best_is_position merits)
 
   pub none_is_chosen : chosen.most.0 ≡ 0 → ◌≡◌ {A = Option ℕ} None (best_offer ranges offered.ranges)
   none_is_chosen none =
       let merits = map (merit ranges) offered.ranges in
-      let nothing : ((fold (ord_max rank_cmp) lowest merits).0 == 0) ≡ true = ap (λ m. m.0 == 0) (sym is.most) ∙ eq-eqb chosen.most.0 0 none in
-      rw nothing refl
+      let nothing : ((highest merits).0 == 0) ≡ true = ap (λ m. m.0 == 0) (sym is.most) ∙ eq-eqb chosen.most.0 0 none in
+      let found : Found None = rw nothing refl in
+      found ∙ sym (best_is_position merits)

@@ -64,7 +64,7 @@ impl Chosen {
         if let ParseError::NoMemory = fault {
             return Err(AllocError);
         }
-        match read_tight(alloc, entry.as_bytes(), fault)? {
+        match read_tight(alloc, entry, fault)?.ok() {
             Some(offer) => self.take(ranges, &offer),
             None => self.bad += 1,
         }

@@ -19,16 +19,6 @@ none_bad : {Held : Type 0} {listed : List (List ℕ)} (held : List Held) (bytes_
     → listed ≡ []
 none_bad held bytes_of size is = sym is ∙ ap (map bytes_of) (nil_from_length held size)
 
--- no offers are in order
-none_in_order : (ranges offers : List MediaType) → offers ≡ [] → AreInOrder ranges offers []
-none_in_order ranges offers none = subst (λ offers. AreInOrder ranges offers []) (sym none) (are_none ranges)
-  where
-    are_none : (ranges : List MediaType) → AreInOrder ranges [] []
-    are_none ranges = record {
-      best_first = λ i j d before within. absurd (omega (arith, within));
-      all = λ at. ((λ is. absurd (omega (arith, is.1))), (λ some. absurd (omega (arith, some))));
-    }
-
 -- a header without an entry has no other range
 no_offer : {lines : List (List ℕ)} {header : Header} → IsHeader lines header → HaveNoEntry lines → header.ranges ≡ []
 no_offer {lines} {header} is none = alike header.ranges (one_header lines header _ is none).0
@@ -55,46 +45,36 @@ returns-then-not-is_empty c =
 pub returns-in_default-accepted : goal.returns-in_default-accepted
 returns-in_default-accepted c = order_has_no_memory (λ none. true≢false (sym (subst IsOk c.in_default-accepted.is (c.accepted.ensures.nothing none.1))))
 
+pub returns-in_default-order : goal.returns-in_default-order
+returns-in_default-order c =
+    order_has_no_memory (λ none.
+    let empty = c.ranges-2.ensures ∙ no_offer c.in-Ok.ensures.header none.0 in
+    let offers = nil_from_length c.ranges-2.result.now (sym (length-map c.ranges-2.result.now (λ (range : OwnedMedia). range.media)) ∙ ap length empty) in
+    true≢false (sym (subst IsOk c.in_default-order.is (c.order.ensures.none offers))))
+
 pub returns-then-is_empty : goal.returns-then-is_empty
 returns-then-is_empty c =
     let none = none_bad c.bad.result.now vec_items (grind (arith, nat_tests, c.if-not-is_empty.ensures)) c.bad.ensures in
-    let empty : c.ranges-2.result.now ≡ [] = nil_from_length _ (grind (arith, nat_tests, c.if-is_empty.ensures)) in
+    let empty : vec_items c.in-Ok-order.positions ≡ [] = nil_from_length _ (grind (arith, nat_tests, c.if-is_empty.ensures)) in
     none_is_ordered c.in-Ok-accepted.header c.in-Ok.offered c.in-Ok-accepted.ensures.header c.in-Ok.ensures.header none
-    (none_in_order c.in-Ok-accepted.header.ranges c.in-Ok.offered.ranges (sym c.ranges-2.ensures ∙ ap (map (λ range. range.media)) empty))
-
-pub returns-in_default-order : goal.returns-in_default-order
-returns-in_default-order c =
-    order_has_no_memory (λ none. absurd (grind (
-      arith,
-      nat_tests,
-      c.if-is_empty.ensures,
-      ap length (c.ranges-2.ensures ∙ no_offer c.in-Ok.ensures.header none.0),
-      length-map c.ranges-2.result.now (λ (range : OwnedMedia). range.media),
-    )))
-
-pub returns-then-is_empty-2 : goal.returns-then-is_empty-2
-returns-then-is_empty-2 c =
-    let none = none_bad c.bad.result.now vec_items (grind (arith, nat_tests, c.if-not-is_empty.ensures)) c.bad.ensures in
-    let empty : vec_items c.in-Ok-order.positions ≡ [] = nil_from_length _ (grind (arith, nat_tests, c.if-is_empty-2.ensures)) in
-    none_is_ordered c.in-Ok-accepted.header c.in-Ok.offered c.in-Ok-accepted.ensures.header c.in-Ok.ensures.header none
-    (in_order _ c.ranges-3.ensures c.in-Ok-order.ensures empty)
+    (in_order _ c.ranges-2.ensures c.in-Ok-order.ensures.order empty)
 
 pub returns-then-len-order : goal.returns-then-len-order
 returns-then-len-order c =
     let none = none_bad c.bad.result.now vec_items (grind (arith, nat_tests, c.if-not-is_empty.ensures)) c.bad.ensures in
     order_has_no_room c.in-Ok-accepted.header c.in-Ok.offered (vec_items c.in-Ok-order.positions) c.in-Ok-accepted.ensures.header c.in-Ok.ensures.header none
-    (in_order _ c.ranges-3.ensures c.in-Ok-order.ensures refl) (omega (arith, c.if-len-order.true, c.len.ensures))
+    (in_order _ c.ranges-2.ensures c.in-Ok-order.ensures.order refl) (omega (arith, c.if-len-order.true, c.len.ensures))
 
 pub returns : goal.returns
 returns c =
     let none = none_bad c.bad.result.now vec_items (grind (arith, nat_tests, c.if-not-is_empty.ensures)) c.bad.ensures in
     let order = vec_items c.in-Ok-order.positions in
-    let some : order ≢ [] = λ empty. absurd (grind (arith, nat_tests, ap length empty, c.if-is_empty-2.ensures)) in
+    let some : order ≢ [] = λ empty. absurd (grind (arith, nat_tests, ap length empty, c.if-is_empty.ensures)) in
     let is_there = c.args.is_there in
     let Answered : List ℕ → ℕ → Type 0 = OrderIs is_there c.args.accept.now c.args.offers.now c.args.order.now 0 in
     let length_is : c.len-3.result ≡ length order = omega (arith, c.len-3.ensures, c.deref.ensures.len, ap length c.deref.ensures.value) in
     let answer : Answered (written order c.args.order.now) (length order) = order_is c.in-Ok-accepted.header c.in-Ok.offered order c.in-Ok-accepted.ensures.header c.in-Ok.ensures.header none
-    (in_order _ c.ranges-3.ensures c.in-Ok-order.ensures refl) some (omega (arith, c.if-len-order.false, c.len.ensures)) in
+    (in_order _ c.ranges-2.ensures c.in-Ok-order.ensures.order refl) some (omega (arith, c.if-len-order.false, c.len.ensures)) in
     let places : written order c.args.order.now ≡ c.copy_from_slice.new.self ++ drop c.len-2.result c.args.order.now =
     cc (c.copy_from_slice.ensures.after, c.deref.ensures.value, c.len-2.ensures, c.len-3.ensures, length_is) in
     subst (Answered (c.copy_from_slice.new.self ++ drop c.len-2.result c.args.order.now)) (sym length_is) (subst (λ new. Answered new (length order)) places answer)

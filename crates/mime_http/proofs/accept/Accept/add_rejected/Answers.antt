@@ -1,27 +1,12 @@
 -- The entry's media type or itself was pushed.
 use Rattle.std.proofs.Common.{rules, ◌≡◌, ◌∙◌, refl, sym, ap, subst, ℕ, List, [], ◌∷◌, ◌++◌}
-use Rattle.std.specs.Prelude.{Result, Option, Ok, Err, Some, None, MatchResult, MatchOption}
-use Rattle.std.specs.Result.{result_ok}
+use Rattle.std.specs.Prelude.{Some, None}
 use Rattle.std.specs.Str.{IsUtf8}
 use Rattle.std.specs.Vec.{vec_items}
-use Rattle.mime.specs.Values.{OwnedMedia, Reads}
 use Rattle.mime_http.specs.HttpMediaType.{HttpReads, IsHttpMediaType}
 use Rattle.mime_http.specs.HttpList.{Header, trim_end}
-use Rattle.mime_http.specs.declared.fault.Rejected.{Rejected}
-use Rattle.mime_http.specs.Tight.{tight}
-use Rattle.mime_http.specs.Tightening.{IsRejected}
-use Rattle.mime_http.proofs.Adds.{pushed, add_range, add_bad}
-use Rattle.mime_http.proofs.HttpBack.{read_is_http}
+use Rattle.mime_http.proofs.Adds.{read_http, pushed, add_range, add_bad}
 use Rattle.mime_http.proofs.accept.Accept.add_rejected.Goals as goal
-
--- What is read of an entry is a media type as HTTP writes it, or there is none.
-read_http : (entry : List ℕ) (answer : Result OwnedMedia Rejected) (o : Option OwnedMedia) → result_ok answer ≡ o
-    → MatchResult answer (λ mime. Reads (tight entry) mime.media) (IsRejected entry)
-    → MatchOption o (¬ (IsHttpMediaType entry)) (λ mime. HttpReads entry mime.media)
-read_http entry (Ok mime) o is reads =
-    subst (λ o. MatchOption o (¬ (IsHttpMediaType entry)) (λ mime. HttpReads entry mime.media)) is (read_is_http entry mime.media reads)
-read_http entry (Err rejected) o is isnt =
-    subst (λ o. MatchOption o (¬ (IsHttpMediaType entry)) (λ mime. HttpReads entry mime.media)) is isnt.is
 
 pub returns-in_ok-push-in-Some : goal.returns-in_ok-push-in-Some
 returns-in_ok-push-in-Some c =
