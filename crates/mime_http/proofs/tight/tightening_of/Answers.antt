@@ -107,5 +107,5 @@ returns-in-59-clause-memory c = λ same.
     let value = c.args.value.now in
     let at = fault_at value c.args.fault _ _ c.requires.fault c.in-InvalidToken.is in
     let loose = next_semicolon value c.in-InvalidToken.pos c.in-InvalidToken.byte at.dead c.in-59.is
-    (sym c.ends_in_separator.ensures ∙ c.if-ends_in_separator.true) in
+    (sym c.ends_in_semicolon_or_space.ensures ∙ c.if-ends_in_semicolon_or_space.true) in
     absurd (something_left_out value _ _ Semicolon loose (omega arith) (no_longer-semicolon (drop (c.in-InvalidToken.pos + 1) value)) same)

@@ -11,7 +11,7 @@ pub returns-in-Some : goal.returns-in-Some
 returns-in-Some c =
     let entry = c.args.entry.now in
     let media = c.in-Some.offer.media in
-    let reads : HttpReads entry media = read_http entry _ (Some c.in-Some.offer) (sym c.ok.ensures.value ∙ c.in-Some.is) c.in_ok-read_tight.ensures in
+    let reads : HttpReads entry media = read_http entry _ (Some c.in-Some.offer) (sym c.ok.ensures.value ∙ c.in-Some.is) c.in_ok-read_tight.ensures.read in
     record {
       entry = chooses_offer _ entry media (subst (λ t. IsUtf8 t × HttpReads t media) (sym c.requires.trimmed) (c.utf8.entry, reads)) c.take.ensures.offer;
       few = c.take.ensures.few;
@@ -21,7 +21,7 @@ pub returns-in-None : goal.returns-in-None
 returns-in-None c =
     let entry = c.args.entry.now in
     let trimmed = c.requires.trimmed in
-    let isnt : ¬ (IsHttpMediaType entry) = read_http entry _ None (sym c.ok.ensures.value ∙ c.in-None.is) c.in_ok-read_tight.ensures in
+    let isnt : ¬ (IsHttpMediaType entry) = read_http entry _ None (sym c.ok.ensures.value ∙ c.in-None.is) c.in_ok-read_tight.ensures.read in
     record {
       entry = chooses_bad _ entry (λ none. c.requires.some (sym trimmed ∙ none)) (λ both. isnt (subst IsHttpMediaType trimmed both.1));
       few = omega arith;
