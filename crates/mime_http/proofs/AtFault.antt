@@ -137,6 +137,7 @@ pub trimmed_at : (value : List ℕ) (n : ℕ) → n ≤ length value
 trimmed_at value n within =
     let split = split_white (drop n value) in dropped value n split.0 (trim_start (drop n value)) within split.2
 
+-- so from there a value comes out as from the end of its white space on
 pub after_white : {place : Place} → SkipsWhite place → (value : List ℕ) (n : ℕ) → n ≤ length value
     → tight_from place (drop n value) ≡ tight_from place (drop (length value - length (trim_start (drop n value))) value)
 after_white {place} skips value n within =

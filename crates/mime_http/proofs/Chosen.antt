@@ -44,7 +44,8 @@ module _ {K : Type 0} {R : K → K → Ordering} (total : IsTotalOrder R) (one :
       let higher = ord_max R m y in
       let low = upto total y higher (fold (ord_max R) higher xs) (item_by m y (R y m) refl) (least higher xs) in
       let no : eq_by_cmp R y x ≡ false = ⊎_elim
-      (λ yes. absurd (true≢false (sym above ∙ subst (λ z. is_gt (R z (fold (ord_max R) higher xs)) ≡ false) (same_by total one y x (R y x) refl yes) low)))
+      (λ yes. absurd (true≢false (sym above ∙ subst (λ z. is_gt (R z (fold (ord_max R) higher xs)) ≡ false)
+      (same_by total one y x (R y x) refl yes) low)))
       (λ no. no) (cases_Bool (eq_by_cmp R y x)) in
       rw no (first_place x higher xs (at + 1) above ∙ ap Some (omega arith))
 
@@ -54,9 +55,11 @@ found_by : (b : Bool) (p q : Option ℕ) (a : ℕ) {i : ℕ} → (if b then Some
 found_by true p q a is next = is
 found_by false p q a is next = next is
 
+-- nothing isn't something
 none_is_none : {i : ℕ} → ¬ (◌≡◌ {A = Option ℕ} None (Some i))
 none_is_none is = absurd (cc)
 
+-- what is found is found with more after it
 found_still : {K : Type 0} (test : K → Bool) (xs more : List K) (at : ℕ) {i : ℕ} → position_from test at xs ≡ Some i
     → position_from test at (xs ++ more) ≡ Some i
 found_still test [] more at is = absurd (none_is_none is)
@@ -65,7 +68,8 @@ found_still test (x ∷ xs) more at is =
 
 module _ {ranges : List MediaType} {before : Header} {old : Chosen} (media : MediaType) (was : IsChosen ranges before old) where
   -- the highest rank of the offers with one more is the higher of two
-  higher_of_two : fold (ord_max rank_cmp) lowest (map (merit ranges) (before.ranges ++ (media ∷ []))) ≡ ord_max rank_cmp old.most (merit ranges media)
+  higher_of_two : fold (ord_max rank_cmp) lowest (map (merit ranges) (before.ranges ++ (media ∷ [])))
+      ≡ ord_max rank_cmp old.most (merit ranges media)
   higher_of_two =
       ap (fold (ord_max rank_cmp) lowest) (map-append (merit ranges) before.ranges (media ∷ []))
       ∙ (fold_push (ord_max rank_cmp) lowest (map (merit ranges) before.ranges) (merit ranges media)
@@ -139,9 +143,11 @@ module _ (ranges : List MediaType) (piece : List ℕ) {old : Chosen} where
       )
 
 -- what is chosen after an entry is chosen after the piece that it is trimmed of
-pub chooses_trimmed : (ranges : List MediaType) (piece text : List ℕ) {old new : Chosen} → text ≡ trim_start piece → ChoosesOn ranges text old new
+pub chooses_trimmed : (ranges : List MediaType) (piece text : List ℕ) {old new : Chosen} → text ≡ trim_start piece
+    → ChoosesOn ranges text old new
     → ChoosesOn ranges piece old new
-chooses_trimmed ranges piece text is chooses before was = let after = chooses before was in (after.0, add_trimmed piece text is after.1, after.2)
+chooses_trimmed ranges piece text is chooses before was =
+    let after = chooses before was in (after.0, add_trimmed piece text is after.1, after.2)
 
 -- ---- the end of the list
 

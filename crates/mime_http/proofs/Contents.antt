@@ -63,8 +63,8 @@ bchar_text b is =
     rw (bchar_safe b is, plain) refl
 
 -- so a token needs none,
-pub token_is_plain : (bytes : List ℕ) → IsToken bytes → escaped bytes ≡ bytes
-token_is_plain bytes token = plain_class is_token_byte token_plain bytes (AreTokenBytes-from_token bytes token)
+pub token_needs_none : (bytes : List ℕ) → IsToken bytes → escaped bytes ≡ bytes
+token_needs_none bytes token = plain_class is_token_byte token_plain bytes (AreTokenBytes-from_token bytes token)
 
 -- and may stand in a header,
 pub token_is_safe : (bytes : List ℕ) → IsToken bytes → AreHeaderBytes bytes

@@ -6,7 +6,7 @@ use Rattle.mime_http.specs.Forms.{kind_from, kind_of, is_plain, form_of, marks, 
 use Rattle.mime_http.specs.declared.quoted.Form.{Form}
 use Rattle.mime_http.specs.declared.quoted.Form.TheVariants.{Token, Quoted, Escaped}
 use Rattle.mime_http.proofs.Written.{token_from_test}
-use Rattle.mime_http.proofs.Contents.{is_special, token_plain, token_safe, token_is_plain, plain_class, text_plain, bchar_text}
+use Rattle.mime_http.proofs.Contents.{is_special, token_plain, token_safe, token_needs_none, plain_class, text_plain, bchar_text}
 use Rattle.mime_http.specs.Boundary.{is_bchar, IsBoundary}
 use Rattle.mime_http.specs.Written.{escaped, is_token_value, quote_of, text_of_pair}
 
@@ -207,7 +207,7 @@ token_from_escaped (b ∷ value) token =
 pub form_text : (name value : List ℕ) → text_in (form_of value) name value ≡ text_of_pair (name, escaped value)
 form_text name value =
     ⊎_elim (λ token.
-    let same = token_is_plain value (token_from_test value token) in
+    let same = token_needs_none value (token_from_test value token) in
     ap (λ is. text_in (if is then Token else (if list_all is_quoted_text_byte value then Quoted else Escaped)) name value) token
     ∙ text_as Token name value (escaped value) (sym same) (as_token value token ∙ sym (ap quote_of same)))
     (λ other.

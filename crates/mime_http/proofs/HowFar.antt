@@ -77,10 +77,10 @@ more_white (back front c white at_rest first one all) b spaced_there same =
     (back front c (white ++ (b ∷ [])) at_rest first one (ap tight (sym grouped) ∙ (same ∙ all)))
 
 -- one byte further
-step : (front : List ℕ) (limit : ℕ) (reach : Reach) (b : ℕ) → SoFar front limit reach
+one_byte_further : (front : List ℕ) (limit : ℕ) (reach : Reach) (b : ℕ) → SoFar front limit reach
     → nat_lt reach.left (length (added reach.place b)) ≡ false
     → SoFar (front ++ (b ∷ [])) limit (reach_after reach b)
-step front limit reach b is fits = record {
+one_byte_further front limit reach b is fits = record {
   at = count;
   place = there;
   out =
@@ -134,7 +134,7 @@ stops_from (b ∷ bytes) front limit reach is =
     })
     go rest false fits =
         rw fits (subst (λ value. Stops value limit (reach_from (reach_after reach b) bytes)) (append_assoc front (b ∷ []) bytes)
-        (rest (step front limit reach b is fits)))
+        (rest (one_byte_further front limit reach b is fits)))
 
 -- so it is known of the whole value how far it goes
 pub stops : (value : List ℕ) (limit : ℕ) → Stops value limit (reach_from (start limit) value)

@@ -60,13 +60,13 @@ not_closed is = rejected-from_walk (tight (codes "a/b;p=\"x")) _ refl refl (acce
 -- ---- faults
 
 -- `   a/b c`: the `c`, since `   a/b ` is a media type with white space around it; the space isn't
-html : IsAccepted (codes "a/b")
+accepted : IsAccepted (codes "a/b")
 unfolding is_token_byte
-html = accepted-from_complete (codes "a/b") (in_subtype (codes "a") (codes "b")) _ refl refl
+accepted = accepted-from_complete (codes "a/b") (in_subtype (codes "a") (codes "b")) _ refl refl
 
 -- white space may follow a media type
 space_may_follow : IsHttpViable (codes "   a/b ")
-space_may_follow = viable_from_accepted (codes "   a/b ") html
+space_may_follow = viable_from_accepted (codes "   a/b ") accepted
 
 -- so what follows it is at fault,
 at_c : IsHttpFault (codes "   a/b c") (InvalidToken 7 99)

@@ -26,12 +26,12 @@ half : thousandths_of (codes "0.5") ≡ 500
 half = refl
 
 -- `1.000` 1000,
-one : thousandths_of (codes "1.000") ≡ 1000
-one = refl
+unit_weight : thousandths_of (codes "1.000") ≡ 1000
+unit_weight = refl
 
 -- `0.001` 1,
-least : thousandths_of (codes "0.001") ≡ 1
-least = refl
+least_weight : thousandths_of (codes "0.001") ≡ 1
+least_weight = refl
 
 -- and `0` none
 nothing : thousandths_of (codes "0") ≡ 0
@@ -114,19 +114,19 @@ abbrev text : List (List ℕ × List ℕ) → MediaType
 text pairs = of (codes "text/*") 4 pairs
 
 -- a parameter `level`
-abbrev level : List ℕ → List ℕ × List ℕ
-level value = (codes "level", value)
+abbrev of_level : List ℕ → List ℕ × List ℕ
+of_level value = (codes "level", value)
 
 -- a range demands each of its parameters, with the same value
-covered : is_some (closeness (html (level (codes "1") ∷ level (codes "2") ∷ [])) (0, html (level (codes "1") ∷ []))) ≡ true
+covered : is_some (closeness (html (of_level (codes "1") ∷ of_level (codes "2") ∷ [])) (0, html (of_level (codes "1") ∷ []))) ≡ true
 covered = refl
 
 -- a range with a parameter covers no offer without it,
-not_covered : closeness (html []) (0, html (level (codes "1") ∷ [])) ≡ None
+not_covered : closeness (html []) (0, html (of_level (codes "1") ∷ [])) ≡ None
 not_covered = refl
 
 -- none with another value,
-other_value : closeness (html (level (codes "1") ∷ [])) (0, html (level (codes "2") ∷ [])) ≡ None
+other_value : closeness (html (of_level (codes "1") ∷ [])) (0, html (of_level (codes "2") ∷ [])) ≡ None
 other_value = refl
 
 -- and `text/*` no image
@@ -184,7 +184,7 @@ axios : best_offer (json ∷ plain [] ∷ any [] ∷ []) (html [] ∷ json ∷ [
 axios = refl
 
 -- `text/html;level=2, text/html`: parameters make it closer
-more_parameters : best_offer (html (level (codes "2") ∷ []) ∷ html [] ∷ []) (html [] ∷ html (level (codes "2") ∷ []) ∷ []) ≡ Some 1
+more_parameters : best_offer (html (of_level (codes "2") ∷ []) ∷ html [] ∷ []) (html [] ∷ html (of_level (codes "2") ∷ []) ∷ []) ≡ Some 1
 more_parameters = refl
 
 -- `text/plain, */*;q=0.1, text/html`: of ranges as close the earlier decides

@@ -40,29 +40,29 @@ abbrev padded : ℕ → List ℕ → List ℕ
 padded count bytes = take count (digits bytes ++ codes "000")
 
 -- a number with one digit more,
-one_more : (n : ℕ) (bytes : List ℕ) → fold step n (padded 1 bytes) ≡ 10 * n + worth 1 bytes
-one_more n [] = omega arith
-one_more n (b ∷ bytes) =
+one_digit_more : (n : ℕ) (bytes : List ℕ) → fold step n (padded 1 bytes) ≡ 10 * n + worth 1 bytes
+one_digit_more n [] = omega arith
+one_digit_more n (b ∷ bytes) =
     ⊎_elim
     (λ is. rw (digits_more b bytes is, is) (omega (arith, no_unit bytes)))
     (λ isnt. rw (digits_end b bytes isnt, isnt) (omega arith))
     (cases_Bool (is_ascii_digit b))
 
 -- with two,
-two_more : (n : ℕ) (bytes : List ℕ) → fold step n (padded 2 bytes) ≡ 100 * n + worth 10 bytes
-two_more n [] = omega arith
-two_more n (b ∷ bytes) =
+two_digits_more : (n : ℕ) (bytes : List ℕ) → fold step n (padded 2 bytes) ≡ 100 * n + worth 10 bytes
+two_digits_more n [] = omega arith
+two_digits_more n (b ∷ bytes) =
     ⊎_elim
-    (λ is. rw (digits_more b bytes is, is) (omega (arith, one_more (step n b) bytes)))
+    (λ is. rw (digits_more b bytes is, is) (omega (arith, one_digit_more (step n b) bytes)))
     (λ isnt. rw (digits_end b bytes isnt, isnt) (omega arith))
     (cases_Bool (is_ascii_digit b))
 
 -- and with three
-three_more : (n : ℕ) (bytes : List ℕ) → fold step n (padded 3 bytes) ≡ 1000 * n + worth 100 bytes
-three_more n [] = omega arith
-three_more n (b ∷ bytes) =
+three_digits_more : (n : ℕ) (bytes : List ℕ) → fold step n (padded 3 bytes) ≡ 1000 * n + worth 100 bytes
+three_digits_more n [] = omega arith
+three_digits_more n (b ∷ bytes) =
     ⊎_elim
-    (λ is. rw (digits_more b bytes is, is) (omega (arith, two_more (step n b) bytes)))
+    (λ is. rw (digits_more b bytes is, is) (omega (arith, two_digits_more (step n b) bytes)))
     (λ isnt. rw (digits_end b bytes isnt, isnt) (omega arith))
     (cases_Bool (is_ascii_digit b))
 
@@ -95,23 +95,23 @@ abbrev number_from : ℕ → List ℕ → ℕ
 number_from n bytes = fold step n (digits bytes ++ take 3 (decimals (drop (length (digits bytes)) bytes) ++ codes "000"))
 
 -- a number goes on with a digit,
-goes_on : (n b : ℕ) (bytes : List ℕ) → is_ascii_digit b ≡ true → number_from n (b ∷ bytes) ≡ number_from (step n b) bytes
-goes_on n b bytes is = rw (digits_more b bytes is) refl
+number_goes_on : (n b : ℕ) (bytes : List ℕ) → is_ascii_digit b ≡ true → number_from n (b ∷ bytes) ≡ number_from (step n b) bytes
+number_goes_on n b bytes is = rw (digits_more b bytes is) refl
 
 -- and else with its decimals
-stops : (n b : ℕ) (bytes : List ℕ) → is_ascii_digit b ≡ false
+number_stops : (n b : ℕ) (bytes : List ℕ) → is_ascii_digit b ≡ false
     → number_from n (b ∷ bytes) ≡ fold step n (take 3 (decimals (b ∷ bytes) ++ codes "000"))
-stops n b bytes isnt = rw (digits_end b bytes isnt) refl
+number_stops n b bytes isnt = rw (digits_end b bytes isnt) refl
 
 -- what stands after a dot makes it no less
 no_less : (n : ℕ) (bytes : List ℕ) → 1000 * n ≤ number_from n bytes
 no_less n [] = omega arith
 no_less n (b ∷ bytes) =
     ⊎_elim
-    (λ is. rw (goes_on n b bytes is) (omega (arith, no_less (step n b) bytes)))
-    (λ isnt. rw (stops n b bytes isnt) (elim (b == 46) as (λ dot. 1000 * n ≤ fold step n
+    (λ is. rw (number_goes_on n b bytes is) (omega (arith, no_less (step n b) bytes)))
+    (λ isnt. rw (number_stops n b bytes isnt) (elim (b == 46) as (λ dot. 1000 * n ≤ fold step n
     (take 3 ((if dot then digits bytes else []) ++ codes "000"))) [
-      | true ↦ omega (arith, three_more n bytes)
+      | true ↦ omega (arith, three_digits_more n bytes)
       | false ↦ omega arith
     ]))
     (cases_Bool (is_ascii_digit b))
@@ -129,15 +129,15 @@ pub read_is : (text : List ℕ) → read_number text ≡ thousandths_of text
 read_is [] = refl
 read_is (b ∷ bytes) =
     ⊎_elim
-    (λ is. rw (eqb-true b 48 is) (read_is bytes ∙ ap (min 1000) (sym (goes_on 0 48 bytes refl))))
+    (λ is. rw (eqb-true b 48 is) (read_is bytes ∙ ap (min 1000) (sym (number_goes_on 0 48 bytes refl))))
     (λ other. ap
     (λ zero. if zero then read_number bytes else if is_ascii_digit b then 1000 else if b == 46 then worth 100 bytes else 0) other
     ∙ ⊎_elim
     (λ is. ap (λ is. if is then 1000 else if b == 46 then worth 100 bytes else 0) is
-    ∙ sym (ap (min 1000) (goes_on 0 b bytes is) ∙ most (number_from (step 0 b) bytes)
+    ∙ sym (ap (min 1000) (number_goes_on 0 b bytes is) ∙ most (number_from (step 0 b) bytes)
     (omega (arith, above b is other, no_less (step 0 b) bytes))))
     (λ isnt. ap (λ is. if is then 1000 else if b == 46 then worth 100 bytes else 0) isnt
-    ∙ (after_dot (b == 46) ∙ sym (ap (min 1000) (stops 0 b bytes isnt))))
+    ∙ (after_dot (b == 46) ∙ sym (ap (min 1000) (number_stops 0 b bytes isnt))))
     (cases_Bool (is_ascii_digit b)))
     (cases_Bool (b == 48))
   where
@@ -147,7 +147,7 @@ read_is (b ∷ bytes) =
     after_dot : (dot : Bool)
         → (if dot then worth 100 bytes else 0) ≡ min 1000 (fold step 0 (take 3 ((if dot then digits bytes else []) ++ codes "000")))
     after_dot true =
-        let same : fold step 0 (padded 3 bytes) ≡ worth 100 bytes = omega (arith, three_more 0 bytes) in
+        let same : fold step 0 (padded 3 bytes) ≡ worth 100 bytes = omega (arith, three_digits_more 0 bytes) in
         sym (ap (min 1000) same ∙ least (worth 100 bytes) (omega (arith, three_most bytes)))
     after_dot false = refl
 

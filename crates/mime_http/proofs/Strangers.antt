@@ -28,12 +28,12 @@ abbrev shifted_rank : ℕ → Rank → Rank
 shifted_rank k rank = (rank.0, rank.1, rank.2, shifted k rank.3)
 
 -- a position before the stranger stays,
-stays : (k at : ℕ) → at < k → shifted k at ≡ at
-stays k at before = let test : nat_lt at k ≡ true = grind (arith, nat_tests) in rw test refl
+position_stays : (k at : ℕ) → at < k → shifted k at ≡ at
+position_stays k at before = let test : nat_lt at k ≡ true = grind (arith, nat_tests) in rw test refl
 
 -- and one from it on is one more
-moves : (k at : ℕ) → k ≤ at → shifted k at ≡ at + 1
-moves k at after = let test : nat_lt at k ≡ false = grind (arith, nat_tests) in rw test refl
+position_moves : (k at : ℕ) → k ≤ at → shifted k at ≡ at + 1
+position_moves k at after = let test : nat_lt at k ≡ false = grind (arith, nat_tests) in rw test refl
 
 -- shifted positions are in the same order,
 same_order : (k x y : ℕ) → nat_cmp (shifted k x) (shifted k y) ≡ nat_cmp x y
@@ -122,7 +122,7 @@ module _ (offer : MediaType) where
   later k at [] after = refl
   later k at (range ∷ ranges) after =
       let here : closeness offer (at + 1, range) ≡ option_map (shifted_rank k) (closeness offer (at, range)) =
-      ap (λ n. closeness offer (n, range)) (sym (moves k at after)) ∙ covers_so offer range k at in
+      ap (λ n. closeness offer (n, range)) (sym (position_moves k at after)) ∙ covers_so offer range k at in
       ap (λ first. cons_option first (covering (at + 1 + 1) ranges)) here
       ∙ (ap (cons_option (option_map (shifted_rank k) (closeness offer (at, range)))) (later k (at + 1) ranges (omega (arith, after)))
       ∙ onto_mapped (shifted_rank k) (closeness offer (at, range)) (covering (at + 1) ranges))
@@ -134,7 +134,7 @@ module _ (offer : MediaType) where
         ap (λ first. cons_option first (covering (at + 1) after)) (covers_none offer range at none) ∙ later k at after (omega (arith, long))
     one_more k at (first ∷ before) long =
         let here : closeness offer (at, first) ≡ option_map (shifted_rank k) (closeness offer (at, first)) =
-        ap (λ n. closeness offer (n, first)) (sym (stays k at (omega (arith, long)))) ∙ covers_so offer first k at in
+        ap (λ n. closeness offer (n, first)) (sym (position_stays k at (omega (arith, long)))) ∙ covers_so offer first k at in
         ap (λ found. cons_option found (covering (at + 1) (before ++ (range ∷ after)))) here
         ∙ (ap (cons_option (option_map (shifted_rank k) (closeness offer (at, first)))) (one_more k (at + 1) before (omega (arith, long)))
         ∙ onto_mapped (shifted_rank k) (closeness offer (at, first)) (covering (at + 1) (before ++ after)))

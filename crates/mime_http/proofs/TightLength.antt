@@ -44,10 +44,11 @@ no_longer-before_semicolon (b ∷ bytes) is =
     let same : 59 ≡ b = grind (arith, nat_tests) in
     subst (λ x. length (tight_from Spaced (x ∷ bytes)) ≤ length (x ∷ bytes)) same (omega (arith, no_longer-from Semicolon bytes))
 
--- nor at the start of a value, nor after a semicolon
+-- nor at the start of a value,
 pub no_longer-start : (bytes : List ℕ) → length (tight_from Start bytes) ≤ length bytes
 no_longer-start bytes = omega (arith, no_longer-from Start bytes)
 
+-- nor after one
 pub no_longer-semicolon : (bytes : List ℕ) → length (tight_from Semicolon bytes) ≤ length bytes
 no_longer-semicolon bytes = omega (arith, no_longer-from Semicolon bytes)
 

@@ -5,7 +5,7 @@ use Rattle.mime.specs.Values.{lowered}
 use Rattle.mime_http.specs.Written.{escaped, is_token_value, with_pair}
 use Rattle.mime_http.specs.declared.quoted.Form.TheVariants.{Token, Quoted, Escaped}
 use Rattle.std.specs.List.{list_all}
-use Rattle.mime_http.proofs.Contents.{token_is_plain, token_is_safe}
+use Rattle.mime_http.proofs.Contents.{token_needs_none, token_is_safe}
 use Rattle.mime_http.proofs.Written.{token_from_test}
 use Rattle.mime_http.proofs.parameter.with_charset.Goals as goal
 
@@ -25,7 +25,7 @@ pub returns-clause-made : goal.returns-clause-made
 unfolding is_token_byte
 returns-clause-made c =
     let charset = c.args.charset.now in
-    let plain = token_is_plain charset (token_from_test charset (search rules)) in
+    let plain = token_needs_none charset (token_from_test charset (search rules)) in
     let made : c.in_ok-mime_with.field-0.media ≡ with_pair c.args.mime.now.media (codes "charset") (lowered (escaped charset)) =
     search rules in
     made ∙ ap (λ bytes. with_pair c.args.mime.now.media (codes "charset") (lowered bytes)) plain

@@ -40,10 +40,12 @@ pub returns-then-begins_with_semicolon-clause-memory : goal.returns-then-begins_
 returns-then-begins_with_semicolon-clause-memory c = λ same.
     let value = c.args.value.now in
     let at = drop (c.args.pos + 1) value in
-    let rest : c.trim_start-rest.result.now ≡ trim_start at = c.trim_start-rest.ensures ∙ ap trim_start (take_rest value (c.args.pos + 1)) in
+    let rest : c.trim_start-rest.result.now ≡ trim_start at =
+    c.trim_start-rest.ensures ∙ ap trim_start (take_rest value (c.args.pos + 1)) in
     let from = length value - length (trim_start at) in
     let semicolon = ap begins_with_semicolon (sym rest) ∙ (sym c.begins_with_semicolon.ensures ∙ c.if-begins_with_semicolon.true) in
     let behind : c.args.pos < from = omega (arith, trimmed-le at, length-drop (c.args.pos + 1) value, c.requires.within) in
     absurd (something_left_out value c.args.pos from Spaced
     (later_space value c.args.pos (get_or value c.args.pos 0) c.requires.fault c.requires.some c.requires.white) behind
-    (no_longer-before_semicolon (drop from value) (ap begins_with_semicolon (trimmed_at value (c.args.pos + 1) (omega (arith, c.requires.within))) ∙ semicolon)) same)
+    (no_longer-before_semicolon (drop from value) (ap begins_with_semicolon
+    (trimmed_at value (c.args.pos + 1) (omega (arith, c.requires.within))) ∙ semicolon)) same)

@@ -8,7 +8,8 @@ use Rattle.mime_http.proofs.accept.Accept.best_listed.Given as goal
 
 abbrev pub invariant-loop-comma : goal.invariant-loop-comma
 invariant-loop-comma l = record {
-  taken : (offered : Header) × SoFar (cut l.list) (cut l.left) (record { ranges = []; bad = [] }) offered × IsChosen (map (λ range. range.media) l.ranges) offered l.chosen;
+  taken : (offered : Header) × SoFar (cut l.list) (cut l.left) (record { ranges = []; bad = [] }) offered
+      × IsChosen (map (λ range. range.media) l.ranges) offered l.chosen;
   few : l.chosen.count + l.chosen.bad + length l.left ≤ length l.list;
 }
 

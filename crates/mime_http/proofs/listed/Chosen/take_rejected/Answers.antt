@@ -11,9 +11,12 @@ pub returns-in-Some : goal.returns-in-Some
 returns-in-Some c =
     let entry = c.args.entry.now in
     let media = c.in-Some.offer.media in
-    let reads : HttpReads entry media = read_http entry _ (Some c.in-Some.offer) (sym c.ok.ensures.value ∙ c.in-Some.is) c.in_ok-read_tight.ensures.read in
+    let reads : HttpReads entry media =
+    read_http entry _ (Some c.in-Some.offer) (sym c.ok.ensures.value ∙ c.in-Some.is) c.in_ok-read_tight.ensures.read in
     record {
-      entry = chooses_offer _ entry media (subst (λ t. IsUtf8 t × HttpReads t media) (sym c.requires.trimmed) (c.utf8.entry, reads)) c.take.ensures.offer;
+      entry =
+          chooses_offer _ entry media (subst (λ t. IsUtf8 t × HttpReads t media) (sym c.requires.trimmed)
+          (c.utf8.entry, reads)) c.take.ensures.offer;
       few = c.take.ensures.few;
     }
 
