@@ -51,7 +51,7 @@ sorted_fit : (texts : List (List ℕ)) (ranges : List MediaType) (bad : List (Li
     → length (strings (ranges_texts ranges)) ≤ 3 * total texts
 sorted_fit texts ranges bad no_text = omega arith
 sorted_fit texts ranges bad (blank text rest _ _ white sorted) = omega (arith, sorted_fit rest ranges bad sorted)
-sorted_fit texts ranges bad (a_range text range rest others _ utf8 reads sorted) =
+sorted_fit texts ranges bad (a_range text range rest others _ utf8 reads _ sorted) =
     let both = ap length (strings_of_ranges range others) ∙ length-append (strings (range_texts range)) (strings (ranges_texts others)) in
     omega (arith, range_fits text range reads, sorted_fit rest others bad sorted, both)
 sorted_fit texts ranges bad (a_bad text rest _ others some isnt sorted) = omega (arith, sorted_fit rest ranges others sorted)
@@ -77,7 +77,7 @@ no_zero-ranges : (texts : List (List ℕ)) (ranges : List MediaType) (bad : List
     → AllByRecursion HasNoZero (ranges_texts ranges)
 no_zero-ranges texts ranges bad no_text = tt
 no_zero-ranges texts ranges bad (blank text rest _ _ white sorted) = no_zero-ranges rest ranges bad sorted
-no_zero-ranges texts ranges bad (a_range text range rest others _ utf8 reads sorted) =
+no_zero-ranges texts ranges bad (a_range text range rest others _ utf8 reads _ sorted) =
     both_none (range_texts range) (ranges_texts others) (no_zero-range text range reads) (no_zero-ranges rest others bad sorted)
 no_zero-ranges texts ranges bad (a_bad text rest _ others some isnt sorted) = no_zero-ranges rest ranges others sorted
 

@@ -15,16 +15,20 @@ use Rattle.mime_http.specs.Tight.{tight}
 use Rattle.mime_http.specs.Tightening.{IsRejected}
 use Rattle.mime_http.proofs.HttpBack.{read_is_http}
 use Rattle.mime_http.proofs.Cuts.{are_cut, only_cut}
-use Rattle.mime_http.proofs.Trims.{blank_from_trimmed, trimmed_from_blank, trim_twice, utf8_before, utf8_trimmed, http_before, http_trimmed}
+use Rattle.mime_http.proofs.Trims.{blank_from_trimmed, trimmed_from_blank, trim_twice, utf8_before, utf8_trimmed, tight_trimmed, http_before, http_trimmed}
 
--- What is read of an entry is a media type as HTTP writes it, or there is none.
-pub read_http : (entry : List ℕ) (answer : Result OwnedMedia Rejected) (o : Option OwnedMedia) → result_ok answer ≡ o
+-- An entry's media type was read of it, tightened, or it has none.
+pub read_entry : (entry : List ℕ) (answer : Result OwnedMedia Rejected) (o : Option OwnedMedia) → result_ok answer ≡ o
     → MatchResult answer (λ mime. Reads (tight entry) mime.media) (IsRejected entry)
-    → MatchOption o (¬ (IsHttpMediaType entry)) (λ mime. HttpReads entry mime.media)
-read_http entry (Ok mime) o is reads =
-    subst (λ o. MatchOption o (¬ (IsHttpMediaType entry)) (λ mime. HttpReads entry mime.media)) is (read_is_http entry mime.media reads)
-read_http entry (Err rejected) o is isnt =
-    subst (λ o. MatchOption o (¬ (IsHttpMediaType entry)) (λ mime. HttpReads entry mime.media)) is isnt.is
+    → MatchOption o (¬ (IsHttpMediaType entry)) (λ mime. Reads (tight entry) mime.media)
+read_entry entry (Ok mime) o is reads =
+    subst (λ o. MatchOption o (¬ (IsHttpMediaType entry)) (λ mime. Reads (tight entry) mime.media)) is reads
+read_entry entry (Err rejected) o is isnt =
+    subst (λ o. MatchOption o (¬ (IsHttpMediaType entry)) (λ mime. Reads (tight entry) mime.media)) is isnt.is
+
+-- What is read of a piece without the white space before it, tightened, is read of the tightened piece.
+tight_before : (piece : List ℕ) {range : MediaType} → Reads (tight (trim_start piece)) range → Reads (tight piece) range
+tight_before piece {range} = subst (λ t. Reads t range) (sym (tight_trimmed piece))
 
 -- what was pushed is last
 pub pushed : {X Y : Type 0} (f : X → Y) (old new : List X) (x : X) (y : Y) → new ≡ old ++ (x ∷ []) → f x ≡ y
@@ -41,12 +45,13 @@ module _ (piece : List ℕ) {old new : Header} where
     now_bad = bad ∙ sym (append-nil old.bad);
   }
 
-  pub add_range : (range : MediaType) → IsUtf8 (trim_start piece) × HttpReads (trim_start piece) range
+  pub add_range : (range : MediaType) → IsUtf8 (trim_start piece) × Reads (tight (trim_start piece)) range
       → new.ranges ≡ old.ranges ++ (range ∷ []) → new.bad ≡ old.bad → Adds (piece ∷ []) old new
   add_range range is ranges bad = record {
     ranges = range ∷ [];
     bad = [];
-    sorted = a_range piece range [] [] [] (utf8_before piece is.0) (http_before piece range is.1) no_text;
+    sorted = a_range piece range [] [] [] (utf8_before piece is.0) (read_is_http piece range (tight_before piece is.1))
+        (tight_before piece is.1) no_text;
     now_ranges = ranges;
     now_bad = bad ∙ sym (append-nil old.bad);
   }
@@ -68,9 +73,10 @@ sorted_before : (piece text : List ℕ) {ranges : List MediaType} {bad : List (L
     → AreSorted (piece ∷ []) ranges bad
 sorted_before piece text is (blank _ _ _ _ white rest) =
     blank piece [] _ _ (blank_from_trimmed piece (sym (trim_twice piece) ∙ (ap trim_start (sym is) ∙ trimmed_from_blank text white))) rest
-sorted_before piece text is (a_range _ range _ _ _ utf8 reads rest) =
+sorted_before piece text is (a_range _ range _ _ _ utf8 reads kept rest) =
     a_range piece range [] _ _ (utf8_before piece (subst IsUtf8 is utf8))
-    (http_before piece range (subst (λ t. HttpReads t range) is reads)) rest
+    (http_before piece range (subst (λ t. HttpReads t range) is reads))
+    (tight_before piece (subst (λ t. Reads (tight t) range) is kept)) rest
 sorted_before piece text {ranges = ranges} is (a_bad _ _ _ bad some isnt rest) =
     let same : trim_end (trim_start piece) ≡ trim_end (trim_start text) = ap trim_end (sym (ap trim_start is ∙ trim_twice piece)) in
     subst (λ entry. AreSorted (piece ∷ []) ranges (entry ∷ bad)) same
@@ -91,11 +97,12 @@ add_trimmed piece text is adds = record {
 }
 
 -- two runs of texts are sorted one after the other
-sorted_both : {texts more : List (List ℕ)} {ranges others : List MediaType} {bad poor : List (List ℕ)} → AreSorted texts ranges bad
+pub sorted_both : {texts more : List (List ℕ)} {ranges others : List MediaType} {bad poor : List (List ℕ)} → AreSorted texts ranges bad
     → AreSorted more others poor → AreSorted (texts ++ more) (ranges ++ others) (bad ++ poor)
 sorted_both no_text second = second
 sorted_both (blank text texts ranges bad white rest) second = blank text _ _ _ white (sorted_both rest second)
-sorted_both (a_range text range texts ranges bad utf8 reads rest) second = a_range text range _ _ _ utf8 reads (sorted_both rest second)
+sorted_both (a_range text range texts ranges bad utf8 reads kept rest) second =
+    a_range text range _ _ _ utf8 reads kept (sorted_both rest second)
 sorted_both (a_bad text texts ranges bad some isnt rest) second = a_bad text _ _ _ some isnt (sorted_both rest second)
 
 -- no pieces add nothing,

@@ -12,8 +12,9 @@ use Rattle.std.proofs.lemmas.List.{map-append, length-map}
 use Rattle.std.proofs.lemmas.List.Sums.{fold_push}
 use Rattle.std.proofs.lemmas.Iterator.Adapters.{position_from-zero}
 use Rattle.std.specs.Str.{IsUtf8}
-use Rattle.mime.specs.Values.{MediaType}
-use Rattle.mime_http.specs.HttpMediaType.{HttpReads, IsHttpMediaType}
+use Rattle.mime.specs.Values.{MediaType, Reads}
+use Rattle.mime_http.specs.HttpMediaType.{IsHttpMediaType}
+use Rattle.mime_http.specs.Tight.{tight}
 use Rattle.mime_http.specs.HttpList.{trim_start, trim_end, Header}
 use Rattle.mime_http.specs.Ranges.{Rank, rank_cmp, merit, best_offer}
 use Rattle.mime_http.specs.Chosen.{lowest, IsChosen, ChoosesOn}
@@ -121,7 +122,7 @@ module _ (ranges : List MediaType) (piece : List ℕ) {old : Chosen} where
   chooses_nothing none before was = (before, add_nothing piece none refl refl, was)
 
   -- a media type is an offer,
-  pub chooses_offer : (media : MediaType) {new : Chosen} → IsUtf8 (trim_start piece) × HttpReads (trim_start piece) media
+  pub chooses_offer : (media : MediaType) {new : Chosen} → IsUtf8 (trim_start piece) × Reads (tight (trim_start piece)) media
       → ((before : Header) → IsChosen ranges before old → IsChosen ranges (record before { ranges = before.ranges ++ (media ∷ []) }) new)
       → ChoosesOn ranges piece old new
   chooses_offer media is takes before was =

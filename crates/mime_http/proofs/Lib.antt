@@ -31,6 +31,7 @@ pub mod Picked
 pub mod Pieces
 pub mod Places
 pub mod PlacesAgain
+pub mod RangesFacts
 pub mod Ranks
 pub mod Rejections
 pub mod SemicolonAtFault

@@ -1,11 +1,13 @@
 -- Lists as HTTP writes them are read as their elements, and what is read with nothing bad are such lists.
-use Rattle.mime_http.proofs.Common.{◌≡◌, ◌∙◌, ◌==◌, refl, sym, ap, subst, arith, ℕ, true, false, List, [], ◌∷◌, ◌++◌, ⊤, and_parts, nat_tests, is_token_byte, is_space, AreSpaces, AreTokenBytes, IsToken, IsContent, no_byte, text_byte, quoted_pair, MediaType, IsAccepted, IsHttpParameter, with_token, with_string, AreHttpParameters, no_more, semicolon, semicolon_and, HttpReads, IsHttpMediaType, AreBetweenCommas, no_line, line_end, comma, trim_start, trim_end, AreSorted, no_text, a_range, a_bad, IsInString, string_end, string_byte, string_pair, opens_string, IsPiece, piece_end, piece_byte, piece_string, BeginsPiece}
+use Rattle.mime_http.proofs.Common.{◌≡◌, ◌∙◌, ◌==◌, refl, sym, ap, subst, arith, ℕ, true, false, List, [], ◌∷◌, ◌++◌, ⊤, and_parts, nat_tests, is_token_byte, is_space, AreSpaces, AreTokenBytes, IsToken, IsContent, no_byte, text_byte, quoted_pair, MediaType, IsAccepted, IsHttpParameter, with_token, with_string, AreHttpParameters, no_more, semicolon, semicolon_and, HttpReads, IsHttpMediaType, AreBetweenCommas, no_line, line_end, comma, trim_start, trim_end, AreSorted, no_text, a_range, a_bad, IsInString, string_end, string_byte, string_pair, opens_string, IsPiece, piece_end, piece_byte, piece_string, BeginsPiece, tight, one_reading}
 use Rattle.std.proofs.lemmas.List.{append-nil, append_assoc}
 use Rattle.mime_http.specs.HttpList.{blank}
-use Rattle.mime_http.specs.ListLaws.{HttpListsAreRead, ReadAreHttpLists, AreSame, OneHeader, BadIsAlone}
+use Rattle.mime_http.specs.ListLaws.{AreElements, no_text as no_element, nothing, element, without_kept, AreSame, HttpListsAreRead, ReadAreHttpLists, OneHeader, BadIsAlone}
 use Rattle.mime_http.proofs.Places.{token_is_plain, text_is_no_mark}
-use Rattle.mime_http.proofs.HttpForth.{at_start, nothing_out}
-use Rattle.mime_http.proofs.HttpLaws.{accepted_from_http, one_http_reading}
+use Rattle.mime_http.proofs.Adds.{sorted_both}
+use Rattle.mime_http.proofs.HttpBack.{read_is_http}
+use Rattle.mime_http.proofs.HttpForth.{at_start, nothing_out, http_is_read}
+use Rattle.mime_http.proofs.HttpLaws.{accepted_from_http}
 use Rattle.mime_http.proofs.Cuts.{only_cut}
 
 -- ---- what HTTP writes has no comma outside strings
@@ -106,23 +108,49 @@ begins_itself text is = ([], subst IsPiece (sym (append-nil text)) is)
 
 -- ---- forth
 
--- texts of which none is bad have no comma outside strings, so they are pieces
+-- elements have no comma outside strings, so they are pieces
 elements_are_pieces : {lines texts : List (List ℕ)} {media : List MediaType} → AreBetweenCommas (λ text. ⊤) (λ text. ⊤) lines texts
-    → AreSorted texts media [] → AreBetweenCommas IsPiece BeginsPiece lines texts
-elements_are_pieces no_line no_text = no_line
-elements_are_pieces (line_end text lines texts any rest) (blank _ _ _ _ white others) =
+    → AreElements texts media → AreBetweenCommas IsPiece BeginsPiece lines texts
+elements_are_pieces no_line no_element = no_line
+elements_are_pieces (line_end text lines texts any rest) (nothing _ _ _ white others) =
     line_end text lines texts (begins_itself text (spaces_are_piece text white)) (elements_are_pieces rest others)
-elements_are_pieces (line_end text lines texts any rest) (a_range _ _ _ _ _ utf8 reads others) =
+elements_are_pieces (line_end text lines texts any rest) (element _ _ _ _ utf8 reads others) =
     line_end text lines texts (begins_itself text (http_is_piece reads)) (elements_are_pieces rest others)
-elements_are_pieces (comma text line lines texts any rest) (blank _ _ _ _ white others) =
+elements_are_pieces (comma text line lines texts any rest) (nothing _ _ _ white others) =
     comma text line lines texts (spaces_are_piece text white) (elements_are_pieces rest others)
-elements_are_pieces (comma text line lines texts any rest) (a_range _ _ _ _ _ utf8 reads others) =
+elements_are_pieces (comma text line lines texts any rest) (element _ _ _ _ utf8 reads others) =
     comma text line lines texts (http_is_piece reads) (elements_are_pieces rest others)
+
+-- what is read of elements: the ranges with what each prints
+record Elements (texts : List (List ℕ)) (media : List MediaType) : Type 0 where
+  ranges : List MediaType
+  same : AreSame ranges media
+  sorted : AreSorted texts ranges []
+
+-- elements are sorted as ranges
+sorted_elements : {texts : List (List ℕ)} {media : List MediaType} → AreElements texts media → Elements texts media
+sorted_elements no_element = record { ranges = []; same = refl; sorted = no_text }
+sorted_elements (nothing text texts media white rest) =
+    let more = sorted_elements rest in
+    record { ranges = more.ranges; same = more.same; sorted = blank text texts more.ranges [] white more.sorted }
+sorted_elements (element text range texts media utf8 reads rest) =
+    let more = sorted_elements rest in
+    let kept = http_is_read text range reads in
+    let range-kept : MediaType = record range { kept = kept.0 } in
+    record {
+      ranges = range-kept ∷ more.ranges;
+      same = ap (λ others. without_kept range ∷ others) more.same;
+      sorted = a_range text range-kept texts more.ranges [] utf8 (read_is_http text range-kept kept.1) kept.1 more.sorted;
+    }
 
 -- a list as HTTP writes it is read as its elements
 pub http_lists_are_read : HttpListsAreRead
 http_lists_are_read lines media lists =
-    record { pieces = lists.texts; cut = elements_are_pieces lists.between lists.elements; sorted = lists.elements }
+    let read = sorted_elements lists.elements in (
+      read.ranges,
+      read.same,
+      record { pieces = lists.texts; cut = elements_are_pieces lists.between lists.elements; sorted = read.sorted },
+    )
 
 -- ---- and back
 
@@ -133,12 +161,18 @@ of_any no_line = no_line
 of_any (line_end text lines texts begins_itself rest) = line_end text lines texts tt (of_any rest)
 of_any (comma text line lines texts is rest) = comma text line lines texts tt (of_any rest)
 
--- what is read with nothing bad is such a list
+-- texts of which none is bad are elements,
+elements_of : {texts : List (List ℕ)} {ranges : List MediaType} → AreSorted texts ranges [] → AreElements texts ranges
+elements_of no_text = no_element
+elements_of (blank text texts ranges _ white rest) = nothing text texts ranges white (elements_of rest)
+elements_of (a_range text range texts ranges _ utf8 reads kept rest) = element text range texts ranges utf8 reads (elements_of rest)
+
+-- so what is read with nothing bad is such a list
 pub read_are_http_lists : ReadAreHttpLists
 read_are_http_lists lines header is none = record {
   texts = is.pieces;
   between = of_any is.cut;
-  elements = subst (AreSorted is.pieces header.ranges) none is.sorted;
+  elements = elements_of (subst (AreSorted is.pieces header.ranges) none is.sorted);
 }
 
 -- ---- pieces are sorted in one way
@@ -158,17 +192,18 @@ http_is_not_blank {piece} white is =
 
 -- texts are sorted in one way
 one_sorting : {texts : List (List ℕ)} {ranges others : List MediaType} {bad poor : List (List ℕ)} → AreSorted texts ranges bad
-    → AreSorted texts others poor → AreSame ranges others × (bad ≡ poor)
-one_sorting no_text no_text = (tt, refl)
+    → AreSorted texts others poor → (ranges ≡ others) × (bad ≡ poor)
+one_sorting no_text no_text = (refl, refl)
 one_sorting (blank text _ _ _ white rest) (blank _ _ _ _ _ more) = one_sorting rest more
-one_sorting (blank text _ _ _ white rest) (a_range _ media _ _ _ _ reads more) = absurd (http_is_not_blank white (media, reads))
+one_sorting (blank text _ _ _ white rest) (a_range _ media _ _ _ _ reads _ more) = absurd (http_is_not_blank white (media, reads))
 one_sorting (blank text _ _ _ white rest) (a_bad _ _ _ _ not_blank _ more) = absurd (not_blank white)
-one_sorting (a_range text media _ _ _ utf8 reads rest) (blank _ _ _ _ white more) = absurd (http_is_not_blank white (media, reads))
-one_sorting (a_range text media _ _ _ utf8 reads rest) (a_range _ other _ _ _ _ again more) =
-    let same = one_sorting rest more in ((one_http_reading text media other reads again, same.0), same.1)
-one_sorting (a_range text media _ _ _ utf8 reads rest) (a_bad _ _ _ _ _ isnt more) = absurd (isnt (utf8, (media, reads)))
+one_sorting (a_range text media _ _ _ utf8 reads _ rest) (blank _ _ _ _ white more) = absurd (http_is_not_blank white (media, reads))
+one_sorting (a_range text media _ _ _ utf8 _ reads rest) (a_range _ other _ _ _ _ _ again more) =
+    let same = one_sorting rest more in
+    (λ i. one_reading (tight text) media other reads again i ∷ same.0 i, same.1)
+one_sorting (a_range text media _ _ _ utf8 reads _ rest) (a_bad _ _ _ _ _ isnt more) = absurd (isnt (utf8, (media, reads)))
 one_sorting (a_bad text _ _ _ not_blank isnt rest) (blank _ _ _ _ white more) = absurd (not_blank white)
-one_sorting (a_bad text _ _ _ not_blank isnt rest) (a_range _ media _ _ _ utf8 reads more) = absurd (isnt (utf8, (media, reads)))
+one_sorting (a_bad text _ _ _ not_blank isnt rest) (a_range _ media _ _ _ utf8 reads _ more) = absurd (isnt (utf8, (media, reads)))
 one_sorting (a_bad text _ _ _ not_blank isnt rest) (a_bad _ _ _ _ _ _ more) =
     let same = one_sorting rest more in (same.0, ap (λ x. trim_end (trim_start text) ∷ x) same.1)
 
@@ -176,12 +211,16 @@ one_sorting (a_bad text _ _ _ not_blank isnt rest) (a_bad _ _ _ _ _ _ more) =
 pub one_header : OneHeader
 one_header lines header other first second =
     let same : first.pieces ≡ second.pieces = only_cut first.cut ∙ sym (only_cut second.cut) in
-    one_sorting (subst (λ pieces. AreSorted pieces header.ranges header.bad) same first.sorted) second.sorted
+    let is = one_sorting (subst (λ pieces. AreSorted pieces header.ranges header.bad) same first.sorted) second.sorted in
+    λ i. record { ranges = is.0 i; bad = is.1 i }
 
--- a bad piece changes nothing of what follows it
+-- a bad piece changes nothing of those before it and after it
 pub bad_is_alone : BadIsAlone
-bad_is_alone piece line lines header is not_blank isnt rest = record {
-  pieces = piece ∷ rest.pieces;
-  cut = comma piece line lines rest.pieces is rest.cut;
-  sorted = a_bad piece rest.pieces header.ranges header.bad not_blank isnt rest.sorted;
-}
+bad_is_alone lines others before after entry ranges more bad worse first last some isnt with_it without = (
+  record {
+    pieces = before ++ (entry ∷ after);
+    cut = with_it;
+    sorted = sorted_both first (a_bad entry after more worse some isnt last);
+  },
+  record { pieces = before ++ after; cut = without; sorted = sorted_both first last },
+)

@@ -1,61 +1,70 @@
--- Worked facts of the pages `HttpList`, `Ranges` and `Weight`: what is true of a text, and what is false.
-use Rattle.std.proofs.Common.{◌≡◌, refl, ap, arith, ℕ, true, List, [], ◌∷◌, length, Option, Some, None, is_some, ◌++◌, drop, sym}
-use Rattle.std.specs.Prelude.{◌+◌, codes, unwrap_or, flat_map}
+-- Worked facts of the pages `HttpList` and `Weight`: what is true of a text, and what is false.
+use Rattle.std.proofs.Common.{◌≡◌, subst, refl, ap, arith, ℕ, List, [], ◌∷◌, length, None, ◌++◌, drop, get_or, append-nil, sym}
+use Rattle.std.specs.Prelude.{◌+◌, codes, flat_map}
 use Rattle.std.proofs.lemmas.Str.{IsUtf8-nil}
 use Rattle.mime.specs.Bytes.{is_token_byte}
-use Rattle.mime.specs.Grammar.{AreSpaces, IsToken}
-use Rattle.mime.specs.Values.{MediaType, lowered, last_plus}
+use Rattle.mime.specs.Grammar.{AreSpaces, IsToken, no_list}
+use Rattle.mime.specs.Values.{MediaType, Reads, value_of, lowered, last_plus}
 use Rattle.mime_http.specs.HttpMediaType.{HttpReads, no_more, IsHttpMediaType}
-use Rattle.mime_http.specs.HttpList.{no_line, line_end, comma, no_text, blank, a_range, AreHttpLists, IsPiece, trim_start, trim_end, a_bad, IsHeader}
-use Rattle.mime_http.specs.Ranges.{closeness, given_weight, best_offer, AreInOrder}
+use Rattle.mime_http.specs.HttpList.{no_line, line_end, comma, no_text, a_range, IsPiece, trim_start, trim_end, AreSorted, a_bad, Header, IsHeader}
+use Rattle.mime_http.specs.ListLaws.{no_text as no_element, nothing as nothing_there, element, AreHttpLists}
 use Rattle.mime_http.specs.Weight.{thousandths_of}
+use Rattle.mime_http.specs.RangesLaws.{IsQvalue, two_digits}
+use Rattle.mime_http.proofs.Numbers.{weight_is_number}
 use Rattle.mime_http.specs.Walk.{cut}
 use Rattle.mime_http.proofs.Cuts.{cut_of_piece, are_cut}
 use Rattle.std.proofs.lemmas.Bool.{true≢false}
 use Rattle.mime.proofs.HandedOut.{stopped-from_walk}
 use Rattle.mime_http.specs.Tight.{tight}
 use Rattle.mime_http.proofs.HttpLaws.{accepted_from_http}
-use Rattle.mime_http.proofs.Lists.{one_header, http_lists_are_read}
-use Rattle.mime_http.proofs.First.{best_is_first}
-use Rattle.mime_http.proofs.HttpText.{put_ascii}
+use Rattle.mime_http.proofs.HttpBack.{read_is_http}
+use Rattle.mime_http.proofs.Lists.{one_header, http_lists_are_read, bad_is_alone}
+use Rattle.mime_http.proofs.RangesFacts.{of}
+use Rattle.mime_http.proofs.HttpText.{AreAscii, put_ascii}
+use Rattle.std.specs.Str.{IsUtf8}
 
 -- ---- weights (RFC 9110, 12.4.2)
 
--- `0.5` is 500 thousandths,
 half : thousandths_of (codes "0.5") ≡ 500
 half = refl
 
--- `1.000` 1000,
-unit_weight : thousandths_of (codes "1.000") ≡ 1000
-unit_weight = refl
+one : thousandths_of (codes "1.000") ≡ 1000
+one = refl
 
--- `0.001` 1,
-least_weight : thousandths_of (codes "0.001") ≡ 1
-least_weight = refl
+least : thousandths_of (codes "0.001") ≡ 1
+least = refl
 
--- and `0` none
 nothing : thousandths_of (codes "0") ≡ 0
 nothing = refl
 
+quarter : thousandths_of (codes "0.25") ≡ 250
+quarter = weight_is_number (codes "0.25") 250 (two_digits 2 5 (omega arith) (omega arith))
+
+-- `1.5` is no weight that RFC 9110 allows, nor a half
+no_weight : ¬ (IsQvalue (codes "1.5") 500)
+no_weight is = let same : 1000 ≡ 500 = weight_is_number (codes "1.5") 500 is in absurd (omega (arith, same))
+
 -- strings that are no weights
+fourth_digit : thousandths_of (codes "0.1239") ≡ 123
+fourth_digit = refl
+
+after_other : thousandths_of (codes "0x.5") ≡ 0
+after_other = refl
+
 no_whole : thousandths_of (codes ".2") ≡ 200
 no_whole = refl
 
--- `2` is worth no more than 1,
 too_high : thousandths_of (codes "2") ≡ 1000
 too_high = refl
 
--- and a word nothing
 word : thousandths_of (codes "high") ≡ 0
 word = refl
 
 -- ---- pieces
 
--- a comma in a string ends no piece,
 two_pieces : cut (codes "a/b;p=\"x,y\",c/d") ≡ codes "a/b;p=\"x,y\"" ∷ codes "c/d" ∷ []
 two_pieces = refl
 
--- nor does one after a quote that a backslash stands before
 hidden_quote : cut (codes "a/b;p=\"\\\",\",c/d") ≡ codes "a/b;p=\"\\\",\"" ∷ codes "c/d" ∷ []
 hidden_quote = refl
 
@@ -67,160 +76,17 @@ open_string = refl
 quote_alone : cut (codes "a\"b,c\"d") ≡ codes "a\"b" ∷ codes "c\"d" ∷ []
 quote_alone = refl
 
--- a piece has no comma outside strings
 comma_outside : ¬ (IsPiece (codes "a/b,c/d"))
 comma_outside is = absurd (omega (arith, ap length (cut_of_piece is)))
 
--- white space is left out on both sides
 trimmed : trim_end (trim_start (codes " \t x y ")) ≡ codes "x y"
 trimmed = refl
 
--- ---- ranges and offers
-
--- a media type of this essence
-abbrev of : List ℕ → ℕ → List (List ℕ × List ℕ) → MediaType
-of essence slash pairs = record { essence = essence; slash = slash; plus = None; pairs = pairs; kept = [] }
-
--- a weight
-abbrev q : List ℕ → List ℕ × List ℕ
-q weight = (codes "q", weight)
-
--- the media types of RFC 9110's examples: `text/html`,
-abbrev html : List (List ℕ × List ℕ) → MediaType
-html pairs = of (codes "text/html") 4 pairs
-
--- `text/plain`,
-abbrev plain : List (List ℕ × List ℕ) → MediaType
-plain pairs = of (codes "text/plain") 4 pairs
-
--- `application/json`,
-abbrev json : MediaType
-json = of (codes "application/json") 11 []
-
--- `application/xml`,
-abbrev xml : List (List ℕ × List ℕ) → MediaType
-xml pairs = of (codes "application/xml") 11 pairs
-
--- `image/jpeg`,
-abbrev jpeg : MediaType
-jpeg = of (codes "image/jpeg") 5 []
-
--- `*/*`,
-abbrev any : List (List ℕ × List ℕ) → MediaType
-any pairs = of (codes "*/*") 1 pairs
-
--- and `text/*`
-abbrev text : List (List ℕ × List ℕ) → MediaType
-text pairs = of (codes "text/*") 4 pairs
-
--- a parameter `level`
-abbrev of_level : List ℕ → List ℕ × List ℕ
-of_level value = (codes "level", value)
-
--- a range demands each of its parameters, with the same value
-covered : is_some (closeness (html (of_level (codes "1") ∷ of_level (codes "2") ∷ [])) (0, html (of_level (codes "1") ∷ []))) ≡ true
-covered = refl
-
--- a range with a parameter covers no offer without it,
-not_covered : closeness (html []) (0, html (of_level (codes "1") ∷ [])) ≡ None
-not_covered = refl
-
--- none with another value,
-other_value : closeness (html (of_level (codes "1") ∷ [])) (0, html (of_level (codes "2") ∷ [])) ≡ None
-other_value = refl
-
--- and `text/*` no image
-other_type : closeness jpeg (0, text []) ≡ None
-other_type = refl
-
--- RFC 9110's own example (12.5.1): `text/*;q=0.3, text/plain;q=0.7, text/plain;format=flowed, text/plain;format=fixed;q=0.4, */*;q=0.5`
-abbrev flowed : List ℕ × List ℕ
-flowed = (codes "format", codes "flowed")
-
--- the parameter `format` of the example, with another value
-abbrev fixed : List ℕ × List ℕ
-fixed = (codes "format", codes "fixed")
-
--- the header of RFC 9110, 12.5.1
-abbrev example : List MediaType
-example =
-    text (q (codes "0.3") ∷ []) ∷ plain (q (codes "0.7") ∷ []) ∷ plain (flowed ∷ []) ∷ plain (fixed ∷ q (codes "0.4") ∷ [])
-    ∷ any (q (codes "0.5") ∷ []) ∷ []
-
--- its table: `text/plain;format=flowed` weighs 1,
-example_flowed : given_weight example (plain (flowed ∷ [])) ≡ 1000
-example_flowed = refl
-
--- `text/plain` 0.7,
-example_plain : given_weight example (plain []) ≡ 700
-example_plain = refl
-
--- `text/html` 0.3,
-example_html : given_weight example (html []) ≡ 300
-example_html = refl
-
--- `image/jpeg` 0.5,
-example_jpeg : given_weight example jpeg ≡ 500
-example_jpeg = refl
-
--- and `text/plain;format=fixed` 0.4
-example_fixed : given_weight example (plain (fixed ∷ [])) ≡ 400
-example_fixed = refl
-
--- of two weights the first counts, and of ranges as close the higher
-first_weight : given_weight (html (q (codes "0.2") ∷ q (codes "0.9") ∷ []) ∷ []) (html []) ≡ 200
-first_weight = refl
-
--- of ranges as close the highest weight counts
-higher_weight : given_weight (html (q (codes "0.2") ∷ []) ∷ html (q (codes "0.9") ∷ []) ∷ html (q (codes "0.5") ∷ []) ∷ []) (html []) ≡ 900
-higher_weight = refl
-
--- a weight of 0 rejects what a wider range accepts
-rejected : given_weight (any [] ∷ html (q (codes "0") ∷ []) ∷ []) (html []) ≡ 0
-rejected = refl
-
--- `application/json, text/plain, */*`, as axios sends it: the closer range decides
-axios : best_offer (json ∷ plain [] ∷ any [] ∷ []) (html [] ∷ json ∷ []) ≡ Some 1
-axios = refl
-
--- `text/html;level=2, text/html`: parameters make it closer
-more_parameters : best_offer (html (of_level (codes "2") ∷ []) ∷ html [] ∷ []) (html [] ∷ html (of_level (codes "2") ∷ []) ∷ []) ≡ Some 1
-more_parameters = refl
-
--- `text/plain, */*;q=0.1, text/html`: of ranges as close the earlier decides
-earlier : best_offer (plain [] ∷ any (q (codes "0.1") ∷ []) ∷ html [] ∷ []) (html [] ∷ plain [] ∷ []) ≡ Some 1
-earlier = refl
-
--- `text/plain, application/xml;q=1, text/plain`: of the same range twice the later counts
-twice : best_offer (plain [] ∷ xml (q (codes "1") ∷ []) ∷ plain [] ∷ []) (xml [] ∷ plain [] ∷ []) ≡ Some 0
-twice = refl
-
--- alike in all, the first offered is the best
-first_offered : best_offer (any [] ∷ []) (html [] ∷ json ∷ []) ≡ Some 0
-first_offered = refl
-
--- if each offer weighs 0, none is the best,
-none_acceptable : best_offer (json ∷ html (q (codes "0") ∷ []) ∷ []) (html [] ∷ jpeg ∷ []) ≡ None
-none_acceptable = refl
-
--- and neither is one of none
-no_offer : best_offer (any [] ∷ []) [] ≡ None
-no_offer = refl
-
--- no order begins with another than the best
-not_in_order : ¬ (AreInOrder (json ∷ any [] ∷ []) (html [] ∷ json ∷ []) (0 ∷ 1 ∷ []))
-not_in_order are =
-    let same : 1 ≡ 0 =
-    ap (λ (best : Option ℕ). unwrap_or best 0) (best_is_first (json ∷ any [] ∷ []) (html [] ∷ json ∷ []) (0 ∷ 1 ∷ []) are) in
-    absurd (omega (arith, same))
-
 -- ---- lists, of which this one has two elements among empty ones
 
--- a media type of a type of one letter, and a subtype
 abbrev short : List ℕ → MediaType
-short essence = of essence 1 []
+short essence = record (of essence 1 []) { kept = essence }
 
--- it is read, with white space around it
 short_read : (before top sub after : List ℕ) → AreSpaces before → IsToken top → IsToken sub → AreSpaces after → (slash : 1 ≡ length top)
     → (essence : List ℕ) → essence ≡ lowered top ++ (47 ∷ lowered sub) → None ≡ last_plus (length top + 2) (drop 1 (lowered sub))
     → HttpReads (before ++ (top ++ (47 ∷ (sub ++ after)))) (short essence)
@@ -241,19 +107,15 @@ short_read before top sub after first is_top is_sub last slash essence is plus =
   plus = plus;
 }
 
--- empty elements are no elements
 two_elements : AreHttpLists (codes ",a/b , ,c/d" ∷ []) (short (codes "a/b") ∷ short (codes "c/d") ∷ [])
 unfolding is_token_byte
 two_elements = record {
   texts = [] ∷ codes "a/b " ∷ codes " " ∷ codes "c/d" ∷ [];
   between = comma [] _ [] _ tt (comma (codes "a/b ") _ [] _ tt (comma (codes " ") _ [] _ tt (line_end (codes "c/d") [] [] tt no_line)));
-  elements =
-      blank [] _ _ _ refl (a_range (codes "a/b ") _ _ _ _ (put_ascii (codes "a/b ") []
-      (omega arith, (omega arith, (omega arith, (omega arith, tt)))) IsUtf8-nil)
+  elements = nothing_there [] _ _ refl (element (codes "a/b ") _ _ _ (put_ascii (codes "a/b ") [] (omega arith, (omega arith, (omega arith, (omega arith, tt)))) IsUtf8-nil)
       (short_read [] (codes "a") (codes "b") (codes " ") refl refl refl refl refl (codes "a/b") refl refl)
-      (blank (codes " ") _ _ _ refl (a_range (codes "c/d") _ _ _ _
-      (put_ascii (codes "c/d") [] (omega arith, (omega arith, (omega arith, tt))) IsUtf8-nil)
-      (short_read [] (codes "c") (codes "d") [] refl refl refl refl refl (codes "c/d") refl refl) no_text)));
+      (nothing_there (codes " ") _ _ refl (element (codes "c/d") _ _ _ (put_ascii (codes "c/d") [] (omega arith, (omega arith, (omega arith, tt))) IsUtf8-nil)
+      (short_read [] (codes "c") (codes "d") [] refl refl refl refl refl (codes "c/d") refl refl) no_element)));
 }
 
 -- a bad entry is bad as a whole, and a line that has one is no such list
@@ -261,19 +123,56 @@ not_media_type : ¬ (IsHttpMediaType (codes " a b"))
 unfolding is_token_byte
 not_media_type is = stopped-from_walk (tight (codes " a b")) refl (accepted_from_http _ is)
 
--- an entry that is no range is bad
+plainly_read : (top sub : List ℕ) → IsToken top → IsToken sub
+    → value_of (record { top = top; sub = sub; tail = no_list }) ≡ short (top ++ (47 ∷ sub)) → Reads (top ++ (47 ∷ sub)) (short (top ++ (47 ∷ sub)))
+plainly_read top sub is_top is_sub is = record {
+  tree = record { top = top; sub = sub; tail = no_list };
+  well_formed = (is_top, is_sub, tt);
+  spelled = ap (λ rest. top ++ (47 ∷ rest)) (append-nil sub);
+  valued = is;
+}
+
 bad_entry : IsHeader (codes "c/d, a b" ∷ []) (record { ranges = short (codes "c/d") ∷ []; bad = codes "a b" ∷ [] })
 unfolding is_token_byte
 bad_entry = record {
   pieces = flat_map cut (codes "c/d, a b" ∷ []);
   cut = are_cut (codes "c/d, a b" ∷ []);
   sorted = a_range (codes "c/d") _ _ _ _ (put_ascii (codes "c/d") [] (omega arith, (omega arith, (omega arith, tt))) IsUtf8-nil)
-      (short_read [] (codes "c") (codes "d") [] refl refl refl refl refl (codes "c/d") refl refl)
+      (short_read [] (codes "c") (codes "d") [] refl refl refl refl refl (codes "c/d") refl refl) (plainly_read (codes "c") (codes "d") refl refl refl)
       (a_bad (codes " a b") _ _ _ (λ blank. true≢false (sym blank)) (λ is. not_media_type is.1) no_text);
 }
 
--- and a list with one is none
 not_a_list : (media : List MediaType) → ¬ (AreHttpLists (codes "c/d, a b" ∷ []) media)
 not_a_list media is =
-    let same = (one_header (codes "c/d, a b" ∷ []) _ _ bad_entry (http_lists_are_read (codes "c/d, a b" ∷ []) media is)).1 in
+    let read = http_lists_are_read (codes "c/d, a b" ∷ []) media is in
+    let same = ap (λ (header : Header). header.bad) (one_header (codes "c/d, a b" ∷ []) _ _ bad_entry read.2) in
     absurd (omega (arith, ap length same))
+
+-- a range prints its text
+abbrev first_kept : List MediaType → List ℕ
+first_kept [] = []
+first_kept (range ∷ ranges) = range.kept
+
+other_text : ¬ (IsHeader (codes "c/d, a b" ∷ []) (record { ranges = record (short (codes "c/d")) { kept = codes "C/d" } ∷ []; bad = codes "a b" ∷ [] }))
+other_text is =
+    let same = ap (λ (header : Header). get_or (first_kept header.ranges) 0 0) (one_header (codes "c/d, a b" ∷ []) _ _ bad_entry is) in
+    absurd (omega (arith, same))
+
+-- one text that is a range
+one_range : (top sub : List ℕ) → IsToken top → IsToken sub → AreAscii (top ++ (47 ∷ sub)) → (slash : 1 ≡ length top)
+    → (is : value_of (record { top = top; sub = sub; tail = no_list }) ≡ short (top ++ (47 ∷ sub)))
+    → tight (top ++ (47 ∷ sub)) ≡ top ++ (47 ∷ sub) → AreSorted ((top ++ (47 ∷ sub)) ∷ []) (short (top ++ (47 ∷ sub)) ∷ []) []
+one_range top sub is_top is_sub ascii slash is same =
+    let read = subst (λ text. Reads text (short (top ++ (47 ∷ sub)))) (sym same) (plainly_read top sub is_top is_sub is) in
+    a_range (top ++ (47 ∷ sub)) (short (top ++ (47 ∷ sub))) [] [] [] (subst IsUtf8 (append-nil (top ++ (47 ∷ sub))) (put_ascii (top ++ (47 ∷ sub)) [] ascii IsUtf8-nil))
+    (read_is_http (top ++ (47 ∷ sub)) (short (top ++ (47 ∷ sub))) read) read no_text
+
+-- a bad entry between two others: the lines `c/d,a b` and `a/b` have the ranges of `c/d` and `a/b`
+bad_between : IsHeader (codes "c/d,a b" ∷ codes "a/b" ∷ []) (record { ranges = short (codes "c/d") ∷ short (codes "a/b") ∷ []; bad = codes "a b" ∷ [] })
+unfolding is_token_byte
+bad_between =
+    (bad_is_alone (codes "c/d,a b" ∷ codes "a/b" ∷ []) (codes "c/d" ∷ codes "a/b" ∷ []) (codes "c/d" ∷ []) (codes "a/b" ∷ []) (codes "a b") _ _ [] []
+    (one_range (codes "c") (codes "d") refl refl (omega arith, (omega arith, (omega arith, tt))) refl refl refl)
+    (one_range (codes "a") (codes "b") refl refl (omega arith, (omega arith, (omega arith, tt))) refl refl refl)
+    (λ blank. true≢false (sym blank)) (λ is. stopped-from_walk (tight (codes "a b")) refl (accepted_from_http _ is.1))
+    (are_cut (codes "c/d,a b" ∷ codes "a/b" ∷ [])) (are_cut (codes "c/d" ∷ codes "a/b" ∷ []))).0

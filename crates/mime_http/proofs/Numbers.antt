@@ -1,11 +1,11 @@
 -- A weight that is read digit by digit is the number that its text begins with.
 use Rattle.std.proofs.Common.{◌≡◌, ◌∙◌, refl, sym, ap, arith, ⊎_elim, ◌+◌, ◌*◌, ◌-◌, ◌≤◌, ◌==◌, ℕ, Bool, true, false, List, [], ◌∷◌, ◌++◌, length, take, drop}
-use Rattle.std.specs.Prelude.{codes, fold, min, take_while, if◌then◌else◌, replicate}
+use Rattle.std.specs.Prelude.{codes, slice_index, fold, min, take_while, if◌then◌else◌, replicate}
 use Rattle.std.specs.Char.{is_ascii_digit}
 use Rattle.std.proofs.lemmas.Bool.{cases_Bool, eqb-true}
 use Rattle.std.proofs.lemmas.Bool.Decides.{nat_tests}
 use Rattle.std.proofs.lemmas.List.Sums.{take_while-cons}
-use Rattle.mime_http.specs.Weight.{decimals, thousandths_of}
+use Rattle.mime_http.specs.Weight.{thousandths_of}
 use Rattle.mime_http.specs.Digits.{worth, read_number}
 use Rattle.mime_http.specs.RangesLaws.{zero, zero_dot, one_digit, two_digits, three_digits, one, one_dot, WeightIsNumber}
 
@@ -89,6 +89,10 @@ three_most (b ∷ bytes) =
     ⊎_elim (λ is. rw is (omega (arith, digit_most b is, two_most bytes))) (λ isnt. rw isnt (omega arith)) (cases_Bool (is_ascii_digit b))
 
 -- ---- from the first byte on
+
+-- the digits after a dot that bytes begin with
+abbrev decimals : List ℕ → List ℕ
+decimals bytes = if slice_index bytes 0 == 46 then digits (drop 1 bytes) else []
 
 -- the number that goes on with bytes, in thousandths
 abbrev number_from : ℕ → List ℕ → ℕ

@@ -3,7 +3,8 @@ use Rattle.mime_http.proofs.Common.{◌≡◌, ◌∙◌, ◌<◌, ◌≤◌, re
 use Rattle.std.proofs.Common.{append-nil, append_assoc}
 use Rattle.std.specs.Str.{IsUtf8}
 use Rattle.mime_http.proofs.HttpBack.{respelled}
-use Rattle.mime_http.proofs.HttpForth.{spaces-append}
+use Rattle.mime_http.specs.Tight.{tight}
+use Rattle.mime_http.proofs.HttpForth.{at_start, white_skipped, spaces-append}
 use Rattle.mime_http.proofs.HttpText.{AreAscii, put_ascii, drop_ascii}
 use Rattle.mime_http.proofs.Places.{token_is_plain}
 
@@ -53,6 +54,10 @@ trimmed_from_blank piece all = ap trim_start (sym (append-nil piece)) ∙ trim_p
 pub trim_twice : (piece : List ℕ) → trim_start (trim_start piece) ≡ trim_start piece
 trim_twice piece =
     let split = split_white piece in sym (ap trim_start split.2 ∙ trim_past split.0 (trim_start piece) split.1)
+
+-- comes out tightened as the piece does,
+pub tight_trimmed : (piece : List ℕ) → tight piece ≡ tight (trim_start piece)
+tight_trimmed piece = let split = split_white piece in ap tight split.2 ∙ white_skipped at_start split.0 (trim_start piece) split.1
 
 -- is no longer than the piece,
 pub trimmed-le : (piece : List ℕ) → length (trim_start piece) ≤ length piece

@@ -1,14 +1,15 @@
--- What a header holds whose lines are lists of media types (RFC 9110, 5.6.1.2 and 12.5.1): of a list as HTTP writes it, its elements; and of
--- any lines at all, the ranges and the bad entries. OWS (5.6.3) is the library's `AreSpaces`.
-use Rattle.std.specs.Prelude.{ℕ, Bool, false, List, [], ◌∷◌, ◌++◌, ◌==◌, ◌&&◌, ⊤, IsFalse, if◌then◌else◌, codes}
+-- What a header holds whose lines are lists of media types (RFC 9110, 5.6.1.2 and 12.5.1), or any lines at all: the ranges and the bad
+-- entries. OWS (5.6.3) is the library's `AreSpaces`. The page Tight says only what a range prints.
+use Rattle.std.specs.Prelude.{ℕ, Bool, false, List, [], ◌∷◌, ◌++◌, ◌==◌, ◌&&◌, IsFalse, if◌then◌else◌, codes}
 use Rattle.std.specs.List.{list_all}
 use Rattle.std.specs.Str.{IsUtf8}
 use Rattle.mime.specs.Bytes.{comma_byte, equals_byte, quote_byte, backslash_byte}
 use Rattle.mime.specs.Grammar.{is_space, AreSpaces}
-use Rattle.mime.specs.Values.{MediaType}
+use Rattle.mime.specs.Values.{MediaType, Reads}
 use Rattle.mime_http.specs.HttpMediaType.{HttpReads, IsHttpMediaType}
+use Rattle.mime_http.specs.Tight.{tight}
 
--- the lines of a header that a request has, or else one that accepts everything (12.5.1)
+-- the lines of a header that a request has, if only empty ones, or else one that accepts everything (12.5.1)
 abbrev pub lines_or_any : List (List ℕ) → List (List ℕ)
 lines_or_any [] = codes "*/*" ∷ []
 lines_or_any (line ∷ lines) = line ∷ lines
@@ -30,21 +31,16 @@ abbrev pub trim_end : List ℕ → List ℕ
 trim_end [] = []
 trim_end (b ∷ bytes) = if list_all is_space (b ∷ bytes) then [] else b ∷ trim_end bytes
 
--- what texts are, in their order: white space alone is nothing, OWS media-type OWS in UTF-8 is a range, and any other is bad as a whole
+-- what texts are, in their order: white space alone is nothing, OWS media-type OWS in UTF-8 is a range, and any other is bad as a whole.
+-- A range prints what is read of the tightened text, as the value of a header does that has one media type
 pub data AreSorted : List (List ℕ) → List MediaType → List (List ℕ) → Type 0 where
   no_text : AreSorted [] [] []
   blank : (text : List ℕ) (texts : List (List ℕ)) (ranges : List MediaType) (bad : List (List ℕ)) → AreSpaces text
       → AreSorted texts ranges bad → AreSorted (text ∷ texts) ranges bad
   a_range : (text : List ℕ) (range : MediaType) (texts : List (List ℕ)) (ranges : List MediaType) (bad : List (List ℕ)) → IsUtf8 text
-      → HttpReads text range → AreSorted texts ranges bad → AreSorted (text ∷ texts) (range ∷ ranges) bad
+      → HttpReads text range → Reads (tight text) range → AreSorted texts ranges bad → AreSorted (text ∷ texts) (range ∷ ranges) bad
   a_bad : (text : List ℕ) (texts : List (List ℕ)) (ranges : List MediaType) (bad : List (List ℕ)) → ¬ (AreSpaces text)
       → ¬ (IsUtf8 text × IsHttpMediaType text) → AreSorted texts ranges bad → AreSorted (text ∷ texts) ranges (trim_end (trim_start text) ∷ bad)
-
--- [ element ] *( OWS "," OWS [ element ] ) on each line, in UTF-8, and the elements, each a media range with its weight
-pub record AreHttpLists (lines : List (List ℕ)) (media : List MediaType) : Type 0 where
-  pub texts : List (List ℕ)
-  pub between : AreBetweenCommas (λ text. ⊤) (λ text. ⊤) lines texts
-  pub elements : AreSorted texts media []
 
 -- what stands between a string's quotes, of any bytes: a backslash hides the byte after it, and no quote is bare
 pub data IsInString : List ℕ → Type 0 where

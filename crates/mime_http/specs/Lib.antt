@@ -4,9 +4,9 @@ pub mod HttpFaults
 pub mod HttpPrinted
 pub mod HttpList
 pub mod Weight
+pub mod Unescaped
 pub mod Ranges
 pub mod Boundary
-pub mod Unescaped
 pub mod Written
 pub mod HeaderLaws
 pub mod ListLaws

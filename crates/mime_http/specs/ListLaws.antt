@@ -1,12 +1,10 @@
 -- The laws of a header whose lines are lists.
-use Rattle.std.specs.Prelude.{◌≡◌, ℕ, List, [], ◌∷◌, ◌++◌, ⊤}
+use Rattle.std.specs.Prelude.{◌≡◌, ℕ, List, [], ◌∷◌, ◌++◌, map, ⊤}
 use Rattle.std.specs.Str.{IsUtf8}
-use Rattle.mime.specs.Bytes.{comma_byte}
 use Rattle.mime.specs.Grammar.{AreSpaces}
 use Rattle.mime.specs.Values.{MediaType}
-use Rattle.mime.specs.Comparison.{Same}
-use Rattle.mime_http.specs.HttpMediaType.{IsHttpMediaType}
-use Rattle.mime_http.specs.HttpList.{lines_or_any, AreBetweenCommas, trim_start, trim_end, AreHttpLists, IsPiece, BeginsPiece, Header, IsHeader}
+use Rattle.mime_http.specs.HttpMediaType.{HttpReads, IsHttpMediaType}
+use Rattle.mime_http.specs.HttpList.{lines_or_any, AreBetweenCommas, trim_start, trim_end, AreSorted, IsPiece, BeginsPiece, Header, IsHeader}
 
 -- Lines have exactly one cut into pieces.
 abbrev pub OneCut : Type 0
@@ -14,11 +12,32 @@ OneCut =
     (lines : List (List ℕ)) → (pieces : List (List ℕ)) × AreBetweenCommas IsPiece BeginsPiece lines pieces
     × ((other : List (List ℕ)) → AreBetweenCommas IsPiece BeginsPiece lines other → other ≡ pieces)
 
+-- texts that are elements, each a media range with its weight, or white space alone
+pub data AreElements : List (List ℕ) → List MediaType → Type 0 where
+  no_text : AreElements [] []
+  nothing : (text : List ℕ) (texts : List (List ℕ)) (media : List MediaType) → AreSpaces text → AreElements texts media
+      → AreElements (text ∷ texts) media
+  element : (text : List ℕ) (range : MediaType) (texts : List (List ℕ)) (media : List MediaType) → IsUtf8 text → HttpReads text range
+      → AreElements texts media → AreElements (text ∷ texts) (range ∷ media)
+
+-- [ element ] *( OWS "," OWS [ element ] ) on each line, in UTF-8, and the elements (5.6.1.2)
+pub record AreHttpLists (lines : List (List ℕ)) (media : List MediaType) : Type 0 where
+  pub texts : List (List ℕ)
+  pub between : AreBetweenCommas (λ text. ⊤) (λ text. ⊤) lines texts
+  pub elements : AreElements texts media
+
+-- the same media types in the same order; their kept texts may differ
+abbrev pub without_kept : MediaType → MediaType
+without_kept media = record media { kept = [] }
+
+abbrev pub AreSame : List MediaType → List MediaType → Type 0
+AreSame all others = map without_kept all ≡ map without_kept others
+
 -- Of lists as HTTP writes them the elements are read, and none is bad.
 abbrev pub HttpListsAreRead : Type 0
 HttpListsAreRead =
     (lines : List (List ℕ)) (media : List MediaType) → AreHttpLists (lines_or_any lines) media
-    → IsHeader lines (record { ranges = media; bad = [] })
+    → (ranges : List MediaType) × AreSame ranges media × IsHeader lines (record { ranges = ranges; bad = [] })
 
 -- Lines of which no entry is bad are lists as HTTP writes them.
 abbrev pub ReadAreHttpLists : Type 0
@@ -26,23 +45,17 @@ ReadAreHttpLists =
     (lines : List (List ℕ)) (header : Header) → IsHeader lines header → header.bad ≡ []
     → AreHttpLists (lines_or_any lines) header.ranges
 
--- the same media types in the same order; their kept texts may differ
-abbrev pub AreSame : List MediaType → List MediaType → Type 0
-AreSame [] [] = ⊤
-AreSame [] (other ∷ others) = ⊥
-AreSame (media ∷ all) [] = ⊥
-AreSame (media ∷ all) (other ∷ others) = Same media other × AreSame all others
-
 -- Lines have one list of ranges, and one of bad entries.
 abbrev pub OneHeader : Type 0
-OneHeader =
-    (lines : List (List ℕ)) (header other : Header) → IsHeader lines header → IsHeader lines other
-    → AreSame header.ranges other.ranges × (header.bad ≡ other.bad)
+OneHeader = (lines : List (List ℕ)) (header other : Header) → IsHeader lines header → IsHeader lines other → header ≡ other
 
--- A bad entry before a header's first changes nothing else.
+-- A bad entry changes no other, wherever it stands: lines with it, and lines without it, have the same ranges, so that each offer weighs the
+-- same, and the same bad entries before it and after it.
 abbrev pub BadIsAlone : Type 0
 BadIsAlone =
-    (piece line : List ℕ) (lines : List (List ℕ)) (header : Header) → IsPiece piece → ¬ (AreSpaces piece)
-    → ¬ (IsUtf8 piece × IsHttpMediaType piece) → IsHeader (line ∷ lines) header
-    → IsHeader ((piece ++ (comma_byte ∷ line)) ∷ lines)
-    (record { ranges = header.ranges; bad = trim_end (trim_start piece) ∷ header.bad })
+    (lines others before after : List (List ℕ)) (entry : List ℕ) (ranges more : List MediaType) (bad worse : List (List ℕ))
+    → AreSorted before ranges bad → AreSorted after more worse → ¬ (AreSpaces entry) → ¬ (IsUtf8 entry × IsHttpMediaType entry)
+    → AreBetweenCommas IsPiece BeginsPiece (lines_or_any lines) (before ++ (entry ∷ after))
+    → AreBetweenCommas IsPiece BeginsPiece (lines_or_any others) (before ++ after)
+    → IsHeader lines (record { ranges = ranges ++ more; bad = bad ++ (trim_end (trim_start entry) ∷ worse) })
+    × IsHeader others (record { ranges = ranges ++ more; bad = bad ++ worse })

@@ -12,7 +12,7 @@ use Rattle.mime_http.specs.Weight.{thousandths_of}
 abbrev pub first_value : List ℕ → List (List ℕ × List ℕ) → Option (List ℕ)
 first_value name pairs = option_map (λ pair. pair.1) (find (λ pair. bytes_eq pair.0 name) pairs)
 
--- a range's weight in thousandths: that of its first `q`, and 1000 without one (12.4.2)
+-- a range's weight in thousandths: that of its first `q`, in quotes or not, with its backslashes as they are; 1000 without one (12.4.2)
 abbrev pub weight_of : MediaType → ℕ
 weight_of range = unwrap_or (option_map thousandths_of (first_value (codes "q") range.pairs)) 1000
 
@@ -23,11 +23,11 @@ named_parts range offer =
     if bytes_eq range.essence (type_of offer ++ codes "/*") then Some 1 else
     if bytes_eq range.essence offer.essence then Some 2 else None
 
--- a range's parameters other than its weight, before it and after it, each of which an offer must have
+-- a range's parameters other than `q`, before it and after it, each of which an offer must have
 abbrev pub demanded : List (List ℕ × List ℕ) → List (List ℕ × List ℕ)
 demanded pairs = filter (λ pair. not (bytes_eq pair.0 (codes "q"))) pairs
 
--- an offer has a parameter if one of its own has the name, and a value that means the same (5.6.4). Only that of a charset is in lowercase
+-- an offer has a parameter if one of its own has the name, and a value that means the same (5.6.4). Only charsets are read in lowercase
 abbrev pub has : MediaType → List ℕ × List ℕ → Bool
 has offer pair = list_any (λ own. bytes_eq own.0 pair.0 && bytes_eq (unescaped own.1) (unescaped pair.1)) offer.pairs
 

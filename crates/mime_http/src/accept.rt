@@ -130,7 +130,7 @@ impl Accept {
         Ok(accept)
     }
 
-    /// The ranges, in the header's order.
+    /// The ranges, in the header's order. Each prints what `content_type` prints of its entry.
     pub fn ranges(&self) -> &[Mime]
         ensures { map (λ range. range.media) result.now ≡ self.now.ranges }
     {
@@ -145,8 +145,8 @@ impl Accept {
     }
 
     /// The weight of an offer in thousandths: that of the closest range that covers it, of two as close the higher, and 0 without one
-    /// (RFC 9110, 12.5.1). It allocates nothing. An offer `application/json` weighs nothing for the range
-    /// `application/json; charset=utf-8`, which demands the parameter.
+    /// (RFC 9110, 12.5.1), as [`covers`](crate::covers) says. It allocates nothing. An offer `application/json` weighs nothing for the
+    /// range `application/json; charset=utf-8`, which demands the parameter.
     pub fn weight(&self, offer: &Mime) -> u16
         ensures { result ≡ given_weight self.now.ranges offer.now.media }
     {

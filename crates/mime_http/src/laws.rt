@@ -53,12 +53,12 @@ pub fn read_are_http_lists()
     ensures { ReadAreHttpLists }
 {}
 
-/// The lines of a header determine its ranges and its bad entries.
+/// The lines of a header determine its ranges, with what they print, and its bad entries.
 pub fn one_header()
     ensures { OneHeader }
 {}
 
-/// A bad entry before a header's first changes nothing else.
+/// A bad entry changes no other, wherever it stands, and no offer's weight: `c/d, a b` and `c/d` have the same ranges.
 pub fn bad_is_alone()
     ensures { BadIsAlone }
 {}

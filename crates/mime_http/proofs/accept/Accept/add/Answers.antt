@@ -11,7 +11,7 @@ use Rattle.mime.specs.Values.{Reads}
 use Rattle.mime_http.specs.HttpList.{Header, trim_start, trim_end}
 use Rattle.mime_http.specs.Walk.{Adds}
 use Rattle.mime_http.proofs.Adds.{pushed, add_nothing, add_range, add_bad, add_trimmed}
-use Rattle.mime_http.proofs.HttpLaws.{plain_is_http}
+use Rattle.mime_http.proofs.Places.{accepted_stays}
 use Rattle.mime_http.proofs.Trims.{trimmed_from_blank, trim_twice}
 use Rattle.mime_http.proofs.accept.Accept.add.Goals as goal
 
@@ -61,7 +61,8 @@ returns-in_ok-push-in-Ok-from_str-clause-added c =
     let text : c.in-Ok.text.now ≡ trim_start piece = c.in-Ok.ensures.cases.0 ∙ c.trim_start-piece.ensures in
     let utf8 : IsUtf8 (trim_start piece) = subst IsUtf8 c.trim_start-piece.ensures c.in-Ok.ensures.cases.1 in
     let read = subst (λ text. Reads text media) text c.in-Ok-from_str.ensures.read in
-    add_range piece media (utf8, plain_is_http (trim_start piece) media read)
+    let kept = subst (λ text. Reads text media) (sym (accepted_stays (trim_start piece) (media, read))) read in
+    add_range piece media (utf8, kept)
     (pushed (λ range. range.media) (vec_items c.self.inside.ranges) (vec_items c.push.new.self) c.in-Ok-from_str.range media
     (search rules) refl
     ∙ ap (λ (h : Header). h.ranges ++ (media ∷ [])) c.self.view_is)

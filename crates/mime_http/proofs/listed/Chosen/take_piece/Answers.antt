@@ -4,11 +4,10 @@ use Rattle.std.specs.Str.{IsUtf8}
 use Rattle.std.proofs.lemmas.Bool.{true≢false, eq-eqb}
 use Rattle.std.proofs.lemmas.Grind.{common_steps}
 use Rattle.std.proofs.lemmas.List.{nil_from_length}
-use Rattle.mime.specs.Grammar.{AreSpaces}
 use Rattle.mime.specs.Values.{Reads}
 use Rattle.mime_http.specs.HttpList.{trim_start}
 use Rattle.mime_http.proofs.Chosen.{chooses_nothing, chooses_offer, chooses_bad, chooses_trimmed}
-use Rattle.mime_http.proofs.HttpLaws.{plain_is_http}
+use Rattle.mime_http.proofs.Places.{accepted_stays}
 use Rattle.mime_http.proofs.Trims.{trimmed_from_blank, trim_twice}
 use Rattle.mime_http.proofs.listed.Chosen.take_piece.Goals as goal
 
@@ -42,7 +41,8 @@ returns-in-Ok-from_str-clause-piece c =
     let text : c.in-Ok.text.now ≡ trim_start piece = c.in-Ok.ensures.cases.0 ∙ c.trim_start-piece.ensures in
     let utf8 : IsUtf8 (trim_start piece) = subst IsUtf8 c.trim_start-piece.ensures c.in-Ok.ensures.cases.1 in
     let read = subst (λ text. Reads text media) text c.in-Ok-from_str.ensures.read in
-    chooses_offer _ piece media (utf8, plain_is_http (trim_start piece) media read) c.take.ensures.offer
+    let kept = subst (λ text. Reads text media) (sym (accepted_stays (trim_start piece) (media, read))) read in
+    chooses_offer _ piece media (utf8, kept) c.take.ensures.offer
 
 pub returns-in_ok-take_rejected-in-Err-clause-piece : goal.returns-in_ok-take_rejected-in-Err-clause-piece
 returns-in_ok-take_rejected-in-Err-clause-piece c =

@@ -2,8 +2,10 @@
 use Rattle.std.proofs.Common.{◌∙◌, sym, subst, arith}
 use Rattle.std.specs.Prelude.{Some, None}
 use Rattle.std.specs.Str.{IsUtf8}
-use Rattle.mime_http.specs.HttpMediaType.{HttpReads, IsHttpMediaType}
-use Rattle.mime_http.proofs.Adds.{read_http}
+use Rattle.mime.specs.Values.{Reads}
+use Rattle.mime_http.specs.HttpMediaType.{IsHttpMediaType}
+use Rattle.mime_http.specs.Tight.{tight}
+use Rattle.mime_http.proofs.Adds.{read_entry}
 use Rattle.mime_http.proofs.Chosen.{chooses_offer, chooses_bad}
 use Rattle.mime_http.proofs.listed.Chosen.take_rejected.Goals as goal
 
@@ -11,12 +13,9 @@ pub returns-in-Some : goal.returns-in-Some
 returns-in-Some c =
     let entry = c.args.entry.now in
     let media = c.in-Some.offer.media in
-    let reads : HttpReads entry media =
-    read_http entry _ (Some c.in-Some.offer) (sym c.ok.ensures.value ∙ c.in-Some.is) c.in_ok-read_tight.ensures.read in
+    let reads : Reads (tight entry) media = read_entry entry _ (Some c.in-Some.offer) (sym c.ok.ensures.value ∙ c.in-Some.is) c.in_ok-read_tight.ensures.read in
     record {
-      entry =
-          chooses_offer _ entry media (subst (λ t. IsUtf8 t × HttpReads t media) (sym c.requires.trimmed)
-          (c.utf8.entry, reads)) c.take.ensures.offer;
+      entry = chooses_offer _ entry media (subst (λ t. IsUtf8 t × Reads (tight t) media) (sym c.requires.trimmed) (c.utf8.entry, reads)) c.take.ensures.offer;
       few = c.take.ensures.few;
     }
 
@@ -24,7 +23,7 @@ pub returns-in-None : goal.returns-in-None
 returns-in-None c =
     let entry = c.args.entry.now in
     let trimmed = c.requires.trimmed in
-    let isnt : ¬ (IsHttpMediaType entry) = read_http entry _ None (sym c.ok.ensures.value ∙ c.in-None.is) c.in_ok-read_tight.ensures.read in
+    let isnt : ¬ (IsHttpMediaType entry) = read_entry entry _ None (sym c.ok.ensures.value ∙ c.in-None.is) c.in_ok-read_tight.ensures.read in
     record {
       entry = chooses_bad _ entry (λ none. c.requires.some (sym trimmed ∙ none)) (λ both. isnt (subst IsHttpMediaType trimmed both.1));
       few = omega arith;

@@ -1,0 +1,255 @@
+-- Worked facts of the pages `Ranges` and `Unescaped`: what covers an offer, and which is the best; with the examples of RFC 9110 (12.5.1)
+-- and of RFC 7231 (5.3.2).
+use Rattle.std.proofs.Common.{◌≡◌, refl, ap, subst, arith, ℕ, zero, suc, true, List, [], ◌∷◌, ◌++◌, Option, Some, None, is_some}
+use Rattle.std.specs.Prelude.{codes, unwrap_or, slice_get, Contains}
+use Rattle.mime.specs.Values.{MediaType}
+use Rattle.mime_http.specs.Ranges.{closeness, given_weight, best_offer, AreInOrder}
+use Rattle.mime_http.specs.RangesLaws.{MeanTheSame}
+use Rattle.mime_http.proofs.First.{best_is_first}
+use Rattle.mime_http.proofs.Meanings.{covers_itself, meaning_counts}
+use Rattle.mime_http.proofs.Strangers.{stranger_changes_nothing}
+
+abbrev pub of : List ℕ → ℕ → List (List ℕ × List ℕ) → MediaType
+of essence slash pairs = record { essence = essence; slash = slash; plus = None; pairs = pairs; kept = [] }
+
+abbrev q : List ℕ → List ℕ × List ℕ
+q weight = (codes "q", weight)
+
+abbrev html : List (List ℕ × List ℕ) → MediaType
+html pairs = of (codes "text/html") 4 pairs
+
+abbrev plain : List (List ℕ × List ℕ) → MediaType
+plain pairs = of (codes "text/plain") 4 pairs
+
+abbrev json : MediaType
+json = of (codes "application/json") 11 []
+
+abbrev xml : List (List ℕ × List ℕ) → MediaType
+xml pairs = of (codes "application/xml") 11 pairs
+
+abbrev jpeg : MediaType
+jpeg = of (codes "image/jpeg") 5 []
+
+abbrev any : List (List ℕ × List ℕ) → MediaType
+any pairs = of (codes "*/*") 1 pairs
+
+abbrev text : List (List ℕ × List ℕ) → MediaType
+text pairs = of (codes "text/*") 4 pairs
+
+abbrev level : List ℕ → List ℕ × List ℕ
+level value = (codes "level", value)
+
+abbrev format : List ℕ → List ℕ × List ℕ
+format value = (codes "format", value)
+
+-- a range demands each of its parameters, with the same value
+covered : is_some (closeness (html (level (codes "1") ∷ level (codes "2") ∷ [])) (0, html (level (codes "1") ∷ []))) ≡ true
+covered = refl
+
+not_covered : closeness (html []) (0, html (level (codes "1") ∷ [])) ≡ None
+not_covered = refl
+
+other_value : closeness (html (level (codes "1") ∷ [])) (0, html (level (codes "2") ∷ [])) ≡ None
+other_value = refl
+
+other_case : closeness (html (level (codes "a") ∷ [])) (0, html (level (codes "A") ∷ [])) ≡ None
+other_case = refl
+
+other_type : closeness jpeg (0, text []) ≡ None
+other_type = refl
+
+-- a quoted-pair means its byte, on both sides; a backslash that is paired means a backslash
+pair_in_range : is_some (closeness (plain (format (codes "flowed") ∷ [])) (0, plain (format (codes "\\flowed") ∷ []))) ≡ true
+pair_in_range = refl
+
+pair_in_offer : is_some (closeness (plain (format (codes "f\\lowe\\d") ∷ [])) (0, plain (format (codes "flowed") ∷ []))) ≡ true
+pair_in_offer = refl
+
+paired_backslash : closeness (plain (format (codes "flowed") ∷ [])) (0, plain (format (codes "\\\\flowed") ∷ [])) ≡ None
+paired_backslash = refl
+
+same_meaning : closeness (plain (format (codes "flowed") ∷ [])) (0, plain (format (codes "\\flowed") ∷ []))
+    ≡ closeness (plain (format (codes "\\f\\lowed") ∷ [])) (0, plain (format (codes "flowed") ∷ []))
+same_meaning =
+    meaning_counts (plain (format (codes "\\flowed") ∷ [])) (plain (format (codes "flowed") ∷ [])) (plain (format (codes "flowed") ∷ []))
+    (plain (format (codes "\\f\\lowed") ∷ [])) 0 (record { essence = refl; top = refl; pairs = refl })
+    (record { essence = refl; top = refl; pairs = refl }) refl
+
+other_meaning : ¬ (MeanTheSame (plain (format (codes "\\\\") ∷ [])) (plain (format (codes "\\x") ∷ [])))
+other_meaning same =
+    let b : 92 ≡ 120 = ap (λ (pairs : List (List ℕ × List ℕ)). first_byte pairs) same.pairs in absurd (omega (arith, b))
+  where
+    first_byte : List (List ℕ × List ℕ) → ℕ
+    first_byte [] = 0
+    first_byte (pair ∷ pairs) = unwrap_or (slice_get pair.1 0) 0
+
+-- a name may stand twice: one of the offer's values is enough for each of the range's
+twice_named : is_some (closeness (html (level (codes "1") ∷ level (codes "2") ∷ [])) (0, html (level (codes "2") ∷ level (codes "1") ∷ []))) ≡ true
+twice_named = refl
+
+one_missing : closeness (html (level (codes "1") ∷ [])) (0, html (level (codes "1") ∷ level (codes "2") ∷ [])) ≡ None
+one_missing = refl
+
+itself : is_some (closeness (html (level (codes "1") ∷ q (codes "0.5") ∷ level (codes "2") ∷ []))
+    (0, html (level (codes "1") ∷ q (codes "0.5") ∷ level (codes "2") ∷ []))) ≡ true
+itself = covers_itself (html (level (codes "1") ∷ q (codes "0.5") ∷ level (codes "2") ∷ []))
+
+-- a parameter after `q` is demanded, too; `q` is taken with its backslashes, in which case it is no number
+after_q : closeness (html []) (0, html (q (codes "0.5") ∷ level (codes "1") ∷ [])) ≡ None
+after_q = refl
+
+backslash_in_q : given_weight (html (q (codes "\\1") ∷ []) ∷ []) (html []) ≡ 0
+backslash_in_q = refl
+
+-- ---- RFC 9110, 12.5.1, and RFC 7231, 5.3.2
+
+abbrev audio : List ℕ → List (List ℕ × List ℕ) → MediaType
+audio sub pairs = of (codes "audio/" ++ sub) 5 pairs
+
+-- `audio/*; q=0.2, audio/basic`: any other audio type after an 80 percent markdown
+abbrev any_audio : List MediaType
+any_audio = audio (codes "*") (q (codes "0.2") ∷ []) ∷ audio (codes "basic") [] ∷ []
+
+basic_audio : given_weight any_audio (audio (codes "basic") []) ≡ 1000
+basic_audio = refl
+
+other_audio : given_weight any_audio (audio (codes "mp4") []) ≡ 200
+other_audio = refl
+
+-- `text/plain; q=0.5, text/html, text/x-dvi; q=0.8, text/x-c`: `text/html` and `text/x-c` alike, then `text/x-dvi`, then `text/plain`
+abbrev dvi : MediaType
+dvi = of (codes "text/x-dvi") 4 []
+
+abbrev c : MediaType
+c = of (codes "text/x-c") 4 []
+
+abbrev elaborate : List MediaType
+elaborate = plain (q (codes "0.5") ∷ []) ∷ html [] ∷ record dvi { pairs = q (codes "0.8") ∷ [] } ∷ c ∷ []
+
+alike : given_weight elaborate (html []) ≡ given_weight elaborate c
+alike = refl
+
+html_or_c : best_offer elaborate (plain [] ∷ dvi ∷ c ∷ []) ≡ Some 2
+html_or_c = refl
+
+then_dvi : best_offer elaborate (plain [] ∷ dvi ∷ []) ≡ Some 1
+then_dvi = refl
+
+then_plain : best_offer elaborate (jpeg ∷ plain [] ∷ []) ≡ Some 1
+then_plain = refl
+
+-- `text/*, text/plain, text/plain;format=flowed, */*`: the most specific range that covers an offer has precedence
+abbrev specific : List MediaType
+specific = text [] ∷ plain [] ∷ plain (format (codes "flowed") ∷ []) ∷ any [] ∷ []
+
+first_flowed : best_offer specific (jpeg ∷ html [] ∷ plain [] ∷ plain (format (codes "flowed") ∷ []) ∷ []) ≡ Some 3
+first_flowed = refl
+
+then_any_plain : best_offer specific (jpeg ∷ html [] ∷ plain [] ∷ []) ≡ Some 2
+then_any_plain = refl
+
+then_text : best_offer specific (jpeg ∷ html [] ∷ []) ≡ Some 1
+then_text = refl
+
+-- `text/*;q=0.3, text/plain;q=0.7, text/plain;format=flowed, text/plain;format=fixed;q=0.4, */*;q=0.5`. Its table gives
+-- `text/html;level=3` the weight 0.7, which it had in RFC 7231; no range here says so, and `text/*` gives it 0.3
+abbrev example : List MediaType
+example =
+    text (q (codes "0.3") ∷ []) ∷ plain (q (codes "0.7") ∷ []) ∷ plain (format (codes "flowed") ∷ [])
+    ∷ plain (format (codes "fixed") ∷ q (codes "0.4") ∷ []) ∷ any (q (codes "0.5") ∷ []) ∷ []
+
+example_flowed : given_weight example (plain (format (codes "flowed") ∷ [])) ≡ 1000
+example_flowed = refl
+
+example_plain : given_weight example (plain []) ≡ 700
+example_plain = refl
+
+example_html : given_weight example (html []) ≡ 300
+example_html = refl
+
+example_jpeg : given_weight example jpeg ≡ 500
+example_jpeg = refl
+
+example_fixed : given_weight example (plain (format (codes "fixed") ∷ [])) ≡ 400
+example_fixed = refl
+
+example_level : given_weight example (html (level (codes "3") ∷ [])) ≡ 300
+example_level = refl
+
+-- RFC 7231's: `text/*;q=0.3, text/html;q=0.7, text/html;level=1, text/html;level=2;q=0.4, */*;q=0.5`
+abbrev older : List MediaType
+older =
+    text (q (codes "0.3") ∷ []) ∷ html (q (codes "0.7") ∷ []) ∷ html (level (codes "1") ∷ [])
+    ∷ html (level (codes "2") ∷ q (codes "0.4") ∷ []) ∷ any (q (codes "0.5") ∷ []) ∷ []
+
+older_level_1 : given_weight older (html (level (codes "1") ∷ [])) ≡ 1000
+older_level_1 = refl
+
+older_html : given_weight older (html []) ≡ 700
+older_html = refl
+
+older_plain : given_weight older (plain []) ≡ 300
+older_plain = refl
+
+older_jpeg : given_weight older jpeg ≡ 500
+older_jpeg = refl
+
+older_level_2 : given_weight older (html (level (codes "2") ∷ [])) ≡ 400
+older_level_2 = refl
+
+older_level_3 : given_weight older (html (level (codes "3") ∷ [])) ≡ 700
+older_level_3 = refl
+
+-- ---- choices
+
+-- of two weights the first counts, and of ranges as close the higher
+first_weight : given_weight (html (q (codes "0.2") ∷ q (codes "0.9") ∷ []) ∷ []) (html []) ≡ 200
+first_weight = refl
+
+higher_weight : given_weight (html (q (codes "0.2") ∷ []) ∷ html (q (codes "0.9") ∷ []) ∷ html (q (codes "0.5") ∷ []) ∷ []) (html []) ≡ 900
+higher_weight = refl
+
+rejected : given_weight (any [] ∷ html (q (codes "0") ∷ []) ∷ []) (html []) ≡ 0
+rejected = refl
+
+-- `application/json, text/plain, */*`, as axios sends it: the closer range decides
+axios : best_offer (json ∷ plain [] ∷ any [] ∷ []) (html [] ∷ json ∷ []) ≡ Some 1
+axios = refl
+
+-- `text/html;level=2, text/html`: parameters make it closer
+more_parameters : best_offer (html (level (codes "2") ∷ []) ∷ html [] ∷ []) (html [] ∷ html (level (codes "2") ∷ []) ∷ []) ≡ Some 1
+more_parameters = refl
+
+-- `text/plain, */*;q=0.1, text/html`: of ranges as close the earlier decides
+earlier : best_offer (plain [] ∷ any (q (codes "0.1") ∷ []) ∷ html [] ∷ []) (html [] ∷ plain [] ∷ []) ≡ Some 1
+earlier = refl
+
+-- `text/plain, application/xml;q=1, text/plain`: of the same range twice the later counts
+twice : best_offer (plain [] ∷ xml (q (codes "1") ∷ []) ∷ plain [] ∷ []) (xml [] ∷ plain [] ∷ []) ≡ Some 0
+twice = refl
+
+-- alike in all, the first offered is the best
+first_offered : best_offer (any [] ∷ []) (html [] ∷ json ∷ []) ≡ Some 0
+first_offered = refl
+
+none_acceptable : best_offer (json ∷ html (q (codes "0") ∷ []) ∷ []) (html [] ∷ jpeg ∷ []) ≡ None
+none_acceptable = refl
+
+no_offer : best_offer (any [] ∷ []) [] ≡ None
+no_offer = refl
+
+-- no order begins with another than the best
+not_in_order : ¬ (AreInOrder (json ∷ any [] ∷ []) (html [] ∷ json ∷ []) (0 ∷ 1 ∷ []))
+not_in_order are =
+    let same : 1 ≡ 0 =
+    ap (λ (best : Option ℕ). unwrap_or best 0) (best_is_first (json ∷ any [] ∷ []) (html [] ∷ json ∷ []) (0 ∷ 1 ∷ []) are) in
+    absurd (omega (arith, same))
+
+-- an entry that covers no offer changes nothing: `text/html, image/jpeg;q=0, */*;q=0.1` for `text/html`
+no_jpeg : (offer : MediaType) → Contains (html [] ∷ []) offer → closeness offer (0, record jpeg { pairs = q (codes "0") ∷ [] }) ≡ None
+no_jpeg offer (zero, within, is) = subst (λ o. closeness o (0, record jpeg { pairs = q (codes "0") ∷ [] }) ≡ None) is refl
+no_jpeg offer (suc k, within, is) = absurd (omega (arith, within))
+
+stranger : best_offer (html [] ∷ record jpeg { pairs = q (codes "0") ∷ [] } ∷ any (q (codes "0.1") ∷ []) ∷ []) (html [] ∷ []) ≡ Some 0
+stranger =
+    (stranger_changes_nothing (html [] ∷ []) (any (q (codes "0.1") ∷ []) ∷ []) (html [] ∷ []) (record jpeg { pairs = q (codes "0") ∷ [] }) no_jpeg).1
