@@ -25,18 +25,23 @@ use Rattle.std.specs.Str.{IsUtf8}
 
 -- ---- weights (RFC 9110, 12.4.2)
 
+-- `0.5` is 500 thousandths,
 half : thousandths_of (codes "0.5") ≡ 500
 half = refl
 
+-- `1.000` 1000,
 one : thousandths_of (codes "1.000") ≡ 1000
 one = refl
 
+-- `0.001` 1,
 least : thousandths_of (codes "0.001") ≡ 1
 least = refl
 
+-- and `0` none
 nothing : thousandths_of (codes "0") ≡ 0
 nothing = refl
 
+-- by the law, too
 quarter : thousandths_of (codes "0.25") ≡ 250
 quarter = weight_is_number (codes "0.25") 250 (two_digits 2 5 (omega arith) (omega arith))
 
@@ -48,23 +53,29 @@ no_weight is = let same : 1000 ≡ 500 = weight_is_number (codes "1.5") 500 is i
 fourth_digit : thousandths_of (codes "0.1239") ≡ 123
 fourth_digit = refl
 
+-- nor do those after another byte
 after_other : thousandths_of (codes "0x.5") ≡ 0
 after_other = refl
 
+-- strings that are no weights
 no_whole : thousandths_of (codes ".2") ≡ 200
 no_whole = refl
 
+-- `2` is worth no more than 1,
 too_high : thousandths_of (codes "2") ≡ 1000
 too_high = refl
 
+-- and a word nothing
 word : thousandths_of (codes "high") ≡ 0
 word = refl
 
 -- ---- pieces
 
+-- a comma in a string ends no piece,
 two_pieces : cut (codes "a/b;p=\"x,y\",c/d") ≡ codes "a/b;p=\"x,y\"" ∷ codes "c/d" ∷ []
 two_pieces = refl
 
+-- nor does one after a quote that a backslash stands before
 hidden_quote : cut (codes "a/b;p=\"\\\",\",c/d") ≡ codes "a/b;p=\"\\\",\"" ∷ codes "c/d" ∷ []
 hidden_quote = refl
 
@@ -76,17 +87,21 @@ open_string = refl
 quote_alone : cut (codes "a\"b,c\"d") ≡ codes "a\"b" ∷ codes "c\"d" ∷ []
 quote_alone = refl
 
+-- a piece has no comma outside strings
 comma_outside : ¬ (IsPiece (codes "a/b,c/d"))
 comma_outside is = absurd (omega (arith, ap length (cut_of_piece is)))
 
+-- white space is left out on both sides
 trimmed : trim_end (trim_start (codes " \t x y ")) ≡ codes "x y"
 trimmed = refl
 
 -- ---- lists, of which this one has two elements among empty ones
 
+-- a media type of a type of one letter, and a subtype
 abbrev short : List ℕ → MediaType
 short essence = record (of essence 1 []) { kept = essence }
 
+-- it is read, with white space around it
 short_read : (before top sub after : List ℕ) → AreSpaces before → IsToken top → IsToken sub → AreSpaces after → (slash : 1 ≡ length top)
     → (essence : List ℕ) → essence ≡ lowered top ++ (47 ∷ lowered sub) → None ≡ last_plus (length top + 2) (drop 1 (lowered sub))
     → HttpReads (before ++ (top ++ (47 ∷ (sub ++ after)))) (short essence)
@@ -107,6 +122,7 @@ short_read before top sub after first is_top is_sub last slash essence is plus =
   plus = plus;
 }
 
+-- empty elements are no elements
 two_elements : AreHttpLists (codes ",a/b , ,c/d" ∷ []) (short (codes "a/b") ∷ short (codes "c/d") ∷ [])
 unfolding is_token_byte
 two_elements = record {
@@ -123,6 +139,7 @@ not_media_type : ¬ (IsHttpMediaType (codes " a b"))
 unfolding is_token_byte
 not_media_type is = stopped-from_walk (tight (codes " a b")) refl (accepted_from_http _ is)
 
+-- a text of a type and a subtype alone is read as itself
 plainly_read : (top sub : List ℕ) → IsToken top → IsToken sub
     → value_of (record { top = top; sub = sub; tail = no_list }) ≡ short (top ++ (47 ∷ sub)) → Reads (top ++ (47 ∷ sub)) (short (top ++ (47 ∷ sub)))
 plainly_read top sub is_top is_sub is = record {
@@ -132,6 +149,7 @@ plainly_read top sub is_top is_sub is = record {
   valued = is;
 }
 
+-- an entry that is no range is bad
 bad_entry : IsHeader (codes "c/d, a b" ∷ []) (record { ranges = short (codes "c/d") ∷ []; bad = codes "a b" ∷ [] })
 unfolding is_token_byte
 bad_entry = record {
@@ -142,6 +160,7 @@ bad_entry = record {
       (a_bad (codes " a b") _ _ _ (λ blank. true≢false (sym blank)) (λ is. not_media_type is.1) no_text);
 }
 
+-- and a list with one is none
 not_a_list : (media : List MediaType) → ¬ (AreHttpLists (codes "c/d, a b" ∷ []) media)
 not_a_list media is =
     let read = http_lists_are_read (codes "c/d, a b" ∷ []) media is in
@@ -153,6 +172,7 @@ abbrev first_kept : List MediaType → List ℕ
 first_kept [] = []
 first_kept (range ∷ ranges) = range.kept
 
+-- and no other
 other_text : ¬ (IsHeader (codes "c/d, a b" ∷ []) (record { ranges = record (short (codes "c/d")) { kept = codes "C/d" } ∷ []; bad = codes "a b" ∷ [] }))
 other_text is =
     let same = ap (λ (header : Header). get_or (first_kept header.ranges) 0 0) (one_header (codes "c/d, a b" ∷ []) _ _ bad_entry is) in

@@ -95,19 +95,23 @@ gt_by Equal low = refl
 gt_by Greater low = absurd (true≢false (sym low))
 
 module _ {K : Type 0} {R : K → K → Ordering} (total : IsTotalOrder R) (one : (x y : K) → R x y ≡ Equal → x ≡ y) where
+  -- two of which neither is above are the same
   same_if_both : (x y : K) → is_gt (R x y) ≡ false → is_gt (R y x) ≡ false → x ≡ y
   same_if_both x y low high = between_by total one x y (R x y) refl low (ap is_gt (sym (total.antisymm y x)) ∙ high)
 
+  -- so with options
   one_option : (x y : Option K) → option_cmp R x y ≡ Equal → x ≡ y
   one_option None None is = refl
   one_option None (Some y) is = absurd (true≢false (ap is_lt is))
   one_option (Some x) None is = absurd (true≢false (ap is_gt is))
   one_option (Some x) (Some y) is = ap Some (one x y is)
 
+  -- what isn't above nothing is nothing
   none_by : (x : Option K) → is_gt (option_cmp R x None) ≡ false → x ≡ None
   none_by None low = refl
   none_by (Some x) low = absurd (true≢false low)
 
+  -- of nothing but `None` nothing is left
   nothing_filtered : {X : Type 0} (f : X → Option K) (xs : List X) → ((x : X) → Contains xs x → f x ≡ None) → filter_map f xs ≡ []
   nothing_filtered f [] none = refl
   nothing_filtered f (x ∷ xs) none =
@@ -168,12 +172,14 @@ module _ (ranges : List MediaType) (offer : MediaType) where
       (closeness offer item)
       (in_mapped (closeness offer) (enumerate_from 0 ranges) item there)
 
+  -- without a closest range none covers the offer
   when_none : kept_closest ranges offer ≡ None → (item : ℕ × MediaType) → Contains (enumerate_from 0 ranges) item
       → closeness offer item ≡ None
   when_none is item there =
       none_by ranks_total one_rank (closeness offer item)
       (subst (λ top. is_gt (option_cmp rank_cmp (closeness offer item) top) ≡ false) is (none_is_closer item there))
 
+  -- the closest is one of them, and no other is closer
   when_some : (close : Rank) → kept_closest ranges offer ≡ Some close
       → ((item : ℕ × MediaType) × Contains (enumerate_from 0 ranges) item × (closeness offer item ≡ Some close))
       × ((item : ℕ × MediaType) (other : Rank) → Contains (enumerate_from 0 ranges) item → closeness offer item ≡ Some other
@@ -223,13 +229,16 @@ module _ (all : List Rank) where
   abbrev is_best : Rank → Bool
   is_best one = nat_lt 0 one.0 && list_all (λ other. is_le (rank_cmp other one)) all
 
+  -- no offer ranks above the highest,
   not_above : (rank : Rank) → Contains all rank → is_gt (rank_cmp rank (highest all)) ≡ false
   not_above rank there = none_is_higher ranks_total one_rank (0, 0, 0, 0) all rank there
 
+  -- none weighs more,
   no_more : (rank : Rank) → Contains all rank → rank.0 ≤ (highest all).0
   no_more rank there =
       ⊎_elim (λ less. omega (arith, less)) (λ same. omega (arith, same.0)) (at_most rank (highest all) (not_above rank there))
 
+  -- and none is the best if it weighs nothing
   none_weighs : (highest all).0 ≡ 0 → (rank : Rank) → Contains all rank → is_best rank ≡ false
   none_weighs light_all rank there =
       let light : nat_lt 0 rank.0 ≡ false = grind (arith, nat_tests, no_more rank there, light_all) in rw light refl

@@ -9,36 +9,47 @@ use Rattle.mime_http.proofs.First.{best_is_first}
 use Rattle.mime_http.proofs.Meanings.{covers_itself, meaning_counts}
 use Rattle.mime_http.proofs.Strangers.{stranger_changes_nothing}
 
+-- a media type of this essence
 abbrev pub of : List ℕ → ℕ → List (List ℕ × List ℕ) → MediaType
 of essence slash pairs = record { essence = essence; slash = slash; plus = None; pairs = pairs; kept = [] }
 
+-- a weight
 abbrev q : List ℕ → List ℕ × List ℕ
 q weight = (codes "q", weight)
 
+-- the media types of RFC 9110's examples: `text/html`,
 abbrev html : List (List ℕ × List ℕ) → MediaType
 html pairs = of (codes "text/html") 4 pairs
 
+-- `text/plain`,
 abbrev plain : List (List ℕ × List ℕ) → MediaType
 plain pairs = of (codes "text/plain") 4 pairs
 
+-- `application/json`,
 abbrev json : MediaType
 json = of (codes "application/json") 11 []
 
+-- `application/xml`,
 abbrev xml : List (List ℕ × List ℕ) → MediaType
 xml pairs = of (codes "application/xml") 11 pairs
 
+-- `image/jpeg`,
 abbrev jpeg : MediaType
 jpeg = of (codes "image/jpeg") 5 []
 
+-- `*/*`,
 abbrev any : List (List ℕ × List ℕ) → MediaType
 any pairs = of (codes "*/*") 1 pairs
 
+-- and `text/*`
 abbrev text : List (List ℕ × List ℕ) → MediaType
 text pairs = of (codes "text/*") 4 pairs
 
+-- a parameter `level`
 abbrev level : List ℕ → List ℕ × List ℕ
 level value = (codes "level", value)
 
+-- a parameter `format`
 abbrev format : List ℕ → List ℕ × List ℕ
 format value = (codes "format", value)
 
@@ -46,15 +57,19 @@ format value = (codes "format", value)
 covered : is_some (closeness (html (level (codes "1") ∷ level (codes "2") ∷ [])) (0, html (level (codes "1") ∷ []))) ≡ true
 covered = refl
 
+-- a range with a parameter covers no offer without it,
 not_covered : closeness (html []) (0, html (level (codes "1") ∷ [])) ≡ None
 not_covered = refl
 
+-- none with another value,
 other_value : closeness (html (level (codes "1") ∷ [])) (0, html (level (codes "2") ∷ [])) ≡ None
 other_value = refl
 
+-- none with a value in another case,
 other_case : closeness (html (level (codes "a") ∷ [])) (0, html (level (codes "A") ∷ [])) ≡ None
 other_case = refl
 
+-- and `text/*` no image
 other_type : closeness jpeg (0, text []) ≡ None
 other_type = refl
 
@@ -62,12 +77,15 @@ other_type = refl
 pair_in_range : is_some (closeness (plain (format (codes "flowed") ∷ [])) (0, plain (format (codes "\\flowed") ∷ []))) ≡ true
 pair_in_range = refl
 
+-- it does so in an offer,
 pair_in_offer : is_some (closeness (plain (format (codes "f\\lowe\\d") ∷ [])) (0, plain (format (codes "flowed") ∷ []))) ≡ true
 pair_in_offer = refl
 
+-- and one that pairs a backslash means a backslash
 paired_backslash : closeness (plain (format (codes "flowed") ∷ [])) (0, plain (format (codes "\\\\flowed") ∷ [])) ≡ None
 paired_backslash = refl
 
+-- values that mean the same are covered as closely
 same_meaning : closeness (plain (format (codes "flowed") ∷ [])) (0, plain (format (codes "\\flowed") ∷ []))
     ≡ closeness (plain (format (codes "\\f\\lowed") ∷ [])) (0, plain (format (codes "flowed") ∷ []))
 same_meaning =
@@ -75,6 +93,7 @@ same_meaning =
     (plain (format (codes "\\f\\lowed") ∷ [])) 0 (record { essence = refl; top = refl; pairs = refl })
     (record { essence = refl; top = refl; pairs = refl }) refl
 
+-- a paired backslash means another byte than a paired letter
 other_meaning : ¬ (MeanTheSame (plain (format (codes "\\\\") ∷ [])) (plain (format (codes "\\x") ∷ [])))
 other_meaning same =
     let b : 92 ≡ 120 = ap (λ (pairs : List (List ℕ × List ℕ)). first_byte pairs) same.pairs in absurd (omega (arith, b))
@@ -87,9 +106,11 @@ other_meaning same =
 twice_named : is_some (closeness (html (level (codes "1") ∷ level (codes "2") ∷ [])) (0, html (level (codes "2") ∷ level (codes "1") ∷ []))) ≡ true
 twice_named = refl
 
+-- each of the range must be in the offer
 one_missing : closeness (html (level (codes "1") ∷ [])) (0, html (level (codes "1") ∷ level (codes "2") ∷ [])) ≡ None
 one_missing = refl
 
+-- so a media type covers itself
 itself : is_some (closeness (html (level (codes "1") ∷ q (codes "0.5") ∷ level (codes "2") ∷ []))
     (0, html (level (codes "1") ∷ q (codes "0.5") ∷ level (codes "2") ∷ []))) ≡ true
 itself = covers_itself (html (level (codes "1") ∷ q (codes "0.5") ∷ level (codes "2") ∷ []))
@@ -98,11 +119,13 @@ itself = covers_itself (html (level (codes "1") ∷ q (codes "0.5") ∷ level (c
 after_q : closeness (html []) (0, html (q (codes "0.5") ∷ level (codes "1") ∷ [])) ≡ None
 after_q = refl
 
+-- a `q` with a backslash begins with no number
 backslash_in_q : given_weight (html (q (codes "\\1") ∷ []) ∷ []) (html []) ≡ 0
 backslash_in_q = refl
 
 -- ---- RFC 9110, 12.5.1, and RFC 7231, 5.3.2
 
+-- an audio type
 abbrev audio : List ℕ → List (List ℕ × List ℕ) → MediaType
 audio sub pairs = of (codes "audio/" ++ sub) 5 pairs
 
@@ -110,9 +133,11 @@ audio sub pairs = of (codes "audio/" ++ sub) 5 pairs
 abbrev any_audio : List MediaType
 any_audio = audio (codes "*") (q (codes "0.2") ∷ []) ∷ audio (codes "basic") [] ∷ []
 
+-- `audio/basic` is preferred
 basic_audio : given_weight any_audio (audio (codes "basic") []) ≡ 1000
 basic_audio = refl
 
+-- to any other
 other_audio : given_weight any_audio (audio (codes "mp4") []) ≡ 200
 other_audio = refl
 
@@ -120,21 +145,27 @@ other_audio = refl
 abbrev dvi : MediaType
 dvi = of (codes "text/x-dvi") 4 []
 
+-- `text/x-c`
 abbrev c : MediaType
 c = of (codes "text/x-c") 4 []
 
+-- the header
 abbrev elaborate : List MediaType
 elaborate = plain (q (codes "0.5") ∷ []) ∷ html [] ∷ record dvi { pairs = q (codes "0.8") ∷ [] } ∷ c ∷ []
 
+-- both weigh the same
 alike : given_weight elaborate (html []) ≡ given_weight elaborate c
 alike = refl
 
+-- either is the best,
 html_or_c : best_offer elaborate (plain [] ∷ dvi ∷ c ∷ []) ≡ Some 2
 html_or_c = refl
 
+-- `text/x-dvi` without them,
 then_dvi : best_offer elaborate (plain [] ∷ dvi ∷ []) ≡ Some 1
 then_dvi = refl
 
+-- and `text/plain` alone
 then_plain : best_offer elaborate (jpeg ∷ plain [] ∷ []) ≡ Some 1
 then_plain = refl
 
@@ -142,12 +173,15 @@ then_plain = refl
 abbrev specific : List MediaType
 specific = text [] ∷ plain [] ∷ plain (format (codes "flowed") ∷ []) ∷ any [] ∷ []
 
+-- first `text/plain;format=flowed`,
 first_flowed : best_offer specific (jpeg ∷ html [] ∷ plain [] ∷ plain (format (codes "flowed") ∷ []) ∷ []) ≡ Some 3
 first_flowed = refl
 
+-- then `text/plain`,
 then_any_plain : best_offer specific (jpeg ∷ html [] ∷ plain [] ∷ []) ≡ Some 2
 then_any_plain = refl
 
+-- then any other text
 then_text : best_offer specific (jpeg ∷ html [] ∷ []) ≡ Some 1
 then_text = refl
 
@@ -158,21 +192,27 @@ example =
     text (q (codes "0.3") ∷ []) ∷ plain (q (codes "0.7") ∷ []) ∷ plain (format (codes "flowed") ∷ [])
     ∷ plain (format (codes "fixed") ∷ q (codes "0.4") ∷ []) ∷ any (q (codes "0.5") ∷ []) ∷ []
 
+-- its table: `text/plain;format=flowed` weighs 1,
 example_flowed : given_weight example (plain (format (codes "flowed") ∷ [])) ≡ 1000
 example_flowed = refl
 
+-- `text/plain` 0.7,
 example_plain : given_weight example (plain []) ≡ 700
 example_plain = refl
 
+-- `text/html` 0.3,
 example_html : given_weight example (html []) ≡ 300
 example_html = refl
 
+-- `image/jpeg` 0.5,
 example_jpeg : given_weight example jpeg ≡ 500
 example_jpeg = refl
 
+-- and `text/plain;format=fixed` 0.4
 example_fixed : given_weight example (plain (format (codes "fixed") ∷ [])) ≡ 400
 example_fixed = refl
 
+-- as said above
 example_level : given_weight example (html (level (codes "3") ∷ [])) ≡ 300
 example_level = refl
 
@@ -182,23 +222,12 @@ older =
     text (q (codes "0.3") ∷ []) ∷ html (q (codes "0.7") ∷ []) ∷ html (level (codes "1") ∷ [])
     ∷ html (level (codes "2") ∷ q (codes "0.4") ∷ []) ∷ any (q (codes "0.5") ∷ []) ∷ []
 
-older_level_1 : given_weight older (html (level (codes "1") ∷ [])) ≡ 1000
-older_level_1 = refl
-
-older_html : given_weight older (html []) ≡ 700
-older_html = refl
-
-older_plain : given_weight older (plain []) ≡ 300
-older_plain = refl
-
-older_jpeg : given_weight older jpeg ≡ 500
-older_jpeg = refl
-
-older_level_2 : given_weight older (html (level (codes "2") ∷ [])) ≡ 400
-older_level_2 = refl
-
-older_level_3 : given_weight older (html (level (codes "3") ∷ [])) ≡ 700
-older_level_3 = refl
+-- its table
+older_table :
+    (given_weight older (html (level (codes "1") ∷ [])) ≡ 1000) × (given_weight older (html []) ≡ 700)
+    × (given_weight older (plain []) ≡ 300) × (given_weight older jpeg ≡ 500)
+    × (given_weight older (html (level (codes "2") ∷ [])) ≡ 400) × (given_weight older (html (level (codes "3") ∷ [])) ≡ 700)
+older_table = (refl, refl, refl, refl, refl, refl)
 
 -- ---- choices
 
@@ -206,9 +235,11 @@ older_level_3 = refl
 first_weight : given_weight (html (q (codes "0.2") ∷ q (codes "0.9") ∷ []) ∷ []) (html []) ≡ 200
 first_weight = refl
 
+-- of ranges as close the highest weight counts
 higher_weight : given_weight (html (q (codes "0.2") ∷ []) ∷ html (q (codes "0.9") ∷ []) ∷ html (q (codes "0.5") ∷ []) ∷ []) (html []) ≡ 900
 higher_weight = refl
 
+-- a weight of 0 rejects what a wider range accepts
 rejected : given_weight (any [] ∷ html (q (codes "0") ∷ []) ∷ []) (html []) ≡ 0
 rejected = refl
 
@@ -232,9 +263,11 @@ twice = refl
 first_offered : best_offer (any [] ∷ []) (html [] ∷ json ∷ []) ≡ Some 0
 first_offered = refl
 
+-- if each offer weighs 0, none is the best,
 none_acceptable : best_offer (json ∷ html (q (codes "0") ∷ []) ∷ []) (html [] ∷ jpeg ∷ []) ≡ None
 none_acceptable = refl
 
+-- and neither is one of none
 no_offer : best_offer (any [] ∷ []) [] ≡ None
 no_offer = refl
 
@@ -250,6 +283,7 @@ no_jpeg : (offer : MediaType) → Contains (html [] ∷ []) offer → closeness 
 no_jpeg offer (zero, within, is) = subst (λ o. closeness o (0, record jpeg { pairs = q (codes "0") ∷ [] }) ≡ None) is refl
 no_jpeg offer (suc k, within, is) = absurd (omega (arith, within))
 
+-- so `text/html` stays the best
 stranger : best_offer (html [] ∷ record jpeg { pairs = q (codes "0") ∷ [] } ∷ any (q (codes "0.1") ∷ []) ∷ []) (html [] ∷ []) ≡ Some 0
 stranger =
     (stranger_changes_nothing (html [] ∷ []) (any (q (codes "0.1") ∷ []) ∷ []) (html [] ∷ []) (record jpeg { pairs = q (codes "0") ∷ [] }) no_jpeg).1

@@ -118,6 +118,7 @@ module _ (offer : MediaType) where
   abbrev covering : ℕ → List MediaType → List Rank
   covering at ranges = filter_map (closeness offer) (enumerate_from at ranges)
 
+  -- ranges after it cover as closely, one position later,
   later : (k at : ℕ) (ranges : List MediaType) → k ≤ at → covering (at + 1) ranges ≡ map (shifted_rank k) (covering at ranges)
   later k at [] after = refl
   later k at (range ∷ ranges) after =
@@ -128,6 +129,7 @@ module _ (offer : MediaType) where
       ∙ onto_mapped (shifted_rank k) (closeness offer (at, range)) (covering (at + 1) ranges))
 
   module _ (range : MediaType) (none : closeness offer (0, range) ≡ None) (after : List MediaType) where
+    -- so all that cover are the same, with moved positions,
     one_more : (k at : ℕ) (before : List MediaType) → k ≡ at + length before
         → covering at (before ++ (range ∷ after)) ≡ map (shifted_rank k) (covering at (before ++ after))
     one_more k at [] long =
@@ -139,6 +141,7 @@ module _ (offer : MediaType) where
         ∙ (ap (cons_option (option_map (shifted_rank k) (closeness offer (at, first)))) (one_more k (at + 1) before (omega (arith, long)))
         ∙ onto_mapped (shifted_rank k) (closeness offer (at, first)) (covering (at + 1) (before ++ after)))
 
+    -- and the closest is the same
     still_closest : (before : List MediaType)
         → closest (before ++ (range ∷ after)) offer ≡ option_map (shifted_rank (length before)) (closest (before ++ after) offer)
     still_closest before =
@@ -185,12 +188,15 @@ module _ (before after : List MediaType) (range : MediaType) where
   abbrev raise : Rank → Rank
   raise = raised_rank (length before) (length (before ++ after))
 
+  -- the position lies within the ranges
   within : length before ≤ length (before ++ after)
   within = omega (arith, length-append before after)
 
+  -- an offer that no range covers ranks as before
   none_stays : raise (0, 0, 0, 0) ≡ (0, 0, 0, 0)
   none_stays = λ i. (0, 0, 0, late_so (length before) (length (before ++ after)) within i)
 
+  -- there is one range more
   longer : length with_it ≡ length (before ++ after) + 1
   longer = omega (arith, length-append before after, length-append before (range ∷ after))
 
@@ -198,6 +204,7 @@ module _ (before after : List MediaType) (range : MediaType) where
   abbrev merit_by : ℕ → Option Rank → Rank
   merit_by long found = unwrap_or (option_map (λ close. (close.2, close.0, close.1, long - close.3)) found) (0, 0, 0, 0)
 
+  -- what is made of the closest range
   raised_by : (found : Option Rank)
       → merit_by (length with_it) (option_map (shifted_rank (length before)) found) ≡ raise (merit_by (length (before ++ after)) found)
   raised_by None = sym none_stays
@@ -207,10 +214,12 @@ module _ (before after : List MediaType) (range : MediaType) where
       ap (λ n. n - shifted (length before) close.3) longer ∙ early_so (length before) (length (before ++ after)) close.3 within in
       λ i. (close.2, close.0, close.1, early i)
 
+  -- each offer ranks so,
   merit_so : (offer : MediaType) → closeness offer (0, range) ≡ None → merit with_it offer ≡ raise (merit (before ++ after) offer)
   merit_so offer none =
       ap (merit_by (length with_it)) (still_closest offer range none after before) ∙ raised_by (closest (before ++ after) offer)
 
+  -- and so do all
   merits_so : (offers : List MediaType) → ((offer : MediaType) → Contains offers offer → closeness offer (0, range) ≡ None)
       → map (merit with_it) offers ≡ map raise (map (merit (before ++ after)) offers)
   merits_so [] none = refl
@@ -223,6 +232,7 @@ module _ (before after : List MediaType) (range : MediaType) where
   abbrev is_best : List Rank → Rank → Bool
   is_best all one = nat_lt 0 one.0 && list_all (λ other. is_le (rank_cmp other one)) all
 
+  -- the best is the same
   same_best : (all : List Rank) → position (is_best (map raise all)) (map raise all) ≡ position (is_best all) all
   same_best all =
       position_from-zero (is_best (map raise all)) (map raise all)
@@ -232,15 +242,18 @@ module _ (before after : List MediaType) (range : MediaType) where
       (λ other. ap is_le (same_merit_order (length before) (length (before ++ after)) other one)) all)) 0 all
       ∙ sym (position_from-zero (is_best all) all))
 
+  -- a rank by its position
   at_mapped : (all : List Rank) (at : ℕ) → get_or (map raise all) at (0, 0, 0, 0) ≡ raise (get_or all at (0, 0, 0, 0))
   at_mapped [] at = sym none_stays
   at_mapped (rank ∷ all) zero = refl
   at_mapped (rank ∷ all) (suc at) = at_mapped all at
 
   module _ (offers : List MediaType) (none : (offer : MediaType) → Contains offers offer → closeness offer (0, range) ≡ None) where
+    -- the offer at a position ranks so
     place_so : (at : ℕ) → merit_at with_it offers at ≡ raise (merit_at (before ++ after) offers at)
     place_so at = ap (λ all. get_or all at (0, 0, 0, 0)) (merits_so offers none) ∙ at_mapped (map (merit (before ++ after)) offers) at
 
+    -- two offers compare as before,
     same_place_order : (at other : ℕ)
         → rank_cmp (merit_at with_it offers at) (merit_at with_it offers other)
         ≡ rank_cmp (merit_at (before ++ after) offers at) (merit_at (before ++ after) offers other)
@@ -249,6 +262,7 @@ module _ (before after : List MediaType) (range : MediaType) where
         ∙ same_merit_order (length before) (length (before ++ after)) (merit_at (before ++ after) offers at)
         (merit_at (before ++ after) offers other)
 
+    -- so the first comes first,
     still_before : (at other : ℕ)
         → (is_gt (rank_cmp (merit_at (before ++ after) offers at) (merit_at (before ++ after) offers other)) ≡ true)
         ⊎ ((merit_at (before ++ after) offers at ≡ merit_at (before ++ after) offers other) × (at < other))
@@ -257,6 +271,7 @@ module _ (before after : List MediaType) (range : MediaType) where
     still_before at other (inl above) = inl (ap is_gt (same_place_order at other) ∙ above)
     still_before at other (inr level) = inr (place_so at ∙ (ap raise level.0 ∙ sym (place_so other)), level.1)
 
+    -- and the order is the same
     still_in_order : (order : List ℕ) → AreInOrder (before ++ after) offers order → AreInOrder with_it offers order
     still_in_order order are = record {
       best_first = λ i j d below within. still_before _ _ (are.best_first i j d below within);
