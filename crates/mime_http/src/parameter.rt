@@ -1,6 +1,6 @@
 //! A parameter written into a media type, as a header then holds it.
 
-ghost use Rattle.std.specs.Prelude.{◌≡◌, ◌++◌, ◌↔◌, IsTrue, IfOk, IfSome, OnOk, is_some, if◌then◌else◌, codes, string_bytes, length};
+ghost use Rattle.std.specs.Prelude.{◌≡◌, ◌++◌, ◌↔◌, IsTrue, IfOk, IsOk, IfSome, OnOk, is_some, if◌then◌else◌, codes, string_bytes, length};
 ghost use Rattle.mime.specs.Grammar.{IsToken};
 ghost use Rattle.mime.specs.HeaderLaws.{AreHeaderBytes};
 ghost use Rattle.mime.specs.Values.{lowered, lowered_value};
@@ -172,7 +172,7 @@ fn mime_with(
 /// It allocates the text, which may grow, and once more at most for what is kept of it, if that has more than 40 bytes.
 ///
 /// # Errors
-/// `AllocError` if memory runs out.
+/// `AllocError` if memory runs out, which is never if the answer is `None`.
 pub fn with_parameter(
     alloc: Global,
     mime: &Mime,
@@ -180,6 +180,7 @@ pub fn with_parameter(
     value: &str,
 ) -> Result<Option<Mime>, AllocError>
     ensures exact { IfOk result (λ answer. IsTrue (is_some answer) ↔ (IsToken name.now × AreHeaderBytes value.now)) }
+    ensures none { ¬ (IsToken name.now × AreHeaderBytes value.now) → IsOk result }
     ensures made { IfOk result (λ answer. IfSome answer
         (λ made. made.media ≡ with_pair mime.now.media (lowered name.now) (lowered_value name.now (escaped value.now)))) }
 {
@@ -196,9 +197,10 @@ pub fn with_parameter(
 /// token (RFC 9110, 8.3.2). `text/html` with the charset `UTF-8` is `text/html; charset=utf-8`.
 ///
 /// # Errors
-/// `AllocError` if memory runs out.
+/// `AllocError` if memory runs out, which is never if the answer is `None`.
 pub fn with_charset(alloc: Global, mime: &Mime, charset: &str) -> Result<Option<Mime>, AllocError>
     ensures exact { IfOk result (λ answer. IsTrue (is_some answer) ↔ IsToken charset.now) }
+    ensures none { ¬ (IsToken charset.now) → IsOk result }
     ensures made { IfOk result (λ answer. IfSome answer (λ made. made.media ≡ with_pair mime.now.media (codes "charset") (lowered charset.now))) }
 {
     if !is_token_text(charset) {
@@ -212,9 +214,10 @@ pub fn with_charset(alloc: Global, mime: &Mime, charset: &str) -> Result<Option<
 /// Any media type is taken, though a boundary means something in those of the type `multipart` alone.
 ///
 /// # Errors
-/// `AllocError` if memory runs out.
+/// `AllocError` if memory runs out, which is never if the answer is `None`.
 pub fn with_boundary(alloc: Global, mime: &Mime, boundary: &str) -> Result<Option<Mime>, AllocError>
     ensures exact { IfOk result (λ answer. IsTrue (is_some answer) ↔ IsBoundary boundary.now) }
+    ensures none { ¬ (IsBoundary boundary.now) → IsOk result }
     ensures made { IfOk result (λ answer. IfSome answer (λ made. made.media ≡ with_pair mime.now.media (codes "boundary") boundary.now)) }
 {
     if !is_boundary(boundary.as_bytes()) {
