@@ -1,22 +1,29 @@
 //! A media type from its parts.
 
-ghost use Rattle.std.specs.Prelude.{◌≡◌, ◌++◌, IfOk, MatchOption, codes};
-ghost use Rattle.mime.specs.Values.{Reads, IsAccepted};
+ghost use Rattle.std.specs.Prelude.{◌++◌, IfOk, IfSome, codes};
+ghost use Rattle.mime.specs.Values.{Reads};
 
 use mime::{Mime, ParseError};
 use std::alloc::{AllocError, Global};
 
-/// The media type that a kind of document has, in JSON: `application/vnd.cart+json` for `cart`. `None` if the name can't stand there.
+/// The media type that a kind of document has, in JSON: `application/vnd.cart+json` for `cart`. `None` if the name can't stand there, as
+/// `a/b` can't, or would add a parameter, as `a; q=1` would.
 ///
 /// # Errors
 /// `AllocError` if memory runs out.
 pub fn vendor_json(alloc: Global, name: &str) -> Result<Option<Mime>, AllocError>
-    ensures { IfOk result (λ answer. MatchOption answer (¬ (IsAccepted (codes "application/vnd." ++ (name.now ++ codes "+json"))))
-        (λ mime. Reads (codes "application/vnd." ++ (name.now ++ codes "+json")) mime.media)) }
+    ensures { IfOk result (λ answer. IfSome answer (λ mime. Reads (codes "application/vnd." ++ (name.now ++ codes "+json")) mime.media)) }
 {
     let text = format!(in alloc; "application/vnd.{name}+json")?;
     match Mime::from_str(alloc, &text) {
-        Ok(mime) => Ok(Some(mime)),
+        Ok(mime) => {
+            let has_parameter = mime.params().next().is_some();
+            if has_parameter {
+                Ok(None)
+            } else {
+                Ok(Some(mime))
+            }
+        }
         Err(error) => match error.fault() {
             ParseError::NoMemory => Err(AllocError),
             _ => Ok(None),

@@ -37,8 +37,8 @@ pub fn cut<'a>(body: &'a [u8], delimiter: &[u8]) -> Option<(&'a [u8], &'a [u8])>
     None
 }
 
-/// The parts of a body, each from the end of its delimiter's line on: what stands before the first delimiter is none, nor is what stands
-/// after the last, which two hyphens follow. A delimiter inside a line cuts, too: choose a boundary by [`may_delimit`].
+/// The parts of a body: what stands between each two delimiters, with the ends of their lines. A delimiter inside a line cuts, too, so
+/// choose a boundary by [`may_delimit`].
 pub fn parts<'a>(alloc: Global, mime: &Mime, body: &'a [u8]) -> Result<Vec<&'a [u8]>, AllocError> {
     let mut parts = Vec::new(alloc);
     let Some(delimiter) = delimiter(alloc, mime)? else {

@@ -230,8 +230,13 @@ pub(crate) fn show_may_delimit(out: &mut String, boundary: &str, part: &str) {
 
 /// Shows the positions of the offers in order.
 pub(crate) fn show_in_order(alloc: Global, out: &mut String, strings: &[String]) {
-    let lines = lines_of(alloc, string_at(strings, 0));
-    if let Ok(order) = in_order(alloc, &lines, &offers_of(alloc, strings)) {
+    let Ok(lines) = lines_of(alloc, string_at(strings, 0)) else {
+        return;
+    };
+    let Ok(offers) = offers_of(alloc, strings) else {
+        return;
+    };
+    if let Ok(order) = in_order(alloc, &lines, &offers) {
         for at in &order {
             show(out, at);
         }
@@ -248,7 +253,10 @@ pub(crate) fn show_takes(alloc: Global, out: &mut String, range: &str, body: &st
 }
 
 pub(crate) fn show_explained(alloc: Global, out: &mut String, field: &str) {
-    if let Ok(said) = explained(alloc, &lines_of(alloc, field)) {
+    let Ok(lines) = lines_of(alloc, field) else {
+        return;
+    };
+    if let Ok(said) = explained(alloc, &lines) {
         show_text(out, Some(said.as_str()));
     }
 }
