@@ -88,4 +88,5 @@ pub data OrderIs (is_there : Bool) (line offers old : List ℕ) : ℕ → List �
       → OrderIs is_there line offers old MIME_NO_ROOM old 0
   an_ordered_is_bad : (offered : Header) → IsHeader (offers ∷ []) offered → offered.bad ≢ []
       → OrderIs is_there line offers old MIME_BAD_OFFER old 0
-  order_has_no_memory : ¬ (HaveNoEntry (offers ∷ []) × HaveNoEntry (lines_of is_there line)) → OrderIs is_there line offers old MIME_NO_MEMORY old 0
+  order_has_no_memory : ¬ (HaveNoEntry (offers ∷ []) × HaveNoEntry (lines_of is_there line))
+      → OrderIs is_there line offers old MIME_NO_MEMORY old 0

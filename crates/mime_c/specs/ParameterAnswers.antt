@@ -54,8 +54,8 @@ pub data SetsTo (text name value old : List ℕ) : ℕ → List ℕ → ℕ → 
       → ComeBack ((with_parameter media name value).kept ∷ [])
       → SetsTo text name value old MIME_OK (written (string_of (with_parameter media name value).kept) old)
       (length (with_parameter media name value).kept)
-  isnt_parameter : (media : MediaType) → room_with text name value ≤ length old → IsUtf8 text → HttpReads text media → ¬ (IsParameter name value)
-      → SetsTo text name value old MIME_BAD_PARAMETER old 0
+  isnt_parameter : (media : MediaType) → room_with text name value ≤ length old → IsUtf8 text → HttpReads text media
+      → ¬ (IsParameter name value) → SetsTo text name value old MIME_BAD_PARAMETER old 0
   isnt_type : (error : FieldError) → room_with text name value ≤ length old → HttpExplains text error
       → SetsTo text name value old (number_of_error error) old 0
   set_has_no_memory : room_with text name value ≤ length old → IsUtf8 text → IsHttpMediaType text

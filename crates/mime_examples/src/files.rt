@@ -118,9 +118,11 @@ static TYPES: [(&str, &str); 95] = [
 /// The media type of a row with this ending, ignoring ASCII case.
 pub fn type_of_ending(table: &[(&'static str, &'static str)], ending: &str) -> Option<&'static str>
     ensures found { IfSome result (λ type. (known : List ℕ)
-        × Contains {X = List ℕ × List ℕ} (map (λ row. (row.0.now, row.1.now)) table.now) (known, type.now) × (lowered known ≡ lowered ending.now)) }
+        × Contains {X = List ℕ × List ℕ} (map (λ row. (row.0.now, row.1.now)) table.now) (known, type.now)
+        × (lowered known ≡ lowered ending.now)) }
     ensures none { result ≡ None → (known type : List ℕ)
-        → Contains {X = List ℕ × List ℕ} (map (λ row. (row.0.now, row.1.now)) table.now) (known, type) → lowered known ≢ lowered ending.now }
+        → Contains {X = List ℕ × List ℕ} (map (λ row. (row.0.now, row.1.now)) table.now) (known, type)
+        → lowered known ≢ lowered ending.now }
 {
     for (known, type_) in table {
         if ending.eq_ignore_ascii_case(known) {

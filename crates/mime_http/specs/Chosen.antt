@@ -15,7 +15,8 @@ lowest = (0, 0, 0, 0)
 -- how many bad entries
 pub record IsChosen (ranges : List MediaType) (offered : Header) (chosen : Chosen) : Type 0 where
   pub most : chosen.most ≡ fold (ord_max rank_cmp) lowest (map (merit ranges) offered.ranges)
-  pub best : chosen.most ≢ lowest → position (λ rank. eq_by_cmp rank_cmp rank chosen.most) (map (merit ranges) offered.ranges) ≡ Some chosen.best
+  pub best : chosen.most ≢ lowest
+      → position (λ rank. eq_by_cmp rank_cmp rank chosen.most) (map (merit ranges) offered.ranges) ≡ Some chosen.best
   pub count : chosen.count ≡ length offered.ranges
   pub bad : chosen.bad ≡ length offered.bad
 
