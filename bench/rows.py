@@ -80,7 +80,8 @@ def strings():
 def others():
     yield Row("content_type of a space", "field", " ")
     yield Row("equality of charset=utf-8 and \"charset=UTF-8\"", "eq_str", "text/plain; charset=utf-8", "text/plain; charset=UTF-8")
-    yield Row("equality of charset=utf-8 and \"charset=us-ascii\"", "eq_str", "text/plain; charset=utf-8", "text/plain; charset=us-ascii")
+    yield Row("equality of charset=utf-8 and \"charset=us-ascii\"", "eq_str", "text/plain; charset=utf-8", "text/plain; charset=us-ascii",
+              differs=True)
     yield Row("equality of a/b; p=x; q=y and \"a/b;p=x;q=y\"", "eq_str", "a/b; p=x; q=y", "a/b;p=x;q=y", most=690)
     yield Row("equality with a string rejected late, 2 KB", "eq_str", "a/b; p=\"x\"", f"a/b;p=\"x\";{'(' * 2_038}", most=520,
               differs=True)
