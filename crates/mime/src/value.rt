@@ -6,7 +6,6 @@ ghost use Rattle.mime.specs.Values.{Reads, IsAccepted, lowered, type_of, subtype
 ghost use Rattle.mime.specs.Faults.{Explains};
 ghost use Rattle.mime.specs.Items.{items_of, name_seen, name_text, IsLowIf, IsLowItem, IsFirstAccepted};
 ghost use Rattle.mime.specs.Inner.Scanning.{HasPositions};
-ghost use Rattle.mime.specs.Inner.FirstPairs.{IsKnownAs};
 ghost use Rattle.mime.specs.Inner.KeptText.{IsKept, media_of, AreLowPairs};
 ghost use Rattle.mime.specs.Inner.Known.{IsKnown};
 
@@ -22,7 +21,7 @@ mod traits;
 
 use crate::name::{Name, ParamKey};
 use crate::scan::{
-    ByteReader, FirstPair, FromStrError, NO_PAIR, ParseError, Places, Positions, Verdict, scan,
+    ByteReader, FromStrError, NO_PAIR, ParseError, Places, Positions, Verdict, scan,
 };
 use crate::value::first::FirstWords;
 pub use crate::value::known::KnownText;
@@ -86,7 +85,7 @@ impl Mime {
         }
         let mut reader = ByteReader::by_blocks(s);
         match scan(&mut reader) {
-            Verdict::Accepted(positions) => Mime::of_other(alloc, s, positions, positions.first),
+            Verdict::Accepted(positions) => Mime::of_other(alloc, s, positions),
             Verdict::Unfinished(fault) => Err(FromStrError::new(fault)),
             Verdict::Stopped(byte, _) => {
                 let pos = reader.position(0);
@@ -109,33 +108,25 @@ impl Mime {
         ensures short { length s.now ≤ SHORT → IsOk result }
     {
         if s != "*/*" {
-            return Mime::of_other(alloc, s, positions, NO_PAIR);
+            return Mime::of_other(alloc, s, positions);
         }
         Ok(Mime::star())
     }
 
-    /// The media type of an accepted string, whose parts have these positions, and whose first pair may be known to lie there. The
-    /// only error is that memory ran out.
+    /// The media type of an accepted string, whose parts have these positions, kept as any string is. The only error is
+    /// that memory ran out.
     #[inline(always)]
-    fn of_other(
-        alloc: Global,
-        s: &str,
-        positions: Positions,
-        known: FirstPair,
-    ) -> Result<Mime, FromStrError>
-        requires accepted { HasPositions s.now positions }
-        requires known { IsKnownAs known positions.first }
+    fn of_other(alloc: Global, s: &str, positions: Positions) -> Result<Mime, FromStrError>
+        requires { HasPositions s.now positions }
         ensures read { IfOk result (λ mime. Reads s.now mime.media) }
         ensures memory { IfErr result (λ error. error ≡ ParseError.NoMemory) }
         ensures short { length s.now ≤ SHORT → IsOk result }
     {
-        let places = positions.places;
-        if s.len() <= SHORT {
-            let text = Text::short(s, &positions, known);
-            return Ok(Mime { text, places });
-        }
-        match Text::owned(alloc, s, &positions, known) {
-            Ok(text) => Ok(Mime { text, places }),
+        match Text::keep(alloc, s, &positions) {
+            Ok(text) => Ok(Mime {
+                text,
+                places: positions.places,
+            }),
             Err(_) => Err(FromStrError::new(ParseError::NoMemory)),
         }
     }
@@ -191,7 +182,7 @@ impl Mime {
         ensures fixed { result.fixed ≡ true }
     {
         Mime {
-            text: Text::Fixed(FirstWords::of(positions.first), text),
+            text: Text::Fixed(text, FirstWords::of(positions.first)),
             places: positions.places,
         }
     }

@@ -1,5 +1,5 @@
 -- What an accepted text is kept as, and what a kept text gives.
-use Rattle.std.proofs.Common.{◌≡◌, ℕ, zero, suc, ◌+◌, ◌≤◌, List, [], ◌∷◌, ◌++◌, length, take, drop, Some, refl, inl, inr, sym, ap, ◌∙◌, subst, arith, lit<, append-nil, append_assoc, length-append}
+use Rattle.std.proofs.Common.{◌≡◌, ℕ, zero, suc, ◌+◌, ◌≤◌, List, [], ◌∷◌, ◌++◌, length, take, drop, Some, refl, sym, ap, ◌∙◌, subst, arith, lit<, append-nil, append_assoc, length-append}
 use Rattle.std.specs.Prelude.{◌≢◌, slice_get}
 use Rattle.std.specs.Str.{IsUtf8, IsCharBoundary}
 use Rattle.std.proofs.lemmas.Str.{IsUtf8-take, IsCharBoundary-end}
@@ -9,8 +9,7 @@ use Rattle.mime.specs.Grammar.{Parameter, plain, quoted, text_of_parameter, Para
 use Rattle.mime.specs.Values.{MediaType, Reads, value_of, essence_of, kept_text, lowered, lowered_tree, last_plus, pair_of, pairs_of_list, pairs_of_tail}
 use Rattle.mime.specs.Inner.Pairs.{pairs_within, lowered_within}
 use Rattle.mime.specs.Inner.Scanning.{HasPositions, places_of, positions_of, before_list}
-use Rattle.mime.specs.Inner.FirstPairs.{opening_len, first_of_list, first_of_tail, IsFirstOf, IsKnownAs}
-use Rattle.mime.specs.declared.scan.FirstPair.{FirstPair}
+use Rattle.mime.specs.Inner.FirstPairs.{opening_len, first_of_list, first_of_tail, IsFirstOf}
 use Rattle.mime.specs.Inner.KeptText.{media_of, IsKept, kept_len, with_pairs_lowered, kept_text_of}
 use Rattle.mime.specs.declared.scan.Positions.{Positions}
 use Rattle.mime.proofs.BytesLemmas.{slice_get-prefix, boundary_before}
@@ -307,22 +306,6 @@ first-within text positions has =
         let within = place-within list _ refl in
         let tree : SyntaxTree = tree_with top sub (listed list) in
         (within.0, within.1, omega (arith, within.2, ap length (text_of-essence tree), length-append (essence_of tree) (semicolon_byte ∷ text_of_list list)))
-
--- a place that is known is that of the first pair
-pub known_first : (known first : FirstPair) → IsKnownAs known first → known.equals ≢ 0 → known ≡ first
-known_first known first (inl none) some = absurd (some (ap (λ (p : FirstPair). p.equals) none))
-known_first known first (inr same) some = same
-
--- so it lies in the list
-pub known_there : (text : List ℕ) (positions : Positions) (known : FirstPair) → HasPositions text positions → IsKnownAs known positions.first
-    → positions.places.pair_count ≢ 0 → known.equals ≢ 0 → IsFirstOf (drop (positions.places.essence_end + 1) text) known
-known_there text positions known has is_known some is = rw (known_first known positions.first is_known is) (first-there text positions has some)
-
--- and in the text, and its parts are in order
-pub known_within : (text : List ℕ) (positions : Positions) (known : FirstPair) → HasPositions text positions → IsKnownAs known positions.first
-    → (known.name ≤ known.end) × (known.equals ≤ known.end) × (known.end ≤ length text)
-known_within text positions known has (inl none) = rw none (omega arith, omega arith, omega arith)
-known_within text positions known has (inr same) = rw same (first-within text positions has)
 
 -- an accepted text may be cut after its essence
 pub essence_border : (text : List ℕ) (positions : Positions) → HasPositions text positions → IsCharBoundary text positions.places.essence_end

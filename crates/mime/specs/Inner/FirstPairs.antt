@@ -1,5 +1,5 @@
 -- Where the first pair of a parameter list lies.
-use Rattle.std.specs.Prelude.{◌≡◌, ◌⊎◌, ℕ, ◌+◌, List, length}
+use Rattle.std.specs.Prelude.{◌≡◌, ℕ, ◌+◌, List, length}
 use Rattle.mime.specs.Grammar.{Parameter, plain, quoted, Parameters, blank, final, more, Tail, no_list, listed, text_of_list, AreParameters}
 use Rattle.mime.specs.Values.{pair_of}
 use Rattle.mime.specs.declared.scan.FirstPair.{FirstPair}
@@ -37,7 +37,3 @@ pub record IsFirstOf (list : List ℕ) (first : FirstPair) : Type 0 where
   pub well_formed : AreParameters parameters
   pub spelled : text_of_list parameters ≡ list
   pub there : first_of_list parameters ≡ first
-
--- a place is known to be that of the first pair, or it says nothing
-abbrev pub IsKnownAs : FirstPair → FirstPair → Type 0
-IsKnownAs known first = (known ≡ no_pair) ⊎ (known ≡ first)

@@ -7,14 +7,14 @@ use Rattle.mime.specs.declared.value.text.Text.{Text}
 use Rattle.mime.specs.declared.value.text.Text.TheVariants.{Fixed, Owned, Short}
 
 abbrev pub bytes_of : Text → List ℕ
-bytes_of (Fixed first text) = text.now
-bytes_of (Owned first text) = string_bytes text
-bytes_of (Short first text) = text
+bytes_of (Fixed text first) = text.now
+bytes_of (Owned text first) = string_bytes text
+bytes_of (Short text first) = text
 
 abbrev pub is_fixed : Text → Bool
-is_fixed (Fixed first text) = true
-is_fixed (Owned first text) = false
-is_fixed (Short first text) = false
+is_fixed (Fixed text first) = true
+is_fixed (Owned text first) = false
+is_fixed (Short text first) = false
 
 -- the place of the first pair, in which all are 0 if it isn't known
 abbrev pub place_of_bytes : FirstBytes → FirstPair
@@ -24,6 +24,6 @@ abbrev pub place_of_words : FirstWords → FirstPair
 place_of_words first = record { name = first.name; equals = first.equals; end = first.end }
 
 abbrev pub place_of : Text → FirstPair
-place_of (Fixed first text) = place_of_words first
-place_of (Owned first text) = place_of_words first
-place_of (Short first text) = place_of_bytes first
+place_of (Fixed text first) = place_of_words first
+place_of (Owned text first) = place_of_words first
+place_of (Short text first) = place_of_bytes first

@@ -1,17 +1,16 @@
 //! What is kept of an accepted string, in lowercase where case is ignored.
 
-ghost use Rattle.std.specs.Prelude.{◌≡◌, ◌≢◌, ◌+◌, ◌++◌, ◌≤◌, ◌↔◌, IsFalse, IfOk, take, drop, length, slice_get, slice_range, string_bytes, Some};
-ghost use Rattle.mime.specs.Bytes.{semicolon_byte};
+ghost use Rattle.std.specs.Prelude.{◌≡◌, ◌≢◌, ◌++◌, ◌≤◌, ◌↔◌, IsFalse, IfOk, take, drop, length, slice_range, string_bytes};
 ghost use Rattle.mime.specs.Values.{lowered, is_charset};
 ghost use Rattle.mime.specs.Inner.Pairs.{cut_of, lowered_first, lowered_within};
 ghost use Rattle.mime.specs.Inner.Scanning.{HasPositions};
-ghost use Rattle.mime.specs.Inner.FirstPairs.{IsFirstOf, IsKnownAs};
+ghost use Rattle.mime.specs.Inner.FirstPairs.{IsFirstOf};
 ghost use Rattle.mime.specs.Inner.KeptText.{with_pairs_lowered, kept_len, kept_text_of};
 
 use crate::blocks::Suffix;
 use crate::ignoring_case::eq_ignore_ascii_case;
 use crate::name::constants::CHARSET;
-use crate::scan::{FirstPair, NO_PAIR, Places, Positions};
+use crate::scan::{FirstPair, NO_PAIR, Positions};
 use crate::value::pairs::cut_first;
 use std::alloc::{AllocError, Global};
 
@@ -82,19 +81,20 @@ fn lowercase_pairs(bytes: &mut [u8], list: Suffix<'_>, count: usize, first: Firs
 /// Lowercases, in an accepted string with pairs, everything up to the semicolon, the names, and the values of `charset`.
 /// `bytes` is a copy of the string's bytes.
 #[inline]
-fn lowercase_text(bytes: &mut [u8], text: &str, places: Places, known: FirstPair)
+fn lowercase_text(bytes: &mut [u8], text: &str, positions: &Positions)
     requires same { bytes.old ≡ text.now }
-    requires parted { slice_get text.now places.essence_end ≡ Some semicolon_byte }
-    requires there { known.equals ≢ 0 → IsFirstOf (drop (places.essence_end + 1) text.now) known }
-    ensures { bytes.new ≡ with_pairs_lowered places.pair_count places.essence_end text.now }
+    requires accepted { HasPositions text.now positions.now }
+    requires some { positions.now.places.pair_count ≢ 0 }
+    ensures { bytes.new ≡ with_pairs_lowered positions.now.places.pair_count positions.now.places.essence_end text.now }
 {
+    let Positions { places, first } = *positions;
     let start = places.essence_end + 1;
     lowercase_range(bytes, 0, start);
     lowercase_pairs(
         &mut bytes[start..],
         Suffix::of(text, start),
         places.pair_count,
-        known,
+        first,
     );
 }
 
@@ -112,12 +112,10 @@ pub(crate) fn kept_part<'a>(text: &'a str, positions: &Positions) -> &'a [u8]
 }
 
 /// Lowercases what ignores case in the kept part of an accepted string, with a copy of which `bytes` begins: the essence, or,
-/// if there are pairs, everything up to the semicolon, the names, and the values of `charset`. The first pair may be known to
-/// lie there.
+/// if there are pairs, everything up to the semicolon, the names, and the values of `charset`.
 #[inline(always)]
-pub(crate) fn lowercase(bytes: &mut [u8], text: &str, positions: &Positions, known: FirstPair)
+pub(crate) fn lowercase(bytes: &mut [u8], text: &str, positions: &Positions)
     requires accepted { HasPositions text.now positions.now }
-    requires known { IsKnownAs known positions.now.first }
     requires copied { take (kept_len positions.now.places text.now) bytes.old ≡ take (kept_len positions.now.places text.now) text.now }
     ensures { take (kept_len positions.now.places text.now) bytes.new ≡ kept_text_of positions.now.places text.now }
 {
@@ -125,24 +123,18 @@ pub(crate) fn lowercase(bytes: &mut [u8], text: &str, positions: &Positions, kno
         // All of them at once: if zeros follow, they stay zeros.
         bytes.make_ascii_lowercase();
     } else if has_capital(bytes) {
-        lowercase_text(&mut bytes[..text.len()], text, positions.places, known);
+        lowercase_text(&mut bytes[..text.len()], text, positions);
     }
 }
 
-/// The kept text of an accepted string, in one allocation. Its first pair may be known to lie there.
+/// The kept text of an accepted string, in one allocation.
 #[inline(always)]
-pub(crate) fn keep(
-    alloc: Global,
-    text: &str,
-    positions: &Positions,
-    known: FirstPair,
-) -> Result<String, AllocError>
-    requires accepted { HasPositions text.now positions.now }
-    requires known { IsKnownAs known positions.now.first }
+pub(crate) fn keep(alloc: Global, text: &str, positions: &Positions) -> Result<String, AllocError>
+    requires { HasPositions text.now positions.now }
     ensures { IfOk result (λ kept. string_bytes kept ≡ kept_text_of positions.now.places text.now) }
 {
     let mut bytes = Vec::from_slice(alloc, kept_part(text, positions))?;
-    lowercase(&mut bytes, text, positions, known);
+    lowercase(&mut bytes, text, positions);
     // SAFETY: these are the bytes of a `str`, in which only ASCII capitals were lowercased: so they are UTF-8.
     Ok(unsafe { String::from_utf8_unchecked(bytes) })
 }

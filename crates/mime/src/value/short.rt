@@ -2,10 +2,9 @@
 
 ghost use Rattle.std.specs.Prelude.{◌≡◌, ◌≤◌, IsUtf8, length, take};
 ghost use Rattle.mime.specs.Inner.Scanning.{HasPositions};
-ghost use Rattle.mime.specs.Inner.FirstPairs.{IsKnownAs};
 ghost use Rattle.mime.specs.Inner.KeptText.{kept_text_of};
 
-use crate::scan::{FirstPair, Positions};
+use crate::scan::Positions;
 use crate::value::kept::{kept_part, lowercase};
 use std::marker::Model;
 
@@ -18,7 +17,7 @@ const BLOCK: usize = 48;
 /// A text of at most `SHORT` bytes. Zeros follow it.
 #[derive(Drop)]
 pub(crate) struct ShortText {
-    len: u32,
+    len: u8,
     bytes: [u8; SHORT],
 }
 
@@ -30,6 +29,17 @@ impl Model for ShortText {
     ghost view = { λ short. take short.len short.bytes };
 
     ghost invariant = { λ short. (short.len ≤ 40) × IsUtf8 (take short.len short.bytes) };
+}
+
+/// Bytes, with zeros after them.
+#[inline(always)]
+fn padded(short: &[u8]) -> [u8; BLOCK]
+    requires { length short.now ≤ SHORT }
+    ensures { take (length short.now) result ≡ short.now }
+{
+    let mut bytes = [0; BLOCK];
+    bytes[..short.len()].copy_from_slice(short);
+    bytes
 }
 
 impl ShortText {
@@ -63,7 +73,7 @@ impl ShortText {
         let mut bytes = [0; SHORT];
         bytes.copy_from_slice(&block[..SHORT]);
         ShortText {
-            len: len as u32,
+            len: len as u8,
             bytes,
         }
     }
@@ -74,23 +84,19 @@ impl ShortText {
         requires { length text.now ≤ SHORT }
         ensures { result ≡ text.now }
     {
-        let mut block = [0; BLOCK];
-        block[..text.len()].copy_from_slice(text.as_bytes());
-        ShortText::of(&block, text.len())
+        ShortText::of(&padded(text.as_bytes()), text.len())
     }
 
-    /// The kept text of an accepted string of at most `SHORT` bytes, whose first pair may be known to lie there.
+    /// The kept text of an accepted string of at most `SHORT` bytes.
     #[inline(always)]
-    pub(crate) fn keep(text: &str, positions: &Positions, known: FirstPair) -> ShortText
+    pub(crate) fn keep(text: &str, positions: &Positions) -> ShortText
         requires accepted { HasPositions text.now positions.now }
-        requires known { IsKnownAs known positions.now.first }
         requires short { length text.now ≤ SHORT }
         ensures { result ≡ kept_text_of positions.now.places text.now }
     {
         let part = kept_part(text, positions);
-        let mut block = [0; BLOCK];
-        block[..part.len()].copy_from_slice(part);
-        lowercase(&mut block, text, positions, known);
-        ShortText::of(&block, part.len())
+        let mut bytes = padded(part);
+        lowercase(&mut bytes, text, positions);
+        ShortText::of(&bytes, part.len())
     }
 }

@@ -2,7 +2,6 @@
 
 ghost use Rattle.std.specs.Prelude.{◌≡◌, ◌≢◌, ◌≤◌, true, false, IfOk, IsOk, length, string_bytes};
 ghost use Rattle.mime.specs.Inner.Scanning.{HasPositions};
-ghost use Rattle.mime.specs.Inner.FirstPairs.{IsKnownAs};
 ghost use Rattle.mime.specs.Inner.KeptText.{kept_text_of};
 ghost use Rattle.mime.specs.Inner.KeptBytes.{bytes_of, place_of, is_fixed};
 
@@ -16,42 +15,31 @@ use std::alloc::{AllocError, Global};
 /// string, else allocated. `Short` stands last, so that one comparison tells it from the two that hold a pointer and a length.
 #[derive(Drop)]
 pub(crate) enum Text {
-    Fixed(FirstWords, &'static str),
-    Owned(FirstWords, String),
-    Short(FirstBytes, ShortText),
+    Fixed(&'static str, FirstWords),
+    Owned(String, FirstWords),
+    Short(ShortText, FirstBytes),
 }
 
 impl Text {
-    /// The kept text of an accepted string of at most `SHORT` bytes, whose first pair may be known to lie there.
+    /// The kept text of an accepted string. It allocates only for one of more than `SHORT` bytes.
     #[inline(always)]
-    pub(crate) fn short(text: &str, positions: &Positions, known: FirstPair) -> Text
-        requires accepted { HasPositions text.now positions.now }
-        requires known { IsKnownAs known positions.now.first }
-        requires short { length text.now ≤ SHORT }
-        ensures text { bytes_of result ≡ kept_text_of positions.now.places text.now }
-        ensures first { place_of result ≡ known }
-        ensures low { is_fixed result ≡ false }
-    {
-        let first = FirstBytes::of(known);
-        Text::Short(first, ShortText::keep(text, positions, known))
-    }
-
-    /// The kept text of any accepted string, in one allocation. Its first pair may be known to lie there.
-    #[inline(always)]
-    pub(crate) fn owned(
-        alloc: Global,
-        text: &str,
-        positions: &Positions,
-        known: FirstPair,
-    ) -> Result<Text, AllocError>
-        requires accepted { HasPositions text.now positions.now }
-        requires known { IsKnownAs known positions.now.first }
+    pub(crate) fn keep(alloc: Global, text: &str, positions: &Positions) -> Result<Text, AllocError>
+        requires { HasPositions text.now positions.now }
         ensures text { IfOk result (λ kept. bytes_of kept ≡ kept_text_of positions.now.places text.now) }
-        ensures first { IfOk result (λ kept. (place_of kept).equals ≢ 0 → place_of kept ≡ known) }
+        ensures first { IfOk result (λ kept. (place_of kept).equals ≢ 0 → place_of kept ≡ positions.now.first) }
         ensures low { IfOk result (λ kept. is_fixed kept ≡ false) }
+        ensures short { length text.now ≤ SHORT → IsOk result }
     {
-        let first = FirstWords::of(known);
-        Ok(Text::Owned(first, keep(alloc, text, positions, known)?))
+        if text.len() <= SHORT {
+            return Ok(Text::Short(
+                ShortText::keep(text, positions),
+                FirstBytes::of(positions.first),
+            ));
+        }
+        Ok(Text::Owned(
+            keep(alloc, text, positions)?,
+            FirstWords::of(positions.first),
+        ))
     }
 
     /// A text as it is, with no more room than it needs.
@@ -62,13 +50,13 @@ impl Text {
         ensures short { length (string_bytes text) ≤ SHORT → IsOk result }
     {
         if text.len() <= SHORT {
-            return Ok(Text::Short(FirstBytes::of(NO_PAIR), ShortText::copied(&text)));
+            return Ok(Text::Short(ShortText::copied(&text), FirstBytes::of(NO_PAIR)));
         }
         let first = FirstWords::of(NO_PAIR);
         if text.capacity() == text.len() {
-            return Ok(Text::Owned(first, text));
+            return Ok(Text::Owned(text, first));
         }
-        Ok(Text::Owned(first, String::from_str(alloc, &text)?))
+        Ok(Text::Owned(String::from_str(alloc, &text)?, first))
     }
 
     /// A copy of it. It allocates only for an allocated one.
@@ -80,9 +68,9 @@ impl Text {
         ensures free { is_fixed self.now ≡ true → IsOk result }
     {
         Ok(match self {
-            Text::Fixed(first, text) => Text::Fixed(*first, text),
-            Text::Owned(first, text) => Text::Owned(*first, text.clone()?),
-            Text::Short(first, text) => Text::Short(*first, text.copy()),
+            Text::Fixed(text, first) => Text::Fixed(text, *first),
+            Text::Owned(text, first) => Text::Owned(text.clone()?, *first),
+            Text::Short(text, first) => Text::Short(text.copy(), *first),
         })
     }
 
@@ -91,9 +79,9 @@ impl Text {
         ensures { result.now ≡ bytes_of self.now }
     {
         match self {
-            Text::Fixed(_, text) => text,
-            Text::Owned(_, text) => text.as_str(),
-            Text::Short(_, text) => text.as_str(),
+            Text::Fixed(text, _) => text,
+            Text::Owned(text, _) => text.as_str(),
+            Text::Short(text, _) => text.as_str(),
         }
     }
 
@@ -103,9 +91,9 @@ impl Text {
         ensures { result ≡ place_of self.now }
     {
         match self {
-            Text::Fixed(first, _) => first.place(),
-            Text::Owned(first, _) => first.place(),
-            Text::Short(first, _) => first.place(),
+            Text::Fixed(_, first) => first.place(),
+            Text::Owned(_, first) => first.place(),
+            Text::Short(_, first) => first.place(),
         }
     }
 }

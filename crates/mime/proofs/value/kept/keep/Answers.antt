@@ -14,10 +14,10 @@ kept c =
     let bytes = c.lowercase.new.bytes in
     let places = c.args.positions.now.places in
     let size = c.lowercase.auto.bytes ∙ c.deref_mut.ensures.len in
-    let part = ap length c.kept_part.ensures ∙ length-kept_part _ _ c.requires.accepted in
+    let part = ap length c.kept_part.ensures ∙ length-kept_part _ _ c.requires in
     take_at bytes (drop (length bytes) c.in_ok-bytes.bytes.items) c.in_ok-bytes.bytes.len size
     ∙ sym (take_all (kept_len places c.args.text.now) bytes (omega (arith, size, c.in_ok-bytes.ensures.len, part))) ∙ c.lowercase.ensures
 
 pub from_utf8_unchecked-requires : goal.from_utf8_unchecked-requires
 from_utf8_unchecked-requires c =
-    subst IsUtf8 (sym (kept (goal.at.from_utf8_unchecked-requires c).After-lowercase)) (kept-utf8 _ _ c.requires.accepted c.utf8.text)
+    subst IsUtf8 (sym (kept (goal.at.from_utf8_unchecked-requires c).After-lowercase)) (kept-utf8 _ _ c.requires c.utf8.text)

@@ -5,7 +5,7 @@ use Rattle.mime.specs.Values.{lowered}
 use Rattle.mime.specs.Inner.KeptText.{kept_len, kept_text_of, with_pairs_lowered}
 use Rattle.mime.specs.declared.scan.Places.{Places}
 use Rattle.mime.proofs.LowercaseLemmas.{lowered-take}
-use Rattle.mime.proofs.ValueLemmas.KeptText.{slice_get-semicolon, known_there, kept-in_part}
+use Rattle.mime.proofs.ValueLemmas.KeptText.{kept-in_part}
 use Rattle.mime.proofs.ValueLemmas.Utf8.{low-in_part}
 use Rattle.mime.proofs.value.kept.lowercase.Goals as goal
 
@@ -52,9 +52,3 @@ returns-else-has_capital c =
     let low : lowered text ≡ text
     = ap lowered (sym copied) ∙ lowered-take (length text) c.args.bytes.now ∙ ap (take (length text)) (c.has_capital.ensures.0 c.if-has_capital.false) ∙ copied in
     whole_kept places text _ c.if-positions-eq0.false (copied ∙ sym (low-in_part text _ (kept-in_part places.pair_count places.essence_end text) low))
-
-pub lowercase_text-requires-clause-parted : goal.lowercase_text-requires-clause-parted
-lowercase_text-requires-clause-parted c = slice_get-semicolon _ _ c.requires.accepted c.if-positions-eq0.false
-
-pub lowercase_text-requires-clause-there : goal.lowercase_text-requires-clause-there
-lowercase_text-requires-clause-there c = known_there _ _ _ c.requires.accepted c.requires.known c.if-positions-eq0.false
