@@ -4,8 +4,7 @@ use Rattle.std.proofs.lemmas.List.{map-append}
 use Rattle.std.proofs.lemmas.List.Concat.{flat_map-append}
 use Rattle.mime.specs.Grammar.{Parameter, plain, quoted, Parameters, blank, final, more, Tail, no_list, listed, SyntaxTree, text_of, text_of_parameter, text_of_list, text_of_tail, IsToken}
 use Rattle.mime.specs.Values.{MediaType, Reads, pair_of, pairs_of_list, pairs_of_tail, essence_of, kept_text}
-use Rattle.mime.specs.Inner.Scanning.{places_of}
-use Rattle.mime.specs.declared.scan.Places.{Places}
+use Rattle.mime.specs.Inner.Scanning.{positions_of}
 use Rattle.mime.specs.Inner.KeptText.{kept_text_of}
 use Rattle.mime.specs.Cut.{CutItem, ItemsOf, is_read, is_rejected, is_empty, Cut, whole, unfinished, goes_on}
 use Rattle.mime.proofs.LowercaseLemmas.{length-lowered}
@@ -64,12 +63,10 @@ lengths-low text tree size some =
     )
 
 -- a kept text is no longer than the text that it is of,
-length-kept : (places : Places) (text : List ℕ) → length (kept_text_of places text) ≤ length text
-length-kept places text = go places.pair_count
-  where
-    go : (pairs : ℕ) → length (kept_text_of (record places { pair_count = pairs }) text) ≤ length text
-    go zero = omega (arith, length-lowered (take places.essence_end text), length-take places.essence_end text)
-    go (suc pairs) = omega (arith, length-in_part _ _ (kept-in_part (suc pairs) places.essence_end text))
+length-kept : (pairs : ℕ) (semicolon : Option ℕ) (text : List ℕ) → length (kept_text_of pairs semicolon text) ≤ length text
+length-kept pairs None text = omega (arith, length-lowered text)
+length-kept zero (Some semicolon) text = omega (arith, length-lowered (take semicolon text), length-take semicolon text)
+length-kept (suc pairs) (Some semicolon) text = omega (arith, length-in_part _ _ (kept-in_part (suc pairs) semicolon text))
 
 -- which has a type, a slash and a subtype
 some-token : (token : List ℕ) → IsToken token → 0 < length token
@@ -87,7 +84,7 @@ lengths_of text media reads =
     let kept = keeps.is_kept.has in
     let size = ap length kept.spelled in
     subst (Lengths text) (sym (sym reads.valued ∙ keeps.valued ∙ value_of-lowering kept.tree ∙ ap value_of_low keeps.is_kept.low))
-    (lengths-low text kept.tree (omega (arith, length-kept (places_of tree) (text_of tree))) some)
+    (lengths-low text kept.tree (omega (arith, length-kept (positions_of tree).pair_count (positions_of tree).semicolon (text_of tree))) some)
 
 -- the strings of a media type are at most twice as many bytes as the text that is read as it, and two
 pub texts_fit : (text : List ℕ) (media : MediaType) → Reads text media → length (strings (texts_of media)) ≤ 2 * length text + 2
