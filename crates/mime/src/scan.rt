@@ -79,10 +79,7 @@ impl Positions {
         requires { self.places.pair_count + 1 < 2 ^ 64 }
         ensures { result ≡ and_pair self pair }
     {
-        let Positions {
-            mut places,
-            mut first,
-        } = self;
+        let Positions { mut places, mut first } = self;
         if places.pair_count == 0 {
             first = pair;
         }

@@ -150,7 +150,8 @@ cut_begun list first utf8 b = go b.parameter b.text b.well b.there (begun_cut li
         let starts = token_first value well.1 in
         let byte : slice_get list (first.equals + 1) ≡ Some starts.0 =
         byte_is list head (starts.1 ++ b.follow) starts.0 (first.equals + 1) (parts ∙ ap (λ x. head ++ (x ++ b.follow)) starts.2) head_size in
-        let left : drop first.end list ≡ b.follow = ap (drop first.end) whole ∙ drop_at (head ++ value) b.follow first.end whole_size in (
+        let left : drop first.end list ≡ b.follow = ap (drop first.end) whole ∙ drop_at (head ++ value) b.follow first.end whole_size in
+        (
           false,
           ap (λ x. x == quote_byte) (get_or_from_slice_get list (first.equals + 1) starts.0 0 byte) ∙ starts.3,
           record {
@@ -186,7 +187,8 @@ cut_begun list first utf8 b = go b.parameter b.text b.well b.there (begun_cut li
         let whole_size : length (head ++ content) ≡ first.end = omega (arith, head_size, at_equals, at_end, length-append head content) in
         let closing = byte_is list (head ++ content) (m ++ b.follow) quote_byte first.end whole whole_size in
         let left : drop (first.end + 1) list ≡ m ++ b.follow =
-        ap (drop (first.end + 1)) whole ∙ drop_past quote_byte (head ++ content) _ (m ++ b.follow) first.end (ended _) whole_size in (
+        ap (drop (first.end + 1)) whole ∙ drop_past quote_byte (head ++ content) _ (m ++ b.follow) first.end (ended _) whole_size in
+        (
           true,
           ap (λ x. x == quote_byte) (get_or_from_slice_get list (first.equals + 1) quote_byte 0 quote),
           record {

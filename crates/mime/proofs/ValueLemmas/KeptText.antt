@@ -120,12 +120,8 @@ keeps_essence : (top sub : List ℕ) (tail : Tail) → IsWellFormed (tree_with t
 keeps_essence top sub tail well valued =
     let essence = take-essence (tree_with top sub tail) in
     keeps_as _ (tree_with top sub no_list) _ well
-    (omega (
-      arith,
-      length-lowered (take (length top + 1 + length sub) (text_of (tree_with top sub tail))),
-      ap length essence,
-      length-essence_of (tree_with top sub tail),
-    ))
+    (omega (arith, length-lowered (take (length top + 1 + length sub) (text_of (tree_with top sub tail))), ap length essence,
+    length-essence_of (tree_with top sub tail)))
     (essence_text top sub _ essence) valued
 
 -- every accepted text is kept so
@@ -280,17 +276,9 @@ place-within : (list : Parameters) (text : List ℕ) → text_of_list list ≡ t
 place-within (blank n) text is = (omega arith, omega arith, omega arith)
 place-within (final n p) text is =
     (omega arith, omega arith, omega (arith, ap length is, length-append n (text_of_parameter p), length-parameter p))
-place-within (more n p rest) text is = (
-  omega arith,
-  omega arith,
-  omega (
-    arith,
-    ap length is,
-    length-append n (text_of_parameter p ++ (semicolon_byte ∷ text_of_list rest)),
-    length-append (text_of_parameter p) (semicolon_byte ∷ text_of_list rest),
-    length-parameter p,
-  ),
-)
+place-within (more n p rest) text is =
+    (omega arith, omega arith, omega (arith, ap length is, length-append n (text_of_parameter p ++ (semicolon_byte ∷ text_of_list rest)),
+    length-append (text_of_parameter p) (semicolon_byte ∷ text_of_list rest), length-parameter p))
 
 -- so it does in the whole text
 pub first-within : (text : List ℕ) (positions : Positions) → HasPositions text positions

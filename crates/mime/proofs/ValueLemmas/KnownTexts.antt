@@ -4,7 +4,7 @@ use Rattle.std.specs.Prelude.{unwrap_or}
 use Rattle.std.proofs.lemmas.List.{length-take-le}
 use Rattle.mime.specs.Grammar.{text_of}
 use Rattle.mime.specs.Values.{MediaType, Reads, kept_text, lowered_tree, pairs_of_tail}
-use Rattle.mime.specs.Inner.Scanning.{places_of}
+use Rattle.mime.specs.Inner.Scanning.{places_of, positions_of}
 use Rattle.mime.specs.Inner.FirstPairs.{first_of_tail}
 use Rattle.mime.specs.Inner.KeptText.{media_of, IsKept, kept_len}
 use Rattle.mime.specs.declared.scan.FirstPair.{FirstPair}
@@ -32,20 +32,18 @@ known_kept mine places first text pairs count is_kept reads counted some =
     ∙ length-take-le places.essence_end mine (essence-within _ _ is_kept.has) in
     let number : (places_of low).pair_count ≡ count = ap (λ (v : MediaType). length v.pairs) valued ∙ counted in
     let slash : (places_of low).slash ≡ places.slash = ap (λ (v : MediaType). v.slash) valued in
-    let same : places_of low ≡ with_count places count = cc (slash, plus, end, number) in (
-      first_of_tail low.tail,
-      record {
-        has = record {
-          tree = tree;
-          well_formed = reads.well_formed;
-          spelled = reads.spelled;
-          same_positions = sym (positions_of-lowered_tree tree) ∙ cc same;
-        };
-        low = one_tree low tree (IsWellFormed-lowered_tree tree reads.well_formed) reads.well_formed
-            (is_text (pairs_of_tail low.tail) (number ∙ refl) (ap (λ (v : MediaType). v.kept) valued) ∙ sym reads.spelled);
-        kept = whole count some;
-      },
-    )
+    let same : places_of low ≡ with_count places count = cc (slash, plus, end, number) in
+    (first_of_tail low.tail, record {
+      has = record {
+        tree = tree;
+        well_formed = reads.well_formed;
+        spelled = reads.spelled;
+        same_positions = sym (positions_of-lowered_tree tree) ∙ cc same;
+      };
+      low = one_tree low tree (IsWellFormed-lowered_tree tree reads.well_formed) reads.well_formed
+          (is_text (pairs_of_tail low.tail) (number ∙ refl) (ap (λ (v : MediaType). v.kept) valued) ∙ sym reads.spelled);
+      kept = whole count some;
+    })
   where
     is_text : (found : List (List ℕ × List ℕ)) → length found ≡ count → kept_text found (lowered_tree reads.tree) ≡ text
         → text_of (lowered_tree reads.tree) ≡ text

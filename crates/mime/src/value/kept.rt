@@ -90,12 +90,7 @@ fn lowercase_text(bytes: &mut [u8], text: &str, positions: &Positions)
     let Positions { places, first } = *positions;
     let start = places.essence_end + 1;
     lowercase_range(bytes, 0, start);
-    lowercase_pairs(
-        &mut bytes[start..],
-        Suffix::of(text, start),
-        places.pair_count,
-        first,
-    );
+    lowercase_pairs(&mut bytes[start..], Suffix::of(text, start), places.pair_count, first);
 }
 
 /// The bytes of an accepted string that are kept: an empty parameter list is dropped.

@@ -275,12 +275,7 @@ impl<'a> Model for Pairs<'a> {
 impl<'a> Pairs<'a> {
     /// The first `count` pairs after a string's semicolon, which is at this position. The first may be known to lie there.
     #[inline(always)]
-    pub(crate) fn after(
-        text: &'a str,
-        semicolon: usize,
-        count: usize,
-        first: FirstPair,
-    ) -> Pairs<'a>
+    pub(crate) fn after(text: &'a str, semicolon: usize, count: usize, first: FirstPair) -> Pairs<'a>
         requires semicolon { slice_get text.now semicolon ≡ Some semicolon_byte }
         requires first { first.equals ≢ 0 → IsFirstOf (drop (semicolon + 1) text.now) first }
         ensures { result ≡ pairs_within count (drop (semicolon + 1) text.now) }
@@ -324,7 +319,11 @@ impl<'a> Pairs<'a> {
 /// The value of the first of a list's first `count` pairs whose name a key accepts. If the last name isn't accepted, its value
 /// isn't searched for its end. It isn't inlined: most lists have one pair, whose place is known.
 #[inline(never)]
-fn first_accepted_in<'a, K: ParamKey>(list: Suffix<'a>, count: usize, key: &K) -> Option<Name<'a>>
+fn first_accepted_in<'a, K: ParamKey>(
+    list: Suffix<'a>,
+    count: usize,
+    key: &K,
+) -> Option<Name<'a>>
     requires { AreLowPairs (pairs_within count list) }
     ensures found { IsFirstAccepted (K.Accepts key.now) (items_of (pairs_within count list.entry)) (option_map name_seen result) }
     ensures low { IfSome result (λ name. IsLowIf name.ignores_case name.text.now) }

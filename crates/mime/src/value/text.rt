@@ -50,7 +50,10 @@ impl Text {
         ensures short { length (string_bytes text) ≤ SHORT → IsOk result }
     {
         if text.len() <= SHORT {
-            return Ok(Text::Short(ShortText::copied(&text), FirstBytes::of(NO_PAIR)));
+            return Ok(Text::Short(
+                ShortText::copied(&text),
+                FirstBytes::of(NO_PAIR),
+            ));
         }
         let first = FirstWords::of(NO_PAIR);
         if text.capacity() == text.len() {

@@ -9,8 +9,8 @@ ghost use Rattle.mime.specs.Comparison.{Same, IsOrderOf, pair_cmp, media_cmp};
 ghost use Rattle.mime.specs.Inner.HashInput.{media_input, media_input-same};
 ghost use Rattle.mime.specs.Inner.OrderLaws.{media_cmp_total, same_from_cmp};
 
-use crate::value::Mime;
 use crate::value::hashing::feed_pairs;
+use crate::value::Mime;
 use std::alloc::AllocError;
 use std::cmp::Ordering;
 use std::fmt;

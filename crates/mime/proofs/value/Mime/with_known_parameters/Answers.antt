@@ -1,8 +1,9 @@
 -- The parts of the essence are those of this one, and the text is kept as it is.
-use Rattle.std.proofs.Common.{sym, subst, string_bytes}
-use Rattle.mime.specs.Values.{OwnedMedia, Reads}
+use Rattle.std.proofs.Common.{◌≡◌, ◌∙◌, sym, ap, subst, List, ℕ, string_bytes}
+use Rattle.mime.specs.Values.{MediaType, OwnedMedia, Reads}
 use Rattle.mime.specs.Inner.KeptText.{IsKept}
 use Rattle.mime.specs.declared.scan.FirstPair.{FirstPair}
+use Rattle.mime.specs.declared.scan.Places.{Places}
 use Rattle.mime.proofs.ValueLemmas.KeptText.{reads-from_kept}
 use Rattle.mime.proofs.ValueLemmas.KnownTexts.{known_kept}
 use Rattle.mime.proofs.value.Mime.with_known_parameters.Goals.{In_ok-text}

@@ -1,5 +1,6 @@
 -- A semicolon is ASCII: the text may be cut after it, and a list follows.
-use Rattle.std.proofs.Common.{lit<}
+use Rattle.std.proofs.Common.{lit<, subst, sym}
+use Rattle.mime.specs.Inner.FirstPairs.{IsFirstOf}
 use Rattle.mime.proofs.BytesLemmas.{boundary_after}
 use Rattle.mime.proofs.ValueLemmas.KeptText.{slice_get-semicolon, first-there}
 use Rattle.mime.proofs.value.kept.lowercase_text.Goals as goal

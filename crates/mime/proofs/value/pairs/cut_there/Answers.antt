@@ -1,7 +1,7 @@
 -- The list is cut where its first pair lies.
-use Rattle.std.proofs.Common.{◌∙◌, ◌+◌, Bool, true, false, cond, List, ℕ, get_or, ap, subst}
+use Rattle.std.proofs.Common.{◌≡◌, ◌∙◌, ◌+◌, Bool, true, false, cond, List, ℕ, get_or, slice_range, drop, sym, ap, subst}
 use Rattle.std.specs.Prelude.{◌==◌}
-use Rattle.std.specs.Str.{IsUtf8}
+use Rattle.std.specs.Str.{IsUtf8, IsCharBoundary}
 use Rattle.mime.specs.Bytes.{quote_byte, semicolon_byte}
 use Rattle.mime.specs.Inner.Blocks.{after_byte}
 use Rattle.mime.specs.declared.scan.FirstPair.{FirstPair}

@@ -3,6 +3,7 @@ use Rattle.std.proofs.Common.{◌≡◌, ◌∙◌, ◌-◌, ℕ, List, Bool, Op
 use Rattle.std.specs.Str.{bytes_eq}
 use Rattle.mime.specs.Inner.Pairs.{cut_of, pairs_within}
 use Rattle.mime.specs.Items.{items_of, IsFirstAccepted}
+use Rattle.mime.specs.Inner.KeptText.{AreLowPairs}
 use Rattle.mime.proofs.ValueLemmas.Parts.{first_value-low, rest-low}
 use Rattle.mime.proofs.ValueLemmas.Pairs.{found-first, found-next}
 use Rattle.mime.proofs.value.pairs.Pairs.first_accepted.Given.{Over}
