@@ -10,8 +10,7 @@ use Rattle.std.proofs.lemmas.Str.Ascii.{lowercase-lowercase}
 use Rattle.mime.specs.Bytes.{is_token_byte}
 use Rattle.mime.specs.Grammar.{Parameter, plain, quoted, Parameters, blank, final, more, Tail, no_list, listed, SyntaxTree, IsToken, IsContent, IsParameter, AreParameters, IsTail, IsWellFormed}
 use Rattle.mime.specs.Values.{lowered, is_charset, lowered_value, lowered_parameter, lowered_list, lowered_tail, lowered_tree, last_plus, pair_of, pairs_of_list, pairs_of_tail}
-use Rattle.mime.specs.Inner.FirstPairs.{place_after, first_of_tail}
-use Rattle.mime.specs.Inner.Scanning.{positions_of}
+use Rattle.mime.specs.Inner.Scanning.{positions_of, semicolon_of}
 use Rattle.mime.specs.Inner.KeptText.{IsLowPair, lowered_pair}
 use Rattle.mime.proofs.GrammarLemmas.Content.{IsContent-case}
 use Rattle.std.specs.List.{list_all}
@@ -149,23 +148,15 @@ pairs_of_tail-lowered (listed list) = pairs_of_list-lowered list
 pub length-tail_lowered : (tail : Tail) → length (pairs_of_tail (lowered_tail tail)) ≡ length (pairs_of_tail tail)
 length-tail_lowered tail = ap length (pairs_of_tail-lowered tail) ∙ length-map (pairs_of_tail tail) lowered_pair
 
--- lowercasing keeps the length of a value, and the place of the first pair
-length-lowered_value : (name value : List ℕ) → length (lowered_value name value) ≡ length value
-length-lowered_value name value = lowered_value-either (λ it. length it ≡ length value) name value refl (length-lowered value)
-
-place_after-lowered : (spaces : ℕ) (p : Parameter) → place_after spaces (lowered_parameter p) ≡ place_after spaces p
-place_after-lowered spaces (plain name value) = cc (length-lowered name, length-lowered_value name value)
-place_after-lowered spaces (quoted name content n) = cc (length-lowered name, length-lowered_value name content)
-
-first_of_tail-lowered : (tail : Tail) → first_of_tail (lowered_tail tail) ≡ first_of_tail tail
-first_of_tail-lowered no_list = refl
-first_of_tail-lowered (listed (blank n)) = refl
-first_of_tail-lowered (listed (final n p)) = place_after-lowered (length n) p
-first_of_tail-lowered (listed (more n p rest)) = place_after-lowered (length n) p
+-- lowercasing keeps the position of the semicolon
+semicolon_of-lowered : (at : ℕ) (tail : Tail) → semicolon_of at (lowered_tail tail) ≡ semicolon_of at tail
+semicolon_of-lowered at no_list = refl
+semicolon_of-lowered at (listed list) = refl
 
 -- lowercasing moves no part
 pub positions_of-lowered_tree : (tree : SyntaxTree) → positions_of (lowered_tree tree) ≡ positions_of tree
 positions_of-lowered_tree tree =
+    let at = length tree.top + 1 + length tree.sub in
     let plus = last_plus-lowered (length tree.top + 2) (drop 1 tree.sub) in
     rw (length-lowered tree.top, length-lowered tree.sub, ← lowered-drop 1 tree.sub)
-    (cc (length-tail_lowered tree.tail, plus, first_of_tail-lowered tree.tail))
+    (cc (semicolon_of-lowered at tree.tail, length-tail_lowered tree.tail, plus))

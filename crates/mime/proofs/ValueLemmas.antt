@@ -2,9 +2,7 @@
 pub mod Utf8
 pub mod Pairs
 pub mod ListText
-pub mod FirstPairs
 pub mod KeptText
-pub mod KnownTexts
 pub mod Parts
 pub mod Places
 pub mod Reading

@@ -5,7 +5,6 @@ pub mod Remaining
 pub mod Quoted
 pub mod Members
 pub mod KnownStops
-pub mod FirstPairs
 pub mod Scanning
 pub mod Blocks
 pub mod Pairs
@@ -13,6 +12,7 @@ pub mod KeptText
 pub mod ComparedText
 pub mod OrderLaws
 pub mod HashInput
+pub mod KeptPlaces
 pub mod Known
 pub mod KeptBytes
 pub mod BetweenCalls

@@ -6,7 +6,7 @@ ghost use Rattle.mime.specs.Values.{Reads};
 ghost use Rattle.mime.specs.Atoms.{atom_text};
 ghost use Rattle.mime.specs.Inner.KeptText.{positions_in};
 
-use crate::scan::{FirstPair, NO_PAIR, Places, Positions};
+use crate::scan::Positions;
 use crate::value::Mime;
 use std::fmt;
 
@@ -104,51 +104,49 @@ pub enum Atom {
 /// The old spelling of [`TEXT_JAVASCRIPT`].
 pub const TEXT_JAVSCRIPT: Atom = Atom::TEXT_JAVASCRIPT;
 
-/// A constant's string, with the positions of its slash, of its plus or 0, and of the end of its essence.
-type Row = (&'static str, usize, usize, usize);
+/// A constant's string, with the positions of its slash, its plus and its semicolon.
+type Row = (&'static str, usize, Option<usize>, Option<usize>);
 
 /// The constants, in the order of [`Atom`].
 static TABLE: [Row; 32] = [
-    ("*/*", 1, 0, 3),
-    ("text/*", 4, 0, 6),
-    ("text/plain", 4, 0, 10),
-    ("text/plain; charset=utf-8", 4, 0, 10),
-    ("text/html", 4, 0, 9),
-    ("text/html; charset=utf-8", 4, 0, 9),
-    ("text/css", 4, 0, 8),
-    ("text/css; charset=utf-8", 4, 0, 8),
-    ("text/javascript", 4, 0, 15),
-    ("text/xml", 4, 0, 8),
-    ("text/event-stream", 4, 0, 17),
-    ("text/csv", 4, 0, 8),
-    ("text/csv; charset=utf-8", 4, 0, 8),
-    ("text/tab-separated-values", 4, 0, 25),
-    ("text/tab-separated-values; charset=utf-8", 4, 0, 25),
-    ("text/vcard", 4, 0, 10),
-    ("image/*", 5, 0, 7),
-    ("image/jpeg", 5, 0, 10),
-    ("image/gif", 5, 0, 9),
-    ("image/png", 5, 0, 9),
-    ("image/bmp", 5, 0, 9),
-    ("image/svg+xml", 5, 9, 13),
-    ("font/woff", 4, 0, 9),
-    ("font/woff2", 4, 0, 10),
-    ("application/json", 11, 0, 16),
-    ("application/javascript", 11, 0, 22),
-    ("application/javascript; charset=utf-8", 11, 0, 22),
-    ("application/x-www-form-urlencoded", 11, 0, 33),
-    ("application/octet-stream", 11, 0, 24),
-    ("application/msgpack", 11, 0, 19),
-    ("application/pdf", 11, 0, 15),
-    ("multipart/form-data", 9, 0, 19),
+    ("*/*", 1, None, None),
+    ("text/*", 4, None, None),
+    ("text/plain", 4, None, None),
+    ("text/plain; charset=utf-8", 4, None, Some(10)),
+    ("text/html", 4, None, None),
+    ("text/html; charset=utf-8", 4, None, Some(9)),
+    ("text/css", 4, None, None),
+    ("text/css; charset=utf-8", 4, None, Some(8)),
+    ("text/javascript", 4, None, None),
+    ("text/xml", 4, None, None),
+    ("text/event-stream", 4, None, None),
+    ("text/csv", 4, None, None),
+    ("text/csv; charset=utf-8", 4, None, Some(8)),
+    ("text/tab-separated-values", 4, None, None),
+    (
+        "text/tab-separated-values; charset=utf-8",
+        4,
+        None,
+        Some(25),
+    ),
+    ("text/vcard", 4, None, None),
+    ("image/*", 5, None, None),
+    ("image/jpeg", 5, None, None),
+    ("image/gif", 5, None, None),
+    ("image/png", 5, None, None),
+    ("image/bmp", 5, None, None),
+    ("image/svg+xml", 5, Some(9), None),
+    ("font/woff", 4, None, None),
+    ("font/woff2", 4, None, None),
+    ("application/json", 11, None, None),
+    ("application/javascript", 11, None, None),
+    ("application/javascript; charset=utf-8", 11, None, Some(22)),
+    ("application/x-www-form-urlencoded", 11, None, None),
+    ("application/octet-stream", 11, None, None),
+    ("application/msgpack", 11, None, None),
+    ("application/pdf", 11, None, None),
+    ("multipart/form-data", 9, None, None),
 ];
-
-/// Where the pair of ` charset=utf-8` lies, which is the list of each constant that has one.
-const CHARSET_UTF_8: FirstPair = FirstPair {
-    name: 1,
-    equals: 8,
-    end: 14,
-};
 
 impl Atom {
     /// The constant's string, and the positions of its parts.
@@ -157,16 +155,15 @@ impl Atom {
         ensures text { result.0.now ≡ atom_text self }
         ensures positions { result.1 ≡ positions_in (atom_text self) }
     {
-        let (text, slash, plus, essence_end) = TABLE[self as usize];
-        let is_plain = essence_end == text.len();
-        let places = Places {
+        let row = TABLE[self as usize];
+        let (text, slash, plus, semicolon) = row;
+        let positions = Positions {
             slash,
             plus,
-            essence_end,
-            pair_count: !is_plain as usize,
+            semicolon,
+            pair_count: semicolon.is_some() as usize,
         };
-        let first = if is_plain { NO_PAIR } else { CHARSET_UTF_8 };
-        (text, Positions { places, first })
+        (text, positions)
     }
 
     /// Returns the constant as a string: `text/plain` for `TEXT_PLAIN`.

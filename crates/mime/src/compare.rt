@@ -13,7 +13,7 @@ use crate::blocks::BLOCK;
 use crate::bytes::is_space;
 use crate::ignoring_case::{eq_ignore_ascii_case, first_difference};
 use crate::name::constants::CHARSET;
-use crate::scan::{ByteReader, NO_PAIR, Places, Verdict, scan};
+use crate::scan::{ByteReader, Positions, Verdict, scan};
 use crate::value::Mime;
 use crate::value::pairs::Pairs;
 
@@ -80,12 +80,12 @@ fn are_pairs(kept: Pairs<'_>, pairs: Pairs<'_>) -> bool
     others.next().is_none()
 }
 
-/// Whether the essence ends at this position, and `count` parameters follow it.
+/// Whether the first semicolon is at this position, and `count` parameters follow it.
 #[inline(always)]
-fn has_shape(places: Places, essence_end: usize, count: usize) -> bool
-    ensures { IsTrue result ↔ ((places.essence_end ≡ essence_end) × (places.pair_count ≡ count)) }
+fn has_shape(positions: Positions, semicolon: usize, count: usize) -> bool
+    ensures { IsTrue result ↔ ((positions.semicolon ≡ Some semicolon) × (positions.pair_count ≡ count)) }
 {
-    places.essence_end == essence_end && places.pair_count == count
+    positions.semicolon == Some(semicolon) && positions.pair_count == count
 }
 
 /// Whether a string is accepted, with its first semicolon at this position and `count` parameters. It isn't inlined:
@@ -96,7 +96,7 @@ fn is_accepted_at(text: &str, semicolon: usize, count: usize) -> bool
 {
     let mut reader = ByteReader::by_blocks(text);
     match scan(&mut reader) {
-        Verdict::Accepted(positions) => has_shape(positions.places, semicolon, count),
+        Verdict::Accepted(positions) => has_shape(positions, semicolon, count),
         _ => false,
     }
 }
@@ -118,7 +118,7 @@ fn eq_by_parts(mime: &Mime, s: &str, equal_ignoring_case: bool) -> bool
     let end = essence.len();
     if !are_pairs(
         mime.pairs(),
-        Pairs::after(s, end, mime.param_count(), NO_PAIR),
+        Pairs::of_text(s, Some(end), mime.param_count()),
     ) {
         return false;
     }

@@ -3,13 +3,11 @@
 //! A function that reads a part also reads the byte that ends it, and returns that byte, or `None` at the end of the
 //! string.
 
-ghost use Rattle.std.specs.Prelude.{◌≡◌, ◌+◌, ◌-◌, ◌<◌, ◌≤◌, ◌^◌, length};
+ghost use Rattle.std.specs.Prelude.{◌+◌, ◌-◌, ◌<◌, ◌≤◌, ◌^◌, length};
 ghost use Rattle.mime.specs.Bytes.{is_token_byte, is_quoted_text_byte};
 ghost use Rattle.mime.specs.Grammar.{is_space};
 ghost use Rattle.mime.specs.Inner.ByteClasses.{is_token_except_plus, is_separator};
-ghost use Rattle.mime.specs.Inner.FirstPairs.{no_pair};
-ghost use Rattle.mime.specs.Inner.KeptText.{unless_zero};
-ghost use Rattle.mime.specs.Inner.Scanning.{and_pair, Passes, PassesContent, PassesSubtype, ScansList, Scans, ScansAfter};
+ghost use Rattle.mime.specs.Inner.Scanning.{Passes, PassesContent, PassesSubtype, ScansList, Scans, ScansAfter};
 
 mod fault;
 mod reader;
@@ -21,71 +19,16 @@ use crate::bytes::{
 pub use crate::scan::fault::{FromStrError, ParseError};
 pub(crate) use crate::scan::reader::ByteReader;
 
-/// The positions of an accepted string's parts, in bytes from 0, and the number of its parameters.
-#[derive(Clone, Copy)]
-pub(crate) struct Places {
-    pub(crate) slash: usize,
-    /// The plus before the suffix, or 0 if there is none: position 0 is in the type.
-    pub(crate) plus: usize,
-    /// The end of the essence: its length.
-    pub(crate) essence_end: usize,
-    pub(crate) pair_count: usize,
-}
-
-impl Places {
-    /// The position of the plus before the suffix.
-    #[inline(always)]
-    pub(crate) fn plus(&self) -> Option<usize>
-        ensures { result ≡ unless_zero self.now.plus }
-    {
-        if self.plus == 0 {
-            None
-        } else {
-            Some(self.plus)
-        }
-    }
-}
-
-/// Where the first pair of a parameter list lies, in bytes from 0 after the list's semicolon. All are 0 if there is no pair,
-/// or if its place isn't known.
-#[derive(Clone, Copy)]
-pub(crate) struct FirstPair {
-    /// The start of its name: the number of spaces before it.
-    pub(crate) name: usize,
-    /// Its equals sign. A pair's isn't at 0, since its name precedes it.
-    pub(crate) equals: usize,
-    /// The end of its value, which is without quotes.
-    pub(crate) end: usize,
-}
-
-/// No pair, or none whose place is known.
-pub(crate) const NO_PAIR: FirstPair = FirstPair {
-    name: 0,
-    equals: 0,
-    end: 0,
-};
-
-/// What is known of an accepted string: the positions of its parts, and the place of its first pair.
+/// The parts of an accepted string: their positions, in bytes from 0, and the number of its parameters.
 #[derive(Clone, Copy)]
 pub(crate) struct Positions {
-    pub(crate) places: Places,
-    pub(crate) first: FirstPair,
-}
-
-impl Positions {
-    /// The positions in a string with one parameter more, which lies here if it is the first.
-    #[inline(always)]
-    fn and_pair(self, pair: FirstPair) -> Positions
-        requires { self.places.pair_count + 1 < 2 ^ 64 }
-        ensures { result ≡ and_pair self pair }
-    {
-        let Positions { mut places, mut first } = self;
-        if places.pair_count == 0 {
-            first = pair;
-        }
-        places.pair_count += 1;
-        Positions { places, first }
-    }
+    pub(crate) slash: usize,
+    /// The plus before the suffix.
+    pub(crate) plus: Option<usize>,
+    /// The semicolon after the essence.
+    pub(crate) semicolon: Option<usize>,
+    /// The number of parameters.
+    pub(crate) pair_count: usize,
 }
 
 /// What one pass over a string finds.
@@ -180,31 +123,30 @@ fn content(reader: &mut ByteReader<'_>) -> Option<u8>
     stop
 }
 
-/// Reads what follows a subtype's first byte. Returns the position of its last plus, or 0 if there is none, and the
+/// Reads what follows a subtype's first byte. Returns the position of its last plus, if there is one, and the
 /// byte that ends it. `from` is the reader's count at the start of the string.
 #[inline(always)]
-fn subtype(reader: &mut ByteReader<'_>, from: u128) -> (usize, Option<u8>)
+fn subtype(reader: &mut ByteReader<'_>, from: u128) -> (Option<usize>, Option<u8>)
     requires begun { from < reader.old.count }
     requires fits { reader.old.count + length reader.old.left ≤ from + 2 ^ 64 }
     ensures { PassesSubtype (reader.old.count - from) reader.old reader.new result }
 {
+    // 0 means none yet: position 0 is in the type.
     let mut plus = 0;
     let mut stop = token_to_plus(reader);
     while stop == Some(b'+') {
         plus = reader.position(from);
         stop = token_to_plus(reader);
     }
-    (plus, stop)
+    (if plus == 0 { None } else { Some(plus) }, stop)
 }
 
 /// Reads a parameter list, after its semicolon. `before` has the positions of the parts before it, and no pairs yet.
 #[inline(always)]
 fn parameters(reader: &mut ByteReader<'_>, before: Positions) -> Verdict
-    requires count { before.places.pair_count ≡ 0 }
-    requires first { before.first ≡ no_pair }
+    requires { before.pair_count + length reader.old.left < 2 ^ 64 }
     ensures { ScansList before reader.old reader.new result }
 {
-    let start = reader.count();
     let mut positions = before;
     loop {
         let Some(first) = spaces(reader) else {
@@ -213,31 +155,27 @@ fn parameters(reader: &mut ByteReader<'_>, before: Positions) -> Verdict
         if !is_token(first) {
             return Verdict::Stopped(first, Some(positions));
         }
-        let name = reader.position(start);
         match token(reader) {
             None => return Verdict::Unfinished(ParseError::MissingEqual),
             Some(b'=') => {}
             Some(byte) => return Verdict::Stopped(byte, None),
         }
-        let equals = reader.position(start);
         let Some(first) = reader.next() else {
             return Verdict::Unfinished(ParseError::MissingValue);
         };
-        let (stop, end) = if first == b'"' {
+        let stop = if first == b'"' {
             match content(reader) {
                 None => return Verdict::Unfinished(ParseError::MissingQuote),
                 Some(b'"') => {}
                 Some(byte) => return Verdict::Stopped(byte, None),
             }
-            let end = reader.position(start);
-            (spaces(reader), end)
+            spaces(reader)
         } else if is_token(first) {
-            let stop = token(reader);
-            (stop, reader.end_before(stop, start))
+            token(reader)
         } else {
             return Verdict::Stopped(first, None);
         };
-        positions = positions.and_pair(FirstPair { name, equals, end });
+        positions.pair_count += 1;
         match stop {
             None => return Verdict::Accepted(positions),
             Some(b';') => {}
@@ -283,20 +221,19 @@ pub(crate) fn scan_after(first: u8, reader: &mut ByteReader<'_>) -> Verdict
         return Verdict::Stopped(first, None);
     }
     let (plus, stop) = subtype(reader, from);
-    let positions = Positions {
-        places: Places {
-            slash,
-            plus,
-            essence_end: reader.end_before(stop, from),
-            pair_count: 0,
-        },
-        first: NO_PAIR,
+    let mut positions = Positions {
+        slash,
+        plus,
+        semicolon: None,
+        pair_count: 0,
     };
     match stop {
-        None => Verdict::Accepted(positions),
-        Some(b';') => parameters(reader, positions),
-        Some(byte) => Verdict::Stopped(byte, Some(positions)),
+        None => return Verdict::Accepted(positions),
+        Some(b';') => {}
+        Some(byte) => return Verdict::Stopped(byte, Some(positions)),
     }
+    positions.semicolon = Some(reader.position(from));
+    parameters(reader, positions)
 }
 
 /// Reads a string to its end, or up to and including the first byte that no media type continues with.

@@ -8,29 +8,64 @@ ghost use Rattle.mime.specs.Items.{items_of, name_seen, name_text, IsLowIf, IsLo
 ghost use Rattle.mime.specs.Inner.Scanning.{HasPositions};
 ghost use Rattle.mime.specs.Inner.KeptText.{IsKept, media_of, AreLowPairs};
 ghost use Rattle.mime.specs.Inner.Known.{IsKnown};
+ghost use Rattle.mime.specs.Inner.KeptBytes.{bytes_of, is_fixed};
 
-mod first;
 mod hashing;
 mod kept;
 mod known;
 pub(crate) mod pairs;
 mod params;
+mod places;
 mod short;
-mod text;
 mod traits;
 
 use crate::name::{Name, ParamKey};
-use crate::scan::{
-    ByteReader, FromStrError, NO_PAIR, ParseError, Places, Positions, Verdict, scan,
-};
-use crate::value::first::FirstWords;
+use crate::scan::{ByteReader, FromStrError, ParseError, Positions, Verdict, scan};
+use crate::value::kept::{keep, positions_in_kept};
 pub use crate::value::known::KnownText;
 use crate::value::pairs::Pairs;
 pub use crate::value::params::Params;
-use crate::value::short::SHORT;
-use crate::value::text::Text;
+use crate::value::places::Places;
+use crate::value::short::{SHORT, ShortText};
 use std::alloc::{AllocError, Global};
 use std::marker::Model;
+
+/// The kept text of a media type: static for `*/*` and the constants, in the value itself if it was made from a short
+/// string, else allocated. `Short` stands last, so that one comparison tells it from the two that hold a pointer and a length.
+#[derive(Drop)]
+enum Text {
+    Fixed(&'static str),
+    Owned(String),
+    Short(ShortText),
+}
+
+impl Text {
+    /// A text as it is, with no more room than it needs.
+    #[inline(always)]
+    fn of(alloc: Global, text: String) -> Result<Text, AllocError>
+        ensures text { IfOk result (λ kept. bytes_of kept ≡ string_bytes text) }
+        ensures short { length (string_bytes text) ≤ SHORT → IsOk result }
+    {
+        if text.len() <= SHORT {
+            return Ok(Text::Short(ShortText::copied(&text)));
+        }
+        if text.capacity() == text.len() {
+            return Ok(Text::Owned(text));
+        }
+        Ok(Text::Owned(String::from_str(alloc, &text)?))
+    }
+
+    #[inline(always)]
+    fn as_str(&self) -> &str
+        ensures { result.now ≡ bytes_of self.now }
+    {
+        match self {
+            Text::Fixed(text) => text,
+            Text::Owned(text) => text.as_str(),
+            Text::Short(text) => text.as_str(),
+        }
+    }
+}
 
 /// A media type, such as `text/plain; charset=utf-8` (RFC 7231, 3.1.1.1).
 ///
@@ -48,12 +83,13 @@ impl Model for Mime {
 
     ghost Value = { OwnedMedia };
 
-    ghost use Rattle.mime.specs.Inner.KeptBytes.{bytes_of, place_of, is_fixed};
-    ghost use Rattle.mime.specs.Inner.KeptText.{media_of, IsKeptAt};
+    ghost use Rattle.mime.specs.Inner.KeptBytes.{bytes_of, is_fixed};
+    ghost use Rattle.mime.specs.Inner.KeptPlaces.{positions_at, IsKeptAt};
+    ghost use Rattle.mime.specs.Inner.KeptText.{media_of};
 
-    ghost view = { λ mime. record { media = media_of (bytes_of mime.text) mime.places; fixed = is_fixed mime.text } };
+    ghost view = { λ mime. record { media = media_of (bytes_of mime.text) (positions_at mime.places); fixed = is_fixed mime.text } };
 
-    ghost invariant = { λ mime. IsKeptAt (bytes_of mime.text) mime.places (place_of mime.text) };
+    ghost invariant = { λ mime. IsKeptAt (bytes_of mime.text) mime.places };
 }
 
 impl Mime {
@@ -122,11 +158,12 @@ impl Mime {
         ensures memory { IfErr result (λ error. error ≡ ParseError.NoMemory) }
         ensures short { length s.now ≤ SHORT → IsOk result }
     {
-        match Text::keep(alloc, s, &positions) {
-            Ok(text) => Ok(Mime {
-                text,
-                places: positions.places,
-            }),
+        let kept = positions_in_kept(positions);
+        if s.len() <= SHORT {
+            return Ok(Mime::of_kept(Text::Short(ShortText::keep(s, positions)), kept));
+        }
+        match keep(alloc, s, positions) {
+            Ok(text) => Ok(Mime::of_kept(Text::Owned(text), kept)),
             Err(_) => Err(FromStrError::new(ParseError::NoMemory)),
         }
     }
@@ -144,12 +181,13 @@ impl Mime {
         ensures read { IfOk result (λ mime. Reads (string_bytes text) mime.media) }
         ensures short { length (string_bytes text) ≤ SHORT → IsOk result }
     {
-        let places = Places {
+        let positions = Positions {
+            slash: self.places.slash,
+            plus: self.places.plus(),
+            semicolon: Some(self.essence_str().len()),
             pair_count: count,
-            ..self.places
         };
-        let text = Text::of(alloc, text)?;
-        Ok(Mime { text, places })
+        Ok(Mime::of_kept(Text::of(alloc, text)?, positions))
     }
 
     /// The media type `*/*`.
@@ -158,33 +196,35 @@ impl Mime {
         ensures reads { Reads (codes "*/*") result.media }
         ensures fixed { result.fixed ≡ true }
     {
-        let places = Places {
+        let positions = Positions {
             slash: 1,
-            plus: 0,
-            essence_end: 3,
+            plus: None,
+            semicolon: None,
             pair_count: 0,
         };
-        Mime::fixed(
-            "*/*",
-            Positions {
-                places,
-                first: NO_PAIR,
-            },
-        )
+        Mime::fixed("*/*", positions)
+    }
+
+    /// The media type of a text in kept form, with the positions of its parts.
+    #[inline(always)]
+    fn of_kept(text: Text, positions: Positions) -> Mime
+        requires { IsKept (bytes_of text) positions }
+        ensures media { result.media ≡ media_of (bytes_of text) positions }
+        ensures fixed { result.fixed ≡ is_fixed text }
+    {
+        let places = Places::of(positions, text.as_str().len());
+        Mime { text, places }
     }
 
     /// The media type of a static string already in kept form, with the positions of its parts.
     #[inline(always)]
     pub(crate) fn fixed(text: &'static str, positions: Positions) -> Mime
         requires { IsKept text.now positions }
-        ensures media { result.media ≡ media_of text.now positions.places }
+        ensures media { result.media ≡ media_of text.now positions }
         ensures reads { Reads text.now result.media }
         ensures fixed { result.fixed ≡ true }
     {
-        Mime {
-            text: Text::Fixed(text, FirstWords::of(positions.first)),
-            places: positions.places,
-        }
+        Mime::of_kept(Text::Fixed(text), positions)
     }
 
     /// Returns the type, in lowercase: `text` for `Text/Plain` (RFC 7231, 3.1.1.1).
@@ -262,15 +302,7 @@ impl Mime {
         ensures low { AreLowPairs result }
     {
         let text = self.text.as_str();
-        let Places {
-            essence_end,
-            pair_count,
-            ..
-        } = self.places;
-        if pair_count == 0 {
-            return Pairs::none(text);
-        }
-        Pairs::after(text, essence_end, pair_count, self.text.first())
+        Pairs::of_text(text, self.places.semicolon(), self.places.pair_count)
     }
 
     /// The number of parameters.

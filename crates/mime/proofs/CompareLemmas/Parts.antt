@@ -1,6 +1,6 @@
 -- A text against a value: what a text has that is equal to the value, and what suffices.
 use Rattle.std.proofs.Common.{◌≡◌, ℕ, ◌+◌, true, arith, List, [], ◌∷◌, ◌++◌, length, take, drop, Some, map, refl, sym, ap, ◌∙◌, subst, ◌↔◌, append-nil}
-use Rattle.std.specs.Prelude.{◌≢◌, ◌==◌, not, codes, slice_get}
+use Rattle.std.specs.Prelude.{◌≢◌, ◌==◌, not, codes}
 use Rattle.std.proofs.lemmas.Bool.{cond_both}
 use Rattle.std.proofs.lemmas.Bool.Decides.{nat_tests}
 use Rattle.std.proofs.lemmas.List.{nil_from_length, take-append-drop}
@@ -8,11 +8,11 @@ use Rattle.std.proofs.lemmas.Option.{same_Some}
 use Rattle.std.specs.List.{list_all}
 use Rattle.std.proofs.lemmas.List.Folds.{list_all-append}
 use Rattle.mime.specs.Bytes.{slash_byte, semicolon_byte, quote_byte}
-use Rattle.mime.specs.Grammar.{Tail, no_list, listed, SyntaxTree, text_of, text_of_tail, text_of_list, IsToken, IsTail, IsWellFormed}
+use Rattle.mime.specs.Grammar.{Tail, no_list, listed, SyntaxTree, text_of, text_of_tail, text_of_list, IsToken, IsWellFormed}
 use Rattle.mime.specs.Values.{MediaType, Reads, value_of, essence_of, lowered, lowered_tail, pairs_of_list, pairs_of_tail, is_charset}
 use Rattle.mime.specs.Comparison.{TextIs, HasNoSemicolon}
 use Rattle.mime.specs.Inner.Pairs.{PairCut, cut_after_equals, cut_of, pairs_within}
-use Rattle.mime.specs.Inner.Scanning.{positions_of}
+use Rattle.mime.specs.Inner.Scanning.{positions_of, semicolon_of}
 use Rattle.mime.specs.Inner.KeptText.{lowered_pair}
 use Rattle.mime.specs.Inner.ComparedText.{StartsWithEssence, IsAcceptedAt, IsLoneCharset}
 use Rattle.mime.specs.declared.scan.Positions.{Positions}
@@ -44,40 +44,41 @@ record ReadAt (text : List ℕ) (end count : ℕ) : Type 0 where
 
 -- of the text of a tree
 read_at-tree : (top sub : List ℕ) (tail : Tail) → let tree : SyntaxTree = record { top = top; sub = sub; tail = tail } in IsWellFormed tree
-    → ReadAt (text_of tree) (length top + 1 + length sub) (length (pairs_of_tail tail))
-read_at-tree top sub tail well =
-    let tree : SyntaxTree = record { top = top; sub = sub; tail = tail } in record {
+    → (end : ℕ) → semicolon_of (length top + 1 + length sub) tail ≡ Some end → ReadAt (text_of tree) end (length (pairs_of_tail tail))
+read_at-tree top sub no_list well end at = absurd cc
+read_at-tree top sub (listed list) well end at =
+    let tree : SyntaxTree = record { top = top; sub = sub; tail = listed list } in
+    subst (λ n. ReadAt (text_of tree) n (length (pairs_of_list list))) (same_Some (length top + 1 + length sub) end at) (record {
       value = value_of tree;
       reads = record { tree = tree; well_formed = well; spelled = refl; valued = refl };
       essence = essence-lowered tree ∙ ap lowered (sym (take-essence tree));
-      pairs = pairs_of_tail-lowered tail ∙ ap (map lowered_pair) (sym (cut tail well.2));
-    }
-  where
-    cut : (tail : Tail) → IsTail tail
-        → pairs_within (length (pairs_of_tail tail)) (drop (length top + 1 + length sub + 1) (text_of (record { top = top; sub = sub; tail = tail })))
-        ≡ pairs_of_tail tail
-    cut no_list well = refl
-    cut (listed list) well = pairs_within-text_of top sub list well
+      pairs = pairs_of_tail-lowered (listed list) ∙ ap (map lowered_pair) (sym (pairs_within-text_of top sub list well.2));
+    })
 
 -- of every such text
 read_at : (text : List ℕ) (end count : ℕ) → IsAcceptedAt text end count → ReadAt text end count
 read_at text end count is =
     let tree = is.has.tree in
-    let ends = ap (λ (p : Positions). p.places.essence_end) is.has.same_positions ∙ is.at in
-    let counted = ap (λ (p : Positions). p.places.pair_count) is.has.same_positions ∙ is.counted in
-    subst (λ t. ReadAt t end count) is.has.spelled
-    (subst (λ e. ReadAt (text_of tree) e count) ends (subst (ReadAt (text_of tree) _) counted (read_at-tree tree.top tree.sub tree.tail is.has.well_formed)))
+    let counted = ap (λ (p : Positions). p.pair_count) is.has.same_positions ∙ is.counted in
+    subst (λ t. ReadAt t end count) is.has.spelled (subst (ReadAt (text_of tree) end) counted
+    (read_at-tree tree.top tree.sub tree.tail is.has.well_formed end (ap (λ (p : Positions). p.semicolon) is.has.same_positions ∙ is.at)))
 
 -- a text that is read as a value with pairs is accepted so
-accepted_at : (text : List ℕ) (value : MediaType) → Reads text value → IsAcceptedAt text (length value.essence) (length value.pairs)
-accepted_at text value reads =
+accepted_at : (text : List ℕ) (value : MediaType) → Reads text value → value.pairs ≢ []
+    → IsAcceptedAt text (length value.essence) (length value.pairs)
+accepted_at text value reads some =
     let tree = reads.tree in
     record {
       positions = positions_of tree;
       has = record { tree = tree; well_formed = reads.well_formed; spelled = reads.spelled; same_positions = refl };
-      at = sym (length-value_essence tree) ∙ ap (λ (v : MediaType). length v.essence) reads.valued;
+      at = listed_at _ tree.tail (ap (λ (v : MediaType). v.pairs) reads.valued)
+          ∙ ap Some (sym (length-value_essence tree) ∙ ap (λ (v : MediaType). length v.essence) reads.valued);
       counted = sym (length-tail_lowered tree.tail) ∙ ap (λ (v : MediaType). length v.pairs) reads.valued;
     }
+  where
+    listed_at : (n : ℕ) (tail : Tail) → pairs_of_tail (lowered_tail tail) ≡ value.pairs → semicolon_of n tail ≡ Some n
+    listed_at n no_list is = absurd (some (sym is))
+    listed_at n (listed list) is = refl
 
 -- the same position and the same number, written in another way
 IsAcceptedAt-same : (text : List ℕ) {end also count number : ℕ} → end ≡ also → count ≡ number → IsAcceptedAt text end count
@@ -101,13 +102,12 @@ text_is-by_parts kept text value reads some =
       λ is.
           let at : IsAcceptedAt text (length value.essence) (length value.pairs) =
           IsAcceptedAt-same text (ap length (sym is.same.0)) (ap length (sym is.same.1))
-          (accepted_at text is.read is.reads) in
+          (accepted_at text is.read is.reads (λ none. some (is.same.1 ∙ none))) in
           let read = read_at text (length value.essence) (length value.pairs) at in
           let one : is.read ≡ read.value = one_reading text is.read read.value is.reads read.reads in
           record {
             list = (
-              subst (λ n. slice_get text n ≡ Some semicolon_byte) at.at
-                  (slice_get-semicolon text at.positions at.has (λ none. some (nil_from_length value.pairs (sym at.counted ∙ none)))),
+              slice_get-semicolon text at.positions (length value.essence) at.has at.at,
               low ∙ is.same.0 ∙ ap (λ (v : MediaType). v.essence) one ∙ read.essence,
             );
             pairs = is.same.1 ∙ ap (λ (v : MediaType). v.pairs) one ∙ read.pairs;
@@ -124,13 +124,13 @@ text_is-by_parts kept text value reads some =
     )
 
 -- the kept text in another case is accepted as it is
-pub accepted_at-case : (kept text : List ℕ) (value : MediaType) → Reads kept value → lowered kept ≡ lowered text
+pub accepted_at-case : (kept text : List ℕ) (value : MediaType) → Reads kept value → value.pairs ≢ [] → lowered kept ≡ lowered text
     → IsAcceptedAt text (length value.essence) (length value.pairs)
-accepted_at-case kept text value reads is =
+accepted_at-case kept text value reads some is =
     let found = case_read text kept value reads (sym is) in
     let counted = case_read-count text value found in
     IsAcceptedAt-same text (ap length (sym found.essence)) (sym counted)
-    (accepted_at text found.read found.reads)
+    (accepted_at text found.read found.reads (λ none. some (nil_from_length value.pairs (counted ∙ ap length none))))
 
 -- a kept text in another case is equal to the value, where the only parameter is a charset
 pub text_is-lone_charset : (kept text : List ℕ) (value : MediaType) → Reads kept value → value.pairs ≢ [] → lowered kept ≡ lowered text

@@ -1,6 +1,6 @@
 -- What a pass over a reader's bytes has given so far, one byte or one run more, and at its end.
 use Rattle.std.proofs.Common.{◌≡◌, ℕ, ◌+◌, ◌<◌, Bool, true, false, eqb, List, [], ◌∷◌, ◌++◌, length, Option, Some, None, refl, sym, ap, ◌∙◌, subst, arith, append_assoc, append-nil, length-append, take, drop, ◌≤◌, length-drop}
-use Rattle.std.specs.Prelude.{IsTrue, IsFalse, not, MatchOption, unwrap_or}
+use Rattle.std.specs.Prelude.{IsTrue, IsFalse, not, MatchOption}
 use Rattle.std.specs.List.{list_all}
 use Rattle.std.specs.Option.{option_eq, option_to_list}
 use Rattle.std.proofs.lemmas.Bool.{and_from, and_parts, eqb-true, true≢false, not-true, false_from_ne_true}
@@ -221,8 +221,7 @@ last_plus-stop at xs ys position is =
     ∙ last_plus-plus at (xs ++ ys) plus_byte position refl (omega (arith, is, length-append xs ys))
 
 -- token bytes were given so far, and then others up to the end, or to a byte that is no plus
-pub subtype_at : {old mid new : Remaining} (stop : Option ℕ) (plus at : ℕ) → (p : Passing is_token_byte old mid)
-    → plus ≡ unwrap_or (last_plus at p.run) 0
+pub subtype_at : {old mid new : Remaining} (stop plus : Option ℕ) (at : ℕ) → (p : Passing is_token_byte old mid) → last_plus at p.run ≡ plus
     → Passes is_token_except_plus mid new stop → option_eq eqb stop (Some plus_byte) ≡ false → PassesSubtype at old new (plus, stop)
 subtype_at {new = new} stop plus at p is passes other = record {
   passes = record {
@@ -231,7 +230,7 @@ subtype_at {new = new} stop plus at p is passes other = record {
     given = given_then p.given passes.given;
     stopped = ends stop passes.stopped other;
   };
-  plus = is ∙ sym (ap (λ found. unwrap_or found 0) (last_plus-run at p.run passes.run passes.of_class));
+  plus = sym (last_plus-run at p.run passes.run passes.of_class ∙ is);
 }
   where
     ends : (stop : Option ℕ) → MatchOption stop (new.left ≡ []) (λ b. IsFalse (is_token_except_plus b))

@@ -5,8 +5,7 @@ use Rattle.std.proofs.lemmas.List.{take_at}
 use Rattle.mime.specs.Grammar.{Parameter, Parameters, more, listed, SyntaxTree, text_of}
 use Rattle.mime.specs.Values.{pairs_of_list, IsRejected}
 use Rattle.mime.specs.Inner.Remaining.{Remaining}
-use Rattle.mime.specs.Inner.FirstPairs.{first_of_list}
-use Rattle.mime.specs.Inner.Scanning.{Given, places_of, positions_of, HasPositions, Judges, before_list, ScansList, Scans}
+use Rattle.mime.specs.Inner.Scanning.{Given, positions_of, HasPositions, Judges, before_list, ScansList, Scans}
 use Rattle.mime.specs.declared.scan.Positions.{Positions}
 use Rattle.mime.specs.declared.scan.fault.ParseError.{ParseError}
 use Rattle.mime.specs.declared.scan.Verdict.{Verdict}
@@ -119,10 +118,7 @@ length-with_closed ((n, parameter) ∷ closed) rest = length-with_closed closed 
 -- the positions of a text that ends in a list, if it may end there, with those before the list
 abbrev pub positions_of_list : Positions → BegunList → Option Positions
 positions_of_list before list =
-    option_map (λ rest. record {
-      places = record before.places { pair_count = before.places.pair_count + (length list.closed + length (pairs_of_list rest)) };
-      first = first_of_list (with_closed list.closed rest);
-    })
+    option_map (λ rest. record before { pair_count = before.pair_count + (length list.closed + length (pairs_of_list rest)) })
     (list_at_end list.position)
 
 -- the positions of a text that ends in a list are those of its tree
@@ -131,18 +127,13 @@ positions_of_list-tree : (top sub : List ℕ) (list : BegunList)
 positions_of_list-tree top sub list = at_end (list_at_end list.position)
   where
     at_end : (end : Option Parameters)
-        → option_map (λ rest. record {
-          places = record (places_of (before_list top sub)) { pair_count = 0 + (length list.closed + length (pairs_of_list rest)) };
-          first = first_of_list (with_closed list.closed rest);
-        }) end
+        → option_map
+        (λ rest. record (positions_of (before_list top sub)) { pair_count = 0 + (length list.closed + length (pairs_of_list rest)) }) end
         ≡ option_map positions_of
         (option_map (λ rest. record { top = top; sub = sub; tail = listed rest }) (option_map (with_closed list.closed) end))
     at_end None = refl
     at_end (Some rest) =
-        ap (λ n. Some (record {
-          places = record (places_of (before_list top sub)) { pair_count = n };
-          first = first_of_list (with_closed list.closed rest);
-        })) (omega (arith, length-with_closed list.closed rest))
+        ap (λ n. Some (record (positions_of (before_list top sub)) { pair_count = n })) (omega (arith, length-with_closed list.closed rest))
 
 -- a byte that leads nowhere in a list leads nowhere
 stopped_in_list : (top sub left : List ℕ) (list : BegunList) (stop : Option ℕ)

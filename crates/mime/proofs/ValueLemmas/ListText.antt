@@ -106,7 +106,7 @@ cut_of-named n name after white is =
     )
 
 -- the text before the value of a parameter
-abbrev pub head_of : Parameter → List ℕ
+abbrev head_of : Parameter → List ℕ
 head_of (plain name value) = name ++ (equals_byte ∷ [])
 head_of (quoted name content n) = name ++ (equals_byte ∷ quote_byte ∷ [])
 
@@ -131,7 +131,7 @@ head_counted n name opening after =
     omega (arith, whole, head)
 
 -- the first pair cut from the text of a parameter and what follows it
-pub cut_of-parameter : (n : List ℕ) (p : Parameter) (follow rest : List ℕ) → AreSpaces n → IsParameter p
+cut_of-parameter : (n : List ℕ) (p : Parameter) (follow rest : List ℕ) → AreSpaces n → IsParameter p
     → IsFollow semicolon_byte follow rest
     → cut_of (n ++ (text_of_parameter p ++ follow))
     ≡ record { name = (pair_of p).0; value_start = length (n ++ head_of p); value = (pair_of p).1; rest = rest }

@@ -165,10 +165,9 @@ length-pairs_within zero list = refl
 length-pairs_within (suc count) list = ap suc (length-pairs_within count (cut_of list).rest)
 
 -- the count is that of the pairs
-pub kept-count : (text : List ℕ) (positions : Positions) → IsKept text positions
-    → positions.places.pair_count ≡ length (media_of text positions.places).pairs
+pub kept-count : (text : List ℕ) (positions : Positions) → IsKept text positions → positions.pair_count ≡ length (media_of text positions).pairs
 kept-count text positions is_kept =
-    sym (length-tail_lowered is_kept.has.tree.tail ∙ ap (λ (p : Positions). p.places.pair_count) is_kept.has.same_positions)
+    sym (length-tail_lowered is_kept.has.tree.tail ∙ ap (λ p. p.pair_count) is_kept.has.same_positions)
     ∙ ap (λ (value : MediaType). length value.pairs) (media_of-kept text positions is_kept)
 
 -- values that were read from one text are equal

@@ -1,15 +1,22 @@
--- A word says where the plus is, since that is never at position 0.
-use Rattle.std.proofs.Common.{◌≡◌, ℕ, zero, suc, ◌+◌, ◌≤◌, List, [], ◌∷◌, length, drop, Option, Some, None, refl, subst, arith}
+-- A word says where the plus is, since that is never at position 0, and one where the essence ends, since a kept text has a semicolon
+-- exactly if it has a pair. And a text that is read as a value with a parameter has its parts where that value has them.
+use Rattle.std.proofs.Common.{◌≡◌, ℕ, zero, suc, ◌+◌, ◌≤◌, List, [], ◌∷◌, length, drop, Option, Some, None, refl, ap, sym, ◌∙◌, subst, arith}
 use Rattle.std.specs.Prelude.{◌≢◌, IfSome, if◌then◌else◌, ◌==◌, unwrap_or}
 use Rattle.std.specs.Option.{option_or}
 use Rattle.std.proofs.lemmas.Bool.{cond_both}
 use Rattle.mime.specs.Bytes.{plus_byte}
-use Rattle.mime.specs.Grammar.{SyntaxTree}
-use Rattle.mime.specs.Values.{last_plus}
-use Rattle.mime.specs.Inner.KeptText.{unless_zero}
+use Rattle.mime.specs.Grammar.{blank, final, more, Tail, no_list, listed, text_of}
+use Rattle.mime.specs.Values.{MediaType, Reads, kept_text, lowered_tree, last_plus, pairs_of_tail}
+use Rattle.mime.specs.Inner.Scanning.{HasPositions, positions_of, semicolon_of}
+use Rattle.mime.specs.Inner.KeptPlaces.{unless_zero}
+use Rattle.mime.specs.Inner.KeptText.{IsKept, kept_positions, kept_semicolon}
+use Rattle.mime.specs.declared.scan.Positions.{Positions}
+use Rattle.mime.proofs.LowercaseLemmas.{positions_of-lowered_tree, IsWellFormed-lowered_tree}
+use Rattle.mime.proofs.GrammarLemmas.Readings.{one_tree}
+use Rattle.mime.proofs.ValueLemmas.KeptText.{value_of_low, value_of-lowering, length-essence_of}
 
 -- a position that isn't 0 comes back from its word
-unless_zero-unwrap_or : (position : Option ℕ) → position ≢ Some 0 → unless_zero (unwrap_or position 0) ≡ position
+pub unless_zero-unwrap_or : (position : Option ℕ) → position ≢ Some 0 → unless_zero (unwrap_or position 0) ≡ position
 unless_zero-unwrap_or None above = refl
 unless_zero-unwrap_or (Some zero) above = absurd (above refl)
 unless_zero-unwrap_or (Some (suc n)) above = refl
@@ -29,14 +36,71 @@ last_plus-from at (b ∷ bytes) = with_rest (last_plus (at + 1) bytes) (last_plu
 not_zero : (from : ℕ) (found : Option ℕ) → 1 ≤ from → IfSome found (λ position. from ≤ position) → found ≢ Some 0
 not_zero from found above is at_zero = absurd (omega (arith, above, subst (λ f. IfSome f (λ position. from ≤ position)) at_zero is))
 
--- the last plus of a subtype comes back from its word
-pub plus_of_word : (tree : SyntaxTree)
-    → let plus = last_plus (length tree.top + 2) (drop 1 tree.sub) in unless_zero (unwrap_or plus 0) ≡ plus
-plus_of_word tree =
-    let top = length tree.top in
-    unless_zero-unwrap_or _ (not_zero (top + 2) _ (omega arith) (last_plus-from (top + 2) (drop 1 tree.sub)))
+-- the plus of an accepted text isn't at position 0
+pub plus-not_zero : (text : List ℕ) (positions : Positions) → HasPositions text positions → positions.plus ≢ Some 0
+plus-not_zero text positions has =
+    let top = length has.tree.top in
+    subst (λ (p : Positions). p.plus ≢ Some 0) has.same_positions
+    (not_zero (top + 2) _ (omega arith) (last_plus-from (top + 2) (drop 1 has.tree.sub)))
 
--- a word comes back from the position that it says
-pub word_of_plus : (word : ℕ) → unwrap_or (unless_zero word) 0 ≡ word
-word_of_plus zero = refl
-word_of_plus (suc n) = refl
+-- a kept text has a semicolon if it has a pair, and only then
+pub semicolon-kept : (text : List ℕ) (positions : Positions) (len : ℕ) → IsKept text positions
+    → kept_semicolon positions.pair_count (Some (unwrap_or positions.semicolon len)) ≡ positions.semicolon
+semicolon-kept text positions len is_kept =
+    let tree = is_kept.has.tree in
+    let same = is_kept.has.same_positions in
+    subst (λ (p : Positions). kept_semicolon p.pair_count (Some (unwrap_or p.semicolon len)) ≡ p.semicolon) same
+    (go tree.tail _ (ap (λ (p : Positions). p.semicolon) (subst (λ p. kept_positions p ≡ p) (sym same) is_kept.kept)))
+  where
+    go : (tail : Tail) (at : ℕ) → kept_semicolon (length (pairs_of_tail tail)) (semicolon_of at tail) ≡ semicolon_of at tail
+        → kept_semicolon (length (pairs_of_tail tail)) (Some (unwrap_or (semicolon_of at tail) len)) ≡ semicolon_of at tail
+    go no_list at kept = refl
+    go (listed (blank n)) at kept = absurd cc
+    go (listed (final n p)) at kept = refl
+    go (listed (more n p rest)) at kept = refl
+
+-- the positions in a text that is read as a value with a parameter
+pub read-positions : (text : List ℕ) (value : MediaType) → Reads text value → length value.pairs ≢ 0
+    → HasPositions text (record { slash = value.slash; plus = value.plus; semicolon = Some (length value.essence); pair_count = length value.pairs })
+read-positions text value reads some = record {
+  tree = reads.tree;
+  well_formed = reads.well_formed;
+  spelled = reads.spelled;
+  same_positions =
+      sym (positions_of-lowered_tree reads.tree)
+      ∙ go (lowered_tree reads.tree).top (lowered_tree reads.tree).sub (lowered_tree reads.tree).tail value (sym (value_of-lowering reads.tree) ∙ reads.valued) some;
+}
+  where
+    go : (top sub : List ℕ) (tail : Tail) (value : MediaType) → value_of_low (record { top = top; sub = sub; tail = tail }) ≡ value → length value.pairs ≢ 0
+        → positions_of (record { top = top; sub = sub; tail = tail })
+        ≡ record { slash = value.slash; plus = value.plus; semicolon = Some (length value.essence); pair_count = length value.pairs }
+    go top sub no_list value is some = absurd (some (sym (ap (λ (v : MediaType). length v.pairs) is)))
+    go top sub (listed list) value is some =
+        subst (λ (v : MediaType). positions_of (record { top = top; sub = sub; tail = listed list })
+        ≡ record { slash = v.slash; plus = v.plus; semicolon = Some (length v.essence); pair_count = length v.pairs }) is
+        (rw (length-essence_of (record { top = top; sub = sub; tail = listed list })) refl)
+
+-- a text that is read as a value with a parameter, and is its kept text, is kept so
+pub read-kept : (text : List ℕ) (value : MediaType) → Reads text value → value.kept ≡ text → length value.pairs ≢ 0
+    → IsKept text (record { slash = value.slash; plus = value.plus; semicolon = Some (length value.essence); pair_count = length value.pairs })
+unfolding read-positions
+read-kept text value reads kept some =
+    let has = read-positions text value reads some in
+    let tree = reads.tree in
+    record {
+      has = has;
+      low = one_tree (lowered_tree tree) tree (IsWellFormed-lowered_tree tree reads.well_formed) reads.well_formed
+          (go (pairs_of_tail (lowered_tree tree).tail) (ap (λ (v : MediaType). length v.pairs) reads.valued)
+          (ap (λ (v : MediaType). v.kept) reads.valued) ∙ sym reads.spelled);
+      kept = all_kept (length value.pairs) some;
+    }
+  where
+    go : (pairs : List (List ℕ × List ℕ)) → length pairs ≡ length value.pairs → kept_text pairs (lowered_tree reads.tree) ≡ value.kept
+        → text_of (lowered_tree reads.tree) ≡ text
+    go [] none is = absurd (some (sym none))
+    go (pair ∷ pairs) none is = is ∙ kept
+
+    all_kept : (count : ℕ) → count ≢ 0 → kept_positions (record { slash = value.slash; plus = value.plus; semicolon = Some (length value.essence); pair_count = count })
+        ≡ record { slash = value.slash; plus = value.plus; semicolon = Some (length value.essence); pair_count = count }
+    all_kept zero above = absurd (above refl)
+    all_kept (suc count) above = refl

@@ -1,6 +1,6 @@
 -- What reading a text answers, and that the constant media types are stored with their positions.
-use Rattle.std.proofs.Common.{◌≡◌, ℕ, zero, suc, List, [], ◌∷◌, refl, sym, ap, ◌∙◌, subst, ◌+◌, length, take, drop, codes}
-use Rattle.std.specs.Prelude.{◌≤◌, Result, Ok, Err, IfErr, IsOk, codes}
+use Rattle.std.proofs.Common.{◌≡◌, ℕ, List, [], ◌∷◌, refl, sym, ap, ◌∙◌, subst, ◌+◌, length, take, drop, Option, Some, None, codes}
+use Rattle.std.specs.Prelude.{◌≤◌, Result, Ok, Err, IfErr, IsOk, codes, unwrap_or}
 use Rattle.std.proofs.Math.Nat.{lt_of_not-le}
 use Rattle.std.proofs.lemmas.Bool.{false≢true}
 use Rattle.mime.specs.Bytes.{is_token_byte, space_byte}
@@ -8,7 +8,7 @@ use Rattle.mime.specs.Grammar.{SyntaxTree, no_list, plain, final, Tail, listed, 
 use Rattle.mime.specs.Values.{value_of, IsAccepted, IsRejected, lowered_tree}
 use Rattle.mime.specs.Faults.{IsFault, Explains}
 use Rattle.mime.specs.Inner.Scanning.{HasPositions, positions_of}
-use Rattle.mime.specs.Inner.KeptText.{IsKept, kept_len, positions_in}
+use Rattle.mime.specs.Inner.KeptText.{IsKept, kept_positions, positions_in}
 use Rattle.mime.specs.declared.scan.fault.ParseError.{ParseError}
 use Rattle.mime.specs.declared.scan.fault.ParseError.TheVariants.{InvalidToken, NoMemory}
 use Rattle.mime.specs.declared.scan.Positions.{Positions}
@@ -41,35 +41,33 @@ pub Explains-from_fault : (text : List ℕ) (fault : ParseError) → IsFault tex
 Explains-from_fault text NoMemory fault = absurd fault.0
 Explains-from_fault text other fault = fault
 
--- the tail of a constant's text with so many parameters: none, or a charset
-abbrev tail_with : ℕ → Tail
-tail_with zero = no_list
-tail_with (suc n) = listed (final (space_byte ∷ []) (plain (codes "charset") (codes "utf-8")))
+-- the tail of a constant's text: a charset where there is a semicolon
+abbrev tail_at : Option ℕ → Tail
+tail_at None = no_list
+tail_at (Some semicolon) = listed (final (space_byte ∷ []) (plain (codes "charset") (codes "utf-8")))
 
 -- the tail of a constant's text is well formed
-is_tail : (pairs : ℕ) → IsTail (tail_with pairs)
+is_tail : (semicolon : Option ℕ) → IsTail (tail_at semicolon)
 unfolding is_token_byte
-is_tail zero = tt
-is_tail (suc n) = (refl, (refl, refl))
+is_tail None = tt
+is_tail (Some semicolon) = (refl, (refl, refl))
 
 -- the tree of a constant's text
 abbrev tree_in : List ℕ → SyntaxTree
-tree_in text =
-    let places = (positions_in text).places in
-    record {
-      top = take places.slash text;
-      sub = drop (places.slash + 1) (take places.essence_end text);
-      tail = tail_with places.pair_count;
-    }
+tree_in text = record {
+  top = take (positions_in text).slash text;
+  sub = drop ((positions_in text).slash + 1) (take (unwrap_or (positions_in text).semicolon (length text)) text);
+  tail = tail_at (positions_in text).semicolon;
+}
 
 -- a text is kept if it is that of the tree in it, which is well formed and its own lowercased form
 kept_by : (text : List ℕ) → IsToken (tree_in text).top → IsToken (tree_in text).sub → lowered_tree (tree_in text) ≡ tree_in text
     → text_of (tree_in text) ≡ text → positions_of (tree_in text) ≡ positions_in text
-    → kept_len (positions_in text).places text ≡ length text → IsKept text (positions_in text)
+    → kept_positions (positions_in text) ≡ positions_in text → IsKept text (positions_in text)
 kept_by text top sub low spelled same_positions kept = record {
   has = record {
     tree = tree_in text;
-    well_formed = (top, sub, is_tail (positions_in text).places.pair_count);
+    well_formed = (top, sub, is_tail (positions_in text).semicolon);
     spelled = spelled;
     same_positions = same_positions;
   };
@@ -88,6 +86,11 @@ pub one_positions : (text : List ℕ) (first second : Positions) → HasPosition
 one_positions text first second has also =
     sym has.same_positions ∙ ap positions_of (one_tree has.tree also.tree has.well_formed also.well_formed (has.spelled ∙ sym also.spelled))
     ∙ also.same_positions
+
+-- `*/*` is kept as it is
+pub star-IsKept : (positions : Positions) → HasPositions (42 ∷ 47 ∷ 42 ∷ []) positions → IsKept (42 ∷ 47 ∷ 42 ∷ []) positions
+star-IsKept positions has =
+    let star = kept_atom STAR_STAR in subst (IsKept (42 ∷ 47 ∷ 42 ∷ [])) (one_positions _ _ positions star.has has) star
 
 -- `*/*` is accepted
 pub star-accepted : (text : List ℕ) → text ≡ 42 ∷ 47 ∷ 42 ∷ [] → IsAccepted text

@@ -10,12 +10,12 @@ abbrev pub StartsWithEssence : List ℕ → List ℕ → Type 0
 StartsWithEssence essence text =
     (slice_get text (length essence) ≡ Some semicolon_byte) × (lowered essence ≡ lowered (take (length essence) text))
 
--- an accepted text whose essence ends at this position, with `count` parameters
+-- an accepted text with its semicolon at this position, and `count` parameters
 pub record IsAcceptedAt (text : List ℕ) (semicolon count : ℕ) : Type 0 where
   pub positions : Positions
   pub has : HasPositions text positions
-  pub at : positions.places.essence_end ≡ semicolon
-  pub counted : positions.places.pair_count ≡ count
+  pub at : positions.semicolon ≡ Some semicolon
+  pub counted : positions.pair_count ≡ count
 
 -- the only pair is a charset
 abbrev pub IsLoneCharset : List (List ℕ × List ℕ) → Type 0

@@ -1,5 +1,5 @@
 -- The pairs of a parameter list's text, cut one by one from the left.
-use Rattle.std.specs.Prelude.{ℕ, zero, suc, ◌+◌, ◌-◌, List, [], ◌∷◌, ◌++◌, length, take, drop, if◌then◌else◌, ◌==◌}
+use Rattle.std.specs.Prelude.{ℕ, zero, suc, ◌+◌, ◌-◌, List, [], ◌∷◌, ◌++◌, length, take, drop, Option, None, Some, if◌then◌else◌, ◌==◌}
 use Rattle.std.specs.Borrow.{Bor}
 use Rattle.std.specs.List.{prefix_len}
 use Rattle.mime.specs.Inner.Blocks.{before_byte, after_byte}
@@ -42,6 +42,11 @@ cut_of list =
 abbrev pub pairs_within : ℕ → List ℕ → List (List ℕ × List ℕ)
 pairs_within zero list = []
 pairs_within (suc count) list = ((cut_of list).name, (cut_of list).value) ∷ pairs_within count (cut_of list).rest
+
+-- the pairs after the semicolon, if there is one
+abbrev pub pairs_after : ℕ → Option ℕ → List ℕ → List (List ℕ × List ℕ)
+pairs_after count None text = []
+pairs_after count (Some semicolon) text = pairs_within count (drop (semicolon + 1) text)
 
 -- a pair of texts as the bytes that they have
 abbrev pub pair_seen : Bor (List ℕ) × Bor (List ℕ) → List ℕ × List ℕ

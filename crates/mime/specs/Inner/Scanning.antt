@@ -1,14 +1,11 @@
 -- What the reader has left, what a pass over it leaves, and what the scanner finds.
-use Rattle.std.specs.Prelude.{◌≡◌, ℕ, zero, suc, ◌+◌, ◌-◌, ◌<◌, ◌≤◌, Bool, IsTrue, IsFalse, List, [], ◌++◌, length, take, drop, Option, Some, None, MatchOption, unwrap_or, ⊤}
+use Rattle.std.specs.Prelude.{◌≡◌, ℕ, ◌+◌, ◌-◌, ◌<◌, ◌≤◌, Bool, IsTrue, IsFalse, List, [], ◌++◌, length, take, drop, Option, Some, None, MatchOption, ⊤}
 use Rattle.std.specs.Option.{option_to_list}
 use Rattle.std.specs.List.{list_all}
 use Rattle.mime.specs.Bytes.{is_token_byte}
-use Rattle.mime.specs.Grammar.{blank, listed, SyntaxTree, text_of, IsToken, IsWellFormed}
-use Rattle.mime.specs.Inner.FirstPairs.{first_of_tail}
+use Rattle.mime.specs.Grammar.{blank, Tail, no_list, listed, SyntaxTree, text_of, IsToken, IsWellFormed}
 use Rattle.mime.specs.Values.{last_plus, pairs_of_tail, IsRejected}
 use Rattle.mime.specs.Faults.{IsViable, IsDeadAt, IsFault}
-use Rattle.mime.specs.declared.scan.FirstPair.{FirstPair}
-use Rattle.mime.specs.declared.scan.Places.{Places}
 use Rattle.mime.specs.declared.scan.Positions.{Positions}
 use Rattle.mime.specs.declared.scan.Verdict.{Verdict}
 use Rattle.mime.specs.declared.scan.Verdict.TheVariants.{Accepted, Unfinished, Stopped}
@@ -37,27 +34,17 @@ pub record Passes (class : ℕ → Bool) (old new : Remaining) (stop : Option �
   pub given : Given old new run stop
   pub stopped : MatchOption stop (new.left ≡ []) (λ b. IsFalse (class b))
 
--- the positions of a tree's parts in its text; there is no plus at 0, which is in the type
-abbrev pub places_of : SyntaxTree → Places
-places_of tree = record {
-  slash = length tree.top;
-  plus = unwrap_or (last_plus (length tree.top + 2) (drop 1 tree.sub)) 0;
-  essence_end = length tree.top + 1 + length tree.sub;
-  pair_count = length (pairs_of_tail tree.tail);
-}
+-- the positions of a tree's parts in its text
+abbrev pub semicolon_of : ℕ → Tail → Option ℕ
+semicolon_of at no_list = None
+semicolon_of at (listed parameters) = Some at
 
 abbrev pub positions_of : SyntaxTree → Positions
-positions_of tree = record { places = places_of tree; first = first_of_tail tree.tail }
-
--- the positions in a text with one parameter more, which lies there if it is the first
-abbrev pub first_or : ℕ → FirstPair → FirstPair → FirstPair
-first_or zero first pair = pair
-first_or (suc n) first pair = first
-
-abbrev pub and_pair : Positions → FirstPair → Positions
-and_pair positions pair = record {
-  places = record positions.places { pair_count = positions.places.pair_count + 1 };
-  first = first_or positions.places.pair_count positions.first pair;
+positions_of tree = record {
+  slash = length tree.top;
+  plus = last_plus (length tree.top + 2) (drop 1 tree.sub);
+  semicolon = semicolon_of (length tree.top + 1 + length tree.sub) tree.tail;
+  pair_count = length (pairs_of_tail tree.tail);
 }
 
 -- the text is accepted, with its parts at these positions
@@ -90,10 +77,10 @@ pub record PassesContent (old new : Remaining) (stop : Option ℕ) : Type 0 wher
   pub given : Given old new run stop
   pub stopped : MatchOption stop (new.left ≡ []) (λ b. IsFalse (continues run b))
 
--- the rest of a subtype was passed, whose first byte is at a position; its last plus, or 0
-pub record PassesSubtype (at : ℕ) (old new : Remaining) (answer : ℕ × Option ℕ) : Type 0 where
+-- the rest of a subtype was passed, whose first byte is at a position; its last plus
+pub record PassesSubtype (at : ℕ) (old new : Remaining) (answer : Option ℕ × Option ℕ) : Type 0 where
   pub passes : Passes is_token_byte old new answer.1
-  pub plus : answer.0 ≡ unwrap_or (last_plus at passes.run) 0
+  pub plus : answer.0 ≡ last_plus at passes.run
 
 -- the tree of the text before a list: a type, a subtype and a semicolon
 abbrev pub before_list : List ℕ → List ℕ → SyntaxTree

@@ -1,7 +1,6 @@
 //! A reader of a string's bytes that counts those it has returned or skipped.
 
 ghost use Rattle.std.specs.Prelude.{◌≡◌, ◌+◌, ◌-◌, ◌<◌, ◌≤◌, ◌^◌, length};
-ghost use Rattle.std.specs.Option.{option_to_list};
 ghost use Rattle.mime.specs.Bytes.{is_quoted_text_byte};
 ghost use Rattle.mime.specs.Inner.ByteClasses.{is_token_except_plus};
 ghost use Rattle.mime.specs.Inner.Members.{is_member};
@@ -133,7 +132,7 @@ impl<'a> ByteReader<'a> {
     #[inline(always)]
     pub(crate) fn count(&self) -> u128
         ensures count { result ≡ self.now.count }
-        ensures fits { length self.now.left < 2 ^ 63 }
+        ensures fits { length self.now.left < 2 ^ 64 }
     {
         self.before + self.at as u128
     }
@@ -146,16 +145,5 @@ impl<'a> ByteReader<'a> {
         ensures { result ≡ self.now.count - from - 1 }
     {
         (self.count() - from - 1) as usize
-    }
-
-    /// The end of what was read before `stop`, the byte that was read last, or `None` at the end: its position. `from` was the
-    /// count at the start of the string.
-    #[inline(always)]
-    pub(crate) fn end_before(&self, stop: Option<u8>, from: u128) -> usize
-        requires given { from + length (option_to_list stop) ≤ self.now.count }
-        requires fits { self.now.count < from + 2 ^ 64 }
-        ensures { result ≡ self.now.count - from - length (option_to_list stop) }
-    {
-        (self.count() - from) as usize - stop.is_some() as usize
     }
 }

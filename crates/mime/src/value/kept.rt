@@ -1,17 +1,17 @@
-//! What is kept of an accepted string, in lowercase where case is ignored.
+//! The kept text of an accepted string that isn't short, in one allocation.
 
-ghost use Rattle.std.specs.Prelude.{◌≡◌, ◌≢◌, ◌++◌, ◌≤◌, ◌↔◌, IsFalse, IfOk, take, drop, length, slice_range, string_bytes};
+ghost use Rattle.std.specs.Prelude.{◌≡◌, ◌+◌, ◌++◌, ◌≤◌, ◌↔◌, IsFalse, IfOk, take, drop, length, slice_get, slice_range, string_bytes};
+ghost use Rattle.mime.specs.Bytes.{semicolon_byte};
 ghost use Rattle.mime.specs.Values.{lowered, is_charset};
 ghost use Rattle.mime.specs.Inner.Pairs.{cut_of, lowered_first, lowered_within};
 ghost use Rattle.mime.specs.Inner.Scanning.{HasPositions};
-ghost use Rattle.mime.specs.Inner.FirstPairs.{IsFirstOf};
-ghost use Rattle.mime.specs.Inner.KeptText.{with_pairs_lowered, kept_len, kept_text_of};
+ghost use Rattle.mime.specs.Inner.KeptText.{with_pairs_lowered, kept_positions, kept_text_of};
 
 use crate::blocks::Suffix;
 use crate::ignoring_case::eq_ignore_ascii_case;
 use crate::name::constants::CHARSET;
-use crate::scan::{FirstPair, NO_PAIR, Positions};
-use crate::value::pairs::cut_first;
+use crate::scan::Positions;
+use crate::value::pairs::cut;
 use std::alloc::{AllocError, Global};
 
 /// Whether there is an ASCII capital among bytes.
@@ -45,16 +45,15 @@ fn lowercase_range(bytes: &mut [u8], from: usize, to: usize)
     bytes[from..to].make_ascii_lowercase();
 }
 
-/// Lowercases the first pair's name, and its value if the name is `charset`. Returns the list after the pair, which may be
-/// known to lie there. `bytes` is a copy of the list's bytes.
+/// Lowercases the first pair's name, and its value if the name is `charset`. Returns the list after the pair. `bytes`
+/// is a copy of the list's bytes.
 #[inline]
-fn lowercase_first<'a>(bytes: &mut [u8], list: &Suffix<'a>, first: &FirstPair) -> Suffix<'a>
-    requires copied { bytes.old ≡ list.now }
-    requires there { first.now.equals ≢ 0 → IsFirstOf list.now first.now }
+fn lowercase_first<'a>(bytes: &mut [u8], list: &Suffix<'a>) -> Suffix<'a>
+    requires { bytes.old ≡ list.now }
     ensures lowered { bytes.new ≡ lowered_first list.now }
     ensures rest { result ≡ (cut_of list.now).rest }
 {
-    let pair = cut_first(list, first);
+    let pair = cut(list);
     lowercase_range(bytes, 0, pair.value_start);
     if names_charset(pair.name) {
         lowercase_range(bytes, pair.value_start, pair.value_start + pair.value.len());
@@ -62,74 +61,78 @@ fn lowercase_first<'a>(bytes: &mut [u8], list: &Suffix<'a>, first: &FirstPair) -
     pair.rest
 }
 
-/// Lowercases the names of a list's first `count` pairs, and the values of `charset`. `bytes` is a copy of the list's bytes.
+/// Lowercases the names of the first `count` pairs of a list, and the values of `charset`. `bytes` is a copy of the
+/// list's bytes.
 #[inline]
-fn lowercase_pairs(bytes: &mut [u8], list: Suffix<'_>, count: usize, first: FirstPair)
-    requires copied { bytes.old ≡ list }
-    requires there { first.equals ≢ 0 → IsFirstOf list first }
+fn lowercase_pairs(bytes: &mut [u8], list: Suffix<'_>, count: usize)
+    requires { bytes.old ≡ list }
     ensures { bytes.new ≡ lowered_within count list.entry }
 {
     let mut left = list;
-    let mut there = first;
     for _ in 0..count {
         let from = bytes.len() - left.text().len();
-        left = lowercase_first(&mut bytes[from..], &left, &there);
-        there = NO_PAIR;
+        left = lowercase_first(&mut bytes[from..], &left);
     }
 }
 
-/// Lowercases, in an accepted string with pairs, everything up to the semicolon, the names, and the values of `charset`.
+/// Lowercases, in a string with `count` pairs, everything up to the semicolon, the names, and the values of `charset`.
 /// `bytes` is a copy of the string's bytes.
 #[inline]
-fn lowercase_text(bytes: &mut [u8], text: &str, positions: &Positions)
+pub(crate) fn lowercase_text(bytes: &mut [u8], text: &str, semicolon: usize, count: usize)
     requires same { bytes.old ≡ text.now }
-    requires accepted { HasPositions text.now positions.now }
-    requires some { positions.now.places.pair_count ≢ 0 }
-    ensures { bytes.new ≡ with_pairs_lowered positions.now.places.pair_count positions.now.places.essence_end text.now }
+    requires parted { slice_get text.now semicolon ≡ Some semicolon_byte }
+    ensures { bytes.new ≡ with_pairs_lowered count semicolon text.now }
 {
-    let Positions { places, first } = *positions;
-    let start = places.essence_end + 1;
+    let start = semicolon + 1;
     lowercase_range(bytes, 0, start);
-    lowercase_pairs(&mut bytes[start..], Suffix::of(text, start), places.pair_count, first);
+    lowercase_pairs(&mut bytes[start..], Suffix::of(text, start), count);
 }
 
-/// The bytes of an accepted string that are kept: an empty parameter list is dropped.
+/// The kept text of a string with `count` pairs: only what ignores case is lowercased.
 #[inline(always)]
-pub(crate) fn kept_part<'a>(text: &'a str, positions: &Positions) -> &'a [u8]
-    requires { HasPositions text.now positions.now }
-    ensures { result.now ≡ take (kept_len positions.now.places text.entry.now) text.entry.now }
+fn keep_pairs(
+    alloc: Global,
+    text: &str,
+    semicolon: usize,
+    count: usize,
+) -> Result<String, AllocError>
+    requires { slice_get text.now semicolon ≡ Some semicolon_byte }
+    ensures { IfOk result (λ kept. string_bytes kept ≡ with_pairs_lowered count semicolon text.now) }
 {
-    let bytes = text.as_bytes();
-    if positions.places.pair_count == 0 {
-        return &bytes[..positions.places.essence_end];
+    if !has_capital(text.as_bytes()) {
+        return String::from_str(alloc, text);
     }
-    bytes
-}
-
-/// Lowercases what ignores case in the kept part of an accepted string, with a copy of which `bytes` begins: the essence, or,
-/// if there are pairs, everything up to the semicolon, the names, and the values of `charset`.
-#[inline(always)]
-pub(crate) fn lowercase(bytes: &mut [u8], text: &str, positions: &Positions)
-    requires accepted { HasPositions text.now positions.now }
-    requires copied { take (kept_len positions.now.places text.now) bytes.old ≡ take (kept_len positions.now.places text.now) text.now }
-    ensures { take (kept_len positions.now.places text.now) bytes.new ≡ kept_text_of positions.now.places text.now }
-{
-    if positions.places.pair_count == 0 {
-        // All of them at once: if zeros follow, they stay zeros.
-        bytes.make_ascii_lowercase();
-    } else if has_capital(bytes) {
-        lowercase_text(&mut bytes[..text.len()], text, positions);
-    }
-}
-
-/// The kept text of an accepted string, in one allocation.
-#[inline(always)]
-pub(crate) fn keep(alloc: Global, text: &str, positions: &Positions) -> Result<String, AllocError>
-    requires { HasPositions text.now positions.now }
-    ensures { IfOk result (λ kept. string_bytes kept ≡ kept_text_of positions.now.places text.now) }
-{
-    let mut bytes = Vec::from_slice(alloc, kept_part(text, positions))?;
-    lowercase(&mut bytes, text, positions);
+    let mut bytes = Vec::from_slice(alloc, text.as_bytes())?;
+    lowercase_text(&mut bytes, text, semicolon, count);
     // SAFETY: these are the bytes of a `str`, in which only ASCII capitals were lowercased: so they are UTF-8.
     Ok(unsafe { String::from_utf8_unchecked(bytes) })
+}
+
+/// The positions of the parts in the kept text: an empty parameter list is dropped.
+#[inline(always)]
+pub(crate) fn positions_in_kept(positions: Positions) -> Positions
+    ensures { result ≡ kept_positions positions }
+{
+    if positions.pair_count != 0 {
+        return positions;
+    }
+    Positions {
+        semicolon: None,
+        ..positions
+    }
+}
+
+/// The kept text of an accepted string. An empty parameter list is dropped.
+#[inline(always)]
+pub(crate) fn keep(alloc: Global, text: &str, positions: Positions) -> Result<String, AllocError>
+    requires { HasPositions text.now positions }
+    ensures { IfOk result (λ kept. string_bytes kept ≡ kept_text_of positions.pair_count positions.semicolon text.now) }
+{
+    let Some(semicolon) = positions.semicolon else {
+        return text.to_ascii_lowercase(alloc);
+    };
+    if positions.pair_count != 0 {
+        return keep_pairs(alloc, text, semicolon, positions.pair_count);
+    }
+    text[..semicolon].to_ascii_lowercase(alloc)
 }

@@ -2,12 +2,11 @@
 
 ghost use Rattle.std.specs.Iterator.{YieldsFirstBy, item_count, UpTo, at_most};
 ghost use Rattle.std.specs.Iterator.SizeHint.{IsWithinCount};
-ghost use Rattle.std.specs.Prelude.{◌≡◌, ◌≢◌, ◌<◌, ◌≤◌, ◌+◌, false, IsTrue, [], length, take, drop, slice_get, slice_index, IfSome, Some, option_map};
+ghost use Rattle.std.specs.Prelude.{◌≡◌, ◌<◌, ◌≤◌, ◌+◌, false, IsTrue, length, take, drop, slice_get, slice_index, IfSome, Some, option_map};
 ghost use Rattle.std.specs.List.{list_all};
 ghost use Rattle.std.specs.Str.{IsCharBoundary};
 ghost use Rattle.mime.specs.Inner.Blocks.{before_byte, after_byte, first_position};
-ghost use Rattle.mime.specs.Inner.Pairs.{cut_of, leading_spaces, without_spaces, cut_after_equals, pairs_within, pair_seen};
-ghost use Rattle.mime.specs.Inner.FirstPairs.{IsFirstOf};
+ghost use Rattle.mime.specs.Inner.Pairs.{cut_of, leading_spaces, without_spaces, cut_after_equals, pairs_after, pair_seen};
 ghost use Rattle.mime.specs.Bytes.{quote_byte, backslash_byte, semicolon_byte, equals_byte};
 ghost use Rattle.mime.specs.Inner.ComparedText.{IsLoneCharset};
 ghost use Rattle.mime.specs.Grammar.{is_space};
@@ -19,7 +18,6 @@ use crate::blocks::{BLOCK, Suffix};
 use crate::bytes::is_space;
 use crate::name::constants::CHARSET;
 use crate::name::{Name, ParamKey};
-use crate::scan::{FirstPair, NO_PAIR};
 use std::marker::Model;
 
 /// The first pair of a list, and the list after its semicolon.
@@ -203,7 +201,7 @@ fn cut_name<'a>(list: &Suffix<'a>) -> (&'a str, Suffix<'a>)
 /// Cuts the first pair off a list.
 #[tactic(auto, unfolding(crate::specs::Inner::Pairs::cut_of))]
 #[inline(always)]
-fn cut<'a>(list: &Suffix<'a>) -> Pair<'a>
+pub(crate) fn cut<'a>(list: &Suffix<'a>) -> Pair<'a>
     ensures name { result.name.now ≡ (cut_of list.now).name }
     ensures value_start { result.value_start ≡ (cut_of list.now).value_start }
     ensures value { result.value.now ≡ (cut_of list.now).value }
@@ -213,42 +211,6 @@ fn cut<'a>(list: &Suffix<'a>) -> Pair<'a>
     cut_value(list.text().len(), name, &rest)
 }
 
-/// Cuts the first pair off a list, at the place where it is known to lie.
-#[inline(always)]
-fn cut_there<'a>(list: &Suffix<'a>, first: &FirstPair) -> Pair<'a>
-    requires known { first.now.equals ≢ 0 }
-    requires there { IsFirstOf list.now first.now }
-    ensures name { result.name.now ≡ (cut_of list.now).name }
-    ensures value_start { result.value_start ≡ (cut_of list.now).value_start }
-    ensures value { result.value.now ≡ (cut_of list.now).value }
-    ensures rest { result.rest ≡ (cut_of list.now).rest }
-{
-    let text = list.text();
-    let quoted = (text.as_bytes()[first.equals + 1] == b'"') as usize;
-    let value_start = first.equals + 1 + quoted;
-    Pair {
-        name: &text[first.name..first.equals],
-        value_start,
-        value: &text[value_start..first.end],
-        rest: after_semicolon(list.after(first.end + quoted)),
-    }
-}
-
-/// Cuts the first pair off a list, which may be known to lie there.
-#[inline(always)]
-pub(crate) fn cut_first<'a>(list: &Suffix<'a>, first: &FirstPair) -> Pair<'a>
-    requires { first.now.equals ≢ 0 → IsFirstOf list.now first.now }
-    ensures name { result.name.now ≡ (cut_of list.now).name }
-    ensures value_start { result.value_start ≡ (cut_of list.now).value_start }
-    ensures value { result.value.now ≡ (cut_of list.now).value }
-    ensures rest { result.rest ≡ (cut_of list.now).rest }
-{
-    if first.equals == 0 {
-        return cut(list);
-    }
-    cut_there(list, first)
-}
-
 /// The pairs of a list that are left, each a name and a value.
 #[derive(Drop)]
 pub(crate) struct Pairs<'a> {
@@ -256,46 +218,33 @@ pub(crate) struct Pairs<'a> {
     list: Suffix<'a>,
     /// The number of pairs left.
     left: usize,
-    /// Where the next pair lies, if that is known.
-    first: FirstPair,
 }
 
 impl<'a> Model for Pairs<'a> {
-    ghost use Rattle.std.specs.Prelude.{◌≢◌, List, ℕ};
+    ghost use Rattle.std.specs.Prelude.{List, ℕ};
     ghost use Rattle.mime.specs.Inner.Pairs.{pairs_within};
-    ghost use Rattle.mime.specs.Inner.FirstPairs.{IsFirstOf};
 
     ghost Value = { List (List ℕ × List ℕ) };
 
     ghost view = { λ pairs. pairs_within pairs.left pairs.list };
-
-    ghost invariant = { λ pairs. pairs.first.equals ≢ 0 → IsFirstOf pairs.list pairs.first };
 }
 
 impl<'a> Pairs<'a> {
-    /// The first `count` pairs after a string's semicolon, which is at this position. The first may be known to lie there.
+    /// The first `count` pairs after a string's semicolon, or no pair if it has no semicolon.
     #[inline(always)]
-    pub(crate) fn after(text: &'a str, semicolon: usize, count: usize, first: FirstPair) -> Pairs<'a>
-        requires semicolon { slice_get text.now semicolon ≡ Some semicolon_byte }
-        requires first { first.equals ≢ 0 → IsFirstOf (drop (semicolon + 1) text.now) first }
-        ensures { result ≡ pairs_within count (drop (semicolon + 1) text.now) }
+    pub(crate) fn of_text(text: &'a str, semicolon: Option<usize>, count: usize) -> Pairs<'a>
+        requires { IfSome semicolon (λ at. slice_get text.now at ≡ Some semicolon_byte) }
+        ensures { result ≡ pairs_after count semicolon text.now }
     {
-        Pairs {
-            list: Suffix::of(text, semicolon + 1),
-            left: count,
-            first,
-        }
-    }
-
-    /// No pairs.
-    #[inline(always)]
-    pub(crate) fn none(text: &'a str) -> Pairs<'a>
-        ensures { result ≡ [] }
-    {
-        Pairs {
-            list: Suffix::of(text, text.len()),
-            left: 0,
-            first: NO_PAIR,
+        match semicolon {
+            None => Pairs {
+                list: Suffix::of(text, text.len()),
+                left: 0,
+            },
+            Some(at) => Pairs {
+                list: Suffix::of(text, at + 1),
+                left: count,
+            },
         }
     }
 
@@ -316,68 +265,35 @@ impl<'a> Pairs<'a> {
     }
 }
 
-/// The value of the first of a list's first `count` pairs whose name a key accepts. If the last name isn't accepted, its value
-/// isn't searched for its end. It isn't inlined: most lists have one pair, whose place is known.
-#[inline(never)]
-fn first_accepted_in<'a, K: ParamKey>(
-    list: Suffix<'a>,
-    count: usize,
-    key: &K,
-) -> Option<Name<'a>>
-    requires { AreLowPairs (pairs_within count list) }
-    ensures found { IsFirstAccepted (K.Accepts key.now) (items_of (pairs_within count list.entry)) (option_map name_seen result) }
-    ensures low { IfSome result (λ name. IsLowIf name.ignores_case name.text.now) }
-{
-    let mut list = list;
-    let mut left = count;
-    while left != 0 {
-        let (name, rest) = cut_name(&list);
-        let accepted = key.accepts(Name {
-            text: name,
-            ignores_case: true,
-        });
-        if accepted {
-            return Some(Name {
-                text: cut_value(list.text().len(), name, &rest).value,
-                ignores_case: name == CHARSET.text,
-            });
-        }
-        if left == 1 {
-            return None;
-        }
-        list = cut_value(list.text().len(), name, &rest).rest;
-        left -= 1;
-    }
-    None
-}
-
 impl<'a> Pairs<'a> {
-    /// The value of the first pair whose name a key accepts.
+    /// The value of the first pair whose name a key accepts. If the last name isn't accepted, its value isn't searched
+    /// for its end.
     #[inline(always)]
     pub(crate) fn first_accepted<K: ParamKey>(self, key: &K) -> Option<Name<'a>>
         requires { AreLowPairs self }
         ensures found { IsFirstAccepted (K.Accepts key.now) (items_of self.entry) (option_map name_seen result) }
         ensures low { IfSome result (λ name. IsLowIf name.ignores_case name.text.now) }
     {
-        let Pairs { list, left, first } = self;
-        if left == 0 || first.equals == 0 {
-            return first_accepted_in(list, left, key);
-        }
-        let pair = cut_there(&list, &first);
-        let accepted = key.accepts(Name {
-            text: pair.name,
-            ignores_case: true,
-        });
-        if accepted {
-            return Some(Name {
-                text: pair.value,
-                ignores_case: pair.name == CHARSET.text,
+        let Pairs { mut list, mut left } = self;
+        while left != 0 {
+            let (name, rest) = cut_name(&list);
+            let accepted = key.accepts(Name {
+                text: name,
+                ignores_case: true,
             });
+            if accepted {
+                return Some(Name {
+                    text: cut_value(list.text().len(), name, &rest).value,
+                    ignores_case: name == CHARSET.text,
+                });
+            }
+            if left == 1 {
+                return None;
+            }
+            list = cut_value(list.text().len(), name, &rest).rest;
+            left -= 1;
         }
-        if left == 1 {
-            return None;
-        }
-        first_accepted_in(pair.rest, left - 1, key)
+        None
     }
 }
 
@@ -393,10 +309,9 @@ impl<'a> Iterator for Pairs<'a> {
         if self.left == 0 {
             return None;
         }
-        let pair = cut_first(&self.list, &self.first);
+        let pair = cut(&self.list);
         self.left -= 1;
         self.list = pair.rest;
-        self.first = NO_PAIR;
         Some((pair.name, pair.value))
     }
 

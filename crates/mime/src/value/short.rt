@@ -1,11 +1,13 @@
 //! A short kept text, which lies in the value itself: making, cloning and dropping it asks for no memory.
 
-ghost use Rattle.std.specs.Prelude.{◌≡◌, ◌≤◌, IsUtf8, length, take};
+ghost use Rattle.std.specs.Prelude.{◌≡◌, ◌≤◌, Some, IsUtf8, length, take, slice_get};
+ghost use Rattle.mime.specs.Bytes.{semicolon_byte};
+ghost use Rattle.mime.specs.Values.{lowered};
 ghost use Rattle.mime.specs.Inner.Scanning.{HasPositions};
-ghost use Rattle.mime.specs.Inner.KeptText.{kept_text_of};
+ghost use Rattle.mime.specs.Inner.KeptText.{kept_text_of, with_pairs_lowered};
 
 use crate::scan::Positions;
-use crate::value::kept::{kept_part, lowercase};
+use crate::value::kept::{has_capital, lowercase_text};
 use std::marker::Model;
 
 /// The number of bytes that a short text has at most.
@@ -17,7 +19,7 @@ const BLOCK: usize = 48;
 /// A text of at most `SHORT` bytes. Zeros follow it.
 #[derive(Drop)]
 pub(crate) struct ShortText {
-    len: u8,
+    len: u32,
     bytes: [u8; SHORT],
 }
 
@@ -31,14 +33,28 @@ impl Model for ShortText {
     ghost invariant = { λ short. (short.len ≤ 40) × IsUtf8 (take short.len short.bytes) };
 }
 
-/// Bytes, with zeros after them.
+/// The bytes of a text, with zeros after it.
 #[inline(always)]
-fn padded(short: &[u8]) -> [u8; BLOCK]
-    requires { length short.now ≤ SHORT }
-    ensures { take (length short.now) result ≡ short.now }
+fn padded(text: &str) -> [u8; BLOCK]
+    requires { length text.now ≤ SHORT }
+    ensures { take (length text.now) result ≡ text.now }
 {
     let mut bytes = [0; BLOCK];
-    bytes[..short.len()].copy_from_slice(short);
+    bytes[..text.len()].copy_from_slice(text.as_bytes());
+    bytes
+}
+
+/// The bytes of the kept text of a string with `count` pairs, with zeros after them: only what ignores case is lowercased.
+#[inline(always)]
+fn pairs_kept(text: &str, semicolon: usize, count: usize) -> [u8; BLOCK]
+    requires short { length text.now ≤ SHORT }
+    requires parted { slice_get text.now semicolon ≡ Some semicolon_byte }
+    ensures { take (length text.now) result ≡ with_pairs_lowered count semicolon text.now }
+{
+    let mut bytes = padded(text);
+    if has_capital(&bytes) {
+        lowercase_text(&mut bytes[..text.len()], text, semicolon, count);
+    }
     bytes
 }
 
@@ -73,7 +89,7 @@ impl ShortText {
         let mut bytes = [0; SHORT];
         bytes.copy_from_slice(&block[..SHORT]);
         ShortText {
-            len: len as u8,
+            len: len as u32,
             bytes,
         }
     }
@@ -84,19 +100,44 @@ impl ShortText {
         requires { length text.now ≤ SHORT }
         ensures { result ≡ text.now }
     {
-        ShortText::of(&padded(text.as_bytes()), text.len())
+        ShortText::of(&padded(text), text.len())
     }
 
-    /// The kept text of an accepted string of at most `SHORT` bytes.
+    /// A text in lowercase.
     #[inline(always)]
-    pub(crate) fn keep(text: &str, positions: &Positions) -> ShortText
-        requires accepted { HasPositions text.now positions.now }
-        requires short { length text.now ≤ SHORT }
-        ensures { result ≡ kept_text_of positions.now.places text.now }
+    fn lowercased(text: &str) -> ShortText
+        requires { length text.now ≤ SHORT }
+        ensures { result ≡ lowered text.now }
     {
-        let part = kept_part(text, positions);
-        let mut bytes = padded(part);
-        lowercase(&mut bytes, text, positions);
-        ShortText::of(&bytes, part.len())
+        let mut bytes = padded(text);
+        // All of them at once: zeros stay zeros.
+        bytes.make_ascii_lowercase();
+        ShortText::of(&bytes, text.len())
+    }
+
+    /// The kept text of a string with `count` pairs: only what ignores case is lowercased.
+    #[inline(always)]
+    fn with_pairs(text: &str, semicolon: usize, count: usize) -> ShortText
+        requires short { length text.now ≤ SHORT }
+        requires parted { slice_get text.now semicolon ≡ Some semicolon_byte }
+        ensures { result ≡ with_pairs_lowered count semicolon text.now }
+    {
+        ShortText::of(&pairs_kept(text, semicolon, count), text.len())
+    }
+
+    /// The kept text of an accepted string of at most `SHORT` bytes. An empty parameter list is dropped.
+    #[inline(always)]
+    pub(crate) fn keep(text: &str, positions: Positions) -> ShortText
+        requires accepted { HasPositions text.now positions }
+        requires short { length text.now ≤ SHORT }
+        ensures { result ≡ kept_text_of positions.pair_count positions.semicolon text.now }
+    {
+        match positions.semicolon {
+            None => ShortText::lowercased(text),
+            Some(semicolon) if positions.pair_count == 0 => {
+                ShortText::lowercased(&text[..semicolon])
+            }
+            Some(semicolon) => ShortText::with_pairs(text, semicolon, positions.pair_count),
+        }
     }
 }

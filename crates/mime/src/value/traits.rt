@@ -10,7 +10,7 @@ ghost use Rattle.mime.specs.Inner.HashInput.{media_input, media_input-same};
 ghost use Rattle.mime.specs.Inner.OrderLaws.{media_cmp_total, same_from_cmp};
 
 use crate::value::hashing::feed_pairs;
-use crate::value::Mime;
+use crate::value::{Mime, Text};
 use std::alloc::AllocError;
 use std::cmp::Ordering;
 use std::fmt;
@@ -130,8 +130,13 @@ impl Clone for Mime {
     ghost is_infallible = { λ mime. mime.fixed ≡ true };
 
     fn clone(&self) -> Result<Mime, AllocError> {
+        let text = match &self.text {
+            Text::Fixed(text) => Text::Fixed(text),
+            Text::Owned(text) => Text::Owned(text.clone()?),
+            Text::Short(text) => Text::Short(text.copy()),
+        };
         Ok(Mime {
-            text: self.text.copy()?,
+            text,
             places: self.places,
         })
     }

@@ -22,7 +22,7 @@ returns-in-Accepted c =
       λ is. let at = c.has_shape.ensures.0 is in
           record { positions = c.in-Accepted.positions; has = has; at = at.0; counted = at.1 },
       λ is. let one = one_positions c.args.text.now c.in-Accepted.positions is.positions has is.has in
-          c.has_shape.ensures.1 (ap (λ (p : Positions). p.places.essence_end) one ∙ is.at, ap (λ (p : Positions). p.places.pair_count) one ∙ is.counted),
+          c.has_shape.ensures.1 (ap (λ (p : Positions). p.semicolon) one ∙ is.at, ap (λ (p : Positions). p.pair_count) one ∙ is.counted),
     )
 
 pub returns-in_default : goal.returns-in_default

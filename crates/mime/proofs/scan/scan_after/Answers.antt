@@ -1,17 +1,16 @@
 -- Each way out of the scanner, after the first byte.
-use Rattle.std.proofs.Common.{◌≡◌, ℕ, sym, ap, refl, ◌∙◌, ◌+◌, ◌∷◌, [], length, Option, Some, None, arith, ne_eqb, eq-eqb}
+use Rattle.std.proofs.Common.{◌≡◌, ℕ, sym, ap, refl, ◌∙◌, ◌+◌, ◌∷◌, [], length, Some, None, arith, ne_eqb, eq-eqb}
 use Rattle.std.proofs.lemmas.Bool.{cond-true, cond-false}
 use Rattle.mime.specs.Bytes.{slash_byte, semicolon_byte}
-use Rattle.std.specs.Prelude.{unwrap_or}
-use Rattle.std.specs.Option.{option_to_list}
 use Rattle.mime.specs.Values.{last_plus}
+use Rattle.mime.specs.declared.scan.Positions.{Positions}
 use Rattle.mime.specs.Inner.Remaining.{Remaining}
 use Rattle.mime.specs.Inner.Scanning.{positions_of, before_list, GivesFirst}
 use Rattle.mime.proofs.GrammarLemmas.Begun.{in_type, in_subtype}
 use Rattle.mime.proofs.ScanLemmas.Passing.{given_sum}
 use Rattle.mime.proofs.ScanLemmas.Verdicts.{Reaches, reaches_run, reaches_byte, scans_at}
-use Rattle.mime.proofs.ScanLemmas.Lists.{none_walked, type_walked, subtype_walked, Subtyped, essence_positions, essence_is, scans_list}
-use Rattle.mime.proofs.scan.scan_after.Goals.{After-position-slash, After-subtype-plus, After-end_before}
+use Rattle.mime.proofs.ScanLemmas.Lists.{none_walked, type_walked, subtype_walked, Subtyped, essence_is, scans_list}
+use Rattle.mime.proofs.scan.scan_after.Goals.{After-position-slash, After-subtype-plus}
 use Rattle.mime.proofs.scan.scan_after.Goals as goal
 
 pub returns-then-not-is_token : goal.returns-then-not-is_token
@@ -118,28 +117,17 @@ subtyped c start gives slash =
       stopped = c.subtype-plus.ensures.passes.stopped;
       plussed =
           c.subtype-plus.ensures.plus
-          ∙ ap (λ at. unwrap_or (last_plus at c.subtype-plus.ensures.passes.run) 0)
+          ∙ ap (λ at. last_plus at c.subtype-plus.ensures.passes.run)
           (omega (arith, before, others, next, c.count-from.ensures.count));
       counted = omega (arith, before, others, next, c.subtype-plus.ensures.passes.given.counted);
     }
-
--- the essence ends with it
-ends : {stop : Option ℕ} (c : After-end_before) (start : Remaining) → GivesFirst start c.args.reader.now (Some c.args.first)
-    → c.position-slash.result ≡ length (c.args.first ∷ c.in-Some-eq47.ensures.run) → c.subtype-plus.result.1 ≡ stop
-    → (s : Subtyped (c.args.first ∷ c.in-Some-eq47.ensures.run) c.in-Some-next.first c.subtype-plus.result.0 start
-    c.subtype-plus.new.reader stop)
-    → essence_positions c.position-slash.result c.subtype-plus.result.0 c.end_before.result
-    ≡ positions_of (before_list (c.args.first ∷ c.in-Some-eq47.ensures.run) (c.in-Some-next.first ∷ s.others))
-ends c start gives slash is s =
-    essence_is _ _ _ (c.args.first ∷ c.in-Some-eq47.ensures.run) (c.in-Some-next.first ∷ s.others) s.others slash s.plussed
-    (omega (arith, s.counted, gives.0.counted, c.end_before.ensures, c.count-from.ensures.count, ap (λ it. length (option_to_list it)) is))
 
 pub returns-in-None-stop : goal.returns-in-None-stop
 returns-in-None-stop c = λ start gives.
     let here = goal.at.returns-in-None-stop c in
     let s = rw c.in-None-stop.is at (subtyped here.After-subtype-plus start gives (slashed here.After-position-slash start gives)) in
     scans_at (Some _) s.walked s.stopped
-    (ap Some (ends here.After-end_before start gives (slash_is here.After-position-slash) c.in-None-stop.is s))
+    (ap Some (essence_is _ _ (c.args.first ∷ c.in-Some-eq47.ensures.run) s.others (slash_is here.After-position-slash) s.plussed))
 
 pub returns-in-Some-stop : goal.returns-in-Some-stop
 returns-in-Some-stop c = λ start gives.
@@ -147,7 +135,7 @@ returns-in-Some-stop c = λ start gives.
     let s = rw c.in-Some-stop.is at (subtyped here.After-subtype-plus start gives (slashed here.After-position-slash start gives)) in
     scans_at (Some _) s.walked
     (cond-false _ _ _ s.stopped ∙ cond-false _ _ _ (ne_eqb _ semicolon_byte (rw c.in-Some-stop.is at c.in-Some-stop.byte-test.1)))
-    (ap Some (ends here.After-end_before start gives (slash_is here.After-position-slash) c.in-Some-stop.is s))
+    (ap Some (essence_is _ _ (c.args.first ∷ c.in-Some-eq47.ensures.run) s.others (slash_is here.After-position-slash) s.plussed))
 
 -- what is counted and left after the subtype
 subtype_sum : (c : After-subtype-plus)
@@ -155,8 +143,8 @@ subtype_sum : (c : After-subtype-plus)
 subtype_sum c =
     given_sum c.subtype-plus.ensures.passes.given ∙ given_sum c.in-Some-next.ensures.0 ∙ given_sum c.in-Some-eq47.ensures.given
 
-pub end_before-requires-clause-given : goal.end_before-requires-clause-given
-end_before-requires-clause-given c =
+pub position-requires-clause-given : goal.position-requires-clause-given
+position-requires-clause-given c =
     omega (
       arith,
       c.requires,
@@ -166,16 +154,34 @@ end_before-requires-clause-given c =
       c.subtype-plus.ensures.passes.given.counted,
     )
 
-pub end_before-requires-clause-fits : goal.end_before-requires-clause-fits
-end_before-requires-clause-fits c =
-    let sum = subtype_sum (goal.at.end_before-requires-clause-fits c).After-subtype-plus in
-    omega (arith, c.requires, sum, c.count-from.ensures.fits, c.count-from.ensures.count)
+pub position-requires-clause-fits : goal.position-requires-clause-fits
+position-requires-clause-fits c =
+    let sum = subtype_sum (goal.at.position-requires-clause-fits c).After-subtype-plus in
+    omega (arith, sum, c.count-from.ensures.fits, c.count-from.ensures.count)
 
-pub returns-in-Some-eq59 : goal.returns-in-Some-eq59
-returns-in-Some-eq59 c = λ start gives.
-    let here = goal.at.returns-in-Some-eq59 c in
+pub parameters-requires : goal.parameters-requires
+parameters-requires c =
+    omega (
+      arith,
+      given_sum c.subtype-plus.ensures.passes.given,
+      given_sum c.in-Some-next.ensures.0,
+      given_sum c.in-Some-eq47.ensures.given,
+      c.subtype-plus.ensures.passes.given.counted,
+      c.in-Some-next.ensures.0.counted,
+      c.in-Some-eq47.ensures.given.counted,
+      c.count-from.ensures.fits,
+    )
+
+pub returns : goal.returns
+returns c = λ start gives.
+    let here = goal.at.returns c in
     let s = rw c.in-Some-eq59.is at (subtyped here.After-subtype-plus start gives (slashed here.After-position-slash start gives)) in
+    let sub = c.in-Some-next.first ∷ s.others in
     scans_list
     (reaches_byte s.walked
     (cond-false _ _ _ s.stopped ∙ cond-true _ _ _ (eq-eqb _ semicolon_byte (rw c.in-Some-eq59.field-0-is at c.in-Some-eq59.field-0-test))))
-    (ends here.After-end_before start gives (slash_is here.After-position-slash) c.in-Some-eq59.is s) c.parameters.ensures
+    (ap (λ (positions : Positions). record positions { semicolon = Some c.position.result })
+    (essence_is _ _ (c.args.first ∷ c.in-Some-eq47.ensures.run) s.others (slash_is here.After-position-slash) s.plussed)
+    ∙ ap (λ (at : ℕ). record (positions_of (before_list (c.args.first ∷ c.in-Some-eq47.ensures.run) sub)) { semicolon = Some at })
+    (omega (arith, s.counted, gives.0.counted, c.position.ensures, c.count-from.ensures.count)))
+    c.parameters.ensures

@@ -1,7 +1,8 @@
 -- The run up to the last plus goes on, plus by plus.
-use Rattle.std.proofs.Common.{◌≡◌, ◌-◌, ◌+◌, length, [], Some, true, refl, sym, ap, ◌∙◌, arith, eqb}
-use Rattle.std.specs.Prelude.{unwrap_or}
+use Rattle.std.proofs.Common.{◌≡◌, ◌-◌, ◌+◌, length, [], None, Some, true, refl, sym, ap, ◌∙◌, arith, eqb, ne_eqb, eq-eqb}
+use Rattle.std.specs.Prelude.{◌==◌}
 use Rattle.std.specs.Option.{option_eq, option_to_list}
+use Rattle.std.proofs.lemmas.Bool.{cond-true, cond-false}
 use Rattle.mime.specs.Bytes.{plus_byte}
 use Rattle.mime.proofs.ScanLemmas.Passing.{passing_plus, last_plus-stop, subtype_at, stopped_by, given_sum}
 use Rattle.mime.proofs.scan.subtype.Goals as goal
@@ -25,7 +26,9 @@ loop-plus-preserved c =
     record {
       mid = c.loop-plus.reader;
       passing = passing_plus so_far.passing so_far.passes test;
-      plus = sym (ap (λ found. unwrap_or found 0) (last_plus-stop _ so_far.passing.run so_far.passes.run position at));
+      plus =
+          last_plus-stop _ so_far.passing.run so_far.passes.run position at
+          ∙ sym (cond-false (position == 0) None (Some position) (ne_eqb position 0 (λ zero. omega (arith, at, zero, c.requires.begun))));
       passes = c.token_to_plus-stop-in-loop-plus.ensures;
     }
 
@@ -35,7 +38,14 @@ loop-plus-smaller c =
     let given = c.token_to_plus-stop-in-loop-plus.ensures.given in
     omega (arith, ap (λ s. length (option_to_list s)) (stopped_by plus_byte c.loop-plus.stop test), given.counted, given_sum given)
 
-pub returns : goal.returns
-returns c =
+pub returns-then-plus-eq0 : goal.returns-then-plus-eq0
+returns-then-plus-eq0 c =
     let so_far = c.loop-plus.invariant in
-    subtype_at c.loop-plus.stop c.loop-plus.plus _ so_far.passing so_far.plus so_far.passes (sym c.eq.ensures ∙ c.loop-plus-test.false)
+    subtype_at c.loop-plus.stop None _ so_far.passing (so_far.plus ∙ cond-true _ _ _ (eq-eqb _ 0 c.if-plus-eq0.true)) so_far.passes
+    (sym c.eq.ensures ∙ c.loop-plus-test.false)
+
+pub returns-else-plus-eq0 : goal.returns-else-plus-eq0
+returns-else-plus-eq0 c =
+    let so_far = c.loop-plus.invariant in
+    subtype_at c.loop-plus.stop _ _ so_far.passing (so_far.plus ∙ cond-false _ _ _ (ne_eqb _ 0 c.if-plus-eq0.false)) so_far.passes
+    (sym c.eq.ensures ∙ c.loop-plus-test.false)

@@ -1,6 +1,6 @@
 -- The run up to the last plus, with its position, or 0, and then the bytes up to the one that stops them.
-use Rattle.std.proofs.Common.{◌≡◌, ◌+◌, ◌-◌, length}
-use Rattle.std.specs.Prelude.{unwrap_or}
+use Rattle.std.proofs.Common.{◌≡◌, ◌+◌, ◌-◌, length, Some, None}
+use Rattle.std.specs.Prelude.{if◌then◌else◌, ◌==◌}
 use Rattle.std.specs.Option.{option_to_list}
 use Rattle.mime.specs.Bytes.{is_token_byte}
 use Rattle.mime.specs.Inner.Remaining.{Remaining}
@@ -13,7 +13,7 @@ abbrev pub invariant-loop-plus : goal.invariant-loop-plus
 invariant-loop-plus l = record {
   mid : Remaining;
   passing : Passing is_token_byte l.fn.reader mid;
-  plus : l.plus ≡ unwrap_or (last_plus (l.fn.reader.count - l.fn.from) passing.run) 0;
+  plus : last_plus (l.fn.reader.count - l.fn.from) passing.run ≡ (if l.plus == 0 then None else Some l.plus);
   passes : Passes is_token_except_plus mid l.reader l.stop;
 }
 

@@ -3,13 +3,13 @@ use Rattle.std.proofs.Common.{ℕ, List, Bool, Option}
 use Rattle.mime.specs.Inner.KeptText.{AreLowPairs}
 use Rattle.mime.specs.Inner.Pairs.{pairs_within}
 use Rattle.mime.specs.Items.{items_of, IsFirstAccepted}
-use Rattle.mime.proofs.value.pairs.first_accepted_in.Given as goal
+use Rattle.mime.proofs.value.pairs.Pairs.first_accepted.Given as goal
 
 abbrev pub invariant-loop-left : goal.invariant-loop-left
 invariant-loop-left g l = record {
   decides : (found : Option (List ℕ × Bool))
       → IsFirstAccepted (g.K.ParamKey.Accepts l.key) (items_of (pairs_within l.left l.list)) found
-      → IsFirstAccepted (g.K.ParamKey.Accepts l.key) (items_of (pairs_within l.fn.count l.fn.list)) found;
+      → IsFirstAccepted (g.K.ParamKey.Accepts l.key) (items_of l.fn.self) found;
   low : AreLowPairs (pairs_within l.left l.list);
 }
 
