@@ -87,11 +87,6 @@ one_positions text first second has also =
     sym has.same_positions ∙ ap positions_of (one_tree has.tree also.tree has.well_formed also.well_formed (has.spelled ∙ sym also.spelled))
     ∙ also.same_positions
 
--- `*/*` is kept as it is
-pub star-IsKept : (positions : Positions) → HasPositions (42 ∷ 47 ∷ 42 ∷ []) positions → IsKept (42 ∷ 47 ∷ 42 ∷ []) positions
-star-IsKept positions has =
-    let star = kept_atom STAR_STAR in subst (IsKept (42 ∷ 47 ∷ 42 ∷ [])) (one_positions _ _ positions star.has has) star
-
 -- `*/*` is accepted
 pub star-accepted : (text : List ℕ) → text ≡ 42 ∷ 47 ∷ 42 ∷ [] → IsAccepted text
 star-accepted text is = subst IsAccepted (sym is) (accepted-from_positions _ _ (kept_atom STAR_STAR).has)
