@@ -9,7 +9,7 @@ use Rattle.mime_http.specs.declared.value.FieldError.TheVariants.{NotUtf8, Inval
 use Rattle.mime_headers.specs.Head.{without_start, without_end, without_mark, head_of, goes_on, continued, begins, values_of}
 use Rattle.mime_headers.specs.Program.{AreOffers}
 use Rattle.mime_headers.specs.Program.AreOffers.{no_word, a_word}
-use Rattle.mime_headers.specs.Report.{shown, suffix_row, media_rows, fault_at, fault_rows, none_row, weight_text, accept_rows, best_rows, verdict_of}
+use Rattle.mime_headers.specs.Report.{shown, media_rows, fault_at, fault_rows, none_row, weight_text, accept_rows, best_rows, verdict_of}
 use Rattle.mime_headers.specs.declared.verdict.Verdict.{Verdict}
 
 -- white space before and after
@@ -63,10 +63,6 @@ media = record {
 
 rows_of_media : media_rows media ≡ codes "Content-Type a/b+c;p=\"x\\\"y\"\nessence a/b+c\nsuffix c\nparam p=x\"y\n"
 rows_of_media = refl
-
--- no suffix has no row
-no_suffix_row : suffix_row None ≡ []
-no_suffix_row = refl
 
 -- a fault at a byte, and one at the end
 places :

@@ -9,11 +9,12 @@ use Rattle.mime_http.specs.HttpMediaType.{HttpReads}
 use Rattle.mime_http.specs.Ranges.{AreInOrder}
 use Rattle.mime_http.specs.Tight.{tight}
 use Rattle.mime_http.proofs.Highest.{first_left}
+use Rattle.mime_io.specs.Inner.{Adds}
 use Rattle.mime_headers.specs.Head.{without_start}
 use Rattle.mime_headers.specs.Report.{param_row, media_rows, ReportsBoundary, ReportsType, ReportsTypes, row_at, row_if_refused}
 use Rattle.mime_headers.specs.Report.ReportsType.{good}
 use Rattle.mime_headers.specs.Report.ReportsTypes.{no_more, one_more}
-use Rattle.mime_headers.specs.Inner.{Adds, AddsOffers}
+use Rattle.mime_headers.specs.Inner.{AddsOffers}
 
 -- ---- a loop that adds something for each item
 
@@ -32,12 +33,6 @@ rows-end f xs i new whole past left =
     sym (append-nil new) ∙ ap (λ items. new ++ flat_map f items) (sym (drop_of_length-le xs past)) ∙ left
 
 -- ---- reports by a relation
-
--- what a call that succeeds added is the report
-pub reported : {E : Type 0} (R : List ℕ → Type 0) (result : Result (Unit {0}) E) (rows old new : List ℕ) → R rows
-    → OnOk result (new ≡ old ++ rows) → OnOk result (Adds R old new)
-reported R (Ok done) rows old new report added = (rows, report, added)
-reported R (Err error) rows old new report added = tt
 
 -- the rows of a media type, and then that of its boundary
 pub reported-good : {E : Type 0} (result : Result (Unit {0}) E) (value : List ℕ) (media : MediaType) (old between new : List ℕ) → IsUtf8 value

@@ -4,10 +4,6 @@ use Rattle.mime.specs.Values.{MediaType}
 use Rattle.mime_http.specs.Ranges.{AreInOrder}
 use Rattle.mime_headers.specs.Report.{offer_rows}
 
--- what was added to the old bytes is a report
-abbrev pub Adds : (List ℕ → Type 0) → List ℕ → List ℕ → Type 0
-Adds IsReport old new = (rows : List ℕ) × IsReport rows × (new ≡ old ++ rows)
-
 -- what was added are the rows of offers
 pub record AddsOffers (ranges offers : List MediaType) (old new : List ℕ) : Type 0 where
   pub order : List ℕ

@@ -16,7 +16,7 @@ use Rattle.mime_http.specs.Tight.{tight}
 use Rattle.mime_http.specs.Unescaped.{unescaped}
 use Rattle.mime_http.specs.declared.value.FieldError.{FieldError}
 use Rattle.mime_http.specs.declared.value.FieldError.TheVariants.{NotUtf8, Invalid, NoMemory}
-use Rattle.mime_io.specs.Lines.{row}
+use Rattle.mime_io.specs.Lines.{row, suffix_row}
 use Rattle.mime_headers.specs.Head.{without_start, head_of, values_of}
 use Rattle.mime_headers.specs.declared.verdict.Verdict.{Verdict}
 
@@ -28,10 +28,6 @@ abbrev pub shown : List ℕ → List ℕ
 shown bytes = map shown_byte bytes
 
 -- ---- Content-Type
-
-abbrev pub suffix_row : Option (List ℕ) → List ℕ
-suffix_row None = []
-suffix_row (Some suffix) = row (codes "suffix ") suffix
 
 -- a parameter with what its value means
 abbrev pub param_row : List ℕ × List ℕ → List ℕ
@@ -79,13 +75,14 @@ pub data ReportsTypes : List (List ℕ) → List ℕ → Type 0 where
   one_more : {value rows others : List ℕ} {values : List (List ℕ)} → ReportsType (without_start value) rows → ReportsTypes values others
       → ReportsTypes (value ∷ values) (rows ++ others)
 
+-- the row which says that a field has no line
 abbrev pub none_row : List ℕ → List (List ℕ) → List ℕ
 none_row label [] = row label []
 none_row label (value ∷ values) = []
 
 -- ---- Accept
 
--- a weight in thousandths, with three decimals, as 0.800
+-- the last digit of a number, and a weight in thousandths with its three decimals, as 0.800
 abbrev pub digit : ℕ → ℕ
 digit number = 48 + number % 10
 
@@ -109,6 +106,7 @@ accept_rows (line ∷ lines) header = flat_map range_row header.ranges ++ flat_m
 
 -- ---- offers
 
+-- the row of an offer with the weight that the ranges give it; of that at a position; and if it weighs nothing
 abbrev pub offer_row : List MediaType → MediaType → List ℕ
 offer_row ranges offer = weighed_row (codes "offer ") (given_weight ranges offer) offer
 

@@ -5,11 +5,12 @@ ghost use Rattle.std.specs.Vec.{vec_items};
 ghost use Rattle.mime.specs.Values.{suffix_of};
 ghost use Rattle.mime_http.specs.HttpFaults.{HttpExplains};
 ghost use Rattle.mime_http.specs.HttpList.{IsHeader};
-ghost use Rattle.mime_io.specs.Lines.{row};
+ghost use Rattle.mime_io.specs.Inner.{Adds};
+ghost use Rattle.mime_io.specs.Lines.{row, suffix_row};
 ghost use Rattle.mime_headers.specs.Head.{without_start};
-ghost use Rattle.mime_headers.specs.Report.{shown_byte, shown, suffix_row, param_row, media_rows, ReportsBoundary, fault_at, fault_rows, ReportsType, ReportsTypes, none_row};
+ghost use Rattle.mime_headers.specs.Report.{shown_byte, shown, param_row, media_rows, ReportsBoundary, fault_at, fault_rows, ReportsType, ReportsTypes, none_row};
 ghost use Rattle.mime_headers.specs.Report.{digit, weight_text, weighed_row, range_row, bad_row, accept_rows, row_at, row_if_refused, best_of, best_rows, verdict_of, Reports, IsReportOf};
-ghost use Rattle.mime_headers.specs.Inner.{Adds, AddsOffers};
+ghost use Rattle.mime_headers.specs.Inner.{AddsOffers};
 
 use crate::head::values_of;
 use crate::verdict::Verdict;

@@ -2,7 +2,8 @@
 -- check.
 use Rattle.std.proofs.Common.{◌≡◌, ◌*◌, [], ◌∷◌, map, refl, codes}
 use Rattle.mime_io.specs.declared.error.RunError.TheVariants.{Read, Write, TooLong, NoMemory}
-use Rattle.mime_io.specs.Lines.{lines_of, row}
+use Rattle.std.specs.Prelude.{Some, None}
+use Rattle.mime_io.specs.Lines.{lines_of, row, suffix_row}
 use Rattle.mime_io.specs.Stops.{limit, stop_text}
 
 -- no bytes have no line
@@ -24,6 +25,10 @@ line_with_return = refl
 -- the row of an empty text ends with a space
 empty_row : row (codes "subtype ") [] ≡ codes "subtype \n"
 empty_row = refl
+
+-- a suffix has a row, even if it is empty, and none has none
+suffix_rows : (suffix_row (Some (codes "xml")) ≡ codes "suffix xml\n") × (suffix_row (Some []) ≡ codes "suffix \n") × (suffix_row None ≡ [])
+suffix_rows = (refl, refl, refl)
 
 -- the most bytes of an input
 limit_of_input : limit ≡ 1024 * 1024

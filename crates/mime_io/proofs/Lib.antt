@@ -1,3 +1,4 @@
 mod IoFacts
 mod LineCuts
 mod ReadingOn
+pub mod Reported

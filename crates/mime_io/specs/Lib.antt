@@ -1,3 +1,5 @@
 -- the trusted pages
 pub mod Lines
 pub mod Stops
+-- private
+pub mod Inner

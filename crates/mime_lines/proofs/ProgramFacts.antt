@@ -16,9 +16,9 @@ use Rattle.mime.specs.CutLaws.{OneCut}
 use Rattle.mime.specs.declared.scan.fault.ParseError.{ParseError}
 use Rattle.mime.specs.declared.scan.fault.ParseError.TheVariants.{InvalidToken}
 use Rattle.mime_lines.specs.declared.mode.Mode.{Mode}
-use Rattle.mime_io.specs.Lines.{row}
+use Rattle.mime_io.specs.Lines.{row, suffix_row}
 use Rattle.mime_lines.specs.Program.{mode_named}
-use Rattle.mime_lines.specs.Report.{suffix_row, param_rows, value_rows, item_rows, ReportsText, ReportsLine, ReportsLines, IsReportOf}
+use Rattle.mime_lines.specs.Report.{param_rows, value_rows, item_rows, ReportsText, ReportsLine, ReportsLines, IsReportOf}
 use Rattle.mime_lines.specs.Report.ReportsText.{read, rejected, listed}
 use Rattle.mime_lines.specs.Report.ReportsLine.{not_text, is_text}
 use Rattle.mime_lines.specs.Report.ReportsLines.{no_more, line_more}

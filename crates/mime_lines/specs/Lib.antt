@@ -1,5 +1,3 @@
 -- the trusted pages
 pub mod Report
 pub mod Program
--- private
-pub mod Inner

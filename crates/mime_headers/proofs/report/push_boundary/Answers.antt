@@ -5,7 +5,7 @@ use Rattle.mime_http.specs.Boundary.{IsBoundaryOf}
 use Rattle.mime_io.specs.Lines.{row}
 use Rattle.mime_headers.specs.Report.{ReportsBoundary}
 use Rattle.mime_headers.specs.Report.ReportsBoundary.{bounded, unbounded}
-use Rattle.mime_headers.proofs.Rows.{reported}
+use Rattle.mime_io.proofs.Reported.{reported}
 use Rattle.mime_headers.proofs.report.push_boundary.Goals as goal
 
 pub returns-in-Some : goal.returns-in-Some

@@ -1,7 +1,7 @@
 -- A fault other than want of memory has its rows.
 use Rattle.mime_headers.specs.Report.{ReportsType}
 use Rattle.mime_headers.specs.Report.ReportsType.{bad}
-use Rattle.mime_headers.proofs.Rows.{reported}
+use Rattle.mime_io.proofs.Reported.{reported}
 use Rattle.mime_headers.proofs.report.push_rejected.Goals as goal
 
 pub returns-in_default : goal.returns-in_default

@@ -3,7 +3,7 @@ use Rattle.std.proofs.Common.{subst, OnOk}
 use Rattle.std.specs.Vec.{vec_items}
 use Rattle.std.proofs.lemmas.Str.Ascii.{trim_ascii_start_is}
 use Rattle.mime_headers.specs.Report.{ReportsType}
-use Rattle.mime_headers.specs.Inner.{Adds}
+use Rattle.mime_io.specs.Inner.{Adds}
 use Rattle.mime_headers.proofs.report.push_type.Goals as goal
 
 pub returns : goal.returns

@@ -1,6 +1,6 @@
--- What the code says on the way; no contract of another module names it.
+-- What the programs' code says on the way.
 use Rattle.std.specs.Prelude.{◌≡◌, List, ℕ, ◌++◌}
 
--- what was added to the old text is a report
+-- what was added to the old bytes is a report
 abbrev pub Adds : (List ℕ → Type 0) → List ℕ → List ℕ → Type 0
 Adds IsReport old new = (rows : List ℕ) × IsReport rows × (new ≡ old ++ rows)
