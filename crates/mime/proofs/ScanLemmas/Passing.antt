@@ -50,13 +50,13 @@ stopped_by byte None test = absurd (true≢false (sym test))
 stopped_by byte (Some b) test = ap Some (eqb-true b byte test)
 
 -- a reader at a position in a text
-abbrev pub reader_at : List ℕ → ℕ → ℕ → ℕ → Remaining
-reader_at text at before known = record { left = drop at text; count = before + at; known = known }
+abbrev pub reader_at : List ℕ → ℕ → ℕ → Remaining
+reader_at text at before = record { left = drop at text; count = before + at }
 
 -- bytes of the class are skipped
-pub passing_skip : (class : ℕ → Bool) (text : List ℕ) (at n before known : ℕ) → at + n ≤ length text → list_all class (take n (drop at text)) ≡ true
-    → Passing class (reader_at text at before known) (reader_at text (at + n) before known)
-passing_skip class text at n before known room all = record {
+pub passing_skip : (class : ℕ → Bool) (text : List ℕ) (at n before : ℕ) → at + n ≤ length text → list_all class (take n (drop at text)) ≡ true
+    → Passing class (reader_at text at before) (reader_at text (at + n) before)
+passing_skip class text at n before room all = record {
   run = take n (drop at text);
   of_class = all;
   given = record {

@@ -17,9 +17,9 @@ pub record Given (old new : Remaining) (run : List ℕ) (stop : Option ℕ) : Ty
   pub bytes : old.left ≡ run ++ (option_to_list stop ++ new.left)
   pub counted : new.count ≡ old.count + (length run + length (option_to_list stop))
 
--- the next byte was given, or there was none; no more bytes are known than before
+-- the next byte was given, or there was none
 abbrev pub GivesFirst : Remaining → Remaining → Option ℕ → Type 0
-GivesFirst old new first = Given old new [] first × MatchOption first (new.left ≡ []) (λ b. ⊤) × (new.known ≡ old.known)
+GivesFirst old new first = Given old new [] first × MatchOption first (new.left ≡ []) (λ b. ⊤)
 
 -- a run of a class was passed, perhaps not the longest
 pub record Passing (class : ℕ → Bool) (old now : Remaining) : Type 0 where

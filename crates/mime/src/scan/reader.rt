@@ -31,20 +31,19 @@ impl<'a> Model for ByteReader<'a> {
 
     ghost Value = { Remaining };
 
-    ghost view = { λ r. record { left = drop r.at r.text.now; count = r.before + r.at; known = r.known } };
+    ghost view = { λ r. record { left = drop r.at r.text.now; count = r.before + r.at } };
 
     ghost invariant = { λ r. IsReader r.text.now r.at r.before r.known r.stops };
 }
 
 impl<'a> ByteReader<'a> {
     /// A reader of all bytes of `text`, whose count begins at `count`. It looks at a byte only when it returns it, and
-    /// skips none, since it knows none, so that its count is that of the steps of a `MimeIter`.
+    /// skips none, so that its count is that of the steps of a `MimeIter`.
     #[inline(always)]
     pub(crate) fn new(text: &'a str, count: u128) -> ByteReader<'a>
         requires { count + length text.now < 2 ^ 128 }
         ensures left { result.left ≡ text.now }
         ensures count { result.count ≡ count }
-        ensures known { result.known ≡ 0 }
     {
         ByteReader {
             text: text.as_bytes(),
@@ -89,8 +88,7 @@ impl<'a> ByteReader<'a> {
     /// Skips bytes of a class, block by block.
     #[inline(always)]
     fn skip_blocks(&mut self, class: &Class)
-        ensures passing { Passing (is_member class.now) self.old self.new }
-        ensures known { self.new.known ≡ self.old.known }
+        ensures { Passing (is_member class.now) self.old self.new }
     {
         if self.text.len() - self.at >= BLOCK {
             self.at += run_by_blocks(&self.text[self.at..], class);
@@ -101,9 +99,7 @@ impl<'a> ByteReader<'a> {
     /// none if the next byte isn't known, since the runs there are mostly short.
     #[inline(always)]
     pub(crate) fn skip_token_bytes(&mut self)
-        ensures passing { Passing is_token_except_plus self.old self.new }
-        ensures known { self.new.known ≡ self.old.known }
-        ensures none { self.old.known ≡ 0 → self.new ≡ self.old }
+        ensures { Passing is_token_except_plus self.old self.new }
     {
         if self.at < self.known {
             let stops = self.stops >> self.at;
@@ -119,9 +115,7 @@ impl<'a> ByteReader<'a> {
     /// Skips bytes of quoted text, if the next byte is known: perhaps not all that follow.
     #[inline(always)]
     pub(crate) fn skip_quoted_text(&mut self)
-        ensures passing { Passing is_quoted_text_byte self.old self.new }
-        ensures known { self.new.known ≡ self.old.known }
-        ensures none { self.old.known ≡ 0 → self.new ≡ self.old }
+        ensures { Passing is_quoted_text_byte self.old self.new }
     {
         if self.at < self.known {
             self.skip_blocks(&QUOTED_TEXT);

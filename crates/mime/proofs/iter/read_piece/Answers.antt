@@ -9,10 +9,10 @@ use Rattle.mime.proofs.iter.read_piece.Goals as goal
 
 -- the reader before the text's first byte
 abbrev start : Start → Remaining
-start c = record { left = c.args.text.now; count = c.args.reader.now.count - 1; known = c.args.reader.now.known }
+start c = record { left = c.args.text.now; count = c.args.reader.now.count - 1 }
 
 first_given : (c : Start) → GivesFirst (start c) c.args.reader.now (Some c.args.first)
-first_given c = (record { bytes = c.requires.first; counted = omega (arith, c.requires.begun) }, tt, refl)
+first_given c = (record { bytes = c.requires.first; counted = omega (arith, c.requires.begun) }, tt)
 
 pub range-requires-clause-end_boundary : goal.range-requires-clause-end_boundary
 range-requires-clause-end_boundary c =

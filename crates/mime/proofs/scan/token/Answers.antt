@@ -4,7 +4,7 @@ use Rattle.mime.proofs.ScanLemmas.Passing.{passing_more, passing_wider, token_by
 use Rattle.mime.proofs.scan.token.Goals as goal
 
 pub loop-byte-init : goal.loop-byte-init
-loop-byte-init c = passing_wider token_byte c.skip_token_bytes.ensures.passing
+loop-byte-init c = passing_wider token_byte c.skip_token_bytes.ensures
 
 pub loop-byte-preserved : goal.loop-byte-preserved
 loop-byte-preserved c =

@@ -26,8 +26,8 @@ invariant_of-self-else-stops-eq0 c =
       mask = keeps.mask;
     }
 
-pub returns-else-stops-eq0-clause-passing : goal.returns-else-stops-eq0-clause-passing
-returns-else-stops-eq0-clause-passing c =
+pub returns-else-stops-eq0 : goal.returns-else-stops-eq0
+returns-else-stops-eq0 c =
     let inside = c.self.inside in
     let keeps = c.self.invariant in
     let text = inside.text.now in
@@ -37,11 +37,11 @@ returns-else-stops-eq0-clause-passing c =
     let members = known-some COMMON_TOKEN_BYTES text inside.at inside.known inside.stops keeps.mask keeps.there keeps.few c.if-self.true
     c.if-stops-eq0.false in
     passing_wider are_token_bytes
-    (subst (λ old. Passing (is_member COMMON_TOKEN_BYTES) old (reader_at text (inside.at + n) inside.before inside.known)) c.self.view_is
-    (passing_skip (is_member COMMON_TOKEN_BYTES) text inside.at n inside.before inside.known (omega (arith, few, keeps.there)) members))
+    (subst (λ old. Passing (is_member COMMON_TOKEN_BYTES) old (reader_at text (inside.at + n) inside.before)) c.self.view_is
+    (passing_skip (is_member COMMON_TOKEN_BYTES) text inside.at n inside.before (omega (arith, few, keeps.there)) members))
 
-pub returns-then-stops-eq0-clause-passing : goal.returns-then-stops-eq0-clause-passing
-returns-then-stops-eq0-clause-passing c =
+pub returns-then-stops-eq0 : goal.returns-then-stops-eq0
+returns-then-stops-eq0 c =
     let inside = c.self.inside in
     let keeps = c.self.invariant in
     let text = inside.text.now in
@@ -49,10 +49,10 @@ returns-then-stops-eq0-clause-passing c =
     let whole : inside.at + size ≡ inside.known = omega (arith, c.if-self.true) in
     let members = known-none COMMON_TOKEN_BYTES text inside.at inside.known inside.stops keeps.mask keeps.there keeps.few c.if-self.true
     c.if-stops-eq0.true in
-    let skipped = passing_skip (is_member COMMON_TOKEN_BYTES) text inside.at size inside.before inside.known (omega (arith, whole, keeps.there)) members in
+    let skipped = passing_skip (is_member COMMON_TOKEN_BYTES) text inside.at size inside.before (omega (arith, whole, keeps.there)) members in
     passing_wider are_token_bytes
     (passing_then
-    (subst (λ old. Passing (is_member COMMON_TOKEN_BYTES) old (reader_at text inside.known inside.before inside.known)) c.self.view_is
-    (subst (λ n. Passing (is_member COMMON_TOKEN_BYTES) (reader_at text inside.at inside.before inside.known) (reader_at text n inside.before inside.known)) whole
+    (subst (λ old. Passing (is_member COMMON_TOKEN_BYTES) old (reader_at text inside.known inside.before)) c.self.view_is
+    (subst (λ n. Passing (is_member COMMON_TOKEN_BYTES) (reader_at text inside.at inside.before) (reader_at text n inside.before)) whole
     skipped))
-    c.skip_blocks.ensures.passing)
+    c.skip_blocks.ensures)
