@@ -14,7 +14,7 @@ use Rattle.std.proofs.Math.Seq.{take-add}
 use Rattle.std.proofs.lemmas.Nat.{le_or_l}
 use Rattle.std.specs.Int.Bits.{bit_or}
 use lib.Count.{count_trailing_zeros}
-use Rattle.mime.proofs.BlocksLemmas.{mask-drop}
+use Rattle.mime.proofs.BlocksLemmas.{mask-drop, all_pass}
 use Rattle.mime.proofs.BytesLemmas.{at_byte}
 use Rattle.mime.specs.Bytes.{is_token_byte, is_quoted_byte, is_quoted_text_byte}
 use Rattle.mime.specs.Inner.ByteClasses.{is_token_except_plus}
@@ -164,7 +164,7 @@ outside-halves class a b found one other is =
 -- ---- runs
 
 -- what passes a test up to the first that fails it
-passes_before : (p : ℕ → Bool) (xs : List ℕ) → list_all p (take (prefix_len p xs) xs) ≡ true
+pub passes_before : (p : ℕ → Bool) (xs : List ℕ) → list_all p (take (prefix_len p xs) xs) ≡ true
 passes_before p [] = refl
 passes_before p (x ∷ xs) = go (p x) refl (passes_before p xs)
   where
@@ -182,11 +182,12 @@ members-none class bytes none =
 
 -- bytes before the lowest bit are members
 first_bit : (class : Class) (bytes : List ℕ) (found : ℕ) → found ≡ outside class bytes → length bytes ≤ 64 → found ≢ 0
-    → (count_trailing_zeros 64 found ≤ length bytes)
+    → (count_trailing_zeros 64 found < length bytes)
     × (list_all (is_member class) (take (count_trailing_zeros 64 found) bytes) ≡ true)
 first_bit class bytes found is few some =
-    let first = ap (count_trailing_zeros 64) is ∙ trailing_mask_l (is_outside class) 64 bytes few (omega (arith, some, is)) in (
-      omega (arith, first, prefix_len-le-length (is_member class) bytes),
+    let first = ap (count_trailing_zeros 64) is ∙ trailing_mask_l (is_outside class) 64 bytes few (omega (arith, some, is)) in
+    let stops : prefix_len (is_member class) bytes ≢ length bytes = λ all. some (is ∙ all_pass (is_outside class) bytes all) in (
+      omega (arith, first, stops, prefix_len-le-length (is_member class) bytes),
       ap (λ n. list_all (is_member class) (take n bytes)) first ∙ passes_before (is_member class) bytes,
     )
 
@@ -209,7 +210,7 @@ module _ (class : Class) (text : List ℕ) (size found : ℕ) (room : 16 ≤ len
   pub block-none : found ≡ 0 → list_all (is_member class) (take 16 (drop size text)) ≡ true
   block-none none = members-none class (take 16 (drop size text)) (sym block ∙ none)
 
-  shown : found ≢ 0 → (count_trailing_zeros 64 found ≤ length (take 16 (drop size text)))
+  shown : found ≢ 0 → (count_trailing_zeros 64 found < length (take 16 (drop size text)))
       × (list_all (is_member class) (take (count_trailing_zeros 64 found) (take 16 (drop size text))) ≡ true)
   shown some = first_bit class (take 16 (drop size text)) found block (omega (arith, long)) some
 
@@ -241,11 +242,11 @@ module _ (class : Class) (text : List ℕ) (at known stops : ℕ) (is : stops �
   pub known-none : stops / 2 ^ at ≡ 0 → list_all (is_member class) (take (known - at) (drop at text)) ≡ true
   known-none none = members-none class next (sym next-mask ∙ none)
 
-  first_shown : stops / 2 ^ at ≢ 0 → (count_trailing_zeros 64 (stops / 2 ^ at) ≤ length next)
+  first_shown : stops / 2 ^ at ≢ 0 → (count_trailing_zeros 64 (stops / 2 ^ at) < length next)
       × (list_all (is_member class) (take (count_trailing_zeros 64 (stops / 2 ^ at)) next) ≡ true)
   first_shown some = first_bit class next (stops / 2 ^ at) next-mask (omega (arith, next-long, few)) some
 
-  pub known-few : stops / 2 ^ at ≢ 0 → at + count_trailing_zeros 64 (stops / 2 ^ at) ≤ known
+  pub known-few : stops / 2 ^ at ≢ 0 → at + count_trailing_zeros 64 (stops / 2 ^ at) < known
   known-few some = omega (arith, (first_shown some).0, next-long, inside)
 
   pub known-some : stops / 2 ^ at ≢ 0 → list_all (is_member class) (take (count_trailing_zeros 64 (stops / 2 ^ at)) (drop at text)) ≡ true

@@ -48,10 +48,21 @@ pub(crate) enum Verdict {
 fn token(reader: &mut ByteReader<'_>) -> Option<u8>
     ensures { Passes is_token_byte reader.old reader.new result }
 {
-    reader.skip_token_bytes();
-    while let Some(byte) = reader.next() {
+    if let Some(known) = reader.known_stop() {
+        if !is_token(known) {
+            return Some(known);
+        }
+    }
+    let far = reader.far();
+    while reader.left() > far {
+        let byte = reader.next_byte();
         if !is_token(byte) {
             return Some(byte);
+        }
+    }
+    while let Some(stop) = reader.next_far() {
+        if !is_token(stop) {
+            return Some(stop);
         }
     }
     None
@@ -62,10 +73,21 @@ fn token(reader: &mut ByteReader<'_>) -> Option<u8>
 fn token_to_plus(reader: &mut ByteReader<'_>) -> Option<u8>
     ensures { Passes is_token_except_plus reader.old reader.new result }
 {
-    reader.skip_token_bytes();
-    while let Some(byte) = reader.next() {
+    if let Some(known) = reader.known_stop() {
+        if !is_token_except_plus(known) {
+            return Some(known);
+        }
+    }
+    let far = reader.far();
+    while reader.left() > far {
+        let byte = reader.next_byte();
         if !is_token_except_plus(byte) {
             return Some(byte);
+        }
+    }
+    while let Some(stop) = reader.next_far() {
+        if !is_token_except_plus(stop) {
+            return Some(stop);
         }
     }
     None
@@ -131,6 +153,7 @@ fn subtype(reader: &mut ByteReader<'_>, from: u128) -> (Option<usize>, Option<u8
     requires fits { reader.old.count + length reader.old.left ≤ from + 2 ^ 64 }
     ensures { PassesSubtype (reader.old.count - from) reader.old reader.new result }
 {
+    reader.look_further();
     // 0 means none yet: position 0 is in the type.
     let mut plus = 0;
     let mut stop = token_to_plus(reader);

@@ -1,17 +1,18 @@
 -- What a pass over a reader's bytes has given so far, one byte or one run more, and at its end.
-use Rattle.std.proofs.Common.{◌≡◌, ℕ, ◌+◌, ◌<◌, Bool, true, false, eqb, List, [], ◌∷◌, ◌++◌, length, Option, Some, None, refl, sym, ap, ◌∙◌, subst, arith, append_assoc, append-nil, length-append, take, drop, ◌≤◌, length-drop}
+use Rattle.std.proofs.Common.{◌≡◌, ℕ, suc, get_or, ◌+◌, ◌<◌, Bool, true, false, eqb, List, [], ◌∷◌, ◌++◌, length, Option, Some, None, refl, sym, ap, ◌∙◌, subst, arith, append_assoc, append-nil, length-append, take, drop, ◌≤◌, length-drop}
 use Rattle.std.specs.Prelude.{IsTrue, IsFalse, not, MatchOption}
 use Rattle.std.specs.List.{list_all}
 use Rattle.std.specs.Option.{option_eq, option_to_list}
 use Rattle.std.proofs.lemmas.Bool.{and_from, and_parts, eqb-true, true≢false, not-true, false_from_ne_true}
 use Rattle.std.proofs.lemmas.List.Folds.{list_all-append}
+use Rattle.std.proofs.Math.Seq.{drop-cons}
 use Rattle.std.proofs.lemmas.List.{take-append-drop, drop-drop, length-take-le}
 use Rattle.mime.specs.Bytes.{is_token_byte, is_quoted_byte, is_quoted_text_byte, plus_byte, backslash_byte}
 use Rattle.mime.specs.Inner.Quoted.{awaits_next, takes, takes_all, awaits_after, IsOpenContent, continues}
 use Rattle.mime.specs.Values.{last_plus}
 use Rattle.mime.specs.Inner.Remaining.{Remaining}
 use Rattle.mime.specs.Inner.ByteClasses.{is_token_except_plus}
-use Rattle.mime.specs.Inner.Scanning.{Given, GivesFirst, Passing, Passes, PassesContent, PassesSubtype}
+use Rattle.mime.specs.Inner.Scanning.{Given, GivesFirst, Reaches, Passing, Passes, PassesContent, PassesSubtype}
 use Rattle.mime.proofs.BytesLemmas.{list_all-wider}
 use Rattle.mime.proofs.GrammarLemmas.Content.{takes-backslash, takes_all-text, awaits_after-text, awaits_after-append, takes_all-append, not_taken}
 
@@ -34,6 +35,11 @@ given_whole {new} {xs} {b} g = record {
 given_stop : {old mid new : Remaining} {xs : List ℕ} {stop : Option ℕ} → Given old mid xs None → GivesFirst mid new stop
     → Given old new xs stop
 given_stop {xs = xs} g first = rw (sym (append-nil xs)) (given_then g first.0)
+
+-- a run of a class, and the next byte or the end
+pub reaches_next : {class : ℕ → Bool} {old mid new : Remaining} {stop : Option ℕ} → Passing class old mid → GivesFirst mid new stop
+    → Reaches class old new stop
+reaches_next p first = record { run = p.run; of_class = p.of_class; given = given_stop p.given first }
 
 -- what is counted and what is left make one sum
 pub given_sum : {old new : Remaining} {xs : List ℕ} {stop : Option ℕ} → Given old new xs stop
@@ -65,10 +71,27 @@ passing_skip class text at n before room all = record {
   };
 }
 
+-- and the byte after them is given
+pub reaches_skip : (class : ℕ → Bool) (text : List ℕ) (at n before : ℕ) → at + n < length text → list_all class (take n (drop at text)) ≡ true
+    → Reaches class (reader_at text at before) (reader_at text (at + n + 1) before) (Some (get_or text (at + n) 0))
+reaches_skip class text at n before room all =
+    let next : at + n + 1 ≡ suc (at + n) = omega arith in
+    reaches_next (passing_skip class text at n before (omega (arith, room)) all) (
+      record {
+        bytes = drop-cons text (at + n) 0 room ∙ ap (λ m. get_or text (at + n) 0 ∷ drop m text) (sym next);
+        counted = omega arith;
+      },
+      tt,
+    )
+
+-- nothing was skipped
+pub passing_none : (class : ℕ → Bool) (now : Remaining) → Passing class now now
+passing_none class now = record { run = []; of_class = refl; given = record { bytes = refl; counted = omega arith } }
+
 -- a run of a class is one of a wider class
-pub passing_wider : {class wider : ℕ → Bool} {old new : Remaining} → ((b : ℕ) → class b ≡ true → wider b ≡ true)
-    → Passing class old new → Passing wider old new
-passing_wider {class} {wider} within p = record {
+pub reaches_wider : {class wider : ℕ → Bool} {old new : Remaining} {stop : Option ℕ} → ((b : ℕ) → class b ≡ true → wider b ≡ true)
+    → Reaches class old new stop → Reaches wider old new stop
+reaches_wider {class} {wider} within p = record {
   run = p.run;
   of_class = list_all-wider class wider within p.run p.of_class;
   given = p.given;
@@ -91,6 +114,31 @@ passes_then {class} p q = record {
   given = given_then p.given q.given;
   stopped = q.stopped;
 }
+
+-- a run, and then one that a byte of the class ends
+pub passing_with : {class within : ℕ → Bool} {old mid new : Remaining} {b : ℕ} → ((x : ℕ) → within x ≡ true → class x ≡ true)
+    → Passing class old mid → Reaches within mid new (Some b) → class b ≡ true → Passing class old new
+passing_with {class} {b = b} wider p q fits =
+    let r = reaches_wider wider q in
+    record {
+      run = p.run ++ (r.run ++ b ∷ []);
+      of_class =
+          list_all-append class p.run (r.run ++ b ∷ [])
+          ∙ and_from _ _ p.of_class (list_all-append class r.run (b ∷ []) ∙ and_from _ _ r.of_class (and_from (class b) true fits refl));
+      given = given_then p.given (given_whole r.given);
+    }
+
+-- a run, and then the longest one, whose end is known
+pub passes_to : {class within : ℕ → Bool} {old mid new : Remaining} (stop : Option ℕ) → ((x : ℕ) → within x ≡ true → class x ≡ true)
+    → Passing class old mid → Reaches within mid new stop → MatchOption stop (new.left ≡ []) (λ b. IsFalse (class b)) → Passes class old new stop
+passes_to {class} stop wider p q stopped =
+    let r = reaches_wider wider q in
+    record {
+      run = p.run ++ r.run;
+      of_class = list_all-append class p.run r.run ∙ and_from _ _ p.of_class r.of_class;
+      given = given_then p.given r.given;
+      stopped = stopped;
+    }
 
 -- one byte more of the class
 abbrev pub passing_more : {class : ℕ → Bool} {old mid new : Remaining} {b : ℕ} → (p : Passing class old mid)

@@ -21,11 +21,15 @@ pub record Given (old new : Remaining) (run : List ℕ) (stop : Option ℕ) : Ty
 abbrev pub GivesFirst : Remaining → Remaining → Option ℕ → Type 0
 GivesFirst old new first = Given old new [] first × MatchOption first (new.left ≡ []) (λ b. ⊤)
 
--- a run of a class was passed, perhaps not the longest
-pub record Passing (class : ℕ → Bool) (old now : Remaining) : Type 0 where
+-- a run of a class was passed, perhaps not the longest, and maybe the byte after it was given
+pub record Reaches (class : ℕ → Bool) (old new : Remaining) (stop : Option ℕ) : Type 0 where
   pub run : List ℕ
   pub of_class : IsTrue (list_all class run)
-  pub given : Given old now run None
+  pub given : Given old new run stop
+
+-- a run of a class was passed, perhaps not the longest
+abbrev pub Passing : (ℕ → Bool) → Remaining → Remaining → Type 0
+Passing class old now = Reaches class old now None
 
 -- the longest run of a class was passed; the byte after it isn't of the class
 pub record Passes (class : ℕ → Bool) (old new : Remaining) (stop : Option ℕ) : Type 0 where

@@ -1,13 +1,18 @@
 //! A reader of a string's bytes that counts those it has returned or skipped.
 
-ghost use Rattle.std.specs.Prelude.{◌≡◌, ◌+◌, ◌-◌, ◌<◌, ◌≤◌, ◌^◌, length};
+ghost use Rattle.std.specs.Prelude.{◌≡◌, ◌≢◌, ◌+◌, ◌-◌, ◌<◌, ◌≤◌, ◌^◌, [], ◌∷◌, length, drop, None, Some};
+ghost use Rattle.std.specs.List.{prefix_len};
 ghost use Rattle.mime.specs.Bytes.{is_quoted_text_byte};
 ghost use Rattle.mime.specs.Inner.ByteClasses.{is_token_except_plus};
 ghost use Rattle.mime.specs.Inner.Members.{is_member};
-ghost use Rattle.mime.specs.Inner.Scanning.{GivesFirst, Passing};
+ghost use Rattle.mime.specs.Inner.Scanning.{GivesFirst, Passing, Reaches};
 
 use crate::blocks::BLOCK;
-use crate::scan::runs::{COMMON_TOKEN_BYTES, Class, QUOTED_TEXT, outside_at_start, run_by_blocks};
+use crate::bytes::{is_token, is_token_except_plus};
+use crate::scan::runs::{
+    COMMON_TOKEN_BYTES, Class, QUOTED_TEXT, WINDOW, outside_at_start, outside_in_window,
+    run_by_blocks,
+};
 use std::marker::Model;
 
 /// The bytes of a string, of which the first are read.
@@ -22,6 +27,28 @@ pub(crate) struct ByteReader<'a> {
     known: usize,
     /// Which of these aren't common token bytes, as a bit mask.
     stops: u64,
+    /// How many bytes of a run are read in its caller's loop. The others are read by a call, which is dearer for a short run.
+    near: usize,
+}
+
+/// How many bytes of a run are read in the loop of a `MimeIter`'s caller. Most tokens are shorter.
+const NEAR: usize = 24;
+
+/// The position of the byte, from a position on, that ends a run of token bytes other than the plus, or the length. It isn't
+/// inlined: between other loops, its own would have twice as many instructions.
+#[inline(never)]
+fn end_of_run(text: &[u8], from: usize) -> usize
+    requires { from ≤ length text.now }
+    ensures { result ≡ from + prefix_len is_token_except_plus (drop from text.now) }
+{
+    let mut at = from;
+    while at < text.len() {
+        if !is_token_except_plus(text[at]) {
+            return at;
+        }
+        at += 1;
+    }
+    at
 }
 
 impl<'a> Model for ByteReader<'a> {
@@ -37,8 +64,8 @@ impl<'a> Model for ByteReader<'a> {
 }
 
 impl<'a> ByteReader<'a> {
-    /// A reader of all bytes of `text`, whose count begins at `count`. It looks at a byte only when it returns it, and
-    /// skips none, so that its count is that of the steps of a `MimeIter`.
+    /// A reader of all bytes of `text`, whose count begins at `count`. It looks at no byte but those that it has counted, and
+    /// the next one, so that its count is that of the steps of a `MimeIter`.
     #[inline(always)]
     pub(crate) fn new(text: &'a str, count: u128) -> ByteReader<'a>
         requires { count + length text.now < 2 ^ 128 }
@@ -51,6 +78,7 @@ impl<'a> ByteReader<'a> {
             before: count,
             known: 0,
             stops: 0,
+            near: NEAR,
         }
     }
 
@@ -69,6 +97,7 @@ impl<'a> ByteReader<'a> {
             before: 0,
             known,
             stops,
+            near: usize::MAX,
         }
     }
 
@@ -85,6 +114,51 @@ impl<'a> ByteReader<'a> {
         Some(byte)
     }
 
+    /// The number of bytes that are left.
+    #[inline(always)]
+    pub(crate) fn left(&self) -> usize
+        ensures { result ≡ length self.now.left }
+    {
+        self.text.len() - self.at
+    }
+
+    /// How many bytes are left after those of a run, from the next byte on, that are read in the caller's loop.
+    #[inline(always)]
+    pub(crate) fn far(&self) -> usize {
+        self.left().saturating_sub(self.near)
+    }
+
+    /// The next byte, of a string that hasn't ended.
+    #[inline(always)]
+    pub(crate) fn next_byte(&mut self) -> u8
+        requires { self.old.left ≢ [] }
+        ensures { GivesFirst self.old self.new (Some result) }
+    {
+        let byte = self.text[self.at];
+        self.at += 1;
+        byte
+    }
+
+    /// Skips token bytes other than the plus, if any byte is left, by a call.
+    #[inline(always)]
+    fn skip_far(&mut self)
+        ensures { Passing is_token_except_plus self.old self.new }
+    {
+        if self.at < self.text.len() {
+            self.at = end_of_run(self.text, self.at);
+        }
+    }
+
+    /// Skips token bytes other than the plus by a call, and returns the byte after them.
+    #[inline(always)]
+    pub(crate) fn next_far(&mut self) -> Option<u8>
+        ensures reaches { Reaches is_token_except_plus self.old self.new result }
+        ensures end { result ≡ None → self.new.left ≡ [] }
+    {
+        self.skip_far();
+        self.next()
+    }
+
     /// Skips bytes of a class, block by block.
     #[inline(always)]
     fn skip_blocks(&mut self, class: &Class)
@@ -95,20 +169,50 @@ impl<'a> ByteReader<'a> {
         }
     }
 
-    /// Skips token bytes other than the plus: up to the next stop that is known, or past the known bytes by blocks. It skips
-    /// none if the next byte isn't known, since the runs there are mostly short.
+    /// Skips token bytes other than the plus that are known, and returns the first known byte that may end them. A later run
+    /// is read byte by byte: after so many bytes there may be many short ones.
     #[inline(always)]
-    pub(crate) fn skip_token_bytes(&mut self)
-        ensures { Passing is_token_except_plus self.old self.new }
+    pub(crate) fn known_stop(&mut self) -> Option<u8>
+        ensures { Reaches is_token_except_plus self.old self.new result }
     {
-        if self.at < self.known {
-            let stops = self.stops >> self.at;
-            if stops == 0 {
-                self.at = self.known;
-                self.skip_blocks(&COMMON_TOKEN_BYTES);
-            } else {
-                self.at += stops.trailing_zeros() as usize;
-            }
+        if self.at >= self.known {
+            return None;
+        }
+        let stops = self.stops >> self.at;
+        if stops == 0 {
+            self.at = self.known;
+            self.skip_blocks(&COMMON_TOKEN_BYTES);
+            return None;
+        }
+        let stop = self.at + stops.trailing_zeros() as usize;
+        self.at = stop + 1;
+        Some(self.text[stop])
+    }
+
+    /// Whether the string may go on after the token at the next byte: unless a known byte ends it that is no semicolon.
+    #[inline(always)]
+    fn may_go_on(&self) -> bool {
+        if self.at >= self.known {
+            return true;
+        }
+        let stops = self.stops >> self.at;
+        if stops == 0 {
+            return true;
+        }
+        let stop = self.text[self.at + stops.trailing_zeros() as usize];
+        stop == b';' || is_token(stop)
+    }
+
+    /// Looks at all bytes up to a window, if only a block of them is known, and the string may go on after the token at the
+    /// next byte: most strings that are rejected end before.
+    #[inline(always)]
+    pub(crate) fn look_further(&mut self)
+        ensures { self.new ≡ self.old }
+    {
+        if self.known == BLOCK && self.known < self.text.len() && self.may_go_on() {
+            let window = &self.text[..self.text.len().min(WINDOW)];
+            self.stops = outside_in_window(window, self.stops, &COMMON_TOKEN_BYTES);
+            self.known = window.len();
         }
     }
 
@@ -117,7 +221,7 @@ impl<'a> ByteReader<'a> {
     pub(crate) fn skip_quoted_text(&mut self)
         ensures { Passing is_quoted_text_byte self.old self.new }
     {
-        if self.at < self.known {
+        if self.at < self.known && self.text[self.at] != b'"' {
             self.skip_blocks(&QUOTED_TEXT);
         }
     }

@@ -97,14 +97,16 @@ fn outside_in_block(text: &[u8], class: &Class) -> u64
     outside_in_lanes(u8x16::from_slice(text), class)
 }
 
-/// Which bytes in the first two blocks of a string are outside a class.
+/// Which bytes in the first two blocks of a string are outside a class. `first` are those in the first one.
 #[inline(always)]
-fn outside_in_two_blocks(text: &[u8], class: &Class) -> u64
-    requires { BLOCK + BLOCK ≤ length text.now }
+fn outside_in_two_blocks(text: &[u8], first: u64, class: &Class) -> u64
+    requires room { BLOCK + BLOCK ≤ length text.now }
+    requires first { first ≡ outside class.now (take BLOCK text.now) }
+    requires few { first < 2 ^ 16 }
     ensures mask { result ≡ outside class.now (take (BLOCK + BLOCK) text.now) }
     ensures few { result < 2 ^ 32 }
 {
-    outside_in_block(text, class) + (outside_in_block(&text[BLOCK..], class) << BLOCK)
+    first + (outside_in_block(&text[BLOCK..], class) << BLOCK)
 }
 
 /// The mask of `size` bytes, from the masks of their first and of their last `part` bytes, which may overlap.
@@ -142,35 +144,42 @@ fn outside_in_halves(text: &[u8], class: &Class) -> u64
     joined(found % 256, found / 256, HALF, text.len())
 }
 
-/// Which bytes of a string are outside a class. It has from one block to two.
+/// Which bytes of a string are outside a class. It has from one block to two, and `first` are those in the first one.
 #[inline(always)]
-fn outside_in_blocks(text: &[u8], class: &Class) -> u64
+fn outside_in_blocks(text: &[u8], first: u64, class: &Class) -> u64
     requires room { BLOCK ≤ length text.now }
     requires reach { length text.now ≤ BLOCK + BLOCK }
+    requires first { first ≡ outside class.now (take BLOCK text.now) }
+    requires few { first < 2 ^ 16 }
     ensures { result ≡ outside class.now text.now }
 {
-    let first = outside_in_block(text, class);
     let last = outside_in_block(&text[text.len() - BLOCK..], class);
     joined(first, last, BLOCK, text.len())
 }
 
-/// Which bytes of a string are outside a class. It has from two blocks to four.
+/// Which bytes of a string are outside a class. It has from one block to four, and `first` are those in the first one.
 #[inline(always)]
-fn outside_in_window(text: &[u8], class: &Class) -> u64
-    requires room { BLOCK + BLOCK ≤ length text.now }
+pub(crate) fn outside_in_window(text: &[u8], first: u64, class: &Class) -> u64
+    requires room { BLOCK ≤ length text.now }
     requires reach { length text.now ≤ WINDOW }
+    requires first { first ≡ outside class.now (take BLOCK text.now) }
+    requires few { first < 2 ^ 16 }
     ensures { result ≡ outside class.now text.now }
 {
-    let first = outside_in_two_blocks(text, class);
-    let last = outside_in_two_blocks(&text[text.len() - (BLOCK + BLOCK)..], class);
-    joined(first, last, BLOCK + BLOCK, text.len())
+    if text.len() <= BLOCK + BLOCK {
+        return outside_in_blocks(text, first, class);
+    }
+    let start = outside_in_two_blocks(text, first, class);
+    let back = &text[text.len() - (BLOCK + BLOCK)..];
+    let last = outside_in_two_blocks(back, outside_in_block(back, class), class);
+    joined(start, last, BLOCK + BLOCK, text.len())
 }
 
-/// How many bytes at the start of a string are looked at, and which of them are outside a class: all of 8 to 64 bytes, the
-/// first 64 of more, none of fewer.
+/// The start of a string: how many bytes it has, and which of them are outside a class. That is the whole string, up to
+/// a block, or nothing if it is shorter than half a block.
 #[inline(always)]
 pub(crate) fn outside_at_start(text: &[u8], class: &Class) -> (usize, u64)
-    ensures few { result.0 ≤ WINDOW }
+    ensures few { result.0 ≤ BLOCK }
     ensures within { result.0 ≤ length text.now }
     ensures mask { result.1 ≡ outside class.now (take result.0 text.now) }
 {
@@ -179,11 +188,8 @@ pub(crate) fn outside_at_start(text: &[u8], class: &Class) -> (usize, u64)
         (0, 0)
     } else if size < BLOCK {
         (size, outside_in_halves(text, class))
-    } else if size < BLOCK + BLOCK {
-        (size, outside_in_blocks(text, class))
     } else {
-        let start = &text[..size.min(WINDOW)];
-        (start.len(), outside_in_window(start, class))
+        (BLOCK, outside_in_block(text, class))
     }
 }
 

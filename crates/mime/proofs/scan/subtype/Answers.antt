@@ -1,9 +1,11 @@
 -- The run up to the last plus goes on, plus by plus.
-use Rattle.std.proofs.Common.{◌≡◌, ◌-◌, ◌+◌, length, [], None, Some, true, refl, sym, ap, ◌∙◌, arith, eqb, ne_eqb, eq-eqb}
+use Rattle.std.proofs.Common.{◌≡◌, ◌-◌, ◌+◌, length, [], None, Some, true, refl, sym, ap, ◌∙◌, subst, arith, eqb, ne_eqb, eq-eqb}
 use Rattle.std.specs.Prelude.{◌==◌}
 use Rattle.std.specs.Option.{option_eq, option_to_list}
 use Rattle.std.proofs.lemmas.Bool.{cond-true, cond-false}
 use Rattle.mime.specs.Bytes.{plus_byte}
+use Rattle.mime.specs.Inner.ByteClasses.{is_token_except_plus}
+use Rattle.mime.specs.Inner.Scanning.{Passes}
 use Rattle.mime.proofs.ScanLemmas.Passing.{passing_plus, last_plus-stop, subtype_at, stopped_by, given_sum}
 use Rattle.mime.proofs.scan.subtype.Goals as goal
 
@@ -12,7 +14,9 @@ loop-plus-init c = record {
   mid = c.args.reader.now;
   passing = record { run = []; of_class = refl; given = record { bytes = refl; counted = omega arith } };
   plus = refl;
-  passes = c.token_to_plus-stop.ensures;
+  passes =
+      subst (λ old. Passes is_token_except_plus old c.token_to_plus-stop.new.reader c.token_to_plus-stop.result) c.look_further.ensures
+      c.token_to_plus-stop.ensures;
 }
 
 pub loop-plus-preserved : goal.loop-plus-preserved

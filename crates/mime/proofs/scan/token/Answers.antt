@@ -1,11 +1,31 @@
--- One byte more of the class was passed.
-use Rattle.std.proofs.Common.{sym, ◌∙◌}
-use Rattle.mime.proofs.ScanLemmas.Passing.{passing_more, passing_wider, token_byte}
+-- The bytes so far, those up to a stop that is known or found by a call, and the stop, if it is of the class.
+use Rattle.std.proofs.Common.{refl, sym, ◌∙◌}
+use Rattle.mime.specs.Bytes.{is_token_byte}
+use Rattle.mime.proofs.ScanLemmas.Passing.{passing_none, passing_with, passes_to, reaches_wider, token_byte}
+use Rattle.mime.proofs.scan.token.Goals.{in-Some+else-not-is_token, in_default}
 use Rattle.mime.proofs.scan.token.Goals as goal
 
-pub loop-byte-init : goal.loop-byte-init
-loop-byte-init c = passing_wider token_byte c.skip_token_bytes.ensures
+pub returns-then-not-is_token : goal.returns-then-not-is_token
+returns-then-not-is_token c =
+    passes_to _ token_byte (passing_none is_token_byte _) c.in-Some.ensures (sym c.is_token.ensures ∙ c.if-not-is_token.true)
 
-pub loop-byte-preserved : goal.loop-byte-preserved
-loop-byte-preserved c =
-    passing_more c.loop-byte.invariant c.in-Some.ensures (sym c.is_token.ensures ∙ c.if-not-is_token.false)
+pub loop-reader-init : goal.loop-reader-init
+loop-reader-init c =
+    elim c.match-known_stop.branch [
+      | in-Some+else-not-is_token w ↦
+          passing_with token_byte (passing_none is_token_byte _) w.in-Some.ensures (sym w.is_token.ensures ∙ w.if-not-is_token.false)
+      | in_default w ↦ reaches_wider token_byte w.in_default.ensures
+    ]
+
+pub returns-then-not-is_token-3 : goal.returns-then-not-is_token-3
+returns-then-not-is_token-3 c =
+    passes_to _ token_byte c.loop-stop.invariant c.in-Some-next_far.ensures.reaches
+    (sym c.is_token-in-Some-next_far.ensures ∙ c.if-not-is_token-3.true)
+
+pub loop-stop-preserved : goal.loop-stop-preserved
+loop-stop-preserved c =
+    passing_with token_byte c.loop-stop.invariant c.in-Some-next_far.ensures.reaches
+    (sym c.is_token-in-Some-next_far.ensures ∙ c.if-not-is_token-3.false)
+
+pub returns : goal.returns
+returns c = passes_to _ token_byte c.loop-stop.invariant c.in_default-next_far.ensures.reaches (c.in_default-next_far.ensures.end refl)

@@ -1,11 +1,17 @@
--- The token bytes so far, without a plus.
+-- The bytes so far, which are read one by one, and then by runs.
 use Rattle.std.proofs.Common.{length}
 use Rattle.mime.specs.Inner.ByteClasses.{is_token_except_plus}
 use Rattle.mime.specs.Inner.Scanning.{Passing}
 use Rattle.mime.proofs.scan.token_to_plus.Given as goal
 
-abbrev pub invariant-loop-byte : goal.invariant-loop-byte
-invariant-loop-byte l = Passing is_token_except_plus l.fn.reader l.reader
+abbrev pub invariant-loop-reader : goal.invariant-loop-reader
+invariant-loop-reader l = Passing is_token_except_plus l.fn.reader l.reader
 
-abbrev pub decreases-loop-byte : goal.decreases-loop-byte
-decreases-loop-byte l = length l.reader.left
+abbrev pub decreases-loop-reader : goal.decreases-loop-reader
+decreases-loop-reader l = length l.reader.left
+
+abbrev pub invariant-loop-stop : goal.invariant-loop-stop
+invariant-loop-stop l = Passing is_token_except_plus l.fn.reader l.reader
+
+abbrev pub decreases-loop-stop : goal.decreases-loop-stop
+decreases-loop-stop l = length l.reader.left

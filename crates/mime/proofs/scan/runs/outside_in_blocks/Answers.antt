@@ -5,7 +5,7 @@ use Rattle.mime.proofs.MembersLemmas.{last_bytes, outside-joined}
 use Rattle.mime.proofs.scan.runs.outside_in_blocks.Goals as goal
 
 pub joined-requires-clause-first : goal.joined-requires-clause-first
-joined-requires-clause-first c = omega (arith, c.outside_in_block-first.ensures.few)
+joined-requires-clause-first c = omega (arith, c.requires.few)
 
 pub joined-requires-clause-last : goal.joined-requires-clause-last
 joined-requires-clause-last c = omega (arith, c.outside_in_block-last.ensures.few)
@@ -15,4 +15,4 @@ returns c =
     let class = c.args.class.now in
     let text = c.args.text.now in
     let back = c.outside_in_block-last.ensures.mask ∙ ap (outside class) (last_bytes 16 text c.requires.room) in
-    rw (c.joined.ensures, c.outside_in_block-first.ensures.mask, back) (outside-joined class 16 text c.requires.room c.requires.reach)
+    rw (c.joined.ensures, c.requires.first, back) (outside-joined class 16 text c.requires.room c.requires.reach)

@@ -5,17 +5,17 @@ use Rattle.mime.proofs.scan.runs.outside_in_two_blocks.Goals as goal
 
 pub overflow_add-result : goal.overflow_add-result
 overflow_add-result c =
-    record { fits = omega (arith, c.outside_in_block.ensures.few, c.outside_in_block-2.ensures.few) }
+    record { fits = omega (arith, c.requires.few, c.outside_in_block.ensures.few) }
 
 pub returns-clause-mask : goal.returns-clause-mask
 returns-clause-mask c =
     omega (
       arith,
+      c.requires.first,
       c.outside_in_block.ensures.mask,
-      c.outside_in_block-2.ensures.mask,
-      c.outside_in_block-2.ensures.few,
-      outside-two c.args.class.now c.args.text.now c.requires,
+      c.outside_in_block.ensures.few,
+      outside-two c.args.class.now c.args.text.now c.requires.room,
     )
 
 pub returns-clause-few : goal.returns-clause-few
-returns-clause-few c = omega (arith, c.outside_in_block.ensures.few, c.outside_in_block-2.ensures.few)
+returns-clause-few c = omega (arith, c.requires.few, c.outside_in_block.ensures.few)

@@ -1,7 +1,7 @@
 -- The members of the class are bytes of quoted text.
 use Rattle.mime.proofs.MembersLemmas.{are_quoted_text}
-use Rattle.mime.proofs.ScanLemmas.Passing.{passing_wider}
+use Rattle.mime.proofs.ScanLemmas.Passing.{reaches_wider}
 use Rattle.mime.proofs.scan.reader.ByteReader.skip_quoted_text.Goals as goal
 
-pub returns-then-self : goal.returns-then-self
-returns-then-self c = passing_wider are_quoted_text c.skip_blocks.ensures
+pub returns-then-self-ne34 : goal.returns-then-self-ne34
+returns-then-self-ne34 c = reaches_wider are_quoted_text c.skip_blocks.ensures
