@@ -3,7 +3,7 @@
 ghost use Rattle.std.specs.Prelude.{◌≡◌, ◌∷◌, [], ◌++◌, ◌≤◌, ◌+◌, None, Some, OnOk, IsOk, is_ok, if◌then◌else◌, length, take, drop, string_bytes};
 ghost use Rattle.std.specs.List.{list_all, prefix_len};
 ghost use Rattle.std.specs.Vec.{vec_items, vec_len, vec_capacity};
-ghost use Rattle.mime.specs.Bytes.{is_quoted_byte};
+ghost use Rattle.mime.specs.Bytes.{is_quoted_byte, backslash_byte};
 ghost use Rattle.mime_http.specs.Forms.{kind_of, is_plain, form_of};
 ghost use Rattle.mime_http.specs.Unescaped.{unescaped};
 ghost use Rattle.mime_http.specs.Written.{escaped};
@@ -151,6 +151,21 @@ fn special_from(value: &str, from: usize) -> usize
     at
 }
 
+/// Adds a run of bytes and a backslash. A quote or a backslash alone, as in a row of them, is added together with it.
+#[inline(always)]
+fn push_with_backslash(text: &mut String, run: &str) -> Result<(), AllocError>
+    ensures { OnOk result (string_bytes text.new ≡ (string_bytes text.old ++ run.now) ++ (backslash_byte ∷ [])) }
+{
+    if run == "\"" {
+        return text.push_str("\"\\");
+    }
+    if run == "\\" {
+        return text.push_str("\\\\");
+    }
+    text.push_str(run)?;
+    text.push('\\')
+}
+
 /// Adds the content of a quoted string that means a value: `\"x` for `"x` (RFC 9110, 5.6.4).
 pub(crate) fn push_escaped(text: &mut String, value: &str) -> Result<(), AllocError>
     ensures { OnOk result (string_bytes text.new ≡ string_bytes text.old ++ escaped value.now) }
@@ -158,8 +173,7 @@ pub(crate) fn push_escaped(text: &mut String, value: &str) -> Result<(), AllocEr
     let mut left = value;
     let mut run = special_from(left, 0);
     while run < left.len() {
-        text.push_str(&left[..run])?;
-        text.push('\\')?;
+        push_with_backslash(text, &left[..run])?;
         left = &left[run..];
         // The byte after the backslash, and those before the next one that needs it.
         run = special_from(left, 1);

@@ -1,0 +1,21 @@
+-- A quote or a backslash alone is the run.
+use Rattle.std.proofs.Common.{rules, ◌≡◌, ◌++◌, ◌∷◌, [], sym, ◌∙◌, append_assoc, string_bytes}
+use Rattle.std.specs.Prelude.{OnOk}
+use Rattle.std.specs.Cmp.Lexicographic.{same_text}
+use Rattle.mime.specs.Bytes.{quote_byte, backslash_byte}
+use Rattle.mime_http.proofs.quoted.push_with_backslash.Goals as goal
+
+pub returns-then-eq : goal.returns-then-eq
+returns-then-eq c =
+    let is = same_text c.args.run.now (quote_byte ∷ []) (sym c.if-eq.true ∙ c.eq.ensures) in
+    let old = string_bytes c.args.text.now in
+    let added : OnOk c.push_str.result (string_bytes c.push_str.new.self ≡ old ++ (quote_byte ∷ backslash_byte ∷ [])) = search rules in
+    rw (is, append_assoc old (quote_byte ∷ []) (backslash_byte ∷ [])) added
+
+pub returns-then-eq-2 : goal.returns-then-eq-2
+returns-then-eq-2 c =
+    let is = same_text c.args.run.now (backslash_byte ∷ []) (sym c.if-eq-2.true ∙ c.eq-2.ensures) in
+    let old = string_bytes c.args.text.now in
+    let added : OnOk c.push_str-then-eq-2.result (string_bytes c.push_str-then-eq-2.new.self ≡ old ++ (backslash_byte ∷ backslash_byte ∷ [])) =
+    search rules in
+    rw (is, append_assoc old (backslash_byte ∷ []) (backslash_byte ∷ [])) added
