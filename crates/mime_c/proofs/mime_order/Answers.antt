@@ -7,7 +7,6 @@ use Rattle.std.proofs.lemmas.Bool.{true≢false}
 use Rattle.std.proofs.lemmas.List.{length-map, nil_from_length}
 use Rattle.mime.specs.Values.{MediaType, OwnedMedia}
 use Rattle.mime_http.specs.HttpList.{Header, IsHeader}
-use Rattle.mime_http.specs.ListLaws.{AreSame}
 use Rattle.mime_http.specs.Ranges.{AreInOrder}
 use Rattle.mime_http.proofs.Lists.{one_header}
 use Rattle.mime_c.specs.Strings.{written}
@@ -21,11 +20,7 @@ none_bad held bytes_of size is = sym is ∙ ap (map bytes_of) (nil_from_length h
 
 -- a header without an entry has no other range
 no_offer : {lines : List (List ℕ)} {header : Header} → IsHeader lines header → HaveNoEntry lines → header.ranges ≡ []
-no_offer {lines} {header} is none = alike header.ranges (one_header lines header _ is none).0
-  where
-    alike : (ranges : List MediaType) → AreSame ranges [] → ranges ≡ []
-    alike [] same = refl
-    alike (range ∷ ranges) same = absurd same
+no_offer {lines} {header} is none = ap (λ (h : Header). h.ranges) (one_header lines header _ is none)
 
 -- the order that was found is that of the offers
 in_order : {ranges offers : List MediaType} {given order : List ℕ} (held : List OwnedMedia) → map (λ offer. offer.media) held ≡ offers
