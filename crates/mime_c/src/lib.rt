@@ -192,7 +192,6 @@ fn put(out: &mut [u8], at: usize, text: &str) -> usize
 }
 
 /// Writes the parts of a media type at a position, and returns the position after them.
-#[inline(always)]
 fn put_parts(out: &mut [u8], at: usize, mime: &Mime) -> usize
     requires { at + length (strings (parts_of mime.now.media)) ≤ length out.old }
     ensures { Writes out.old at (strings (parts_of mime.now.media)) out.new result }
