@@ -1,9 +1,9 @@
 -- The next byte begins a pair, or it is written.
-use Rattle.std.proofs.Common.{◌≡◌, ◌∙◌, ◌+◌, ◌<◌, ◌==◌, ◌&&◌, Bool, true, false, not, ℕ, List, [], ◌∷◌, ◌++◌, drop, sym, ap, arith, length}
+use Rattle.std.proofs.Common.{◌≡◌, ◌∙◌, ◌+◌, ◌<◌, ◌==◌, ◌&&◌, Bool, true, false, not, ℕ, List, [], ◌∷◌, ◌++◌, drop, refl, sym, ap, arith, length}
 use Rattle.std.specs.Prelude.{if◌then◌else◌}
 use Rattle.std.proofs.lemmas.List.{drop_more}
 use Rattle.mime.specs.Bytes.{backslash_byte}
-use Rattle.mime_http.specs.Unescaped.{unescaped_from}
+use Rattle.mime_http.proofs.Contents.{unescaped_from, unescaped_is}
 use Rattle.mime_c.proofs.Writing.{leaves-next}
 use Rattle.mime_c.proofs.parameter.put_unescaped.Goals as goal
 
@@ -23,4 +23,17 @@ loop-at-preserved c =
       writes = leaves-next c.loop-at.invariant.writes _ _ _ _ left c.copy-end.ensures.writes;
       within = omega (arith, c.copy-end.ensures.end, c.loop-at.invariant.within);
       size = omega (arith, c.copy-end.auto.out, c.loop-at.invariant.size);
+    }
+
+pub loop-at-init : goal.loop-at-init
+loop-at-init c =
+    let value = c.args.value.now in
+    record {
+      writes = record {
+        prefix = [];
+        wrote = record { there = refl; end = refl };
+        onward = sym (unescaped_is value);
+      };
+      within = omega arith;
+      size = refl;
     }
