@@ -1,4 +1,5 @@
 -- Lemmas for src/compare.rt: a text against a value.
 pub mod OtherCase
 pub mod Parts
+pub mod Essences
 pub mod FirstDifference

@@ -123,7 +123,7 @@ pub lowered_tree-lowered_tree : (tree : SyntaxTree) → lowered_tree (lowered_tr
 lowered_tree-lowered_tree tree = cc (lowered-lowered tree.top, lowered-lowered tree.sub, lowered_tail-lowered tree.tail)
 
 -- lowercasing keeps the position of the last plus
-last_plus-lowered : (at : ℕ) (bytes : List ℕ) → last_plus at (lowered bytes) ≡ last_plus at bytes
+pub last_plus-lowered : (at : ℕ) (bytes : List ℕ) → last_plus at (lowered bytes) ≡ last_plus at bytes
 last_plus-lowered at [] = refl
 last_plus-lowered at (b ∷ bytes) =
     let plus : (to_ascii_lowercase b == 43) ≡ (b == 43) = grind (arith, nat_tests) in

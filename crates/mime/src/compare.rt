@@ -1,6 +1,6 @@
 //! Comparing a media type with a string, without allocating.
 
-ghost use Rattle.std.specs.Prelude.{◌≡◌, ◌≢◌, ◌↔◌, IsTrue, Some, [], map, slice_get};
+ghost use Rattle.std.specs.Prelude.{◌≡◌, ◌≢◌, ◌↔◌, IsTrue, Some, [], length, map, slice_get};
 ghost use Rattle.mime.specs.Bytes.{semicolon_byte};
 ghost use Rattle.mime.specs.Comparison.{TextIs};
 ghost use Rattle.mime.specs.Difference.{reaches_value, DifferInValue};
@@ -9,11 +9,11 @@ ghost use Rattle.mime.specs.Inner.ComparedText.{StartsWithEssence, IsAcceptedAt}
 ghost use Rattle.mime.specs.Values.{Reads, lowered};
 ghost use Rattle.mime.specs.declared.compare.Compared.TheVariants.{Equal, Different};
 
-use crate::blocks::BLOCK;
+use crate::blocks::{BLOCK, Suffix};
 use crate::bytes::is_space;
 use crate::ignoring_case::{eq_ignore_ascii_case, first_difference};
 use crate::name::constants::CHARSET;
-use crate::scan::{ByteReader, Positions, Verdict, scan};
+use crate::scan::{ByteReader, Positions, Verdict, parameters};
 use crate::value::Mime;
 use crate::value::pairs::Pairs;
 
@@ -88,15 +88,19 @@ fn has_shape(positions: Positions, semicolon: usize, count: usize) -> bool
     positions.semicolon == Some(semicolon) && positions.pair_count == count
 }
 
-/// Whether a string is accepted, with its first semicolon at this position and `count` parameters. It isn't inlined:
-/// the scan needs its registers.
+/// Whether a string that begins with a value's essence and a semicolon, ignoring ASCII case, is accepted, with as many
+/// parameters. Only what follows the semicolon is scanned. It isn't inlined: the scan needs its registers.
 #[inline(never)]
-fn is_accepted_at(text: &str, semicolon: usize, count: usize) -> bool
-    ensures { IsTrue result ↔ IsAcceptedAt text.now semicolon count }
+fn has_list_of(mime: &Mime, s: &str) -> bool
+    requires reads { Reads mime.now.media.kept mime.now.media }
+    requires begins { StartsWithEssence mime.now.media.essence s.now }
+    ensures { IsTrue result ↔ IsAcceptedAt s.now (length mime.now.media.essence) (length mime.now.media.pairs) }
 {
-    let mut reader = ByteReader::by_blocks(text);
-    match scan(&mut reader) {
-        Verdict::Accepted(positions) => has_shape(positions, semicolon, count),
+    let end = mime.essence_str().len();
+    let list = Suffix::of(s, end + 1);
+    let mut reader = ByteReader::new(list.text(), end as u128 + 1);
+    match parameters(&mut reader, mime.before_list()) {
+        Verdict::Accepted(positions) => has_shape(positions, end, mime.param_count()),
         _ => false,
     }
 }
@@ -122,7 +126,7 @@ fn eq_by_parts(mime: &Mime, s: &str, equal_ignoring_case: bool) -> bool
     ) {
         return false;
     }
-    equal_ignoring_case || is_accepted_at(s, end, mime.param_count())
+    equal_ignoring_case || has_list_of(mime, s)
 }
 
 /// Whether a difference at this byte means different values: all bytes but space, tab and quote reach the value.

@@ -166,7 +166,7 @@ fn subtype(reader: &mut ByteReader<'_>, from: u128) -> (Option<usize>, Option<u8
 
 /// Reads a parameter list, after its semicolon. `before` has the positions of the parts before it, and no pairs yet.
 #[inline(always)]
-fn parameters(reader: &mut ByteReader<'_>, before: Positions) -> Verdict
+pub(crate) fn parameters(reader: &mut ByteReader<'_>, before: Positions) -> Verdict
     requires { before.pair_count + length reader.old.left < 2 ^ 64 }
     ensures { ScansList before reader.old reader.new result }
 {

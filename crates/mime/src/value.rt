@@ -7,6 +7,7 @@ ghost use Rattle.mime.specs.Faults.{Explains};
 ghost use Rattle.mime.specs.Items.{items_of, name_seen, name_text, IsLowIf, IsLowItem, IsFirstAccepted};
 ghost use Rattle.mime.specs.Inner.Scanning.{HasPositions};
 ghost use Rattle.mime.specs.Inner.KeptText.{IsKept, media_of, AreLowPairs};
+ghost use Rattle.mime.specs.Inner.ComparedText.{positions_before_list};
 ghost use Rattle.mime.specs.Inner.Known.{IsKnown};
 ghost use Rattle.mime.specs.Inner.KeptBytes.{bytes_of, is_fixed};
 
@@ -311,6 +312,19 @@ impl Mime {
         ensures { result ≡ length self.now.media.pairs }
     {
         self.places.pair_count
+    }
+
+    /// The positions of the parts of a string that begins with the essence and a semicolon, before a parameter is read.
+    #[inline(always)]
+    pub(crate) fn before_list(&self) -> Positions
+        ensures { result ≡ positions_before_list self.now.media }
+    {
+        Positions {
+            slash: self.places.slash,
+            plus: self.places.plus(),
+            semicolon: Some(self.essence_str().len()),
+            pair_count: 0,
+        }
     }
 
     /// Returns the value of the first parameter whose name the key accepts, or `None` if it accepts no name:

@@ -21,14 +21,14 @@ AreSpaces-case : (bytes other : List ℕ) → lowered other ≡ lowered bytes �
 AreSpaces-case = list_all-case is_space (λ b. grind (arith, nat_tests))
 
 -- a text that is another ignoring ASCII case is cut where the other is, around bytes that are no letters
-record CaseCut (text prefix middle back : List ℕ) : Type 0 where
-  first : List ℕ
-  second : List ℕ
-  whole : first ++ (middle ++ second) ≡ text
-  first_is : lowered first ≡ lowered prefix
-  second_is : lowered second ≡ lowered back
+pub record CaseCut (text prefix middle back : List ℕ) : Type 0 where
+  pub first : List ℕ
+  pub second : List ℕ
+  pub whole : first ++ (middle ++ second) ≡ text
+  pub first_is : lowered first ≡ lowered prefix
+  pub second_is : lowered second ≡ lowered back
 
-case_cut : (text prefix middle back : List ℕ) → list_all is_no_letter middle ≡ true
+pub case_cut : (text prefix middle back : List ℕ) → list_all is_no_letter middle ≡ true
     → lowered text ≡ lowered (prefix ++ (middle ++ back)) → CaseCut text prefix middle back
 case_cut text prefix middle back none is =
     let rest = drop (length prefix) text in

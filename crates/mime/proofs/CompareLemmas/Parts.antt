@@ -32,7 +32,7 @@ pub essence-lowered : (tree : SyntaxTree) → (value_of tree).essence ≡ lowere
 essence-lowered tree = sym (lowered-append tree.top (slash_byte ∷ tree.sub))
 
 -- a value's essence is as long as its tree's
-length-value_essence : (tree : SyntaxTree) → length (value_of tree).essence ≡ length tree.top + 1 + length tree.sub
+pub length-value_essence : (tree : SyntaxTree) → length (value_of tree).essence ≡ length tree.top + 1 + length tree.sub
 length-value_essence tree = ap length (essence-lowered tree) ∙ length-lowered (essence_of tree) ∙ length-essence_of tree
 
 -- the value of an accepted text that has a semicolon, by its positions

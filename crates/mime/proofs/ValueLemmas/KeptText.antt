@@ -39,7 +39,7 @@ semicolon_split : (top sub after : List ℕ)
 semicolon_split top sub after = simp append_assoc
 
 -- the length of the head
-length-before_list : (top sub : List ℕ) → length (text_of (before_list top sub)) ≡ length top + 1 + length sub + 1
+pub length-before_list : (top sub : List ℕ) → length (text_of (before_list top sub)) ≡ length top + 1 + length sub + 1
 length-before_list top sub =
     omega (arith, length-append top (slash_byte ∷ (sub ++ (semicolon_byte ∷ []))), length-append sub (semicolon_byte ∷ []))
 

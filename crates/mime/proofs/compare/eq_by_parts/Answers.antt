@@ -34,7 +34,7 @@ returns-else-equal_ignoring_case c =
     let by_parts = text_is-by_parts _ _ c.args.mime.now.media c.requires.reads c.requires.some in
     let list = rw c.essence_str-essence.ensures at c.starts_with_essence.ensures in
     let pairs = rw (c.pairs.ensures.pairs, c.of_text.ensures, c.param_count.ensures, c.essence_str-essence.ensures) at c.are_pairs.ensures in
-    let accepted = rw (c.essence_str-essence.ensures, c.param_count-else-equal_ignoring_case.ensures) at c.is_accepted_at.ensures in (
+    let accepted = c.has_list_of.ensures in (
       λ yes. by_parts.1 (record {
         list = list.0 c.if-not-starts_with_essence.false;
         pairs = pairs.0 c.if-not-are_pairs.false;
@@ -42,3 +42,7 @@ returns-else-equal_ignoring_case c =
       }),
       λ is. accepted.1 (by_parts.0 is).accepted,
     )
+
+pub has_list_of-requires-clause-begins : goal.has_list_of-requires-clause-begins
+has_list_of-requires-clause-begins c =
+    rw c.essence_str-essence.ensures at (c.starts_with_essence.ensures.0 c.if-not-starts_with_essence.false)
