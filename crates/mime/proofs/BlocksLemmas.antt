@@ -90,12 +90,12 @@ mask-end byte whole text is long short =
     ∙ ap mask_l (drop-map (λ b. b == byte) (16 - length text) back)
     ∙ ap (mask_of byte) (drop-drop (16 - length text) (length whole - 16) whole ∙ ap (λ n. drop n whole) at ∙ sym is)
 
--- the whole's last bytes, as they are looked at
-last_bytes : (whole : List ℕ) → 16 ≤ length whole
-    → take 16 (take (length whole - (length whole - 16)) (drop (length whole - 16) whole)) ≡ drop (length whole - 16) whole
-last_bytes whole long =
-    let at = length whole - 16 in
-    ap (take 16) (take_rest whole at) ∙ take_all 16 (drop at whole) (omega (arith, long, length-drop at whole))
+-- the last bytes of a text, as they are looked at
+pub last_bytes : (n : ℕ) (text : List ℕ) → n ≤ length text
+    → take n (take (length text - (length text - n)) (drop (length text - n) text)) ≡ drop (length text - n) text
+last_bytes n text room =
+    let from = length text - n in
+    ap (take n) (take_rest text from) ∙ take_all n (drop from text) (omega (arith, length-drop from text, room))
 
 -- the bit mask of the last 16 bytes shows the first position in a shorter end
 module _ (byte found : ℕ) (whole text : List ℕ) (is : IsSuffixOf text whole) (long : 16 ≤ length whole) (short : length text < 16)
@@ -104,7 +104,7 @@ module _ (byte found : ℕ) (whole text : List ℕ) (is : IsSuffixOf text whole)
       ≡ first_position byte text
   shown =
       ap (λ m. cond (eqb m 0) (length text) (count_trailing_zeros 64 m))
-      (ap (λ n. n / 2 ^ (16 - length text)) (found_is ∙ ap (mask_of byte) (last_bytes whole long))
+      (ap (λ n. n / 2 ^ (16 - length text)) (found_is ∙ ap (mask_of byte) (last_bytes 16 whole long))
       ∙ mask-end byte whole text is long short)
       ∙ first_set_mask_l (λ b. b == byte) text (length text) refl (omega (arith, short))
 

@@ -117,13 +117,6 @@ pub outside-drop : (class : Class) (n : ℕ) (bytes : List ℕ) → outside clas
 outside-drop class n bytes =
     mask-drop n (map (is_outside class) bytes) ∙ ap mask_l (drop-map (is_outside class) n bytes)
 
--- the last bytes of a text, as they are looked at
-pub last_bytes : (n : ℕ) (text : List ℕ) → n ≤ length text
-    → take n (take (length text - (length text - n)) (drop (length text - n) text)) ≡ drop (length text - n) text
-last_bytes n text room =
-    let from = length text - n in
-    ap (take n) (take_rest text from) ∙ take_all n (drop from text) (omega (arith, length-drop from text, room))
-
 -- the mask of a text by those of its first and of its last bytes
 pub outside-joined : (class : Class) (n : ℕ) (text : List ℕ) → n ≤ length text → length text ≤ n + n
     → outside class (take n text) + outside class (drop (length text - n) text) / 2 ^ (n + n - length text) * 2 ^ n ≡ outside class text

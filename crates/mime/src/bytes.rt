@@ -1,7 +1,7 @@
 //! The classes of bytes (RFC 7231, 3.1.1.1; RFC 7230, 3.2.6).
 
 ghost use Rattle.std.specs.Prelude.{◌≡◌};
-ghost use Rattle.mime.specs.Inner.ByteClasses.{is_token_except_plus, is_separator};
+ghost use Rattle.mime.specs.Inner.ByteClasses.{is_token_except_plus, is_ascii_not_token};
 ghost use Rattle.mime.specs.Grammar.{is_space};
 ghost use Rattle.mime.specs.Bytes.{is_token_byte, is_quoted_byte, is_quoted_text_byte};
 
@@ -60,7 +60,7 @@ pub(crate) fn is_space(b: u8) -> bool
 /// Whether a byte is an ASCII character that begins no media type, as the comma and the space of a list.
 #[inline(always)]
 pub(crate) fn is_separator(b: u8) -> bool
-    ensures { result ≡ is_separator b }
+    ensures { result ≡ is_ascii_not_token b }
 {
     b < 128 && !is_token(b)
 }

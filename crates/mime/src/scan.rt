@@ -6,7 +6,7 @@
 ghost use Rattle.std.specs.Prelude.{◌+◌, ◌-◌, ◌<◌, ◌≤◌, ◌^◌, length};
 ghost use Rattle.mime.specs.Bytes.{is_token_byte, is_quoted_text_byte};
 ghost use Rattle.mime.specs.Grammar.{is_space};
-ghost use Rattle.mime.specs.Inner.ByteClasses.{is_token_except_plus, is_separator};
+ghost use Rattle.mime.specs.Inner.ByteClasses.{is_token_except_plus, is_ascii_not_token};
 ghost use Rattle.mime.specs.Inner.Scanning.{Passes, PassesContent, PassesSubtype, ScansList, Scans, ScansAfter};
 
 mod fault;
@@ -210,7 +210,7 @@ pub(crate) fn parameters(reader: &mut ByteReader<'_>, before: Positions) -> Verd
 /// Reads the ASCII characters before a media type that begin none, and returns the byte after them.
 #[inline(always)]
 pub(crate) fn separators(reader: &mut ByteReader<'_>) -> Option<u8>
-    ensures { Passes is_separator reader.old reader.new result }
+    ensures { Passes is_ascii_not_token reader.old reader.new result }
 {
     while let Some(byte) = reader.next() {
         if !is_separator(byte) {

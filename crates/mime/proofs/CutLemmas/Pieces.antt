@@ -10,7 +10,7 @@ use Rattle.std.specs.Prelude.{IsTrue, IsFalse, ◌&&◌, nat_lt}
 use Rattle.std.specs.List.{list_all}
 use Rattle.std.specs.Str.{IsUtf8, IsCharBoundary}
 use Rattle.mime.specs.Bytes.{is_token_byte}
-use Rattle.mime.specs.Inner.ByteClasses.{is_separator}
+use Rattle.mime.specs.Inner.ByteClasses.{is_ascii_not_token}
 use Rattle.mime.specs.Values.{IsAccepted, IsRejected}
 use Rattle.mime.specs.Faults.{IsViable, IsLongestPrefix, IsDeadAt}
 use Rattle.mime.specs.Cut.{is_following_byte, BeginsCharacter, IsCharacter, IsSplit, CutItem, good, bad, ItemsOf, is_read, is_rejected, is_empty, Cut, whole, unfinished, goes_on, TakesSteps}
@@ -191,45 +191,45 @@ passes-stopped text piece left steps at end byte positions (given, dead_at, reje
 -- separators, and what follows them
 module _ (rest : List ℕ) (begins : BeginsCharacter rest) where
   -- after a separator begins a character
-  begins_after : (run : List ℕ) → IsTrue (list_all is_separator run) → BeginsCharacter (run ++ rest)
+  begins_after : (run : List ℕ) → IsTrue (list_all is_ascii_not_token run) → BeginsCharacter (run ++ rest)
   begins_after [] all = begins
   begins_after (b ∷ run) all =
-      let separator = (and_parts (is_separator b) _ all).0 in grind (arith, nat_tests, separator)
+      let separator = (and_parts (is_ascii_not_token b) _ all).0 in grind (arith, nat_tests, separator)
 
   -- a separator is passed
-  separator_splits : (b : ℕ) (run : List ℕ) → IsTrue (list_all is_separator (b ∷ run)) → IsSplit (b ∷ (run ++ rest)) [] (b ∷ []) (run ++ rest)
+  separator_splits : (b : ℕ) (run : List ℕ) → IsTrue (list_all is_ascii_not_token (b ∷ run)) → IsSplit (b ∷ (run ++ rest)) [] (b ∷ []) (run ++ rest)
   separator_splits b run all =
-      let parts = and_parts (is_separator b) (list_all is_separator run) all in
+      let parts = and_parts (is_ascii_not_token b) (list_all is_ascii_not_token run) all in
       let other : is_token_byte b ≡ false = not-true _ (and_parts (nat_lt b 128) _ parts.0).1 in
       split-from_dead [] (run ++ rest) b (in_type [])
       (record { following = []; left = run ++ rest; spelled = refl; of_class = refl; begins = begins_after run parts.1 }) refl
       (cond-false (is_token_byte b) _ _ other)
 
   -- the cut of what follows separators is that of the whole
-  separated-cut : (run : List ℕ) → IsTrue (list_all is_separator run) → (items : List CutItem) (end : List ℕ) → Cut rest items end
+  separated-cut : (run : List ℕ) → IsTrue (list_all is_ascii_not_token run) → (items : List CutItem) (end : List ℕ) → Cut rest items end
       → Cut (run ++ rest) items end
   separated-cut [] all items end cut = cut
   separated-cut (b ∷ run) all items end cut =
       goes_on (b ∷ (run ++ rest)) [] (b ∷ []) (run ++ rest) [] items end (separator_splits b run all) (is_empty refl)
-      (separated-cut run (and_parts (is_separator b) _ all).1 items end cut)
+      (separated-cut run (and_parts (is_ascii_not_token b) _ all).1 items end cut)
 
   -- each separator takes a step
-  separated-steps : (run : List ℕ) → IsTrue (list_all is_separator run) → (n : ℕ) → TakesSteps rest n → TakesSteps (run ++ rest) (length run + n)
+  separated-steps : (run : List ℕ) → IsTrue (list_all is_ascii_not_token run) → (n : ℕ) → TakesSteps rest n → TakesSteps (run ++ rest) (length run + n)
   separated-steps [] all n takes = subst (TakesSteps rest) (omega arith) takes
   separated-steps (b ∷ run) all n takes =
       subst (TakesSteps (b ∷ (run ++ rest))) (omega arith)
       (takes-split (b ∷ (run ++ rest)) [] (b ∷ []) (run ++ rest) (length run + n) (separator_splits b run all)
-      (separated-steps run (and_parts (is_separator b) _ all).1 n takes))
+      (separated-steps run (and_parts (is_ascii_not_token b) _ all).1 n takes))
 
   -- the first piece of what follows separators is that of the whole
-  separated-first : (run : List ℕ) → IsTrue (list_all is_separator run) → (piece : List ℕ) (positions : Option Positions) (left : List ℕ)
+  separated-first : (run : List ℕ) → IsTrue (list_all is_ascii_not_token run) → (piece : List ℕ) (positions : Option Positions) (left : List ℕ)
       → IsFirstPiece rest piece positions left → IsFirstPiece (run ++ rest) piece positions left
   separated-first run all piece None left first = λ items end cut. separated-cut run all _ end (first items end cut)
   separated-first run all piece (Some positions) left (has, first) =
       (has, λ value reads items end cut. separated-cut run all _ end (first value reads items end cut))
 
   -- a piece is read after separators
-  pub separated-piece : (run : List ℕ) → IsTrue (list_all is_separator run) → (piece : List ℕ) (positions : Option Positions) (left : List ℕ)
+  pub separated-piece : (run : List ℕ) → IsTrue (list_all is_ascii_not_token run) → (piece : List ℕ) (positions : Option Positions) (left : List ℕ)
       (steps : ℕ) → ReadsPiece rest piece positions left steps → ReadsPiece (run ++ rest) piece positions left (length run + steps)
   separated-piece run all piece positions left steps reads =
       let size = length-append run rest in
@@ -263,21 +263,21 @@ passes-nothing = record {
 }
 
 -- separators are ASCII
-separators_are_ascii : (run : List ℕ) → IsTrue (list_all is_separator run) → IsAscii run
+separators_are_ascii : (run : List ℕ) → IsTrue (list_all is_ascii_not_token run) → IsAscii run
 separators_are_ascii [] all = IsAscii-nil
 separators_are_ascii (b ∷ run) all =
-    let parts = and_parts (is_separator b) (list_all is_separator run) all in
+    let parts = and_parts (is_ascii_not_token b) (list_all is_ascii_not_token run) all in
     IsAscii-cons b run (grind (arith, nat_tests, parts.0)) (separators_are_ascii run parts.1)
 
 -- a text may be cut after separators
-pub separators-boundary : (text run rest : List ℕ) → IsUtf8 text → text ≡ run ++ rest → IsTrue (list_all is_separator run)
+pub separators-boundary : (text run rest : List ℕ) → IsUtf8 text → text ≡ run ++ rest → IsTrue (list_all is_ascii_not_token run)
     → IsCharBoundary text (length run)
 separators-boundary text run rest utf8 is all =
     IsCharBoundary-from_take text (length run) utf8 (omega (arith, ap length is, length-append run rest))
     (subst IsUtf8 (sym (ap (take (length run)) is ∙ take_at run rest (length run) refl)) (IsUtf8-from_ascii run (separators_are_ascii run all)))
 
 -- what follows separators begins with a character
-pub separators-begins : (text run rest : List ℕ) → IsUtf8 text → text ≡ run ++ rest → IsTrue (list_all is_separator run)
+pub separators-begins : (text run rest : List ℕ) → IsUtf8 text → text ≡ run ++ rest → IsTrue (list_all is_ascii_not_token run)
     → BeginsCharacter rest
 separators-begins text run [] utf8 is all = tt
 separators-begins text run (b ∷ rest) utf8 is all =

@@ -7,5 +7,5 @@ abbrev pub is_token_except_plus : ℕ → Bool
 is_token_except_plus b = is_token_byte b && not (b == plus_byte)
 
 -- an ASCII byte that begins no media type
-abbrev pub is_separator : ℕ → Bool
-is_separator b = nat_lt b 128 && not (is_token_byte b)
+abbrev pub is_ascii_not_token : ℕ → Bool
+is_ascii_not_token b = nat_lt b 128 && not (is_token_byte b)

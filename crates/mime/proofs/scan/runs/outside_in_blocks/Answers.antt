@@ -1,7 +1,8 @@
 -- The masks of both ends are joined.
 use Rattle.std.proofs.Common.{ap, ◌∙◌, arith}
 use Rattle.mime.specs.Inner.Members.{outside}
-use Rattle.mime.proofs.MembersLemmas.{last_bytes, outside-joined}
+use Rattle.mime.proofs.BlocksLemmas.{last_bytes}
+use Rattle.mime.proofs.MembersLemmas.{outside-joined}
 use Rattle.mime.proofs.scan.runs.outside_in_blocks.Goals as goal
 
 pub joined-requires-clause-first : goal.joined-requires-clause-first
