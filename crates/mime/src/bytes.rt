@@ -1,7 +1,7 @@
 //! The classes of bytes (RFC 7231, 3.1.1.1; RFC 7230, 3.2.6).
 
 ghost use Rattle.std.specs.Prelude.{◌≡◌};
-ghost use Rattle.mime.specs.Inner.ByteClasses.{is_token_except_plus, is_ascii_not_token};
+ghost use Rattle.mime.specs.Inner.ByteClasses.{is_token_except_plus, token_bytes, is_ascii_not_token};
 ghost use Rattle.mime.specs.Grammar.{is_space};
 ghost use Rattle.mime.specs.Bytes.{is_token_byte, is_quoted_byte, is_quoted_text_byte};
 
@@ -47,6 +47,18 @@ pub(crate) fn is_token_except_plus(b: u8) -> bool
     ensures { result ≡ is_token_except_plus b }
 {
     KINDS[b as usize] == T
+}
+
+/// Whether a byte may occur in a token, the plus only if `with_plus`.
+#[inline(always)]
+pub(crate) fn is_in_token(b: u8, with_plus: bool) -> bool
+    ensures { result ≡ token_bytes with_plus b }
+{
+    if with_plus {
+        is_token(b)
+    } else {
+        is_token_except_plus(b)
+    }
 }
 
 /// Whether a byte is a space or a tab, which may precede a parameter and follow a quoted value.

@@ -4,9 +4,9 @@
 //! string.
 
 ghost use Rattle.std.specs.Prelude.{◌+◌, ◌-◌, ◌<◌, ◌≤◌, ◌^◌, length};
-ghost use Rattle.mime.specs.Bytes.{is_token_byte, is_quoted_text_byte};
+ghost use Rattle.mime.specs.Bytes.{is_quoted_text_byte};
 ghost use Rattle.mime.specs.Grammar.{is_space};
-ghost use Rattle.mime.specs.Inner.ByteClasses.{is_token_except_plus, is_ascii_not_token};
+ghost use Rattle.mime.specs.Inner.ByteClasses.{token_bytes, is_ascii_not_token};
 ghost use Rattle.mime.specs.Inner.Scanning.{Passes, PassesContent, PassesSubtype, ScansList, Scans, ScansAfter};
 
 mod fault;
@@ -14,7 +14,7 @@ mod reader;
 mod runs;
 
 use crate::bytes::{
-    is_quoted_byte, is_quoted_text_byte, is_separator, is_space, is_token, is_token_except_plus,
+    is_in_token, is_quoted_byte, is_quoted_text_byte, is_separator, is_space, is_token,
 };
 pub use crate::scan::fault::{FromStrError, ParseError};
 pub(crate) use crate::scan::reader::ByteReader;
@@ -43,50 +43,25 @@ pub(crate) enum Verdict {
     Stopped(u8, Option<Positions>),
 }
 
-/// Reads the bytes of a token, and returns the byte that ends it.
+/// Reads the bytes of a token, up to a plus unless `with_plus`, and returns the byte that ends them.
 #[inline(always)]
-fn token(reader: &mut ByteReader<'_>) -> Option<u8>
-    ensures { Passes is_token_byte reader.old reader.new result }
+fn token(reader: &mut ByteReader<'_>, with_plus: bool) -> Option<u8>
+    ensures { Passes (token_bytes with_plus) reader.old reader.new result }
 {
     if let Some(known) = reader.known_stop() {
-        if !is_token(known) {
+        if !is_in_token(known, with_plus) {
             return Some(known);
         }
     }
     let far = reader.far();
     while reader.left() > far {
         let byte = reader.next_byte();
-        if !is_token(byte) {
+        if !is_in_token(byte, with_plus) {
             return Some(byte);
         }
     }
     while let Some(stop) = reader.next_far() {
-        if !is_token(stop) {
-            return Some(stop);
-        }
-    }
-    None
-}
-
-/// Reads the bytes of a token up to a plus, and returns the byte that ends them.
-#[inline(always)]
-fn token_to_plus(reader: &mut ByteReader<'_>) -> Option<u8>
-    ensures { Passes is_token_except_plus reader.old reader.new result }
-{
-    if let Some(known) = reader.known_stop() {
-        if !is_token_except_plus(known) {
-            return Some(known);
-        }
-    }
-    let far = reader.far();
-    while reader.left() > far {
-        let byte = reader.next_byte();
-        if !is_token_except_plus(byte) {
-            return Some(byte);
-        }
-    }
-    while let Some(stop) = reader.next_far() {
-        if !is_token_except_plus(stop) {
+        if !is_in_token(stop, with_plus) {
             return Some(stop);
         }
     }
@@ -156,10 +131,10 @@ fn subtype(reader: &mut ByteReader<'_>, from: u128) -> (Option<usize>, Option<u8
     reader.look_further();
     // 0 means none yet: position 0 is in the type.
     let mut plus = 0;
-    let mut stop = token_to_plus(reader);
+    let mut stop = token(reader, false);
     while stop == Some(b'+') {
         plus = reader.position(from);
-        stop = token_to_plus(reader);
+        stop = token(reader, false);
     }
     (if plus == 0 { None } else { Some(plus) }, stop)
 }
@@ -178,7 +153,7 @@ pub(crate) fn parameters(reader: &mut ByteReader<'_>, before: Positions) -> Verd
         if !is_token(first) {
             return Verdict::Stopped(first, Some(positions));
         }
-        match token(reader) {
+        match token(reader, true) {
             None => return Verdict::Unfinished(ParseError::MissingEqual),
             Some(b'=') => {}
             Some(byte) => return Verdict::Stopped(byte, None),
@@ -194,7 +169,7 @@ pub(crate) fn parameters(reader: &mut ByteReader<'_>, before: Positions) -> Verd
             }
             spaces(reader)
         } else if is_token(first) {
-            token(reader)
+            token(reader, true)
         } else {
             return Verdict::Stopped(first, None);
         };
@@ -231,7 +206,7 @@ pub(crate) fn scan_after(first: u8, reader: &mut ByteReader<'_>) -> Verdict
     if !is_token(first) {
         return Verdict::Stopped(first, None);
     }
-    match token(reader) {
+    match token(reader, true) {
         None => return Verdict::Unfinished(ParseError::MissingSlash),
         Some(b'/') => {}
         Some(byte) => return Verdict::Stopped(byte, None),

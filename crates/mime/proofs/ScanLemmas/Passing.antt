@@ -11,7 +11,7 @@ use Rattle.mime.specs.Bytes.{is_token_byte, is_quoted_byte, is_quoted_text_byte,
 use Rattle.mime.specs.Inner.Quoted.{awaits_next, takes, takes_all, awaits_after, IsOpenContent, continues}
 use Rattle.mime.specs.Values.{last_plus}
 use Rattle.mime.specs.Inner.Remaining.{Remaining}
-use Rattle.mime.specs.Inner.ByteClasses.{is_token_except_plus}
+use Rattle.mime.specs.Inner.ByteClasses.{is_token_except_plus, token_bytes}
 use Rattle.mime.specs.Inner.Scanning.{Given, GivesFirst, Reaches, Passing, Passes, PassesContent, PassesSubtype}
 use Rattle.mime.proofs.BytesLemmas.{list_all-wider}
 use Rattle.mime.proofs.GrammarLemmas.Content.{takes-backslash, takes_all-text, awaits_after-text, awaits_after-append, takes_all-append, not_taken}
@@ -229,6 +229,11 @@ last_plus-plus at (x ∷ xs) b position p e = rw (last_plus-plus (at + 1) xs b p
 -- bytes without a plus are token bytes, and keep the last plus
 pub token_byte : (b : ℕ) → is_token_except_plus b ≡ true → is_token_byte b ≡ true
 token_byte b is = (and_parts (is_token_byte b) _ is).0
+
+-- bytes without a plus are of both kinds of runs
+pub token_bytes-wider : (with_plus : Bool) (b : ℕ) → is_token_except_plus b ≡ true → token_bytes with_plus b ≡ true
+token_bytes-wider true b is = token_byte b is
+token_bytes-wider false b is = is
 
 pub token_run : (xs : List ℕ) → IsTrue (list_all is_token_except_plus xs) → IsTrue (list_all is_token_byte xs)
 token_run = list_all-wider is_token_except_plus is_token_byte token_byte

@@ -15,8 +15,8 @@ loop-plus-init c = record {
   passing = record { run = []; of_class = refl; given = record { bytes = refl; counted = omega arith } };
   plus = refl;
   passes =
-      subst (λ old. Passes is_token_except_plus old c.token_to_plus-stop.new.reader c.token_to_plus-stop.result) c.look_further.ensures
-      c.token_to_plus-stop.ensures;
+      subst (λ old. Passes is_token_except_plus old c.token-stop.new.reader c.token-stop.result) c.look_further.ensures
+      c.token-stop.ensures;
 }
 
 pub loop-plus-preserved : goal.loop-plus-preserved
@@ -33,13 +33,13 @@ loop-plus-preserved c =
       plus =
           last_plus-stop _ so_far.passing.run so_far.passes.run position at
           ∙ sym (cond-false (position == 0) None (Some position) (ne_eqb position 0 (λ zero. omega (arith, at, zero, c.requires.begun))));
-      passes = c.token_to_plus-stop-in-loop-plus.ensures;
+      passes = c.token-stop-in-loop-plus.ensures;
     }
 
 pub loop-plus-smaller : goal.loop-plus-smaller
 loop-plus-smaller c =
     let test : option_eq eqb c.loop-plus.stop (Some plus_byte) ≡ true = sym c.eq.ensures ∙ c.loop-plus-test.true in
-    let given = c.token_to_plus-stop-in-loop-plus.ensures.given in
+    let given = c.token-stop-in-loop-plus.ensures.given in
     omega (arith, ap (λ s. length (option_to_list s)) (stopped_by plus_byte c.loop-plus.stop test), given.counted, given_sum given)
 
 pub returns-then-plus-eq0 : goal.returns-then-plus-eq0
