@@ -3,6 +3,7 @@
 """What a program in Python sends back, by the Accept header of a request, as negotiate.c and negotiate.rs choose it:
 examples/negotiate.py LIBRARY [ACCEPT]"""
 import ctypes
+import os
 import sys
 
 # What is sent, the best first.
@@ -20,4 +21,4 @@ def choose(library, accept, offers):
 
 
 if __name__ == "__main__":
-    print(*(it for it in choose(ctypes.CDLL(sys.argv[1]), sys.argv[2].encode() if sys.argv[2:] else None, TYPES) if it is not None))
+    print(*(it for it in choose(ctypes.CDLL(sys.argv[1]), os.fsencode(sys.argv[2]) if sys.argv[2:] else None, TYPES) if it is not None))

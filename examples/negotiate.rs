@@ -3,6 +3,7 @@
 //!     rustc -O --edition 2024 examples/negotiate.rs -L native=out -l static=mime -o negotiate && ./negotiate [ACCEPT]
 
 use std::ffi::c_char;
+use std::os::unix::ffi::OsStrExt;
 
 /// What is sent, the best first.
 const TYPES: [&str; 3] = ["text/html; charset=utf-8", "application/json", "text/plain; charset=utf-8"];
@@ -30,8 +31,8 @@ pub fn choose<'o>(accept: Option<&[u8]>, offers: &[&'o str]) -> Result<&'o str, 
 }
 
 fn main() {
-    let accept = std::env::args().nth(1);
-    match choose(accept.as_deref().map(str::as_bytes), &TYPES) {
+    let accept = std::env::args_os().nth(1);
+    match choose(accept.as_deref().map(OsStrExt::as_bytes), &TYPES) {
         Ok(offer) => println!("200 {offer}"),
         Err(status) => println!("{status}"),
     }

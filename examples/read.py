@@ -1,7 +1,8 @@
 #!/usr/bin/env python3
 # SPDX-License-Identifier: MIT
-"""Reads media types by ctypes: examples/read.py LIBRARY TEXT.."""
+"""Reads media types by ctypes, and chooses one for an Accept header: examples/read.py LIBRARY TEXT.."""
 import ctypes
+import os
 import sys
 
 
@@ -51,7 +52,7 @@ def _block(text):
 
 if __name__ == "__main__":
     mime = Mime(sys.argv[1])
-    for each in sys.argv[2:]:
+    for each in map(os.fsencode, sys.argv[2:]):
         try:
             print(*mime.read(each))
         except ValueError as error:

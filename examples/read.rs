@@ -1,9 +1,10 @@
 // SPDX-License-Identifier: MIT
-//! Reads headers of HTTP from an ordinary Rust program, of edition 2021 or later:
+//! Reads headers of HTTP from an ordinary Rust program:
 //!     rustc -O --edition 2024 examples/read.rs -L native=out -l static=mime -o read && ./read VALUE..
 
 use std::ffi::{CStr, c_char};
 use std::fmt;
+use std::os::unix::ffi::OsStrExt;
 
 /// What `mime_content_type` finds besides the strings: `struct mime_found` of include/mime.h.
 #[repr(C)]
@@ -70,7 +71,7 @@ pub fn read(value: &[u8]) -> Result<Media, Error> {
 }
 
 fn main() {
-    for text in std::env::args().skip(1) {
+    for text in std::env::args_os().skip(1) {
         match read(text.as_bytes()) {
             Ok(media) => println!("{media:?}"),
             Err(error) => println!("not a media type: {error}"),
