@@ -117,7 +117,9 @@ impl Hash for Mime {
     ghost respects_eq = { λ first second is. media_input-same first.media second.media (same_from_cmp first.media second.media is) };
 
     fn hash<H: Hasher>(&self, state: &mut H) {
-        feed_pairs(self.pairs(), state);
+        if self.param_count() != 0 {
+            feed_pairs(self.pairs(), state);
+        }
         self.essence_str().hash(state);
     }
 }
