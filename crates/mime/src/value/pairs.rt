@@ -248,14 +248,6 @@ impl<'a> Pairs<'a> {
         }
     }
 
-    /// Whether as many pairs are left in a list of the same text, so that they are the same.
-    #[inline(always)]
-    pub(crate) fn are_written_as(&self, other: &Pairs<'_>) -> bool
-        ensures { IsTrue result → self.now ≡ other.now }
-    {
-        self.left == other.left && self.list.text() == other.list.text()
-    }
-
     /// Whether the only pair left is a charset, and the list begins with ` charset=`.
     #[inline(always)]
     pub(crate) fn is_lone_charset(&self) -> bool

@@ -30,11 +30,12 @@ fn same_parts(first: &Mime, second: &Mime) -> bool
 fn order_pairs(first: &Mime, second: &Mime) -> Ordering
     ensures { result ≡ slice_cmp pair_cmp first.now.media.pairs second.now.media.pairs }
 {
-    let pairs = first.pairs();
-    let others = second.pairs();
-    if pairs.are_written_as(&others) {
+    // Equal texts are equal values.
+    if first.as_str() == second.as_str() {
         return Ordering::Equal;
     }
+    let pairs = first.pairs();
+    let others = second.pairs();
     pairs.cmp(others)
 }
 
