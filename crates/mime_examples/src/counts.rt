@@ -1,10 +1,13 @@
 //! A map keyed by media type.
 
-ghost use Rattle.std.specs.Prelude.{◌+◌, Some, OnOk, min, unwrap_or};
+ghost use Rattle.std.specs.Prelude.{◌+◌, Some, IfOk, OnOk, min, unwrap_or};
+ghost use Rattle.std.specs.Vec.{vec_items};
+ghost use Rattle.std.specs.List.Sorted.{IsPermutation, IsSorted};
+ghost use Rattle.std.specs.Ordering.{nat_cmp, ordering_then};
 ghost use Rattle.std.specs.HashMap.{get, Updates};
 
 use mime::Mime;
-use std::alloc::AllocError;
+use std::alloc::{AllocError, Global};
 use std::collections::HashMap;
 use std::hash::RandomState;
 use std::io;
@@ -32,4 +35,21 @@ pub fn count(counts: &mut Counts, mime: Mime) -> Result<(), AllocError>
     let count = counts.entry(mime)?.or_insert(0);
     *count = count.saturating_add(1);
     Ok(())
+}
+
+/// The media types with their counts, in the order of media types.
+///
+/// # Errors
+/// `AllocError` if memory runs out.
+pub fn sorted(alloc: Global, counts: Counts) -> Result<Vec<(Mime, u64)>, AllocError>
+    ensures all { IfOk result (λ rows. IsPermutation counts.entries (vec_items rows)) }
+    ensures ordered { IfOk result (λ rows. IsSorted (λ row other. ordering_then (⟦<Mime as Ord>⟧.cmp row.0 other.0) (nat_cmp row.1 other.1))
+        (vec_items rows)) }
+{
+    let mut rows = Vec::new(alloc);
+    for row in counts {
+        rows.push(row)?;
+    }
+    rows.sort()?;
+    Ok(rows)
 }

@@ -1,6 +1,7 @@
 //! A file's name as a parameter: written, and read back.
 
-ghost use Rattle.std.specs.Prelude.{◌≡◌, ℕ, List, Bool, Some, IfOk, IfSome, codes};
+ghost use Rattle.std.specs.Prelude.{◌≡◌, ◌↔◌, ℕ, List, Bool, Some, IsTrue, is_some, IfOk, IfSome, codes};
+ghost use Rattle.mime.specs.HeaderLaws.{AreHeaderBytes};
 ghost use Rattle.std.specs.Vec.{vec_items};
 ghost use Rattle.mime.specs.Names.{NameIs};
 ghost use Rattle.mime.specs.Items.{items_of, IsFirstAccepted};
@@ -8,16 +9,18 @@ ghost use Rattle.mime_http.specs.Unescaped.{unescaped};
 ghost use Rattle.mime_http.specs.Written.{escaped, with_pair};
 
 use mime::Mime;
+use mime_http::laws::written_is_meant;
 use mime_http::{unescape, with_parameter};
 use std::alloc::{AllocError, Global};
 
-/// The media type with a file's name in place of its own; `None` if the name has a control character. `image/png` with the name
-/// `a "b".png` is `image/png; name="a \"b\".png"`.
+/// The media type with a file's name in place of its own; `None` exactly if the name has a control character other than the tab.
+/// `image/png` with the name `a "b".png` is `image/png; name="a \"b\".png"`.
 ///
 /// # Errors
 /// `AllocError` if memory runs out, here and below.
 pub fn with_file_name(alloc: Global, mime: &Mime, name: &str) -> Result<Option<Mime>, AllocError>
-    ensures { IfOk result (λ answer. IfSome answer (λ named. named.media ≡ with_pair mime.now.media (codes "name") (escaped name.now))) }
+    ensures exact { IfOk result (λ answer. IsTrue (is_some answer) ↔ AreHeaderBytes name.now) }
+    ensures made { IfOk result (λ answer. IfSome answer (λ named. named.media ≡ with_pair mime.now.media (codes "name") (escaped name.now))) }
 {
     with_parameter(alloc, mime, "name", name)
 }
@@ -34,4 +37,19 @@ pub fn file_name(alloc: Global, mime: &Mime) -> Result<Option<Vec<u8>>, AllocErr
     let mut name = Vec::new(alloc);
     unescape(value.as_str(), &mut name)?;
     Ok(Some(name))
+}
+
+/// The file's name that is read where a name was written: the same.
+pub fn written_and_read(
+    alloc: Global,
+    mime: &Mime,
+    name: &str,
+) -> Result<Option<Vec<u8>>, AllocError>
+    ensures { IfOk result (λ answer. IfSome answer (λ back. vec_items back ≡ name.now)) }
+{
+    let Some(named) = with_file_name(alloc, mime, name)? else {
+        return Ok(None);
+    };
+    written_is_meant();
+    file_name(alloc, &named)
 }

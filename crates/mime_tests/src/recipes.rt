@@ -11,9 +11,9 @@ use mime_examples::build::vendor_json;
 use mime_examples::callers::{has_param, printed};
 use mime_examples::caret::caret_line;
 use mime_examples::compress::is_compressible;
-use mime_examples::counts::{count, no_counts};
+use mime_examples::counts::{count, no_counts, sorted};
 use mime_examples::document::received;
-use mime_examples::file_name::{file_name, with_file_name};
+use mime_examples::file_name::{file_name, with_file_name, written_and_read};
 use mime_examples::files::type_of_file;
 use mime_examples::handler::handler_of;
 use mime_examples::header::header_text;
@@ -80,7 +80,7 @@ pub(crate) fn show_chosen(alloc: Global, out: &mut String, strings: &[String]) {
     }
 }
 
-/// Shows how often a media type came, of those that fields stand for.
+/// Shows how often a media type came, of those that fields stand for, and then each of these with its count, in their order.
 pub(crate) fn show_counts(rt: &HostRuntime, out: &mut String, strings: &[String]) {
     let Ok(mut counts) = no_counts(rt) else {
         return;
@@ -93,6 +93,13 @@ pub(crate) fn show_counts(rt: &HostRuntime, out: &mut String, strings: &[String]
     }
     if let Some(mime) = read_or_not(rt.alloc(), out, string_at(strings, 0)) {
         show(out, counts.get(&mime).unwrap_or(&0));
+    }
+    let Ok(rows) = sorted(rt.alloc(), counts) else {
+        return;
+    };
+    for (mime, count) in &rows {
+        show(out, count);
+        show(out, mime);
     }
 }
 
@@ -196,7 +203,7 @@ pub(crate) fn show_form_with(alloc: Global, out: &mut String, boundary: &str) {
     show_made(out, form_with(alloc, boundary));
 }
 
-/// Shows a media type with a file's name, and the name that is read back from it.
+/// Shows a media type with a file's name, and the name that is read back from it, twice.
 pub(crate) fn show_file_name(alloc: Global, out: &mut String, field: &str, name: &str) {
     let Some(mime) = read_or_not(alloc, out, field) else {
         return;
@@ -205,6 +212,9 @@ pub(crate) fn show_file_name(alloc: Global, out: &mut String, field: &str, name:
         Ok(Some(named)) => {
             show(out, &named);
             if let Ok(Some(back)) = file_name(alloc, &named) {
+                show_text(out, Some(shown(&back)));
+            }
+            if let Ok(Some(back)) = written_and_read(alloc, &mime, name) {
                 show_text(out, Some(shown(&back)));
             }
         }

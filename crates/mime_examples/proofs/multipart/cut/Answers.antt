@@ -4,8 +4,8 @@ use Rattle.std.specs.Cmp.Lexicographic.{same_text}
 use Rattle.std.proofs.lemmas.List.{take_rest}
 use Rattle.mime_examples.proofs.multipart.cut.Goals as goal
 
-pub returns-in-Some : goal.returns-in-Some
-returns-in-Some c =
+pub returns-in-Some-clause-whole : goal.returns-in-Some-clause-whole
+returns-in-Some-clause-whole c =
     let body = c.args.body.now in
     let at = c.loop-at.at in
     let delimiter = c.args.delimiter.now in

@@ -2,5 +2,5 @@
 use Rattle.std.proofs.Common.{length}
 use Rattle.mime_examples.proofs.multipart.parts.Given as goal
 
-abbrev pub decreases-loop-part : goal.decreases-loop-part
-decreases-loop-part l = length l.left
+abbrev pub decreases-loop-left : goal.decreases-loop-left
+decreases-loop-left l = length l.left

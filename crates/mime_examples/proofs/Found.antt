@@ -1,0 +1,28 @@
+-- A parameter that was written is the one that is found under its name.
+use Rattle.std.proofs.Common.{◌≡◌, ◌∙◌, ◌++◌, ◌∷◌, [], ℕ, List, Bool, true, false, Option, Some, refl, sym, ap, not, cond, filter, codes}
+use Rattle.std.specs.Str.{bytes_eq}
+use Rattle.std.proofs.lemmas.Slice.Eq.{bytes_eq-Decides}
+use Rattle.std.proofs.lemmas.Bool.{true≢false}
+use Rattle.mime.specs.Values.{lowered}
+use Rattle.mime.specs.Names.{NameIs}
+use Rattle.mime.specs.Items.{items_of, IsFirstAccepted}
+use Rattle.mime_http.specs.Written.{others}
+
+-- what is found is the last pair, whether a pair before it is of another name and stays, or not
+step : (name content n v : List ℕ) (found : Option (List ℕ × Bool)) (rest : List (List ℕ × List ℕ)) (keep : Bool)
+    → not (bytes_eq (lowered n) (lowered name)) ≡ keep
+    → (IsFirstAccepted (λ it flag. NameIs it flag name) (items_of (rest ++ ((name, content) ∷ []))) found
+    → found ≡ Some (content, bytes_eq name (codes "charset")))
+    → IsFirstAccepted (λ it flag. NameIs it flag name) (items_of (cond keep ((n, v) ∷ rest) rest ++ ((name, content) ∷ []))) found
+    → found ≡ Some (content, bytes_eq name (codes "charset"))
+step name content n v found rest true is next first =
+    next (first.1 (λ same. true≢false (sym is ∙ ap not ((bytes_eq-Decides (lowered n) (lowered name)).1 same))))
+step name content n v found rest false is next first = next first
+
+-- among the pairs of other names and a last one, that one is found
+pub found_last : (name content : List ℕ) (pairs : List (List ℕ × List ℕ)) (found : Option (List ℕ × Bool))
+    → IsFirstAccepted (λ it flag. NameIs it flag name) (items_of (others name pairs ++ ((name, content) ∷ []))) found
+    → found ≡ Some (content, bytes_eq name (codes "charset"))
+found_last name content [] found first = first.0 refl
+found_last name content ((n, v) ∷ pairs) found first =
+    step name content n v found (others name pairs) _ refl (found_last name content pairs found) first
