@@ -131,13 +131,6 @@ dropped value n white rest within split =
     ∙ (sym (drop-drop (length white) n value) ∙ (ap (drop (length white)) split ∙ drop-append_seam white rest))
 
 -- so from there a value comes out as from the end of its white space on
--- After white space at a position stands what is left if it is trimmed.
-pub trimmed_at : (value : List ℕ) (n : ℕ) → n ≤ length value
-    → drop (length value - length (trim_start (drop n value))) value ≡ trim_start (drop n value)
-trimmed_at value n within =
-    let split = split_white (drop n value) in dropped value n split.0 (trim_start (drop n value)) within split.2
-
--- so from there a value comes out as from the end of its white space on
 pub after_white : {place : Place} → SkipsWhite place → (value : List ℕ) (n : ℕ) → n ≤ length value
     → tight_from place (drop n value) ≡ tight_from place (drop (length value - length (trim_start (drop n value))) value)
 after_white {place} skips value n within =

@@ -1,8 +1,7 @@
 -- What is read is what HTTP writes: bytes that tightening makes a syntax tree's text are a media type as HTTP writes it.
-use Rattle.mime_http.proofs.Common.{◌≡◌, ◌∙◌, ◌==◌, refl, sym, ap, subst, arith, ℕ, Bool, true, false, List, [], ◌∷◌, ◌++◌, length, drop, ◌+◌, and_parts, and_from, nat_tests, is_token_byte, Parameter, plain, quoted, Parameters, final, more, Tail, no_list, listed, SyntaxTree, is_space, AreSpaces, text_of_parameter, text_of_list, text_of_tail, text_of, IsToken, IsParameter, AreParameters, IsTail, IsWellFormed, MediaType, lowered, last_plus, AreTokenBytes-from_token, one_reading, Plain, Closed, Semicolon, place_after, tight_from, tight, IsHttpParameter, with_token, with_string, AreHttpParameters, no_more, semicolon, semicolon_and, HttpReads}
+use Rattle.mime_http.proofs.Common.{◌≡◌, ◌∙◌, ◌==◌, refl, sym, ap, subst, arith, ℕ, Bool, true, false, List, [], ◌∷◌, ◌++◌, length, drop, Reads, ◌+◌, and_parts, and_from, nat_tests, is_token_byte, Parameter, plain, quoted, Parameters, final, more, Tail, no_list, listed, SyntaxTree, is_space, AreSpaces, text_of_parameter, text_of_list, text_of_tail, text_of, IsToken, IsParameter, AreParameters, IsTail, IsWellFormed, MediaType, lowered, last_plus, AreTokenBytes-from_token, one_reading, Plain, Closed, Semicolon, place_after, tight_from, tight, IsHttpParameter, with_token, with_string, AreHttpParameters, no_more, semicolon, semicolon_and, HttpReads}
 use Rattle.std.proofs.lemmas.List.{append-nil, append_assoc}
 use Rattle.mime.specs.Grammar.{blank}
-use Rattle.mime_http.specs.HeaderLaws.{ReadIsHttp}
 use Rattle.mime_http.proofs.Places.{IsPlainByte, token_is_plain, of_type, of_name}
 use Rattle.mime_http.proofs.HttpForth.{spaces-append, http_is_read}
 use Rattle.mime_http.proofs.OutAgain.{After, and_then, said, any_back, plain_back, equals_back, plain_end_back, plain_semicolon_back, start_back, after_plain_byte, token_back, value_back, content_back, closed_back}
@@ -249,7 +248,7 @@ respelled reads before kept white spelled = record {
 }
 
 -- what is read is what HTTP writes, and the media type is the same
-pub read_is_http : ReadIsHttp
+pub read_is_http : (value : List ℕ) (media : MediaType) → Reads (tight value) media → HttpReads value media
 read_is_http value media reads =
     let found = tree_back reads.tree reads.well_formed value (sym reads.spelled) in
     let again = http_is_read value found.0 found.1 in

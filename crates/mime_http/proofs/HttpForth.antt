@@ -1,9 +1,8 @@
 -- What HTTP writes is read: tightened, it is the text of a syntax tree with the same parts.
-use Rattle.mime_http.proofs.Common.{◌≡◌, ◌∙◌, refl, sym, ap, subst, ℕ, List, [], ◌∷◌, ◌++◌, and_parts, and_from, list_all-append, plain, quoted, Parameters, final, more, Tail, no_list, listed, SyntaxTree, is_space, AreSpaces, text_of_list, text_of_tail, AreParameters, IsTail, value_of, lowered, lowered_value, lowered_list, lowered_tail, pairs_of_list, pairs_of_tail, Place, Start, Plain, Spaced, Closed, Semicolon, tight_from, tight, IsHttpParameter, with_token, with_string, AreHttpParameters, no_more, semicolon, semicolon_and}
+use Rattle.mime_http.proofs.Common.{◌≡◌, ◌∙◌, refl, sym, ap, subst, ℕ, List, [], ◌∷◌, ◌++◌, and_parts, and_from, list_all-append, plain, quoted, Parameters, final, more, Tail, no_list, listed, SyntaxTree, is_space, AreSpaces, text_of_list, text_of_tail, AreParameters, IsTail, value_of, lowered, lowered_value, lowered_list, lowered_tail, pairs_of_list, pairs_of_tail, Place, Start, Plain, Spaced, Closed, Semicolon, tight_from, tight, IsHttpParameter, with_token, with_string, AreHttpParameters, no_more, semicolon, semicolon_and, MediaType, Reads, HttpReads}
 use Rattle.std.proofs.lemmas.List.{append-nil, append_assoc}
 use Rattle.mime.specs.Grammar.{blank}
 use Rattle.mime_http.specs.declared.tight.Place.TheVariants.{Equals, Quoted}
-use Rattle.mime_http.specs.HeaderLaws.{HttpIsRead}
 use Rattle.mime_http.proofs.Places.{Leads, one, both, of_type, goes_on, of_value, of_name, token, walk_spaces, after_value, before_name, quoted_content}
 
 -- ---- white space that is left out
@@ -27,15 +26,24 @@ pub nothing_out : {place : Place} → SkipsWhite place → (white : List ℕ) �
 nothing_out {place} skips [] all = refl
 nothing_out {place} skips white all = ap (tight_from place) (sym (append-nil white)) ∙ white_skipped skips white [] all
 
--- After a byte that stays it is left out before a semicolon, and at the end.
-plain_semicolon : (n w : List ℕ) → AreSpaces n → tight_from Plain (n ++ (59 ∷ w)) ≡ 59 ∷ tight_from Semicolon w
-plain_semicolon [] w all = refl
-plain_semicolon (b ∷ n) w all = let parts = and_parts (is_space b) _ all in rw parts.0 (white_skipped spaced n (59 ∷ w) parts.1)
+-- Places after which white space is left out, before a semicolon and at the end.
+pub data LeavesWhite : Place → Type 0 where
+  in_token : LeavesWhite Plain
+  in_value : LeavesWhite Equals
 
--- and at the end it is left out
-plain_end : (n : List ℕ) → AreSpaces n → tight_from Plain n ≡ []
-plain_end [] all = refl
-plain_end (b ∷ n) all = let parts = and_parts (is_space b) _ all in rw parts.0 (nothing_out spaced n parts.1)
+-- It is left out before a semicolon,
+pub token_semicolon : {place : Place} → LeavesWhite place → (n w : List ℕ) → AreSpaces n
+    → tight_from place (n ++ (59 ∷ w)) ≡ 59 ∷ tight_from Semicolon w
+token_semicolon in_token [] w all = refl
+token_semicolon in_value [] w all = refl
+token_semicolon in_token (b ∷ n) w all = let parts = and_parts (is_space b) _ all in rw parts.0 (white_skipped spaced n (59 ∷ w) parts.1)
+token_semicolon in_value (b ∷ n) w all = let parts = and_parts (is_space b) _ all in rw parts.0 (white_skipped spaced n (59 ∷ w) parts.1)
+
+-- and at the end
+pub token_end : {place : Place} → LeavesWhite place → (n : List ℕ) → AreSpaces n → tight_from place n ≡ []
+token_end leaves [] all = refl
+token_end in_token (b ∷ n) all = let parts = and_parts (is_space b) _ all in rw parts.0 (nothing_out spaced n parts.1)
+token_end in_value (b ∷ n) all = let parts = and_parts (is_space b) _ all in rw parts.0 (nothing_out spaced n parts.1)
 
 -- ---- what is left of bytes, from a token's end, from a quoted value's end and from a semicolon on
 
@@ -159,7 +167,7 @@ after_semicolon b bytes white from = record {
   plain = record {
     tail = listed from.list;
     is = from.is;
-    same = plain_semicolon b bytes white ∙ ap (λ x. 59 ∷ x) from.same;
+    same = token_semicolon in_token b bytes white ∙ ap (λ x. 59 ∷ x) from.same;
     has = from.has;
   };
   closed =
@@ -179,7 +187,7 @@ after_semicolon b bytes white from = record {
 forth : {text : List ℕ} {pairs : List (List ℕ × List ℕ)} → AreHttpParameters text pairs → (after : List ℕ) → AreSpaces after
     → FromAll (text ++ after) pairs
 forth no_more after white = record {
-  plain = record { tail = no_list; is = tt; same = plain_end after white; has = refl };
+  plain = record { tail = no_list; is = tt; same = token_end in_token after white; has = refl };
   closed =
       let kept : Leads Closed after after Closed = walk_spaces after_value after white in
       record {
@@ -211,7 +219,7 @@ forth (semicolon_and b a parameter rest pair pairs white_before white_after one 
     (indent a _ white_after (with_parameter one (rest ++ after) next.plain next.closed)))
 
 -- a media type as HTTP writes it, tightened, is read as it
-pub http_is_read : HttpIsRead
+pub http_is_read : (value : List ℕ) (media : MediaType) → HttpReads value media → (kept : List ℕ) × Reads (tight value) (record media { kept = kept })
 http_is_read value media reads =
     let from = (forth reads.are_parameters reads.after reads.white_after).plain in
     let top = reads.top in
