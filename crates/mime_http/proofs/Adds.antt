@@ -14,7 +14,7 @@ use Rattle.mime_http.specs.declared.fault.Rejected.{Rejected}
 use Rattle.mime_http.specs.Places.{tight}
 use Rattle.mime_http.specs.Tightening.{IsRejected}
 use Rattle.mime_http.proofs.HttpBack.{read_is_http}
-use Rattle.mime_http.proofs.Tightened.{reads_tight, tight_reads}
+use Rattle.mime_http.proofs.HttpLaws.{reads_tight, tight_reads}
 use Rattle.mime_http.proofs.Cuts.{are_cut, only_cut}
 use Rattle.mime_http.proofs.Trims.{blank_from_trimmed, trimmed_from_blank, trim_twice, utf8_before, utf8_trimmed, tight_trimmed, http_before, http_trimmed}
 

@@ -3,9 +3,8 @@ use Rattle.mime_http.proofs.Common.{◌≡◌, ◌∙◌, refl, sym, ap, subst, 
 use Rattle.std.proofs.lemmas.List.{append-nil}
 use Rattle.mime_http.specs.declared.tight.Place.TheVariants.{Quoted, Paired}
 use Rattle.mime_http.proofs.Highest.{item_left}
-use Rattle.mime_http.proofs.Places.{place_from, comes_out_whole}
+use Rattle.mime_http.proofs.Places.{place_from, comes_out_whole, SkipsWhite, white_skipped}
 use Rattle.mime_http.proofs.PlacesAgain.{IsSettled}
-use Rattle.mime_http.proofs.HttpForth.{SkipsWhite, white_skipped}
 use Rattle.mime_http.proofs.Trims.{split_white}
 use Rattle.mime_http.proofs.HttpViability.{place_in_list, place_at, walked, tight-append, viable_from_tight, tight_from_viable}
 use Rattle.mime_http.proofs.HowFar.{tight_one}

@@ -4,9 +4,10 @@ use Rattle.mime_http.proofs.Common.{◌≡◌, ◌∙◌, ◌==◌, ◌&&◌, re
 use Rattle.std.proofs.Math.Bool.{and-false}
 use Rattle.std.proofs.lemmas.List.{append_assoc}
 use Rattle.mime_http.specs.Tight.{Tightens, ReadsTight, IsSpare, first, white, another, FaultIsSpare}
-use Rattle.mime_http.proofs.Tightened.{tight_is, tightens, tight_is_http}
+use Rattle.mime_http.proofs.Tightened.{tight_is}
 use Rattle.mime_http.proofs.HttpFaults.{longest_at, same_last}
-use Rattle.mime_http.proofs.HttpLaws.{accepted_from_http}
+use Rattle.mime_http.proofs.HttpForth.{http_is_tight}
+use Rattle.mime_http.proofs.HttpLaws.{accepted_from_http, tight_is_http}
 use Rattle.mime_http.proofs.HttpViability.{http_from_accepted, viable_from_tight, tight_from_viable, viable_from_accepted, accepted_from_spaced}
 
 -- ` text/HTML ;; charset="UTF-8" `
@@ -116,7 +117,7 @@ not_missing fault = omega (arith, same_last (codes " text") fault.1.0 47 61 faul
 
 -- ` text/HTML ;; charset="UTF-8" `: the last white space stays, and so does that after the semicolons
 tightened : Tightens 32 (codes " text/HTML ;; charset=\"UTF-8\" ") (codes "text/HTML; charset=\"UTF-8\" ")
-tightened = tightens _ _ read
+tightened = let is = (http_is_tight _ _ read).1 in subst (Tightens 32 (codes " text/HTML ;; charset=\"UTF-8\" ")) (sym (tight_is is.1)) is.1
 
 -- so it is printed in lowercase
 kept : ReadsTight (codes " text/HTML ;; charset=\"UTF-8\" ") (record {

@@ -5,8 +5,9 @@ use Rattle.std.proofs.lemmas.List.{append_assoc}
 use Rattle.std.proofs.lemmas.Str.Ascii.{IsAscii-cons, IsAscii-nil}
 use lib.Utf8.{scalars, scalar, encodes, encode}
 use Rattle.mime_http.specs.declared.tight.Place.TheVariants.{Quoted, Paired}
+use Rattle.mime_http.proofs.Places.{after_token}
 use Rattle.mime_http.proofs.PlacesAgain.{kept_adds, is_kept}
-use Rattle.mime_http.proofs.OutAgain.{After, and_then, to_place, plain_back, any_back}
+use Rattle.mime_http.proofs.OutAgain.{After, and_then, to_place, token_byte_back, any_back}
 
 -- ---- ASCII bytes
 
@@ -122,7 +123,7 @@ run {place} holds (b ∷ hs) rest all =
 -- a byte that comes out there was there,
 one_back : {place : Place} → Holds place → (bytes : List ℕ) (b : ℕ) (out : List ℕ) → IsHigh b → tight_from place bytes ≡ b ∷ out
     → After bytes (b ∷ []) (place_after place b) out
-one_back outside bytes b out is e = plain_back bytes b out is.space is.semicolon e
+one_back outside bytes b out is e = token_byte_back after_token bytes b out is.space is.semicolon e
 one_back within bytes b out is e = any_back Quoted (λ b. refl) bytes b out e
 
 -- and so were all of them

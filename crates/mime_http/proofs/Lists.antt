@@ -3,11 +3,11 @@ use Rattle.mime_http.proofs.Common.{◌≡◌, ◌∙◌, ◌==◌, refl, sym, a
 use Rattle.std.proofs.lemmas.List.{append-nil, append_assoc}
 use Rattle.mime_http.specs.HttpList.{blank}
 use Rattle.mime_http.specs.ListLaws.{AreElements, no_text as no_element, nothing, element, without_kept, AreSame, HttpListsAreRead, ReadAreHttpLists, OneHeader, BadIsAlone}
-use Rattle.mime_http.proofs.Places.{token_is_plain, text_is_no_mark}
+use Rattle.mime_http.proofs.Places.{token_is_plain, text_is_no_mark, at_start, nothing_out}
 use Rattle.mime_http.proofs.Adds.{sorted_both}
-use Rattle.mime_http.proofs.Tightened.{reads_tight, tight_reads}
+use Rattle.mime_http.proofs.HttpLaws.{reads_tight, tight_reads}
 use Rattle.mime_http.proofs.HttpBack.{read_is_http}
-use Rattle.mime_http.proofs.HttpForth.{at_start, nothing_out, http_is_read}
+use Rattle.mime_http.proofs.HttpForth.{http_is_read}
 use Rattle.mime_http.proofs.HttpLaws.{accepted_from_http}
 use Rattle.mime_http.proofs.Cuts.{only_cut}
 

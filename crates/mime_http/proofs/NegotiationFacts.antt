@@ -18,7 +18,7 @@ use Rattle.mime.proofs.HandedOut.{stopped-from_walk}
 use Rattle.mime_http.specs.Places.{tight}
 use Rattle.mime_http.proofs.HttpLaws.{accepted_from_http}
 use Rattle.mime_http.proofs.HttpBack.{read_is_http}
-use Rattle.mime_http.proofs.Tightened.{reads_tight}
+use Rattle.mime_http.proofs.HttpLaws.{reads_tight}
 use Rattle.mime_http.proofs.Lists.{one_header, http_lists_are_read, bad_is_alone}
 use Rattle.mime_http.proofs.RangesFacts.{of}
 use Rattle.mime_http.proofs.HttpText.{AreAscii, put_ascii}

@@ -4,9 +4,9 @@ use Rattle.std.proofs.Common.{append-nil, append_assoc}
 use Rattle.std.specs.Str.{IsUtf8}
 use Rattle.mime_http.proofs.HttpBack.{respelled}
 use Rattle.mime_http.specs.Places.{tight}
-use Rattle.mime_http.proofs.HttpForth.{at_start, white_skipped, spaces-append}
+use Rattle.mime_http.proofs.HttpForth.{spaces-append}
 use Rattle.mime_http.proofs.HttpText.{AreAscii, put_ascii, drop_ascii}
-use Rattle.mime_http.proofs.Places.{token_is_plain}
+use Rattle.mime_http.proofs.Places.{token_is_plain, at_start, white_skipped}
 
 -- ---- at the start
 

@@ -1,4 +1,4 @@
-use Rattle.mime_http.proofs.Tightened.{tight_is_utf8}
+use Rattle.mime_http.proofs.HttpLaws.{tight_is_utf8}
 use Rattle.mime_http.proofs.laws.tight_is_utf8.Goals as goal
 
 pub returns : goal.returns

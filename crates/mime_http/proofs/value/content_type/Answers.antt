@@ -13,7 +13,7 @@ use Rattle.mime_http.specs.HttpFaults.{HttpExplains}
 use Rattle.mime_http.specs.Places.{tight}
 use Rattle.mime_http.proofs.HttpBack.{read_is_http}
 use Rattle.mime_http.specs.Tight.{ReadsTight, FaultIsSpare}
-use Rattle.mime_http.proofs.Tightened.{reads_tight}
+use Rattle.mime_http.proofs.HttpLaws.{reads_tight}
 use Rattle.mime_http.proofs.Places.{accepted_stays}
 use Rattle.mime_http.proofs.HttpLaws.{plain_is_http}
 use Rattle.mime_http.proofs.Rejections.{fault_explains}
