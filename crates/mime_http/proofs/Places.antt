@@ -45,13 +45,14 @@ so {p} {q} {r} {xs} {out} {add} leads same there =
 pub comes_out_whole : {p q : Place} {text : List ℕ} → Leads p text text q → tight_from p text ≡ text
 comes_out_whole {p} {text = text} leads = ap (tight_from p) (sym (append-nil text)) ∙ (leads.tightly [] ∙ append-nil text)
 
--- a byte with no role
+-- a byte with no role in a value, nor in a line
 pub record IsPlainByte (b : ℕ) : Type 0 where
   pub space : is_space b ≡ false
   pub semicolon : (b == 59) ≡ false
   pub equals : (b == 61) ≡ false
   pub quote : (b == 34) ≡ false
   pub comma : (b == 44) ≡ false
+  pub backslash : (b == 92) ≡ false
 
 -- a token byte has no role
 pub token_is_plain : (b : ℕ) → is_token_byte b ≡ true → IsPlainByte b
@@ -62,6 +63,7 @@ token_is_plain b is = record {
   equals = grind (arith, nat_tests);
   quote = grind (arith, nat_tests);
   comma = grind (arith, nat_tests);
+  backslash = grind (arith, nat_tests);
 }
 
 -- places at which a token may be
