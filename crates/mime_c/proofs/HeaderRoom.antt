@@ -4,14 +4,14 @@ use Rattle.std.specs.List.{AllByRecursion}
 use Rattle.std.proofs.lemmas.Bool.Decides.{nat_tests}
 use Rattle.mime.specs.Bytes.{comma_byte}
 use Rattle.mime.specs.Laws.{without_parameters}
-use Rattle.mime.specs.Values.{MediaType, Reads}
+use Rattle.mime.specs.Values.{MediaType}
 use Rattle.mime.proofs.LawsLemmas.Written.{essence_is_read, kept_is_safe}
 use Rattle.mime.proofs.ValueLemmas.KeptText.{kept_is_read}
-use Rattle.mime_http.specs.Tight.{tight}
+use Rattle.mime_http.specs.Tight.{ReadsTight}
 use Rattle.mime_http.specs.HttpMediaType.{HttpReads}
 use Rattle.mime_http.specs.HttpList.{AreBetweenCommas, no_line, line_end, comma, AreSorted, no_text, blank, a_range, a_bad, Header, IsHeader}
-use Rattle.mime_http.proofs.TightLength.{no_longer}
-use Rattle.mime_http.proofs.HttpForth.{http_is_read}
+use Rattle.mime_http.proofs.HttpForth.{http_is_tight}
+use Rattle.mime_http.proofs.Tightened.{no_longer}
 use Rattle.mime_c.specs.Strings.{string_of, strings, ComeBack, parts_of, texts_of}
 use Rattle.mime_c.specs.HeaderAnswers.{range_texts, ranges_texts}
 use Rattle.mime_c.proofs.NoZero.{HasNoZero, come_back, no_zero-read, no_zero-pairs}
@@ -19,22 +19,23 @@ use Rattle.mime_c.proofs.Room.{lengths_of, texts_fit}
 use Rattle.mime_c.proofs.Writing.{strings_of_texts, strings_of_range, strings_of_ranges}
 
 -- those of a value's media type are at most twice as many as the value, and two
-pub value_fits : (value : List ℕ) (media : MediaType) → Reads (tight value) media → length (strings (texts_of media)) ≤ 2 * length value + 2
-value_fits value media reads = omega (arith, texts_fit (tight value) media reads, no_longer value)
+pub value_fits : (value : List ℕ) (media : MediaType) → ReadsTight value media → length (strings (texts_of media)) ≤ 2 * length value + 2
+value_fits value media reads = omega (arith, texts_fit reads.0 media reads.2, no_longer reads.1)
 
 -- ---- the strings of ranges
 
 -- those of a range are at most three times as many as its text with a comma
 range_fits : (text : List ℕ) (range : MediaType) → HttpReads text range → length (strings (range_texts range)) ≤ 3 * (length text + 1)
 range_fits text range reads =
-    let read = http_is_read text range reads in
+    let read = http_is_tight text range reads in
     let media = record range { kept = read.0 } in
-    let sizes = lengths_of (tight text) media read.1 in
-    let kept = lengths_of media.kept media (kept_is_read (tight text) media read.1) in
+    let tight = read.1 in
+    let sizes = lengths_of tight.0 media tight.2 in
+    let kept = lengths_of media.kept media (kept_is_read tight.0 media tight.2) in
     let parts = strings (parts_of range) in
     let texts : length (strings (texts_of media)) ≡ length parts + (length media.kept + 1) =
     ap length (strings_of_texts media) ∙ length-append parts (string_of media.kept) ∙ ap (λ n. length parts + n) (length-append media.kept (0 ∷ [])) in
-    omega (arith, sizes.1, kept.2, no_longer text, texts, ap length (strings_of_range range), length-append parts (0 ∷ []))
+    omega (arith, sizes.1, kept.2, no_longer tight.1, texts, ap length (strings_of_range range), length-append parts (0 ∷ []))
 
 -- how many bytes texts are with a comma after each
 abbrev total : List (List ℕ) → ℕ
@@ -64,10 +65,11 @@ ranges_fit line header is = omega (arith, total-cut (line ∷ []) is.pieces is.c
 
 no_zero-range : (text : List ℕ) (range : MediaType) → HttpReads text range → AllByRecursion HasNoZero (range_texts range)
 no_zero-range text range reads =
-    let read = http_is_read text range reads in
+    let read = http_is_tight text range reads in
     let media = record range { kept = read.0 } in
-    let essence = no_zero-read range.essence (without_parameters media) (essence_is_read (tight text) media read.1) in
-    (grind (arith, nat_tests), (essence, no_zero-pairs range.pairs [] (kept_is_safe (tight text) media read.1).pairs refl))
+    let tight = read.1 in
+    let essence = no_zero-read range.essence (without_parameters media) (essence_is_read tight.0 media tight.2) in
+    (grind (arith, nat_tests), (essence, no_zero-pairs range.pairs [] (kept_is_safe tight.0 media tight.2).pairs refl))
 
 both_none : (texts others : List (List ℕ)) → AllByRecursion HasNoZero texts → AllByRecursion HasNoZero others → AllByRecursion HasNoZero (texts ++ others)
 both_none [] others none more = more

@@ -1,6 +1,6 @@
 -- How many bytes a media type with a parameter is, and that what is written comes back.
-use Rattle.std.proofs.Common.{◌≡◌, ℕ, ◌+◌, ◌*◌, ◌<◌, ◌≤◌, Bool, true, false, List, [], ◌∷◌, ◌++◌, length, filter, refl, ap, subst, arith, length-append}
-use Rattle.std.specs.List.{list_all, AllByRecursion}
+use Rattle.std.proofs.Common.{◌≡◌, ℕ, ◌+◌, ◌*◌, ◌<◌, ◌≤◌, Bool, true, false, List, [], ◌∷◌, ◌++◌, length, filter, ap, arith, length-append}
+use Rattle.std.specs.List.{AllByRecursion}
 use Rattle.std.specs.Prelude.{◌==◌, ◌||◌, not, bytes_eq, if◌then◌else◌}
 use Rattle.std.proofs.lemmas.Bool.Decides.{nat_tests}
 use Rattle.std.proofs.lemmas.List.Concat.{flat_map-append}
@@ -12,12 +12,12 @@ use Rattle.mime.proofs.BytesLemmas.{is_other, list_all-wider}
 use Rattle.mime.proofs.LawsLemmas.Written.{kept_is_safe}
 use Rattle.mime.proofs.LowercaseLemmas.{length-lowered, lowered_value-either}
 use Rattle.mime_http.specs.Boundary.{is_bchar, IsBoundary}
-use Rattle.mime_http.specs.Tight.{tight}
+use Rattle.mime_http.specs.Tight.{ReadsTight}
 use Rattle.mime_http.specs.Written.{escaped_byte, escaped, is_token_value, quote_of, text_of_pair, text_of_pairs, others}
-use Rattle.mime_http.proofs.TightLength.{no_longer}
+use Rattle.mime_http.proofs.Tightened.{no_longer}
 use Rattle.mime_c.specs.Strings.{strings, ComeBack, pair_texts}
 use Rattle.mime_c.specs.ParameterAnswers.{room_with, with_parameter}
-use Rattle.mime_c.proofs.NoZero.{HasNoZero, come_back, no_zero-read}
+use Rattle.mime_c.proofs.NoZero.{come_back, no_zero-read}
 use Rattle.mime_c.proofs.Room.{lengths_of}
 
 -- ---- a parameter
@@ -73,14 +73,14 @@ kept_pairs test ((name, value) ∷ pairs) (is, are) =
 
 -- ---- a media type with a parameter
 
-pub set_fits : (text name value : List ℕ) (media : MediaType) → Reads (tight text) media
+pub set_fits : (text name value : List ℕ) (media : MediaType) → ReadsTight text media
     → length (with_parameter media name value).kept + 1 ≤ room_with text name value
 set_fits text name value media reads =
     let made : List ℕ × List ℕ = (lowered name, lowered_value name (escaped value)) in
     let kept = others (lowered name) media.pairs in
-    let size = (lengths_of (tight text) media reads).3 in
+    let size = (lengths_of reads.0 media reads.2).3 in
     let other : List ℕ × List ℕ → Bool = λ pair. not (bytes_eq (lowered pair.0) (lowered (lowered name))) in
-    let pairs = kept_pairs other media.pairs (kept_is_safe (tight text) media reads).pairs in
+    let pairs = kept_pairs other media.pairs (kept_is_safe reads.0 media reads.2).pairs in
     let content : length (lowered_value name (escaped value)) ≤ 2 * length value =
     lowered_value-either (λ it. length it ≤ 2 * length value) name (escaped value) (length-escaped value)
     (omega (arith, length-lowered (escaped value), length-escaped value)) in
@@ -88,7 +88,7 @@ set_fits text name value media reads =
     let all = ap length (flat_map-append text_of_pair kept (made ∷ [])) in
     omega (
       arith,
-      no_longer text,
+      no_longer reads.1,
       size,
       pairs,
       content,

@@ -1,5 +1,5 @@
 -- What each call answers, and what the caller's buffer and structs hold then.
-use Rattle.std.specs.Prelude.{ℕ, ◌+◌, ◌*◌, ◌<◌, ◌≤◌, Bool, IsTrue, if◌then◌else◌, List, ◌∷◌, ◌++◌, length, ◌↔◌, codes}
+use Rattle.std.specs.Prelude.{ℕ, ◌+◌, ◌*◌, ◌<◌, ◌≤◌, Bool, IsTrue, if◌then◌else◌, List, ◌∷◌, ◌++◌, length, ◌↔◌}
 use Rattle.std.specs.Str.{IsUtf8}
 use Rattle.mime.specs.Values.{MediaType, Reads, type_of, subtype_of}
 use Rattle.mime.specs.Comparison.{Same}

@@ -1,12 +1,12 @@
 -- What the calls for headers answer, and what the caller's buffer and structs hold then.
 use Rattle.std.specs.Prelude.{◌≡◌, ◌≢◌, ℕ, ◌+◌, ◌*◌, ◌/◌, ◌%◌, ◌<◌, ◌≤◌, Bool, List, [], ◌∷◌, ◌++◌, length, if◌then◌else◌, Some, None, flat_map}
 use Rattle.std.specs.Str.{IsUtf8}
-use Rattle.mime.specs.Values.{MediaType, Reads}
+use Rattle.mime.specs.Values.{MediaType}
 use Rattle.mime_http.specs.HttpMediaType.{HttpReads}
 use Rattle.mime_http.specs.HttpFaults.{HttpExplains}
 use Rattle.mime_http.specs.HttpList.{Header, IsHeader}
 use Rattle.mime_http.specs.Ranges.{weight_of, best_offer, AreInOrder}
-use Rattle.mime_http.specs.Tight.{tight}
+use Rattle.mime_http.specs.Tight.{ReadsTight}
 use Rattle.mime_http.specs.declared.value.FieldError.{FieldError}
 use Rattle.mime_http.specs.declared.value.FieldError.TheVariants.{NotUtf8, Invalid, NoMemory}
 use Rattle.mime_c.specs.Strings.{strings, ComeBack, parts_of, texts_of, written}
@@ -28,7 +28,7 @@ found_of_error other = nothing
 -- there is written as `mime_read` writes it, and printed as tightened: of the white space and empty parameters that HTTP allows those
 -- stay that `mime_read` takes, too
 pub data HeaderReadsTo (value old : List ℕ) : ℕ → List ℕ → MimeFound → Type 0 where
-  is_value : (media : MediaType) → 2 * length value + 2 ≤ length old → IsUtf8 value → HttpReads value media → Reads (tight value) media
+  is_value : (media : MediaType) → 2 * length value + 2 ≤ length old → IsUtf8 value → HttpReads value media → ReadsTight value media
       → ComeBack (texts_of media)
       → HeaderReadsTo value old MIME_OK (written (strings (texts_of media)) old) (found_of media)
   isnt_value : (error : FieldError) → 2 * length value + 2 ≤ length old → HttpExplains value error

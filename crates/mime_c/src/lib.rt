@@ -12,7 +12,7 @@ ghost use Rattle.mime_c.specs.Strings.{string_of, strings, parts_of, texts_of, w
 ghost use Rattle.mime_c.specs.Writing.{Writes};
 ghost use Rattle.mime_c.specs.Answers.{number_of, found_of_fault, found_of, Fails, ReadsTo, ListsTo, Compares};
 ghost use Rattle.mime_http.specs.HttpMediaType.{HttpReads};
-ghost use Rattle.mime_http.specs.Tight.{tight};
+ghost use Rattle.mime_http.specs.Tight.{ReadsTight};
 ghost use Rattle.mime_http.specs.HttpList.{IsHeader};
 ghost use Rattle.mime_http.specs.Ranges.{weight_of};
 ghost use Rattle.mime_c.specs.HeaderAnswers.{number_of_error, found_of_error, HeaderReadsTo, four_digits, range_texts, AcceptsTo, lines_of, HaveNoEntry, BestIs, OrderIs};

@@ -1,13 +1,12 @@
 -- The rows of a report, as the code adds them one by one.
-use Rattle.std.proofs.Common.{◌≡◌, ℕ, ◌+◌, ◌<◌, ◌≤◌, List, [], ◌∷◌, ◌++◌, length, drop, get_or, refl, ap, sym, subst, ◌∙◌, append_assoc, append-nil, Result, Ok, Err, OnOk}
+use Rattle.std.proofs.Common.{◌≡◌, ℕ, ◌+◌, ◌<◌, List, [], ◌∷◌, ◌++◌, length, drop, get_or, refl, ap, sym, subst, ◌∙◌, append_assoc, append-nil, Result, Ok, Err, OnOk}
 use Rattle.std.specs.Prelude.{flat_map, slice_get}
 use Rattle.std.specs.Str.{IsUtf8}
-use Rattle.std.proofs.Math.ListN.{drop_of_length-le}
 use Rattle.mime.specs.Items.{Item, items_of}
-use Rattle.mime.specs.Values.{MediaType, Reads}
+use Rattle.mime.specs.Values.{MediaType}
 use Rattle.mime_http.specs.HttpMediaType.{HttpReads}
 use Rattle.mime_http.specs.Ranges.{AreInOrder}
-use Rattle.mime_http.specs.Tight.{tight}
+use Rattle.mime_http.specs.Tight.{ReadsTight}
 use Rattle.mime_http.proofs.Highest.{first_left}
 use Rattle.mime_io.specs.Inner.{Adds}
 use Rattle.mime_headers.specs.Head.{without_start}
@@ -26,17 +25,11 @@ rows-next f xs i x old new whole within is left added =
     ap (λ text. text ++ rest) added ∙ append_assoc old (f x) rest
     ∙ ap (λ items. old ++ flat_map f items) (sym (first_left xs i x within is)) ∙ left
 
--- after the last item nothing is left
-pub rows-end : {X : Type 0} (f : X → List ℕ) (xs : List X) (i : ℕ) (new whole : List ℕ) → length xs ≤ i
-    → new ++ flat_map f (drop i xs) ≡ whole → new ≡ whole
-rows-end f xs i new whole past left =
-    sym (append-nil new) ∙ ap (λ items. new ++ flat_map f items) (sym (drop_of_length-le xs past)) ∙ left
-
 -- ---- reports by a relation
 
 -- the rows of a media type, and then that of its boundary
 pub reported-good : {E : Type 0} (result : Result (Unit {0}) E) (value : List ℕ) (media : MediaType) (old between new : List ℕ) → IsUtf8 value
-    → HttpReads value media → Reads (tight value) media → between ≡ old ++ media_rows media
+    → HttpReads value media → ReadsTight value media → between ≡ old ++ media_rows media
     → OnOk result (Adds (ReportsBoundary media) between new) → OnOk result (Adds (ReportsType value) old new)
 reported-good (Ok done) value media old between new utf8 http kept first (last, is, added) = (
   media_rows media ++ last,

@@ -3,7 +3,7 @@ use Rattle.std.specs.Prelude.{◌≡◌, ◌≢◌, ℕ, ◌+◌, ◌/◌, ◌%�
 use Rattle.std.specs.Char.{is_ascii_graphic}
 use Rattle.std.specs.Option.{option_and_then}
 use Rattle.std.specs.Str.{IsUtf8}
-use Rattle.mime.specs.Values.{MediaType, Reads, suffix_of}
+use Rattle.mime.specs.Values.{MediaType, suffix_of}
 use Rattle.mime.specs.declared.scan.fault.ParseError.{ParseError}
 use Rattle.mime.specs.declared.scan.fault.ParseError.TheVariants.{InvalidToken}
 use Rattle.mime_http.specs.Boundary.{IsBoundaryOf}
@@ -12,7 +12,7 @@ use Rattle.mime_http.specs.HttpList.{Header, IsHeader}
 use Rattle.mime_http.specs.HttpMediaType.{HttpReads}
 use Rattle.mime_http.specs.HttpPrinted.{field_error_text}
 use Rattle.mime_http.specs.Ranges.{weight_of, given_weight, best_offer, AreInOrder}
-use Rattle.mime_http.specs.Tight.{tight}
+use Rattle.mime_http.specs.Tight.{ReadsTight}
 use Rattle.mime_http.specs.Unescaped.{unescaped}
 use Rattle.mime_http.specs.declared.value.FieldError.{FieldError}
 use Rattle.mime_http.specs.declared.value.FieldError.TheVariants.{NotUtf8, Invalid, NoMemory}
@@ -65,7 +65,7 @@ fault_rows value error =
 
 -- what is written of a value: of a media type its rows, and otherwise those of its fault
 pub data ReportsType (value : List ℕ) : List ℕ → Type 0 where
-  good : (media : MediaType) (last : List ℕ) → IsUtf8 value → HttpReads value media → Reads (tight value) media → ReportsBoundary media last
+  good : (media : MediaType) (last : List ℕ) → IsUtf8 value → HttpReads value media → ReadsTight value media → ReportsBoundary media last
       → ReportsType value (media_rows media ++ last)
   bad : (error : FieldError) → error ≢ NoMemory → HttpExplains value error → ReportsType value (fault_rows value error)
 

@@ -11,9 +11,10 @@ use Rattle.mime_http.specs.HttpMediaType.{HttpReads, IsHttpMediaType}
 use Rattle.mime_http.specs.HttpList.{lines_or_any, AreBetweenCommas, IsPiece, BeginsPiece, trim_start, trim_end, AreSorted, no_text, blank, a_range, a_bad, Header, IsHeader}
 use Rattle.mime_http.specs.Walk.{cut, Adds, AddsLines}
 use Rattle.mime_http.specs.declared.fault.Rejected.{Rejected}
-use Rattle.mime_http.specs.Tight.{tight}
+use Rattle.mime_http.specs.Places.{tight}
 use Rattle.mime_http.specs.Tightening.{IsRejected}
 use Rattle.mime_http.proofs.HttpBack.{read_is_http}
+use Rattle.mime_http.proofs.HttpLaws.{reads_tight, tight_reads}
 use Rattle.mime_http.proofs.Cuts.{are_cut, only_cut}
 use Rattle.mime_http.proofs.Trims.{blank_from_trimmed, trimmed_from_blank, trim_twice, utf8_before, utf8_trimmed, tight_trimmed, http_before, http_trimmed}
 
@@ -51,7 +52,7 @@ module _ (piece : List ℕ) {old new : Header} where
     ranges = range ∷ [];
     bad = [];
     sorted = a_range piece range [] [] [] (utf8_before piece is.0) (read_is_http piece range (tight_before piece is.1))
-        (tight_before piece is.1) no_text;
+        (reads_tight piece (tight_before piece is.1)) no_text;
     now_ranges = ranges;
     now_bad = bad ∙ sym (append-nil old.bad);
   }
@@ -76,7 +77,7 @@ sorted_before piece text is (blank _ _ _ _ white rest) =
 sorted_before piece text is (a_range _ range _ _ _ utf8 reads kept rest) =
     a_range piece range [] _ _ (utf8_before piece (subst IsUtf8 is utf8))
     (http_before piece range (subst (λ t. HttpReads t range) is reads))
-    (tight_before piece (subst (λ t. Reads (tight t) range) is kept)) rest
+    (reads_tight piece (tight_before piece (subst (λ t. Reads (tight t) range) is (tight_reads text kept)))) rest
 sorted_before piece text {ranges = ranges} is (a_bad _ _ _ bad some isnt rest) =
     let same : trim_end (trim_start piece) ≡ trim_end (trim_start text) = ap trim_end (sym (ap trim_start is ∙ trim_twice piece)) in
     subst (λ entry. AreSorted (piece ∷ []) ranges (entry ∷ bad)) same

@@ -3,9 +3,8 @@ use Rattle.mime_http.proofs.Common.{◌≡◌, ◌∙◌, refl, sym, ap, subst, 
 use Rattle.std.proofs.lemmas.List.{append-nil}
 use Rattle.mime_http.specs.declared.tight.Place.TheVariants.{Quoted, Paired}
 use Rattle.mime_http.proofs.Highest.{item_left}
-use Rattle.mime_http.proofs.Places.{place_from, comes_out_whole}
+use Rattle.mime_http.proofs.Places.{place_from, comes_out_whole, SkipsWhite, white_skipped}
 use Rattle.mime_http.proofs.PlacesAgain.{IsSettled}
-use Rattle.mime_http.proofs.HttpForth.{SkipsWhite, white_skipped}
 use Rattle.mime_http.proofs.Trims.{split_white}
 use Rattle.mime_http.proofs.HttpViability.{place_in_list, place_at, walked, tight-append, viable_from_tight, tight_from_viable}
 use Rattle.mime_http.proofs.HowFar.{tight_one}
@@ -129,13 +128,6 @@ dropped value n white rest within split =
     omega (arith, within, ap length split, length-append white rest, length-drop n value) in
     ap (λ m. drop m value) (sym count)
     ∙ (sym (drop-drop (length white) n value) ∙ (ap (drop (length white)) split ∙ drop-append_seam white rest))
-
--- so from there a value comes out as from the end of its white space on
--- After white space at a position stands what is left if it is trimmed.
-pub trimmed_at : (value : List ℕ) (n : ℕ) → n ≤ length value
-    → drop (length value - length (trim_start (drop n value))) value ≡ trim_start (drop n value)
-trimmed_at value n within =
-    let split = split_white (drop n value) in dropped value n split.0 (trim_start (drop n value)) within split.2
 
 -- so from there a value comes out as from the end of its white space on
 pub after_white : {place : Place} → SkipsWhite place → (value : List ℕ) (n : ℕ) → n ≤ length value

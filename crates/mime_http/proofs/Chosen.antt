@@ -14,7 +14,7 @@ use Rattle.std.proofs.lemmas.Iterator.Adapters.{position_from-zero}
 use Rattle.std.specs.Str.{IsUtf8}
 use Rattle.mime.specs.Values.{MediaType, Reads}
 use Rattle.mime_http.specs.HttpMediaType.{IsHttpMediaType}
-use Rattle.mime_http.specs.Tight.{tight}
+use Rattle.mime_http.specs.Places.{tight}
 use Rattle.mime_http.specs.HttpList.{trim_start, trim_end, Header}
 use Rattle.mime_http.specs.Ranges.{Rank, rank_cmp, merit, best_offer}
 use Rattle.mime_http.specs.Chosen.{lowest, IsChosen, ChoosesOn}

@@ -23,7 +23,7 @@ pub use Rattle.mime.specs.declared.scan.fault.ParseError.TheVariants.{InvalidTok
 pub use Rattle.mime_http.specs.HttpFaults.{HttpLacks, IsHttpDeadAt, IsHttpFault, IsHttpLongestPrefix, IsHttpViable}
 pub use Rattle.mime_http.specs.HttpList.{AreBetweenCommas, AreSorted, BeginsPiece, IsInString, IsPiece, a_bad, a_range, comma, line_end, no_line, no_text, opens_string, piece_byte, piece_end, piece_string, string_byte, string_end, string_pair, trim_end, trim_start}
 pub use Rattle.mime_http.specs.HttpMediaType.{AreHttpParameters, HttpReads, IsHttpMediaType, IsHttpParameter, no_more, semicolon, semicolon_and, with_string, with_token}
-pub use Rattle.mime_http.specs.Tight.{added, after_quote, after_space, after_within, brought_back, is_left_out, place_after, tight, tight_from}
+pub use Rattle.mime_http.specs.Places.{added, after_quote, after_space, after_within, brought_back, is_left_out, place_after, tight, tight_from}
 pub use Rattle.mime_http.specs.Tightening.{Begins, IsLoose, IsRejected, IsTightening, LeavesFault, Stands, begins_with_semicolon, ends_in_semicolon_or_space, is_semicolon_or_space}
 pub use Rattle.mime_http.specs.declared.tight.Place.{Place}
 pub use Rattle.mime_http.specs.declared.tight.Place.TheVariants.{Closed, Plain, Semicolon, Spaced, Start}

@@ -1,11 +1,10 @@
 -- What is read is what HTTP writes: bytes that tightening makes a syntax tree's text are a media type as HTTP writes it.
-use Rattle.mime_http.proofs.Common.{◌≡◌, ◌∙◌, ◌==◌, refl, sym, ap, subst, arith, ℕ, Bool, true, false, List, [], ◌∷◌, ◌++◌, length, drop, ◌+◌, and_parts, and_from, nat_tests, is_token_byte, Parameter, plain, quoted, Parameters, final, more, Tail, no_list, listed, SyntaxTree, is_space, AreSpaces, text_of_parameter, text_of_list, text_of_tail, text_of, IsToken, IsParameter, AreParameters, IsTail, IsWellFormed, MediaType, lowered, last_plus, AreTokenBytes-from_token, one_reading, Plain, Closed, Semicolon, place_after, tight_from, tight, IsHttpParameter, with_token, with_string, AreHttpParameters, no_more, semicolon, semicolon_and, HttpReads}
+use Rattle.mime_http.proofs.Common.{◌≡◌, ◌∙◌, ◌==◌, refl, sym, ap, subst, arith, ℕ, Bool, true, false, List, [], ◌∷◌, ◌++◌, length, drop, Reads, ◌+◌, and_parts, and_from, nat_tests, is_token_byte, Parameter, plain, quoted, Parameters, final, more, Tail, no_list, listed, SyntaxTree, is_space, AreSpaces, text_of_parameter, text_of_list, text_of_tail, text_of, IsToken, IsParameter, AreParameters, IsTail, IsWellFormed, MediaType, lowered, last_plus, AreTokenBytes-from_token, one_reading, Plain, Closed, Semicolon, place_after, tight_from, tight, IsHttpParameter, with_token, with_string, AreHttpParameters, no_more, semicolon, semicolon_and, HttpReads}
 use Rattle.std.proofs.lemmas.List.{append-nil, append_assoc}
 use Rattle.mime.specs.Grammar.{blank}
-use Rattle.mime_http.specs.HeaderLaws.{ReadIsHttp}
-use Rattle.mime_http.proofs.Places.{IsPlainByte, token_is_plain, of_type, of_name}
+use Rattle.mime_http.proofs.Places.{after_token, after_equals, IsPlainByte, token_is_plain, of_type, of_name}
 use Rattle.mime_http.proofs.HttpForth.{spaces-append, http_is_read}
-use Rattle.mime_http.proofs.OutAgain.{After, and_then, said, any_back, plain_back, equals_back, plain_end_back, plain_semicolon_back, start_back, after_plain_byte, token_back, value_back, content_back, closed_back}
+use Rattle.mime_http.proofs.OutAgain.{After, and_then, said, any_back, token_byte_back, plain_end_back, plain_semicolon_back, start_back, after_plain_byte, token_back, value_back, content_back, closed_back}
 
 -- ---- parameters
 
@@ -146,7 +145,7 @@ parameter_back (plain (x ∷ name) value) is bytes n out white e goes =
     name_back bytes n x ((name ++ (61 ∷ value)) ++ out) white (token_is_plain x parts.0) e (λ rest left.
     let there : After rest (name ++ (61 ∷ value)) Plain out =
     and_then (token_back name rest (61 ∷ (value ++ out)) parts.1 (left ∙ append_assoc name (61 ∷ value) out))
-    (λ rest left. and_then (plain_back rest 61 (value ++ out) refl refl left)
+    (λ rest left. and_then (token_byte_back after_token rest 61 (value ++ out) refl refl left)
     (λ rest left. value_back value rest out is.1 left)) in
     subst Goes (ap (λ r. x ∷ r) (sym there.split))
     (goes_parameter (with_token (x ∷ name) value is.0 is.1) there.rest (goes.plain there.rest there.left)))
@@ -157,8 +156,8 @@ parameter_back (quoted (x ∷ name) content m) is bytes n out white e goes =
     let there : After rest (name ++ (61 ∷ 34 ∷ (content ++ (34 ∷ [])))) Closed (m ++ out) =
     and_then (token_back name rest (61 ∷ 34 ∷ (content ++ (34 ∷ (m ++ out)))) parts.1
     (left ∙ (append_assoc name _ out ∙ ap (λ x. name ++ (61 ∷ 34 ∷ x)) (append_assoc content (34 ∷ m) out))))
-    (λ rest left. and_then (plain_back rest 61 (34 ∷ (content ++ (34 ∷ (m ++ out)))) refl refl left)
-    (λ rest left. and_then (equals_back rest 34 (content ++ (34 ∷ (m ++ out))) refl refl left)
+    (λ rest left. and_then (token_byte_back after_token rest 61 (34 ∷ (content ++ (34 ∷ (m ++ out)))) refl refl left)
+    (λ rest left. and_then (token_byte_back after_equals rest 34 (content ++ (34 ∷ (m ++ out))) refl refl left)
     (λ rest left. content_back is.1 rest (m ++ out) left))) in
     subst Goes (ap (λ r. x ∷ r) (sym there.split))
     (goes_parameter (with_string (x ∷ name) content is.0 is.1) there.rest (goes.closed there.rest m is.2 there.left)))
@@ -222,7 +221,7 @@ tree_back strict is value e = go strict.top is.0 e
         (after_plain_byte of_type x (token_is_plain x parts.0)) here.left in
         let there : After here.rest (top ++ (47 ∷ strict.sub)) Plain (text_of_tail strict.tail) =
         and_then (token_back top here.rest _ parts.1 left)
-        (λ rest left. and_then (plain_back rest 47 (strict.sub ++ text_of_tail strict.tail) refl refl left)
+        (λ rest left. and_then (token_byte_back after_token rest 47 (strict.sub ++ text_of_tail strict.tail) refl refl left)
         (λ rest left. token_back strict.sub rest (text_of_tail strict.tail) (AreTokenBytes-from_token strict.sub is.1) left)) in
         finish x top token here.spaces here.white here.rest here.split there.rest there.split
         ((tail_back strict.tail is.2).plain there.rest there.left)
@@ -249,7 +248,7 @@ respelled reads before kept white spelled = record {
 }
 
 -- what is read is what HTTP writes, and the media type is the same
-pub read_is_http : ReadIsHttp
+pub read_is_http : (value : List ℕ) (media : MediaType) → Reads (tight value) media → HttpReads value media
 read_is_http value media reads =
     let found = tree_back reads.tree reads.well_formed value (sym reads.spelled) in
     let again = http_is_read value found.0 found.1 in

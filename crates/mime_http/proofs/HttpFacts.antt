@@ -1,7 +1,13 @@
--- Worked facts of the pages `HttpMediaType` and `HttpFaults`: a value that is read, values that aren't media types, and their faults.
-use Rattle.mime_http.proofs.Common.{◌≡◌, refl, sym, subst, arith, [], ◌∷◌, ◌++◌, None, codes, is_token_byte, is_quoted_byte, IsAccepted, MissingSubtype, MissingValue, InvalidToken, in_subtype, accepted-from_complete, viable-from_walk, dead-from_walk, not_viable-at_dead, stopped-from_walk, rejected-from_walk, IsContent-taken, tight, with_string, no_more, semicolon, semicolon_and, HttpReads, IsHttpMediaType, IsHttpViable, IsHttpFault}
+-- Worked facts of the pages `HttpMediaType`, `HttpFaults` and `Tight`: a value that is read, values that aren't media types, their faults,
+-- and tightened values.
+use Rattle.mime_http.proofs.Common.{◌≡◌, ◌∙◌, ◌==◌, ◌&&◌, refl, sym, ap, subst, arith, ℕ, List, length, true, false, list_all, not, false≢true, is_space, MediaType, listed, final, quoted, [], ◌∷◌, ◌++◌, None, codes, is_token_byte, is_quoted_byte, IsAccepted, MissingSubtype, MissingValue, InvalidToken, in_subtype, accepted-from_complete, viable-from_walk, dead-from_walk, not_viable-at_dead, stopped-from_walk, rejected-from_walk, IsContent-taken, tight, with_string, no_more, semicolon, semicolon_and, HttpReads, IsHttpMediaType, IsHttpViable, IsHttpFault}
+use Rattle.std.proofs.Math.Bool.{and-false}
+use Rattle.std.proofs.lemmas.List.{append_assoc}
+use Rattle.mime_http.specs.Tight.{Tightens, ReadsTight, IsSpare, first, white, another, FaultIsSpare}
+use Rattle.mime_http.proofs.Tightened.{tight_is}
 use Rattle.mime_http.proofs.HttpFaults.{longest_at, same_last}
-use Rattle.mime_http.proofs.HttpLaws.{accepted_from_http}
+use Rattle.mime_http.proofs.HttpForth.{http_is_tight}
+use Rattle.mime_http.proofs.HttpLaws.{accepted_from_http, tight_is_http}
 use Rattle.mime_http.proofs.HttpViability.{http_from_accepted, viable_from_tight, tight_from_viable, viable_from_accepted, accepted_from_spaced}
 
 -- ` text/HTML ;; charset="UTF-8" `
@@ -106,3 +112,89 @@ missing = (
 -- a text that lacks a subtype lacks no value
 not_missing : ¬ (IsHttpFault (codes " text/") MissingValue)
 not_missing fault = omega (arith, same_last (codes " text") fault.1.0 47 61 fault.1.1)
+
+-- ---- tightened values
+
+-- ` text/HTML ;; charset="UTF-8" `: the last white space stays, and so does that after the semicolons
+tightened : Tightens 32 (codes " text/HTML ;; charset=\"UTF-8\" ") (codes "text/HTML; charset=\"UTF-8\" ")
+tightened = let is = (http_is_tight _ _ read).1 in subst (Tightens 32 (codes " text/HTML ;; charset=\"UTF-8\" ")) (sym (tight_is is.1)) is.1
+
+-- so it is printed in lowercase
+kept : ReadsTight (codes " text/HTML ;; charset=\"UTF-8\" ") (record {
+  essence = codes "text/html";
+  slash = 4;
+  plus = None;
+  pairs = (codes "charset", codes "utf-8") ∷ [];
+  kept = codes "text/html; charset=\"utf-8\" ";
+})
+unfolding is_token_byte is_quoted_byte
+kept = (
+  codes "text/HTML; charset=\"UTF-8\" ",
+  tightened,
+  record {
+    tree = record { top = codes "text"; sub = codes "HTML"; tail = listed (final (codes " ") (quoted (codes "charset") (codes "UTF-8") (codes " "))) };
+    well_formed = (refl, refl, (refl, (refl, IsContent-taken (codes "UTF-8") refl refl, refl)));
+    spelled = refl;
+    valued = refl;
+  },
+)
+
+-- white space at the end doesn't stay after a token,
+not_at_end : ¬ (Tightens 32 (codes "a/b;p=x ") (codes "a/b;p=x "))
+not_at_end is = omega (arith, ap length (tight_is is))
+
+-- nor before a semicolon there,
+not_before_semicolon : ¬ (Tightens 32 (codes "a/b ;") (codes "a/b ;"))
+not_before_semicolon is = omega (arith, ap length (tight_is is))
+
+-- but after one,
+after_semicolon : ¬ (Tightens 32 (codes "a/b; ;p=x") (codes "a/b;p=x"))
+after_semicolon is = omega (arith, ap length (tight_is is))
+
+-- and so does a semicolon at the end, but no second one
+last_semicolon : ¬ (Tightens 32 (codes "a/b;") (codes "a/b"))
+last_semicolon is = omega (arith, ap length (tight_is is))
+
+not_another : ¬ (Tightens 32 (codes "a/b;;") (codes "a/b;;"))
+not_another is = omega (arith, ap length (tight_is is))
+
+-- white space within a type isn't left out
+not_within : (media : MediaType) → ¬ (ReadsTight (codes "te xt/html") media)
+unfolding is_token_byte
+not_within media reads = stopped-from_walk (tight (codes "te xt/html")) refl (accepted_from_http _ (media, tight_is_http _ media reads))
+
+-- ---- spare bytes
+
+-- the library's fault of `a ;` is the space before a semicolon,
+spare : FaultIsSpare (codes "a ;")
+unfolding is_token_byte
+spare = record {
+  front = codes "a";
+  byte = 32;
+  rest = codes ";";
+  spelled = refl;
+  is_spare = white (codes "a") [] [] 32 refl refl;
+  is_fault = dead-from_walk (codes "a") (codes ";") 32 _ refl refl;
+}
+
+-- that of ` a` is the first byte, and that of `a/b;;` the second semicolon
+first_is_spare : IsSpare [] (codes " a")
+first_is_spare = first 32 (codes "a") refl
+
+another_is_spare : IsSpare (codes "a/b;") (codes ";")
+another_is_spare = another (codes "a/b") [] 59 refl
+
+-- a value with no semicolon has none but at its start
+has_semicolon : (xs ys : List ℕ) → list_all (λ b. not (b == 59)) (xs ++ (59 ∷ ys)) ≡ false
+has_semicolon [] ys = refl
+has_semicolon (b ∷ xs) ys = ap (λ t. not (b == 59) && t) (has_semicolon xs ys) ∙ and-false (not (b == 59))
+
+not_spare : ¬ (FaultIsSpare (codes "a b"))
+not_spare is = go is.is_spare is.spelled
+  where
+    go : {front rest : List ℕ} → IsSpare front rest → front ++ rest ≡ codes "a b" → ⊥
+    go (first b rest space) e = let same : b ≡ 97 = cc in false≢true (subst (λ x. is_space x ≡ true) same space)
+    go (white front spaces rest b space all) e =
+        let whole : (front ++ (b ∷ spaces)) ++ (59 ∷ rest) ≡ codes "a b" = append_assoc front (b ∷ spaces) (59 ∷ rest) ∙ e in
+        false≢true (sym (has_semicolon (front ++ (b ∷ spaces)) rest) ∙ ap (list_all (λ b. not (b == 59))) whole)
+    go (another front rest b space) e = false≢true (sym (has_semicolon (front ++ (b ∷ [])) rest) ∙ ap (list_all (λ b. not (b == 59))) e)

@@ -1,9 +1,13 @@
 -- The laws of a header's value.
 use Rattle.mime_http.proofs.Common.{ap, subst, sym, ℕ, List, MediaType, Reads, IsAccepted, one_reading, tight, IsHttpMediaType}
-use Rattle.mime_http.specs.HeaderLaws.{PlainIsHttp, OneHttpReading}
+use Rattle.std.specs.Prelude.{IsUtf8, ◌↔◌}
+use Rattle.mime_http.specs.Tight.{ReadsTight}
+use Rattle.mime_http.specs.HeaderLaws.{ReadIsHttp, PlainIsHttp, OneHttpReading, TightIsUtf8}
 use Rattle.mime_http.proofs.Places.{accepted_stays}
-use Rattle.mime_http.proofs.HttpForth.{http_is_read}
+use Rattle.mime_http.proofs.Tightened.{tight_is}
+use Rattle.mime_http.proofs.HttpForth.{http_is_tight, http_is_read}
 use Rattle.mime_http.proofs.HttpBack.{read_is_http}
+use Rattle.mime_http.proofs.HttpText.{tight_utf8}
 
 -- the library accepts what is left of a media type as HTTP writes it
 pub accepted_from_http : (value : List ℕ) → IsHttpMediaType value → IsAccepted (tight value)
@@ -21,3 +25,22 @@ one_http_reading value first second one other =
     let again = http_is_read value second other in
     let same = one_reading (tight value) _ _ read.1 again.1 in
     (ap (λ (m : MediaType). m.essence) same, ap (λ (m : MediaType). m.pairs) same)
+
+-- ---- a value is read tightened as what comes out of it is
+
+-- a value tightened is what comes out of it, and of each media type that is read of that there is one
+pub tight_reads : (value : List ℕ) {media : MediaType} → ReadsTight value media → Reads (tight value) media
+tight_reads value {media} reads = subst (λ text. Reads text media) (sym (tight_is reads.1)) reads.2
+
+pub reads_tight : (value : List ℕ) {media : MediaType} → Reads (tight value) media → ReadsTight value media
+reads_tight value {media} reads =
+    let is = (http_is_tight value media (read_is_http value media reads)).1 in
+    (is.0, is.1, subst (λ text. Reads text media) (tight_is is.1) reads)
+
+-- so it is what HTTP writes,
+pub tight_is_http : ReadIsHttp
+tight_is_http value media reads = read_is_http value media (tight_reads value reads)
+
+-- and in UTF-8 exactly if the value is
+pub tight_is_utf8 : TightIsUtf8
+tight_is_utf8 value text is = subst (λ t. IsUtf8 value ↔ IsUtf8 t) (tight_is is) (tight_utf8 value)

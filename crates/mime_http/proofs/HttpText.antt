@@ -5,8 +5,9 @@ use Rattle.std.proofs.lemmas.List.{append_assoc}
 use Rattle.std.proofs.lemmas.Str.Ascii.{IsAscii-cons, IsAscii-nil}
 use lib.Utf8.{scalars, scalar, encodes, encode}
 use Rattle.mime_http.specs.declared.tight.Place.TheVariants.{Quoted, Paired}
+use Rattle.mime_http.proofs.Places.{IsPlainByte, after_token}
 use Rattle.mime_http.proofs.PlacesAgain.{kept_adds, is_kept}
-use Rattle.mime_http.proofs.OutAgain.{After, and_then, to_place, plain_back, any_back}
+use Rattle.mime_http.proofs.OutAgain.{After, and_then, to_place, token_byte_back, any_back}
 
 -- ---- ASCII bytes
 
@@ -47,21 +48,14 @@ added_ascii place b is =
 
 -- ---- bytes past ASCII
 
--- a byte with no role outside quotes, nor within
-record IsHigh (b : ℕ) : Type 0 where
-  space : is_space b ≡ false
-  semicolon : (b == 59) ≡ false
-  equals : (b == 61) ≡ false
-  quote : (b == 34) ≡ false
-  backslash : (b == 92) ≡ false
-
--- a byte past ASCII is such
-high : (b : ℕ) → 128 ≤ b → IsHigh b
+-- a byte past ASCII has no role
+high : (b : ℕ) → 128 ≤ b → IsPlainByte b
 high b is = record {
   space = grind (arith, nat_tests);
   semicolon = grind (arith, nat_tests);
   equals = grind (arith, nat_tests);
   quote = grind (arith, nat_tests);
+  comma = grind (arith, nat_tests);
   backslash = grind (arith, nat_tests);
 }
 
@@ -78,13 +72,13 @@ record First (place : Place) (b : ℕ) : Type 0 where
   holds : Holds (place_after place b)
 
 -- the place after it
-held : (place : Place) (b : ℕ) → IsHigh b → Holds (place_after place b)
+held : (place : Place) (b : ℕ) → IsPlainByte b → Holds (place_after place b)
 held Quoted b is = rw (is.backslash, is.quote) within
 held Paired b is = within
 held place b is = rw (is.space, is.semicolon, is.equals, is.quote) outside
 
 -- it comes out after a space at most
-high_first : (place : Place) (b : ℕ) → IsHigh b → First place b
+high_first : (place : Place) (b : ℕ) → IsPlainByte b → First place b
 high_first place b is = record {
   before = brought_back place b;
   ascii = brought_ascii place b;
@@ -93,12 +87,12 @@ high_first place b is = record {
 }
 
 -- each next
-stays_there : {place : Place} → Holds place → (b : ℕ) → IsHigh b → place_after place b ≡ place
+stays_there : {place : Place} → Holds place → (b : ℕ) → IsPlainByte b → place_after place b ≡ place
 stays_there outside b is = rw (is.space, is.semicolon, is.equals, is.quote) refl
 stays_there within b is = rw (is.backslash, is.quote) refl
 
 -- it comes out alone there
-stays_as_it_is : {place : Place} → Holds place → (b : ℕ) → IsHigh b → added place b ≡ b ∷ []
+stays_as_it_is : {place : Place} → Holds place → (b : ℕ) → IsPlainByte b → added place b ≡ b ∷ []
 stays_as_it_is outside b is = rw is.space refl
 stays_as_it_is within b is = refl
 
@@ -107,7 +101,7 @@ abbrev AreHigh : List ℕ → Type 0
 AreHigh bytes = list_all (λ b. nat_le 128 b && nat_lt b 248) bytes ≡ true
 
 -- each of them has no role
-high_of : (b : ℕ) → (nat_le 128 b && nat_lt b 248) ≡ true → IsHigh b
+high_of : (b : ℕ) → (nat_le 128 b && nat_lt b 248) ≡ true → IsPlainByte b
 high_of b is = high b (grind (arith, nat_tests))
 
 -- they come out as they are,
@@ -120,9 +114,9 @@ run {place} holds (b ∷ hs) rest all =
     ∙ (ap (λ p. b ∷ tight_from p (hs ++ rest)) (stays_there holds b is) ∙ ap (λ x. b ∷ x) (run holds hs rest parts.1))
 
 -- a byte that comes out there was there,
-one_back : {place : Place} → Holds place → (bytes : List ℕ) (b : ℕ) (out : List ℕ) → IsHigh b → tight_from place bytes ≡ b ∷ out
+one_back : {place : Place} → Holds place → (bytes : List ℕ) (b : ℕ) (out : List ℕ) → IsPlainByte b → tight_from place bytes ≡ b ∷ out
     → After bytes (b ∷ []) (place_after place b) out
-one_back outside bytes b out is e = plain_back bytes b out is.space is.semicolon e
+one_back outside bytes b out is e = token_byte_back after_token bytes b out is.space is.semicolon e
 one_back within bytes b out is e = any_back Quoted (λ b. refl) bytes b out e
 
 -- and so were all of them

@@ -36,8 +36,9 @@ pub mod Ranks
 pub mod Rejections
 pub mod SemicolonAtFault
 pub mod ShortWeight
+pub mod Spare
 pub mod Strangers
-pub mod TightLength
+pub mod Tightened
 pub mod Trims
 pub mod WhiteAtFault
 pub mod Written

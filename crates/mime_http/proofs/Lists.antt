@@ -3,10 +3,11 @@ use Rattle.mime_http.proofs.Common.{◌≡◌, ◌∙◌, ◌==◌, refl, sym, a
 use Rattle.std.proofs.lemmas.List.{append-nil, append_assoc}
 use Rattle.mime_http.specs.HttpList.{blank}
 use Rattle.mime_http.specs.ListLaws.{AreElements, no_text as no_element, nothing, element, without_kept, AreSame, HttpListsAreRead, ReadAreHttpLists, OneHeader, BadIsAlone}
-use Rattle.mime_http.proofs.Places.{token_is_plain, text_is_no_mark}
+use Rattle.mime_http.proofs.Places.{token_is_plain, text_is_no_mark, at_start, nothing_out}
 use Rattle.mime_http.proofs.Adds.{sorted_both}
+use Rattle.mime_http.proofs.HttpLaws.{reads_tight, tight_reads}
 use Rattle.mime_http.proofs.HttpBack.{read_is_http}
-use Rattle.mime_http.proofs.HttpForth.{at_start, nothing_out, http_is_read}
+use Rattle.mime_http.proofs.HttpForth.{http_is_read}
 use Rattle.mime_http.proofs.HttpLaws.{accepted_from_http}
 use Rattle.mime_http.proofs.Cuts.{only_cut}
 
@@ -140,7 +141,7 @@ sorted_elements (element text range texts media utf8 reads rest) =
     record {
       ranges = range-kept ∷ more.ranges;
       same = ap (λ others. without_kept range ∷ others) more.same;
-      sorted = a_range text range-kept texts more.ranges [] utf8 (read_is_http text range-kept kept.1) kept.1 more.sorted;
+      sorted = a_range text range-kept texts more.ranges [] utf8 (read_is_http text range-kept kept.1) (reads_tight text kept.1) more.sorted;
     }
 
 -- a list as HTTP writes it is read as its elements
@@ -200,7 +201,7 @@ one_sorting (blank text _ _ _ white rest) (a_bad _ _ _ _ not_blank _ more) = abs
 one_sorting (a_range text media _ _ _ utf8 reads _ rest) (blank _ _ _ _ white more) = absurd (http_is_not_blank white (media, reads))
 one_sorting (a_range text media _ _ _ utf8 _ reads rest) (a_range _ other _ _ _ _ _ again more) =
     let same = one_sorting rest more in
-    (λ i. one_reading (tight text) media other reads again i ∷ same.0 i, same.1)
+    (λ i. one_reading (tight text) media other (tight_reads text reads) (tight_reads text again) i ∷ same.0 i, same.1)
 one_sorting (a_range text media _ _ _ utf8 reads _ rest) (a_bad _ _ _ _ _ isnt more) = absurd (isnt (utf8, (media, reads)))
 one_sorting (a_bad text _ _ _ not_blank isnt rest) (blank _ _ _ _ white more) = absurd (not_blank white)
 one_sorting (a_bad text _ _ _ not_blank isnt rest) (a_range _ media _ _ _ utf8 reads _ more) = absurd (isnt (utf8, (media, reads)))

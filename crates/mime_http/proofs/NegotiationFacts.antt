@@ -15,9 +15,10 @@ use Rattle.mime_http.specs.Walk.{cut}
 use Rattle.mime_http.proofs.Cuts.{cut_of_piece, are_cut}
 use Rattle.std.proofs.lemmas.Bool.{true≢false}
 use Rattle.mime.proofs.HandedOut.{stopped-from_walk}
-use Rattle.mime_http.specs.Tight.{tight}
+use Rattle.mime_http.specs.Places.{tight}
 use Rattle.mime_http.proofs.HttpLaws.{accepted_from_http}
 use Rattle.mime_http.proofs.HttpBack.{read_is_http}
+use Rattle.mime_http.proofs.HttpLaws.{reads_tight}
 use Rattle.mime_http.proofs.Lists.{one_header, http_lists_are_read, bad_is_alone}
 use Rattle.mime_http.proofs.RangesFacts.{of}
 use Rattle.mime_http.proofs.HttpText.{AreAscii, put_ascii}
@@ -156,7 +157,7 @@ bad_entry = record {
   pieces = flat_map cut (codes "c/d, a b" ∷ []);
   cut = are_cut (codes "c/d, a b" ∷ []);
   sorted = a_range (codes "c/d") _ _ _ _ (put_ascii (codes "c/d") [] (omega arith, (omega arith, (omega arith, tt))) IsUtf8-nil)
-      (short_read [] (codes "c") (codes "d") [] refl refl refl refl refl (codes "c/d") refl refl) (plainly_read (codes "c") (codes "d") refl refl refl)
+      (short_read [] (codes "c") (codes "d") [] refl refl refl refl refl (codes "c/d") refl refl) (reads_tight (codes "c/d") (plainly_read (codes "c") (codes "d") refl refl refl))
       (a_bad (codes " a b") _ _ _ (λ blank. true≢false (sym blank)) (λ is. not_media_type is.1) no_text);
 }
 
@@ -185,7 +186,7 @@ one_range : (top sub : List ℕ) → IsToken top → IsToken sub → AreAscii (t
 one_range top sub is_top is_sub ascii slash is same =
     let read = subst (λ text. Reads text (short (top ++ (47 ∷ sub)))) (sym same) (plainly_read top sub is_top is_sub is) in
     a_range (top ++ (47 ∷ sub)) (short (top ++ (47 ∷ sub))) [] [] [] (subst IsUtf8 (append-nil (top ++ (47 ∷ sub))) (put_ascii (top ++ (47 ∷ sub)) [] ascii IsUtf8-nil))
-    (read_is_http (top ++ (47 ∷ sub)) (short (top ++ (47 ∷ sub))) read) read no_text
+    (read_is_http (top ++ (47 ∷ sub)) (short (top ++ (47 ∷ sub))) read) (reads_tight (top ++ (47 ∷ sub)) read) no_text
 
 -- a bad entry between two others: the lines `c/d,a b` and `a/b` have the ranges of `c/d` and `a/b`
 bad_between : IsHeader (codes "c/d,a b" ∷ codes "a/b" ∷ []) (record { ranges = short (codes "c/d") ∷ short (codes "a/b") ∷ []; bad = codes "a b" ∷ [] })

@@ -2,7 +2,7 @@
 use Rattle.mime_http.proofs.Common.{◌≡◌, ◌∙◌, ◌==◌, refl, sym, ap, subst, arith, ℕ, Bool, true, false, List, [], ◌∷◌, ◌++◌, and_parts, and_from, true≢false, is_token_byte, is_space, AreSpaces, AreTokenBytes, IsToken, IsContent, no_byte, text_byte, quoted_pair, Place, Start, Plain, Spaced, Closed, Semicolon, place_after, added, tight_from}
 use Rattle.std.proofs.lemmas.List.{append_assoc}
 use Rattle.mime_http.specs.declared.tight.Place.TheVariants.{Equals, Quoted, Paired}
-use Rattle.mime_http.proofs.Places.{IsPlainByte, token_is_plain, TakesToken, goes_on, of_value, plain_byte, text_is_no_mark}
+use Rattle.mime_http.proofs.Places.{IsPlainByte, token_is_plain, TakesToken, goes_on, of_value, plain_byte, text_is_no_mark, LeavesWhite, after_token, after_equals}
 
 -- ---- bytes that come out as they are
 
@@ -72,24 +72,17 @@ spaced_other (b ∷ bytes) x out no_space no_semicolon e = go (spaced_other byte
         true≢false (ap is_space first ∙ no_space)
 
 -- a byte outside quotes that isn't white space or a semicolon comes out as it is
-pub plain_back : (bytes : List ℕ) (x : ℕ) (out : List ℕ) → is_space x ≡ false → (x == 59) ≡ false
-    → tight_from Plain bytes ≡ x ∷ out → After bytes (x ∷ []) (place_after Plain x) out
-plain_back [] x out no_space no_semicolon e = absurd (cc)
-plain_back (b ∷ bytes) x out no_space no_semicolon e = go (is_space b) refl
+pub token_byte_back : {place : Place} → LeavesWhite place → (bytes : List ℕ) (x : ℕ) (out : List ℕ) → is_space x ≡ false → (x == 59) ≡ false
+    → tight_from place bytes ≡ x ∷ out → After bytes (x ∷ []) (place_after place x) out
+token_byte_back leaves [] x out no_space no_semicolon e = absurd (cc)
+token_byte_back leaves (b ∷ bytes) x out no_space no_semicolon e = go leaves (is_space b) refl e
   where
-    go : (t : Bool) → is_space b ≡ t → After (b ∷ bytes) (x ∷ []) (place_after Plain x) out
-    go true white = absurd (spaced_other bytes x out no_space no_semicolon (rw white at e))
-    go false other = kept_back Plain b bytes x out (rw other refl) e
-
--- so does the first byte of a value
-pub equals_back : (bytes : List ℕ) (x : ℕ) (out : List ℕ) → is_space x ≡ false → (x == 59) ≡ false
-    → tight_from Equals bytes ≡ x ∷ out → After bytes (x ∷ []) (place_after Equals x) out
-equals_back [] x out no_space no_semicolon e = absurd (cc)
-equals_back (b ∷ bytes) x out no_space no_semicolon e = go (is_space b) refl
-  where
-    go : (t : Bool) → is_space b ≡ t → After (b ∷ bytes) (x ∷ []) (place_after Equals x) out
-    go true white = absurd (spaced_other bytes x out no_space no_semicolon (rw white at e))
-    go false other = kept_back Equals b bytes x out (rw other refl) e
+    go : {place : Place} → LeavesWhite place → (t : Bool) → is_space b ≡ t → tight_from place (b ∷ bytes) ≡ x ∷ out
+        → After (b ∷ bytes) (x ∷ []) (place_after place x) out
+    go after_token true white e = absurd (spaced_other bytes x out no_space no_semicolon (rw white at e))
+    go after_equals true white e = absurd (spaced_other bytes x out no_space no_semicolon (rw white at e))
+    go after_token false other e = kept_back Plain b bytes x out (rw other refl) e
+    go after_equals false other e = kept_back Equals b bytes x out (rw other refl) e
 
 -- at the end
 spaced_end_back : (bytes : List ℕ) → tight_from Spaced bytes ≡ [] → AreSpaces bytes
@@ -183,7 +176,7 @@ token_back [] bytes out all e = record { rest = bytes; split = refl; left = e }
 token_back (x ∷ xs) bytes out all e =
     let parts = and_parts (is_token_byte x) _ all in
     let is = token_is_plain x parts.0 in
-    and_then (to_place (after_plain_byte goes_on x is) (plain_back bytes x (xs ++ out) is.space is.semicolon e))
+    and_then (to_place (after_plain_byte goes_on x is) (token_byte_back after_token bytes x (xs ++ out) is.space is.semicolon e))
     (λ rest left. token_back xs rest out parts.1 left)
 
 -- a value that is a token
@@ -192,7 +185,7 @@ value_back [] bytes out token e = absurd token
 value_back (x ∷ xs) bytes out token e =
     let parts = and_parts (is_token_byte x) _ token in
     let is = token_is_plain x parts.0 in
-    and_then (to_place (after_plain_byte of_value x is) (equals_back bytes x (xs ++ out) is.space is.semicolon e))
+    and_then (to_place (after_plain_byte of_value x is) (token_byte_back after_equals bytes x (xs ++ out) is.space is.semicolon e))
     (λ rest left. token_back xs rest out parts.1 left)
 
 -- and so is the content of a quoted value, with its closing quote,

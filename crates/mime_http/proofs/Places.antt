@@ -1,5 +1,5 @@
 -- What is read from a place on: an accepted text is written as it is.
-use Rattle.mime_http.proofs.Common.{◌≡◌, ◌∙◌, ◌==◌, refl, sym, ap, subst, arith, ℕ, true, false, List, [], ◌∷◌, ◌++◌, and_parts, nat_tests, is_token_byte, is_quoted_byte, is_quoted_text_byte, Parameter, plain, quoted, Parameters, final, more, Tail, no_list, listed, SyntaxTree, is_space, AreSpaces, text_of_parameter, text_of_list, text_of_tail, text_of, AreTokenBytes, IsToken, IsContent, no_byte, text_byte, quoted_pair, IsParameter, AreParameters, IsTail, IsWellFormed, MediaType, Reads, IsAccepted, Place, Start, Plain, Closed, Semicolon, place_after, added, tight_from, tight}
+use Rattle.mime_http.proofs.Common.{◌≡◌, ◌∙◌, ◌==◌, refl, sym, ap, subst, arith, ℕ, true, false, List, [], ◌∷◌, ◌++◌, and_parts, nat_tests, is_token_byte, is_quoted_byte, is_quoted_text_byte, Parameter, plain, quoted, Parameters, final, more, Tail, no_list, listed, SyntaxTree, is_space, AreSpaces, text_of_parameter, text_of_list, text_of_tail, text_of, AreTokenBytes, IsToken, IsContent, no_byte, text_byte, quoted_pair, IsParameter, AreParameters, IsTail, IsWellFormed, MediaType, Reads, IsAccepted, Place, Start, Plain, Spaced, Closed, Semicolon, place_after, added, tight_from, tight}
 use Rattle.std.proofs.lemmas.List.{append-nil, append_assoc}
 use Rattle.mime.specs.Grammar.{blank}
 use Rattle.mime_http.specs.declared.tight.Place.TheVariants.{Equals, Quoted, Paired}
@@ -45,13 +45,14 @@ so {p} {q} {r} {xs} {out} {add} leads same there =
 pub comes_out_whole : {p q : Place} {text : List ℕ} → Leads p text text q → tight_from p text ≡ text
 comes_out_whole {p} {text = text} leads = ap (tight_from p) (sym (append-nil text)) ∙ (leads.tightly [] ∙ append-nil text)
 
--- a byte with no role
+-- a byte with no role in a value, nor in a line
 pub record IsPlainByte (b : ℕ) : Type 0 where
   pub space : is_space b ≡ false
   pub semicolon : (b == 59) ≡ false
   pub equals : (b == 61) ≡ false
   pub quote : (b == 34) ≡ false
   pub comma : (b == 44) ≡ false
+  pub backslash : (b == 92) ≡ false
 
 -- a token byte has no role
 pub token_is_plain : (b : ℕ) → is_token_byte b ≡ true → IsPlainByte b
@@ -62,6 +63,7 @@ token_is_plain b is = record {
   equals = grind (arith, nat_tests);
   quote = grind (arith, nat_tests);
   comma = grind (arith, nat_tests);
+  backslash = grind (arith, nat_tests);
 }
 
 -- places at which a token may be
@@ -112,6 +114,48 @@ walk_spaces {place} kept [] all = no_bytes place
 walk_spaces kept (b ∷ bytes) all =
     let parts = and_parts (is_space b) _ all in
     both (space kept b parts.0) (walk_spaces kept bytes parts.1)
+
+-- ---- white space that is left out
+
+-- Places at which white space is left out, and that it doesn't change.
+pub data SkipsWhite : Place → Type 0 where
+  at_start : SkipsWhite Start
+  spaced : SkipsWhite Spaced
+
+-- There bytes come out as without white space before them.
+pub white_skipped : {place : Place} → SkipsWhite place → (white rest : List ℕ) → AreSpaces white
+    → tight_from place (white ++ rest) ≡ tight_from place rest
+white_skipped skips [] rest all = refl
+white_skipped at_start (b ∷ white) rest all =
+    let parts = and_parts (is_space b) _ all in rw parts.0 (white_skipped at_start white rest parts.1)
+white_skipped spaced (b ∷ white) rest all =
+    let parts = and_parts (is_space b) _ all in rw parts.0 (white_skipped spaced white rest parts.1)
+
+-- White space alone leaves nothing.
+pub nothing_out : {place : Place} → SkipsWhite place → (white : List ℕ) → AreSpaces white → tight_from place white ≡ []
+nothing_out {place} skips [] all = refl
+nothing_out {place} skips white all = ap (tight_from place) (sym (append-nil white)) ∙ white_skipped skips white [] all
+
+-- Places after which white space is left out, before a semicolon and at the end.
+pub data LeavesWhite : Place → Type 0 where
+  after_token : LeavesWhite Plain
+  after_equals : LeavesWhite Equals
+
+-- It is left out before a semicolon,
+pub token_semicolon : {place : Place} → LeavesWhite place → (n w : List ℕ) → AreSpaces n
+    → tight_from place (n ++ (59 ∷ w)) ≡ 59 ∷ tight_from Semicolon w
+token_semicolon after_token [] w all = refl
+token_semicolon after_equals [] w all = refl
+token_semicolon after_token (b ∷ n) w all = let parts = and_parts (is_space b) _ all in rw parts.0 (white_skipped spaced n (59 ∷ w) parts.1)
+token_semicolon after_equals (b ∷ n) w all = let parts = and_parts (is_space b) _ all in rw parts.0 (white_skipped spaced n (59 ∷ w) parts.1)
+
+-- and at the end
+pub token_end : {place : Place} → LeavesWhite place → (n : List ℕ) → AreSpaces n → tight_from place n ≡ []
+token_end leaves [] all = refl
+token_end after_token (b ∷ n) all = let parts = and_parts (is_space b) _ all in rw parts.0 (nothing_out spaced n parts.1)
+token_end after_equals (b ∷ n) all = let parts = and_parts (is_space b) _ all in rw parts.0 (nothing_out spaced n parts.1)
+
+-- ---- accepted texts
 
 -- a byte that stands in quotes as it is is neither a quote nor a backslash
 pub text_is_no_mark : (b : ℕ) → is_quoted_text_byte b ≡ true → ((b == 92) ≡ false) × ((b == 34) ≡ false)

@@ -19,10 +19,6 @@ use Rattle.mime_http.proofs.Closest.{in_more}
 abbrev shifted : ℕ → ℕ → ℕ
 shifted k at = if nat_lt at k then at else at + 1
 
--- a range of which the position is shifted
-abbrev shifted_item : ℕ → ℕ × MediaType → ℕ × MediaType
-shifted_item k item = (shifted k item.0, item.1)
-
 -- a rank of which the position is shifted
 abbrev shifted_rank : ℕ → Rank → Rank
 shifted_rank k rank = (rank.0, rank.1, rank.2, shifted k rank.3)

@@ -3,10 +3,10 @@ use Rattle.mime_http.proofs.Common.{◌≡◌, ◌∙◌, ◌<◌, ◌≤◌, re
 use Rattle.std.proofs.Common.{append-nil, append_assoc}
 use Rattle.std.specs.Str.{IsUtf8}
 use Rattle.mime_http.proofs.HttpBack.{respelled}
-use Rattle.mime_http.specs.Tight.{tight}
-use Rattle.mime_http.proofs.HttpForth.{at_start, white_skipped, spaces-append}
+use Rattle.mime_http.specs.Places.{tight}
+use Rattle.mime_http.proofs.HttpForth.{spaces-append}
 use Rattle.mime_http.proofs.HttpText.{AreAscii, put_ascii, drop_ascii}
-use Rattle.mime_http.proofs.Places.{token_is_plain}
+use Rattle.mime_http.proofs.Places.{token_is_plain, at_start, white_skipped}
 
 -- ---- at the start
 
@@ -90,11 +90,6 @@ http_trimmed piece media reads =
     (sym (ap trim_start (sym reads.spelled) ∙ (trim_past reads.before _ reads.white_before ∙ trim_token reads.top _ reads.is_top)))
 
 -- ---- at the end
-
--- nothing is left of white space at the end
-all_trimmed : (bytes : List ℕ) → list_all is_space bytes ≡ true → trim_end bytes ≡ []
-all_trimmed [] all = refl
-all_trimmed (b ∷ bytes) all = rw all refl
 
 -- the first bytes and the next one are one more
 pub next_taken : (piece : List ℕ) (at : ℕ) → at < length piece → take at piece ++ (get_or piece at 0 ∷ []) ≡ take (at + 1) piece

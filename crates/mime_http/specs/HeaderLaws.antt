@@ -4,19 +4,20 @@ use Rattle.std.specs.Str.{IsUtf8}
 use Rattle.mime.specs.Values.{MediaType, Reads}
 use Rattle.mime.specs.Comparison.{Same}
 use Rattle.mime.specs.declared.scan.fault.ParseError.{ParseError}
-use Rattle.mime_http.specs.Tight.{tight}
+use Rattle.mime.specs.Bytes.{space_byte}
 use Rattle.mime_http.specs.HttpMediaType.{HttpReads, IsHttpMediaType}
+use Rattle.mime_http.specs.Tight.{Tightens, ReadsTight}
 use Rattle.mime_http.specs.HttpFaults.{IsHttpFault}
 
 -- A media type as HTTP writes it, tightened, is read as it; only the kept text may be another.
 abbrev pub HttpIsRead : Type 0
 HttpIsRead =
     (value : List ℕ) (media : MediaType) → HttpReads value media
-    → (kept : List ℕ) × Reads (tight value) (record media { kept = kept })
+    → (kept : List ℕ) × ReadsTight value (record media { kept = kept })
 
 -- What is read of a tightened value is what HTTP writes there.
 abbrev pub ReadIsHttp : Type 0
-ReadIsHttp = (value : List ℕ) (media : MediaType) → Reads (tight value) media → HttpReads value media
+ReadIsHttp = (value : List ℕ) (media : MediaType) → ReadsTight value media → HttpReads value media
 
 -- What the library reads is what HTTP writes there.
 abbrev pub PlainIsHttp : Type 0
@@ -32,6 +33,6 @@ OneHttpFault =
     (value : List ℕ) → ¬ (IsHttpMediaType value)
     → (fault : ParseError) × IsHttpFault value fault × ((other : ParseError) → IsHttpFault value other → other ≡ fault)
 
--- A value is in UTF-8 exactly if it is so tightened.
+-- A tightened value is in UTF-8 exactly if the value is.
 abbrev pub TightIsUtf8 : Type 0
-TightIsUtf8 = (value : List ℕ) → IsUtf8 value ↔ IsUtf8 (tight value)
+TightIsUtf8 = (value text : List ℕ) → Tightens space_byte value text → IsUtf8 value ↔ IsUtf8 text

@@ -5,9 +5,9 @@ use Rattle.std.specs.List.{list_all}
 use Rattle.std.specs.Str.{IsUtf8}
 use Rattle.mime.specs.Bytes.{comma_byte, equals_byte, quote_byte, backslash_byte}
 use Rattle.mime.specs.Grammar.{is_space, AreSpaces}
-use Rattle.mime.specs.Values.{MediaType, Reads}
+use Rattle.mime.specs.Values.{MediaType}
 use Rattle.mime_http.specs.HttpMediaType.{HttpReads, IsHttpMediaType}
-use Rattle.mime_http.specs.Tight.{tight}
+use Rattle.mime_http.specs.Tight.{ReadsTight}
 
 -- the lines of a header that a request has, if only empty ones, or else one that accepts everything (12.5.1)
 abbrev pub lines_or_any : List (List ℕ) → List (List ℕ)
@@ -38,7 +38,7 @@ pub data AreSorted : List (List ℕ) → List MediaType → List (List ℕ) → 
   blank : (text : List ℕ) (texts : List (List ℕ)) (ranges : List MediaType) (bad : List (List ℕ)) → AreSpaces text
       → AreSorted texts ranges bad → AreSorted (text ∷ texts) ranges bad
   a_range : (text : List ℕ) (range : MediaType) (texts : List (List ℕ)) (ranges : List MediaType) (bad : List (List ℕ)) → IsUtf8 text
-      → HttpReads text range → Reads (tight text) range → AreSorted texts ranges bad → AreSorted (text ∷ texts) (range ∷ ranges) bad
+      → HttpReads text range → ReadsTight text range → AreSorted texts ranges bad → AreSorted (text ∷ texts) (range ∷ ranges) bad
   a_bad : (text : List ℕ) (texts : List (List ℕ)) (ranges : List MediaType) (bad : List (List ℕ)) → ¬ (AreSpaces text)
       → ¬ (IsUtf8 text × IsHttpMediaType text) → AreSorted texts ranges bad → AreSorted (text ∷ texts) ranges (trim_end (trim_start text) ∷ bad)
 

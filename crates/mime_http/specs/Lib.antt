@@ -2,6 +2,7 @@
 pub mod HttpMediaType
 pub mod HttpFaults
 pub mod HttpPrinted
+pub mod Tight
 pub mod HttpList
 pub mod Weight
 pub mod Unescaped
@@ -12,7 +13,7 @@ pub mod HeaderLaws
 pub mod ListLaws
 pub mod RangesLaws
 -- private
-pub mod Tight
+pub mod Places
 pub mod Tightening
 pub mod Reached
 pub mod Walk

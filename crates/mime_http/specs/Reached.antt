@@ -5,7 +5,7 @@ use Rattle.mime.specs.declared.scan.fault.ParseError.TheVariants.{InvalidToken}
 use Rattle.mime_http.specs.declared.fault.Reach.{Reach}
 use Rattle.mime_http.specs.declared.tight.Place.{Place}
 use Rattle.mime_http.specs.declared.tight.Place.TheVariants.{Start, Spaced}
-use Rattle.mime_http.specs.Tight.{place_after, added}
+use Rattle.mime_http.specs.Places.{place_after, added}
 
 abbrev pub start : ℕ → Reach
 start limit = record { at = 0; settled = 0; left = limit; place = Start }

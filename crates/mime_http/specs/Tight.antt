@@ -1,61 +1,50 @@
--- What HTTP allows in a header's value and the library rejects is left out (RFC 9110, 5.6.6).
-use Rattle.std.specs.Prelude.{ℕ, Bool, false, List, [], ◌∷◌, ◌++◌, if◌then◌else◌, ◌==◌}
-use Rattle.mime.specs.Bytes.{semicolon_byte, equals_byte, quote_byte, backslash_byte, space_byte}
-use Rattle.mime.specs.Grammar.{is_space}
-use Rattle.mime_http.specs.declared.tight.Place.{Place}
-use Rattle.mime_http.specs.declared.tight.Place.TheVariants.{Start, Plain, Spaced, Equals, Quoted, Paired, Closed, Semicolon}
+-- A header's value tightened: without what HTTP allows there and the library rejects, which is white space around the value and before
+-- semicolons, and empty parameters (RFC 9110, 8.3.1 and 5.6.6). White space after a quoted value or a semicolon stays, and so does one
+-- semicolon at the end. What is read of the tightened value is kept, and printed.
+use Rattle.std.specs.Prelude.{◌≡◌, ℕ, List, [], ◌∷◌, ◌++◌, ◌==◌, ◌||◌, length, if◌then◌else◌, IsTrue, IsFalse}
+use Rattle.mime.specs.Bytes.{semicolon_byte, equals_byte, quote_byte, space_byte}
+use Rattle.mime.specs.Grammar.{is_space, AreSpaces, IsContent}
+use Rattle.mime.specs.Values.{MediaType, Reads}
+use Rattle.mime.specs.Faults.{IsFault}
+use Rattle.mime.specs.declared.scan.fault.ParseError.TheVariants.{InvalidToken}
 
--- outside quotes, the place after white space
-abbrev pub after_space : Place → Place
-after_space Start = Start
-after_space Closed = Closed
-after_space Semicolon = Semicolon
-after_space place = Spaced
+-- what is left of white space, and of a semicolon, if this is the last byte before it other than white space
+abbrev pub white_left : ℕ → List ℕ → List ℕ
+white_left last white = if last == quote_byte || last == semicolon_byte then white else []
 
--- outside quotes, the place after a quote: it opens a quoted value only right after an equals sign
-abbrev pub after_quote : Place → Place
-after_quote Equals = Quoted
-after_quote place = Plain
+abbrev pub semicolon_left : ℕ → List ℕ
+semicolon_left last = if last == semicolon_byte then [] else semicolon_byte ∷ []
 
--- the place after a byte outside quotes, and within
-abbrev pub after_unquoted : Place → ℕ → Place
-after_unquoted place b =
-    if is_space b then after_space place else
-    if b == semicolon_byte then Semicolon else
-    if b == equals_byte then Equals else
-    if b == quote_byte then after_quote place else Plain
+-- After such a byte, or a space where a value starts, tightening leaves the text of the bytes. White space stands at the end, before a
+-- semicolon, or before a token, which is after a semicolon or at the start. Quoted values and other bytes stay.
+pub data Tightens : ℕ → List ℕ → List ℕ → Type 0 where
+  at_end : (last : ℕ) (white : List ℕ) → AreSpaces white → Tightens last white (white_left last white)
+  a_semicolon : (last : ℕ) (white rest text : List ℕ) → AreSpaces white → Tightens semicolon_byte rest text
+      → Tightens last (white ++ (semicolon_byte ∷ rest)) (white_left last white ++ (semicolon_left last ++ text))
+  before_token : (last : ℕ) (white rest text : List ℕ) → IsTrue (last == semicolon_byte || last == space_byte) → AreSpaces white
+      → Tightens last rest text → Tightens last (white ++ rest) (white_left last white ++ text)
+  a_string : (last : ℕ) (content rest text : List ℕ) → IsContent content → Tightens quote_byte rest text
+      → Tightens last (equals_byte ∷ quote_byte ∷ (content ++ (quote_byte ∷ rest)))
+      (equals_byte ∷ quote_byte ∷ (content ++ (quote_byte ∷ text)))
+  a_byte : (last b : ℕ) (rest text : List ℕ) → IsFalse (is_space b) → IsFalse (b == semicolon_byte) → IsFalse (b == quote_byte)
+      → Tightens b rest text → Tightens last (b ∷ rest) (b ∷ text)
 
-abbrev pub after_within : ℕ → Place
-after_within b = if b == backslash_byte then Paired else if b == quote_byte then Closed else Quoted
+-- the media type is read of the value tightened
+abbrev pub ReadsTight : List ℕ → MediaType → Type 0
+ReadsTight value media = (text : List ℕ) × Tightens space_byte value text × Reads text media
 
--- the place after a byte
-abbrev pub place_after : Place → ℕ → Place
-place_after Quoted b = after_within b
-place_after Paired b = Quoted
-place_after place b = after_unquoted place b
+-- After the bytes `front` the first of the rest might be left out: white space at the start or before a semicolon, or a semicolon after
+-- another or white space.
+pub data IsSpare : List ℕ → List ℕ → Type 0 where
+  first : (b : ℕ) (rest : List ℕ) → IsTrue (is_space b) → IsSpare [] (b ∷ rest)
+  white : (front white rest : List ℕ) (b : ℕ) → IsTrue (is_space b) → AreSpaces white → IsSpare front (b ∷ (white ++ (semicolon_byte ∷ rest)))
+  another : (front rest : List ℕ) (b : ℕ) → IsTrue (b == semicolon_byte || is_space b) → IsSpare (front ++ (b ∷ [])) (semicolon_byte ∷ rest)
 
--- whether a byte is left out: white space outside quotes, unless it is after a quoted value or a semicolon, and a semicolon after
--- another with at most white space between them
-abbrev pub is_left_out : Place → ℕ → Bool
-is_left_out Quoted b = false
-is_left_out Paired b = false
-is_left_out Closed b = false
-is_left_out Semicolon b = b == semicolon_byte
-is_left_out place b = is_space b
-
--- what comes back before a byte: one space for white space that was left out, unless the byte is a semicolon
-abbrev pub brought_back : Place → ℕ → List ℕ
-brought_back Spaced b = if b == semicolon_byte then [] else space_byte ∷ []
-brought_back place b = []
-
--- what a byte adds to the tightened value
-abbrev pub added : Place → ℕ → List ℕ
-added place b = if is_left_out place b then [] else brought_back place b ++ (b ∷ [])
-
--- the value of a header that has one media type, as the library is given it
-abbrev pub tight_from : Place → List ℕ → List ℕ
-tight_from place [] = []
-tight_from place (b ∷ bytes) = added place b ++ tight_from (place_after place b) bytes
-
-abbrev pub tight : List ℕ → List ℕ
-tight value = tight_from Start value
+-- the library finds fault with such a byte; only then may rejecting the value need memory
+pub record FaultIsSpare (value : List ℕ) : Type 0 where
+  pub front : List ℕ
+  pub byte : ℕ
+  pub rest : List ℕ
+  pub spelled : front ++ (byte ∷ rest) ≡ value
+  pub is_spare : IsSpare front (byte ∷ rest)
+  pub is_fault : IsFault value (InvalidToken (length front) byte)

@@ -11,7 +11,7 @@ use Rattle.mime_http.specs.declared.fault.Rejected.{Rejected}
 use Rattle.mime_http.specs.declared.tight.Place.{Place}
 use Rattle.mime_http.specs.declared.tight.Tightening.{Tightening}
 use Rattle.mime_http.specs.declared.tight.Tightening.TheVariants.{Nothing, Prefix, Copy}
-use Rattle.mime_http.specs.Tight.{tight_from, tight}
+use Rattle.mime_http.specs.Places.{tight_from, tight}
 use Rattle.mime_http.specs.HttpMediaType.{IsHttpMediaType}
 use Rattle.mime_http.specs.HttpFaults.{IsHttpFault}
 

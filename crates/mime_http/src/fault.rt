@@ -6,7 +6,7 @@ ghost use Rattle.mime.specs.Values.{IsAccepted};
 ghost use Rattle.mime.specs.Faults.{IsFault};
 ghost use Rattle.mime_http.specs.HttpMediaType.{IsHttpMediaType};
 ghost use Rattle.mime_http.specs.HttpFaults.{IsHttpLongestPrefix, IsHttpFault};
-ghost use Rattle.mime_http.specs.Tight.{added, tight};
+ghost use Rattle.mime_http.specs.Places.{added, tight};
 ghost use Rattle.mime_http.specs.Tightening.{Begins, IsRejected};
 ghost use Rattle.mime_http.specs.Reached.{start, reach_from, limit_of};
 

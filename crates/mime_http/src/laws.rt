@@ -33,7 +33,7 @@ pub fn one_http_fault()
     ensures { OneHttpFault }
 {}
 
-/// A value is in UTF-8 exactly if it is so tightened.
+/// A tightened value is in UTF-8 exactly if the value is.
 pub fn tight_is_utf8()
     ensures { TightIsUtf8 }
 {}

@@ -7,7 +7,8 @@ ghost use Rattle.mime.specs.Grammar.{is_space};
 ghost use Rattle.mime.specs.Faults.{IsDeadAt, IsFault};
 ghost use Rattle.mime.specs.declared.scan.fault.ParseError.{ParseError};
 ghost use Rattle.mime.specs.declared.scan.fault.ParseError.TheVariants.{InvalidToken};
-ghost use Rattle.mime_http.specs.Tight.{after_space, after_unquoted, place_after, is_left_out, added, tight};
+ghost use Rattle.mime_http.specs.Tight.{FaultIsSpare};
+ghost use Rattle.mime_http.specs.Places.{after_space, after_unquoted, place_after, is_left_out, added};
 ghost use Rattle.mime_http.specs.Tightening.{ends_in_semicolon_or_space, begins_with_semicolon, IsLoose, IsTightening};
 
 use crate::list::trim_start;
@@ -175,7 +176,7 @@ fn tightening_at_white(alloc: Global, value: &[u8], pos: usize) -> Result<Tighte
     requires fault { IsDeadAt value.now pos (slice_index value.now pos) }
     requires white { is_space (slice_index value.now pos) ≡ true }
     ensures left { IfOk result (IsTightening value.now (InvalidToken pos (slice_index value.now pos))) }
-    ensures memory { tight value.now ≡ value.now → IsOk result }
+    ensures memory { ¬ (FaultIsSpare value.now) → IsOk result }
 {
     let rest = trim_start(&value[pos + 1..]);
     let next = value.len() - rest.len();
@@ -195,7 +196,7 @@ pub(crate) fn tightening_of(
     requires utf8 { IsUtf8 value.now }
     requires fault { IsFault value.now fault }
     ensures left { IfOk result (IsTightening value.now fault) }
-    ensures memory { tight value.now ≡ value.now → IsOk result }
+    ensures memory { ¬ (FaultIsSpare value.now) → IsOk result }
 {
     let ParseError::InvalidToken { pos, byte } = fault else {
         return Ok(Tightening::Nothing);

@@ -8,7 +8,8 @@ ghost use Rattle.mime.specs.Faults.{IsFault};
 ghost use Rattle.mime_http.specs.HttpMediaType.{HttpReads, IsHttpMediaType};
 ghost use Rattle.mime_http.specs.HttpFaults.{HttpExplains};
 ghost use Rattle.mime_http.specs.HttpPrinted.{not_utf8_text};
-ghost use Rattle.mime_http.specs.Tight.{tight};
+ghost use Rattle.mime_http.specs.Tight.{ReadsTight, FaultIsSpare};
+ghost use Rattle.mime_http.specs.Places.{tight};
 ghost use Rattle.mime_http.specs.Tightening.{IsRejected};
 
 use crate::fault::{Rejected, fault_of};
@@ -88,7 +89,7 @@ pub(crate) fn read_tight(
 ) -> Result<Result<Mime, Rejected>, AllocError>
     requires { IsFault value.now fault }
     ensures read { IfOk result (λ answer. MatchResult answer (λ mime. Reads (tight value.now) mime.media) (IsRejected value.now)) }
-    ensures memory { tight value.now ≡ value.now → IsOk result }
+    ensures memory { ¬ (IsHttpMediaType value.now) → ¬ (FaultIsSpare value.now) → IsOk result }
 {
     let left = tightening_of(alloc, value.as_bytes(), fault)?;
     let text = match &left {
@@ -117,7 +118,7 @@ fn read_rejected(alloc: Global, value: &str, fault: ParseError) -> Result<Mime, 
     ensures kept { IfOk result (λ mime. Reads (tight value.now) mime.media) }
     ensures explained { IfErr result (λ error. HttpExplains value.now error) }
     ensures accepted { IsHttpMediaType value.now → IfErr result (λ error. error ≡ FieldError.NoMemory) }
-    ensures rejected { tight value.now ≡ value.now → IfErr result (λ error. error ≢ FieldError.NoMemory) }
+    ensures rejected { ¬ (IsHttpMediaType value.now) → ¬ (FaultIsSpare value.now) → IfErr result (λ error. error ≢ FieldError.NoMemory) }
 {
     match read_tight(alloc, value, fault) {
         Ok(Ok(mime)) => Ok(mime),
@@ -141,13 +142,13 @@ fn read_rejected(alloc: Global, value: &str, fault: ParseError) -> Result<Mime, 
 /// # Errors
 /// `NotUtf8` for a value that isn't valid UTF-8, before anything is allocated; `Invalid` with the fault of a value that
 /// isn't a media type, at its position in `value`: 7 for `   a/b c`; `NoMemory` if memory runs out, which is never for `*/*`, nor for at
-/// most 40 bytes that [`Mime::from_str`] accepts, nor for a value that is rejected and of which nothing would be left out.
+/// most 40 bytes that [`Mime::from_str`] accepts, nor for a value that is rejected and isn't copied.
 #[inline(always)]
 pub fn content_type(alloc: Global, value: &[u8]) -> Result<Mime, FieldError>
     // The result is the media type that HTTP writes there,
     ensures http { IfOk result (λ mime. IsUtf8 value.now × HttpReads value.now mime.media) }
     // with the kept text of the tightened value.
-    ensures kept { IfOk result (λ mime. Reads (tight value.now) mime.media) }
+    ensures kept { IfOk result (λ mime. ReadsTight value.now mime.media) }
     // An error is where the value isn't UTF-8, or its fault, or says that memory ran out.
     ensures explained { IfErr result (λ error. HttpExplains value.now error) }
     // So what HTTP writes, in UTF-8, is read, or memory ran out,
@@ -155,8 +156,8 @@ pub fn content_type(alloc: Global, value: &[u8]) -> Result<Mime, FieldError>
     // and `*/*` is always read, as is what the library accepts of at most 40 bytes.
     ensures star { value.now ≡ codes "*/*" → IsOk result }
     ensures short { IsUtf8 value.now → IsAccepted value.now → length value.now ≤ 40 → IsOk result }
-    // If nothing is left out, rejecting a value needs no memory.
-    ensures rejected { tight value.now ≡ value.now → ¬ (IsAccepted value.now) → IfErr result (λ error. error ≢ FieldError.NoMemory) }
+    // Rejecting a value needs no memory, unless the library finds fault with a byte that might be left out.
+    ensures rejected { ¬ (IsHttpMediaType value.now) → ¬ (FaultIsSpare value.now) → IfErr result (λ error. error ≢ FieldError.NoMemory) }
 {
     let text = match text_of(value) {
         Ok(text) => text,

@@ -12,7 +12,7 @@ returns-in-Ok c =
     let http = c.in-Ok.ensures.http in
     let kept = c.in-Ok.ensures.kept in
     rw (c.put_texts.ensures.bytes, c.put_texts.ensures.found)
-    (is_value c.in-Ok.mime.media (omega (arith, c.if-out-value.false)) http.0 http.1 kept (texts_come_back _ _ kept))
+    (is_value c.in-Ok.mime.media (omega (arith, c.if-out-value.false)) http.0 http.1 kept (texts_come_back _ _ kept.2))
 
 pub returns-in-Err : goal.returns-in-Err
 returns-in-Err c = rw (c.number_of_error.ensures, c.found_of_error.ensures) (isnt_value _ (omega (arith, c.if-out-value.false)) c.in-Err.ensures.explained)

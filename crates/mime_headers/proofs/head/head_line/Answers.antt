@@ -10,11 +10,11 @@ returns-then-is_empty-clause-lines c =
     let line = c.trim_ascii_end-line.result.now in
     head_of-first c.args.input.now c.in_ok-line.rest.now c.in_ok-line.line.now line c.in_ok-line.ensures.lines
     (subst (λ text. IsTrimAsciiEnd text line) c.unmarked.ensures c.trim_ascii_end-line.ensures.value)
-    ∙ ap (λ empty. if empty then [] else line ∷ head_of c.in_ok-line.rest.now) (sym c.is_empty.ensures ∙ c.if-is_empty.true)
+    (sym c.is_empty.ensures ∙ c.if-is_empty.true)
 
 pub returns-else-is_empty-clause-lines : goal.returns-else-is_empty-clause-lines
 returns-else-is_empty-clause-lines c =
     let line = c.trim_ascii_end-line.result.now in
     head_of-first c.args.input.now c.in_ok-line.rest.now c.in_ok-line.line.now line c.in_ok-line.ensures.lines
     (subst (λ text. IsTrimAsciiEnd text line) c.unmarked.ensures c.trim_ascii_end-line.ensures.value)
-    ∙ ap (λ empty. if empty then [] else line ∷ head_of c.in_ok-line.rest.now) (sym c.is_empty.ensures ∙ c.if-is_empty.false)
+    (sym c.is_empty.ensures ∙ c.if-is_empty.false)

@@ -6,7 +6,7 @@ use Rattle.mime.specs.Faults.{IsFault}
 use Rattle.mime.specs.declared.scan.fault.ParseError.{ParseError}
 use Rattle.mime_http.specs.declared.tight.Place.TheVariants.{Start, Spaced}
 use Rattle.mime_http.specs.declared.fault.Reach.{Reach}
-use Rattle.mime_http.specs.Tight.{tight}
+use Rattle.mime_http.specs.Places.{tight}
 use Rattle.mime_http.specs.Reached.{start, reach_from, limit_of}
 use Rattle.mime_http.proofs.Places.{place_from}
 use Rattle.mime_http.proofs.HowFar.{Stops, stops, unspaced, goes, boundary}

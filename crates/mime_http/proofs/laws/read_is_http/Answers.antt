@@ -1,5 +1,5 @@
-use Rattle.mime_http.proofs.HttpBack.{read_is_http}
+use Rattle.mime_http.proofs.HttpLaws.{tight_is_http}
 use Rattle.mime_http.proofs.laws.read_is_http.Goals as goal
 
 pub returns : goal.returns
-returns c = read_is_http
+returns c = tight_is_http

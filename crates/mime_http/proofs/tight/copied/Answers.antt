@@ -4,7 +4,7 @@ use Rattle.std.proofs.lemmas.List.{drop_all}
 use Rattle.std.specs.Str.{IsUtf8}
 use Rattle.std.specs.Vec.{vec_items}
 use Rattle.mime_http.specs.declared.tight.Place.{Place}
-use Rattle.mime_http.specs.Tight.{tight_from, tight}
+use Rattle.mime_http.specs.Places.{tight_from, tight}
 use Rattle.mime_http.proofs.HttpText.{tight_utf8}
 use Rattle.mime_http.proofs.tight.copied.Goals as goal
 

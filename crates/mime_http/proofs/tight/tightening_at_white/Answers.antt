@@ -1,12 +1,11 @@
 -- White space is followed by a semicolon, by the end, or by what HTTP doesn't allow there.
-use Rattle.std.proofs.Common.{arith, ◌≡◌, ◌∙◌, ◌<◌, ◌+◌, ◌-◌, ap, subst, sym, length, drop, get_or}
+use Rattle.std.proofs.Common.{arith, ◌∙◌, ◌+◌, ◌-◌, ap, subst, sym, length, drop, get_or}
 use Rattle.std.proofs.lemmas.List.{take_rest, length-drop}
 use Rattle.mime_http.specs.declared.tight.Place.TheVariants.{Spaced}
 use Rattle.mime_http.specs.HttpList.{trim_start}
 use Rattle.mime_http.specs.Tightening.{begins_with_semicolon, Begins, IsLoose}
 use Rattle.mime_http.proofs.Trims.{trimmed-le}
-use Rattle.mime_http.proofs.AtFault.{trimmed_at}
-use Rattle.mime_http.proofs.TightLength.{no_longer-before_semicolon, something_left_out}
+use Rattle.mime_http.proofs.Spare.{spare_white}
 use Rattle.mime_http.proofs.WhiteAtFault.{begins, later_space}
 use Rattle.mime_http.proofs.tight.tightening_at_white.Goals as goal
 
@@ -37,15 +36,8 @@ returns-else-begins_with_semicolon-clause-left c =
     (ap begins_with_semicolon (sym rest) ∙ (sym c.begins_with_semicolon.ensures ∙ c.if-begins_with_semicolon.false)))
 
 pub returns-then-begins_with_semicolon-clause-memory : goal.returns-then-begins_with_semicolon-clause-memory
-returns-then-begins_with_semicolon-clause-memory c = λ same.
+returns-then-begins_with_semicolon-clause-memory c = λ isnt.
     let value = c.args.value.now in
-    let at = drop (c.args.pos + 1) value in
-    let rest : c.trim_start-rest.result.now ≡ trim_start at =
-    c.trim_start-rest.ensures ∙ ap trim_start (take_rest value (c.args.pos + 1)) in
-    let from = length value - length (trim_start at) in
-    let semicolon = ap begins_with_semicolon (sym rest) ∙ (sym c.begins_with_semicolon.ensures ∙ c.if-begins_with_semicolon.true) in
-    let behind : c.args.pos < from = omega (arith, trimmed-le at, length-drop (c.args.pos + 1) value, c.requires.within) in
-    absurd (something_left_out value c.args.pos from Spaced
-    (later_space value c.args.pos (get_or value c.args.pos 0) c.requires.fault c.requires.some c.requires.white) behind
-    (no_longer-before_semicolon (drop from value) (ap begins_with_semicolon
-    (trimmed_at value (c.args.pos + 1) (omega (arith, c.requires.within))) ∙ semicolon)) same)
+    let rest = c.trim_start-rest.ensures ∙ ap trim_start (take_rest value (c.args.pos + 1)) in
+    absurd (isnt (spare_white value c.args.pos (get_or value c.args.pos 0) c.requires.fault c.requires.white
+    (ap begins_with_semicolon (sym rest) ∙ (sym c.begins_with_semicolon.ensures ∙ c.if-begins_with_semicolon.true))))

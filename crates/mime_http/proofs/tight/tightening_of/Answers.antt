@@ -1,5 +1,5 @@
 -- The byte at fault is left out, or the fault stands.
-use Rattle.std.proofs.Common.{arith, ◌≡◌, ◌∙◌, ◌+◌, ◌-◌, true, ap, subst, sym, ℕ, List, length, drop, get_or}
+use Rattle.std.proofs.Common.{arith, ◌≡◌, ◌∙◌, ◌-◌, ap, subst, sym, ℕ, List, length, get_or}
 use Rattle.std.specs.Prelude.{IfOk}
 use Rattle.std.proofs.lemmas.Bool.Decides.{nat_tests}
 use Rattle.std.proofs.lemmas.Option.{slice_get_within, get_or_from_slice_get}
@@ -8,10 +8,9 @@ use Rattle.mime.specs.Faults.{IsFault, IsDeadAt}
 use Rattle.mime.specs.declared.scan.fault.ParseError.{ParseError}
 use Rattle.mime.specs.declared.scan.fault.ParseError.TheVariants.{InvalidToken}
 use Rattle.mime_http.specs.Tightening.{Stands, IsLoose, IsTightening}
-use Rattle.mime_http.specs.declared.tight.Place.TheVariants.{Start, Semicolon}
+use Rattle.mime_http.specs.declared.tight.Place.TheVariants.{Start}
 use Rattle.mime_http.proofs.Trims.{trimmed-le}
-use Rattle.mime_http.specs.HttpList.{trim_start}
-use Rattle.mime_http.proofs.TightLength.{no_longer-start, no_longer-semicolon, something_left_out, trimmed_some}
+use Rattle.mime_http.proofs.Spare.{spare_start, spare_semicolon}
 use Rattle.mime_http.proofs.WhiteAtFault.{first_space}
 use Rattle.mime_http.proofs.SemicolonAtFault.{next_semicolon, first_semicolon, other_byte, stands_at_end}
 use Rattle.mime_http.proofs.tight.tightening_of.Goals.{in_default-byte-via-in-59+else-ends_in_semicolon_or_space, in_default-byte-via-in_default-1}
@@ -89,23 +88,17 @@ returns-in_default-byte-clause-left c =
     subst (Stands value) (sym c.in-InvalidToken.is) stands
 
 pub returns-in-32-clause-memory : goal.returns-in-32-clause-memory
-returns-in-32-clause-memory c = λ same.
+returns-in-32-clause-memory c = λ isnt.
     let value = c.args.value.now in
-    let from = length value - length (trim_start value) in
     let at = fault_at value c.args.fault _ _ c.requires.fault c.in-InvalidToken.is in
-    let within = slice_get_within value c.in-InvalidToken.pos c.in-InvalidToken.byte at.dead.there in
-    let white : is_space (get_or value 0 0) ≡ true =
-    ap (λ n. is_space (get_or value n 0)) (sym c.if-pos-eq0.true) ∙ (ap is_space at.here ∙ grind (arith, nat_tests, c.in-32.is)) in
-    let trimmed = trimmed_some value (omega (arith, within)) white in
-    absurd (something_left_out value 0 from Start (first_space value) (omega (arith, trimmed)) (no_longer-start (drop from value)) same)
+    absurd (isnt (spare_start value _ _ at.dead (grind (arith, nat_tests, c.in-32.is)) c.if-pos-eq0.true))
 
 pub returns-in-32-2-clause-memory : goal.returns-in-32-2-clause-memory
 returns-in-32-2-clause-memory c = c.tightening_at_white.ensures.memory
 
 pub returns-in-59-clause-memory : goal.returns-in-59-clause-memory
-returns-in-59-clause-memory c = λ same.
+returns-in-59-clause-memory c = λ isnt.
     let value = c.args.value.now in
     let at = fault_at value c.args.fault _ _ c.requires.fault c.in-InvalidToken.is in
-    let loose = next_semicolon value c.in-InvalidToken.pos c.in-InvalidToken.byte at.dead c.in-59.is
-    (sym c.ends_in_semicolon_or_space.ensures ∙ c.if-ends_in_semicolon_or_space.true) in
-    absurd (something_left_out value _ _ Semicolon loose (omega arith) (no_longer-semicolon (drop (c.in-InvalidToken.pos + 1) value)) same)
+    absurd (isnt (spare_semicolon value _ _ at.dead c.in-59.is
+    (sym c.ends_in_semicolon_or_space.ensures ∙ c.if-ends_in_semicolon_or_space.true)))

@@ -10,8 +10,10 @@ use Rattle.mime.specs.Faults.{Explains}
 use Rattle.mime_http.specs.declared.value.FieldError.{FieldError}
 use Rattle.mime_http.specs.HttpMediaType.{HttpReads, IsHttpMediaType}
 use Rattle.mime_http.specs.HttpFaults.{HttpExplains}
-use Rattle.mime_http.specs.Tight.{tight}
+use Rattle.mime_http.specs.Places.{tight}
 use Rattle.mime_http.proofs.HttpBack.{read_is_http}
+use Rattle.mime_http.specs.Tight.{ReadsTight, FaultIsSpare}
+use Rattle.mime_http.proofs.HttpLaws.{reads_tight}
 use Rattle.mime_http.proofs.Places.{accepted_stays}
 use Rattle.mime_http.proofs.HttpLaws.{plain_is_http}
 use Rattle.mime_http.proofs.Rejections.{fault_explains}
@@ -37,7 +39,14 @@ pub returns-in-Ok-from_str-clause-kept : goal.returns-in-Ok-from_str-clause-kept
 returns-in-Ok-from_str-clause-kept c =
     let text : c.in-Ok.text.now ≡ c.args.value.now = search rules in
     let read = subst (λ text. Reads text c.in-Ok-from_str.mime.media) text c.in-Ok-from_str.ensures.read in
-    subst (λ text. Reads text c.in-Ok-from_str.mime.media) (sym (accepted_stays c.args.value.now (_, read))) read
+    reads_tight c.args.value.now (subst (λ text. Reads text c.in-Ok-from_str.mime.media) (sym (accepted_stays c.args.value.now (_, read))) read)
+
+pub returns-in-NoMemory-clause-rejected : goal.returns-in-NoMemory-clause-rejected
+returns-in-NoMemory-clause-rejected c = λ isnt.
+    let text : c.in-Ok.text.now ≡ c.args.value.now = search rules in
+    let explained = subst (Explains c.in-Ok.text.now) (sym c.fault.ensures ∙ c.in-NoMemory.is) c.in-Err-from_str.ensures.explained in
+    let read = subst IsAccepted text explained.0 in
+    absurd (isnt (read.0, plain_is_http c.args.value.now read.0 read.1))
 
 pub read_rejected-requires : goal.read_rejected-requires
 read_rejected-requires c = record {
@@ -52,6 +61,12 @@ http_read : (value : List ℕ) (result : Result OwnedMedia FieldError) → IsUtf
 http_read value (Ok mime) utf8 read = (utf8, read_is_http value mime.media read)
 http_read value (Err error) utf8 read = tt
 
+-- and it is read of it tightened
+tight_read : (value : List ℕ) (result : Result OwnedMedia FieldError) → IfOk result (λ mime. Reads (tight value) mime.media)
+    → IfOk result (λ mime. ReadsTight value mime.media)
+tight_read value (Ok mime) read = reads_tight value read
+tight_read value (Err error) read = tt
+
 pub returns-in_default : goal.returns-in_default
 returns-in_default c =
     let value = c.args.value.now in
@@ -61,13 +76,12 @@ returns-in_default c =
     let kept = subst (λ t. IfOk result (λ mime. Reads (tight t) mime.media)) text said.kept in
     record {
       http = http_read value result (search rules) kept;
-      kept = kept;
+      kept = tight_read value result kept;
       explained = subst (λ t. IfErr result (λ error. HttpExplains t error)) text said.explained;
       accepted = λ utf8. subst (λ t. IsHttpMediaType t → IfErr result (λ error. error ≡ FieldError.NoMemory)) text said.accepted;
       star = λ is. absurd (true≢false (sym (c.in-Err-from_str.ensures.star (text ∙ is)).1));
       short = λ utf8 accepted few.
           absurd (c.in_default.not-NoMemory
           (c.fault.ensures ∙ c.in-Err-from_str.ensures.accepted (subst IsAccepted (sym text) accepted)));
-      rejected = λ same isnt.
-          subst (λ t. tight t ≡ t → IfErr result (λ error. error ≢ FieldError.NoMemory)) text said.rejected same;
+      rejected = subst (λ t. ¬ (IsHttpMediaType t) → ¬ (FaultIsSpare t) → IfErr result (λ error. error ≢ FieldError.NoMemory)) text said.rejected;
     }

@@ -2,9 +2,9 @@
 use Rattle.std.proofs.Common.{rules, ◌≡◌, ◌∙◌, sym, subst, take, string_bytes}
 use Rattle.mime.specs.Values.{IsAccepted}
 use Rattle.mime.specs.Faults.{IsFault, Explains}
-use Rattle.mime.proofs.HandedOut.{rejected-from_fault}
-use Rattle.mime_http.specs.Tight.{tight}
+use Rattle.mime_http.specs.Places.{tight}
 use Rattle.mime_http.specs.Tightening.{Begins, IsTightening}
+use Rattle.mime_http.proofs.HttpViability.{http_from_accepted}
 use Rattle.mime_http.proofs.Rejections.{fault_explains, rejected_nothing, rejected_at_next, rejected_prefix, rejected_copy}
 use Rattle.mime_http.proofs.value.read_tight.Goals.{in_default-via-in-Prefix+else-next-value, in_default-via-in_default, in-Prefix, in-Copy}
 use Rattle.mime_http.proofs.value.read_tight.Goals as goal
@@ -42,7 +42,7 @@ returns-in_default-fault-clause-read c =
     ]
 
 pub returns-in-NoMemory-clause-memory : goal.returns-in-NoMemory-clause-memory
-returns-in-NoMemory-clause-memory c = λ same.
+returns-in-NoMemory-clause-memory c = λ rejected.
     let value = c.args.value.now in
     let left = c.in_ok-left.left in
     let text = c.match-left.text.now in
@@ -59,4 +59,4 @@ returns-in-NoMemory-clause-memory c = λ same.
           let copied : string_bytes w.in-Copy.copy ≡ tight value = subst (IsTightening value c.args.fault) w.in-Copy.is is in
           here ∙ copied
     ] in
-    absurd (rejected-from_fault value c.args.fault c.requires (subst IsAccepted (tightly ∙ same) explained.0))
+    absurd (rejected (http_from_accepted value (subst IsAccepted tightly explained.0)))

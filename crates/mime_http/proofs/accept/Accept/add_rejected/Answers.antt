@@ -5,7 +5,7 @@ use Rattle.std.specs.Str.{IsUtf8}
 use Rattle.std.specs.Vec.{vec_items}
 use Rattle.mime.specs.Values.{Reads}
 use Rattle.mime_http.specs.HttpMediaType.{IsHttpMediaType}
-use Rattle.mime_http.specs.Tight.{tight}
+use Rattle.mime_http.specs.Places.{tight}
 use Rattle.mime_http.specs.HttpList.{Header, trim_end}
 use Rattle.mime_http.proofs.Adds.{read_entry, pushed, add_range, add_bad}
 use Rattle.mime_http.proofs.accept.Accept.add_rejected.Goals as goal
