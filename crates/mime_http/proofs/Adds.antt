@@ -1,7 +1,7 @@
 -- What is added to a header, piece by piece and line by line.
 use Rattle.std.proofs.Common.{◌≡◌, ◌∙◌, refl, sym, ap, subst, ℕ, List, [], ◌∷◌, ◌++◌, map}
 use Rattle.std.specs.Prelude.{flat_map}
-use Rattle.std.specs.Prelude.{Result, Option, Ok, Err, MatchResult, MatchOption}
+use Rattle.std.specs.Prelude.{Result, Option, Ok, Err, OnOk, MatchResult, MatchOption}
 use Rattle.std.specs.Result.{result_ok}
 use Rattle.std.specs.Str.{IsUtf8}
 use Rattle.std.proofs.lemmas.List.{append-nil, append_assoc, map-append}
@@ -96,6 +96,12 @@ add_trimmed piece text is adds = record {
   now_ranges = adds.now_ranges;
   now_bad = adds.now_bad;
 }
+
+-- if memory doesn't run out
+pub trimmed_added : {X E : Type 0} (result : Result X E) (piece text : List ℕ) (old new : Header) → text ≡ trim_start piece
+    → OnOk result (Adds (text ∷ []) old new) → OnOk result (Adds (piece ∷ []) old new)
+trimmed_added (Ok x) piece text old new is adds = add_trimmed piece text is adds
+trimmed_added (Err e) piece text old new is adds = tt
 
 -- two runs of texts are sorted one after the other
 pub sorted_both : {texts more : List (List ℕ)} {ranges others : List MediaType} {bad poor : List (List ℕ)} → AreSorted texts ranges bad

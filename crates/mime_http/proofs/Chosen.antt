@@ -1,6 +1,6 @@
 -- The next offer ranks above all before it, or it doesn't.
 use Rattle.std.proofs.Common.{◌≡◌, ◌≢◌, ◌∙◌, ◌+◌, ◌==◌, refl, sym, ap, subst, arith, ⊎_elim, ℕ, Bool, true, false, List, [], ◌∷◌, ◌++◌, length, map, Option, Some, None, length-append}
-use Rattle.std.specs.Prelude.{fold, position, if◌then◌else◌}
+use Rattle.std.specs.Prelude.{Result, Ok, Err, OnOk, fold, position, if◌then◌else◌}
 use Rattle.std.specs.List.{position_from}
 use Rattle.std.specs.Ordering.{is_lt, is_eq, is_gt, ord_max, eq_by_cmp}
 use Rattle.std.specs.declared.cmp.Ordering.{Ordering}
@@ -144,11 +144,17 @@ module _ (ranges : List MediaType) (piece : List ℕ) {old : Chosen} where
       )
 
 -- what is chosen after an entry is chosen after the piece that it is trimmed of
-pub chooses_trimmed : (ranges : List MediaType) (piece text : List ℕ) {old new : Chosen} → text ≡ trim_start piece
+chooses_trimmed : (ranges : List MediaType) (piece text : List ℕ) {old new : Chosen} → text ≡ trim_start piece
     → ChoosesOn ranges text old new
     → ChoosesOn ranges piece old new
 chooses_trimmed ranges piece text is chooses before was =
     let after = chooses before was in (after.0, add_trimmed piece text is after.1, after.2)
+
+-- if memory doesn't run out
+pub trimmed_chosen : {X E : Type 0} (result : Result X E) (ranges : List MediaType) (piece text : List ℕ) (old new : Chosen)
+    → text ≡ trim_start piece → OnOk result (ChoosesOn ranges text old new) → OnOk result (ChoosesOn ranges piece old new)
+trimmed_chosen (Ok x) ranges piece text old new is chooses = chooses_trimmed ranges piece text is chooses
+trimmed_chosen (Err e) ranges piece text old new is chooses = tt
 
 -- ---- the end of the list
 

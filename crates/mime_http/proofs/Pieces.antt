@@ -1,8 +1,10 @@
 -- A line's first piece: bytes without a mark go on with it, and a comma outside strings ends it.
-use Rattle.std.proofs.Common.{◌≡◌, ◌∙◌, ◌==◌, ◌||◌, refl, sym, ap, ap₂, arith, ℕ, zero, suc, Bool, true, false, not, cond, eqb, List, [], ◌∷◌, ◌<◌, ◌≤◌, ◌+◌, ◌-◌, ◌%◌, ◌^◌, length, take, drop, get_or, map, bit_or, ⊎_elim}
+use Rattle.std.proofs.Common.{◌≡◌, ◌∙◌, ◌==◌, ◌||◌, refl, sym, ap, ap₂, subst, arith, ℕ, zero, suc, Bool, true, false, not, cond, eqb, List, [], ◌∷◌, ◌<◌, ◌≤◌, ◌+◌, ◌-◌, ◌%◌, ◌/◌, ◌^◌, length, take, drop, get_or, map, bit_or, ⊎_elim}
 use Rattle.std.proofs.lemmas.Bool.{cases_lt}
 use Rattle.std.proofs.lemmas.Bool.Decides.{nat_tests}
-use Rattle.std.proofs.lemmas.List.{length-map}
+use Rattle.std.proofs.lemmas.List.{length-map, length-drop, take_all, get_or-drop, drop-drop}
+use Rattle.std.specs.List.{drop-map}
+use Rattle.mime.proofs.BlocksLemmas.{mask-drop}
 use Rattle.std.proofs.lemmas.Simd.{map-map, mask_l-mod, length-chunk, leading_from_mask_l, trailing_mask_l, run_in_chunk_le, run_in_chunk_fails, run_in_chunk_stops}
 use Rattle.std.proofs.Math.ListN.{drop_of_length-le}
 use Rattle.std.specs.List.{prefix_len}
@@ -264,24 +266,81 @@ module _ (one other : ℕ) where
       ∙ (mask_l-mod (map is_set (chunk at 16 text)) 64 (omega (arith, length-map (chunk at 16 text) is_set, length-chunk at 16 text room))
       ∙ ap mask_l (set_by_marks (chunk at 16 text)))
 
-module _ (one other : ℕ) (text : List ℕ) (at : ℕ) (room : at + 16 ≤ length text) (mask : ℕ)
-    (is : mask ≡ mask_l (map (is_mark one other) (chunk at 16 text))) where
-  abbrev count : ℕ
-  count = prefix_len (λ b. not (is_mark one other b)) (chunk at 16 text)
+module _ (one other : ℕ) (text : List ℕ) (at n : ℕ) (lanes : n ≤ 64) (room : at + n ≤ length text) (mask : ℕ)
+    (is : mask ≡ mask_l (map (is_mark one other) (chunk at n text))) where
+  abbrev pub count : ℕ
+  count = prefix_len (λ b. not (is_mark one other b)) (chunk at n text)
 
-  pub none_set : mask ≡ 0 → 16 ≡ count
-  none_set none = sym (leading_from_mask_l (is_mark one other) (chunk at 16 text) (sym is ∙ none) ∙ length-chunk at 16 text room)
+  pub none_set : mask ≡ 0 → n ≡ count
+  none_set none = sym (leading_from_mask_l (is_mark one other) (chunk at n text) (sym is ∙ none) ∙ length-chunk at n text room)
 
   pub some_set : ¬ (mask ≡ 0) → count_trailing_zeros 64 mask ≡ count
   some_set some =
       ap (count_trailing_zeros 64) is
-      ∙ trailing_mask_l (is_mark one other) 64 (chunk at 16 text) (omega (arith, length-chunk at 16 text room)) (omega (arith, is, some))
+      ∙ trailing_mask_l (is_mark one other) 64 (chunk at n text) (omega (arith, lanes, length-chunk at n text room)) (omega (arith, is, some))
 
-  pub few : (r : ℕ) → r ≡ count → r ≤ 16
-  few r counted = run_in_chunk_le (is_mark one other) text at 16 r 0 room counted
+  pub few : (r : ℕ) → r ≡ count → r ≤ n
+  few r counted = run_in_chunk_le (is_mark one other) text at n r 0 room counted
 
   pub unmarked : (r : ℕ) → r ≡ count → AreUnmarked one other text at (at + r)
-  unmarked r counted = run_in_chunk_fails (is_mark one other) text at 16 r 0 room counted
+  unmarked r counted = run_in_chunk_fails (is_mark one other) text at n r 0 room counted
 
-  pub marked : (r : ℕ) → r ≡ count → r < 16 → is_mark one other (get_or text (at + r) 0) ≡ true
-  marked r counted = run_in_chunk_stops (is_mark one other) text at 16 r 0 room counted
+  pub marked : (r : ℕ) → r ≡ count → r < n → is_mark one other (get_or text (at + r) 0) ≡ true
+  marked r counted = run_in_chunk_stops (is_mark one other) text at n r 0 room counted
+
+-- The bits of the last block from a position on are those of the bytes from there on.
+pub bits_from : (one other : ℕ) (text : List ℕ) (from : ℕ) → 16 ≤ length text → length text < from + 16 → from ≤ length text
+    → mask_l (map (is_mark one other) (chunk (length text - 16) 16 text)) / 2 ^ (from - (length text - 16))
+    ≡ mask_l (map (is_mark one other) (chunk from (length text - from) text))
+bits_from one other text from long end within =
+    let start = length text - 16 in
+    let more = from - start in
+    let there : start + more ≡ from = omega (arith, end) in
+    let all : chunk start 16 text ≡ drop start text = take_all 16 (drop start text) (omega (arith, length-drop start text)) in
+    let left : chunk from (length text - from) text ≡ drop from text =
+    take_all (length text - from) (drop from text) (omega (arith, length-drop from text)) in
+    mask-drop more (map (is_mark one other) (chunk start 16 text))
+    ∙ ap mask_l (drop-map (is_mark one other) more (chunk start 16 text))
+    ∙ ap (λ bytes. mask_l (map (is_mark one other) bytes))
+    (ap (drop more) all ∙ (drop-drop more start text ∙ (ap (λ i. drop i text) there ∙ sym left)))
+
+-- ---- a piece that begins further on
+
+-- bytes without a mark from a position on,
+pub unmarked_from : (line : List ℕ) (from to : ℕ) → from ≤ to → AreUnmarked 44 34 line from to → AreUnmarked 44 34 (drop from line) 0 (to - from)
+unmarked_from line from to least plain = λ k first last.
+    subst (λ b. is_mark 44 34 b ≡ false) (sym (get_or-drop from line k 0)) (plain (from + k) (omega arith) (omega (arith, last, least)))
+
+-- up to a comma or the end, are the first piece from there on,
+pub piece_from : (line : List ℕ) (from to : ℕ) → from ≤ to → to ≤ length line → AreUnmarked 44 34 line from to
+    → (to < length line → get_or line to 0 ≡ 44)
+    → cut (drop from line) ≡ take (to - from) (drop from line) ∷ cut_after (drop to line)
+piece_from line from to least within plain comma =
+    let rest = drop from line in
+    let n = to - from in
+    let there : from + n ≡ to = omega (arith, least) in
+    let size = length-drop from line in
+    piece_ends rest n (omega (arith, size, within, least)) (unmarked_from line from to least plain)
+    (λ more. get_or-drop from line n 0 ∙ (ap (λ i. get_or line i 0) there ∙ comma (omega (arith, more, size, least))))
+    ∙ ap (λ left. take n rest ∷ cut_after left) (drop-drop n from line ∙ ap (λ i. drop i line) there)
+
+-- and any first piece ends as many bytes after that position
+pub piece_of_len : (line : List ℕ) (from n : ℕ) → cut (drop from line) ≡ take n (drop from line) ∷ cut_after (drop n (drop from line))
+    → cut (drop from line) ≡ take (from + n - from) (drop from line) ∷ cut_after (drop (from + n) line)
+piece_of_len line from n is =
+    let long : n ≡ from + n - from = omega arith in
+    is ∙ ap₂ (λ m left. take m (drop from line) ∷ cut_after left) long (drop-drop n from line)
+
+-- After the comma that ends it the next one begins.
+pub pieces_after : (line : List ℕ) (end : ℕ) → end < length line → cut_after (drop end line) ≡ cut (drop (end + 1) line)
+pieces_after line end more = ap cut_after (item_left line end 0 more)
+
+-- and after the line's end none
+pub no_piece_after : (line : List ℕ) (end : ℕ) → length line ≤ end → cut_after (drop end line) ≡ []
+no_piece_after line end past = ap cut_after (drop_of_length-le line past)
+
+-- An empty piece comes before a comma.
+pub empty_piece : (line : List ℕ) (from : ℕ) → from < length line → get_or line from 0 ≡ 44
+    → cut (drop from line) ≡ [] ∷ cut (drop (from + 1) line)
+empty_piece line from within comma =
+    ap cut (item_left line from 0 within ∙ ap (λ b. b ∷ drop (from + 1) line) comma)

@@ -1,7 +1,7 @@
 -- A piece without the white space around it.
 use Rattle.mime_http.proofs.Common.{◌≡◌, ◌∙◌, ◌<◌, ◌≤◌, refl, sym, ap, subst, arith, suc, ℕ, Bool, true, false, List, [], ◌∷◌, ◌++◌, ◌+◌, ◌-◌, length, take, get_or, length-append, ◌&&◌, list_all, and_parts, nat_tests, take-suc, is_token_byte, is_space, AreSpaces, IsToken, MediaType, HttpReads, trim_start, trim_end}
 use Rattle.std.proofs.Common.{append-nil, append_assoc}
-use Rattle.std.specs.Str.{IsUtf8}
+use Rattle.std.specs.Str.{IsAscii, IsUtf8}
 use Rattle.mime_http.proofs.HttpBack.{respelled}
 use Rattle.mime_http.specs.Places.{tight}
 use Rattle.mime_http.proofs.HttpForth.{spaces-append}
@@ -147,3 +147,14 @@ pub end_at_other : (piece : List ℕ) (end : ℕ) → 0 < end → end ≤ length
 end_at_other piece end some within other =
     let last = last_taken piece end some within in
     sym last ∙ (sym (trim_end-other (take (end - 1) piece) (get_or piece (end - 1) 0) other) ∙ ap trim_end last)
+
+-- ---- in ASCII
+
+-- What is left of ASCII without the white space before it is ASCII.
+pub ascii_trimmed : (piece : List ℕ) → IsAscii piece → IsAscii (trim_start piece)
+ascii_trimmed [] ascii = ascii
+ascii_trimmed (b ∷ piece) ascii = go (ascii_trimmed piece (λ i. ascii (suc i))) (is_space b) refl
+  where
+    go : IsAscii (trim_start piece) → (w : Bool) → is_space b ≡ w → IsAscii (trim_start (b ∷ piece))
+    go rest true is = rw is rest
+    go rest false is = rw is ascii

@@ -1,6 +1,7 @@
 //! An `Accept` header, read once, and what it says of a server's offers.
 
-ghost use Rattle.std.specs.Prelude.{◌≡◌, ◌≢◌, ◌<◌, ℕ, List, [], ◌∷◌, ◌++◌, map, length, IfSome, IsOk, IfOk, OnOk};
+ghost use Rattle.std.specs.Prelude.{◌≡◌, ◌≢◌, ◌<◌, true, ℕ, List, [], ◌∷◌, ◌++◌, map, length, IfSome, IsOk, IfOk, OnOk};
+ghost use Rattle.std.specs.Str.{IsAscii};
 ghost use Rattle.std.specs.Vec.{vec_items};
 ghost use Rattle.mime.specs.Grammar.{AreSpaces};
 ghost use Rattle.mime.specs.Faults.{Explains};
@@ -8,12 +9,15 @@ ghost use Rattle.mime_http.specs.HttpList.{trim_start, trim_end, AreBetweenComma
 ghost use Rattle.mime_http.specs.Ranges.{given_weight, best_offer, AreInOrder};
 ghost use Rattle.mime_http.specs.Walk.{Adds, AddsLines};
 
-use crate::list::{piece_len, trim_end, trim_start};
+use crate::list::{is_empty_piece, is_short_ascii, piece_end, trim_end, trim_start};
 use crate::offers::{best_of, merit, order_of};
-use crate::value::{read_tight, text_of};
+use crate::value::{read_tight, text_of_piece};
 use mime::{Mime, ParseError};
 use std::alloc::{AllocError, Global};
 use std::marker::Model;
+
+/// How many ranges there is room for at first. Few headers have more, so that they aren't moved as they come.
+const FIRST_RANGES: usize = 8;
 
 /// What an `Accept` header accepts (RFC 9110, 12.5.1).
 #[derive(Drop, Debug)]
@@ -68,23 +72,49 @@ impl Accept {
         Ok(())
     }
 
-    /// Adds a piece of a line: white space alone is nothing.
-    fn add(&mut self, alloc: Global, piece: &[u8]) -> Result<(), AllocError>
-        ensures added { OnOk result (Adds (piece.now ∷ []) self.old self.new) }
-        ensures blank { AreSpaces piece.now → IsOk result }
+    /// Adds a range.
+    #[inline(always)]
+    fn add_range(&mut self, range: Mime) -> Result<(), AllocError>
+        ensures ranges { OnOk result (self.new.ranges ≡ self.old.ranges ++ (range.media ∷ [])) }
+        ensures bad { OnOk result (self.new.bad ≡ self.old.bad) }
     {
-        let piece = trim_start(piece);
-        if piece.is_empty() {
-            return Ok(());
+        if self.ranges.capacity() == 0 {
+            self.ranges.reserve(FIRST_RANGES)?;
         }
-        let Ok(text) = text_of(piece) else {
-            return self.add_bad(alloc, piece);
+        self.ranges.push(range)?;
+        Ok(())
+    }
+
+    /// Adds an entry, which may be known to be ASCII.
+    #[inline(always)]
+    fn add_entry(&mut self, alloc: Global, entry: &[u8], is_ascii: bool) -> Result<(), AllocError>
+        requires ascii { is_ascii ≡ true → IsAscii entry.now }
+        requires some { entry.now ≢ [] }
+        requires trimmed { trim_start entry.now ≡ entry.now }
+        ensures { OnOk result (Adds (entry.now ∷ []) self.old self.new) }
+    {
+        let Ok(text) = text_of_piece(entry, is_ascii) else {
+            return self.add_bad(alloc, entry);
         };
         match Mime::from_str(alloc, text) {
-            Ok(range) => self.ranges.push(range)?,
+            Ok(range) => self.add_range(range)?,
             Err(error) => self.add_rejected(alloc, text, *error.fault())?,
         }
         Ok(())
+    }
+
+    /// Adds a piece of a line, which may be known to be ASCII: white space alone is nothing.
+    #[inline(always)]
+    fn add(&mut self, alloc: Global, piece: &[u8], is_ascii: bool) -> Result<(), AllocError>
+        requires { is_ascii ≡ true → IsAscii piece.now }
+        ensures added { OnOk result (Adds (piece.now ∷ []) self.old self.new) }
+        ensures blank { AreSpaces piece.now → IsOk result }
+    {
+        let entry = trim_start(piece);
+        if entry.is_empty() {
+            return Ok(());
+        }
+        self.add_entry(alloc, entry, is_ascii)
     }
 
     /// Adds a line's pieces.
@@ -93,14 +123,20 @@ impl Accept {
         ensures nothing { (pieces : List (List ℕ)) → AreBetweenCommas IsPiece BeginsPiece (line.now ∷ []) pieces → AreSorted pieces [] []
             → IsOk result }
     {
-        let mut left = line;
+        let is_ascii = is_short_ascii(line);
+        let mut from = 0;
         loop {
-            let end = piece_len(left);
-            self.add(alloc, &left[..end])?;
-            match left[end..].split_first() {
-                Some((_comma, rest)) => left = rest,
-                None => return Ok(()),
+            // The short way for an empty piece, which adds nothing.
+            if is_empty_piece(line, from) {
+                from += 1;
+                continue;
             }
+            let end = piece_end(line, from);
+            self.add(alloc, &line[from..end], is_ascii)?;
+            if end == line.len() {
+                return Ok(());
+            }
+            from = end + 1;
         }
     }
 
@@ -122,7 +158,7 @@ impl Accept {
             bad: Vec::new(alloc),
         };
         if lines.is_empty() {
-            accept.add(alloc, b"*/*")?;
+            accept.add_line(alloc, b"*/*")?;
         }
         for line in lines {
             accept.add_line(alloc, line)?;

@@ -1,7 +1,8 @@
 //! The cut of a header's line at its commas outside strings, and pieces without the white space around them.
 
-ghost use Rattle.std.specs.Prelude.{◌≡◌, ◌<◌, ◌≤◌, ◌+◌, ◌∷◌, true, length, take, drop, map, slice_index};
+ghost use Rattle.std.specs.Prelude.{◌≡◌, ◌<◌, ◌≤◌, ◌+◌, ◌-◌, ◌∷◌, true, length, take, drop, map, slice_index};
 ghost use Rattle.std.specs.Simd.Lanes.{mask_l};
+ghost use Rattle.std.specs.Str.{IsAscii};
 ghost use Rattle.mime.specs.Bytes.{comma_byte, equals_byte, quote_byte};
 ghost use Rattle.mime.specs.Grammar.{is_space};
 ghost use Rattle.mime_http.specs.HttpList.{trim_start, trim_end};
@@ -46,9 +47,29 @@ fn unmarked_in_block(text: &[u8], at: usize, one: u8, other: u8) -> usize
     }
 }
 
-/// The position of the first of two marks from a position on, or the length.
+/// How many bytes from a position in a text's last block on come before the first mark, or all of them.
 #[inline(always)]
-fn next_mark(text: &[u8], from: usize, one: u8, other: u8) -> usize
+fn unmarked_at_end(text: &[u8], from: usize, one: u8, other: u8) -> usize
+    requires block { BLOCK ≤ length text.now }
+    requires end { length text.now < from + BLOCK }
+    requires within { from ≤ length text.now }
+    ensures within { from + result ≤ length text.now }
+    ensures unmarked { AreUnmarked one other text.now from (from + result) }
+    ensures mark { from + result < length text.now → is_mark one other (slice_index text.now (from + result)) ≡ true }
+{
+    let start = text.len() - BLOCK;
+    let marks = marks_in_block(text, start, one, other) >> (from - start);
+    if marks == 0 {
+        text.len() - from
+    } else {
+        marks.trailing_zeros() as usize
+    }
+}
+
+/// The position of the first of two marks from a position on, or the length. `by_blocks` is whether the last bytes are compared at once,
+/// too, which takes more code.
+#[inline(always)]
+fn next_mark(text: &[u8], from: usize, one: u8, other: u8, by_blocks: bool) -> usize
     requires { from ≤ length text.now }
     ensures least { from ≤ result }
     ensures within { result ≤ length text.now }
@@ -62,6 +83,9 @@ fn next_mark(text: &[u8], from: usize, one: u8, other: u8) -> usize
         if unmarked < BLOCK {
             return at;
         }
+    }
+    if by_blocks && text.len() >= BLOCK {
+        return at + unmarked_at_end(text, at, one, other);
     }
     while at < text.len() && !is_mark(text[at], one, other) {
         at += 1;
@@ -82,7 +106,7 @@ fn next_outside(line: &[u8], from: usize) -> usize
     if line[from] == b'=' {
         return from;
     }
-    next_mark(line, from, b',', b'=')
+    next_mark(line, from, b',', b'=', false)
 }
 
 /// The position after the closing quote of the string that `from` is in, or the length.
@@ -99,7 +123,7 @@ fn string_end(line: &[u8], from: usize) -> usize
             return at + 1;
         }
         if line[at] != b'\\' {
-            at = next_mark(line, at + 1, b'"', b'\\');
+            at = next_mark(line, at + 1, b'"', b'\\', false);
             continue;
         }
         if at + 1 == line.len() {
@@ -139,19 +163,25 @@ fn quoted_piece_len(line: &[u8], quote: usize) -> usize
     at
 }
 
-/// The length of a line's first piece, which ends before a comma outside strings, or with the line.
+/// Whether the piece of a line that begins at a position is empty, and a comma ends it.
 #[inline(always)]
-pub(crate) fn piece_len(line: &[u8]) -> usize
-    ensures within { result ≤ length line.now }
-    ensures piece { cut line.now ≡ take result line.now ∷ cut_after (drop result line.now) }
+pub(crate) fn is_empty_piece(line: &[u8], from: usize) -> bool
+    ensures { result ≡ true → (from < length line.now) × (slice_index line.now from ≡ comma_byte) }
 {
-    // The short way for an empty piece.
-    if !line.is_empty() && line[0] == b',' {
-        return 0;
-    }
-    let mark = next_mark(line, 0, b',', b'"');
+    from < line.len() && line[from] == b','
+}
+
+/// The end of the piece of a line that begins at a position: the position of the first comma outside strings, or the length.
+#[inline(always)]
+pub(crate) fn piece_end(line: &[u8], from: usize) -> usize
+    requires { from ≤ length line.now }
+    ensures least { from ≤ result }
+    ensures within { result ≤ length line.now }
+    ensures piece { cut (drop from line.now) ≡ take (result - from) (drop from line.now) ∷ cut_after (drop result line.now) }
+{
+    let mark = next_mark(line, from, b',', b'"', true);
     if mark < line.len() && line[mark] == b'"' {
-        return quoted_piece_len(line, mark);
+        return from + quoted_piece_len(&line[from..], mark - from);
     }
     mark
 }
@@ -163,8 +193,9 @@ fn is_space(byte: u8) -> bool
     byte == b' ' || byte == b'\t'
 }
 
-/// A piece without the white space before it.
-pub(crate) fn trim_start(piece: &[u8]) -> &[u8]
+/// A piece without the white space before it. It isn't inlined: most pieces begin with no white space, or with one space.
+#[inline(never)]
+fn trim_spaces(piece: &[u8]) -> &[u8]
     ensures { result.now ≡ trim_start piece.now }
 {
     for (at, &byte) in piece.iter().enumerate() {
@@ -173,6 +204,40 @@ pub(crate) fn trim_start(piece: &[u8]) -> &[u8]
         }
     }
     &[]
+}
+
+/// A piece without the white space before it.
+#[inline(always)]
+pub(crate) fn trim_start(piece: &[u8]) -> &[u8]
+    ensures { result.now ≡ trim_start piece.now }
+{
+    if piece.is_empty() || piece[0] > b' ' {
+        return piece;
+    }
+    if piece[0] == b' ' && (piece.len() == 1 || piece[1] > b' ') {
+        return &piece[1..];
+    }
+    trim_spaces(piece)
+}
+
+/// Whether a line of at most 256 bytes is ASCII. A longer one is looked at piece by piece instead.
+#[inline(never)]
+pub(crate) fn is_short_ascii(line: &[u8]) -> bool
+    ensures { result ≡ true → IsAscii line.now }
+{
+    if line.len() > 256 {
+        return false;
+    }
+    let mut left = line;
+    // Testing at most 64 bytes at once is short.
+    while left.len() > 64 {
+        let (first, rest) = left.split_at(64);
+        if !first.is_ascii() {
+            return false;
+        }
+        left = rest;
+    }
+    left.is_ascii()
 }
 
 /// A piece without the white space after it.

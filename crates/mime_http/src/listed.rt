@@ -1,6 +1,7 @@
 //! The best of offers that are given as a list, which are read one by one.
 
-ghost use Rattle.std.specs.Prelude.{◌≡◌, ◌≢◌, ◌<◌, ◌≤◌, ◌+◌, [], ◌∷◌, ◌++◌, length, map, IfOk, OnOk, IsOk};
+ghost use Rattle.std.specs.Prelude.{◌≡◌, ◌≢◌, ◌<◌, ◌≤◌, ◌+◌, true, [], ◌∷◌, ◌++◌, length, map, IfOk, OnOk, IsOk};
+ghost use Rattle.std.specs.Str.{IsAscii};
 ghost use Rattle.mime.specs.Grammar.{AreSpaces};
 ghost use Rattle.mime.specs.Values.{MediaType};
 ghost use Rattle.mime.specs.Faults.{Explains};
@@ -9,9 +10,9 @@ ghost use Rattle.mime_http.specs.Ranges.{merit, best_offer};
 ghost use Rattle.mime_http.specs.Chosen.{lowest, IsChosen, ChoosesOn};
 
 use crate::accept::Accept;
-use crate::list::{piece_len, trim_start};
+use crate::list::{is_empty_piece, is_short_ascii, piece_end, trim_start};
 use crate::offers::merit;
-use crate::value::{read_tight, text_of};
+use crate::value::{read_tight, text_of_piece};
 use mime::{Mime, ParseError};
 use std::alloc::{AllocError, Global};
 
@@ -71,19 +72,23 @@ impl Chosen {
         Ok(())
     }
 
-    /// Takes a piece of the list: white space alone is nothing.
+    /// Takes an entry, which may be known to be ASCII.
     #[inline(always)]
-    fn take_piece(&mut self, alloc: Global, ranges: &[Mime], piece: &[u8]) -> Result<(), AllocError>
-        requires few { self.old.count + self.old.bad + length piece.now ≤ usize.MAX }
-        ensures piece { OnOk result (ChoosesOn (map (λ range. range.media) ranges.now) piece.now self.old self.new) }
-        ensures few { OnOk result (self.new.count + self.new.bad ≤ self.old.count + self.old.bad + length piece.now) }
-        ensures blank { AreSpaces piece.now → IsOk result }
+    fn take_entry(
+        &mut self,
+        alloc: Global,
+        ranges: &[Mime],
+        entry: &[u8],
+        is_ascii: bool,
+    ) -> Result<(), AllocError>
+        requires ascii { is_ascii ≡ true → IsAscii entry.now }
+        requires some { entry.now ≢ [] }
+        requires trimmed { trim_start entry.now ≡ entry.now }
+        requires few { self.old.count + self.old.bad < usize.MAX }
+        ensures entry { OnOk result (ChoosesOn (map (λ range. range.media) ranges.now) entry.now self.old self.new) }
+        ensures few { OnOk result (self.new.count + self.new.bad ≡ self.old.count + self.old.bad + 1) }
     {
-        let piece = trim_start(piece);
-        if piece.is_empty() {
-            return Ok(());
-        }
-        let Ok(text) = text_of(piece) else {
+        let Ok(text) = text_of_piece(entry, is_ascii) else {
             self.bad += 1;
             return Ok(());
         };
@@ -92,6 +97,28 @@ impl Chosen {
             Err(error) => self.take_rejected(alloc, ranges, text, *error.fault())?,
         }
         Ok(())
+    }
+
+    /// Takes a piece of the list, which may be known to be ASCII: white space alone is nothing.
+    #[inline(always)]
+    fn take_piece(
+        &mut self,
+        alloc: Global,
+        ranges: &[Mime],
+        piece: &[u8],
+        is_ascii: bool,
+    ) -> Result<(), AllocError>
+        requires ascii { is_ascii ≡ true → IsAscii piece.now }
+        requires few { self.old.count + self.old.bad + length piece.now ≤ usize.MAX }
+        ensures piece { OnOk result (ChoosesOn (map (λ range. range.media) ranges.now) piece.now self.old self.new) }
+        ensures few { OnOk result (self.new.count + self.new.bad ≤ self.old.count + self.old.bad + length piece.now) }
+        ensures blank { AreSpaces piece.now → IsOk result }
+    {
+        let entry = trim_start(piece);
+        if entry.is_empty() {
+            return Ok(());
+        }
+        self.take_entry(alloc, ranges, entry, is_ascii)
     }
 }
 
@@ -118,14 +145,20 @@ impl Accept {
             count: 0,
             bad: 0,
         };
-        let mut left = list;
+        let is_ascii = is_short_ascii(list);
+        let mut from = 0;
         loop {
-            let end = piece_len(left);
-            chosen.take_piece(alloc, ranges, &left[..end])?;
-            match left[end..].split_first() {
-                Some((_comma, rest)) => left = rest,
-                None => break,
+            // The short way for an empty piece, which is no offer.
+            if is_empty_piece(list, from) {
+                from += 1;
+                continue;
             }
+            let end = piece_end(list, from);
+            chosen.take_piece(alloc, ranges, &list[from..end], is_ascii)?;
+            if end == list.len() {
+                break;
+            }
+            from = end + 1;
         }
         let best = if chosen.most.0 > 0 {
             Some(chosen.best)

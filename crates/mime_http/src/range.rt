@@ -77,12 +77,13 @@ pub(crate) fn named_parts(range: &Mime, essence: &str, type_: &str) -> Option<u8
         if bytes_eq range.now.media.essence (type_.now ++ codes "/*") then Some 1 else
         if bytes_eq range.now.media.essence essence.now then Some 2 else None) }
 {
-    let named = range.essence_str();
-    if named == "*/*" {
+    // Most lengths differ, so that the range's text isn't looked at.
+    let len = range.essence_str().len();
+    if len == 3 && range.essence_str() == "*/*" {
         Some(0)
-    } else if named.len() == type_.len() + 2 && is_all_of(named, type_) {
+    } else if len == type_.len() + 2 && is_all_of(range.essence_str(), type_) {
         Some(1)
-    } else if named.len() == essence.len() && is_same(named, essence) {
+    } else if len == essence.len() && is_same(range.essence_str(), essence) {
         Some(2)
     } else {
         None
@@ -143,7 +144,7 @@ pub(crate) fn after_essence(mime: &Mime) -> &[u8]
 
 /// How many parameters a range demands of an offer, and its weight; `None` if the offer hasn't all of them. The range
 /// `text/html;level=1` is for `text/html;level=1`, and not for all HTML.
-#[inline]
+#[inline(always)]
 pub(crate) fn demanded(range: &Mime, offer: &Mime) -> Option<(usize, u16)>
     ensures { result ≡ (if list_all (has offer.now.media) (demanded range.now.media.pairs)
         then Some (length (demanded range.now.media.pairs), weight_of range.now.media) else None) }

@@ -1,8 +1,8 @@
 //! The media type of a header's value, which comes as bytes.
 
-ghost use Rattle.std.specs.Prelude.{◌≡◌, ◌≢◌, ◌≤◌, codes, length, Some, IfOk, IfErr, IsOk, MatchResult};
+ghost use Rattle.std.specs.Prelude.{◌≡◌, ◌≢◌, ◌≤◌, true, codes, length, Some, IfOk, IfErr, IsOk, MatchResult};
 ghost use Rattle.std.specs.Fmt.InlineText.{inline_text};
-ghost use Rattle.std.specs.Str.{IsUtf8, IsValidUpTo, valid_up_to};
+ghost use Rattle.std.specs.Str.{IsAscii, IsUtf8, IsValidUpTo, valid_up_to};
 ghost use Rattle.mime.specs.Values.{Reads, IsAccepted};
 ghost use Rattle.mime.specs.Faults.{IsFault};
 ghost use Rattle.mime_http.specs.HttpMediaType.{HttpReads, IsHttpMediaType};
@@ -78,6 +78,20 @@ pub(crate) fn text_of(value: &[u8]) -> Result<&str, Utf8Error>
         return Ok(unsafe { str::from_utf8_unchecked(value) });
     }
     str::from_utf8(value)
+}
+
+/// The string of a piece of a line. The bytes of a line that is known to be ASCII aren't looked at again.
+#[inline(always)]
+pub(crate) fn text_of_piece(piece: &[u8], is_ascii: bool) -> Result<&str, Utf8Error>
+    requires { is_ascii ≡ true → IsAscii piece.now }
+    ensures cases { MatchResult result (λ text. (text.now ≡ piece.now) × IsUtf8 piece.now)
+        (λ error. ¬ (IsUtf8 piece.now) × IsValidUpTo piece.now (valid_up_to error)) }
+{
+    if is_ascii {
+        // SAFETY: ASCII is UTF-8.
+        return Ok(unsafe { str::from_utf8_unchecked(piece) });
+    }
+    text_of(piece)
 }
 
 /// Reads as HTTP a value that `from_str` rejected with `fault`: gives its media type, or why HTTP rejects it, too.

@@ -1,11 +1,14 @@
--- The pieces so far were added, and those of what is left remain.
-use Rattle.std.proofs.Common.{length}
+-- The pieces so far were added, and those from here on remain.
+use Rattle.std.proofs.Common.{◌-◌, ◌≤◌, length, drop}
 use Rattle.mime_http.specs.Walk.{cut}
 use Rattle.mime_http.proofs.Adds.{SoFar}
 use Rattle.mime_http.proofs.accept.Accept.add_line.Given as goal
 
-abbrev pub invariant-loop-comma : goal.invariant-loop-comma
-invariant-loop-comma l = SoFar (cut l.line) (cut l.left) l.fn.self l.self
+abbrev pub invariant-loop-from : goal.invariant-loop-from
+invariant-loop-from l = record {
+  within : l.from ≤ length l.line;
+  added : SoFar (cut l.line) (cut (drop l.from l.line)) l.fn.self l.self;
+}
 
-abbrev pub decreases-loop-comma : goal.decreases-loop-comma
-decreases-loop-comma l = length l.left
+abbrev pub decreases-loop-from : goal.decreases-loop-from
+decreases-loop-from l = length l.line - l.from

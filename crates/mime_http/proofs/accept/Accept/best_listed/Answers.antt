@@ -1,7 +1,7 @@
--- The first piece of what is left is taken, and those after its comma are left; at the end the best of all is chosen.
-use Rattle.std.proofs.Common.{◌≡◌, ◌∙◌, arith, ℕ, List, [], ◌∷◌, sym, ap, subst, refl, take, drop, map, length, length-drop, length-take}
+-- The first piece from here on is taken, and those after its comma are left; at the end the best of all is chosen.
+use Rattle.std.proofs.Common.{◌≡◌, ◌∙◌, ◌+◌, ◌-◌, ◌<◌, ◌≤◌, arith, ℕ, List, [], ◌∷◌, sym, ap, subst, refl, take, drop, map, length, length-drop, length-take}
 use Rattle.std.proofs.lemmas.Bool.{true≢false}
-use Rattle.std.proofs.lemmas.List.{append-nil, nil_from_length, take_rest}
+use Rattle.std.proofs.lemmas.List.{append-nil}
 use Rattle.mime.specs.Values.{MediaType}
 use Rattle.mime_http.specs.HttpList.{Header, IsHeader}
 use Rattle.mime_http.specs.Ranges.{best_offer}
@@ -9,7 +9,8 @@ use Rattle.mime_http.specs.Walk.{cut, cut_after, Adds}
 use Rattle.mime_http.specs.Chosen.{IsChosen, ChoosesOn}
 use Rattle.mime_http.specs.declared.listed.Chosen.{Chosen}
 use Rattle.mime_http.proofs.Adds.{SoFar, none_so_far, some_more, all_added, is_header, piece_is_blank}
-use Rattle.mime_http.proofs.Chosen.{best_is_chosen, none_is_chosen}
+use Rattle.mime_http.proofs.Chosen.{chooses_nothing, best_is_chosen, none_is_chosen}
+use Rattle.mime_http.proofs.Pieces.{empty_piece, pieces_after, no_piece_after}
 use Rattle.mime_http.proofs.accept.Accept.best_listed.Goals as goal
 
 -- a header without ranges and bad entries
@@ -34,22 +35,27 @@ module _ (ranges : List MediaType) (list : List ℕ) where
     is,
   )
 
-  -- the pieces of what is left, of which the first is so long
-  pieces_taken : (left more : List ℕ) (end : ℕ) {chosen : Chosen} → cut left ≡ take end left ∷ cut_after (drop end left)
-      → drop end left ≡ more
-      → Taken ranges list (cut left) chosen → Taken ranges list (take end left ∷ cut_after more) chosen
-  pieces_taken left more end {chosen} is rest =
-      subst (λ pieces. Taken ranges list pieces chosen) (is ∙ ap (λ x. take end left ∷ cut_after x) rest)
+  module _ (from end : ℕ) {old : Chosen} (is : cut (drop from list) ≡ take (end - from) (drop from list) ∷ cut_after (drop end list))
+      (taken : Taken ranges list (cut (drop from list)) old) where
+    -- the pieces from a position on, of which the first ends at another one
+    pieces_taken : Taken ranges list (take (end - from) (drop from list) ∷ cut_after (drop end list)) old
+    pieces_taken = subst (λ pieces. Taken ranges list pieces old) is taken
 
-  -- the last piece, after which nothing is left
-  last_taken : (left : List ℕ) (end : ℕ) {old new : Chosen} → cut left ≡ take end left ∷ cut_after (drop end left)
-      → length (drop end left) ≡ 0
-      → Taken ranges list (cut left) old → ChoosesOn ranges (take end left) old new
-      → (offered : Header) × IsHeader (list ∷ []) offered × IsChosen ranges offered new
-  last_taken left end is none taken chooses = done (next (pieces_taken left [] end is (nil_from_length _ none) taken) chooses)
+    -- those after it
+    more_taken : {new : Chosen} → end < length list → ChoosesOn ranges (take (end - from) (drop from list)) old new
+        → Taken ranges list (cut (drop (end + 1) list)) new
+    more_taken {new} more chooses =
+        subst (λ pieces. Taken ranges list pieces new) (pieces_after list end more) (next pieces_taken chooses)
 
-pub loop-comma-init : goal.loop-comma-init
-loop-comma-init c = record {
+    -- the last piece, after which nothing is left
+    last_taken : {new : Chosen} → length list ≤ end → ChoosesOn ranges (take (end - from) (drop from list)) old new
+        → (offered : Header) × IsHeader (list ∷ []) offered × IsChosen ranges offered new
+    last_taken {new} past chooses =
+        done (subst (λ pieces. Taken ranges list pieces new) (no_piece_after list end past) (next pieces_taken chooses))
+
+pub loop-from-init : goal.loop-from-init
+loop-from-init c = record {
+  within = omega arith;
   taken = (
     nothing,
     none_so_far (cut c.args.list.now) nothing,
@@ -58,53 +64,59 @@ loop-comma-init c = record {
   few = omega arith;
 }
 
-pub loop-comma-preserved : goal.loop-comma-preserved
-loop-comma-preserved c =
+pub loop-from-preserved-then-is_empty_piece : goal.loop-from-preserved-then-is_empty_piece
+loop-from-preserved-then-is_empty_piece c =
     let list = c.args.list.now in
     let ranges = map (λ range. range.media) c.ranges-ranges.result.now in
-    let left = c.loop-comma.left.now in
-    let end = c.piece_len-end.result in
-    let rest : drop end left ≡ c.in-Some._comma.now ∷ c.in-Some.rest.now = sym (take_rest left end) ∙ c.in-Some.ensures.cases.0 in
+    let from = c.loop-from.from in
+    let empty = c.if-is_empty_piece.ensures refl in
+    let taken = subst (λ pieces. Taken ranges list pieces c.loop-from.chosen) (empty_piece list from empty.0 empty.1)
+    c.loop-from.invariant.taken in
     record {
-      taken = next ranges list (pieces_taken ranges list left _ end c.piece_len-end.ensures.piece rest c.loop-comma.invariant.taken)
-          c.in_ok-take_piece.ensures.piece;
+      within = omega (arith, empty.0);
+      taken = next ranges list taken (chooses_nothing ranges [] refl);
+      few = omega (arith, c.loop-from.invariant.few);
+    }
+
+pub loop-from-preserved : goal.loop-from-preserved
+loop-from-preserved c =
+    let list = c.args.list.now in
+    let ranges = map (λ range. range.media) c.ranges-ranges.result.now in
+    let from = c.loop-from.from in
+    let end = c.piece_end-end.result in
+    let more : end < length list = omega (arith, c.piece_end-end.ensures.within, c.if-end-list.false) in
+    record {
+      within = omega (arith, more);
+      taken = more_taken ranges list from end c.piece_end-end.ensures.piece c.loop-from.invariant.taken more c.in_ok-take_piece.ensures.piece;
       few =
           omega (
             arith,
-            c.loop-comma.invariant.few,
+            c.loop-from.invariant.few,
             c.in_ok-take_piece.ensures.few,
-            ap length rest,
-            length-drop end left,
-            length-take end left,
+            c.piece_end-end.ensures.least,
+            length-take (end - from) (drop from list),
           );
     }
 
 pub returns-in_err-take_piece-clause-nothing : goal.returns-in_err-take_piece-clause-nothing
 returns-in_err-take_piece-clause-nothing c = λ holds.
     let ranges = map (λ range. range.media) c.ranges-ranges.result.now in
-    let left = c.loop-comma.left.now in
-    let taken = pieces_taken ranges c.args.list.now left _ c.piece_len-end.result c.piece_len-end.ensures.piece refl
-    c.loop-comma.invariant.taken in
+    let taken = pieces_taken ranges c.args.list.now c.loop-from.from c.piece_end-end.result c.piece_end-end.ensures.piece
+    c.loop-from.invariant.taken in
     absurd (true≢false (sym (c.in_err-take_piece.ensures.blank (piece_is_blank taken.1 holds.cut holds.sorted))))
 
 pub returns-then-chosen-gt0-clause-best : goal.returns-then-chosen-gt0-clause-best
 returns-then-chosen-gt0-clause-best c =
     let ranges = map (λ range. range.media) c.ranges-ranges.result.now in
-    let left = c.loop-comma.left.now in
-    let end = c.piece_len-end.result in
-    let none : length (drop end left) ≡ 0 = sym (ap length (take_rest left end)) ∙ c.in-None.ensures.cases in
-    let last = last_taken ranges c.args.list.now left end c.piece_len-end.ensures.piece none
-    c.loop-comma.invariant.taken c.in_ok-take_piece.ensures.piece in
+    let last = last_taken ranges c.args.list.now c.loop-from.from c.piece_end-end.result c.piece_end-end.ensures.piece
+    c.loop-from.invariant.taken (omega (arith, c.if-end-list.true)) c.in_ok-take_piece.ensures.piece in
     let best = best_is_chosen last.2 (λ none. absurd (omega (arith, none, c.if-chosen-gt0.true))) in
     (last.0, last.1, best ∙ ap (λ ranges. best_offer ranges last.0.ranges) c.ranges-ranges.ensures, last.2.bad)
 
 pub returns-else-chosen-gt0-clause-best : goal.returns-else-chosen-gt0-clause-best
 returns-else-chosen-gt0-clause-best c =
     let ranges = map (λ range. range.media) c.ranges-ranges.result.now in
-    let left = c.loop-comma.left.now in
-    let end = c.piece_len-end.result in
-    let none : length (drop end left) ≡ 0 = sym (ap length (take_rest left end)) ∙ c.in-None.ensures.cases in
-    let last = last_taken ranges c.args.list.now left end c.piece_len-end.ensures.piece none
-    c.loop-comma.invariant.taken c.in_ok-take_piece.ensures.piece in
+    let last = last_taken ranges c.args.list.now c.loop-from.from c.piece_end-end.result c.piece_end-end.ensures.piece
+    c.loop-from.invariant.taken (omega (arith, c.if-end-list.true)) c.in_ok-take_piece.ensures.piece in
     let best = none_is_chosen last.2 (omega (arith, c.if-chosen-gt0.false)) in
     (last.0, last.1, best ∙ ap (λ ranges. best_offer ranges last.0.ranges) c.ranges-ranges.ensures, last.2.bad)

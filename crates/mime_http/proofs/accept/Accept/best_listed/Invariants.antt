@@ -1,17 +1,18 @@
--- The pieces so far were taken, and those of what is left remain.
-use Rattle.std.proofs.Common.{◌+◌, ◌≤◌, [], length, map}
+-- The pieces so far were taken, and those from here on remain.
+use Rattle.std.proofs.Common.{◌+◌, ◌-◌, ◌≤◌, [], length, map, drop}
 use Rattle.mime_http.specs.HttpList.{Header}
 use Rattle.mime_http.specs.Walk.{cut}
 use Rattle.mime_http.specs.Chosen.{IsChosen}
 use Rattle.mime_http.proofs.Adds.{SoFar}
 use Rattle.mime_http.proofs.accept.Accept.best_listed.Given as goal
 
-abbrev pub invariant-loop-comma : goal.invariant-loop-comma
-invariant-loop-comma l = record {
-  taken : (offered : Header) × SoFar (cut l.list) (cut l.left) (record { ranges = []; bad = [] }) offered
+abbrev pub invariant-loop-from : goal.invariant-loop-from
+invariant-loop-from l = record {
+  within : l.from ≤ length l.list;
+  taken : (offered : Header) × SoFar (cut l.list) (cut (drop l.from l.list)) (record { ranges = []; bad = [] }) offered
       × IsChosen (map (λ range. range.media) l.ranges) offered l.chosen;
-  few : l.chosen.count + l.chosen.bad + length l.left ≤ length l.list;
+  few : l.chosen.count + l.chosen.bad ≤ l.from;
 }
 
-abbrev pub decreases-loop-comma : goal.decreases-loop-comma
-decreases-loop-comma l = length l.left
+abbrev pub decreases-loop-from : goal.decreases-loop-from
+decreases-loop-from l = length l.list - l.from

@@ -13,7 +13,7 @@ use Rattle.mime_http.specs.Walk.{cut}
 use Rattle.mime_http.proofs.Cuts.{are_cut, only_cut}
 use Rattle.mime_http.proofs.Highest.{item_left}
 use Rattle.mime_http.proofs.accept.Accept.from_lines.Goals as goal
-use Rattle.mime_http.proofs.accept.Accept.from_lines.Goals.{then-is_empty+in_ok-add, else-is_empty}
+use Rattle.mime_http.proofs.accept.Accept.from_lines.Goals.{then-is_empty+in_ok-add_line, else-is_empty}
 
 -- a header without ranges and bad entries
 abbrev nothing : Header
@@ -70,10 +70,10 @@ loop-line-init c =
     let bad = ap (map vec_items) c.new-2.ensures.items in
     let empty = is_nothing _ ranges bad in
     elim c.if-is_empty.branch [
-      | then-is_empty+in_ok-add w ↦
+      | then-is_empty+in_ok-add_line w ↦
           let none : length lines ≡ 0 = grind (arith, common_steps) in
-          subst Starts (sym w.accept-is) (of_no_line (λ line. line.now) lines w.add.new.self none
-          (subst (λ start. Adds (codes "*/*" ∷ []) start w.add.new.self) empty w.in_ok-add.ensures.added))
+          subst Starts (sym w.accept-is) (of_no_line (λ line. line.now) lines w.add_line.new.self none
+          (subst (λ start. Adds (codes "*/*" ∷ []) start w.add_line.new.self) empty (pieces_added w.in_ok-add_line.ensures.added)))
       | else-is_empty w ↦
           let some : length lines ≢ 0 = λ none. absurd (grind (arith, common_steps)) in
           subst Starts (sym w.accept-is) (subst Starts (sym empty) (of_lines (λ line. line.now) lines some))
@@ -83,8 +83,8 @@ pub loop-line-preserved : goal.loop-line-preserved
 loop-line-preserved c =
     let lines = c.args.lines.now in
     let at = c.loop-line.line-index in
-    next (λ line. line.now) lines _ _ _ c.loop-line.accept c.add_line.new.self (item_left lines at _ c.loop-line-test.true)
-    c.loop-line.invariant c.in_ok-add_line.ensures.added
+    next (λ line. line.now) lines _ _ _ c.loop-line.accept c.add_line-in-loop-line.new.self (item_left lines at _ c.loop-line-test.true)
+    c.loop-line.invariant c.in_ok-add_line-2.ensures.added
 
 pub returns-clause-header : goal.returns-clause-header
 returns-clause-header c =
@@ -93,14 +93,14 @@ returns-clause-header c =
     done (λ line. line.now) lines c.loop-line.accept
     (subst (λ rest. Left (λ line. line.now) lines rest c.loop-line.accept) (drop_of_length-le lines past) c.loop-line.invariant)
 
-pub returns-in_err-add-clause-nothing : goal.returns-in_err-add-clause-nothing
-returns-in_err-add-clause-nothing c = λ holds.
+pub returns-in_err-add_line-clause-nothing : goal.returns-in_err-add_line-clause-nothing
+returns-in_err-add_line-clause-nothing c = λ holds.
     let none : length c.args.lines.now ≡ 0 = grind (arith, common_steps) in
     absurd (some_line (λ line. line.now) c.args.lines.now none holds)
 
-pub returns-in_err-add_line-clause-nothing : goal.returns-in_err-add_line-clause-nothing
-returns-in_err-add_line-clause-nothing c = λ holds.
+pub returns-in_err-add_line-2-clause-nothing : goal.returns-in_err-add_line-2-clause-nothing
+returns-in_err-add_line-2-clause-nothing c = λ holds.
     let lines = c.args.lines.now in
-    absurd (true≢false (sym (c.in_err-add_line.ensures.nothing _ (are_cut (_ ∷ []))
+    absurd (true≢false (sym (c.in_err-add_line-2.ensures.nothing _ (are_cut (_ ∷ []))
     (line_is_nothing (λ line. line.now) lines _ _ _ c.loop-line.accept (item_left lines c.loop-line.line-index _ c.loop-line-test.true)
     c.loop-line.invariant holds))))

@@ -1,14 +1,12 @@
--- A piece is blank, or an offer, or bad.
+-- A piece is blank, or what its entry is.
 use Rattle.std.proofs.Common.{arith, ◌≡◌, ◌∙◌, ◌==◌, ℕ, Bool, false, List, [], length, sym, ap, subst}
-use Rattle.std.specs.Str.{IsUtf8}
+use Rattle.std.specs.Str.{IsAscii}
 use Rattle.std.proofs.lemmas.Bool.{true≢false, eq-eqb}
 use Rattle.std.proofs.lemmas.Grind.{common_steps}
 use Rattle.std.proofs.lemmas.List.{nil_from_length}
-use Rattle.mime.specs.Values.{Reads}
 use Rattle.mime_http.specs.HttpList.{trim_start}
-use Rattle.mime_http.proofs.Chosen.{chooses_nothing, chooses_offer, chooses_bad, chooses_trimmed}
-use Rattle.mime_http.proofs.Places.{accepted_stays}
-use Rattle.mime_http.proofs.Trims.{trimmed_from_blank, trim_twice}
+use Rattle.mime_http.proofs.Chosen.{chooses_nothing, trimmed_chosen}
+use Rattle.mime_http.proofs.Trims.{trimmed_from_blank, trim_twice, ascii_trimmed}
 use Rattle.mime_http.proofs.listed.Chosen.take_piece.Goals as goal
 
 -- what is left of a piece isn't empty
@@ -17,34 +15,22 @@ some_left trimmed empty tells some none = true≢false (sym (tells ∙ eq-eqb (l
 
 pub returns-then-is_empty-clause-piece : goal.returns-then-is_empty-clause-piece
 returns-then-is_empty-clause-piece c =
-    let none : c.trim_start-piece.result.now ≡ [] = nil_from_length _ (grind (arith, common_steps)) in
-    chooses_nothing _ c.args.piece.now (sym c.trim_start-piece.ensures ∙ none)
+    let none : c.trim_start-entry.result.now ≡ [] = nil_from_length _ (grind (arith, common_steps)) in
+    chooses_nothing _ c.args.piece.now (sym c.trim_start-entry.ensures ∙ none)
 
-pub returns-in_default-clause-piece : goal.returns-in_default-clause-piece
-returns-in_default-clause-piece c =
-    let trimmed = c.trim_start-piece.ensures in
-    chooses_bad _ c.args.piece.now (λ none. some_left _ _ c.is_empty.ensures c.if-is_empty.false (trimmed ∙ none))
-    (λ both. c.in_default.ensures.cases.0 (subst IsUtf8 (sym trimmed) both.0))
+pub take_entry-requires-clause-ascii : goal.take_entry-requires-clause-ascii
+take_entry-requires-clause-ascii c = λ known.
+    subst IsAscii (sym c.trim_start-entry.ensures) (ascii_trimmed c.args.piece.now (c.requires.ascii known))
 
-pub take_rejected-requires-clause-trimmed : goal.take_rejected-requires-clause-trimmed
-take_rejected-requires-clause-trimmed c =
-    subst (λ t. trim_start t ≡ t) (sym (c.in-Ok.ensures.cases.0 ∙ c.trim_start-piece.ensures)) (trim_twice c.args.piece.now)
+pub take_entry-requires-clause-some : goal.take_entry-requires-clause-some
+take_entry-requires-clause-some c = some_left _ _ c.is_empty.ensures c.if-is_empty.false
 
-pub returns-in_err-take_rejected-in-Err-clause-blank : goal.returns-in_err-take_rejected-in-Err-clause-blank
-returns-in_err-take_rejected-in-Err-clause-blank c = λ white.
-    absurd (some_left _ _ c.is_empty.ensures c.if-is_empty.false (c.trim_start-piece.ensures ∙ trimmed_from_blank c.args.piece.now white))
+pub take_entry-requires-clause-trimmed : goal.take_entry-requires-clause-trimmed
+take_entry-requires-clause-trimmed c = subst (λ t. trim_start t ≡ t) (sym c.trim_start-entry.ensures) (trim_twice c.args.piece.now)
 
-pub returns-in-Ok-from_str-clause-piece : goal.returns-in-Ok-from_str-clause-piece
-returns-in-Ok-from_str-clause-piece c =
-    let piece = c.args.piece.now in
-    let media = c.in-Ok-from_str.offer.media in
-    let text : c.in-Ok.text.now ≡ trim_start piece = c.in-Ok.ensures.cases.0 ∙ c.trim_start-piece.ensures in
-    let utf8 : IsUtf8 (trim_start piece) = subst IsUtf8 c.trim_start-piece.ensures c.in-Ok.ensures.cases.1 in
-    let read = subst (λ text. Reads text media) text c.in-Ok-from_str.ensures.read in
-    let kept = subst (λ text. Reads text media) (sym (accepted_stays (trim_start piece) (media, read))) read in
-    chooses_offer _ piece media (utf8, kept) c.take.ensures.offer
+pub returns-clause-piece : goal.returns-clause-piece
+returns-clause-piece c = trimmed_chosen c.take_entry.result _ c.args.piece.now _ _ _ c.trim_start-entry.ensures c.take_entry.ensures.entry
 
-pub returns-in_ok-take_rejected-in-Err-clause-piece : goal.returns-in_ok-take_rejected-in-Err-clause-piece
-returns-in_ok-take_rejected-in-Err-clause-piece c =
-    chooses_trimmed _ c.args.piece.now c.in-Ok.text.now (c.in-Ok.ensures.cases.0 ∙ c.trim_start-piece.ensures)
-    c.in_ok-take_rejected-in-Err.ensures.entry
+pub returns-clause-blank : goal.returns-clause-blank
+returns-clause-blank c = λ white.
+    absurd (some_left _ _ c.is_empty.ensures c.if-is_empty.false (c.trim_start-entry.ensures ∙ trimmed_from_blank c.args.piece.now white))

@@ -1,7 +1,7 @@
 -- So far all is white space.
 use Rattle.std.proofs.Common.{◌≡◌, drop}
 use Rattle.mime_http.specs.HttpList.{trim_start}
-use Rattle.mime_http.proofs.list.trim_start.Given as goal
+use Rattle.mime_http.proofs.list.trim_spaces.Given as goal
 
 abbrev pub invariant-loop-at : goal.invariant-loop-at
 invariant-loop-at l = trim_start (drop l.at l.piece) ≡ trim_start l.piece

@@ -1,0 +1,47 @@
+-- Before a comma that is the first mark, or to the end.
+use Rattle.std.proofs.Common.{arith, ◌≡◌, ◌∙◌, ◌+◌, ◌-◌, ◌<◌, ◌≤◌, ◌∷◌, sym, ap, subst, length, take, drop, get_or}
+use Rattle.std.proofs.lemmas.Bool.Decides.{nat_tests}
+use Rattle.std.proofs.lemmas.List.{length-drop, take_rest}
+use Rattle.mime_http.specs.Walk.{AreUnmarked, cut, cut_after}
+use Rattle.mime_http.proofs.Pieces.{unmarked_from, piece_from, piece_of_len}
+use Rattle.mime_http.proofs.list.piece_end.Goals as goal
+use Rattle.mime_http.proofs.list.piece_end.Goals.{else-mark-line-via-then-mark-line+else-line-mark-eq34, else-mark-line-via-else-mark-line}
+
+pub quoted_piece_len-requires-clause-within : goal.quoted_piece_len-requires-clause-within
+quoted_piece_len-requires-clause-within c =
+    let line = c.args.line.now in
+    let from = c.args.from in
+    subst (λ rest. c.next_mark-mark.result - from ≤ length rest) (sym (take_rest line from))
+    (omega (arith, length-drop from line, c.if-mark-line.true))
+
+pub quoted_piece_len-requires-clause-unmarked : goal.quoted_piece_len-requires-clause-unmarked
+quoted_piece_len-requires-clause-unmarked c =
+    let line = c.args.line.now in
+    let mark = c.next_mark-mark in
+    subst (λ rest. AreUnmarked 44 34 rest 0 (mark.result - c.args.from)) (sym (take_rest line c.args.from))
+    (unmarked_from line c.args.from mark.result mark.ensures.least mark.ensures.unmarked)
+
+pub returns-then-line-mark-eq34-clause-within : goal.returns-then-line-mark-eq34-clause-within
+returns-then-line-mark-eq34-clause-within c =
+    let line = c.args.line.now in
+    omega (arith, c.quoted_piece_len.ensures.within, ap length (take_rest line c.args.from), length-drop c.args.from line, c.requires)
+
+pub returns-then-line-mark-eq34-clause-piece : goal.returns-then-line-mark-eq34-clause-piece
+returns-then-line-mark-eq34-clause-piece c =
+    let line = c.args.line.now in
+    let from = c.args.from in
+    let n = c.quoted_piece_len.result in
+    piece_of_len line from n
+    (subst (λ rest. cut rest ≡ take n rest ∷ cut_after (drop n rest)) (take_rest line from) c.quoted_piece_len.ensures.piece)
+
+pub returns-clause-piece : goal.returns-clause-piece
+returns-clause-piece c =
+    let line = c.args.line.now in
+    let mark = c.next_mark-mark.result in
+    let comma : mark < length line → get_or line mark 0 ≡ 44 = λ within.
+    elim c.else-mark-line.branch [
+      | else-mark-line-via-then-mark-line+else-line-mark-eq34 w ↦ grind
+          (arith, nat_tests, c.next_mark-mark.ensures.mark within, w.if-line-mark-eq34.false)
+      | else-mark-line-via-else-mark-line w ↦ absurd (omega (arith, w.if-mark-line.false, within))
+    ] in
+    piece_from line c.args.from mark c.next_mark-mark.ensures.least c.next_mark-mark.ensures.within c.next_mark-mark.ensures.unmarked comma
