@@ -394,7 +394,7 @@ static void check_order(const char *text, size_t len)
 static int has_texts(void)
 {
     static const char *const words[] = {"no error", "between the type", "a subtype was", "sign (=) was", "a value was", "a quote",
-                                        "invalid token", "memory", "UTF-8", "buffer", "acceptable", "an offer isn't", "no boundary",
+                                        "invalid token", "memory", "UTF-8", "buffer", "acceptable", "an offer isn't", "no valid boundary",
                                         "the name", "unknown"};
     for (uint32_t one = 0; one < sizeof words / sizeof *words; one++)
         for (uint32_t other = 0; other < sizeof words / sizeof *words; other++)
