@@ -1,20 +1,23 @@
 -- The pairs cut from the text of a well-formed parameter list are its pairs, and lowercasing them lowercases the list.
-use Rattle.std.proofs.Common.{◌≡◌, ℕ, suc, ◌+◌, ◌-◌, Bool, true, false, List, [], ◌∷◌, ◌++◌, length, drop, refl, sym, ap, ◌∙◌, subst, arith, append-nil, append_assoc, length-append, take, slice_range, length-drop}
+use Rattle.std.proofs.Common.{◌≡◌, ℕ, zero, suc, ◌+◌, ◌-◌, ◌<◌, ◌≤◌, slice_get, Some, Bool, true, false, cond, List, [], ◌∷◌, ◌++◌, length, drop, refl, sym, ap, ◌∙◌, subst, arith, append-nil, append_assoc, length-append, take, slice_range, length-drop}
 use Rattle.std.specs.Prelude.{◌==◌}
 use Rattle.std.specs.List.{list_all, prefix_len}
 use Rattle.std.specs.Char.{to_ascii_lowercase}
-use Rattle.std.proofs.lemmas.Bool.{and_parts, cond-true, cond-false}
+use Rattle.std.proofs.lemmas.Bool.{and_parts, cond-true, cond-false, cond_both}
 use Rattle.std.proofs.lemmas.Bool.Decides.{nat_tests}
-use Rattle.std.proofs.lemmas.List.{take_at, drop_at, drop-drop, drop_all}
+use Rattle.std.proofs.lemmas.List.{take_at, drop_at, drop-drop, drop_all, take-append-drop, take_rest, length-take-le}
+use Rattle.std.proofs.Math.Seq.{take-add}
+use Rattle.std.proofs.lemmas.Option.{slice_get_within}
 use Rattle.mime.specs.Bytes.{is_token_byte, semicolon_byte, equals_byte, quote_byte}
 use Rattle.mime.specs.Grammar.{Parameter, plain, quoted, Parameters, blank, final, more, text_of_list, text_of_parameter, is_space, AreSpaces, AreTokenBytes, IsToken, IsContent, AreParameters, IsParameter}
 use Rattle.mime.specs.Values.{lowered, lowered_value, lowered_parameter, lowered_list, pair_of, pairs_of_list, is_charset}
 use Rattle.mime.specs.Inner.Quoted.{content_len, content_of, after_content}
-use Rattle.mime.specs.Inner.Blocks.{before_byte, after_byte}
+use Rattle.mime.specs.Inner.Blocks.{IsSuffixOf, before_byte, after_byte}
+use Rattle.mime.specs.Inner.KeptText.{with_pairs_lowered}
 use Rattle.mime.specs.Inner.Pairs.{PairCut, cut_after_equals, leading_spaces, without_spaces, cut_of, pairs_within, lowered_within, lowered_first}
-use Rattle.mime.proofs.ValueLemmas.Pairs.{content_len-content, lowered_within-first, LiesIn, cut_of-lies, first_lowered, lowered_first-joined}
+use Rattle.mime.proofs.ValueLemmas.Pairs.{content_len-content, lowered_within-first, LiesIn, cut_of-lies, cut_of-within, first_lowered, lowered_first-joined}
 use Rattle.mime.proofs.BytesLemmas.{semicolon_is_no_token, equals_is_no_token, quote_is_no_token, token_byte-not, token_byte-not_space, is_other, are_other-token, are_other, AreTokenBytes-from_token}
-use Rattle.mime.proofs.LowercaseLemmas.{lowered-append, length-lowered}
+use Rattle.mime.proofs.LowercaseLemmas.{lowered-append, lowered-lowered, length-lowered}
 use borrow.Rule.Slice.PartMut.{put_mid}
 
 -- what may follow a run: nothing, or the byte and the rest
@@ -224,29 +227,80 @@ lowered_range-middle from to bytes prefix middle back e at end =
     ∙ drop_at (prefix ++ middle) back to (omega (arith, length-append prefix middle)) in
     cc
 
--- the head of a list lowercased, and the rest as it is
-lowered_range-before_value : (list : List ℕ) (lies : LiesIn list (cut_of list))
-    → lowered_range 0 (cut_of list).value_start list ≡ lowered lies.prefix ++ ((cut_of list).value ++ (lies.middle ++ (cut_of list).rest))
-lowered_range-before_value list lies = lowered_range-middle 0 _ list [] lies.prefix _ lies.parts refl (omega (arith, lies.value_start))
+-- a range of which the start is lowercased already
+lowered_range-again : (from to : ℕ) (bytes prefix again next back : List ℕ) → bytes ≡ lowered (prefix ++ again) ++ (next ++ back)
+    → length prefix ≡ from → from + (length again + length next) ≡ to
+    → lowered_range from to bytes ≡ lowered ((prefix ++ again) ++ next) ++ back
+lowered_range-again from to bytes prefix again next back so_far at end =
+    lowered_range-middle from to bytes (lowered prefix) (lowered again ++ next) back
+    (so_far ∙ rw (lowered-append prefix again) (simp append_assoc))
+    (length-lowered prefix ∙ at)
+    (omega (arith, end, length-append (lowered again) next, length-lowered again))
+    ∙ rw (lowered-append (lowered again) next, lowered-lowered again, lowered-append (prefix ++ again) next, lowered-append prefix again)
+    (simp append_assoc)
 
--- under another name than `charset` the head alone is lowercased
-pub lowered_first-plain : (list : List ℕ) → is_charset (cut_of list).name ≡ false
-    → lowered_range 0 (cut_of list).value_start list ≡ lowered_first list
-lowered_first-plain list other =
-    let lies = cut_of-lies list in
-    let as_is : lowered_value (cut_of list).name (cut_of list).value ≡ (cut_of list).value = rw other refl in
-    lowered_range-before_value list lies ∙ sym (lowered_first-joined list lies ∙ rw as_is (simp append_assoc))
+-- the bytes before a position are lowercased, and then a range that begins there, or earlier
+pub lowered_start-more : (bytes text : List ℕ) (done from to : ℕ) → bytes ≡ lowered (take done text) ++ drop done text
+    → from ≤ done → done ≤ to → to ≤ length text → lowered_range from to bytes ≡ lowered (take to text) ++ drop to text
+lowered_start-more bytes text done from to so_far before after within =
+    let prefix = take from text in
+    let again = take (done - from) (drop from text) in
+    let next = take (to - done) (drop done text) in
+    let taken : take done text ≡ prefix ++ again = ap (λ n. take n text) (omega arith) ∙ take-add from (done - from) text in
+    let left : drop done text ≡ next ++ drop to text =
+    sym (take-append-drop (to - done) (drop done text))
+    ∙ ap (λ x. next ++ x) (drop-drop (to - done) done text ∙ ap (λ n. drop n text) (omega arith)) in
+    let whole : take to text ≡ take done text ++ next = ap (λ n. take n text) (omega arith) ∙ take-add done (to - done) text in
+    let at : length prefix ≡ from = length-take-le from text (omega arith) in
+    let size : length (take done text) ≡ done = length-take-le done text (omega arith) in
+    let total : length (take to text) ≡ to = length-take-le to text within in
+    let end : from + (length again + length next) ≡ to =
+    omega (arith, at, size, total, ap length taken, ap length whole, length-append prefix again, length-append (take done text) next) in
+    lowered_range-again from to bytes prefix again next (drop to text) (so_far ∙ (λ i. lowered (taken i) ++ left i)) at end
+    ∙ ap (λ x. lowered x ++ drop to text) (sym (whole ∙ ap (λ x. x ++ next) taken))
 
--- under `charset` the value is lowercased too
-pub lowered_first-charset : (list : List ℕ) → is_charset (cut_of list).name ≡ true
-    → lowered_range (cut_of list).value_start ((cut_of list).value_start + length (cut_of list).value) (lowered_range 0 (cut_of list).value_start list)
-    ≡ lowered_first list
-lowered_first-charset list charset =
-    let lies = cut_of-lies list in
-    let lowercase : lowered_value (cut_of list).name (cut_of list).value ≡ lowered (cut_of list).value = rw charset refl in
-    lowered_range-middle _ _ _ (lowered lies.prefix) _ (lies.middle ++ (cut_of list).rest) (lowered_range-before_value list lies)
-    (length-lowered lies.prefix ∙ sym lies.value_start) refl
-    ∙ sym (lowered_first-joined list lies ∙ rw lowercase (simp append_assoc))
+-- what is lowercased up to a position of a list that ends a text
+pub lowered_start-end : (text list : List ℕ) (at k : ℕ) → list ≡ drop at text
+    → lowered (take (at + k) text) ++ drop (at + k) text ≡ lowered (take at text) ++ (lowered (take k list) ++ drop k list)
+lowered_start-end text list at k end =
+    rw (end, take-add at k text, ← drop-drop k at text, lowered-append (take at text) (take k (drop at text))) (simp append_assoc)
+
+-- a list is lowercased up to where its first part ends
+lowered_part : (list prefix back : List ℕ) (k : ℕ) → list ≡ prefix ++ back → length prefix ≡ k
+    → lowered (take k list) ++ drop k list ≡ lowered prefix ++ back
+lowered_part list prefix back k parts size =
+    let before : take k list ≡ prefix = ap (take k) parts ∙ take_at prefix back k size in
+    let after : drop k list ≡ back = ap (drop k) parts ∙ drop_at prefix back k size in
+    cc
+
+-- a first value ends within a list, and so within the bytes that the list ends
+pub low_within : (bytes list value : List ℕ) (start low : ℕ) (charset : Bool) → IsSuffixOf list bytes → start ≡ (cut_of list).value_start
+    → value ≡ (cut_of list).value → low ≡ cond charset (length value) 0 → length bytes - length list + (start + low) ≤ length bytes
+low_within bytes list value start low charset end starts values is =
+    let size : length list ≡ length bytes - (length bytes - length list) =
+    ap length end ∙ length-drop (length bytes - length list) bytes in
+    let short : low ≤ length value = rw is (cond_both charset (length value) 0 (λ n. n ≤ length value) (λ _. omega arith) (λ _. omega arith)) in
+    omega (arith, starts, size, short, ap length values, cut_of-within list)
+
+-- a list is lowercased up to its first value, and with it under `charset`
+pub lowered_first-start : (list : List ℕ) (low : ℕ) → low ≡ cond (is_charset (cut_of list).name) (length (cut_of list).value) 0
+    → let k = (cut_of list).value_start + low in lowered (take k list) ++ drop k list ≡ lowered_first list
+lowered_first-start list low is = go (cut_of-lies list) (is_charset (cut_of list).name) refl low is
+  where
+    go : LiesIn list (cut_of list) → (charset : Bool) → is_charset (cut_of list).name ≡ charset → (low : ℕ)
+        → low ≡ cond charset (length (cut_of list).value) 0
+        → let k = (cut_of list).value_start + low in lowered (take k list) ++ drop k list ≡ lowered_first list
+    go lies true named low is =
+        let cut = cut_of list in
+        let lowercase : lowered_value cut.name cut.value ≡ lowered cut.value = rw named refl in
+        lowered_part list (lies.prefix ++ cut.value) (lies.middle ++ cut.rest) _ (lies.parts ∙ simp append_assoc)
+        (omega (arith, is, lies.value_start, length-append lies.prefix cut.value))
+        ∙ rw (lowered-append lies.prefix cut.value) (sym (lowered_first-joined list lies ∙ rw lowercase (simp append_assoc)))
+    go lies false other low is =
+        let cut = cut_of list in
+        let as_is : lowered_value cut.name cut.value ≡ cut.value = rw other refl in
+        lowered_part list lies.prefix (cut.value ++ (lies.middle ++ cut.rest)) _ lies.parts (omega (arith, is, lies.value_start))
+        ∙ sym (lowered_first-joined list lies ∙ rw as_is (simp append_assoc))
 
 -- the bytes are those that are done and the list that is left; with `count` pairs of the list lowercased they are the whole
 pub record IsLoweredTo (bytes left : List ℕ) (count : ℕ) (whole : List ℕ) : Type 0 where
@@ -285,3 +339,49 @@ pub lowered_to-all : (bytes left : List ℕ) (count : ℕ) (whole : List ℕ) �
     → bytes ≡ whole
 lowered_to-all bytes left count whole so_far none =
     so_far.parts ∙ ap (λ n. so_far.done ++ lowered_within n left) (sym none) ∙ so_far.comes
+
+-- the first pair is lowercased, and all before the list
+pub lowered_to-first : (bytes old text list rest : List ℕ) (semicolon count : ℕ) → old ≡ text → slice_get text semicolon ≡ Some semicolon_byte
+    → list ≡ drop (semicolon + 1) text → bytes ≡ lowered (take (length old - length list) old) ++ lowered_first list
+    → rest ≡ (cut_of list).rest → 0 < count → IsLoweredTo bytes rest (count - 1) (with_pairs_lowered count semicolon text)
+lowered_to-first bytes old text list rest semicolon zero same parted end lowers rests some = absurd (omega (arith, some))
+lowered_to-first bytes old text list rest semicolon (suc count) same parted end lowers rests some =
+    let lies = cut_of-lies list in
+    let within : semicolon < length text = slice_get_within text semicolon semicolon_byte parted in
+    let at : length old - length list ≡ semicolon + 1 = omega (arith, ap length same, ap length end, length-drop (semicolon + 1) text, within) in
+    let before : take (length old - length list) old ≡ take (semicolon + 1) text = (λ i. take (at i) (same i)) in
+    let next : suc count - 1 ≡ count = omega arith in
+    record {
+      done = lowered (take (semicolon + 1) text) ++ first_lowered list lies;
+      parts = lowers ∙ rw (before, lowered_first-joined list lies, rests) (simp append_assoc);
+      comes =
+          append_assoc (lowered (take (semicolon + 1) text)) (first_lowered list lies) (lowered_within (suc count - 1) rest)
+          ∙ ap (λ x. lowered (take (semicolon + 1) text) ++ x)
+          ((λ i. first_lowered list lies ++ lowered_within (next i) (rests i)) ∙ sym (lowered_within-first count list lies) ∙ ap (lowered_within (suc count)) end);
+    }
+
+-- the list that is left ends the bytes
+pub left_ends : (bytes left : List ℕ) (count : ℕ) (whole : List ℕ) → IsLoweredTo bytes left count whole
+    → let at = length bytes - length left in (length left ≤ length bytes) × (take (length bytes - at) (drop at bytes) ≡ left)
+left_ends bytes left count whole so_far =
+    let at = length bytes - length left in
+    let sizes : length bytes ≡ length so_far.done + length left = ap length so_far.parts ∙ length-append so_far.done left in
+    (omega (arith, sizes), take_rest bytes at ∙ ap (drop at) so_far.parts ∙ drop_at so_far.done left at (omega (arith, sizes)))
+
+-- with its pairs lowercased all is done
+pub lowered_to-whole : (bytes left part : List ℕ) (count : ℕ) (whole : List ℕ) → IsLoweredTo bytes left count whole
+    → part ≡ lowered_within count left → let at = length bytes - length left in put_mid at (length bytes - at) bytes part ≡ whole
+lowered_to-whole bytes left part count whole so_far lowers =
+    let at = length bytes - length left in
+    let size : length so_far.done ≡ at = omega (arith, ap length so_far.parts, length-append so_far.done left) in
+    let prefix : take at bytes ≡ so_far.done = ap (take at) so_far.parts ∙ take_at so_far.done left at size in
+    let back : drop (length bytes - at) (drop at bytes) ≡ [] =
+    drop_all (length bytes - at) (drop at bytes) (omega (arith, length-drop at bytes)) in
+    rw (prefix, back, lowers) (simp append-nil) ∙ so_far.comes
+
+-- the bytes of a list alone have nothing before it
+pub nothing_before : (bytes part list back : List ℕ) → part ≡ list → bytes ≡ lowered (take (length part - length list) part) ++ back
+    → bytes ≡ back
+nothing_before bytes part list back same lowers =
+    let none : length part - length list ≡ 0 = omega (arith, ap length same) in
+    lowers ∙ ap (λ n. lowered (take n part) ++ back) none

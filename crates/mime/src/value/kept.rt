@@ -1,13 +1,14 @@
 //! The kept text of an accepted string that isn't short, in one allocation.
 
-ghost use Rattle.std.specs.Prelude.{◌≡◌, ◌+◌, ◌++◌, ◌≤◌, ◌↔◌, IsFalse, IfOk, take, drop, length, slice_get, slice_range, string_bytes};
+ghost use Rattle.std.specs.Prelude.{◌≡◌, ◌+◌, ◌-◌, ◌++◌, ◌<◌, if◌then◌else◌, ◌≤◌, ◌↔◌, IsFalse, IfOk, take, drop, length, slice_get, slice_range, string_bytes};
 ghost use Rattle.mime.specs.Bytes.{semicolon_byte};
 ghost use Rattle.mime.specs.Values.{lowered, is_charset};
+ghost use Rattle.mime.specs.Inner.Blocks.{IsSuffixOf};
 ghost use Rattle.mime.specs.Inner.Pairs.{cut_of, lowered_first, lowered_within};
 ghost use Rattle.mime.specs.Inner.Scanning.{HasPositions};
 ghost use Rattle.mime.specs.Inner.KeptText.{with_pairs_lowered, kept_positions, kept_text_of};
 
-use crate::blocks::Suffix;
+use crate::blocks::{BLOCK, Suffix};
 use crate::ignoring_case::eq_ignore_ascii_case;
 use crate::name::constants::CHARSET;
 use crate::scan::Positions;
@@ -45,19 +46,44 @@ fn lowercase_range(bytes: &mut [u8], from: usize, to: usize)
     bytes[from..to].make_ascii_lowercase();
 }
 
-/// Lowercases the first pair's name, and its value if the name is `charset`. Returns the list after the pair. `bytes`
-/// is a copy of the list's bytes.
-#[inline]
+/// Lowercases the first `len` bytes, block by block. The last block may begin within the one before it.
+#[inline(always)]
+fn lowercase_start(bytes: &mut [u8], len: usize)
+    requires { len ≤ length bytes.old }
+    ensures { bytes.new ≡ lowered (take len bytes.old) ++ drop len bytes.old }
+{
+    if len < BLOCK {
+        lowercase_range(bytes, 0, len);
+        return;
+    }
+    let mut done = 0;
+    while len - done > BLOCK {
+        lowercase_range(bytes, done, done + BLOCK);
+        done += BLOCK;
+    }
+    lowercase_range(bytes, len - BLOCK, len);
+}
+
+/// How many bytes of a value ignore case: all if its name is `charset`, else none.
+#[inline(always)]
+fn low_len(name: &str, value: &str) -> usize
+    ensures { result ≡ if is_charset name.now then length value.now else 0 }
+{
+    if names_charset(name) { value.len() } else { 0 }
+}
+
+/// Lowercases all before a list's first value, and the value too if its name is `charset`. Returns the list after the
+/// pair. `bytes` is a copy of a text that ends with the list.
+#[inline(always)]
 fn lowercase_first<'a>(bytes: &mut [u8], list: &Suffix<'a>) -> Suffix<'a>
-    requires { bytes.old ≡ list.now }
-    ensures lowered { bytes.new ≡ lowered_first list.now }
+    requires { IsSuffixOf list.now bytes.old }
+    ensures lowered { bytes.new ≡ lowered (take (length bytes.old - length list.now) bytes.old) ++ lowered_first list.now }
     ensures rest { result ≡ (cut_of list.now).rest }
 {
     let pair = cut(list);
-    lowercase_range(bytes, 0, pair.value_start);
-    if names_charset(pair.name) {
-        lowercase_range(bytes, pair.value_start, pair.value_start + pair.value.len());
-    }
+    let start = bytes.len() - list.text().len();
+    let low = low_len(pair.name, pair.value);
+    lowercase_start(bytes, start + (pair.value_start + low));
     pair.rest
 }
 
@@ -76,16 +102,17 @@ fn lowercase_pairs(bytes: &mut [u8], list: Suffix<'_>, count: usize)
 }
 
 /// Lowercases, in a string with `count` pairs, everything up to the semicolon, the names, and the values of `charset`.
-/// `bytes` is a copy of the string's bytes.
-#[inline]
+/// `bytes` is a copy of the string's bytes. It isn't inlined: most strings have no capital.
+#[inline(never)]
 pub(crate) fn lowercase_text(bytes: &mut [u8], text: &str, semicolon: usize, count: usize)
     requires same { bytes.old ≡ text.now }
     requires parted { slice_get text.now semicolon ≡ Some semicolon_byte }
+    requires some { 0 < count }
     ensures { bytes.new ≡ with_pairs_lowered count semicolon text.now }
 {
-    let start = semicolon + 1;
-    lowercase_range(bytes, 0, start);
-    lowercase_pairs(&mut bytes[start..], Suffix::of(text, start), count);
+    let rest = lowercase_first(bytes, &Suffix::of(text, semicolon + 1));
+    let from = bytes.len() - rest.text().len();
+    lowercase_pairs(&mut bytes[from..], rest, count - 1);
 }
 
 /// The kept text of a string with `count` pairs: only what ignores case is lowercased.
@@ -96,7 +123,8 @@ fn keep_pairs(
     semicolon: usize,
     count: usize,
 ) -> Result<String, AllocError>
-    requires { slice_get text.now semicolon ≡ Some semicolon_byte }
+    requires parted { slice_get text.now semicolon ≡ Some semicolon_byte }
+    requires some { 0 < count }
     ensures { IfOk result (λ kept. string_bytes kept ≡ with_pairs_lowered count semicolon text.now) }
 {
     if !has_capital(text.as_bytes()) {

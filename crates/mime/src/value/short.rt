@@ -1,6 +1,6 @@
 //! A short kept text, which lies in the value itself: making, cloning and dropping it asks for no memory.
 
-ghost use Rattle.std.specs.Prelude.{◌≡◌, ◌≤◌, Some, IsUtf8, length, take, slice_get};
+ghost use Rattle.std.specs.Prelude.{◌≡◌, ◌<◌, ◌≤◌, Some, IsUtf8, length, take, slice_get};
 ghost use Rattle.mime.specs.Bytes.{semicolon_byte};
 ghost use Rattle.mime.specs.Values.{lowered};
 ghost use Rattle.mime.specs.Inner.Scanning.{HasPositions};
@@ -49,6 +49,7 @@ fn padded(text: &str) -> [u8; BLOCK]
 fn pairs_kept(text: &str, semicolon: usize, count: usize) -> [u8; BLOCK]
     requires short { length text.now ≤ SHORT }
     requires parted { slice_get text.now semicolon ≡ Some semicolon_byte }
+    requires some { 0 < count }
     ensures { take (length text.now) result ≡ with_pairs_lowered count semicolon text.now }
 {
     let mut bytes = padded(text);
@@ -120,6 +121,7 @@ impl ShortText {
     fn with_pairs(text: &str, semicolon: usize, count: usize) -> ShortText
         requires short { length text.now ≤ SHORT }
         requires parted { slice_get text.now semicolon ≡ Some semicolon_byte }
+        requires some { 0 < count }
         ensures { result ≡ with_pairs_lowered count semicolon text.now }
     {
         ShortText::of(&pairs_kept(text, semicolon, count), text.len())

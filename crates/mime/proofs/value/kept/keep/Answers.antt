@@ -2,5 +2,5 @@
 use Rattle.mime.proofs.ValueLemmas.KeptText.{slice_get-semicolon}
 use Rattle.mime.proofs.value.kept.keep.Goals as goal
 
-pub keep_pairs-requires : goal.keep_pairs-requires
-keep_pairs-requires c = slice_get-semicolon _ c.args.positions _ c.requires c.in-Some.is
+pub keep_pairs-requires-clause-parted : goal.keep_pairs-requires-clause-parted
+keep_pairs-requires-clause-parted c = slice_get-semicolon _ c.args.positions _ c.requires c.in-Some.is

@@ -1,31 +1,31 @@
--- The first pair lies within its list: before its value all is lowercased, then perhaps the value.
-use Rattle.std.proofs.Common.{length, ap, sym, ◌∙◌, arith}
-use Rattle.mime.specs.Values.{is_charset}
-use Rattle.mime.proofs.ValueLemmas.Pairs.{cut_of-within}
-use Rattle.mime.proofs.ValueLemmas.ListText.{lowered_first-plain, lowered_first-charset}
+-- What is lowercased of a list ends within it, and the list ends the bytes.
+use Rattle.std.proofs.Common.{length, take, ◌-◌, ◌++◌, refl, ap, ◌∙◌, arith}
+use Rattle.mime.specs.Values.{lowered}
+use Rattle.mime.proofs.ValueLemmas.ListText.{lowered_start-end, lowered_first-start, low_within}
 use Rattle.mime.proofs.value.kept.lowercase_first.Goals as goal
 
-pub lowercase_range-requires-clause-within : goal.lowercase_range-requires-clause-within
-lowercase_range-requires-clause-within c = omega (arith, cut_of-within c.args.list.now, ap length c.requires)
-
 pub overflow_add-pair : goal.overflow_add-pair
-overflow_add-pair c = omega (arith, ap length c.requires, cut_of-within c.args.list.now, ap length c.cut-pair.ensures.value)
-
-pub lowercase_range-requires-then-names_charset-clause-within : goal.lowercase_range-requires-then-names_charset-clause-within
-lowercase_range-requires-then-names_charset-clause-within c =
-    omega (arith, cut_of-within c.args.list.now, ap length c.cut-pair.ensures.value, ap length c.requires)
-
-pub returns-then-names_charset-clause-lowered : goal.returns-then-names_charset-clause-lowered
-returns-then-names_charset-clause-lowered c =
+overflow_add-pair c =
     let cut = c.cut-pair.ensures in
-    let charset = c.names_charset.ensures ∙ ap is_charset cut.name in
-    c.lowercase_range-then-names_charset.ensures
-    ∙ rw (c.lowercase_range.ensures, c.requires, cut.value_start, cut.value)
-    (lowered_first-charset c.args.list.now (sym charset ∙ c.if-names_charset.true))
+    omega (arith, low_within c.args.bytes.now _ _ _ _ _ c.requires cut.value_start cut.value c.low_len-low.ensures)
 
-pub returns-else-names_charset-clause-lowered : goal.returns-else-names_charset-clause-lowered
-returns-else-names_charset-clause-lowered c =
+pub overflow_add-start : goal.overflow_add-start
+overflow_add-start c =
     let cut = c.cut-pair.ensures in
-    let charset = c.names_charset.ensures ∙ ap is_charset cut.name in
-    c.lowercase_range.ensures
-    ∙ rw (c.requires, cut.value_start) (lowered_first-plain c.args.list.now (sym charset ∙ c.if-names_charset.false))
+    omega (arith, low_within c.args.bytes.now _ _ _ _ _ c.requires cut.value_start cut.value c.low_len-low.ensures, ap length c.text.ensures)
+
+pub lowercase_start-requires : goal.lowercase_start-requires
+lowercase_start-requires c =
+    let cut = c.cut-pair.ensures in
+    rw c.text.ensures (low_within c.args.bytes.now _ _ _ _ _ c.requires cut.value_start cut.value c.low_len-low.ensures)
+
+pub returns-clause-lowered : goal.returns-clause-lowered
+returns-clause-lowered c =
+    let bytes = c.args.bytes.now in
+    let list = c.args.list.now in
+    let cut = c.cut-pair.ensures in
+    c.lowercase_start.ensures
+    ∙ rw (c.text.ensures, cut.value_start)
+    (lowered_start-end bytes list _ _ c.requires
+    ∙ ap (λ x. lowered (take (length bytes - length list) bytes) ++ x)
+    (lowered_first-start list c.low_len-low.result (c.low_len-low.ensures ∙ rw (cut.name, cut.value) refl)))
