@@ -1,9 +1,9 @@
 -- Worked facts of the pages `HttpMediaType`, `HttpFaults` and `Tight`: a value that is read, values that aren't media types, their faults,
 -- and tightened values.
-use Rattle.mime_http.proofs.Common.{◌≡◌, ◌∙◌, ◌==◌, ◌&&◌, refl, sym, ap, subst, arith, ℕ, List, length, true, false, list_all, not, false≢true, is_space, MediaType, listed, final, quoted, [], ◌∷◌, ◌++◌, None, codes, is_token_byte, is_quoted_byte, IsAccepted, MissingSubtype, MissingValue, InvalidToken, in_subtype, accepted-from_complete, viable-from_walk, dead-from_walk, not_viable-at_dead, stopped-from_walk, rejected-from_walk, IsContent-taken, tight, with_string, no_more, semicolon, semicolon_and, HttpReads, IsHttpMediaType, IsHttpViable, IsHttpFault}
+use Rattle.mime_http.proofs.Common.{◌≡◌, ◌∙◌, ◌==◌, ◌&&◌, refl, sym, ap, subst, arith, ℕ, List, length, true, false, list_all, not, Bool, false≢true, is_space, MediaType, listed, final, quoted, [], ◌∷◌, ◌++◌, None, codes, is_token_byte, is_quoted_byte, IsAccepted, MissingSubtype, MissingValue, InvalidToken, in_subtype, accepted-from_complete, viable-from_walk, dead-from_walk, not_viable-at_dead, stopped-from_walk, rejected-from_walk, IsContent-taken, tight, with_string, no_more, semicolon, semicolon_and, HttpReads, IsHttpMediaType, IsHttpViable, IsHttpFault}
 use Rattle.std.proofs.Math.Bool.{and-false}
 use Rattle.std.proofs.lemmas.List.{append_assoc}
-use Rattle.mime_http.specs.Tight.{Tightens, ReadsTight, IsSpare, first, white, another, FaultIsSpare}
+use Rattle.mime_http.specs.Tight.{Tightens, ReadsTight, first, white, another, FaultIsSpare}
 use Rattle.mime_http.proofs.Tightened.{tight_is}
 use Rattle.mime_http.proofs.HttpFaults.{longest_at, same_last}
 use Rattle.mime_http.proofs.HttpForth.{http_is_tight}
@@ -165,24 +165,17 @@ not_within media reads = stopped-from_walk (tight (codes "te xt/html")) refl (ac
 
 -- ---- spare bytes
 
--- the library's fault of `a ;` is the space before a semicolon,
-spare : FaultIsSpare (codes "a ;")
+-- the library's fault of ` a` is the first byte, that of `a ;` the space before a semicolon, and that of `a/b;;` the second semicolon
+at_start : FaultIsSpare (codes " a")
+at_start = first 32 (codes "a") refl
+
+before_semicolon : FaultIsSpare (codes "a ;")
 unfolding is_token_byte
-spare = record {
-  front = codes "a";
-  byte = 32;
-  rest = codes ";";
-  spelled = refl;
-  is_spare = white (codes "a") [] [] 32 refl refl;
-  is_fault = dead-from_walk (codes "a") (codes ";") 32 _ refl refl;
-}
+before_semicolon = white (codes "a") [] [] 32 refl refl (dead-from_walk (codes "a") (codes ";") 32 _ refl refl)
 
--- that of ` a` is the first byte, and that of `a/b;;` the second semicolon
-first_is_spare : IsSpare [] (codes " a")
-first_is_spare = first 32 (codes "a") refl
-
-another_is_spare : IsSpare (codes "a/b;") (codes ";")
-another_is_spare = another (codes "a/b") [] 59 refl
+second_semicolon : FaultIsSpare (codes "a/b;;")
+unfolding is_token_byte
+second_semicolon = another (codes "a/b") [] 59 refl (dead-from_walk (codes "a/b;") [] 59 _ refl refl)
 
 -- a value with no semicolon has none but at its start
 has_semicolon : (xs ys : List ℕ) → list_all (λ b. not (b == 59)) (xs ++ (59 ∷ ys)) ≡ false
@@ -190,11 +183,14 @@ has_semicolon [] ys = refl
 has_semicolon (b ∷ xs) ys = ap (λ t. not (b == 59) && t) (has_semicolon xs ys) ∙ and-false (not (b == 59))
 
 not_spare : ¬ (FaultIsSpare (codes "a b"))
-not_spare is = go is.is_spare is.spelled
+not_spare is = go is refl
   where
-    go : {front rest : List ℕ} → IsSpare front rest → front ++ rest ≡ codes "a b" → ⊥
+    free : List ℕ → Bool
+    free = list_all (λ b. not (b == 59))
+
+    go : {value : List ℕ} → FaultIsSpare value → value ≡ codes "a b" → ⊥
     go (first b rest space) e = let same : b ≡ 97 = cc in false≢true (subst (λ x. is_space x ≡ true) same space)
-    go (white front spaces rest b space all) e =
-        let whole : (front ++ (b ∷ spaces)) ++ (59 ∷ rest) ≡ codes "a b" = append_assoc front (b ∷ spaces) (59 ∷ rest) ∙ e in
-        false≢true (sym (has_semicolon (front ++ (b ∷ spaces)) rest) ∙ ap (list_all (λ b. not (b == 59))) whole)
-    go (another front rest b space) e = false≢true (sym (has_semicolon (front ++ (b ∷ [])) rest) ∙ ap (list_all (λ b. not (b == 59))) e)
+    go (white front spaces rest b space all fault) e =
+        false≢true (sym (has_semicolon (front ++ (b ∷ spaces)) rest) ∙ ap free (append_assoc front (b ∷ spaces) (59 ∷ rest) ∙ e))
+    go (another front rest b space fault) e =
+        false≢true (sym (has_semicolon (front ++ (b ∷ [])) rest) ∙ ap free (append_assoc front (b ∷ []) (59 ∷ rest) ∙ e))

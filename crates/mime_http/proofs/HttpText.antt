@@ -1,5 +1,5 @@
 -- Tightening leaves bytes in UTF-8 exactly if they are.
-use Rattle.mime_http.proofs.Common.{◌≡◌, ◌∙◌, ◌==◌, ◌<◌, ◌≤◌, refl, sym, ap, subst, arith, ℕ, zero, suc, true, false, List, [], ◌∷◌, ◌++◌, length, ⊎_elim, length-append, ⊤, nat_le, nat_lt, ◌&&◌, ◌↔◌, list_all, and_parts, cond_both, cases_lt, nat_tests, IsUtf8-nil, IsUtf8-append, IsUtf8-encode, IsUtf8-from_ascii, encode_ascii, cons_from_encodes, length-encode, len_utf8_bounds, high_bytes, is_space, Place, Start, Plain, Spaced, place_after, is_left_out, brought_back, added, tight_from, tight}
+use Rattle.mime_http.proofs.Common.{◌≡◌, ◌∙◌, ◌==◌, ◌<◌, ◌≤◌, refl, sym, ap, subst, arith, ℕ, zero, suc, true, List, [], ◌∷◌, ◌++◌, length, ⊎_elim, length-append, ⊤, nat_le, nat_lt, ◌&&◌, ◌↔◌, list_all, and_parts, cond_both, cases_lt, nat_tests, IsUtf8-nil, IsUtf8-append, IsUtf8-encode, IsUtf8-from_ascii, encode_ascii, cons_from_encodes, length-encode, len_utf8_bounds, high_bytes, Place, Start, Plain, Spaced, place_after, is_left_out, brought_back, added, tight_from, tight}
 use Rattle.std.specs.Prelude.{IsUtf8}
 use Rattle.std.proofs.lemmas.List.{append_assoc}
 use Rattle.std.proofs.lemmas.Str.Ascii.{IsAscii-cons, IsAscii-nil}

@@ -50,7 +50,7 @@ string_out list is rest = ap (λ x. 61 ∷ x) (quoted_out is rest)
 string_out (other tests after_token) is rest = ap (λ x. 61 ∷ x) (quoted_out is rest)
 string_out (other tests after_equals) is rest = ap (λ x. 61 ∷ x) (quoted_out is rest)
 
--- and so does another byte
+-- and so does another byte,
 byte_out : {last : ℕ} {place : Place} → Last last place → (b : ℕ) → is_space b ≡ false → (b == 59) ≡ false → (b == 34) ≡ false
     → (rest : List ℕ) → tight_from place (b ∷ rest) ≡ b ∷ tight_from (if b == 61 then Equals else Plain) rest
 byte_out nothing b not_white not_semicolon not_quote rest = rw (not_white, not_semicolon, not_quote) refl
@@ -59,13 +59,13 @@ byte_out list b not_white not_semicolon not_quote rest = rw (not_white, not_semi
 byte_out (other tests after_token) b not_white not_semicolon not_quote rest = rw (not_white, not_semicolon, not_quote) refl
 byte_out (other tests after_equals) b not_white not_semicolon not_quote rest = rw (not_white, not_semicolon, not_quote) refl
 
--- which leads to one of two places
+-- which has no role of its own,
 pub other_byte : (b : ℕ) → is_space b ≡ false → (b == 59) ≡ false → (b == 34) ≡ false → IsOther b
 other_byte b not_white not_semicolon not_quote = record { quote = not_quote; semicolon = not_semicolon; space = grind (arith, nat_tests) }
 
+-- and leads to one of two places
 byte_last : (b : ℕ) → IsOther b → Last b (if b == 61 then Equals else Plain)
-byte_last b is =
-    cond_both (b == 61) _ _ (Last b) (λ e. other is after_equals) (λ e. other is after_token)
+byte_last b is = cond_both (b == 61) _ _ (Last b) (λ e. other is after_equals) (λ e. other is after_token)
 
 -- So what is left of bytes comes out of them.
 tight_out : {last : ℕ} {place : Place} → Last last place → {bytes text : List ℕ} → Tightens last bytes text → tight_from place bytes ≡ text

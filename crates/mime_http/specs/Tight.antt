@@ -1,7 +1,7 @@
 -- A header's value tightened: without what HTTP allows there and the library rejects, which is white space around the value and before
 -- semicolons, and empty parameters (RFC 9110, 8.3.1 and 5.6.6). White space after a quoted value or a semicolon stays, and so does one
 -- semicolon at the end. What is read of the tightened value is kept, and printed.
-use Rattle.std.specs.Prelude.{◌≡◌, ℕ, List, [], ◌∷◌, ◌++◌, ◌==◌, ◌||◌, length, if◌then◌else◌, IsTrue, IsFalse}
+use Rattle.std.specs.Prelude.{ℕ, ◌+◌, List, [], ◌∷◌, ◌++◌, ◌==◌, ◌||◌, length, if◌then◌else◌, IsTrue, IsFalse}
 use Rattle.mime.specs.Bytes.{semicolon_byte, equals_byte, quote_byte, space_byte}
 use Rattle.mime.specs.Grammar.{is_space, AreSpaces, IsContent}
 use Rattle.mime.specs.Values.{MediaType, Reads}
@@ -33,18 +33,13 @@ pub data Tightens : ℕ → List ℕ → List ℕ → Type 0 where
 abbrev pub ReadsTight : List ℕ → MediaType → Type 0
 ReadsTight value media = (text : List ℕ) × Tightens space_byte value text × Reads text media
 
--- After the bytes `front` the first of the rest might be left out: white space at the start or before a semicolon, or a semicolon after
--- another or white space.
-pub data IsSpare : List ℕ → List ℕ → Type 0 where
-  first : (b : ℕ) (rest : List ℕ) → IsTrue (is_space b) → IsSpare [] (b ∷ rest)
-  white : (front white rest : List ℕ) (b : ℕ) → IsTrue (is_space b) → AreSpaces white → IsSpare front (b ∷ (white ++ (semicolon_byte ∷ rest)))
-  another : (front rest : List ℕ) (b : ℕ) → IsTrue (b == semicolon_byte || is_space b) → IsSpare (front ++ (b ∷ [])) (semicolon_byte ∷ rest)
-
--- the library finds fault with such a byte; only then may rejecting the value need memory
-pub record FaultIsSpare (value : List ℕ) : Type 0 where
-  pub front : List ℕ
-  pub byte : ℕ
-  pub rest : List ℕ
-  pub spelled : front ++ (byte ∷ rest) ≡ value
-  pub is_spare : IsSpare front (byte ∷ rest)
-  pub is_fault : IsFault value (InvalidToken (length front) byte)
+-- The library finds fault with a byte that might be left out: white space at the start or before a semicolon, or a semicolon after another
+-- or after white space. Only then may rejecting the value need memory.
+pub data FaultIsSpare : List ℕ → Type 0 where
+  first : (b : ℕ) (rest : List ℕ) → IsTrue (is_space b) → FaultIsSpare (b ∷ rest)
+  white : (front white rest : List ℕ) (b : ℕ) → IsTrue (is_space b) → AreSpaces white
+      → IsFault (front ++ (b ∷ (white ++ (semicolon_byte ∷ rest)))) (InvalidToken (length front) b)
+      → FaultIsSpare (front ++ (b ∷ (white ++ (semicolon_byte ∷ rest))))
+  another : (front rest : List ℕ) (b : ℕ) → IsTrue (b == semicolon_byte || is_space b)
+      → IsFault (front ++ (b ∷ semicolon_byte ∷ rest)) (InvalidToken (length front + 1) semicolon_byte)
+      → FaultIsSpare (front ++ (b ∷ semicolon_byte ∷ rest))
