@@ -6,10 +6,10 @@ use Rattle.std.specs.declared.cmp.Ordering.{Ordering}
 use Rattle.std.specs.declared.cmp.Ordering.TheVariants.{Less, Equal, Greater}
 use Rattle.std.specs.Cmp.{IsTotalOrder}
 use Rattle.std.proofs.lemmas.Bool.{true≢false}
-use Rattle.std.proofs.lemmas.Cmp.{ranked, upto, tied_itself}
+use Rattle.std.proofs.lemmas.Cmp.{ranked}
 use Rattle.mime_http.specs.Ranges.{Rank, rank_cmp}
 use Rattle.mime_http.specs.RangesLaws.{IsAtMost}
-use Rattle.mime_http.proofs.Highest.{least}
+use Rattle.mime_http.proofs.Highest.{least_item}
 
 -- an item of a longer list, and of a mapped one
 pub in_more : {X : Type 0} (y : X) (xs : List X) (x : X) → Contains xs x → Contains (y ∷ xs) x
@@ -43,18 +43,13 @@ module _ {K : Type 0} {R : K → K → Ordering} (total : IsTotalOrder R) where
       (λ there. inr (in_more x xs _ there))
       (highest_is_there (ord_max R m x) xs)
 
-  no_less_by : (m x : K) (r : Ordering) → R x m ≡ r → is_gt (R x (if is_lt r then m else x)) ≡ false
-  no_less_by m x Less is = ap is_gt is
-  no_less_by m x Equal is = ap is_gt (tied_itself total x)
-  no_less_by m x Greater is = ap is_gt (tied_itself total x)
-
   -- no item is higher
   pub none_is_higher : (one : (x y : K) → R x y ≡ Equal → x ≡ y) (m : K) (xs : List K) (x : K) → Contains xs x
       → is_gt (R x (fold (ord_max R) m xs)) ≡ false
   none_is_higher one m [] x (k, within, is) = absurd (omega (arith, within))
   none_is_higher one m (y ∷ xs) x (zero, within, is) =
       subst (λ z. is_gt (R z (fold (ord_max R) (ord_max R m y) xs)) ≡ false) is
-      (upto total y (ord_max R m y) _ (no_less_by m y (R y m) refl) (least total one (ord_max R m y) xs))
+      (least_item total one m y xs)
   none_is_higher one m (y ∷ xs) x (suc k, within, is) = none_is_higher one (ord_max R m y) xs x (k, omega (arith, within), is)
 
 -- two numbers are less, the same or more

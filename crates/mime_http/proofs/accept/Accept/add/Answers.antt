@@ -3,7 +3,6 @@ use Rattle.std.proofs.Common.{rules, arith, ◌≡◌, ◌∙◌, ◌==◌, ℕ,
 use Rattle.std.specs.Prelude.{Result, OnOk}
 use Rattle.std.specs.Str.{IsUtf8}
 use Rattle.std.specs.Vec.{vec_items}
-use Rattle.std.proofs.lemmas.Bool.{true≢false, eq-eqb}
 use Rattle.std.proofs.lemmas.Grind.{common_steps}
 use Rattle.std.proofs.lemmas.List.{nil_from_length}
 use Rattle.mime.specs.Grammar.{AreSpaces}
@@ -12,14 +11,10 @@ use Rattle.mime_http.specs.HttpList.{Header, trim_start, trim_end}
 use Rattle.mime_http.specs.Walk.{Adds}
 use Rattle.mime_http.proofs.Adds.{pushed, add_nothing, add_range, add_bad, add_trimmed}
 use Rattle.mime_http.proofs.Places.{accepted_stays}
-use Rattle.mime_http.proofs.Trims.{trimmed_from_blank, trim_twice}
+use Rattle.mime_http.proofs.Trims.{some_left, trimmed_from_blank, trim_twice}
 use Rattle.mime_http.proofs.accept.Accept.add.Goals as goal
 
--- if bytes aren't empty there are some
-some_left : (trimmed : List ℕ) (empty : Bool) → empty ≡ (length trimmed == 0) → empty ≡ false → ¬ (trimmed ≡ [])
-some_left trimmed empty tells some none = true≢false (sym (tells ∙ eq-eqb (length trimmed) 0 (ap length none)) ∙ some)
-
--- so a piece of which some are left isn't white space
+-- a piece of which some bytes are left isn't white space
 never_blank : (piece trimmed : List ℕ) (empty : Bool) → trimmed ≡ trim_start piece → empty ≡ (length trimmed == 0) → empty ≡ false
     → ¬ (AreSpaces piece)
 never_blank piece trimmed empty is tells some white = some_left trimmed empty tells some (is ∙ trimmed_from_blank piece white)
