@@ -3,7 +3,7 @@ use Rattle.std.proofs.Common.{◌≡◌, ◌∙◌, ◌<◌, ◌⊎◌, inl, inr
 use Rattle.std.specs.Prelude.{fold, if◌then◌else◌, Contains}
 use Rattle.std.specs.Ordering.{is_lt, is_gt, ord_max, nat_cmp, ordering_then, MatchOrdering}
 use Rattle.std.specs.declared.cmp.Ordering.{Ordering}
-use Rattle.std.specs.declared.cmp.Ordering.TheVariants.{Less, Equal, Greater}
+use Rattle.std.specs.declared.cmp.Ordering.TheVariants.{Less, Equal}
 use Rattle.std.specs.Cmp.{IsTotalOrder}
 use Rattle.std.proofs.lemmas.Bool.{true≢false}
 use Rattle.std.proofs.lemmas.Cmp.{ranked}
@@ -62,14 +62,11 @@ at_most_by : (x y : Rank) (a b c d : Ordering) → MatchOrdering a (x.0 < y.0) (
     → MatchOrdering d (x.3 < y.3) (x.3 ≡ y.3) (y.3 < x.3)
     → is_gt (ordering_then (ordering_then (ordering_then a b) c) d) ≡ false → IsAtMost x y
 at_most_by x y Less b c d first second third fourth low = inl first
-at_most_by x y Greater b c d first second third fourth low = absurd (true≢false low)
 at_most_by x y Equal Less c d first second third fourth low = inr (first, inl second)
-at_most_by x y Equal Greater c d first second third fourth low = absurd (true≢false low)
 at_most_by x y Equal Equal Less d first second third fourth low = inr (first, inr (second, inl third))
-at_most_by x y Equal Equal Greater d first second third fourth low = absurd (true≢false low)
 at_most_by x y Equal Equal Equal Less first second third fourth low = inr (first, inr (second, inr (third, omega (arith, fourth))))
 at_most_by x y Equal Equal Equal Equal first second third fourth low = inr (first, inr (second, inr (third, omega (arith, fourth))))
-at_most_by x y Equal Equal Equal Greater first second third fourth low = absurd (true≢false low)
+at_most_by x y a b c d first second third fourth low = absurd (true≢false low)
 
 -- a rank that isn't above another is at most as high
 pub at_most : (x y : Rank) → is_gt (rank_cmp x y) ≡ false → IsAtMost x y
