@@ -18,7 +18,7 @@ use Rattle.mime_http.proofs.Tightened.{no_longer}
 use Rattle.mime_c.specs.Strings.{strings, ComeBack, pair_texts}
 use Rattle.mime_c.specs.ParameterAnswers.{room_with, with_parameter}
 use Rattle.mime_c.proofs.NoZero.{come_back, no_zero-read}
-use Rattle.mime_c.proofs.Room.{lengths_of}
+use Rattle.mime_c.proofs.Room.{some-token, lengths_of}
 
 -- ---- a parameter
 
@@ -47,10 +47,6 @@ length-escaped (b ∷ bytes) = omega (arith, one b, length-escaped bytes, length
 
 -- ---- parameters of which each has a name
 
-some_name : (name : List ℕ) → IsToken name → 0 < length name
-some_name [] is = absurd is
-some_name (b ∷ name) is = omega arith
-
 length-strings_of_pair : (name value : List ℕ) (pairs : List (List ℕ × List ℕ))
     → length (strings (pair_texts ((name, value) ∷ pairs))) ≡ length name + length value + 2 + length (strings (pair_texts pairs))
 length-strings_of_pair name value pairs = omega (arith, length-append {A = ℕ})
@@ -62,7 +58,7 @@ kept_pairs test [] are = omega arith
 kept_pairs test ((name, value) ∷ pairs) (is, are) =
     let more = kept_pairs test pairs are in
     let size = length-strings_of_pair name value pairs in
-    let some = some_name name is.0 in
+    let some = some-token name is.0 in
     by_test (test (name, value)) (name, value) (filter test pairs) (omega (arith, more, size))
     (omega (arith, more, size, some, length-pair name value, length-append (text_of_pair (name, value)) (text_of_pairs (filter test pairs))))
   where

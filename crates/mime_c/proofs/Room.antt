@@ -69,7 +69,7 @@ length-kept zero (Some semicolon) text = omega (arith, length-lowered (take semi
 length-kept (suc pairs) (Some semicolon) text = omega (arith, length-in_part _ _ (kept-in_part (suc pairs) semicolon text))
 
 -- which has a type, a slash and a subtype
-some-token : (token : List ℕ) → IsToken token → 0 < length token
+pub some-token : (token : List ℕ) → IsToken token → 0 < length token
 some-token [] is = absurd is
 some-token (b ∷ token) is = omega arith
 

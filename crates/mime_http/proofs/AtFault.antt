@@ -1,5 +1,5 @@
 -- A byte at fault in a value, and the bytes before it: the place there, and what is left of the value from there on.
-use Rattle.mime_http.proofs.Common.{◌≡◌, ◌∙◌, refl, sym, ap, subst, arith, ℕ, suc, ◌+◌, ◌-◌, ◌<◌, ◌≤◌, Bool, true, false, List, [], ◌∷◌, ◌++◌, length, take, drop, get_or, Option, Some, None, length-append, length-drop, take-length, take-suc, drop-append_seam, slice_get, if◌then◌else◌, option_and_then, and_parts, drop-drop, length-take-le, take-append-drop, slice_get_within, get_or_from_slice_get, is_space, AreSpaces, IsViable, IsDeadAt, awaits_after, InvalidToken, Begun, in_type, in_subtype, in_list, ListState, in_spaces, in_name, in_value, in_quotes, after_quotes, grow, walk, walk_from, walk_by-append_some, viable-from_walk, walk-from_viable, Place, Start, Spaced, place_after, added, tight_from, tight, IsHttpMediaType, IsHttpViable, IsHttpLongestPrefix, IsHttpDeadAt, Stands, trim_start}
+use Rattle.mime_http.proofs.Common.{◌≡◌, ◌∙◌, refl, sym, ap, subst, arith, ℕ, suc, ◌+◌, ◌-◌, ◌<◌, ◌≤◌, Bool, true, false, List, [], ◌∷◌, ◌++◌, length, take, drop, get_or, Option, Some, None, length-append, length-drop, take-length, take-suc, drop-append_seam, slice_get, if◌then◌else◌, option_and_then, and_parts, drop-drop, length-take-le, take-append-drop, slice_get_within, get_or_from_slice_get, is_space, AreSpaces, IsViable, IsDeadAt, awaits_after, InvalidToken, Begun, in_type, in_list, ListState, in_value, in_quotes, grow, walk, walk_from, walk_by-append_some, viable-from_walk, walk-from_viable, Place, Start, Spaced, place_after, added, tight_from, tight, IsHttpMediaType, IsHttpViable, IsHttpLongestPrefix, IsHttpDeadAt, Stands, trim_start}
 use Rattle.std.proofs.lemmas.List.{append-nil}
 use Rattle.mime_http.specs.declared.tight.Place.TheVariants.{Quoted, Paired}
 use Rattle.mime_http.proofs.Highest.{item_left}
@@ -56,23 +56,19 @@ so_far {before} fault = comes_out_whole (walked (in_type []) before fault.begun 
 
 -- no white space was left out in a list,
 settled_in_list : (position : ListState) → IsSettled (place_in_list position)
-settled_in_list (in_spaces n) = tt
-settled_in_list (in_name n name) = tt
-settled_in_list (in_value n name []) = tt
-settled_in_list (in_value n name (v ∷ value)) = tt
 settled_in_list (in_quotes n name content) = go (awaits_after false content)
   where
     go : (awaiting : Bool) → IsSettled (if awaiting then Paired else Quoted)
     go true = tt
     go false = tt
-settled_in_list (after_quotes n name content m) = tt
+settled_in_list (in_value n name (v ∷ value)) = tt
+settled_in_list position = tt
 
 -- nor elsewhere that the library walks,
 pub walk_is_settled : (begun : Begun) → IsSettled (place_at begun)
-walk_is_settled (in_type []) = tt
-walk_is_settled (in_type (t ∷ top)) = tt
-walk_is_settled (in_subtype top sub) = tt
 walk_is_settled (in_list top sub list) = settled_in_list list.position
+walk_is_settled (in_type (t ∷ top)) = tt
+walk_is_settled begun = tt
 
 -- nor before a fault
 pub at_rest : {before : List ℕ} {b : ℕ} → Fault before b → IsSettled (place_from Start before)

@@ -2,12 +2,12 @@
 use Rattle.std.proofs.Common.{◌≡◌, ◌≢◌, ◌∙◌, ◌+◌, ◌==◌, refl, sym, ap, subst, arith, ⊎_elim, ℕ, Bool, true, false, List, [], ◌∷◌, ◌++◌, length, map, Option, Some, None, length-append}
 use Rattle.std.specs.Prelude.{Result, Ok, Err, OnOk, fold, position, if◌then◌else◌}
 use Rattle.std.specs.List.{position_from}
-use Rattle.std.specs.Ordering.{is_lt, is_eq, is_gt, ord_max, eq_by_cmp}
+use Rattle.std.specs.Ordering.{is_eq, is_gt, ord_max, eq_by_cmp}
 use Rattle.std.specs.declared.cmp.Ordering.{Ordering}
-use Rattle.std.specs.declared.cmp.Ordering.TheVariants.{Less, Equal, Greater}
+use Rattle.std.specs.declared.cmp.Ordering.TheVariants.{Equal}
 use Rattle.std.specs.Cmp.{IsTotalOrder}
 use Rattle.std.proofs.lemmas.Bool.{cases_Bool, true≢false, ne_eqb, eq-eqb}
-use Rattle.std.proofs.lemmas.Cmp.{upto, tied_itself}
+use Rattle.std.proofs.lemmas.Cmp.{tied_itself}
 use Rattle.std.proofs.lemmas.List.{map-append, length-map}
 use Rattle.std.proofs.lemmas.List.Sums.{fold_push}
 use Rattle.std.proofs.lemmas.Iterator.Adapters.{position_from-zero}
@@ -20,22 +20,12 @@ use Rattle.mime_http.specs.Ranges.{Rank, rank_cmp, merit, best_offer}
 use Rattle.mime_http.specs.Chosen.{lowest, IsChosen, ChoosesOn}
 use Rattle.mime_http.specs.declared.listed.Chosen.{Chosen}
 use Rattle.mime_http.proofs.Adds.{add_nothing, add_range, add_bad, add_trimmed}
-use Rattle.mime_http.proofs.Highest.{raised_by, stays_by, same_by}
+use Rattle.mime_http.proofs.Highest.{least_item, raised_by, stays_by, same_by}
 use Rattle.mime_http.proofs.Picked.{highest, best_is_position}
 use Rattle.mime_http.proofs.Ranks.{ranks_total, one_rank}
 
 module _ {K : Type 0} {R : K → K → Ordering} (total : IsTotalOrder R) (one : (x y : K) → R x y ≡ Equal → x ≡ y) where
-  -- an item is no more than the higher of it and another,
-  item_by : (m x : K) (r : Ordering) → R x m ≡ r → is_gt (R x (if is_lt r then m else x)) ≡ false
-  item_by m x Less is = ap is_gt is
-  item_by m x Equal is = ap is_gt (tied_itself total x)
-  item_by m x Greater is = ap is_gt (tied_itself total x)
-
-  -- which is no more than the highest of all,
-  least : (m : K) (xs : List K) → is_gt (R m (fold (ord_max R) m xs)) ≡ false
-  least = Rattle.mime_http.proofs.Highest.least total one
-
-  -- so one above the highest is the first of its rank
+  -- one above the highest is the first of its rank
   first_place : (x m : K) (xs : List K) (at : ℕ) → is_gt (R x (fold (ord_max R) m xs)) ≡ true
       → position_from (λ y. eq_by_cmp R y x) at (xs ++ (x ∷ [])) ≡ Some (at + length xs)
   first_place x m [] at above =
@@ -43,7 +33,7 @@ module _ {K : Type 0} {R : K → K → Ordering} (total : IsTotalOrder R) (one :
       rw yes (ap Some (omega arith))
   first_place x m (y ∷ xs) at above =
       let higher = ord_max R m y in
-      let low = upto total y higher (fold (ord_max R) higher xs) (item_by m y (R y m) refl) (least higher xs) in
+      let low = least_item total one m y xs in
       let no : eq_by_cmp R y x ≡ false = ⊎_elim
       (λ yes. absurd (true≢false (sym above ∙ subst (λ z. is_gt (R z (fold (ord_max R) higher xs)) ≡ false)
       (same_by total one y x (R y x) refl yes) low)))

@@ -3,13 +3,13 @@ use Rattle.std.proofs.Common.{◌≡◌, ◌∙◌, ◌<◌, ◌⊎◌, inl, inr
 use Rattle.std.specs.Prelude.{fold, if◌then◌else◌, Contains}
 use Rattle.std.specs.Ordering.{is_lt, is_gt, ord_max, nat_cmp, ordering_then, MatchOrdering}
 use Rattle.std.specs.declared.cmp.Ordering.{Ordering}
-use Rattle.std.specs.declared.cmp.Ordering.TheVariants.{Less, Equal, Greater}
+use Rattle.std.specs.declared.cmp.Ordering.TheVariants.{Less, Equal}
 use Rattle.std.specs.Cmp.{IsTotalOrder}
 use Rattle.std.proofs.lemmas.Bool.{true≢false}
-use Rattle.std.proofs.lemmas.Cmp.{ranked, upto, tied_itself}
+use Rattle.std.proofs.lemmas.Cmp.{ranked}
 use Rattle.mime_http.specs.Ranges.{Rank, rank_cmp}
 use Rattle.mime_http.specs.RangesLaws.{IsAtMost}
-use Rattle.mime_http.proofs.Highest.{least}
+use Rattle.mime_http.proofs.Highest.{least_item}
 
 -- an item of a longer list, and of a mapped one
 pub in_more : {X : Type 0} (y : X) (xs : List X) (x : X) → Contains xs x → Contains (y ∷ xs) x
@@ -43,18 +43,13 @@ module _ {K : Type 0} {R : K → K → Ordering} (total : IsTotalOrder R) where
       (λ there. inr (in_more x xs _ there))
       (highest_is_there (ord_max R m x) xs)
 
-  no_less_by : (m x : K) (r : Ordering) → R x m ≡ r → is_gt (R x (if is_lt r then m else x)) ≡ false
-  no_less_by m x Less is = ap is_gt is
-  no_less_by m x Equal is = ap is_gt (tied_itself total x)
-  no_less_by m x Greater is = ap is_gt (tied_itself total x)
-
   -- no item is higher
   pub none_is_higher : (one : (x y : K) → R x y ≡ Equal → x ≡ y) (m : K) (xs : List K) (x : K) → Contains xs x
       → is_gt (R x (fold (ord_max R) m xs)) ≡ false
   none_is_higher one m [] x (k, within, is) = absurd (omega (arith, within))
   none_is_higher one m (y ∷ xs) x (zero, within, is) =
       subst (λ z. is_gt (R z (fold (ord_max R) (ord_max R m y) xs)) ≡ false) is
-      (upto total y (ord_max R m y) _ (no_less_by m y (R y m) refl) (least total one (ord_max R m y) xs))
+      (least_item total one m y xs)
   none_is_higher one m (y ∷ xs) x (suc k, within, is) = none_is_higher one (ord_max R m y) xs x (k, omega (arith, within), is)
 
 -- two numbers are less, the same or more
@@ -67,14 +62,11 @@ at_most_by : (x y : Rank) (a b c d : Ordering) → MatchOrdering a (x.0 < y.0) (
     → MatchOrdering d (x.3 < y.3) (x.3 ≡ y.3) (y.3 < x.3)
     → is_gt (ordering_then (ordering_then (ordering_then a b) c) d) ≡ false → IsAtMost x y
 at_most_by x y Less b c d first second third fourth low = inl first
-at_most_by x y Greater b c d first second third fourth low = absurd (true≢false low)
 at_most_by x y Equal Less c d first second third fourth low = inr (first, inl second)
-at_most_by x y Equal Greater c d first second third fourth low = absurd (true≢false low)
 at_most_by x y Equal Equal Less d first second third fourth low = inr (first, inr (second, inl third))
-at_most_by x y Equal Equal Greater d first second third fourth low = absurd (true≢false low)
 at_most_by x y Equal Equal Equal Less first second third fourth low = inr (first, inr (second, inr (third, omega (arith, fourth))))
 at_most_by x y Equal Equal Equal Equal first second third fourth low = inr (first, inr (second, inr (third, omega (arith, fourth))))
-at_most_by x y Equal Equal Equal Greater first second third fourth low = absurd (true≢false low)
+at_most_by x y a b c d first second third fourth low = absurd (true≢false low)
 
 -- a rank that isn't above another is at most as high
 pub at_most : (x y : Rank) → is_gt (rank_cmp x y) ≡ false → IsAtMost x y

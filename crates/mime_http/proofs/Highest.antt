@@ -36,10 +36,17 @@ module _ {K : Type 0} {R : K → K → Ordering} (total : IsTotalOrder R) (one :
   least m (x ∷ xs) =
       upto total m (ord_max R m x) (fold (ord_max R) (ord_max R m x) xs) (least_by m x (R x m) refl) (least (ord_max R m x) xs)
 
+  item_by : (m x : K) (r : Ordering) → R x m ≡ r → is_gt (R x (if is_lt r then m else x)) ≡ false
+  item_by m x Less is = ap is_gt is
+  item_by m x r is = ap is_gt (tied_itself total x)
+
+  -- nor than its first item
+  pub least_item : (m x : K) (xs : List K) → is_gt (R x (fold (ord_max R) (ord_max R m x) xs)) ≡ false
+  least_item m x xs = upto total x (ord_max R m x) _ (item_by m x (R x m) refl) (least (ord_max R m x) xs)
+
   pub raised_by : (m x : K) (r : Ordering) → is_gt r ≡ true → (if is_lt r then m else x) ≡ x
   raised_by m x Less is = absurd (true≢false (sym is))
-  raised_by m x Equal is = refl
-  raised_by m x Greater is = refl
+  raised_by m x r is = refl
 
   pub stays_by : (m x : K) (r : Ordering) → R x m ≡ r → is_gt r ≡ false → (if is_lt r then m else x) ≡ m
   stays_by m x Less is low = refl

@@ -7,7 +7,7 @@ use Rattle.mime_http.specs.Tight.{Tightens, ReadsTight, first, white, another, F
 use Rattle.mime_http.proofs.Tightened.{tight_is}
 use Rattle.mime_http.proofs.HttpFaults.{longest_at, same_last}
 use Rattle.mime_http.proofs.HttpForth.{http_is_tight}
-use Rattle.mime_http.proofs.HttpLaws.{accepted_from_http, tight_is_http}
+use Rattle.mime_http.proofs.HttpLaws.{accepted_from_http, one_tight_reading, tight_is_http}
 use Rattle.mime_http.proofs.HttpViability.{http_from_accepted, viable_from_tight, tight_from_viable, viable_from_accepted, accepted_from_spaced}
 
 -- ` text/HTML ;; charset="UTF-8" `
@@ -138,6 +138,16 @@ kept = (
     valued = refl;
   },
 )
+
+-- and not without its parameter
+kept_whole : ¬ (ReadsTight (codes " text/HTML ;; charset=\"UTF-8\" ") (record {
+  essence = codes "text/html";
+  slash = 4;
+  plus = None;
+  pairs = (codes "charset", codes "utf-8") ∷ [];
+  kept = codes "text/html";
+}))
+kept_whole reads = omega (arith, ap (λ (media : MediaType). length media.kept) (one_tight_reading _ _ _ reads kept))
 
 -- white space at the end doesn't stay after a token,
 not_at_end : ¬ (Tightens 32 (codes "a/b;p=x ") (codes "a/b;p=x "))

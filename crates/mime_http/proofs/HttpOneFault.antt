@@ -1,5 +1,5 @@
 -- A value that is no media type has exactly one fault.
-use Rattle.mime_http.proofs.Common.{◌≡◌, ◌∙◌, refl, sym, ap, subst, arith, ℕ, ◌<◌, List, [], ◌∷◌, ◌++◌, length, inl, inr, ⊎_elim, take-length, slice_get, codes, cases_lt, same_Some, slice_get_within, slice_get-get_or, IsAccepted, EndsIn, Lacks, IsFault, ParseError, MissingSlash, MissingSubtype, MissingEqual, MissingValue, MissingQuote, InvalidToken, accepted_or_rejected, one_fault, Place, Start, Spaced, place_after, tight_from, tight, IsHttpMediaType, IsHttpViable, IsHttpLongestPrefix, HttpLacks, IsHttpFault}
+use Rattle.mime_http.proofs.Common.{◌≡◌, ◌∙◌, refl, sym, ap, subst, arith, ℕ, ◌<◌, List, [], ◌∷◌, ◌++◌, length, inl, inr, ⊎_elim, take-length, slice_get, codes, cases_lt, same_Some, slice_get_within, slice_get-get_or, IsAccepted, EndsIn, Lacks, IsFault, ParseError, MissingSlash, MissingSubtype, MissingEqual, MissingValue, MissingQuote, InvalidToken, NoMemory, accepted_or_rejected, one_fault, Place, Start, Spaced, place_after, tight_from, tight, IsHttpMediaType, IsHttpViable, IsHttpLongestPrefix, HttpLacks, IsHttpFault}
 use Rattle.std.proofs.Common.{append_assoc}
 use Rattle.mime_http.specs.Reached.{start, reach_from, limit_of}
 use Rattle.mime_http.specs.HeaderLaws.{OneHttpFault}
@@ -92,12 +92,9 @@ lacks_tight value fault at_rest = go (completion_comes_out (place_from Start val
 
 -- what a value lacks makes it viable,
 viable_from_lacks : (value : List ℕ) (fault : ParseError) → HttpLacks value fault → IsHttpViable value
-viable_from_lacks value MissingSlash lacks = (_, lacks.0)
-viable_from_lacks value MissingSubtype lacks = (_, lacks.0)
-viable_from_lacks value MissingEqual lacks = (_, lacks.0)
-viable_from_lacks value MissingValue lacks = (_, lacks.0)
-viable_from_lacks value MissingQuote lacks = (_, lacks.0)
-viable_from_lacks value other lacks = absurd lacks.0
+viable_from_lacks value (InvalidToken pos byte) lacks = absurd lacks.0
+viable_from_lacks value NoMemory lacks = absurd lacks.0
+viable_from_lacks value fault lacks = (_, lacks.0)
 
 -- so a rejected one is settled, and lacks the same tightened
 lacks_from_http : (value : List ℕ) (fault : ParseError) → ¬ (IsHttpMediaType value) → HttpLacks value fault → Lacks (tight value) fault

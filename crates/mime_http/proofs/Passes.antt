@@ -34,29 +34,25 @@ passes_to {p} {q} {r} {xs} there passes = subst (λ place. Passes p xs place) th
 abbrev pub IsOutside : At → Type 0
 IsOutside Outside = ⊤
 IsOutside Equals = ⊤
-IsOutside Quoted = ⊥
-IsOutside Paired = ⊥
+IsOutside place = ⊥
 
 -- only a comma ends a piece,
 pub goes_on : (place : At) (b : ℕ) → (b == 44) ≡ false → ends place b ≡ false
 goes_on Outside b is = is
 goes_on Equals b is = is
-goes_on Quoted b is = refl
-goes_on Paired b is = refl
+goes_on place b is = refl
 
 -- and outside strings it does
 pub comma_ends : (place : At) → IsOutside place → ends place 44 ≡ true
 comma_ends Outside is = refl
 comma_ends Equals is = refl
-comma_ends Quoted is = absurd is
-comma_ends Paired is = absurd is
+comma_ends place is = absurd is
 
 -- an equals sign outside strings leads to a place after one
 equals_leads : (place : At) → IsOutside place → after place 61 ≡ Equals
 equals_leads Outside is = refl
 equals_leads Equals is = refl
-equals_leads Quoted is = absurd is
-equals_leads Paired is = absurd is
+equals_leads place is = absurd is
 
 -- the bytes don't open a string after an equals sign
 abbrev begins_quote : List ℕ → Bool
@@ -67,15 +63,13 @@ begins_quote (b ∷ bytes) = b == 34
 abbrev Fits : At → List ℕ → Type 0
 Fits Outside bytes = ⊤
 Fits Equals bytes = begins_quote bytes ≡ false
-Fits Quoted bytes = ⊥
-Fits Paired bytes = ⊥
+Fits place bytes = ⊥
 
 -- they are outside strings
 outside : (place : At) (bytes : List ℕ) → Fits place bytes → IsOutside place
 outside Outside bytes is = tt
 outside Equals bytes is = tt
-outside Quoted bytes is = is
-outside Paired bytes is = is
+outside place bytes is = is
 
 -- a byte that opens no string with the next is no equals sign before a quote
 no_quote : (b : ℕ) (bytes : List ℕ) → (b == 61) ≡ true → opens_string (b ∷ bytes) ≡ false → begins_quote bytes ≡ false
@@ -94,8 +88,7 @@ after_outside_fits b bytes opens = by_equals (b == 61) refl
 after_fits : (place : At) (b : ℕ) (bytes : List ℕ) → opens_string (b ∷ bytes) ≡ false → Fits place (b ∷ bytes) → Fits (after place b) bytes
 after_fits Outside b bytes opens fits = after_outside_fits b bytes opens
 after_fits Equals b bytes opens fits = rw fits (after_outside_fits b bytes opens)
-after_fits Quoted b bytes opens fits = absurd fits
-after_fits Paired b bytes opens fits = absurd fits
+after_fits place b bytes opens fits = absurd fits
 
 -- ---- a piece passes from outside strings to outside strings
 

@@ -5,7 +5,7 @@ use Rattle.std.specs.List.{list_all, cons_option, enumerate_from, position_from}
 use Rattle.std.specs.Option.{option_cmp}
 use Rattle.std.specs.Ordering.{is_lt, is_le, is_eq, is_gt, ord_max, eq_by_cmp}
 use Rattle.std.specs.declared.cmp.Ordering.{Ordering}
-use Rattle.std.specs.declared.cmp.Ordering.TheVariants.{Less, Equal, Greater}
+use Rattle.std.specs.declared.cmp.Ordering.TheVariants.{Equal, Greater}
 use Rattle.std.specs.Cmp.{IsTotalOrder}
 use Rattle.std.specs.Cmp.Lexicographic.{options_total}
 use Rattle.std.proofs.lemmas.Bool.{true≢false, cases_Bool, and_parts, and_from, eqb-true, eq-eqb}
@@ -84,15 +84,13 @@ of_filtered {X} {Y} f (z ∷ xs) y there = by (of_filtered f xs y) (f z) refl th
 
 -- what isn't above is at most as high,
 le_by : (r : Ordering) → is_gt r ≡ false → is_le r ≡ true
-le_by Less low = refl
-le_by Equal low = refl
 le_by Greater low = absurd (true≢false low)
+le_by r low = refl
 
 -- and the other way
 gt_by : (r : Ordering) → is_le r ≡ true → is_gt r ≡ false
-gt_by Less low = refl
-gt_by Equal low = refl
 gt_by Greater low = absurd (true≢false (sym low))
+gt_by r low = refl
 
 module _ {K : Type 0} {R : K → K → Ordering} (total : IsTotalOrder R) (one : (x y : K) → R x y ≡ Equal → x ≡ y) where
   -- two of which neither is above are the same

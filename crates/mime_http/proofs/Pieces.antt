@@ -44,8 +44,7 @@ cut_at_end place line at past =
 after_unmarked : (place : At) → IsOutside place → (b : ℕ) → (b == 34) ≡ false → after place b ≡ after_outside b
 after_unmarked Outside is b quote = refl
 after_unmarked Equals is b quote = rw quote refl
-after_unmarked Quoted is b quote = absurd is
-after_unmarked Paired is b quote = absurd is
+after_unmarked place is b quote = absurd is
 
 -- so a byte leads to a place outside strings
 outside_after : (b : ℕ) → IsOutside (after_outside b)

@@ -36,10 +36,5 @@ one_rank x y same =
 pub gt_of_ranks : (a b c d : Ordering)
     → is_some_and is_gt (partial_ordering_then (partial_ordering_then (partial_ordering_then (Some a) (Some b)) (Some c)) (Some d))
     ≡ is_gt (ordering_then (ordering_then (ordering_then a b) c) d)
-gt_of_ranks Less b c d = refl
-gt_of_ranks Greater b c d = refl
-gt_of_ranks Equal Less c d = refl
-gt_of_ranks Equal Greater c d = refl
-gt_of_ranks Equal Equal Less d = refl
-gt_of_ranks Equal Equal Greater d = refl
 gt_of_ranks Equal Equal Equal d = refl
+gt_of_ranks a b c d = refl

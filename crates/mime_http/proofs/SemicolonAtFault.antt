@@ -1,5 +1,5 @@
 -- A semicolon at fault is left out after another, and else stands; so does each other byte, and what is missing at the end.
-use Rattle.mime_http.proofs.Common.{◌≡◌, ◌∙◌, ◌==◌, ◌≢◌, refl, sym, ap, subst, arith, ℕ, ◌+◌, Bool, true, false, List, [], ◌∷◌, take, Some, None, ⊤, if◌then◌else◌, option_map, true≢false, nat_tests, none-some, slice_get_within, is_quoted_byte, is_space, IsAccepted, IsDeadAt, Lacks, IsFault, takes, awaits_after, ParseError, InvalidToken, ClosedParameters, Begun, in_type, in_subtype, in_list, ListState, in_spaces, in_name, in_value, in_quotes, after_quotes, grow_state, grow, walk, completed_is_rejected, spelled-from_walk, walk-from_viable, viable-from_lacks, Place, Start, Plain, Spaced, Closed, Semicolon, after_space, after_quote, place_after, added, tight, IsHttpMediaType, HttpLacks, is_semicolon_or_space, ends_in_semicolon_or_space, Stands, IsLoose}
+use Rattle.mime_http.proofs.Common.{◌≡◌, ◌∙◌, ◌==◌, ◌≢◌, refl, sym, ap, subst, arith, ℕ, ◌+◌, Bool, true, false, List, [], ◌∷◌, take, Some, None, ⊤, if◌then◌else◌, option_map, true≢false, nat_tests, none-some, slice_get_within, is_quoted_byte, is_space, IsAccepted, IsDeadAt, Lacks, IsFault, takes, awaits_after, ParseError, InvalidToken, ClosedParameters, Begun, in_type, in_subtype, in_list, ListState, in_value, in_quotes, after_quotes, grow_state, grow, walk, completed_is_rejected, spelled-from_walk, walk-from_viable, viable-from_lacks, Place, Start, Plain, Spaced, Closed, Semicolon, after_space, after_quote, place_after, added, tight, IsHttpMediaType, HttpLacks, is_semicolon_or_space, ends_in_semicolon_or_space, Stands, IsLoose}
 use Rattle.mime_http.specs.declared.tight.Place.TheVariants.{Equals, Quoted, Paired}
 use Rattle.mime_http.specs.Places.{after_unquoted}
 use Rattle.mime_http.proofs.Places.{place_from, place_from-append, comes_out_whole}
@@ -34,13 +34,11 @@ semicolon_is_bare before (in_list top sub list) reached some stops = at list.clo
 
     at : (closed : ClosedParameters) (position : ListState) → option_map (in_list top sub) (grow_state closed position 59) ≡ None
         → IsBare (place_in_list position)
-    at closed (in_spaces n) stops = tt
-    at closed (in_name n name) stops = tt
-    at closed (in_value n name []) stops = tt
-    at closed (in_value n name (v ∷ value)) stops = tt
     at closed (in_quotes n name content) stops =
         let goes = in_quotes_goes (awaits_after false content) in absurd (none-some _ (sym (rw goes at stops)))
     at closed (after_quotes n name content m) stops = absurd (none-some _ (sym stops))
+    at closed (in_value n name (v ∷ value)) stops = tt
+    at closed position stops = tt
 
 -- after a separator it is one after a semicolon
 after_space_bare : (place : Place) (b : ℕ) → is_space b ≡ true → IsBare (place_after place b) → place_after place b ≡ Semicolon

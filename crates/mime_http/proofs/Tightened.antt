@@ -44,20 +44,16 @@ quoted_out {content} is rest =
 
 string_out : {last : ℕ} {place : Place} → Last last place → {content : List ℕ} → IsContent content → (rest : List ℕ)
     → tight_from place (61 ∷ 34 ∷ (content ++ (34 ∷ rest))) ≡ 61 ∷ 34 ∷ (content ++ (34 ∷ tight_from Closed rest))
-string_out nothing is rest = ap (λ x. 61 ∷ x) (quoted_out is rest)
-string_out string is rest = ap (λ x. 61 ∷ x) (quoted_out is rest)
-string_out list is rest = ap (λ x. 61 ∷ x) (quoted_out is rest)
 string_out (other tests after_token) is rest = ap (λ x. 61 ∷ x) (quoted_out is rest)
 string_out (other tests after_equals) is rest = ap (λ x. 61 ∷ x) (quoted_out is rest)
+string_out at is rest = ap (λ x. 61 ∷ x) (quoted_out is rest)
 
 -- and so does another byte,
 byte_out : {last : ℕ} {place : Place} → Last last place → (b : ℕ) → is_space b ≡ false → (b == 59) ≡ false → (b == 34) ≡ false
     → (rest : List ℕ) → tight_from place (b ∷ rest) ≡ b ∷ tight_from (if b == 61 then Equals else Plain) rest
-byte_out nothing b not_white not_semicolon not_quote rest = rw (not_white, not_semicolon, not_quote) refl
-byte_out string b not_white not_semicolon not_quote rest = rw (not_white, not_semicolon, not_quote) refl
-byte_out list b not_white not_semicolon not_quote rest = rw (not_white, not_semicolon, not_quote) refl
 byte_out (other tests after_token) b not_white not_semicolon not_quote rest = rw (not_white, not_semicolon, not_quote) refl
 byte_out (other tests after_equals) b not_white not_semicolon not_quote rest = rw (not_white, not_semicolon, not_quote) refl
+byte_out at b not_white not_semicolon not_quote rest = rw (not_white, not_semicolon, not_quote) refl
 
 -- which has no role of its own,
 pub other_byte : (b : ℕ) → is_space b ≡ false → (b == 59) ≡ false → (b == 34) ≡ false → IsOther b

@@ -2,6 +2,8 @@
 use Rattle.mime_http.proofs.Common.{◌≡◌, ◌∙◌, ◌<◌, ◌≤◌, refl, sym, ap, subst, arith, suc, ℕ, Bool, true, false, List, [], ◌∷◌, ◌++◌, ◌+◌, ◌-◌, length, take, get_or, length-append, ◌&&◌, list_all, and_parts, nat_tests, take-suc, is_token_byte, is_space, AreSpaces, IsToken, MediaType, HttpReads, trim_start, trim_end}
 use Rattle.std.proofs.Common.{append-nil, append_assoc}
 use Rattle.std.specs.Str.{IsAscii, IsUtf8}
+use Rattle.std.proofs.lemmas.Bool.{true≢false, eq-eqb}
+use Rattle.std.specs.Prelude.{◌==◌}
 use Rattle.mime_http.proofs.HttpBack.{respelled}
 use Rattle.mime_http.specs.Places.{tight}
 use Rattle.mime_http.proofs.HttpForth.{spaces-append}
@@ -39,6 +41,10 @@ white_is_ascii : (white : List ℕ) → AreSpaces white → AreAscii white
 white_is_ascii [] all = tt
 white_is_ascii (b ∷ white) all =
     let parts = and_parts (is_space b) _ all in (below_128 b parts.0, white_is_ascii white parts.1)
+
+-- Bytes that aren't empty are some.
+pub some_left : (trimmed : List ℕ) (empty : Bool) → empty ≡ (length trimmed == 0) → empty ≡ false → ¬ (trimmed ≡ [])
+some_left trimmed empty tells some none = true≢false (sym (tells ∙ eq-eqb (length trimmed) 0 (ap length none)) ∙ some)
 
 -- A piece is white space exactly if nothing is left of it.
 pub blank_from_trimmed : (piece : List ℕ) → trim_start piece ≡ [] → AreSpaces piece

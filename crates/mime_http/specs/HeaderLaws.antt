@@ -19,6 +19,10 @@ HttpIsRead =
 abbrev pub ReadIsHttp : Type 0
 ReadIsHttp = (value : List ℕ) (media : MediaType) → ReadsTight value media → HttpReads value media
 
+-- A tightened value is read as one media type, kept text and all.
+abbrev pub OneTightReading : Type 0
+OneTightReading = (value : List ℕ) (first second : MediaType) → ReadsTight value first → ReadsTight value second → first ≡ second
+
 -- What the library reads is what HTTP writes there.
 abbrev pub PlainIsHttp : Type 0
 PlainIsHttp = (value : List ℕ) (media : MediaType) → Reads value media → HttpReads value media

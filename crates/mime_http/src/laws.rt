@@ -1,6 +1,6 @@
 //! The laws of the definitions, as calls: a caller that calls one can use its law in its own proof.
 
-ghost use Rattle.mime_http.specs.HeaderLaws.{HttpIsRead, ReadIsHttp, PlainIsHttp, OneHttpReading, OneHttpFault, TightIsUtf8};
+ghost use Rattle.mime_http.specs.HeaderLaws.{HttpIsRead, ReadIsHttp, OneTightReading, PlainIsHttp, OneHttpReading, OneHttpFault, TightIsUtf8};
 ghost use Rattle.mime_http.specs.ListLaws.{OneCut, HttpListsAreRead, ReadAreHttpLists, OneHeader, BadIsAlone};
 ghost use Rattle.mime_http.specs.Written.{WrittenIsMeant};
 ghost use Rattle.mime_http.specs.RangesLaws.{ClosestIsClosest, BestIsFirst, CoversItself, MeaningCounts, StrangerChangesNothing, WeightIsNumber};
@@ -14,6 +14,11 @@ pub fn http_is_read()
 /// What is read of a tightened value is what HTTP writes: not `a /b`, which stays `a /b` (RFC 9110, 8.3.1).
 pub fn read_is_http()
     ensures { ReadIsHttp }
+{}
+
+/// A tightened value is read as one media type, with one kept text: that of ` a/b;p=x;;` is `a/b;p=x;`.
+pub fn one_tight_reading()
+    ensures { OneTightReading }
 {}
 
 /// What the library `mime` reads is what HTTP writes: `a/b; p=x;`.

@@ -1,5 +1,5 @@
 -- The first bytes are ASCII, so what is left of the line is ASCII if what is left after them is.
-use Rattle.std.proofs.Common.{◌≡◌, ◌++◌, ap₂, subst, take, drop, sym, ◌∙◌, take-append-drop}
+use Rattle.std.proofs.Common.{◌≡◌, ◌++◌, ap₂, subst, ◌∙◌, take-append-drop}
 use Rattle.std.specs.Str.{IsAscii}
 use Rattle.std.proofs.lemmas.Str.{IsAscii-append}
 use Rattle.mime_http.proofs.list.is_short_ascii.Goals as goal

@@ -1,17 +1,12 @@
 -- A piece is blank, or it adds what its entry adds.
-use Rattle.std.proofs.Common.{arith, ◌≡◌, ◌∙◌, ◌==◌, ℕ, Bool, false, refl, sym, ap, subst, [], List, length}
+use Rattle.std.proofs.Common.{arith, ◌≡◌, ◌∙◌, refl, sym, subst, []}
 use Rattle.std.specs.Str.{IsAscii}
-use Rattle.std.proofs.lemmas.Bool.{true≢false, eq-eqb}
 use Rattle.std.proofs.lemmas.Grind.{common_steps}
 use Rattle.std.proofs.lemmas.List.{nil_from_length}
 use Rattle.mime_http.specs.HttpList.{trim_start}
 use Rattle.mime_http.proofs.Adds.{add_nothing, trimmed_added}
-use Rattle.mime_http.proofs.Trims.{trimmed_from_blank, trim_twice, ascii_trimmed}
+use Rattle.mime_http.proofs.Trims.{some_left, trimmed_from_blank, trim_twice, ascii_trimmed}
 use Rattle.mime_http.proofs.accept.Accept.add.Goals as goal
-
--- if bytes aren't empty there are some
-some_left : (trimmed : List ℕ) (empty : Bool) → empty ≡ (length trimmed == 0) → empty ≡ false → ¬ (trimmed ≡ [])
-some_left trimmed empty tells some none = true≢false (sym (tells ∙ eq-eqb (length trimmed) 0 (ap length none)) ∙ some)
 
 pub returns-then-is_empty-clause-added : goal.returns-then-is_empty-clause-added
 returns-then-is_empty-clause-added c =

@@ -1,17 +1,12 @@
 -- A piece is blank, or what its entry is.
-use Rattle.std.proofs.Common.{arith, ◌≡◌, ◌∙◌, ◌==◌, ℕ, Bool, false, List, [], length, sym, ap, subst}
+use Rattle.std.proofs.Common.{arith, ◌≡◌, ◌∙◌, [], sym, subst}
 use Rattle.std.specs.Str.{IsAscii}
-use Rattle.std.proofs.lemmas.Bool.{true≢false, eq-eqb}
 use Rattle.std.proofs.lemmas.Grind.{common_steps}
 use Rattle.std.proofs.lemmas.List.{nil_from_length}
 use Rattle.mime_http.specs.HttpList.{trim_start}
 use Rattle.mime_http.proofs.Chosen.{chooses_nothing, trimmed_chosen}
-use Rattle.mime_http.proofs.Trims.{trimmed_from_blank, trim_twice, ascii_trimmed}
+use Rattle.mime_http.proofs.Trims.{some_left, trimmed_from_blank, trim_twice, ascii_trimmed}
 use Rattle.mime_http.proofs.listed.Chosen.take_piece.Goals as goal
-
--- what is left of a piece isn't empty
-some_left : (trimmed : List ℕ) (empty : Bool) → empty ≡ (length trimmed == 0) → empty ≡ false → ¬ (trimmed ≡ [])
-some_left trimmed empty tells some none = true≢false (sym (tells ∙ eq-eqb (length trimmed) 0 (ap length none)) ∙ some)
 
 pub returns-then-is_empty-clause-piece : goal.returns-then-is_empty-clause-piece
 returns-then-is_empty-clause-piece c =
