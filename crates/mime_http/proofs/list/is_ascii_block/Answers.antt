@@ -1,5 +1,5 @@
 -- No bit is set, so no byte is past ASCII.
-use Rattle.std.proofs.Common.{◌≡◌, ◌∙◌, ◌<◌, ◌≤◌, ◌+◌, ◌%◌, ◌^◌, ℕ, List, arith, sym, ap, cond, map, length, get_or, replicate, w8}
+use Rattle.std.proofs.Common.{◌≡◌, ◌∙◌, ◌≤◌, ◌+◌, ◌%◌, ◌^◌, ℕ, List, arith, sym, ap, cond, map, length, replicate, w8}
 use Rattle.std.specs.Prelude.{nat_lt}
 use Rattle.std.specs.Simd.Lanes.{zip2}
 use Rattle.std.proofs.lemmas.Bool.Decides.{nat_tests}

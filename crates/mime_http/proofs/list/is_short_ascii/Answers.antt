@@ -1,5 +1,5 @@
 -- Block by block, and the last block at once.
-use Rattle.std.proofs.Common.{◌≡◌, ◌<◌, ◌≤◌, ◌+◌, ◌-◌, refl, arith, sym, subst, get_or, length, ⊎_elim}
+use Rattle.std.proofs.Common.{◌<◌, ◌≤◌, ◌-◌, refl, arith, sym, subst, length, ⊎_elim}
 use Rattle.std.proofs.lemmas.Bool.{cases_lt}
 use Rattle.std.proofs.lemmas.List.{get_or_past}
 use Rattle.mime_http.proofs.list.is_short_ascii.Goals as goal

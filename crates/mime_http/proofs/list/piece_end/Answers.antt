@@ -1,5 +1,5 @@
 -- Before a comma that is the first mark, or to the end.
-use Rattle.std.proofs.Common.{arith, ◌≡◌, ◌∙◌, ◌+◌, ◌-◌, ◌<◌, ◌≤◌, ◌∷◌, sym, ap, subst, length, take, drop, get_or}
+use Rattle.std.proofs.Common.{arith, ◌≡◌, ◌-◌, ◌<◌, ◌≤◌, ◌∷◌, sym, ap, subst, length, take, drop, get_or}
 use Rattle.std.proofs.lemmas.Bool.Decides.{nat_tests}
 use Rattle.std.proofs.lemmas.List.{length-drop, take_rest}
 use Rattle.mime_http.specs.Walk.{AreUnmarked, cut, cut_after}
