@@ -4,7 +4,7 @@
 //! each, into the caller's buffer. The pages `Strings` and `Answers` of `Rattle.mime_c.specs` say which.
 #![tactic(auto)]
 
-ghost use Rattle.std.specs.Prelude.{◌≡◌, ◌+◌, ◌<◌, ◌≤◌, ◌∷◌, length, IfOk, IfErr, IsOk};
+ghost use Rattle.std.specs.Prelude.{◌≡◌, ◌+◌, ◌<◌, ◌≤◌, ◌∷◌, length, IfOk, IfErr, IsOk, MatchResult};
 ghost use Rattle.std.specs.Str.{IsUtf8};
 ghost use Rattle.mime.specs.Values.{Reads};
 ghost use Rattle.mime.specs.CutLaws.{IsRead};
@@ -23,6 +23,7 @@ mod parameter;
 use mime::{Bad, Mime, MimeIter, ParseError};
 use mime_http::{Accept, FieldError, content_type, weight_of};
 use std::alloc::{AllocError, Global};
+use std::str::Utf8Error;
 
 // The answers of all calls, by the names and numbers of include/mime.h, which says what they mean.
 const MIME_OK: u32 = 0;
@@ -125,13 +126,25 @@ fn found_of_fault(fault: &ParseError) -> MimeFound
     }
 }
 
+/// The string of these bytes, as `str::from_utf8` gives it, in less time for ASCII, which most texts are.
+#[inline(never)]
+fn text_of(bytes: &[u8]) -> Result<&str, Utf8Error>
+    ensures cases { MatchResult result (λ text. (text.now ≡ bytes.now) × IsUtf8 bytes.now) (λ error. ¬ (IsUtf8 bytes.now)) }
+{
+    if bytes.is_ascii() {
+        // SAFETY: ASCII is UTF-8.
+        return Ok(unsafe { str::from_utf8_unchecked(bytes) });
+    }
+    str::from_utf8(bytes)
+}
+
 /// The media type that a text is read as.
 #[tactic(auto, using(crate::specs::Answers::is_not_text))]
 fn read(alloc: Global, text: &[u8]) -> Result<Mime, Failure>
     ensures read { IfOk result (λ mime. IsUtf8 text.now × Reads text.now mime.media) }
     ensures fails { IfErr result (λ failure. Fails text.now failure.answer failure.found) }
 {
-    let Ok(text) = str::from_utf8(text) else {
+    let Ok(text) = text_of(text) else {
         return Err(Failure {
             answer: MIME_NOT_UTF8,
             found: NOTHING,
@@ -301,7 +314,7 @@ pub extern "C" fn mime_list(alloc: Global, text: &[u8], out: &mut [u8], length: 
     if out.len() / 2 < text.len() {
         return MIME_NO_ROOM;
     }
-    let Ok(text) = str::from_utf8(text) else {
+    let Ok(text) = text_of(text) else {
         return MIME_NOT_UTF8;
     };
     let mut at = 0;

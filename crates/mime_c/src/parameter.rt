@@ -9,7 +9,7 @@ ghost use Rattle.mime_c.specs.ParameterAnswers.{BoundaryIs, UnescapesTo, room_wi
 
 use crate::{
     MIME_BAD_PARAMETER, MIME_NO_BOUNDARY, MIME_NO_MEMORY, MIME_NO_ROOM, MIME_OK, copy,
-    number_of_error,
+    number_of_error, text_of,
 };
 use mime_http::{boundary, content_type, with_parameter};
 use std::alloc::Global;
@@ -130,10 +130,10 @@ pub extern "C" fn mime_set_parameter(
         Ok(mime) => mime,
         Err(error) => return number_of_error(&error),
     };
-    let Ok(name) = str::from_utf8(name) else {
+    let Ok(name) = text_of(name) else {
         return MIME_BAD_PARAMETER;
     };
-    let Ok(value) = str::from_utf8(value) else {
+    let Ok(value) = text_of(value) else {
         return MIME_BAD_PARAMETER;
     };
     match with_parameter(alloc, &mime, name, value) {

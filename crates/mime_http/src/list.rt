@@ -1,6 +1,6 @@
 //! The cut of a header's line at its commas outside strings, and pieces without the white space around them.
 
-ghost use Rattle.std.specs.Prelude.{◌≡◌, ◌<◌, ◌≤◌, ◌+◌, ◌-◌, ◌∷◌, true, length, take, drop, map, slice_index};
+ghost use Rattle.std.specs.Prelude.{◌≡◌, ◌<◌, ◌≤◌, ◌+◌, ◌-◌, ◌∷◌, ℕ, true, length, take, drop, map, slice_index};
 ghost use Rattle.std.specs.Simd.Lanes.{mask_l};
 ghost use Rattle.std.specs.Str.{IsAscii};
 ghost use Rattle.mime.specs.Bytes.{comma_byte, equals_byte, quote_byte};
@@ -220,24 +220,33 @@ pub(crate) fn trim_start(piece: &[u8]) -> &[u8]
     trim_spaces(piece)
 }
 
-/// Whether a line of at most 256 bytes is ASCII. A longer one is looked at piece by piece instead.
+/// Whether a block that begins at a position is ASCII.
+#[inline(always)]
+fn is_ascii_block(text: &[u8], at: usize) -> bool
+    requires { at + BLOCK ≤ length text.now }
+    ensures { result ≡ true → (k : ℕ) → at ≤ k → k < at + BLOCK → slice_index text.now k < 128 }
+{
+    let bytes = u8x16::from_slice(&text[at..]);
+    bytes.simd_gt(u8x16::splat(127)).to_bitmask() == 0
+}
+
+/// Whether a line from 16 up to 256 bytes is ASCII. The pieces of another are looked at one by one instead.
 #[inline(never)]
 pub(crate) fn is_short_ascii(line: &[u8]) -> bool
     ensures { result ≡ true → IsAscii line.now }
 {
-    if line.len() > 256 {
+    if line.len() < BLOCK || line.len() > 256 {
         return false;
     }
-    let mut left = line;
-    // Testing at most 64 bytes at once is short.
-    while left.len() > 64 {
-        let (first, rest) = left.split_at(64);
-        if !first.is_ascii() {
+    let last = line.len() - BLOCK;
+    let mut at = 0;
+    while at < last {
+        if !is_ascii_block(line, at) {
             return false;
         }
-        left = rest;
+        at += BLOCK;
     }
-    left.is_ascii()
+    is_ascii_block(line, last)
 }
 
 /// A piece without the white space after it.

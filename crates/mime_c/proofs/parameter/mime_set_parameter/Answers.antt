@@ -1,5 +1,5 @@
 -- Each answer is what it says.
-use Rattle.std.proofs.Common.{rules, is_some, ◌≡◌, ◌∙◌, ◌+◌, ◌<◌, ◌≤◌, ℕ, List, [], ◌∷◌, length, refl, ap, sym, subst, arith, ⊎_elim}
+use Rattle.std.proofs.Common.{rules, is_some, ◌≡◌, ◌∙◌, ℕ, List, [], ◌∷◌, length, refl, ap, sym, subst, arith, ⊎_elim}
 use Rattle.std.proofs.lemmas.Bool.{cases_lt, true≢false}
 use Rattle.mime.specs.Grammar.{IsToken}
 use Rattle.mime.specs.HeaderLaws.{AreHeaderBytes}
@@ -26,17 +26,17 @@ returns-in-Err c = rw c.number_of_error.ensures (isnt_type _ (c.if-not-has_room.
 pub returns-in_default : goal.returns-in_default
 returns-in_default c =
     let http = c.in-Ok.ensures.http in
-    isnt_parameter c.in-Ok.mime.media (c.if-not-has_room.ensures.0 refl) http.0 http.1 (λ is. c.in_default.ensures.cases.0 is.name_utf8)
+    isnt_parameter c.in-Ok.mime.media (c.if-not-has_room.ensures.0 refl) http.0 http.1 (λ is. c.in_default.ensures.cases is.name_utf8)
 
-pub returns-in_default-from_utf8 : goal.returns-in_default-from_utf8
-returns-in_default-from_utf8 c =
+pub returns-in_default-text_of : goal.returns-in_default-text_of
+returns-in_default-text_of c =
     let http = c.in-Ok.ensures.http in
-    isnt_parameter c.in-Ok.mime.media (c.if-not-has_room.ensures.0 refl) http.0 http.1 (λ is. c.in_default-from_utf8.ensures.cases.0 is.value_utf8)
+    isnt_parameter c.in-Ok.mime.media (c.if-not-has_room.ensures.0 refl) http.0 http.1 (λ is. c.in_default-text_of.ensures.cases is.value_utf8)
 
 pub put_string-requires : goal.put_string-requires
 put_string-requires c =
-    let made : c.in-Ok-Some.made.media ≡ with_parameter c.in-Ok.mime.media c.in-Ok-from_utf8.name.now c.in-Ok-from_utf8-2.value.now = search rules in
-    let is = made_is c.in-Ok.mime.media c.in-Ok-from_utf8.ensures.cases.0 c.in-Ok-from_utf8-2.ensures.cases.0 made in
+    let made : c.in-Ok-Some.made.media ≡ with_parameter c.in-Ok.mime.media c.in-Ok-text_of.name.now c.in-Ok-text_of-2.value.now = search rules in
+    let is = made_is c.in-Ok.mime.media c.in-Ok-text_of.ensures.cases.0 c.in-Ok-text_of-2.ensures.cases.0 made in
     let room = c.if-not-has_room.ensures.0 refl in
     omega (
       arith,
@@ -51,10 +51,10 @@ pub returns-in-Ok-Some : goal.returns-in-Ok-Some
 returns-in-Ok-Some c =
     let http = c.in-Ok.ensures.http in
     let media = c.in-Ok.mime.media in
-    let name = c.in-Ok-from_utf8.ensures.cases in
-    let value = c.in-Ok-from_utf8-2.ensures.cases in
+    let name = c.in-Ok-text_of.ensures.cases in
+    let value = c.in-Ok-text_of-2.ensures.cases in
     let both = c.in-Ok-Some.ensures.exact.0 (ap is_some c.in-Ok-Some.field-0-is) in
-    let made : c.in-Ok-Some.made.media ≡ with_parameter media c.in-Ok-from_utf8.name.now c.in-Ok-from_utf8-2.value.now = search rules in
+    let made : c.in-Ok-Some.made.media ≡ with_parameter media c.in-Ok-text_of.name.now c.in-Ok-text_of-2.value.now = search rules in
     let is : c.in-Ok-Some.made.media ≡ with_parameter media c.args.name.now c.args.value.now = made_is media name.0 value.0 made in
     let text = c.as_bytes.ensures.value ∙ c.as_str.ensures.text in
     let parameter : IsParameter c.args.name.now c.args.value.now = record {
@@ -71,8 +71,8 @@ returns-in-Ok-Some c =
 pub returns-in-Ok-None : goal.returns-in-Ok-None
 returns-in-Ok-None c =
     let http = c.in-Ok.ensures.http in
-    let name = c.in-Ok-from_utf8.ensures.cases in
-    let value = c.in-Ok-from_utf8-2.ensures.cases in
+    let name = c.in-Ok-text_of.ensures.cases in
+    let value = c.in-Ok-text_of-2.ensures.cases in
     isnt_parameter c.in-Ok.mime.media (c.if-not-has_room.ensures.0 refl) http.0 http.1
     (λ is.
     let some = c.in-Ok-None.ensures.exact.1 (subst IsToken (sym name.0) is.named, subst AreHeaderBytes (sym value.0) is.safe) in

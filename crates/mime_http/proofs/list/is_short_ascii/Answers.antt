@@ -1,12 +1,26 @@
--- The first bytes are ASCII, so what is left of the line is ASCII if what is left after them is.
-use Rattle.std.proofs.Common.{◌≡◌, ◌++◌, ap₂, subst, ◌∙◌, take-append-drop}
-use Rattle.std.specs.Str.{IsAscii}
-use Rattle.std.proofs.lemmas.Str.{IsAscii-append}
+-- Block by block, and the last block at once.
+use Rattle.std.proofs.Common.{◌<◌, ◌≤◌, ◌-◌, refl, arith, sym, subst, length, ⊎_elim}
+use Rattle.std.proofs.lemmas.Bool.{cases_lt}
+use Rattle.std.proofs.lemmas.List.{get_or_past}
 use Rattle.mime_http.proofs.list.is_short_ascii.Goals as goal
 
-pub loop-left-preserved : goal.loop-left-preserved
-loop-left-preserved c = λ rest.
-    let left = c.loop-left.left.now in
-    let both : c.split_at.result.0.now ++ c.split_at.result.1.now ≡ left =
-    ap₂ (λ xs ys. xs ++ ys) c.split_at.ensures.front c.split_at.ensures.back ∙ take-append-drop 64 left in
-    c.loop-left.invariant (subst IsAscii both (IsAscii-append c.split_at.result.0.now c.split_at.result.1.now c.if-not-is_ascii.ensures.cases rest))
+pub loop-at-preserved : goal.loop-at-preserved
+loop-at-preserved c = λ k to.
+    let at = c.loop-at.at in
+    ⊎_elim
+    (λ (before : k < at). c.loop-at.invariant k before)
+    (λ from. c.if-not-is_ascii_block.ensures refl k from to)
+    (cases_lt k at)
+
+pub returns : goal.returns
+returns c = λ known k.
+    let line = c.args.line.now in
+    let last = length line - 16 in
+    ⊎_elim
+    (λ (before : k < last). c.loop-at.invariant k (omega (arith, before, c.loop-at-test.false)))
+    (λ (from : last ≤ k).
+    ⊎_elim
+    (λ (within : k < length line). c.is_ascii_block-2.ensures known k from (omega (arith, within, c.if-line-lt-BLOCK.false)))
+    (λ past. subst (λ b. b < 128) (sym (get_or_past line k 0 past)) (omega arith))
+    (cases_lt k (length line)))
+    (cases_lt k last)

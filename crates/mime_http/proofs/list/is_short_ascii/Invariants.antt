@@ -1,10 +1,10 @@
--- The line is ASCII if what is left of it is.
-use Rattle.std.proofs.Common.{length}
-use Rattle.std.specs.Str.{IsAscii}
+-- The bytes so far are ASCII.
+use Rattle.std.proofs.Common.{ℕ, ◌<◌, ◌-◌, length}
+use Rattle.std.specs.Prelude.{slice_index}
 use Rattle.mime_http.proofs.list.is_short_ascii.Given as goal
 
-abbrev pub invariant-loop-left : goal.invariant-loop-left
-invariant-loop-left l = IsAscii l.left → IsAscii l.line
+abbrev pub invariant-loop-at : goal.invariant-loop-at
+invariant-loop-at l = (k : ℕ) → k < l.at → slice_index l.line k < 128
 
-abbrev pub decreases-loop-left : goal.decreases-loop-left
-decreases-loop-left l = length l.left
+abbrev pub decreases-loop-at : goal.decreases-loop-at
+decreases-loop-at l = length l.line - l.at
