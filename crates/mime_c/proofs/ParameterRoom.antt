@@ -1,11 +1,10 @@
 -- How many bytes a media type with a parameter is, and that what is written comes back.
-use Rattle.std.proofs.Common.{◌≡◌, ℕ, ◌+◌, ◌*◌, ◌<◌, ◌≤◌, Bool, true, false, List, [], ◌∷◌, ◌++◌, length, filter, ap, arith, length-append}
+use Rattle.std.proofs.Common.{◌≡◌, ℕ, ◌+◌, ◌*◌, ◌≤◌, Bool, true, false, List, [], ◌∷◌, ◌++◌, length, filter, ap, arith, length-append}
 use Rattle.std.specs.List.{AllByRecursion}
 use Rattle.std.specs.Prelude.{◌==◌, ◌||◌, not, bytes_eq, if◌then◌else◌}
 use Rattle.std.proofs.lemmas.Bool.Decides.{nat_tests}
 use Rattle.std.proofs.lemmas.List.Concat.{flat_map-append}
 use Rattle.mime.specs.Bytes.{quote_byte, backslash_byte}
-use Rattle.mime.specs.Grammar.{IsToken}
 use Rattle.mime.specs.HeaderLaws.{IsSafePair}
 use Rattle.mime.specs.Values.{MediaType, Reads, lowered, lowered_value}
 use Rattle.mime.proofs.BytesLemmas.{is_other, list_all-wider}

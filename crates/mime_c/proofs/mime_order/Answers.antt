@@ -1,6 +1,5 @@
 -- Each answer is what it says.
-use Rattle.std.proofs.Common.{◌≡◌, ◌≢◌, ◌∙◌, ◌==◌, ◌<◌, ◌++◌, inl, inr, ℕ, Bool, List, [], ◌∷◌, length, map, drop, refl, sym, ap, subst, arith, IsOk}
-use Rattle.std.specs.Prelude.{◌↔◌, Contains}
+use Rattle.std.proofs.Common.{◌≡◌, ◌≢◌, ◌∙◌, ◌++◌, ℕ, List, [], length, map, drop, refl, sym, ap, subst, arith, IsOk}
 use Rattle.std.specs.Vec.{vec_items}
 use Rattle.std.proofs.lemmas.Bool.Decides.{nat_tests}
 use Rattle.std.proofs.lemmas.Bool.{true≢false}

@@ -1,7 +1,6 @@
 -- Each answer is what it says.
-use Rattle.std.proofs.Common.{◌∙◌, ◌++◌, [], ◌∷◌, arith, ap, sym, subst}
-use Rattle.mime_c.specs.Strings.{written}
-use Rattle.mime_c.specs.ParameterAnswers.{UnescapesTo, is_unescaped, unescaped_has_no_room}
+use Rattle.std.proofs.Common.{arith}
+use Rattle.mime_c.specs.ParameterAnswers.{is_unescaped, unescaped_has_no_room}
 use Rattle.mime_c.proofs.parameter.mime_unescape.Goals as goal
 
 pub returns-then-out-value : goal.returns-then-out-value
