@@ -1,5 +1,5 @@
 -- The pairs cut from the text of a well-formed parameter list are its pairs, and lowercasing them lowercases the list.
-use Rattle.std.proofs.Common.{◌≡◌, ℕ, zero, suc, ◌+◌, ◌-◌, ◌<◌, ◌≤◌, slice_get, Some, Bool, true, false, cond, List, [], ◌∷◌, ◌++◌, length, drop, refl, sym, ap, ◌∙◌, subst, arith, append-nil, append_assoc, length-append, take, slice_range, length-drop}
+use Rattle.std.proofs.Common.{◌≡◌, ℕ, suc, ◌+◌, ◌-◌, ◌<◌, ◌≤◌, Bool, true, false, cond, List, [], ◌∷◌, ◌++◌, length, drop, refl, sym, ap, ◌∙◌, subst, arith, append-nil, append_assoc, length-append, take, slice_range, length-drop}
 use Rattle.std.specs.Prelude.{◌==◌}
 use Rattle.std.specs.List.{list_all, prefix_len}
 use Rattle.std.specs.Char.{to_ascii_lowercase}
@@ -7,12 +7,11 @@ use Rattle.std.proofs.lemmas.Bool.{and_parts, cond-true, cond-false, cond_both}
 use Rattle.std.proofs.lemmas.Bool.Decides.{nat_tests}
 use Rattle.std.proofs.lemmas.List.{take_at, drop_at, drop-drop, drop_all, take-append-drop, take_rest, length-take-le}
 use Rattle.std.proofs.Math.Seq.{take-add}
-use Rattle.std.proofs.lemmas.Option.{slice_get_within}
 use Rattle.mime.specs.Bytes.{is_token_byte, semicolon_byte, equals_byte, quote_byte}
 use Rattle.mime.specs.Grammar.{Parameter, plain, quoted, Parameters, blank, final, more, text_of_list, text_of_parameter, is_space, AreSpaces, AreTokenBytes, IsToken, IsContent, AreParameters, IsParameter}
 use Rattle.mime.specs.Values.{lowered, lowered_value, lowered_parameter, lowered_list, pair_of, pairs_of_list, is_charset}
 use Rattle.mime.specs.Inner.Quoted.{content_len, content_of, after_content}
-use Rattle.mime.specs.Inner.Blocks.{IsSuffixOf, before_byte, after_byte}
+use Rattle.mime.specs.Inner.Blocks.{before_byte, after_byte}
 use Rattle.mime.specs.Inner.KeptText.{with_pairs_lowered}
 use Rattle.mime.specs.Inner.Pairs.{PairCut, cut_after_equals, leading_spaces, without_spaces, cut_of, pairs_within, lowered_within, lowered_first}
 use Rattle.mime.proofs.ValueLemmas.Pairs.{content_len-content, lowered_within-first, LiesIn, cut_of-lies, cut_of-within, first_lowered, lowered_first-joined}
@@ -273,14 +272,12 @@ lowered_part list prefix back k parts size =
     let after : drop k list ≡ back = ap (drop k) parts ∙ drop_at prefix back k size in
     cc
 
--- a first value ends within a list, and so within the bytes that the list ends
-pub low_within : (bytes list value : List ℕ) (start low : ℕ) (charset : Bool) → IsSuffixOf list bytes → start ≡ (cut_of list).value_start
-    → value ≡ (cut_of list).value → low ≡ cond charset (length value) 0 → length bytes - length list + (start + low) ≤ length bytes
-low_within bytes list value start low charset end starts values is =
-    let size : length list ≡ length bytes - (length bytes - length list) =
-    ap length end ∙ length-drop (length bytes - length list) bytes in
+-- a first value ends within a list
+pub low_within : (list value : List ℕ) (start low : ℕ) (charset : Bool) → start ≡ (cut_of list).value_start → value ≡ (cut_of list).value
+    → low ≡ cond charset (length value) 0 → start + low ≤ length list
+low_within list value start low charset starts values is =
     let short : low ≤ length value = rw is (cond_both charset (length value) 0 (λ n. n ≤ length value) (λ _. omega arith) (λ _. omega arith)) in
-    omega (arith, starts, size, short, ap length values, cut_of-within list)
+    omega (arith, starts, short, ap length values, cut_of-within list)
 
 -- a list is lowercased up to its first value, and with it under `charset`
 pub lowered_first-start : (list : List ℕ) (low : ℕ) → low ≡ cond (is_charset (cut_of list).name) (length (cut_of list).value) 0
@@ -302,86 +299,81 @@ lowered_first-start list low is = go (cut_of-lies list) (is_charset (cut_of list
         lowered_part list lies.prefix (cut.value ++ (lies.middle ++ cut.rest)) _ lies.parts (omega (arith, is, lies.value_start))
         ∙ sym (lowered_first-joined list lies ∙ rw as_is (simp append_assoc))
 
--- the bytes are those that are done and the list that is left; with `count` pairs of the list lowercased they are the whole
-pub record IsLoweredTo (bytes left : List ℕ) (count : ℕ) (whole : List ℕ) : Type 0 where
+-- the bytes are those that are done, those that are lowercased with the next pair, and the list that is left; with `count`
+-- pairs of the list lowercased they are the whole
+pub record IsLoweredTo (bytes left : List ℕ) (from count : ℕ) (whole : List ℕ) : Type 0 where
   pub done : List ℕ
-  pub parts : bytes ≡ done ++ left
-  pub comes : done ++ lowered_within count left ≡ whole
+  pub between : List ℕ
+  pub parts : bytes ≡ done ++ (between ++ left)
+  pub at : length done ≡ from
+  pub comes : done ++ (lowered between ++ lowered_within count left) ≡ whole
+  pub none : count ≡ 0 → between ≡ []
 
 -- nothing is done
-pub lowered_to-none : (bytes list : List ℕ) (left count : ℕ) → bytes ≡ list → left ≡ count
-    → IsLoweredTo bytes list left (lowered_within count list)
-lowered_to-none bytes list left count same counts = record { done = []; parts = same; comes = ap (λ n. lowered_within n list) counts }
-
--- the next pair is lowercased, in the bytes of the list that is left
-pub lowered_to-more : (bytes left part rest : List ℕ) (count next : ℕ) (whole : List ℕ) → IsLoweredTo bytes left count whole
-    → count ≡ suc next → part ≡ lowered_first left → rest ≡ (cut_of left).rest
-    → let at = length bytes - length left in IsLoweredTo (put_mid at (length bytes - at) bytes part) rest next whole
-lowered_to-more bytes left part rest count next whole so_far counts lowers rests =
-    let at = length bytes - length left in
-    let lies = cut_of-lies left in
-    let size : length so_far.done ≡ at = omega (arith, ap length so_far.parts, length-append so_far.done left) in
-    let prefix : take at bytes ≡ so_far.done = ap (take at) so_far.parts ∙ take_at so_far.done left at size in
-    let back : drop (length bytes - at) (drop at bytes) ≡ [] =
-    drop_all (length bytes - at) (drop at bytes) (omega (arith, length-drop at bytes)) in
-    let written : part ≡ first_lowered left lies ++ rest = lowers ∙ lowered_first-joined left lies ∙ rw rests refl in
+pub lowered_to-none : (bytes text list : List ℕ) (semicolon left count : ℕ) → bytes ≡ text → list ≡ drop (semicolon + 1) text
+    → left ≡ count → 0 < count → IsLoweredTo bytes list 0 left (with_pairs_lowered count semicolon text)
+lowered_to-none bytes text list semicolon left count same end counts some =
+    let from = semicolon + 1 in
     record {
-      done = so_far.done ++ first_lowered left lies;
-      parts = rw (prefix, back, written) (simp (append_assoc, append-nil));
+      done = [];
+      between = take from text;
+      parts = same ∙ sym (take-append-drop from text) ∙ ap (λ x. take from text ++ x) (sym end);
+      at = refl;
+      comes = (λ i. lowered (take from text) ++ lowered_within (counts i) (end i));
+      none = λ is. absurd (omega (arith, is, counts, some));
+    }
+
+-- the sizes of these parts
+pub lowered_to-sizes : (bytes left : List ℕ) (from count : ℕ) (whole : List ℕ) (so_far : IsLoweredTo bytes left from count whole)
+    → length bytes ≡ from + (length so_far.between + length left)
+lowered_to-sizes bytes left from count whole so_far =
+    omega (arith, so_far.at, ap length so_far.parts, length-append so_far.done (so_far.between ++ left), length-append so_far.between left)
+
+-- the next pair is lowercased, and what is before it
+pub lowered_to-more : (bytes left part rest : List ℕ) (from low count next : ℕ) (whole : List ℕ) (so_far : IsLoweredTo bytes left from count whole)
+    → count ≡ suc next → low ≡ cond (is_charset (cut_of left).name) (length (cut_of left).value) 0
+    → let P = take (length bytes - from) (drop from bytes) in
+    let n = length bytes - length left - from + ((cut_of left).value_start + low) in
+    part ≡ lowered (take n P) ++ drop n P → rest ≡ (cut_of left).rest
+    → let new = put_mid from (length bytes - from) bytes part in IsLoweredTo new rest (length new - length rest) next whole
+lowered_to-more bytes left part rest from low count next whole so_far counts low_is lowers rests =
+    let lies = cut_of-lies left in
+    let first = first_lowered left lies in
+    let k = (cut_of left).value_start + low in
+    let done = so_far.done in
+    let between = so_far.between in
+    let new = put_mid from (length bytes - from) bytes part in
+    let sizes = lowered_to-sizes bytes left from count whole so_far in
+    let behind : drop from bytes ≡ between ++ left = ap (drop from) so_far.parts ∙ drop_at done (between ++ left) from so_far.at in
+    let before : take from bytes ≡ done = ap (take from) so_far.parts ∙ take_at done (between ++ left) from so_far.at in
+    let P : take (length bytes - from) (drop from bytes) ≡ between ++ left = take_rest bytes from ∙ behind in
+    let n : length bytes - length left - from + k ≡ length between + k = omega (arith, sizes) in
+    let tail : left ≡ drop (length between) (between ++ left) = sym (drop_at between left (length between) refl) in
+    let written : part ≡ lowered between ++ (first ++ rest) =
+    lowers ∙ (λ i. lowered (take (n i) (P i)) ++ drop (n i) (P i))
+    ∙ lowered_start-end (between ++ left) left (length between) k tail
+    ∙ rw (take_at between left (length between) refl)
+    (ap (λ x. lowered between ++ x) (lowered_first-start left low low_is ∙ lowered_first-joined left lies ∙ ap (λ x. first ++ x) (sym rests))) in
+    let back : drop (length bytes - from) (drop from bytes) ≡ [] =
+    drop_all (length bytes - from) (drop from bytes) (omega (arith, length-drop from bytes)) in
+    let parts : new ≡ (done ++ (lowered between ++ first)) ++ rest = rw (before, back, written) (simp (append_assoc, append-nil)) in
+    record {
+      done = done ++ (lowered between ++ first);
+      between = [];
+      parts = parts;
+      at = omega (arith, ap length parts, length-append (done ++ (lowered between ++ first)) rest);
       comes =
-          append_assoc so_far.done (first_lowered left lies) (lowered_within next rest)
-          ∙ ap (λ x. so_far.done ++ x) (rw rests (sym (lowered_within-first next left lies)) ∙ ap (λ n. lowered_within n left) (sym counts))
+          append_assoc done (lowered between ++ first) (lowered_within next rest)
+          ∙ ap (λ x. done ++ x) (append_assoc (lowered between) first (lowered_within next rest)
+          ∙ ap (λ x. lowered between ++ x) (rw rests (sym (lowered_within-first next left lies)) ∙ ap (λ m. lowered_within m left) (sym counts)))
           ∙ so_far.comes;
+      none = λ _. refl;
     }
 
 -- all is done
-pub lowered_to-all : (bytes left : List ℕ) (count : ℕ) (whole : List ℕ) → IsLoweredTo bytes left count whole → count ≡ 0
+pub lowered_to-all : (bytes left : List ℕ) (from count : ℕ) (whole : List ℕ) → IsLoweredTo bytes left from count whole → count ≡ 0
     → bytes ≡ whole
-lowered_to-all bytes left count whole so_far none =
-    so_far.parts ∙ ap (λ n. so_far.done ++ lowered_within n left) (sym none) ∙ so_far.comes
-
--- the first pair is lowercased, and all before the list
-pub lowered_to-first : (bytes old text list rest : List ℕ) (semicolon count : ℕ) → old ≡ text → slice_get text semicolon ≡ Some semicolon_byte
-    → list ≡ drop (semicolon + 1) text → bytes ≡ lowered (take (length old - length list) old) ++ lowered_first list
-    → rest ≡ (cut_of list).rest → 0 < count → IsLoweredTo bytes rest (count - 1) (with_pairs_lowered count semicolon text)
-lowered_to-first bytes old text list rest semicolon zero same parted end lowers rests some = absurd (omega (arith, some))
-lowered_to-first bytes old text list rest semicolon (suc count) same parted end lowers rests some =
-    let lies = cut_of-lies list in
-    let within : semicolon < length text = slice_get_within text semicolon semicolon_byte parted in
-    let at : length old - length list ≡ semicolon + 1 = omega (arith, ap length same, ap length end, length-drop (semicolon + 1) text, within) in
-    let before : take (length old - length list) old ≡ take (semicolon + 1) text = (λ i. take (at i) (same i)) in
-    let next : suc count - 1 ≡ count = omega arith in
-    record {
-      done = lowered (take (semicolon + 1) text) ++ first_lowered list lies;
-      parts = lowers ∙ rw (before, lowered_first-joined list lies, rests) (simp append_assoc);
-      comes =
-          append_assoc (lowered (take (semicolon + 1) text)) (first_lowered list lies) (lowered_within (suc count - 1) rest)
-          ∙ ap (λ x. lowered (take (semicolon + 1) text) ++ x)
-          ((λ i. first_lowered list lies ++ lowered_within (next i) (rests i)) ∙ sym (lowered_within-first count list lies) ∙ ap (lowered_within (suc count)) end);
-    }
-
--- the list that is left ends the bytes
-pub left_ends : (bytes left : List ℕ) (count : ℕ) (whole : List ℕ) → IsLoweredTo bytes left count whole
-    → let at = length bytes - length left in (length left ≤ length bytes) × (take (length bytes - at) (drop at bytes) ≡ left)
-left_ends bytes left count whole so_far =
-    let at = length bytes - length left in
-    let sizes : length bytes ≡ length so_far.done + length left = ap length so_far.parts ∙ length-append so_far.done left in
-    (omega (arith, sizes), take_rest bytes at ∙ ap (drop at) so_far.parts ∙ drop_at so_far.done left at (omega (arith, sizes)))
-
--- with its pairs lowercased all is done
-pub lowered_to-whole : (bytes left part : List ℕ) (count : ℕ) (whole : List ℕ) → IsLoweredTo bytes left count whole
-    → part ≡ lowered_within count left → let at = length bytes - length left in put_mid at (length bytes - at) bytes part ≡ whole
-lowered_to-whole bytes left part count whole so_far lowers =
-    let at = length bytes - length left in
-    let size : length so_far.done ≡ at = omega (arith, ap length so_far.parts, length-append so_far.done left) in
-    let prefix : take at bytes ≡ so_far.done = ap (take at) so_far.parts ∙ take_at so_far.done left at size in
-    let back : drop (length bytes - at) (drop at bytes) ≡ [] =
-    drop_all (length bytes - at) (drop at bytes) (omega (arith, length-drop at bytes)) in
-    rw (prefix, back, lowers) (simp append-nil) ∙ so_far.comes
-
--- the bytes of a list alone have nothing before it
-pub nothing_before : (bytes part list back : List ℕ) → part ≡ list → bytes ≡ lowered (take (length part - length list) part) ++ back
-    → bytes ≡ back
-nothing_before bytes part list back same lowers =
-    let none : length part - length list ≡ 0 = omega (arith, ap length same) in
-    lowers ∙ ap (λ n. lowered (take n part) ++ back) none
+lowered_to-all bytes left from count whole so_far ends =
+    let none = so_far.none ends in
+    so_far.parts ∙ (λ i. so_far.done ++ (none i ++ left))
+    ∙ sym (λ i. so_far.done ++ (lowered (none i) ++ lowered_within (ends i) left)) ∙ so_far.comes

@@ -72,35 +72,6 @@ fn low_len(name: &str, value: &str) -> usize
     if names_charset(name) { value.len() } else { 0 }
 }
 
-/// Lowercases all before a list's first value, and the value too if its name is `charset`. Returns the list after the
-/// pair. `bytes` is a copy of a text that ends with the list.
-#[inline(always)]
-fn lowercase_first<'a>(bytes: &mut [u8], list: &Suffix<'a>) -> Suffix<'a>
-    requires { IsSuffixOf list.now bytes.old }
-    ensures lowered { bytes.new ≡ lowered (take (length bytes.old - length list.now) bytes.old) ++ lowered_first list.now }
-    ensures rest { result ≡ (cut_of list.now).rest }
-{
-    let pair = cut(list);
-    let start = bytes.len() - list.text().len();
-    let low = low_len(pair.name, pair.value);
-    lowercase_start(bytes, start + (pair.value_start + low));
-    pair.rest
-}
-
-/// Lowercases the names of the first `count` pairs of a list, and the values of `charset`. `bytes` is a copy of the
-/// list's bytes.
-#[inline]
-fn lowercase_pairs(bytes: &mut [u8], list: Suffix<'_>, count: usize)
-    requires { bytes.old ≡ list }
-    ensures { bytes.new ≡ lowered_within count list.entry }
-{
-    let mut left = list;
-    for _ in 0..count {
-        let from = bytes.len() - left.text().len();
-        left = lowercase_first(&mut bytes[from..], &left);
-    }
-}
-
 /// Lowercases, in a string with `count` pairs, everything up to the semicolon, the names, and the values of `charset`.
 /// `bytes` is a copy of the string's bytes. It isn't inlined: most strings have no capital.
 #[inline(never)]
@@ -110,9 +81,16 @@ pub(crate) fn lowercase_text(bytes: &mut [u8], text: &str, semicolon: usize, cou
     requires some { 0 < count }
     ensures { bytes.new ≡ with_pairs_lowered count semicolon text.now }
 {
-    let rest = lowercase_first(bytes, &Suffix::of(text, semicolon + 1));
-    let from = bytes.len() - rest.text().len();
-    lowercase_pairs(&mut bytes[from..], rest, count - 1);
+    let mut left = Suffix::of(text, semicolon + 1);
+    let mut from = 0;
+    for _ in 0..count {
+        let start = bytes.len() - left.text().len();
+        let pair = cut(&left);
+        let low = pair.value_start + low_len(pair.name, pair.value);
+        lowercase_start(&mut bytes[from..], start - from + low);
+        from = bytes.len() - pair.rest.text().len();
+        left = pair.rest;
+    }
 }
 
 /// The kept text of a string with `count` pairs: only what ignores case is lowercased.

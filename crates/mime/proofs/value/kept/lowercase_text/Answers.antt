@@ -1,26 +1,60 @@
--- The first pair is lowercased with all before it, then the others, in the bytes of the list that is left.
-use Rattle.std.proofs.Common.{length, lit<, ap, arith}
+-- Each turn lowercases the first pair of what is left, with what is before it.
+use Rattle.std.proofs.Common.{◌+◌, ◌-◌, length, length-drop, refl, lit<, ap, ◌∙◌, arith}
+use Rattle.std.proofs.lemmas.List.{take_rest}
+use borrow.Rule.Slice.PartMut.{put_mid}
+use Rattle.mime.specs.Inner.KeptText.{with_pairs_lowered}
 use Rattle.mime.proofs.BytesLemmas.{boundary_after}
-use Rattle.mime.proofs.ValueLemmas.ListText.{lowered_to-first, left_ends, lowered_to-whole}
+use Rattle.mime.proofs.ValueLemmas.ListText.{IsLoweredTo, lowered_to-none, lowered_to-more, lowered_to-all, lowered_to-sizes, low_within}
 use Rattle.mime.proofs.value.kept.lowercase_text.Goals as goal
 
-pub of-requires : goal.of-requires
-of-requires c = boundary_after _ _ _ c.utf8.text c.requires.parted (lit< tt)
+pub of-left-requires : goal.of-left-requires
+of-left-requires c = boundary_after _ _ _ c.utf8.text c.requires.parted (lit< tt)
+
+pub loop-init : goal.loop-init
+loop-init c = lowered_to-none _ _ _ _ _ _ c.requires.same c.of-left.ensures (omega arith) c.requires.some
+
+pub overflow_sub-start : goal.overflow_sub-start
+overflow_sub-start c = omega (arith, ap length c.text.ensures, lowered_to-sizes _ _ _ _ _ c.loop.invariant)
+
+pub overflow_add-low : goal.overflow_add-low
+overflow_add-low c =
+    let cut = c.cut-pair.ensures in
+    omega (arith, low_within c.loop.left _ _ _ _ cut.value_start cut.value c.low_len.ensures, lowered_to-sizes _ _ _ _ _ c.loop.invariant)
+
+pub slice_bounds-lowercase_start-count : goal.slice_bounds-lowercase_start-count
+slice_bounds-lowercase_start-count c = omega (arith, lowered_to-sizes _ _ _ _ _ c.loop.invariant)
+
+pub overflow_sub-start-in-loop : goal.overflow_sub-start-in-loop
+overflow_sub-start-in-loop c = omega (arith, ap length c.text.ensures, lowered_to-sizes _ _ _ _ _ c.loop.invariant)
+
+pub overflow_add-start : goal.overflow_add-start
+overflow_add-start c =
+    let cut = c.cut-pair.ensures in
+    let within = low_within c.loop.left _ _ _ _ cut.value_start cut.value c.low_len.ensures in
+    omega (arith, within, ap length c.text.ensures, lowered_to-sizes _ _ _ _ _ c.loop.invariant)
+
+pub lowercase_start-requires : goal.lowercase_start-requires
+lowercase_start-requires c =
+    let cut = c.cut-pair.ensures in
+    let within = low_within c.loop.left _ _ _ _ cut.value_start cut.value c.low_len.ensures in
+    let size = ap length (take_rest c.loop.bytes c.loop.from) ∙ length-drop c.loop.from c.loop.bytes in
+    omega (arith, within, size, ap length c.text.ensures, lowered_to-sizes _ _ _ _ _ c.loop.invariant)
+
+-- what a turn leaves
+next_turn : (c : goal.After-text-in-loop) → let new = put_mid c.loop.from (length c.loop.bytes - c.loop.from) c.loop.bytes c.lowercase_start.new.bytes in
+    IsLoweredTo new c.cut-pair.result.rest (length new - length c.cut-pair.result.rest) (c.args.count - (c.loop.counter + 1))
+    (with_pairs_lowered c.args.count c.args.semicolon c.args.text.now)
+next_turn c =
+    let cut = c.cut-pair.ensures in
+    lowered_to-more c.loop.bytes c.loop.left c.lowercase_start.new.bytes c.cut-pair.result.rest c.loop.from c.low_len.result _ _ _ c.loop.invariant
+    (omega (arith, c.loop-test.true)) (c.low_len.ensures ∙ rw (cut.name, cut.value) refl)
+    (c.lowercase_start.ensures ∙ rw (c.text.ensures, cut.value_start) refl) cut.rest
 
 pub overflow_sub-from : goal.overflow_sub-from
-overflow_sub-from c =
-    let first = c.lowercase_first-rest.ensures in
-    let so_far = lowered_to-first _ _ c.args.text.now _ _ _ _ c.requires.same c.requires.parted c.of.ensures first.lowered first.rest c.requires.some in
-    omega (arith, (left_ends _ _ _ _ so_far).0, ap length c.text.ensures)
+overflow_sub-from c = omega (arith, ap length c.text-in-loop.ensures, lowered_to-sizes _ _ _ _ _ (next_turn c))
 
-pub lowercase_pairs-requires : goal.lowercase_pairs-requires
-lowercase_pairs-requires c =
-    let first = c.lowercase_first-rest.ensures in
-    let so_far = lowered_to-first _ _ c.args.text.now _ _ _ _ c.requires.same c.requires.parted c.of.ensures first.lowered first.rest c.requires.some in
-    rw c.text.ensures (left_ends _ _ _ _ so_far).1
+pub loop-preserved : goal.loop-preserved
+loop-preserved c = rw c.text-in-loop.ensures (next_turn c)
 
 pub returns : goal.returns
-returns c =
-    let first = c.lowercase_first-rest.ensures in
-    let so_far = lowered_to-first _ _ c.args.text.now _ _ _ _ c.requires.same c.requires.parted c.of.ensures first.lowered first.rest c.requires.some in
-    rw c.text.ensures (lowered_to-whole _ _ _ _ _ so_far c.lowercase_pairs.ensures)
+returns c = lowered_to-all _ _ _ _ _ c.loop.invariant (omega arith)

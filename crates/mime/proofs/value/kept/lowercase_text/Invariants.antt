@@ -1,0 +1,8 @@
+-- The pairs so far are lowercased, and the list that is left ends the bytes.
+use Rattle.std.proofs.Common.{◌-◌}
+use Rattle.mime.specs.Inner.KeptText.{with_pairs_lowered}
+use Rattle.mime.proofs.ValueLemmas.ListText.{IsLoweredTo}
+use Rattle.mime.proofs.value.kept.lowercase_text.Given as goal
+
+abbrev pub invariant-loop : goal.invariant-loop
+invariant-loop l = IsLoweredTo l.bytes l.left l.from (l.fn.count - l.counter) (with_pairs_lowered l.fn.count l.fn.semicolon l.fn.text)
