@@ -10,9 +10,14 @@ use Rattle.mime_http.proofs.HttpForth.{http_is_tight}
 use Rattle.mime_http.proofs.HttpLaws.{accepted_from_http, one_tight_reading, tight_is_http}
 use Rattle.mime_http.proofs.HttpViability.{http_from_accepted, viable_from_tight, tight_from_viable, viable_from_accepted, accepted_from_spaced}
 
--- ` text/HTML ;; charset="UTF-8" `
-read : HttpReads (codes " text/HTML ;; charset=\"UTF-8\" ")
-    (record { essence = codes "text/html"; slash = 4; plus = None; pairs = (codes "charset", codes "utf-8") ∷ []; kept = [] })
+-- ` text/HTML ;; charset="UTF-8" `, and what is read of it
+abbrev value : List ℕ
+value = codes " text/HTML ;; charset=\"UTF-8\" "
+
+abbrev html : List ℕ → MediaType
+html kept = record { essence = codes "text/html"; slash = 4; plus = None; pairs = (codes "charset", codes "utf-8") ∷ []; kept = kept }
+
+read : HttpReads value (html [])
 unfolding is_token_byte is_quoted_byte
 read = record {
   before = codes " ";
@@ -115,18 +120,12 @@ not_missing fault = omega (arith, same_last (codes " text") fault.1.0 47 61 faul
 
 -- ---- tightened values
 
--- ` text/HTML ;; charset="UTF-8" `: the last white space stays, and so does that after the semicolons
-tightened : Tightens 32 (codes " text/HTML ;; charset=\"UTF-8\" ") (codes "text/HTML; charset=\"UTF-8\" ")
-tightened = let is = (http_is_tight _ _ read).1 in subst (Tightens 32 (codes " text/HTML ;; charset=\"UTF-8\" ")) (sym (tight_is is.1)) is.1
+-- the last white space stays, and so does that after the semicolons
+tightened : Tightens 32 value (codes "text/HTML; charset=\"UTF-8\" ")
+tightened = let is = (http_is_tight _ _ read).1 in subst (Tightens 32 value) (sym (tight_is is.1)) is.1
 
--- so it is printed in lowercase
-kept : ReadsTight (codes " text/HTML ;; charset=\"UTF-8\" ") (record {
-  essence = codes "text/html";
-  slash = 4;
-  plus = None;
-  pairs = (codes "charset", codes "utf-8") ∷ [];
-  kept = codes "text/html; charset=\"utf-8\" ";
-})
+-- so it is printed in lowercase,
+kept : ReadsTight value (html (codes "text/html; charset=\"utf-8\" "))
 unfolding is_token_byte is_quoted_byte
 kept = (
   codes "text/HTML; charset=\"UTF-8\" ",
@@ -140,13 +139,7 @@ kept = (
 )
 
 -- and not without its parameter
-kept_whole : ¬ (ReadsTight (codes " text/HTML ;; charset=\"UTF-8\" ") (record {
-  essence = codes "text/html";
-  slash = 4;
-  plus = None;
-  pairs = (codes "charset", codes "utf-8") ∷ [];
-  kept = codes "text/html";
-}))
+kept_whole : ¬ (ReadsTight value (html (codes "text/html")))
 kept_whole reads = omega (arith, ap (λ (media : MediaType). length media.kept) (one_tight_reading _ _ _ reads kept))
 
 -- white space at the end doesn't stay after a token,
