@@ -14,10 +14,10 @@ use Rattle.mime_http.proofs.HttpViability.{http_from_accepted, viable_from_tight
 abbrev value : List ℕ
 value = codes " text/HTML ;; charset=\"UTF-8\" "
 
-abbrev html : List ℕ → MediaType
-html kept = record { essence = codes "text/html"; slash = 4; plus = None; pairs = (codes "charset", codes "utf-8") ∷ []; kept = kept }
+abbrev html_type : List ℕ → MediaType
+html_type kept = record { essence = codes "text/html"; slash = 4; plus = None; pairs = (codes "charset", codes "utf-8") ∷ []; kept = kept }
 
-read : HttpReads value (html [])
+read : HttpReads value (html_type [])
 unfolding is_token_byte is_quoted_byte
 read = record {
   before = codes " ";
@@ -125,9 +125,9 @@ tightened : Tightens 32 value (codes "text/HTML; charset=\"UTF-8\" ")
 tightened = let is = (http_is_tight _ _ read).1 in subst (Tightens 32 value) (sym (tight_is is.1)) is.1
 
 -- so it is printed in lowercase,
-kept : ReadsTight value (html (codes "text/html; charset=\"utf-8\" "))
+kept_tight : ReadsTight value (html_type (codes "text/html; charset=\"utf-8\" "))
 unfolding is_token_byte is_quoted_byte
-kept = (
+kept_tight = (
   codes "text/HTML; charset=\"UTF-8\" ",
   tightened,
   record {
@@ -139,8 +139,8 @@ kept = (
 )
 
 -- and not without its parameter
-kept_whole : ¬ (ReadsTight value (html (codes "text/html")))
-kept_whole reads = omega (arith, ap (λ (media : MediaType). length media.kept) (one_tight_reading _ _ _ reads kept))
+kept_whole : ¬ (ReadsTight value (html_type (codes "text/html")))
+kept_whole reads = omega (arith, ap (λ (media : MediaType). length media.kept) (one_tight_reading _ _ _ reads kept_tight))
 
 -- white space at the end doesn't stay after a token,
 not_at_end : ¬ (Tightens 32 (codes "a/b;p=x ") (codes "a/b;p=x "))
@@ -151,8 +151,8 @@ not_before_semicolon : ¬ (Tightens 32 (codes "a/b ;") (codes "a/b ;"))
 not_before_semicolon is = omega (arith, ap length (tight_is is))
 
 -- but after one,
-after_semicolon : ¬ (Tightens 32 (codes "a/b; ;p=x") (codes "a/b;p=x"))
-after_semicolon is = omega (arith, ap length (tight_is is))
+white_after_semicolon : ¬ (Tightens 32 (codes "a/b; ;p=x") (codes "a/b;p=x"))
+white_after_semicolon is = omega (arith, ap length (tight_is is))
 
 -- and so does a semicolon at the end, but no second one
 last_semicolon : ¬ (Tightens 32 (codes "a/b;") (codes "a/b"))
@@ -172,9 +172,9 @@ not_within media reads = stopped-from_walk (tight (codes "te xt/html")) refl (ac
 at_start : FaultIsSpare (codes " a")
 at_start = first 32 (codes "a") refl
 
-before_semicolon : FaultIsSpare (codes "a ;")
+white_before_semicolon : FaultIsSpare (codes "a ;")
 unfolding is_token_byte
-before_semicolon = white (codes "a") [] [] 32 refl refl (dead-from_walk (codes "a") (codes ";") 32 _ refl refl)
+white_before_semicolon = white (codes "a") [] [] 32 refl refl (dead-from_walk (codes "a") (codes ";") 32 _ refl refl)
 
 second_semicolon : FaultIsSpare (codes "a/b;;")
 unfolding is_token_byte

@@ -31,12 +31,12 @@ half : thousandths_of (codes "0.5") ≡ 500
 half = refl
 
 -- `1.000` 1000,
-one : thousandths_of (codes "1.000") ≡ 1000
-one = refl
+all_of_it : thousandths_of (codes "1.000") ≡ 1000
+all_of_it = refl
 
 -- `0.001` 1,
-least : thousandths_of (codes "0.001") ≡ 1
-least = refl
+a_thousandth : thousandths_of (codes "0.001") ≡ 1
+a_thousandth = refl
 
 -- and `0` none
 nothing : thousandths_of (codes "0") ≡ 0
@@ -55,8 +55,8 @@ fourth_digit : thousandths_of (codes "0.1239") ≡ 123
 fourth_digit = refl
 
 -- nor do those after another byte
-after_other : thousandths_of (codes "0x.5") ≡ 0
-after_other = refl
+no_digit_before_a_dot : thousandths_of (codes "0x.5") ≡ 0
+no_digit_before_a_dot = refl
 
 -- strings that are no weights
 no_whole : thousandths_of (codes ".2") ≡ 200

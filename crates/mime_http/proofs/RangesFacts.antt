@@ -46,27 +46,27 @@ abbrev text : List (List ℕ × List ℕ) → MediaType
 text pairs = of (codes "text/*") 4 pairs
 
 -- a parameter `level`
-abbrev level : List ℕ → List ℕ × List ℕ
-level value = (codes "level", value)
+abbrev level_of : List ℕ → List ℕ × List ℕ
+level_of value = (codes "level", value)
 
 -- a parameter `format`
 abbrev format : List ℕ → List ℕ × List ℕ
 format value = (codes "format", value)
 
 -- a range demands each of its parameters, with the same value
-covered : is_some (closeness (html (level (codes "1") ∷ level (codes "2") ∷ [])) (0, html (level (codes "1") ∷ []))) ≡ true
+covered : is_some (closeness (html (level_of (codes "1") ∷ level_of (codes "2") ∷ [])) (0, html (level_of (codes "1") ∷ []))) ≡ true
 covered = refl
 
 -- a range with a parameter covers no offer without it,
-not_covered : closeness (html []) (0, html (level (codes "1") ∷ [])) ≡ None
+not_covered : closeness (html []) (0, html (level_of (codes "1") ∷ [])) ≡ None
 not_covered = refl
 
 -- none with another value,
-other_value : closeness (html (level (codes "1") ∷ [])) (0, html (level (codes "2") ∷ [])) ≡ None
+other_value : closeness (html (level_of (codes "1") ∷ [])) (0, html (level_of (codes "2") ∷ [])) ≡ None
 other_value = refl
 
 -- none with a value in another case,
-other_case : closeness (html (level (codes "a") ∷ [])) (0, html (level (codes "A") ∷ [])) ≡ None
+other_case : closeness (html (level_of (codes "a") ∷ [])) (0, html (level_of (codes "A") ∷ [])) ≡ None
 other_case = refl
 
 -- and `text/*` no image
@@ -103,20 +103,20 @@ other_meaning same =
     first_byte (pair ∷ pairs) = unwrap_or (slice_get pair.1 0) 0
 
 -- a name may stand twice: one of the offer's values is enough for each of the range's
-twice_named : is_some (closeness (html (level (codes "1") ∷ level (codes "2") ∷ [])) (0, html (level (codes "2") ∷ level (codes "1") ∷ []))) ≡ true
+twice_named : is_some (closeness (html (level_of (codes "1") ∷ level_of (codes "2") ∷ [])) (0, html (level_of (codes "2") ∷ level_of (codes "1") ∷ []))) ≡ true
 twice_named = refl
 
 -- each of the range must be in the offer
-one_missing : closeness (html (level (codes "1") ∷ [])) (0, html (level (codes "1") ∷ level (codes "2") ∷ [])) ≡ None
+one_missing : closeness (html (level_of (codes "1") ∷ [])) (0, html (level_of (codes "1") ∷ level_of (codes "2") ∷ [])) ≡ None
 one_missing = refl
 
 -- so a media type covers itself
-itself : is_some (closeness (html (level (codes "1") ∷ q (codes "0.5") ∷ level (codes "2") ∷ []))
-    (0, html (level (codes "1") ∷ q (codes "0.5") ∷ level (codes "2") ∷ []))) ≡ true
-itself = covers_itself (html (level (codes "1") ∷ q (codes "0.5") ∷ level (codes "2") ∷ []))
+itself : is_some (closeness (html (level_of (codes "1") ∷ q (codes "0.5") ∷ level_of (codes "2") ∷ []))
+    (0, html (level_of (codes "1") ∷ q (codes "0.5") ∷ level_of (codes "2") ∷ []))) ≡ true
+itself = covers_itself (html (level_of (codes "1") ∷ q (codes "0.5") ∷ level_of (codes "2") ∷ []))
 
 -- a parameter after `q` is demanded, too; `q` is taken with its backslashes, in which case it is no number
-after_q : closeness (html []) (0, html (q (codes "0.5") ∷ level (codes "1") ∷ [])) ≡ None
+after_q : closeness (html []) (0, html (q (codes "0.5") ∷ level_of (codes "1") ∷ [])) ≡ None
 after_q = refl
 
 -- a `q` with a backslash begins with no number
@@ -213,20 +213,20 @@ example_fixed : given_weight example (plain (format (codes "fixed") ∷ [])) ≡
 example_fixed = refl
 
 -- as said above
-example_level : given_weight example (html (level (codes "3") ∷ [])) ≡ 300
+example_level : given_weight example (html (level_of (codes "3") ∷ [])) ≡ 300
 example_level = refl
 
 -- RFC 7231's: `text/*;q=0.3, text/html;q=0.7, text/html;level=1, text/html;level=2;q=0.4, */*;q=0.5`
 abbrev older : List MediaType
 older =
-    text (q (codes "0.3") ∷ []) ∷ html (q (codes "0.7") ∷ []) ∷ html (level (codes "1") ∷ [])
-    ∷ html (level (codes "2") ∷ q (codes "0.4") ∷ []) ∷ any (q (codes "0.5") ∷ []) ∷ []
+    text (q (codes "0.3") ∷ []) ∷ html (q (codes "0.7") ∷ []) ∷ html (level_of (codes "1") ∷ [])
+    ∷ html (level_of (codes "2") ∷ q (codes "0.4") ∷ []) ∷ any (q (codes "0.5") ∷ []) ∷ []
 
 -- its table
 older_table :
-    (given_weight older (html (level (codes "1") ∷ [])) ≡ 1000) × (given_weight older (html []) ≡ 700)
+    (given_weight older (html (level_of (codes "1") ∷ [])) ≡ 1000) × (given_weight older (html []) ≡ 700)
     × (given_weight older (plain []) ≡ 300) × (given_weight older jpeg ≡ 500)
-    × (given_weight older (html (level (codes "2") ∷ [])) ≡ 400) × (given_weight older (html (level (codes "3") ∷ [])) ≡ 700)
+    × (given_weight older (html (level_of (codes "2") ∷ [])) ≡ 400) × (given_weight older (html (level_of (codes "3") ∷ [])) ≡ 700)
 older_table = (refl, refl, refl, refl, refl, refl)
 
 -- ---- choices
@@ -248,7 +248,7 @@ axios : best_offer (json ∷ plain [] ∷ any [] ∷ []) (html [] ∷ json ∷ [
 axios = refl
 
 -- `text/html;level=2, text/html`: parameters make it closer
-more_parameters : best_offer (html (level (codes "2") ∷ []) ∷ html [] ∷ []) (html [] ∷ html (level (codes "2") ∷ []) ∷ []) ≡ Some 1
+more_parameters : best_offer (html (level_of (codes "2") ∷ []) ∷ html [] ∷ []) (html [] ∷ html (level_of (codes "2") ∷ []) ∷ []) ≡ Some 1
 more_parameters = refl
 
 -- `text/plain, */*;q=0.1, text/html`: of ranges as close the earlier decides

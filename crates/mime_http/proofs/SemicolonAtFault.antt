@@ -162,8 +162,8 @@ first_semicolon value pos b dead is ends =
 -- ---- another byte at fault, or none
 
 -- and so does each other byte
-pub other_byte : (value : List ℕ) (pos b : ℕ) → IsDeadAt value pos b → is_semicolon_or_space b ≡ false → Stands value (InvalidToken pos b)
-other_byte value pos b dead is =
+pub byte_that_stays : (value : List ℕ) (pos b : ℕ) → IsDeadAt value pos b → is_semicolon_or_space b ≡ false → Stands value (InvalidToken pos b)
+byte_that_stays value pos b dead is =
     let cut = cut_at value pos b dead in
     let space : is_space b ≡ false = grind (arith, nat_tests) in
     let semicolon : (b == 59) ≡ false = grind (arith, nat_tests) in

@@ -12,7 +12,7 @@ use Rattle.mime_http.specs.declared.tight.Place.TheVariants.{Start}
 use Rattle.mime_http.proofs.Trims.{trimmed-le}
 use Rattle.mime_http.proofs.Spare.{spare_start, spare_semicolon}
 use Rattle.mime_http.proofs.WhiteAtFault.{first_space}
-use Rattle.mime_http.proofs.SemicolonAtFault.{next_semicolon, first_semicolon, other_byte, stands_at_end}
+use Rattle.mime_http.proofs.SemicolonAtFault.{next_semicolon, first_semicolon, byte_that_stays, stands_at_end}
 use Rattle.mime_http.proofs.tight.tightening_of.Goals.{in_default-byte-via-in-59+else-ends_in_semicolon_or_space, in_default-byte-via-in_default-1}
 use Rattle.mime_http.proofs.tight.tightening_of.Goals as goal
 
@@ -83,7 +83,7 @@ returns-in_default-byte-clause-left c =
       | in_default-byte-via-in-59+else-ends_in_semicolon_or_space w ↦
           first_semicolon value pos byte at.dead w.in-59.is (sym w.ends_in_semicolon_or_space.ensures
           ∙ w.if-ends_in_semicolon_or_space.false)
-      | in_default-byte-via-in_default-1 w ↦ other_byte value pos byte at.dead (grind (arith, nat_tests, w))
+      | in_default-byte-via-in_default-1 w ↦ byte_that_stays value pos byte at.dead (grind (arith, nat_tests, w))
     ] in
     subst (Stands value) (sym c.in-InvalidToken.is) stands
 
