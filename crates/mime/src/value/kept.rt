@@ -46,7 +46,7 @@ fn lowercase_range(bytes: &mut [u8], from: usize, to: usize)
     bytes[from..to].make_ascii_lowercase();
 }
 
-/// Lowercases the first `len` bytes, block by block. The last block may begin within the one before it.
+/// Lowercases the first `len` bytes, in whole blocks if there are enough. The last block may begin within the one before it.
 #[inline(always)]
 fn lowercase_start(bytes: &mut [u8], len: usize)
     requires { len ≤ length bytes.old }
@@ -56,11 +56,7 @@ fn lowercase_start(bytes: &mut [u8], len: usize)
         lowercase_range(bytes, 0, len);
         return;
     }
-    let mut done = 0;
-    while len - done > BLOCK {
-        lowercase_range(bytes, done, done + BLOCK);
-        done += BLOCK;
-    }
+    lowercase_range(bytes, 0, len - len % BLOCK);
     lowercase_range(bytes, len - BLOCK, len);
 }
 
