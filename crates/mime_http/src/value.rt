@@ -73,11 +73,7 @@ pub(crate) fn text_of(value: &[u8]) -> Result<&str, Utf8Error>
     ensures cases { MatchResult result (λ text. (text.now ≡ value.now) × IsUtf8 value.now)
         (λ error. ¬ (IsUtf8 value.now) × IsValidUpTo value.now (valid_up_to error)) }
 {
-    if value.is_ascii() {
-        // SAFETY: ASCII is UTF-8.
-        return Ok(unsafe { str::from_utf8_unchecked(value) });
-    }
-    str::from_utf8(value)
+    text_of_piece(value, false)
 }
 
 /// The string of a piece of a line. The bytes of a line that is known to be ASCII aren't looked at again.
@@ -87,11 +83,11 @@ pub(crate) fn text_of_piece(piece: &[u8], is_ascii: bool) -> Result<&str, Utf8Er
     ensures cases { MatchResult result (λ text. (text.now ≡ piece.now) × IsUtf8 piece.now)
         (λ error. ¬ (IsUtf8 piece.now) × IsValidUpTo piece.now (valid_up_to error)) }
 {
-    if is_ascii {
+    if is_ascii || piece.is_ascii() {
         // SAFETY: ASCII is UTF-8.
         return Ok(unsafe { str::from_utf8_unchecked(piece) });
     }
-    text_of(piece)
+    str::from_utf8(piece)
 }
 
 /// Reads as HTTP a value that `from_str` rejected with `fault`: gives its media type, or why HTTP rejects it, too.
