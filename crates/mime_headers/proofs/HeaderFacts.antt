@@ -1,13 +1,19 @@
 -- Heads, rows and verdicts for which each definition is true, and others for which it is false, so that a page that says less or more
 -- doesn't check.
 use Rattle.std.proofs.Common.{◌≡◌, ℕ, true, false, List, [], ◌∷◌, refl, codes}
-use Rattle.std.specs.Prelude.{Some, None}
+use Rattle.std.specs.Prelude.{◌≢◌, Some, None, String, string_bytes}
+use Rattle.std.specs.Global.{Global}
 use Rattle.mime.specs.Values.{MediaType}
 use Rattle.mime.specs.declared.scan.fault.ParseError.TheVariants.{MissingSubtype, InvalidToken}
 use Rattle.mime_http.specs.HttpMediaType.{HttpReads, IsHttpMediaType}
+use Rattle.mime_http.specs.HttpFaults.{HttpExplains}
+use Rattle.mime_http.specs.declared.value.FieldError.{FieldError}
 use Rattle.mime_http.specs.declared.value.FieldError.TheVariants.{NotUtf8, Invalid}
 use Rattle.mime_headers.specs.Head.{without_start, without_end, without_mark, head_of, goes_on, continued, begins, values_of}
-use Rattle.mime_headers.specs.Program.{AreOffers}
+use Rattle.mime_headers.specs.Program.{AreOffers, AreRefused}
+use Rattle.mime_headers.specs.Program.AreRefused.{at_word, no_memory, after_word}
+use Rattle.mime_headers.specs.declared.offers.BadOffer.{BadOffer}
+use Rattle.mime_headers.specs.declared.offers.BadOffer.TheVariants.{Fault}
 use Rattle.mime_headers.specs.Program.AreOffers.{no_word, a_word}
 use Rattle.mime_headers.specs.Report.{shown, media_rows, fault_at, fault_rows, none_row, weight_text, accept_rows, best_rows, verdict_of}
 use Rattle.mime_headers.specs.declared.verdict.Verdict.{Verdict}
@@ -108,3 +114,14 @@ offers_of_words word other offer second reads also = a_word reads (a_word also n
 no_offer_of_a_fault : (word : List ℕ) (words : List (List ℕ)) (offers : List MediaType) → ¬ (IsHttpMediaType word)
     → ¬ (AreOffers (word ∷ words) offers)
 no_offer_of_a_fault word words offers isnt (a_word reads others) = isnt (_, reads)
+
+-- but is refused by its fault, after one that is
+refused_words : (word : List ℕ) (offer : MediaType) (other : String Global) (error : FieldError) → HttpReads word offer
+    → error ≢ FieldError.NoMemory → HttpExplains (string_bytes other) error → AreRefused (word ∷ string_bytes other ∷ []) (Fault other error)
+refused_words word offer other error reads some explains = after_word reads (at_word other error some explains)
+
+-- no words aren't refused, for want of memory neither
+some_refused : (words : List (List ℕ)) (error : BadOffer) → AreRefused words error → words ≢ []
+some_refused words error (at_word word fault some explains) none = absurd (cc)
+some_refused words error no_memory none = absurd (cc)
+some_refused words error (after_word reads rest) none = absurd (cc)

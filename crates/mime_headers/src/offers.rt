@@ -1,11 +1,11 @@
 //! The offers that the arguments name.
 
-ghost use Rattle.std.specs.Prelude.{◌≡◌, ◌≢◌, drop, take, map, string_bytes, IfOk};
+ghost use Rattle.std.specs.Prelude.{◌≡◌, ◌≢◌, ◌∷◌, ℕ, List, drop, take, map, string_bytes, IfOk, IfErr, MatchResult};
 ghost use Rattle.std.specs.Process.{exit_status};
 ghost use Rattle.std.specs.Vec.{vec_items};
 ghost use Rattle.std.specs.Vec.Iter.{into_iter_items, into_iter_len};
 ghost use Rattle.mime_http.specs.HttpMediaType.{HttpReads};
-ghost use Rattle.mime_headers.specs.Program.{AreOffers};
+ghost use Rattle.mime_headers.specs.Program.{AreOffers, AreRefused};
 
 use mime::Mime;
 use mime_http::{FieldError, content_type};
@@ -25,7 +25,9 @@ pub(crate) enum BadOffer {
 
 /// The offers that the arguments name, each a media type as a header has it. The first argument is the program's name.
 pub(crate) fn read_offers(alloc: Global, mut arguments: Args) -> Result<Vec<Mime>, BadOffer>
-    ensures { IfOk result (λ offers. AreOffers (map string_bytes (drop 1 (take (into_iter_len arguments) (into_iter_items arguments)))) (map (λ offer. offer.media) (vec_items offers))) }
+    ensures { MatchResult result
+        (λ offers. AreOffers (map string_bytes (drop 1 (take (into_iter_len arguments) (into_iter_items arguments)))) (map (λ offer. offer.media) (vec_items offers)))
+        (λ error. AreRefused (map string_bytes (drop 1 (take (into_iter_len arguments) (into_iter_items arguments)))) error) }
 {
     let _program = arguments.next();
     offers_of(alloc, arguments)
@@ -33,11 +35,16 @@ pub(crate) fn read_offers(alloc: Global, mut arguments: Args) -> Result<Vec<Mime
 
 /// The offers that words name.
 fn offers_of(alloc: Global, mut words: Args) -> Result<Vec<Mime>, BadOffer>
-    ensures { IfOk result (λ offers. AreOffers (map string_bytes (take (into_iter_len words) (into_iter_items words))) (map (λ offer. offer.media) (vec_items offers))) }
+    ensures { MatchResult result
+        (λ offers. AreOffers (map string_bytes (take (into_iter_len words) (into_iter_items words))) (map (λ offer. offer.media) (vec_items offers)))
+        (λ error. AreRefused (map string_bytes (take (into_iter_len words) (into_iter_items words))) error) }
 {
     let mut offers = Vec::new(alloc);
     while let Some(word) = words.next() {
-        let offer = offer_of(alloc, word)?;
+        let offer = match offer_of(alloc, word) {
+            Ok(offer) => offer,
+            Err(error) => return Err(error),
+        };
         let Ok(()) = offers.push(offer) else {
             return Err(BadOffer::NoMemory);
         };
@@ -47,7 +54,8 @@ fn offers_of(alloc: Global, mut words: Args) -> Result<Vec<Mime>, BadOffer>
 
 /// The offer that a word names.
 fn offer_of(alloc: Global, word: String) -> Result<Mime, BadOffer>
-    ensures { IfOk result (λ offer. HttpReads (string_bytes word) offer.media) }
+    ensures read { IfOk result (λ offer. HttpReads (string_bytes word) offer.media) }
+    ensures refused { (others : List (List ℕ)) → IfErr result (λ error. AreRefused (string_bytes word ∷ others) error) }
 {
     match content_type(alloc, word.as_bytes()) {
         Ok(offer) => Ok(offer),

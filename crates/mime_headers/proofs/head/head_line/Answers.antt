@@ -1,7 +1,6 @@
 -- The head's first line is the input's, unless that is empty.
-use Rattle.std.proofs.Common.{◌∷◌, ◌∙◌, [], ap, sym, subst, if◌then◌else◌}
+use Rattle.std.proofs.Common.{◌∙◌, sym, subst}
 use Rattle.std.specs.Str.{IsTrimAsciiEnd}
-use Rattle.mime_headers.specs.Head.{head_of}
 use Rattle.mime_headers.proofs.HeadLines.{head_of-first}
 use Rattle.mime_headers.proofs.head.head_line.Goals as goal
 
