@@ -1,13 +1,11 @@
 -- The laws of a header's value.
 use Rattle.mime_http.proofs.Common.{ap, subst, sym, ℕ, List, MediaType, Reads, IsAccepted, one_reading, tight, IsHttpMediaType}
-use Rattle.std.specs.Prelude.{IsUtf8, ◌↔◌}
 use Rattle.mime_http.specs.Tight.{ReadsTight}
-use Rattle.mime_http.specs.HeaderLaws.{ReadIsHttp, OneTightReading, PlainIsHttp, OneHttpReading, TightIsUtf8}
+use Rattle.mime_http.specs.HeaderLaws.{ReadIsHttp, OneTightReading, PlainIsHttp, OneHttpReading}
 use Rattle.mime_http.proofs.Places.{accepted_stays}
 use Rattle.mime_http.proofs.Tightened.{tight_is}
 use Rattle.mime_http.proofs.HttpForth.{http_is_tight, http_is_read}
 use Rattle.mime_http.proofs.HttpBack.{read_is_http}
-use Rattle.mime_http.proofs.HttpText.{tight_utf8}
 
 -- the library accepts what is left of a media type as HTTP writes it
 pub accepted_from_http : (value : List ℕ) → IsHttpMediaType value → IsAccepted (tight value)
@@ -41,10 +39,6 @@ reads_tight value {media} reads =
 pub one_tight_reading : OneTightReading
 one_tight_reading value first second one other = one_reading (tight value) first second (tight_reads value one) (tight_reads value other)
 
--- which is what HTTP writes,
+-- which is what HTTP writes
 pub tight_is_http : ReadIsHttp
 tight_is_http value media reads = read_is_http value media (tight_reads value reads)
-
--- and it is in UTF-8 exactly if the value is
-pub tight_is_utf8 : TightIsUtf8
-tight_is_utf8 value text is = subst (λ t. IsUtf8 value ↔ IsUtf8 t) (tight_is is) (tight_utf8 value)

@@ -52,15 +52,15 @@ some_before value pos some within empty =
     omega (arith, some, within, length-take-le pos value (omega (arith, within)), ap length empty)
 
 -- white space at fault after other bytes is left out
-record LaterSpace (value : List ℕ) (pos b : ℕ) : Type 0 where
-  cut : CutAt value pos b
-  within : pos < length value
-  leaves : LeavesSpaces (place_at cut.fault.begun)
-  nothing : added (place_from Start (take pos value)) b ≡ []
-  next : place_after (place_from Start (take pos value)) b ≡ Spaced
+pub record LaterSpace (value : List ℕ) (pos b : ℕ) : Type 0 where
+  pub cut : CutAt value pos b
+  pub within : pos < length value
+  pub leaves : LeavesSpaces (place_at cut.fault.begun)
+  pub nothing : added (place_from Start (take pos value)) b ≡ []
+  pub next : place_after (place_from Start (take pos value)) b ≡ Spaced
 
 -- it is, wherever it is at fault
-later : (value : List ℕ) (pos b : ℕ) → IsDeadAt value pos b → 0 < pos → is_space b ≡ true → LaterSpace value pos b
+pub later : (value : List ℕ) (pos b : ℕ) → IsDeadAt value pos b → 0 < pos → is_space b ≡ true → LaterSpace value pos b
 later value pos b dead some white =
     let cut = cut_at value pos b dead in
     let within = slice_get_within value pos b dead.there in

@@ -6,7 +6,8 @@ use Rattle.mime.specs.Comparison.{Same}
 use Rattle.mime.specs.declared.scan.fault.ParseError.{ParseError}
 use Rattle.mime.specs.Bytes.{space_byte}
 use Rattle.mime_http.specs.HttpMediaType.{HttpReads, IsHttpMediaType}
-use Rattle.mime_http.specs.Tight.{Tightens, ReadsTight}
+use Rattle.mime_http.specs.Tight.{Tightens, ReadsTight, FaultIsSpare}
+use Rattle.mime_http.specs.Places.{tight}
 use Rattle.mime_http.specs.HttpFaults.{IsHttpFault}
 
 -- A media type as HTTP writes it, tightened, is read as it; only the kept text may be another.
@@ -37,6 +38,14 @@ OneHttpFault =
     (value : List ℕ) → ¬ (IsHttpMediaType value)
     → (fault : ParseError) × IsHttpFault value fault × ((other : ParseError) → IsHttpFault value other → other ≡ fault)
 
--- A tightened value is in UTF-8 exactly if the value is.
+-- What the reader leaves of a value, going from place to place, is the value tightened.
+abbrev pub LeftIsTight : Type 0
+LeftIsTight = (value text : List ℕ) → Tightens space_byte value text → tight value ≡ text
+
+-- What it leaves of any value is in UTF-8 exactly if the value is,
 abbrev pub TightIsUtf8 : Type 0
-TightIsUtf8 = (value text : List ℕ) → Tightens space_byte value text → IsUtf8 value ↔ IsUtf8 text
+TightIsUtf8 = (value : List ℕ) → IsUtf8 value ↔ IsUtf8 (tight value)
+
+-- and isn't the value if the library finds fault with a byte of it that might be left out.
+abbrev pub SpareIsLeftOut : Type 0
+SpareIsLeftOut = (value : List ℕ) → FaultIsSpare value → ¬ (tight value ≡ value)

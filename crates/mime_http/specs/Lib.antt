@@ -9,11 +9,11 @@ pub mod Unescaped
 pub mod Ranges
 pub mod Boundary
 pub mod Written
+pub mod Places
 pub mod HeaderLaws
 pub mod ListLaws
 pub mod RangesLaws
 -- private
-pub mod Places
 pub mod Tightening
 pub mod Reached
 pub mod Walk

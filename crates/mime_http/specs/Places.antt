@@ -1,4 +1,5 @@
--- Private: what is left out of a header's value byte by byte, of each value. Of one that HTTP writes this is what the page `Tight` says.
+-- What the reader leaves out of a header's value byte by byte, of each value. Of one that HTTP writes this is what the page `Tight` says.
+-- Only laws name it.
 use Rattle.std.specs.Prelude.{ℕ, Bool, false, List, [], ◌∷◌, ◌++◌, if◌then◌else◌, ◌==◌}
 use Rattle.mime.specs.Bytes.{semicolon_byte, equals_byte, quote_byte, backslash_byte, space_byte}
 use Rattle.mime.specs.Grammar.{is_space}

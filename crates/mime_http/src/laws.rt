@@ -1,6 +1,6 @@
 //! The laws of the definitions, as calls: a caller that calls one can use its law in its own proof.
 
-ghost use Rattle.mime_http.specs.HeaderLaws.{HttpIsRead, ReadIsHttp, OneTightReading, PlainIsHttp, OneHttpReading, OneHttpFault, TightIsUtf8};
+ghost use Rattle.mime_http.specs.HeaderLaws.{HttpIsRead, ReadIsHttp, OneTightReading, PlainIsHttp, OneHttpReading, OneHttpFault, LeftIsTight, TightIsUtf8, SpareIsLeftOut};
 ghost use Rattle.mime_http.specs.ListLaws.{OneCut, HttpListsAreRead, ReadAreHttpLists, OneHeader, BadIsAlone};
 ghost use Rattle.mime_http.specs.Written.{WrittenIsMeant};
 ghost use Rattle.mime_http.specs.RangesLaws.{ClosestIsClosest, BestIsFirst, CoversItself, MeaningCounts, StrangerChangesNothing, WeightIsNumber};
@@ -38,9 +38,19 @@ pub fn one_http_fault()
     ensures { OneHttpFault }
 {}
 
+/// What the reader leaves of a value, going from place to place, is the value tightened.
+pub fn left_is_tight()
+    ensures { LeftIsTight }
+{}
+
 /// A tightened value is in UTF-8 exactly if the value is.
 pub fn tight_is_utf8()
     ensures { TightIsUtf8 }
+{}
+
+/// A value with a fault at a byte that might be left out isn't left as it is: ` a/b` and `a/b ;p=x`.
+pub fn spare_is_left_out()
+    ensures { SpareIsLeftOut }
 {}
 
 /// Lines have exactly one cut into pieces: that of `a/b;p="x,y",c/d` has two.
