@@ -15,7 +15,7 @@ class Found(ctypes.Structure):
 class Mime:
     """The calls of a library such as libmime.so.0. A text is a str or bytes. A rejected one is a ValueError."""
 
-    INVALID_BYTE, NO_MEMORY, NOT_ACCEPTABLE = 6, 7, 10
+    INVALID_BYTE, NO_MEMORY, NOT_UTF8, NOT_ACCEPTABLE = 6, 7, 8, 10
 
     def __init__(self, path="libmime.so.0"):
         self.library = ctypes.CDLL(path)
@@ -26,7 +26,7 @@ class Mime:
         """The essence, the parameters as pairs, and the printed media type of a header's value, such as that of Content-Type."""
         out, found = ctypes.create_string_buffer(2 * len(_bytes(text)) + 2), Found()
         answer = self.library.mime_content_type(*_block(text), out, ctypes.c_size_t(len(out)), ctypes.byref(found))
-        self._check(answer, f" at position {found.pos}" if answer == self.INVALID_BYTE else "")
+        self._check(answer, f" at position {found.pos}" if answer in (self.INVALID_BYTE, self.NOT_UTF8) else "")
         essence, *parts, printed, _ = out.raw[: found.length].decode().split("\0")
         return essence, list(zip(parts[::2], parts[1::2])), printed
 

@@ -20,13 +20,15 @@ struct Found {
 }
 
 const INVALID_BYTE: u32 = 6;
+const NOT_UTF8: u32 = 8;
 
 unsafe extern "C" {
     fn mime_content_type(value: *const c_char, value_len: usize, out: *mut c_char, out_len: usize, found: *mut Found) -> u32;
     fn mime_answer_text(answer: u32) -> *const c_char;
 }
 
-/// Why a value isn't read: the answer of `mime_content_type`, which include/mime.h explains, and of an invalid byte its position.
+/// Why a value isn't read: the answer of `mime_content_type`, which include/mime.h explains, and of an invalid byte, or one that isn't part of
+/// valid UTF-8, its position.
 #[derive(Debug, PartialEq)]
 pub struct Error {
     pub answer: u32,
@@ -58,7 +60,7 @@ pub fn read(value: &[u8]) -> Result<Media, Error> {
     // SAFETY: each pointer is to a block of its own of the length given, and none is null.
     let answer = unsafe { mime_content_type(value.as_ptr().cast(), value.len(), out.as_mut_ptr().cast(), out.len(), &mut found) };
     if answer != 0 {
-        return Err(Error { answer, pos: (answer == INVALID_BYTE).then_some(found.pos) });
+        return Err(Error { answer, pos: matches!(answer, INVALID_BYTE | NOT_UTF8).then_some(found.pos) });
     }
     let string = |bytes: &[u8]| String::from_utf8_lossy(bytes).into_owned();
     let mut strings = out[..found.length].split(|&byte| byte == 0).map(string);

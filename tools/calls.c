@@ -122,6 +122,17 @@ static void check_strings(const char *text, size_t len, const char *out, struct 
         CHECK(*byte == 0 || *byte == '\t' || !iscntrl((unsigned char)*byte));
 }
 
+/* Whether a fault lies within the text, at the byte that was found, or at one past ASCII. */
+static int is_at_fault(uint32_t answer, const char *text, size_t len, struct mime_found found)
+{
+    if (answer != MIME_INVALID_BYTE && answer != MIME_NOT_UTF8)
+        return found.pos == 0 && found.byte == 0;
+    if (found.pos >= len)
+        return 0;
+    uint8_t byte = (uint8_t)text[found.pos];
+    return answer == MIME_INVALID_BYTE ? byte == found.byte : byte > 127 && found.byte == 0;
+}
+
 static void check_read(const char *text, size_t len)
 {
     struct mime_found found;
@@ -133,7 +144,7 @@ static void check_read(const char *text, size_t len)
     int is_read = answer == MIME_OK;
     size_t asked = is_read && len > SHORT;
     CHECK(answer <= MIME_NOT_UTF8 && answer != MIME_NO_MEMORY && requests == asked && held == 0 && largest <= len);
-    CHECK(has_written(found.length, room) && found.pos <= len && (answer != MIME_INVALID_BYTE || (uint8_t)text[found.pos] == found.byte));
+    CHECK(has_written(found.length, room) && is_at_fault(answer, text, len, found));
     if (is_read) {
         check_strings(text, len, out, found);
         const char *printed = out + found.printed;
@@ -191,12 +202,11 @@ static void check_content_type(const char *text, size_t len)
     CHECK(has_written(found.length, room) && held == 0 && most_held <= 2 && largest <= len);
     if (answer == MIME_OK && is != MIME_OK)
         is = mime_read(out + found.printed, strlen(out + found.printed), again, sizeof again, &same);
-    CHECK((answer == MIME_OK) == (is == MIME_OK) && found.pos <= len);
+    CHECK((answer == MIME_OK) == (is == MIME_OK) && is_at_fault(answer, text, len, found));
     if (answer == MIME_OK) {
         check_strings(text, len, out, found);
         CHECK(found.length == same.length && memcmp(out, again, found.length) == 0 && found.slash == same.slash);
     }
-    CHECK(answer != MIME_INVALID_BYTE || (uint8_t)text[found.pos] == found.byte);
     CHECK_REFUSED(asked, (refused = mime_content_type(text, len, buffer(room), room, &found)) == MIME_NO_MEMORY
                              ? has_written(0, room) && found.length == 0 : refused == answer && refused != MIME_OK);
 }

@@ -1,6 +1,8 @@
 -- What the trusted pages say of some texts: each definition is held from two sides.
-use Rattle.std.proofs.Common.{◌≡◌, ◌≢◌, ℕ, true, List, [], ◌∷◌, ◌++◌, map, length, refl, sym, ap, ◌∙◌, arith, codes, Some, None, length-append}
-use Rattle.std.specs.Str.{IsUtf8}
+use Rattle.std.proofs.Common.{◌≡◌, ◌≢◌, ℕ, true, List, [], ◌∷◌, ◌++◌, map, length, refl, sym, ap, ◌∙◌, arith, codes, Some, None, length-append, subst}
+use Rattle.std.specs.Str.{IsUtf8, IsValidUpTo}
+use Rattle.std.proofs.lemmas.Str.{IsUtf8-nil}
+use Rattle.std.proofs.lemmas.List.{take_all}
 use Rattle.mime.specs.Bytes.{is_token_byte}
 use Rattle.mime.specs.Grammar.{no_list}
 use Rattle.mime.specs.Values.{MediaType, Reads}
@@ -8,7 +10,7 @@ use Rattle.mime.specs.Cut.{good, bad, Cut, whole}
 use Rattle.mime.specs.declared.scan.fault.ParseError.TheVariants.{MissingSlash, MissingSubtype, MissingEqual, MissingValue, MissingQuote, InvalidToken, NoMemory}
 use Rattle.mime.proofs.CutLemmas.Cuts.{empty-cut, cut_unique}
 use Rattle.mime_c.specs.Strings.{strings, ComeBack, texts_of, item_texts, written}
-use Rattle.mime_c.specs.Answers.{number_of, found_at, found_of, found_of_fault, nothing, is_not_text, ReadsTo, is_read, fails, has_no_room, NeedsMemory, ListsTo, is_listed, Compares, are_read, first_fails, second_fails}
+use Rattle.mime_c.specs.Answers.{number_of, found_at, found_of, found_of_fault, nothing, Fails, is_not_text, ReadsTo, is_read, fails, has_no_room, NeedsMemory, ListsTo, is_listed, Compares, are_read, first_fails, second_fails}
 use Rattle.mime_c.proofs.OneOutcome.{reads_to_one, lists_to_one, compares_as_one}
 use Rattle.mime_c.specs.declared.MimeFound.{MimeFound}
 use Rattle.mime_c.specs.declared.TheConstants.{MIME_OK, MIME_NO_MEMORY, MIME_NOT_UTF8, MIME_NO_ROOM}
@@ -125,9 +127,17 @@ empty_needs_none needs =
 
 -- no text, alone, as the first or as the second
 module _ (isnt : ¬ (IsUtf8 (255 ∷ []))) where
+  none_valid : IsValidUpTo (255 ∷ []) 0
+  none_valid = record {
+    short = omega arith;
+    front = IsUtf8-nil;
+    longest = λ m above utf8. isnt (subst IsUtf8 (take_all m (255 ∷ []) (omega (arith, above))) utf8);
+  }
+
   not_read : ReadsTo (255 ∷ []) (codes "----") MIME_NOT_UTF8 (codes "----") nothing
-  not_read = fails MIME_NOT_UTF8 nothing (omega arith) (is_not_text isnt)
+  not_read = fails MIME_NOT_UTF8 nothing (omega arith) (is_not_text 0 isnt none_valid)
 
   not_compared : IsUtf8 (codes "A/B") → Compares (255 ∷ []) (codes "A/B") MIME_NOT_UTF8 0 × Compares (codes "A/B") (255 ∷ []) MIME_NOT_UTF8 0
   not_compared utf8 =
-      (first_fails MIME_NOT_UTF8 nothing (is_not_text isnt), second_fails ab MIME_NOT_UTF8 nothing utf8 reads_ab (is_not_text isnt))
+      let failed : Fails (255 ∷ []) MIME_NOT_UTF8 nothing = is_not_text 0 isnt none_valid in
+      (first_fails MIME_NOT_UTF8 nothing failed, second_fails ab MIME_NOT_UTF8 nothing utf8 reads_ab failed)

@@ -10,7 +10,7 @@ use Rattle.mime_c.specs.declared.TheConstants.{MIME_NO_ROOM}
 
 -- the numbers of the header, and what is found
 errors_numbered : (map number_of_error (NotUtf8 3 ∷ Invalid MissingSlash ∷ Invalid (InvalidToken 7 40) ∷ NoMemory ∷ []) ≡ 8 ∷ 1 ∷ 6 ∷ 7 ∷ [])
-    × (found_of_error (Invalid (InvalidToken 7 40)) ≡ found_at 7 40) × (found_of_error (NotUtf8 3) ≡ nothing)
+    × (found_of_error (Invalid (InvalidToken 7 40)) ≡ found_at 7 40) × (found_of_error (NotUtf8 3) ≡ found_at 3 0)
 errors_numbered = (refl, refl, refl)
 
 -- weights in four digits

@@ -1,11 +1,12 @@
 -- Each call has one outcome, unless memory runs out.
-use Rattle.std.proofs.Common.{◌≡◌, ◌≢◌, ℕ, ◌+◌, ◌*◌, ◌⊎◌, inl, inr, Bool, true, false, List, length, refl, sym, ap, ◌∙◌, subst, arith, ⊎_elim}
+use Rattle.std.proofs.Common.{◌≡◌, ◌≢◌, ℕ, ◌+◌, ◌*◌, ◌⊎◌, inl, inr, Bool, true, false, zero, suc, ◌<◌, ◌≤◌, List, length, take, refl, sym, ap, ◌∙◌, subst, arith, ⊎_elim}
 use mir.Val.{bool_byte}
 use Rattle.std.specs.Prelude.{IsTrue, ◌↔◌, if◌then◌else◌}
-use Rattle.std.specs.Str.{IsUtf8, is_utf8}
+use Rattle.std.specs.Str.{IsUtf8, IsValidUpTo, is_utf8}
 use Rattle.std.specs.Ordering.{eq_by_cmp}
 use Rattle.std.proofs.lemmas.Bool.{cases_lt, cases_Bool, true≢false}
-use Rattle.std.proofs.lemmas.Str.{IsUtf8-from_is_utf8, is_utf8-from_IsUtf8}
+use Rattle.std.proofs.lemmas.Str.{IsUtf8-from_is_utf8, is_utf8-from_IsUtf8, IsUtf8-nil, utf8_valid_len-IsValidUpTo}
+use Rattle.std.proofs.lemmas.List.{take_all}
 use Rattle.mime.specs.Values.{MediaType, Reads}
 use Rattle.mime.specs.Comparison.{Same, media_cmp}
 use Rattle.mime.specs.Faults.{IsFault, Explains}
@@ -18,7 +19,7 @@ use Rattle.mime.proofs.ValueLemmas.Traits.{eq_by_cmp-tells, eq_by_cmp-same}
 use Rattle.mime.specs.Cut.{CutItem}
 use Rattle.mime.proofs.CutLemmas.Cuts.{accepted_or_rejected, has_cut, cut_unique}
 use Rattle.mime_c.specs.Strings.{strings, texts_of, item_texts, written}
-use Rattle.mime_c.specs.Answers.{number_of, nothing, found_of, found_of_fault, Fails, is_rejected, is_not_text, ReadsTo, is_read, fails, has_no_room, ListsTo, is_listed, has_no_memory, Compares, are_read, first_fails, second_fails}
+use Rattle.mime_c.specs.Answers.{number_of, found_at, nothing, found_of, found_of_fault, Fails, is_rejected, is_not_text, ReadsTo, is_read, fails, has_no_room, ListsTo, is_listed, has_no_memory, Compares, are_read, first_fails, second_fails}
 use Rattle.mime_c.specs.Answers as answers
 use Rattle.mime_c.specs.Laws.{HasOne, ReadsToOne, ListsToOne, ComparesAsOne}
 use Rattle.mime_c.specs.declared.MimeFound.{MimeFound}
@@ -29,6 +30,41 @@ utf8_or_not : (text : List ℕ) → IsUtf8 text ⊎ ¬ (IsUtf8 text)
 utf8_or_not text =
     ⊎_elim (λ is. inl (IsUtf8-from_is_utf8 text is)) (λ isnt. inr (λ utf8. true≢false (sym (is_utf8-from_IsUtf8 text utf8) ∙ isnt)))
     (cases_Bool (is_utf8 text))
+
+-- of the first bytes of a text, up to any position, the longest that are UTF-8
+longest_within : (text : List ℕ) (n : ℕ)
+    → (k : ℕ) × IsUtf8 (take k text) × (k ≤ n) × ((m : ℕ) → k < m → m ≤ n → ¬ (IsUtf8 (take m text)))
+longest_within text zero = (0, IsUtf8-nil, omega arith, λ m above within utf8. absurd (omega (arith, above, within)))
+longest_within text (suc n) = ⊎_elim
+    (λ is. (suc n, is, omega arith, λ m above within utf8. absurd (omega (arith, above, within))))
+    (λ isnt.
+    let before = longest_within text n in (
+      before.0,
+      before.1,
+      omega (arith, before.2),
+      λ m above within utf8. ⊎_elim
+          (λ low. before.3 m above (omega (arith, low)) utf8)
+          (λ high. let same : m ≡ suc n = omega (arith, high, within) in isnt (subst (λ k. IsUtf8 (take k text)) same utf8))
+          (cases_lt m (suc n)),
+    ))
+    (utf8_or_not (take (suc n) text))
+
+-- so what isn't UTF-8 is up to a position
+valid_up_to : (text : List ℕ) → ¬ (IsUtf8 text) → (pos : ℕ) × IsValidUpTo text pos
+valid_up_to text isnt =
+    let found = longest_within text (length text) in
+    let short : found.0 < length text = ⊎_elim (λ less. less)
+    (λ whole. absurd (isnt (subst IsUtf8 (take_all found.0 text whole) found.1))) (cases_lt found.0 (length text)) in (
+      found.0,
+      record {
+        short = short;
+        front = found.1;
+        longest = λ m above utf8. ⊎_elim
+            (λ within. found.3 m above (omega (arith, within)) utf8)
+            (λ past. isnt (subst IsUtf8 (take_all m text past) utf8))
+            (cases_lt m (length text));
+      },
+    )
 
 -- want of memory isn't a fault,
 is_fault : (text : List ℕ) (fault : ParseError) → Explains text fault → number_of fault ≢ MIME_NO_MEMORY → IsFault text fault
@@ -43,7 +79,7 @@ module _ {text : List ℕ} where
   -- a text that is read doesn't fail,
   not_both : {media : MediaType} {n : ℕ} {found : MimeFound} → IsUtf8 text → Reads text media → n ≢ MIME_NO_MEMORY → ¬ (Fails text n found)
   not_both {media} utf8 reads some (is_rejected fault too why) = rejected-from_fault text fault (is_fault text fault why some) (media, reads)
-  not_both utf8 reads some (is_not_text isnt) = isnt utf8
+  not_both utf8 reads some (is_not_text pos isnt up) = isnt utf8
 
   -- and another fails in one way
   one_failure : {n m : ℕ} {found other : MimeFound} → n ≢ MIME_NO_MEMORY → m ≢ MIME_NO_MEMORY → Fails text n found → Fails text m other
@@ -53,9 +89,10 @@ module _ {text : List ℕ} where
       let only = (one_fault text (rejected-from_fault text one is)).2 in
       let same = only two (is_fault text two again k) ∙ sym (only one is) in
       (ap number_of same, ap found_of_fault same)
-  one_failure h k (is_rejected one utf8 why) (is_not_text isnt) = absurd (isnt utf8)
-  one_failure h k (is_not_text isnt) (is_rejected one utf8 why) = absurd (isnt utf8)
-  one_failure h k (is_not_text isnt) (is_not_text too) = (refl, refl)
+  one_failure h k (is_rejected one utf8 why) (is_not_text pos isnt up) = absurd (isnt utf8)
+  one_failure h k (is_not_text pos isnt up) (is_rejected one utf8 why) = absurd (isnt utf8)
+  one_failure h k (is_not_text pos isnt up) (is_not_text again too past) =
+      (refl, ap (λ n. found_at n 0) (sym (utf8_valid_len-IsValidUpTo text again past) ∙ utf8_valid_len-IsValidUpTo text pos up))
 
 -- a text is read as a media type, or fails
 given_or_failed : (text : List ℕ) → ((media : MediaType) × IsUtf8 text × Reads text media)
@@ -64,7 +101,7 @@ given_or_failed text = ⊎_elim
     (λ utf8. ⊎_elim (λ accepted. inl (accepted.0, utf8, accepted.1))
     (λ rejected. let only = one_fault text rejected in
     inr (_, _, its_fault text only.0 only.1, is_rejected only.0 utf8 (Explains-from_fault text only.0 only.1))) (accepted_or_rejected text))
-    (λ isnt. inr (_, _, (λ same. omega (arith, same)), is_not_text isnt)) (utf8_or_not text)
+    (λ isnt. let up = valid_up_to text isnt in inr (_, _, (λ same. omega (arith, same)), is_not_text up.0 isnt up.1)) (utf8_or_not text)
 
 -- an outcome is the one, if any two are the same
 is_one : {Held : Type 0} (IsOutcome : ℕ → Held → Type 0) (n : ℕ) (x : Held) → n ≢ MIME_NO_MEMORY → IsOutcome n x

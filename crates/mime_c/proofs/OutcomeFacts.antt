@@ -25,7 +25,7 @@ fails_for_memory : {text : List ℕ} {n : ℕ} {found : MimeFound} → n ≡ MIM
     → (found ≡ nothing) × IsUtf8 text × Explains text NoMemory
 fails_for_memory is (is_rejected NoMemory utf8 why) = (refl, utf8, why)
 fails_for_memory is (is_rejected fault utf8 why) = absurd (omega (arith, is))
-fails_for_memory is (is_not_text isnt) = absurd (omega (arith, is))
+fails_for_memory is (is_not_text pos isnt up) = absurd (omega (arith, is))
 
 -- `mime_read` writes nothing then;
 reads_for_memory : {text old new : List ℕ} {n : ℕ} {found : MimeFound} → n ≡ MIME_NO_MEMORY → ReadsTo text old n new found
@@ -97,7 +97,7 @@ module _ (isnt : ¬ (IsUtf8 (255 ∷ []))) where
 no_failure_is_ok : {text : List ℕ} {n : ℕ} {found : MimeFound} → n ≡ MIME_OK → ¬ (Fails text n found)
 no_failure_is_ok is (is_rejected NoMemory utf8 why) = omega (arith, is)
 no_failure_is_ok is (is_rejected fault utf8 why) = omega (arith, is)
-no_failure_is_ok is (is_not_text isnt) = omega (arith, is)
+no_failure_is_ok is (is_not_text pos isnt up) = omega (arith, is)
 
 -- the strings that are written are those of the text's media type, and of its items, and their texts come back: none has a 0
 reads_without_zero : {text old new : List ℕ} {n : ℕ} {found : MimeFound} → n ≡ MIME_OK → ReadsTo text old n new found

@@ -1,6 +1,6 @@
 -- What each call answers, and what the caller's buffer and structs hold then.
 use Rattle.std.specs.Prelude.{ℕ, ◌+◌, ◌*◌, ◌<◌, ◌≤◌, Bool, IsTrue, if◌then◌else◌, List, ◌∷◌, ◌++◌, length, ◌↔◌}
-use Rattle.std.specs.Str.{IsUtf8}
+use Rattle.std.specs.Str.{IsUtf8, IsValidUpTo}
 use Rattle.mime.specs.Values.{MediaType, Reads, type_of, subtype_of}
 use Rattle.mime.specs.Comparison.{Same}
 use Rattle.mime.specs.Faults.{Explains}
@@ -21,7 +21,7 @@ number_of MissingQuote = MIME_MISSING_QUOTE
 number_of (InvalidToken pos byte) = MIME_INVALID_BYTE
 number_of NoMemory = MIME_NO_MEMORY
 
--- what is found of an invalid byte; nothing else is found of a rejected text
+-- what is found of an invalid byte, or, with 0 for the byte, of a text that isn't UTF-8; nothing else is found of a rejected text
 abbrev pub found_at : ℕ → ℕ → MimeFound
 found_at pos byte = record { length = 0; params = 0; printed = 0; slash = 0; subtype_end = 0; pos = pos; byte = byte }
 
@@ -48,7 +48,7 @@ found_of media = record {
 -- why a text isn't read as a media type: the answer, and what is found
 pub data Fails (text : List ℕ) : ℕ → MimeFound → Type 0 where
   is_rejected : (fault : ParseError) → IsUtf8 text → Explains text fault → Fails text (number_of fault) (found_of_fault fault)
-  is_not_text : ¬ (IsUtf8 text) → Fails text MIME_NOT_UTF8 nothing
+  is_not_text : (pos : ℕ) → ¬ (IsUtf8 text) → IsValidUpTo text pos → Fails text MIME_NOT_UTF8 (found_at pos 0)
 
 -- `mime_read` of a text, with the caller's buffer: the answer, what the buffer holds then, and what is found
 pub data ReadsTo (text old : List ℕ) : ℕ → List ℕ → MimeFound → Type 0 where

@@ -10,19 +10,20 @@ use Rattle.mime_http.specs.Tight.{ReadsTight}
 use Rattle.mime_http.specs.declared.value.FieldError.{FieldError}
 use Rattle.mime_http.specs.declared.value.FieldError.TheVariants.{NotUtf8, Invalid, NoMemory}
 use Rattle.mime_c.specs.Strings.{strings, ComeBack, parts_of, texts_of, written}
-use Rattle.mime_c.specs.Answers.{number_of, found_of, found_of_fault, nothing}
+use Rattle.mime_c.specs.Answers.{number_of, found_at, found_of, found_of_fault, nothing}
 use Rattle.mime_c.specs.declared.MimeFound.{MimeFound}
 use Rattle.mime_c.specs.declared.TheConstants.{MIME_OK, MIME_NO_MEMORY, MIME_NOT_UTF8, MIME_NO_ROOM, MIME_NOT_ACCEPTABLE, MIME_BAD_OFFER}
 
--- the number of why a value isn't read, and what is found: the invalid byte and its position, if it is one
+-- the number of why a value isn't read, and what is found: the invalid byte and its position, or how much is UTF-8
 abbrev pub number_of_error : FieldError → ℕ
 number_of_error (NotUtf8 pos) = MIME_NOT_UTF8
 number_of_error (Invalid fault) = number_of fault
 number_of_error NoMemory = MIME_NO_MEMORY
 
 abbrev pub found_of_error : FieldError → MimeFound
+found_of_error (NotUtf8 pos) = found_at pos 0
 found_of_error (Invalid fault) = found_of_fault fault
-found_of_error other = nothing
+found_of_error NoMemory = nothing
 
 -- `mime_content_type` of a value, with the caller's buffer: the answer, what the buffer holds then, and what is found. What HTTP writes
 -- there is written as `mime_read` writes it, and printed as tightened: of the white space and empty parameters that HTTP allows those

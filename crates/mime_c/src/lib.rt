@@ -5,12 +5,12 @@
 #![tactic(auto)]
 
 ghost use Rattle.std.specs.Prelude.{◌≡◌, ◌+◌, ◌<◌, ◌≤◌, ◌∷◌, length, IfOk, IfErr, IsOk, MatchResult};
-ghost use Rattle.std.specs.Str.{IsUtf8};
+ghost use Rattle.std.specs.Str.{IsUtf8, IsValidUpTo, valid_up_to};
 ghost use Rattle.mime.specs.Values.{Reads};
 ghost use Rattle.mime.specs.CutLaws.{IsRead};
 ghost use Rattle.mime_c.specs.Strings.{string_of, strings, parts_of, texts_of, written};
 ghost use Rattle.mime_c.specs.Writing.{Writes};
-ghost use Rattle.mime_c.specs.Answers.{number_of, found_of_fault, found_of, Fails, ReadsTo, ListsTo, Compares};
+ghost use Rattle.mime_c.specs.Answers.{number_of, found_at, found_of_fault, found_of, Fails, ReadsTo, ListsTo, Compares};
 ghost use Rattle.mime_http.specs.HttpMediaType.{HttpReads};
 ghost use Rattle.mime_http.specs.Tight.{ReadsTight};
 ghost use Rattle.mime_http.specs.HttpList.{IsHeader};
@@ -73,7 +73,7 @@ pub struct MimeFound {
     pub slash: usize,
     /// The end of the subtype in the essence: the position of a suffix's plus, or of the 0 after the essence.
     pub subtype_end: usize,
-    /// The position in the text of the invalid byte.
+    /// The position in the text of the invalid byte, or of the first that isn't part of valid UTF-8.
     pub pos: usize,
     /// The invalid byte.
     pub byte: u8,
@@ -112,6 +112,13 @@ fn number_of(fault: &ParseError) -> u32
     }
 }
 
+/// What is found of a text that isn't UTF-8: how much of it is.
+fn found_at(pos: usize) -> MimeFound
+    ensures { result ≡ found_at pos 0 }
+{
+    MimeFound { pos, ..NOTHING }
+}
+
 /// What is found of a fault: the invalid byte and its position, if it is one.
 fn found_of_fault(fault: &ParseError) -> MimeFound
     ensures { result ≡ found_of_fault fault.now }
@@ -129,7 +136,8 @@ fn found_of_fault(fault: &ParseError) -> MimeFound
 /// The string of these bytes, as `str::from_utf8` gives it, in less time for ASCII, which most texts are.
 #[inline(never)]
 fn text_of(bytes: &[u8]) -> Result<&str, Utf8Error>
-    ensures cases { MatchResult result (λ text. (text.now ≡ bytes.now) × IsUtf8 bytes.now) (λ error. ¬ (IsUtf8 bytes.now)) }
+    ensures cases { MatchResult result (λ text. (text.now ≡ bytes.now) × IsUtf8 bytes.now)
+        (λ error. ¬ (IsUtf8 bytes.now) × IsValidUpTo bytes.now (valid_up_to error)) }
 {
     if bytes.is_ascii() {
         // SAFETY: ASCII is UTF-8.
@@ -144,11 +152,14 @@ fn read(alloc: Global, text: &[u8]) -> Result<Mime, Failure>
     ensures read { IfOk result (λ mime. IsUtf8 text.now × Reads text.now mime.media) }
     ensures fails { IfErr result (λ failure. Fails text.now failure.answer failure.found) }
 {
-    let Ok(text) = text_of(text) else {
-        return Err(Failure {
-            answer: MIME_NOT_UTF8,
-            found: NOTHING,
-        });
+    let text = match text_of(text) {
+        Ok(text) => text,
+        Err(error) => {
+            return Err(Failure {
+                answer: MIME_NOT_UTF8,
+                found: found_at(error.valid_up_to()),
+            });
+        }
     };
     match Mime::from_str(alloc, text) {
         Ok(mime) => Ok(mime),
@@ -178,8 +189,9 @@ fn found_of_error(error: &FieldError) -> MimeFound
     ensures { result ≡ found_of_error error.now }
 {
     match error {
+        FieldError::NotUtf8 { pos } => found_at(*pos),
         FieldError::Invalid(fault) => found_of_fault(fault),
-        _ => NOTHING,
+        FieldError::NoMemory => NOTHING,
     }
 }
 

@@ -26,12 +26,12 @@ returns-in-Err c = rw c.number_of_error.ensures (isnt_type _ (c.if-not-has_room.
 pub returns-in_default : goal.returns-in_default
 returns-in_default c =
     let http = c.in-Ok.ensures.http in
-    isnt_parameter c.in-Ok.mime.media (c.if-not-has_room.ensures.0 refl) http.0 http.1 (λ is. c.in_default.ensures.cases is.name_utf8)
+    isnt_parameter c.in-Ok.mime.media (c.if-not-has_room.ensures.0 refl) http.0 http.1 (λ is. c.in_default.ensures.cases.0 is.name_utf8)
 
 pub returns-in_default-text_of : goal.returns-in_default-text_of
 returns-in_default-text_of c =
     let http = c.in-Ok.ensures.http in
-    isnt_parameter c.in-Ok.mime.media (c.if-not-has_room.ensures.0 refl) http.0 http.1 (λ is. c.in_default-text_of.ensures.cases is.value_utf8)
+    isnt_parameter c.in-Ok.mime.media (c.if-not-has_room.ensures.0 refl) http.0 http.1 (λ is. c.in_default-text_of.ensures.cases.0 is.value_utf8)
 
 pub put_string-requires : goal.put_string-requires
 put_string-requires c =
