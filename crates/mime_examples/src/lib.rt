@@ -28,4 +28,5 @@ pub mod reader;
 pub mod reply;
 pub mod route;
 pub mod server;
+pub mod static_file;
 pub mod utf8;

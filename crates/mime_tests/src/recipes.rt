@@ -27,6 +27,7 @@ use mime_examples::parts::described;
 use mime_examples::plain::is_plain;
 use mime_examples::reply::{form_with, page_in};
 use mime_examples::route::takes;
+use mime_examples::static_file::type_for;
 use std::alloc::{AllocError, Global};
 use std::fmt::{Display, Write};
 
@@ -170,6 +171,17 @@ pub(crate) fn show_type_of_file(alloc: Global, out: &mut String, name: &str) {
     show_text(out, Some(type_));
     if let Some(mime) = read_or_not(alloc, out, type_) {
         show(out, &(mime.as_str() == type_));
+    }
+}
+
+/// Shows the media type of a file that a server sends, or the status that it answers.
+pub(crate) fn show_type_for(alloc: Global, out: &mut String, name: &str, lines: &str) {
+    let Ok(lines) = lines_of(alloc, lines) else {
+        return;
+    };
+    match type_for(alloc, name, &lines) {
+        Ok(mime) => show_text(out, Some(mime.as_str())),
+        Err(status) => show(out, &status),
     }
 }
 

@@ -37,7 +37,7 @@ use crate::recipes::{
     show_described, show_explained, show_file_name, show_form_with, show_handler_of,
     show_has_param, show_in_order, show_is_compressible, show_is_json, show_is_plain,
     show_may_delimit, show_page_in, show_quality_of, show_received, show_status, show_takes,
-    show_type_of_file, show_vendor_json, show_whether,
+    show_type_for, show_type_of_file, show_vendor_json, show_whether,
 };
 use crate::relations::{show_against, show_compared, show_names, show_pair, show_sets};
 use crate::short::show_short_verdicts;
@@ -118,6 +118,7 @@ pub(crate) fn show_row(rt: &HostRuntime, out: &mut String, word: &str, strings: 
         "says_utf8" => show_whether(out, says_utf8(alloc, one.as_bytes())),
         "status_of no memory" => show(out, &status_of(&FieldError::NoMemory)),
         "takes" => show_takes(alloc, out, one, two),
+        "type_for" => show_type_for(alloc, out, one, two),
         "type_of_file" => show_type_of_file(alloc, out, one),
         "vendor_json" => show_vendor_json(alloc, out, one),
         _ => show_text(out, None),
