@@ -1,18 +1,8 @@
 -- What is added to a header, piece by piece and line by line.
-use Rattle.std.proofs.Common.{◌≡◌, ◌∙◌, refl, sym, ap, subst, ℕ, List, [], ◌∷◌, ◌++◌, map}
-use Rattle.std.specs.Prelude.{flat_map}
-use Rattle.std.specs.Prelude.{Result, Option, Ok, Err, OnOk, MatchResult, MatchOption}
+use Rattle.mime_http.proofs.Common.{Adds, AddsLines, AreBetweenCommas, AreSorted, AreSpaces, BeginsPiece, Err, Header, HttpReads, IsHeader, IsHttpMediaType, IsPiece, IsRejected, IsUtf8, List, MatchOption, MatchResult, MediaType, Ok, OnOk, Option, OwnedMedia, Reads, Result, [], a_bad, a_range, ap, append-nil, append_assoc, cut, flat_map, lines_or_any, map, map-append, no_text, refl, subst, sym, tight, trim_end, trim_start, ℕ, ◌++◌, ◌∙◌, ◌∷◌, ◌≡◌}
 use Rattle.std.specs.Result.{result_ok}
-use Rattle.std.specs.Str.{IsUtf8}
-use Rattle.std.proofs.lemmas.List.{append-nil, append_assoc, map-append}
-use Rattle.mime.specs.Grammar.{AreSpaces}
-use Rattle.mime.specs.Values.{MediaType, OwnedMedia, Reads}
-use Rattle.mime_http.specs.HttpMediaType.{HttpReads, IsHttpMediaType}
-use Rattle.mime_http.specs.HttpList.{lines_or_any, AreBetweenCommas, IsPiece, BeginsPiece, trim_start, trim_end, AreSorted, no_text, blank, a_range, a_bad, Header, IsHeader}
-use Rattle.mime_http.specs.Walk.{cut, Adds, AddsLines}
+use Rattle.mime_http.specs.HttpList.{blank}
 use Rattle.mime_http.specs.declared.fault.Rejected.{Rejected}
-use Rattle.mime_http.specs.Places.{tight}
-use Rattle.mime_http.specs.Tightening.{IsRejected}
 use Rattle.mime_http.proofs.HttpBack.{read_is_http}
 use Rattle.mime_http.proofs.HttpLaws.{reads_tight, tight_reads}
 use Rattle.mime_http.proofs.Cuts.{are_cut, only_cut}

@@ -1,7 +1,5 @@
 -- A byte at fault in a value, and the bytes before it: the place there, and what is left of the value from there on.
-use Rattle.mime_http.proofs.Common.{◌≡◌, ◌∙◌, refl, sym, ap, subst, arith, ℕ, suc, ◌+◌, ◌-◌, ◌<◌, ◌≤◌, Bool, true, false, List, [], ◌∷◌, ◌++◌, length, take, drop, get_or, Option, Some, None, length-append, length-drop, take-length, take-suc, drop-append_seam, slice_get, if◌then◌else◌, option_and_then, and_parts, drop-drop, length-take-le, take-append-drop, slice_get_within, get_or_from_slice_get, is_space, AreSpaces, IsViable, IsDeadAt, awaits_after, InvalidToken, Begun, in_type, in_list, ListState, in_value, in_quotes, grow, walk, walk_from, walk_by-append_some, viable-from_walk, walk-from_viable, Place, Start, Spaced, place_after, added, tight_from, tight, IsHttpMediaType, IsHttpViable, IsHttpLongestPrefix, IsHttpDeadAt, Stands, trim_start}
-use Rattle.std.proofs.lemmas.List.{append-nil}
-use Rattle.mime_http.specs.declared.tight.Place.TheVariants.{Quoted, Paired}
+use Rattle.mime_http.proofs.Common.{AreSpaces, Begun, Bool, InvalidToken, IsDeadAt, IsHttpDeadAt, IsHttpLongestPrefix, IsHttpMediaType, IsHttpViable, IsViable, List, ListState, None, Option, Paired, Place, Quoted, Some, Spaced, Stands, Start, [], added, and_parts, ap, append-nil, arith, awaits_after, drop, drop-append_seam, drop-drop, false, get_or, get_or_from_slice_get, grow, if◌then◌else◌, in_list, in_quotes, in_type, in_value, is_space, length, length-append, length-drop, length-take-le, option_and_then, place_after, refl, slice_get, slice_get_within, subst, suc, sym, take, take-append-drop, take-length, take-suc, tight, tight_from, trim_start, true, viable-from_walk, walk, walk-from_viable, walk_by-append_some, walk_from, ℕ, ◌++◌, ◌+◌, ◌-◌, ◌<◌, ◌∙◌, ◌∷◌, ◌≡◌, ◌≤◌}
 use Rattle.mime_http.proofs.Highest.{item_left}
 use Rattle.mime_http.proofs.Places.{place_from, comes_out_whole, SkipsWhite, white_skipped}
 use Rattle.mime_http.proofs.PlacesAgain.{IsSettled}

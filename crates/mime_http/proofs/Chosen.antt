@@ -1,24 +1,5 @@
 -- The next offer ranks above all before it, or it doesn't.
-use Rattle.std.proofs.Common.{◌≡◌, ◌≢◌, ◌∙◌, ◌+◌, ◌==◌, refl, sym, ap, subst, arith, ⊎_elim, ℕ, Bool, true, false, List, [], ◌∷◌, ◌++◌, length, map, Option, Some, None, length-append}
-use Rattle.std.specs.Prelude.{Result, Ok, Err, OnOk, fold, position, if◌then◌else◌}
-use Rattle.std.specs.List.{position_from}
-use Rattle.std.specs.Ordering.{is_eq, is_gt, ord_max, eq_by_cmp}
-use Rattle.std.specs.declared.cmp.Ordering.{Ordering}
-use Rattle.std.specs.declared.cmp.Ordering.TheVariants.{Equal}
-use Rattle.std.specs.Cmp.{IsTotalOrder}
-use Rattle.std.proofs.lemmas.Bool.{cases_Bool, true≢false, ne_eqb, eq-eqb}
-use Rattle.std.proofs.lemmas.Cmp.{tied_itself}
-use Rattle.std.proofs.lemmas.List.{map-append, length-map}
-use Rattle.std.proofs.lemmas.List.Sums.{fold_push}
-use Rattle.std.proofs.lemmas.Iterator.Adapters.{position_from-zero}
-use Rattle.std.specs.Str.{IsUtf8}
-use Rattle.mime.specs.Values.{MediaType, Reads}
-use Rattle.mime_http.specs.HttpMediaType.{IsHttpMediaType}
-use Rattle.mime_http.specs.Places.{tight}
-use Rattle.mime_http.specs.HttpList.{trim_start, trim_end, Header}
-use Rattle.mime_http.specs.Ranges.{Rank, rank_cmp, merit, best_offer}
-use Rattle.mime_http.specs.Chosen.{lowest, IsChosen, ChoosesOn}
-use Rattle.mime_http.specs.declared.listed.Chosen.{Chosen}
+use Rattle.mime_http.proofs.Common.{Bool, ChoosesOn, Chosen, Equal, Err, Header, IsChosen, IsHttpMediaType, IsTotalOrder, IsUtf8, List, MediaType, None, Ok, OnOk, Option, Ordering, Rank, Reads, Result, Some, [], ap, arith, best_offer, cases_Bool, eq-eqb, eq_by_cmp, false, fold, fold_push, if◌then◌else◌, is_eq, is_gt, length, length-append, length-map, lowest, map, map-append, merit, ne_eqb, ord_max, position, position_from, position_from-zero, rank_cmp, refl, subst, sym, tied_itself, tight, trim_end, trim_start, true, true≢false, ℕ, ⊎_elim, ◌++◌, ◌+◌, ◌==◌, ◌∙◌, ◌∷◌, ◌≡◌, ◌≢◌}
 use Rattle.mime_http.proofs.Adds.{add_nothing, add_range, add_bad, add_trimmed}
 use Rattle.mime_http.proofs.Highest.{least_item, raised_by, stays_by, same_by}
 use Rattle.mime_http.proofs.Picked.{highest, best_is_position}

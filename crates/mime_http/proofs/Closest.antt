@@ -1,14 +1,5 @@
 -- The highest of a list is one of it, and none is higher; so the closest range is the closest.
-use Rattle.std.proofs.Common.{◌≡◌, ◌∙◌, ◌<◌, ◌⊎◌, inl, inr, refl, sym, ap, subst, arith, ⊎_elim, ℕ, zero, suc, Bool, true, false, List, [], ◌∷◌, map}
-use Rattle.std.specs.Prelude.{fold, if◌then◌else◌, Contains}
-use Rattle.std.specs.Ordering.{is_lt, is_gt, ord_max, nat_cmp, ordering_then, MatchOrdering}
-use Rattle.std.specs.declared.cmp.Ordering.{Ordering}
-use Rattle.std.specs.declared.cmp.Ordering.TheVariants.{Less, Equal}
-use Rattle.std.specs.Cmp.{IsTotalOrder}
-use Rattle.std.proofs.lemmas.Bool.{true≢false}
-use Rattle.std.proofs.lemmas.Cmp.{ranked}
-use Rattle.mime_http.specs.Ranges.{Rank, rank_cmp}
-use Rattle.mime_http.specs.RangesLaws.{IsAtMost}
+use Rattle.mime_http.proofs.Common.{Bool, Contains, Equal, IsAtMost, IsTotalOrder, Less, List, MatchOrdering, Ordering, Rank, [], ap, arith, false, fold, if◌then◌else◌, inl, inr, is_gt, is_lt, map, nat_cmp, ord_max, ordering_then, rank_cmp, ranked, refl, subst, suc, sym, true, true≢false, zero, ℕ, ⊎_elim, ◌<◌, ◌∙◌, ◌∷◌, ◌≡◌, ◌⊎◌}
 use Rattle.mime_http.proofs.Highest.{least_item}
 
 -- an item of a longer list, and of a mapped one

@@ -1,19 +1,5 @@
 -- The content of quoted strings: what is written for a value, and what needs no backslash.
-use Rattle.std.proofs.Common.{◌≡◌, ◌≢◌, ◌∙◌, ◌==◌, ◌<◌, ◌≤◌, ℕ, zero, suc, Bool, true, false, List, [], ◌∷◌, ◌++◌, arith, refl, sym, ap, ap₂, cond, ⊎_elim, append-nil, append_assoc, ◌+◌, ◌*◌, get_or, length, take, drop}
-use Rattle.std.specs.Prelude.{◌||◌, ◌&&◌, not, if◌then◌else◌}
-use Rattle.std.specs.Char.{to_ascii_lowercase}
-use Rattle.std.specs.List.{list_all}
-use Rattle.std.proofs.Math.Seq.{take-length, drop-length, take-append-add, drop-append-add}
-use Rattle.std.proofs.lemmas.Bool.{and_parts, and_from, or_parts, cond_both, cases_Bool, eqb-true, false_from_ne_true}
-use Rattle.std.proofs.lemmas.Bool.Decides.{nat_tests}
-use Rattle.mime.specs.Bytes.{is_token_byte, is_quoted_byte, is_quoted_text_byte}
-use Rattle.mime.specs.Grammar.{IsToken, IsContent, no_byte, text_byte, quoted_pair}
-use Rattle.mime.specs.HeaderLaws.{AreHeaderBytes}
-use Rattle.mime.specs.Values.{lowered, is_charset}
-use Rattle.mime.proofs.HandedOut.{AreTokenBytes-from_token}
-use Rattle.mime_http.specs.Boundary.{is_bchar, IsBoundary}
-use Rattle.mime_http.specs.Unescaped.{unescaped}
-use Rattle.mime_http.specs.Written.{escaped, WrittenIsMeant}
+use Rattle.mime_http.proofs.Common.{AreHeaderBytes, AreTokenBytes-from_token, Bool, IsBoundary, IsContent, IsToken, List, WrittenIsMeant, [], and_from, and_parts, ap, append-nil, append_assoc, ap₂, arith, cases_Bool, cond, cond_both, drop, drop-append-add, drop-length, eqb-true, escaped, false, false_from_ne_true, get_or, if◌then◌else◌, is_bchar, is_charset, is_quoted_byte, is_quoted_text_byte, is_token_byte, length, list_all, lowered, nat_tests, no_byte, not, or_parts, quoted_pair, refl, suc, sym, take, take-append-add, take-length, text_byte, to_ascii_lowercase, true, unescaped, zero, ℕ, ⊎_elim, ◌&&◌, ◌*◌, ◌++◌, ◌+◌, ◌<◌, ◌==◌, ◌||◌, ◌∙◌, ◌∷◌, ◌≡◌, ◌≢◌, ◌≤◌}
 
 -- whether a byte is written after a backslash
 abbrev pub is_special : ℕ → Bool

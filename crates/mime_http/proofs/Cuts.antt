@@ -1,8 +1,5 @@
 -- Lines are cut in one way, and each line is.
-use Rattle.mime_http.proofs.Common.{◌≡◌, ◌∙◌, ◌==◌, refl, sym, ap, subst, arith, ℕ, Bool, true, false, List, [], ◌∷◌, ◌++◌, ◌<◌, length, flat_map, nat_tests, AreBetweenCommas, no_line, line_end, comma, IsInString, string_end, string_byte, string_pair, opens_string, IsPiece, piece_end, piece_byte, piece_string, BeginsPiece}
-use Rattle.std.proofs.lemmas.List.{append-nil, append_assoc}
-use Rattle.mime_http.specs.Walk.{At, Outside, after, ends, cut_from, cut}
-use Rattle.mime_http.specs.ListLaws.{OneCut}
+use Rattle.mime_http.proofs.Common.{AreBetweenCommas, At, BeginsPiece, Bool, IsInString, IsPiece, List, OneCut, Outside, [], after, ap, append-nil, append_assoc, arith, comma, cut, cut_from, ends, false, flat_map, length, line_end, nat_tests, no_line, opens_string, piece_byte, piece_end, piece_string, refl, string_byte, string_end, string_pair, subst, sym, true, ℕ, ◌++◌, ◌<◌, ◌==◌, ◌∙◌, ◌∷◌, ◌≡◌}
 use Rattle.mime_http.proofs.Passes.{comma_ends, through}
 
 -- ---- the only cut

@@ -1,12 +1,5 @@
 -- Counting the parameters that a range demands, and finding its weight, item by item.
-use Rattle.std.proofs.Common.{◌≡◌, ◌∙◌, ◌+◌, refl, sym, ap, subst, arith, ℕ, Bool, true, false, List, [], ◌∷◌, length, drop, get_or, Some, None, codes, bytes_eq, Option}
-use Rattle.std.specs.Prelude.{if◌then◌else◌, ◌≤◌, not, option_map, unwrap_or}
-use Rattle.std.specs.Option.{option_or}
-use Rattle.std.specs.List.{list_all}
-use Rattle.mime.specs.Items.{Item, item_of, items_of}
-use Rattle.mime.specs.Values.{MediaType}
-use Rattle.mime_http.specs.Weight.{thousandths_of}
-use Rattle.mime_http.specs.Ranges.{demanded, has, first_value}
+use Rattle.mime_http.proofs.Common.{Bool, Item, List, MediaType, None, Option, Some, [], ap, arith, bytes_eq, codes, demanded, drop, false, first_value, get_or, has, if◌then◌else◌, item_of, items_of, length, list_all, not, option_map, option_or, refl, subst, sym, thousandths_of, true, unwrap_or, ℕ, ◌+◌, ◌∙◌, ◌∷◌, ◌≡◌, ◌≤◌}
 
 -- whether a name is that of a weight
 abbrev is_weight : List ℕ → Bool

@@ -1,16 +1,5 @@
 -- The best offer is the first in the order of all.
-use Rattle.std.proofs.Common.{◌≡◌, ◌∙◌, ◌⊎◌, inl, inr, ◌<◌, ◌≤◌, ◌+◌, ◌==◌, refl, sym, ap, subst, arith, ⊎_elim, ℕ, zero, suc, Bool, true, false, List, [], ◌∷◌, length, map, get_or, Some, None}
-use Rattle.std.specs.Prelude.{fold, Contains}
-use Rattle.std.specs.List.{position_from, AllPairs}
-use Rattle.std.specs.Ordering.{is_eq, is_gt, ord_max, eq_by_cmp}
-use Rattle.std.proofs.lemmas.Bool.{true≢false, ne_eqb, cases_Bool}
-use Rattle.std.proofs.lemmas.Cmp.{tied_itself}
-use Rattle.std.proofs.lemmas.List.{get_or_default}
-use Rattle.std.proofs.lemmas.List.Elements.{Contains-get_or}
-use Rattle.std.proofs.lemmas.Iterator.Adapters.{position_from-zero}
-use Rattle.mime.specs.Values.{MediaType}
-use Rattle.mime_http.specs.Ranges.{Rank, rank_cmp, merit, best_offer, AreInOrder}
-use Rattle.mime_http.specs.RangesLaws.{BestIsFirst}
+use Rattle.mime_http.proofs.Common.{AllPairs, AreInOrder, BestIsFirst, Bool, Contains, Contains-get_or, List, MediaType, None, Rank, Some, [], ap, arith, best_offer, cases_Bool, eq_by_cmp, false, fold, get_or, get_or_default, inl, inr, is_eq, is_gt, length, map, merit, ne_eqb, ord_max, position_from, position_from-zero, rank_cmp, refl, subst, suc, sym, tied_itself, true, true≢false, zero, ℕ, ⊎_elim, ◌+◌, ◌<◌, ◌==◌, ◌∙◌, ◌∷◌, ◌≡◌, ◌≤◌, ◌⊎◌}
 use Rattle.mime_http.proofs.Closest.{highest_is_there, none_is_higher, at_most}
 use Rattle.mime_http.proofs.Highest.{same_by}
 use Rattle.mime_http.proofs.Order.{rank_at, ComesBefore}

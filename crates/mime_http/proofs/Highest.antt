@@ -1,13 +1,5 @@
 -- The highest of a list, and its first place, item by item.
-use Rattle.std.proofs.Common.{◌≡◌, ◌≢◌, ◌∙◌, ◌+◌, ◌<◌, refl, sym, ap, subst, arith, ⊎_elim, ℕ, Bool, true, false, List, [], ◌∷◌, length, drop, get_or, map, Option, Some, None, drop-cons}
-use Rattle.std.specs.Prelude.{fold, if◌then◌else◌}
-use Rattle.std.specs.List.{position_from, drop-map}
-use Rattle.std.specs.Ordering.{is_lt, is_eq, is_gt, ord_max, eq_by_cmp, ordering_reverse}
-use Rattle.std.specs.declared.cmp.Ordering.{Ordering}
-use Rattle.std.specs.declared.cmp.Ordering.TheVariants.{Less, Equal, Greater}
-use Rattle.std.specs.Cmp.{IsTotalOrder}
-use Rattle.std.proofs.lemmas.Bool.{cases_Bool, true≢false}
-use Rattle.std.proofs.lemmas.Cmp.{upto, tied_itself, tied_back}
+use Rattle.mime_http.proofs.Common.{Bool, Equal, Greater, IsTotalOrder, Less, List, None, Option, Ordering, Some, [], ap, arith, cases_Bool, drop, drop-cons, drop-map, eq_by_cmp, false, fold, get_or, if◌then◌else◌, is_eq, is_gt, is_lt, length, map, ord_max, ordering_reverse, position_from, refl, subst, sym, tied_back, tied_itself, true, true≢false, upto, ℕ, ⊎_elim, ◌+◌, ◌<◌, ◌∙◌, ◌∷◌, ◌≡◌, ◌≢◌}
 
 -- what is left from a place on begins with the item there
 pub item_left : {X : Type 0} (xs : List X) (i : ℕ) (d : X) → i < length xs → drop i xs ≡ get_or xs i d ∷ drop (i + 1) xs

@@ -1,11 +1,6 @@
 -- How far a value goes before more than some bytes come out of it, and what is known there.
-use Rattle.mime_http.proofs.Common.{◌≡◌, ◌∙◌, refl, sym, ap, subst, arith, ℕ, ◌+◌, ◌-◌, ◌<◌, ◌≤◌, Bool, true, false, List, [], ◌∷◌, ◌++◌, length, length-append, take, Some, take-append_seam, take-append-add, nat_lt, slice_get, nat_tests, IsUtf8-nil, IsUtf8-take, IsCharBoundary-from_take, IsCharBoundary, boundary_after, slice_get-prefix, is_space, Place, Start, Spaced, Closed, Semicolon, place_after, added, tight_from, tight}
-use Rattle.std.proofs.lemmas.List.{append-nil, append_assoc}
-use Rattle.std.specs.Str.{IsUtf8}
+use Rattle.mime_http.proofs.Common.{Bool, Closed, IsCharBoundary, IsCharBoundary-from_take, IsUtf8, IsUtf8-nil, IsUtf8-take, List, Paired, Place, Quoted, Reach, Semicolon, Some, Spaced, Start, [], added, ap, append-nil, append_assoc, arith, boundary_after, false, is_space, length, length-append, nat_lt, nat_tests, place_after, reach_after, reach_from, refl, settled_at, slice_get, slice_get-prefix, start, subst, sym, take, take-append-add, take-append_seam, tight, tight_from, true, ℕ, ◌++◌, ◌+◌, ◌-◌, ◌<◌, ◌∙◌, ◌∷◌, ◌≡◌, ◌≤◌}
 use Rattle.mime_http.proofs.HttpText.{tight_utf8}
-use Rattle.mime_http.specs.declared.tight.Place.TheVariants.{Quoted, Paired}
-use Rattle.mime_http.specs.declared.fault.Reach.{Reach}
-use Rattle.mime_http.specs.Reached.{start, settled_at, reach_after, reach_from}
 use Rattle.mime_http.proofs.Places.{place_from, place_from-append, after_value, before_name}
 use Rattle.mime_http.proofs.PlacesAgain.{IsSettled, outside_settled, within_settled, kept_settled}
 use Rattle.mime_http.proofs.HttpViability.{tight-append}

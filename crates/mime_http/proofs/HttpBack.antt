@@ -1,7 +1,5 @@
 -- What is read is what HTTP writes: bytes that tightening makes a syntax tree's text are a media type as HTTP writes it.
-use Rattle.mime_http.proofs.Common.{◌≡◌, ◌∙◌, ◌==◌, refl, sym, ap, subst, arith, ℕ, Bool, true, false, List, [], ◌∷◌, ◌++◌, length, drop, Reads, ◌+◌, and_parts, and_from, nat_tests, is_token_byte, Parameter, plain, quoted, Parameters, final, more, Tail, no_list, listed, SyntaxTree, is_space, AreSpaces, text_of_parameter, text_of_list, text_of_tail, text_of, IsToken, IsParameter, AreParameters, IsTail, IsWellFormed, MediaType, lowered, last_plus, AreTokenBytes-from_token, one_reading, Plain, Closed, Semicolon, place_after, tight_from, tight, IsHttpParameter, with_token, with_string, AreHttpParameters, no_more, semicolon, semicolon_and, HttpReads}
-use Rattle.std.proofs.lemmas.List.{append-nil, append_assoc}
-use Rattle.mime.specs.Grammar.{blank}
+use Rattle.mime_http.proofs.Common.{AreHttpParameters, AreParameters, AreSpaces, AreTokenBytes-from_token, Bool, Closed, HttpReads, IsHttpParameter, IsParameter, IsTail, IsToken, IsWellFormed, List, MediaType, Parameter, Parameters, Plain, Reads, Semicolon, SyntaxTree, Tail, [], and_from, and_parts, ap, append-nil, append_assoc, arith, blank, drop, false, final, is_space, is_token_byte, last_plus, length, listed, lowered, more, nat_tests, no_list, no_more, one_reading, place_after, plain, quoted, refl, semicolon, semicolon_and, subst, sym, text_of, text_of_list, text_of_parameter, text_of_tail, tight, tight_from, true, with_string, with_token, ℕ, ◌++◌, ◌+◌, ◌==◌, ◌∙◌, ◌∷◌, ◌≡◌}
 use Rattle.mime_http.proofs.Places.{after_token, after_equals, IsPlainByte, token_is_plain, of_type, of_name}
 use Rattle.mime_http.proofs.HttpForth.{spaces-append, http_is_read}
 use Rattle.mime_http.proofs.OutAgain.{After, and_then, said, any_back, token_byte_back, plain_end_back, plain_semicolon_back, start_back, after_plain_byte, token_back, value_back, content_back, closed_back}

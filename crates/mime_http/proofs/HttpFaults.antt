@@ -1,9 +1,5 @@
 -- The fault of a value, from that of what is left of it.
-use Rattle.mime_http.proofs.Common.{◌≡◌, ◌∙◌, refl, sym, ap, subst, arith, ℕ, suc, ◌+◌, ◌-◌, ◌<◌, ◌≤◌, Bool, true, false, List, [], ◌∷◌, ◌++◌, length, length-append, take, Some, ◌⊎◌, inl, inr, take-append_seam, take-append-add, take-length, ⊤, slice_get, false≢true, same_Some, slice_get_within, slice_get-prefix, viable-from_lacks, prefix_of_viable_is_viable, completed_is_rejected, IsAccepted, IsViable, EndsIn, Lacks, IsFault, ParseError, MissingSlash, MissingSubtype, MissingEqual, MissingValue, MissingQuote, InvalidToken, Place, Start, Plain, Spaced, Closed, Semicolon, place_after, is_left_out, brought_back, added, tight_from, tight, IsHttpViable, IsHttpLongestPrefix, HttpLacks, IsHttpFault}
-use Rattle.std.proofs.lemmas.List.{append-nil, append_assoc}
-use Rattle.mime_http.specs.declared.tight.Place.TheVariants.{Equals, Quoted, Paired}
-use Rattle.mime_http.specs.declared.fault.Reach.{Reach}
-use Rattle.mime_http.specs.Reached.{limit_of}
+use Rattle.mime_http.proofs.Common.{Bool, Closed, EndsIn, Equals, HttpLacks, InvalidToken, IsAccepted, IsFault, IsHttpFault, IsHttpLongestPrefix, IsHttpViable, IsViable, Lacks, List, MissingEqual, MissingQuote, MissingSlash, MissingSubtype, MissingValue, Paired, ParseError, Place, Plain, Quoted, Reach, Semicolon, Some, Spaced, Start, [], added, ap, append-nil, append_assoc, arith, brought_back, completed_is_rejected, false, false≢true, inl, inr, is_left_out, length, length-append, limit_of, place_after, prefix_of_viable_is_viable, refl, same_Some, slice_get, slice_get-prefix, slice_get_within, subst, suc, sym, take, take-append-add, take-append_seam, take-length, tight, tight_from, true, viable-from_lacks, ℕ, ⊤, ◌++◌, ◌+◌, ◌-◌, ◌<◌, ◌∙◌, ◌∷◌, ◌≡◌, ◌≤◌, ◌⊎◌}
 use Rattle.mime_http.proofs.Places.{place_from, place_from-append}
 use Rattle.mime_http.proofs.PlacesAgain.{IsSettled, kept_adds, no_space}
 use Rattle.mime_http.proofs.HttpViability.{tight-append, settled_end, goes_on_as, viable_from_tight, tight_from_viable, accepted_from_spaced, viable_from_accepted, prefix_of_http_viable}

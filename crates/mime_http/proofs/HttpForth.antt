@@ -1,9 +1,5 @@
 -- What HTTP writes is read: tightened, it is the text of a syntax tree with the same parts.
-use Rattle.mime_http.proofs.Common.{◌≡◌, ◌∙◌, refl, sym, ap, subst, ℕ, true, List, [], ◌∷◌, ◌++◌, and_parts, and_from, list_all-append, is_token_byte, plain, quoted, Parameters, final, more, Tail, no_list, listed, SyntaxTree, is_space, AreSpaces, AreTokenBytes, IsToken, text_of_list, text_of_tail, text_of, AreParameters, IsTail, MediaType, Reads, value_of, lowered, lowered_value, lowered_list, lowered_tail, pairs_of_list, pairs_of_tail, tight, HttpReads, IsHttpParameter, with_token, with_string, AreHttpParameters, no_more, semicolon, semicolon_and}
-use Rattle.std.proofs.lemmas.List.{append-nil, append_assoc}
-use Rattle.mime.specs.Grammar.{blank}
-use Rattle.mime_http.specs.HeaderLaws.{HttpIsRead}
-use Rattle.mime_http.specs.Tight.{Tightens, at_end, a_semicolon, before_token, a_string, a_byte}
+use Rattle.mime_http.proofs.Common.{AreHttpParameters, AreParameters, AreSpaces, AreTokenBytes, HttpIsRead, HttpReads, IsHttpParameter, IsTail, IsToken, List, MediaType, Parameters, Reads, SyntaxTree, Tail, Tightens, [], a_byte, a_semicolon, a_string, and_from, and_parts, ap, append-nil, append_assoc, at_end, before_token, blank, final, is_space, is_token_byte, list_all-append, listed, lowered, lowered_list, lowered_tail, lowered_value, more, no_list, no_more, pairs_of_list, pairs_of_tail, plain, quoted, refl, semicolon, semicolon_and, subst, sym, text_of, text_of_list, text_of_tail, tight, true, value_of, with_string, with_token, ℕ, ◌++◌, ◌∙◌, ◌∷◌, ◌≡◌}
 use Rattle.mime_http.proofs.Places.{token_is_plain}
 use Rattle.mime_http.proofs.Tightened.{IsOther, other_byte, tight_is}
 

@@ -1,8 +1,5 @@
 -- A value that is no media type has exactly one fault.
-use Rattle.mime_http.proofs.Common.{◌≡◌, ◌∙◌, refl, sym, ap, subst, arith, ℕ, ◌<◌, List, [], ◌∷◌, ◌++◌, length, inl, inr, ⊎_elim, take-length, slice_get, codes, cases_lt, same_Some, slice_get_within, slice_get-get_or, IsAccepted, EndsIn, Lacks, IsFault, ParseError, MissingSlash, MissingSubtype, MissingEqual, MissingValue, MissingQuote, InvalidToken, NoMemory, accepted_or_rejected, one_fault, Place, Start, Spaced, place_after, tight_from, tight, IsHttpMediaType, IsHttpViable, IsHttpLongestPrefix, HttpLacks, IsHttpFault}
-use Rattle.std.proofs.Common.{append_assoc}
-use Rattle.mime_http.specs.Reached.{start, reach_from, limit_of}
-use Rattle.mime_http.specs.HeaderLaws.{OneHttpFault}
+use Rattle.mime_http.proofs.Common.{EndsIn, HttpLacks, InvalidToken, IsAccepted, IsFault, IsHttpFault, IsHttpLongestPrefix, IsHttpMediaType, IsHttpViable, Lacks, List, MissingEqual, MissingQuote, MissingSlash, MissingSubtype, MissingValue, NoMemory, OneHttpFault, ParseError, Place, Spaced, Start, [], accepted_or_rejected, ap, append_assoc, arith, cases_lt, codes, inl, inr, length, limit_of, one_fault, place_after, reach_from, refl, same_Some, slice_get, slice_get-get_or, slice_get_within, start, subst, sym, take-length, tight, tight_from, ℕ, ⊎_elim, ◌++◌, ◌<◌, ◌∙◌, ◌∷◌, ◌≡◌}
 use Rattle.mime_http.proofs.Places.{place_from}
 use Rattle.mime_http.proofs.PlacesAgain.{IsSettled}
 use Rattle.mime_http.proofs.HttpViability.{http_from_accepted, tight_accepted, accepted_from_spaced}

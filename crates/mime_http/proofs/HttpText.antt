@@ -1,10 +1,6 @@
 -- Tightening leaves bytes in UTF-8 exactly if they are.
-use Rattle.mime_http.proofs.Common.{◌≡◌, ◌∙◌, ◌==◌, ◌<◌, ◌≤◌, refl, sym, ap, subst, arith, ℕ, zero, suc, true, List, [], ◌∷◌, ◌++◌, length, ⊎_elim, length-append, ⊤, nat_le, nat_lt, ◌&&◌, ◌↔◌, list_all, and_parts, cond_both, cases_lt, nat_tests, IsUtf8-nil, IsUtf8-append, IsUtf8-encode, IsUtf8-from_ascii, encode_ascii, cons_from_encodes, length-encode, len_utf8_bounds, high_bytes, Place, Start, Plain, Spaced, place_after, is_left_out, brought_back, added, tight_from, tight}
-use Rattle.std.specs.Prelude.{IsUtf8}
-use Rattle.std.proofs.lemmas.List.{append_assoc}
-use Rattle.std.proofs.lemmas.Str.Ascii.{IsAscii-cons, IsAscii-nil}
+use Rattle.mime_http.proofs.Common.{IsAscii-cons, IsAscii-nil, IsUtf8, IsUtf8-append, IsUtf8-encode, IsUtf8-from_ascii, IsUtf8-nil, List, Paired, Place, Plain, Quoted, Spaced, Start, [], added, and_parts, ap, append_assoc, arith, brought_back, cases_lt, cond_both, cons_from_encodes, encode_ascii, high_bytes, is_left_out, len_utf8_bounds, length, length-append, length-encode, list_all, nat_le, nat_lt, nat_tests, place_after, refl, subst, suc, sym, tight, tight_from, true, zero, ℕ, ⊎_elim, ⊤, ◌&&◌, ◌++◌, ◌<◌, ◌==◌, ◌↔◌, ◌∙◌, ◌∷◌, ◌≡◌, ◌≤◌}
 use lib.Utf8.{scalars, scalar, encodes, encode}
-use Rattle.mime_http.specs.declared.tight.Place.TheVariants.{Quoted, Paired}
 use Rattle.mime_http.proofs.Places.{IsPlainByte, after_token}
 use Rattle.mime_http.proofs.PlacesAgain.{kept_adds, is_kept}
 use Rattle.mime_http.proofs.OutAgain.{After, and_then, to_place, token_byte_back, any_back}

@@ -1,7 +1,5 @@
 -- Which beginnings of a value may still become a media type as HTTP writes it: by the library's walk over what is left of them.
-use Rattle.mime_http.proofs.Common.{◌≡◌, ◌∙◌, ◌==◌, refl, sym, ap, subst, arith, ℕ, Bool, true, false, List, [], ◌∷◌, ◌++◌, Option, Some, None, ⊤, IsTrue, IsFalse, MatchOption, if◌then◌else◌, option_map, and_parts, cond_both, false≢true, nat_tests, append_cancel_left, none-some, same_Some, option_and_then_some, MatchOption-at_some, is_token_byte, is_quoted_byte, SyntaxTree, is_space, IsAccepted, IsViable, takes, continues, awaits_next, awaits_after, ClosedParameters, Begun, in_type, in_subtype, in_list, ListState, in_spaces, in_name, in_value, in_quotes, after_quotes, grow_state, grow_list, list_at, grow, walk, walk_from, tree_of, walk_by-append, awaits_after-append, by_class, walk-accepted, accepted-from_complete, Place, Start, Plain, Spaced, Closed, Semicolon, place_after, added, tight_from, tight, IsHttpMediaType, IsHttpViable}
-use Rattle.std.proofs.lemmas.List.{append-nil, append_assoc}
-use Rattle.mime_http.specs.declared.tight.Place.TheVariants.{Equals, Quoted, Paired}
+use Rattle.mime_http.proofs.Common.{Begun, Bool, Closed, ClosedParameters, Equals, IsAccepted, IsFalse, IsHttpMediaType, IsHttpViable, IsTrue, IsViable, List, ListState, MatchOption, MatchOption-at_some, None, Option, Paired, Place, Plain, Quoted, Semicolon, Some, Spaced, Start, SyntaxTree, [], accepted-from_complete, added, after_quotes, and_parts, ap, append-nil, append_assoc, append_cancel_left, arith, awaits_after, awaits_after-append, awaits_next, by_class, cond_both, continues, false, false≢true, grow, grow_list, grow_state, if◌then◌else◌, in_list, in_name, in_quotes, in_spaces, in_subtype, in_type, in_value, is_quoted_byte, is_space, is_token_byte, list_at, nat_tests, none-some, option_and_then_some, option_map, place_after, refl, same_Some, subst, sym, takes, tight, tight_from, tree_of, true, walk, walk-accepted, walk_by-append, walk_from, ℕ, ⊤, ◌++◌, ◌==◌, ◌∙◌, ◌∷◌, ◌≡◌}
 use Rattle.mime_http.proofs.Places.{place_from, Leads, no_bytes, one, both, so, token_is_plain, of_type, goes_on, of_value, of_name, plain_byte, before_name, after_value, space, accepted_stays}
 use Rattle.mime_http.proofs.PlacesAgain.{IsSettled, IsLike, itself, left_after_plain, left_after_equals, ends_like}
 use Rattle.mime_http.proofs.HttpBack.{read_is_http}

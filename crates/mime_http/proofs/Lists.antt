@@ -1,8 +1,7 @@
 -- Lists as HTTP writes them are read as their elements, and what is read with nothing bad are such lists.
-use Rattle.mime_http.proofs.Common.{◌≡◌, ◌∙◌, ◌==◌, refl, sym, ap, subst, arith, ℕ, true, false, List, [], ◌∷◌, ◌++◌, ⊤, and_parts, nat_tests, is_token_byte, is_space, AreSpaces, AreTokenBytes, IsToken, IsContent, no_byte, text_byte, quoted_pair, MediaType, IsAccepted, IsHttpParameter, with_token, with_string, AreHttpParameters, no_more, semicolon, semicolon_and, HttpReads, IsHttpMediaType, AreBetweenCommas, no_line, line_end, comma, trim_start, trim_end, AreSorted, no_text, a_range, a_bad, IsInString, string_end, string_byte, string_pair, opens_string, IsPiece, piece_end, piece_byte, piece_string, BeginsPiece, tight, one_reading}
-use Rattle.std.proofs.lemmas.List.{append-nil, append_assoc}
+use Rattle.mime_http.proofs.Common.{AreBetweenCommas, AreElements, AreHttpParameters, AreSame, AreSorted, AreSpaces, AreTokenBytes, BadIsAlone, BeginsPiece, HttpListsAreRead, HttpReads, IsAccepted, IsContent, IsHttpMediaType, IsHttpParameter, IsInString, IsPiece, IsToken, List, MediaType, OneHeader, ReadAreHttpLists, [], a_bad, a_range, and_parts, ap, append-nil, append_assoc, arith, comma, element, false, is_space, is_token_byte, line_end, nat_tests, no_byte, no_line, no_more, no_text, nothing, one_reading, opens_string, piece_byte, piece_end, piece_string, quoted_pair, refl, semicolon, semicolon_and, string_byte, string_end, string_pair, subst, sym, text_byte, tight, trim_end, trim_start, true, with_string, with_token, without_kept, ℕ, ⊤, ◌++◌, ◌==◌, ◌∙◌, ◌∷◌, ◌≡◌}
 use Rattle.mime_http.specs.HttpList.{blank}
-use Rattle.mime_http.specs.ListLaws.{AreElements, no_text as no_element, nothing, element, without_kept, AreSame, HttpListsAreRead, ReadAreHttpLists, OneHeader, BadIsAlone}
+use Rattle.mime_http.specs.ListLaws.{no_text as no_element}
 use Rattle.mime_http.proofs.Places.{token_is_plain, text_is_no_mark, at_start, nothing_out}
 use Rattle.mime_http.proofs.Adds.{sorted_both}
 use Rattle.mime_http.proofs.HttpLaws.{reads_tight, tight_reads}

@@ -1,14 +1,5 @@
 -- A media type covers itself, and what covers an offer is told by what both mean.
-use Rattle.std.proofs.Common.{◌≡◌, ◌∙◌, refl, sym, ap, ℕ, Bool, true, false, List, [], ◌∷◌, ◌++◌, length, map, Option, Some, None, is_some, codes, bytes_eq}
-use Rattle.std.specs.Prelude.{◌&&◌, ◌||◌, not, if◌then◌else◌, option_map}
-use Rattle.std.specs.List.{list_all, list_any}
-use Rattle.std.proofs.lemmas.Bool.{and_from}
-use Rattle.std.proofs.lemmas.List.{append_assoc}
-use Rattle.std.proofs.lemmas.Slice.Eq.{bytes_eq-Decides}
-use Rattle.mime.specs.Values.{MediaType, type_of}
-use Rattle.mime_http.specs.Ranges.{Rank, weight_of, named_parts, demanded, has, closeness}
-use Rattle.mime_http.specs.Unescaped.{unescaped}
-use Rattle.mime_http.specs.RangesLaws.{CoversItself, meaning_of, MeanTheSame, MeaningCounts}
+use Rattle.mime_http.proofs.Common.{Bool, CoversItself, List, MeanTheSame, MeaningCounts, MediaType, None, Option, Rank, Some, [], and_from, ap, append_assoc, bytes_eq, bytes_eq-Decides, closeness, codes, demanded, false, has, if◌then◌else◌, is_some, length, list_all, list_any, map, meaning_of, named_parts, not, option_map, refl, sym, true, type_of, unescaped, weight_of, ℕ, ◌&&◌, ◌++◌, ◌||◌, ◌∙◌, ◌∷◌, ◌≡◌}
 
 -- a list of parameters
 abbrev Pairs : Type 0

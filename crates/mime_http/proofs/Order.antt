@@ -1,22 +1,8 @@
 -- The offers that weigh more than 0, sorted, are in order.
-use Rattle.std.proofs.Common.{◌≡◌, ◌≢◌, ◌∙◌, ◌⊎◌, inl, inr, ◌<◌, ◌+◌, refl, sym, ap, subst, arith, ⊎_elim, ℕ, zero, suc, Bool, true, false, List, [], ◌∷◌, length, map, get_or}
-use Rattle.std.specs.Prelude.{if◌then◌else◌, ◌==◌, Contains}
-use Rattle.std.specs.List.{AllByRecursion, IsDistinct}
+use Rattle.mime_http.proofs.Common.{AllByRecursion, AreInOrder, Bool, Contains, Contains-get_or, Equal, Greater, IsDistinct, IsTotalOrder, Less, List, MatchOrdering, MediaType, Ordering, Rank, Reverse, [], ap, arith, back_total, eq-eqb, false, flip_args, get_or, get_or-map, if◌then◌else◌, inl, inr, is_gt, is_lt, length, length-map, map, merit, nat_cmp, nat_cmp_total, nat_tests, ne_eqb, on, on_total, ordering_then, rank_cmp, ranked, refl, subst, suc, sym, then_cmp, then_total, true, true≢false, zero, ℕ, ⊎_elim, ◌+◌, ◌<◌, ◌==◌, ◌∙◌, ◌∷◌, ◌≡◌, ◌≢◌, ◌⊎◌}
 use Rattle.std.specs.List.Sorted.{IsPermutation, IsSorted}
-use Rattle.std.specs.Ordering.{nat_cmp, then_cmp, on, flip_args, ordering_then, is_lt, is_gt, MatchOrdering}
-use Rattle.std.specs.Cmp.{IsTotalOrder}
-use Rattle.std.specs.declared.cmp.Ordering.{Ordering}
-use Rattle.std.specs.declared.cmp.Ordering.TheVariants.{Less, Equal, Greater}
-use Rattle.std.specs.declared.cmp.Reverse.{Reverse}
-use Rattle.std.proofs.lemmas.Bool.{true≢false, ne_eqb, eq-eqb}
-use Rattle.std.proofs.lemmas.Bool.Decides.{nat_tests}
-use Rattle.std.proofs.lemmas.Cmp.{ranked, nat_cmp_total, on_total, then_total, back_total}
-use Rattle.std.proofs.lemmas.List.{get_or-map, length-map}
-use Rattle.std.proofs.lemmas.List.Elements.{Contains-get_or}
 use Rattle.std.proofs.lemmas.List.Sorted.{ranks_by, sorted_far, IsPermutation-sym, IsPermutation-map, Contains-permutation}
 use Rattle.std.proofs.lemmas.Map.Keys.{IsDistinct-IsPermutation, apart_from_distinct}
-use Rattle.mime.specs.Values.{MediaType}
-use Rattle.mime_http.specs.Ranges.{Rank, rank_cmp, merit, AreInOrder}
 use Rattle.mime_http.proofs.Closest.{in_more, in_mapped, of_mapped}
 use Rattle.mime_http.proofs.Ranks.{ranks_total, one_rank}
 

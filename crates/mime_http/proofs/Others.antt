@@ -1,13 +1,6 @@
 -- Writing the parameters of other names, item by item.
-use Rattle.std.proofs.Common.{◌≡◌, ◌∙◌, ◌+◌, ◌≤◌, refl, sym, ap, subst, arith, ℕ, suc, Bool, not, List, [], ◌∷◌, ◌++◌, length, drop, get_or, bytes_eq, append-nil, append_assoc, length-append}
-use Rattle.std.proofs.lemmas.Bool.{false_from_ne_true}
-use Rattle.std.proofs.lemmas.Grind.{flat_map-append}
+use Rattle.mime_http.proofs.Common.{Bool, Item, List, NameIs, [], ap, append-nil, append_assoc, arith, bytes_eq, bytes_eq-Decides, drop, false_from_ne_true, flat_map-append, get_or, item_of, items_of, length, length-append, lowered, not, others, refl, subst, suc, sym, text_of_pair, text_of_pairs, ℕ, ◌++◌, ◌+◌, ◌∙◌, ◌∷◌, ◌≡◌, ◌≤◌}
 use Rattle.std.proofs.lemmas.List.Filters.{length-filter_both}
-use Rattle.std.proofs.lemmas.Slice.Eq.{bytes_eq-Decides}
-use Rattle.mime.specs.Items.{Item, item_of, items_of}
-use Rattle.mime.specs.Names.{NameIs}
-use Rattle.mime.specs.Values.{lowered}
-use Rattle.mime_http.specs.Written.{text_of_pair, text_of_pairs, others}
 
 -- of the pairs whose items are left, those of other names are still to be written after this text, and to be counted
 pub record Left (name whole text : List ℕ) (total count : ℕ) (items : List Item) : Type 0 where

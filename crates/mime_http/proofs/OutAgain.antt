@@ -1,7 +1,5 @@
 -- Bytes of which these come out begin with these, but for white space that is left out.
-use Rattle.mime_http.proofs.Common.{◌≡◌, ◌∙◌, ◌==◌, refl, sym, ap, subst, arith, ℕ, Bool, true, false, List, [], ◌∷◌, ◌++◌, and_parts, and_from, true≢false, is_token_byte, is_space, AreSpaces, AreTokenBytes, IsToken, IsContent, no_byte, text_byte, quoted_pair, Place, Start, Plain, Spaced, Closed, Semicolon, place_after, added, tight_from}
-use Rattle.std.proofs.lemmas.List.{append_assoc}
-use Rattle.mime_http.specs.declared.tight.Place.TheVariants.{Equals, Quoted, Paired}
+use Rattle.mime_http.proofs.Common.{AreSpaces, AreTokenBytes, Bool, Closed, Equals, IsContent, IsToken, List, Paired, Place, Plain, Quoted, Semicolon, Spaced, Start, [], added, and_from, and_parts, ap, append_assoc, arith, false, is_space, is_token_byte, no_byte, place_after, quoted_pair, refl, subst, sym, text_byte, tight_from, true, true≢false, ℕ, ◌++◌, ◌==◌, ◌∙◌, ◌∷◌, ◌≡◌}
 use Rattle.mime_http.proofs.Places.{IsPlainByte, token_is_plain, TakesToken, goes_on, of_value, plain_byte, text_is_no_mark, LeavesWhite, after_token, after_equals}
 
 -- ---- bytes that come out as they are

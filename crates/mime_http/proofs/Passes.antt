@@ -1,7 +1,6 @@
 -- A piece passes from outside strings to outside strings.
-use Rattle.mime_http.proofs.Common.{◌≡◌, ◌∙◌, ◌==◌, refl, sym, ap, subst, ℕ, Bool, true, false, List, [], ◌∷◌, ◌++◌, ⊤, IsInString, string_end, string_byte, string_pair, opens_string, IsPiece, piece_end, piece_byte, piece_string}
-use Rattle.std.proofs.lemmas.List.{append-nil, append_assoc}
-use Rattle.mime_http.specs.Walk.{At, Outside, Equals, Quoted, Paired, after_outside, after, ends, cut_from}
+use Rattle.mime_http.proofs.Common.{At, Bool, IsInString, IsPiece, List, Outside, [], after, after_outside, ap, append-nil, append_assoc, cut_from, ends, false, opens_string, piece_byte, piece_end, piece_string, refl, string_byte, string_end, string_pair, subst, sym, true, ℕ, ⊤, ◌++◌, ◌==◌, ◌∙◌, ◌∷◌, ◌≡◌}
+use Rattle.mime_http.specs.Walk.{Equals, Quoted, Paired}
 
 -- ---- from a place on
 

@@ -1,20 +1,5 @@
 -- What is picked from a list item by item is what none is higher than: the closest range, and the best offer.
-use Rattle.std.proofs.Common.{◌≡◌, ◌∙◌, ◌≤◌, ◌+◌, ◌==◌, refl, sym, ap, subst, arith, ⊎_elim, ℕ, zero, suc, Bool, true, false, List, [], ◌∷◌, map, Option, Some, None, is_some}
-use Rattle.std.specs.Prelude.{fold, filter_map, find, position, nat_lt, ◌&&◌, if◌then◌else◌, Contains, MatchOption}
-use Rattle.std.specs.List.{list_all, cons_option, enumerate_from, position_from}
-use Rattle.std.specs.Option.{option_cmp}
-use Rattle.std.specs.Ordering.{is_lt, is_le, is_eq, is_gt, ord_max, eq_by_cmp}
-use Rattle.std.specs.declared.cmp.Ordering.{Ordering}
-use Rattle.std.specs.declared.cmp.Ordering.TheVariants.{Equal, Greater}
-use Rattle.std.specs.Cmp.{IsTotalOrder}
-use Rattle.std.specs.Cmp.Lexicographic.{options_total}
-use Rattle.std.proofs.lemmas.Bool.{true≢false, cases_Bool, and_parts, and_from, eqb-true, eq-eqb}
-use Rattle.std.proofs.lemmas.Bool.Decides.{nat_tests}
-use Rattle.std.proofs.lemmas.Cmp.{tied_itself}
-use Rattle.std.proofs.lemmas.Iterator.Adapters.{position_from-zero}
-use Rattle.mime.specs.Values.{MediaType}
-use Rattle.mime_http.specs.Ranges.{Rank, rank_cmp, closeness, closest}
-use Rattle.mime_http.specs.RangesLaws.{IsAtMost, ClosestIsClosest}
+use Rattle.mime_http.proofs.Common.{Bool, ClosestIsClosest, Contains, Equal, Greater, IsAtMost, IsTotalOrder, List, MatchOption, MediaType, None, Option, Ordering, Rank, Some, [], and_from, and_parts, ap, arith, cases_Bool, closeness, closest, cons_option, enumerate_from, eq-eqb, eq_by_cmp, eqb-true, false, filter_map, find, fold, if◌then◌else◌, is_eq, is_gt, is_le, is_lt, is_some, list_all, map, nat_lt, nat_tests, option_cmp, options_total, ord_max, position, position_from, position_from-zero, rank_cmp, refl, subst, suc, sym, tied_itself, true, true≢false, zero, ℕ, ⊎_elim, ◌&&◌, ◌+◌, ◌==◌, ◌∙◌, ◌∷◌, ◌≡◌, ◌≤◌}
 use Rattle.mime_http.proofs.Closest.{in_more, in_mapped, of_mapped, highest_is_there, none_is_higher, at_most}
 use Rattle.mime_http.proofs.Highest.{same_by, between_by}
 use Rattle.mime_http.proofs.Ranks.{ranks_total, one_rank}

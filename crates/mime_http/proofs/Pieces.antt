@@ -1,16 +1,7 @@
 -- A line's first piece: bytes without a mark go on with it, and a comma outside strings ends it.
-use Rattle.std.proofs.Common.{◌≡◌, ◌∙◌, ◌==◌, ◌||◌, refl, sym, ap, ap₂, subst, arith, ℕ, zero, suc, Bool, true, false, not, cond, eqb, List, [], ◌∷◌, ◌<◌, ◌≤◌, ◌+◌, ◌-◌, ◌%◌, ◌/◌, ◌^◌, length, take, drop, get_or, map, bit_or, ⊎_elim}
-use Rattle.std.proofs.lemmas.Bool.{cases_lt}
-use Rattle.std.proofs.lemmas.Bool.Decides.{nat_tests}
-use Rattle.std.proofs.lemmas.List.{length-map, length-drop, take_all, get_or-drop, drop-drop}
-use Rattle.std.specs.List.{drop-map}
+use Rattle.mime_http.proofs.Common.{AreUnmarked, At, Bool, List, Outside, [], after, after_outside, ap, ap₂, arith, bit_or, cases_lt, chunk, cond, count_trailing_zeros, cut, cut_after, cut_from, drop, drop-drop, drop-map, drop_of_length-le, ends, eqb, false, get_or, get_or-drop, is_mark, leading_from_mask_l, length, length-chunk, length-drop, length-map, map, map-map, mask_l, mask_l-mod, nat_tests, not, prefix_len, refl, run_in_chunk_fails, run_in_chunk_le, run_in_chunk_stops, subst, suc, sym, take, take_all, top, trailing_mask_l, true, zero, ℕ, ⊎_elim, ◌%◌, ◌+◌, ◌-◌, ◌/◌, ◌<◌, ◌==◌, ◌^◌, ◌||◌, ◌∙◌, ◌∷◌, ◌≡◌, ◌≤◌}
 use Rattle.mime.proofs.BlocksLemmas.{mask-drop}
-use Rattle.std.proofs.lemmas.Simd.{map-map, mask_l-mod, length-chunk, leading_from_mask_l, trailing_mask_l, run_in_chunk_le, run_in_chunk_fails, run_in_chunk_stops}
-use Rattle.std.proofs.Math.ListN.{drop_of_length-le}
-use Rattle.std.specs.List.{prefix_len}
-use lib.Count.{count_trailing_zeros}
-use lib.Lanes.{chunk, mask_l, top}
-use Rattle.mime_http.specs.Walk.{At, Outside, Equals, Quoted, Paired, after_outside, after, ends, cut_from, cut, cut_after, is_mark, AreUnmarked}
+use Rattle.mime_http.specs.Walk.{Equals, Quoted, Paired}
 use Rattle.mime_http.proofs.Passes.{IsOutside, goes_on, comma_ends}
 use Rattle.mime_http.proofs.Highest.{item_left}
 use Rattle.mime_http.proofs.Trims.{next_taken}

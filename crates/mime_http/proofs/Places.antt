@@ -1,8 +1,5 @@
 -- What is read from a place on: an accepted text is written as it is.
-use Rattle.mime_http.proofs.Common.{◌≡◌, ◌∙◌, ◌==◌, refl, sym, ap, subst, arith, ℕ, true, false, List, [], ◌∷◌, ◌++◌, and_parts, nat_tests, is_token_byte, is_quoted_byte, is_quoted_text_byte, Parameter, plain, quoted, Parameters, final, more, Tail, no_list, listed, SyntaxTree, is_space, AreSpaces, text_of_parameter, text_of_list, text_of_tail, text_of, AreTokenBytes, IsToken, IsContent, no_byte, text_byte, quoted_pair, IsParameter, AreParameters, IsTail, IsWellFormed, MediaType, Reads, IsAccepted, Place, Start, Plain, Spaced, Closed, Semicolon, place_after, added, tight_from, tight}
-use Rattle.std.proofs.lemmas.List.{append-nil, append_assoc}
-use Rattle.mime.specs.Grammar.{blank}
-use Rattle.mime_http.specs.declared.tight.Place.TheVariants.{Equals, Quoted, Paired}
+use Rattle.mime_http.proofs.Common.{AreParameters, AreSpaces, AreTokenBytes, Closed, Equals, IsAccepted, IsContent, IsParameter, IsTail, IsToken, IsWellFormed, List, MediaType, Paired, Parameter, Parameters, Place, Plain, Quoted, Reads, Semicolon, Spaced, Start, SyntaxTree, Tail, [], added, and_parts, ap, append-nil, append_assoc, arith, blank, false, final, is_quoted_byte, is_quoted_text_byte, is_space, is_token_byte, listed, more, nat_tests, no_byte, no_list, place_after, plain, quoted, quoted_pair, refl, subst, sym, text_byte, text_of, text_of_list, text_of_parameter, text_of_tail, tight, tight_from, true, ℕ, ◌++◌, ◌==◌, ◌∙◌, ◌∷◌, ◌≡◌}
 
 -- the place after bytes
 abbrev pub place_from : Place → List ℕ → Place

@@ -1,8 +1,5 @@
 -- What was written from a place on is written again.
-use Rattle.mime_http.proofs.Common.{◌≡◌, ◌∙◌, ◌==◌, refl, ap, sym, subst, arith, ℕ, Bool, true, false, List, [], ◌∷◌, ◌++◌, ⊤, if◌then◌else◌, nat_tests, is_space, Place, Start, Plain, Spaced, Closed, Semicolon, after_quote, after_within, place_after, is_left_out, brought_back, added, tight_from, tight}
-use Rattle.std.proofs.lemmas.List.{append-nil, append_assoc}
-use Rattle.mime_http.specs.declared.tight.Place.TheVariants.{Equals, Quoted, Paired}
-use Rattle.mime_http.specs.Places.{after_unquoted}
+use Rattle.mime_http.proofs.Common.{Bool, Closed, Equals, List, Paired, Place, Plain, Quoted, Semicolon, Spaced, Start, [], added, after_quote, after_unquoted, after_within, ap, append-nil, append_assoc, arith, brought_back, false, if◌then◌else◌, is_left_out, is_space, nat_tests, place_after, refl, subst, sym, tight, tight_from, true, ℕ, ⊤, ◌++◌, ◌==◌, ◌∙◌, ◌∷◌, ◌≡◌}
 use Rattle.mime_http.proofs.Places.{place_from, Leads, both, one, so, no_bytes, KeepsSpace, after_value, before_name}
 
 -- a place after which no white space was left out

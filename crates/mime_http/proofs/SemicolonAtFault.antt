@@ -1,7 +1,5 @@
 -- A semicolon at fault is left out after another, and else stands; so does each other byte, and what is missing at the end.
-use Rattle.mime_http.proofs.Common.{◌≡◌, ◌∙◌, ◌==◌, ◌≢◌, refl, sym, ap, subst, arith, ℕ, ◌+◌, Bool, true, false, List, [], ◌∷◌, take, Some, None, ⊤, if◌then◌else◌, option_map, true≢false, nat_tests, none-some, slice_get_within, is_quoted_byte, is_space, IsAccepted, IsDeadAt, Lacks, IsFault, takes, awaits_after, ParseError, InvalidToken, ClosedParameters, Begun, in_type, in_subtype, in_list, ListState, in_value, in_quotes, after_quotes, grow_state, grow, walk, completed_is_rejected, spelled-from_walk, walk-from_viable, viable-from_lacks, Place, Start, Plain, Spaced, Closed, Semicolon, after_space, after_quote, place_after, added, tight, IsHttpMediaType, HttpLacks, is_semicolon_or_space, ends_in_semicolon_or_space, Stands, IsLoose}
-use Rattle.mime_http.specs.declared.tight.Place.TheVariants.{Equals, Quoted, Paired}
-use Rattle.mime_http.specs.Places.{after_unquoted}
+use Rattle.mime_http.proofs.Common.{Begun, Bool, Closed, ClosedParameters, Equals, HttpLacks, InvalidToken, IsAccepted, IsDeadAt, IsFault, IsHttpMediaType, IsLoose, Lacks, List, ListState, None, Paired, ParseError, Place, Plain, Quoted, Semicolon, Some, Spaced, Stands, Start, [], added, after_quote, after_quotes, after_space, after_unquoted, ap, arith, awaits_after, completed_is_rejected, ends_in_semicolon_or_space, false, grow, grow_state, if◌then◌else◌, in_list, in_quotes, in_subtype, in_type, in_value, is_quoted_byte, is_semicolon_or_space, is_space, nat_tests, none-some, option_map, place_after, refl, slice_get_within, spelled-from_walk, subst, sym, take, takes, tight, true, true≢false, viable-from_lacks, walk, walk-from_viable, ℕ, ⊤, ◌+◌, ◌==◌, ◌∙◌, ◌∷◌, ◌≡◌, ◌≢◌}
 use Rattle.mime_http.proofs.Places.{place_from, place_from-append, comes_out_whole}
 use Rattle.mime_http.proofs.PlacesAgain.{IsSettled, comes_out}
 use Rattle.mime_http.proofs.HttpLaws.{accepted_from_http}

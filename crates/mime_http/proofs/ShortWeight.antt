@@ -1,18 +1,5 @@
 -- A media type whose kept text ends in a weight of one decimal, right after the essence, has no other parameter.
-use Rattle.std.proofs.Common.{◌≡◌, ◌∙◌, refl, sym, ap, arith, ℕ, suc, ◌+◌, Bool, true, List, [], ◌∷◌, ◌++◌, length, drop, get_or, Some, None, codes}
-use Rattle.std.specs.Prelude.{◌&&◌, ◌*◌, ◌-◌, if◌then◌else◌}
-use Rattle.std.specs.List.{list_all}
-use Rattle.std.proofs.lemmas.Slice.Eq.{HasBytesAt, text_from_reads}
-use Rattle.std.specs.Char.{is_ascii_digit}
-use Rattle.std.proofs.Math.Seq.{drop-append_seam}
-use Rattle.std.proofs.lemmas.List.{append_assoc, length-append}
-use Rattle.mime.specs.Bytes.{is_token_byte}
-use Rattle.mime.specs.Grammar.{plain, final, listed, SyntaxTree, AreSpaces, text_of_tail, text_of, IsToken, IsWellFormed}
-use Rattle.mime.specs.Values.{MediaType, Reads, value_of, essence_of, lowered_tree}
-use Rattle.mime_http.specs.Weight.{thousandths_of}
-use Rattle.mime_http.specs.Ranges.{first_value, demanded, has}
-use Rattle.mime.proofs.HandedOut.{length-lowered, one_reading}
-use Rattle.mime_http.specs.Digits.{read_number}
+use Rattle.mime_http.proofs.Common.{AreSpaces, Bool, HasBytesAt, IsToken, IsWellFormed, List, MediaType, None, Reads, Some, SyntaxTree, [], ap, append_assoc, arith, codes, demanded, drop, drop-append_seam, essence_of, final, first_value, get_or, has, if◌then◌else◌, is_ascii_digit, is_token_byte, length, length-append, length-lowered, list_all, listed, lowered_tree, one_reading, plain, read_number, refl, suc, sym, text_from_reads, text_of, text_of_tail, thousandths_of, true, value_of, ℕ, ◌&&◌, ◌*◌, ◌++◌, ◌+◌, ◌-◌, ◌∙◌, ◌∷◌, ◌≡◌}
 use Rattle.mime_http.proofs.Demanded.{found_of}
 use Rattle.mime_http.proofs.Numbers.{read_is}
 

@@ -1,16 +1,5 @@
 -- A range that covers none of the offers only moves the ranges after it by one position, which changes no comparison.
-use Rattle.std.proofs.Common.{◌≡◌, ◌∙◌, ◌⊎◌, inl, inr, ◌<◌, ◌≤◌, ◌+◌, ◌-◌, refl, sym, ap, subst, arith, ℕ, zero, suc, Bool, true, false, List, [], ◌∷◌, ◌++◌, map, length, get_or, Option, Some, None}
-use Rattle.std.specs.Prelude.{filter_map, find, position, nat_lt, ◌&&◌, if◌then◌else◌, Contains, option_map, unwrap_or, is_some}
-use Rattle.std.specs.List.{list_all, cons_option, enumerate_from, position_from}
-use Rattle.std.specs.Ordering.{is_le, is_gt, nat_cmp, ordering_then}
-use Rattle.std.specs.declared.cmp.Ordering.{Ordering}
-use Rattle.std.proofs.lemmas.Bool.{true≢false}
-use Rattle.std.proofs.lemmas.Bool.Decides.{nat_tests}
-use Rattle.std.proofs.lemmas.Iterator.Adapters.{position_from-zero}
-use Rattle.std.proofs.lemmas.List.{length-append}
-use Rattle.mime.specs.Values.{MediaType}
-use Rattle.mime_http.specs.Ranges.{Rank, rank_cmp, named_parts, demanded, has, weight_of, closeness, closest, merit, merit_at, AreInOrder}
-use Rattle.mime_http.specs.RangesLaws.{StrangerChangesNothing}
+use Rattle.mime_http.proofs.Common.{AreInOrder, Bool, Contains, List, MediaType, None, Option, Ordering, Rank, Some, StrangerChangesNothing, [], ap, arith, closeness, closest, cons_option, demanded, enumerate_from, false, filter_map, find, get_or, has, if◌then◌else◌, inl, inr, is_gt, is_le, is_some, length, length-append, list_all, map, merit, merit_at, named_parts, nat_cmp, nat_lt, nat_tests, option_map, ordering_then, position, position_from, position_from-zero, rank_cmp, refl, subst, suc, sym, true, true≢false, unwrap_or, weight_of, zero, ℕ, ◌&&◌, ◌++◌, ◌+◌, ◌-◌, ◌<◌, ◌∙◌, ◌∷◌, ◌≡◌, ◌≤◌, ◌⊎◌}
 use Rattle.mime_http.proofs.Closest.{in_more}
 
 -- ---- positions after the range

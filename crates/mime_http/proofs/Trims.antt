@@ -1,11 +1,6 @@
 -- A piece without the white space around it.
-use Rattle.mime_http.proofs.Common.{◌≡◌, ◌∙◌, ◌<◌, ◌≤◌, refl, sym, ap, subst, arith, suc, ℕ, Bool, true, false, List, [], ◌∷◌, ◌++◌, ◌+◌, ◌-◌, length, take, get_or, length-append, ◌&&◌, list_all, and_parts, nat_tests, take-suc, is_token_byte, is_space, AreSpaces, IsToken, MediaType, HttpReads, trim_start, trim_end}
-use Rattle.std.proofs.Common.{append-nil, append_assoc}
-use Rattle.std.specs.Str.{IsAscii, IsUtf8}
-use Rattle.std.proofs.lemmas.Bool.{true≢false, eq-eqb}
-use Rattle.std.specs.Prelude.{◌==◌}
+use Rattle.mime_http.proofs.Common.{AreSpaces, Bool, HttpReads, IsAscii, IsToken, IsUtf8, List, MediaType, [], and_parts, ap, append-nil, append_assoc, arith, eq-eqb, false, get_or, is_space, is_token_byte, length, length-append, list_all, nat_tests, refl, subst, suc, sym, take, take-suc, tight, trim_end, trim_start, true, true≢false, ℕ, ◌&&◌, ◌++◌, ◌+◌, ◌-◌, ◌<◌, ◌==◌, ◌∙◌, ◌∷◌, ◌≡◌, ◌≤◌}
 use Rattle.mime_http.proofs.HttpBack.{respelled}
-use Rattle.mime_http.specs.Places.{tight}
 use Rattle.mime_http.proofs.HttpForth.{spaces-append}
 use Rattle.mime_http.proofs.HttpText.{AreAscii, put_ascii, drop_ascii}
 use Rattle.mime_http.proofs.Places.{token_is_plain, at_start, white_skipped}

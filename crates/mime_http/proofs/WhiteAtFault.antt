@@ -1,7 +1,5 @@
 -- White space at fault: what tightening leaves of a value, and what HTTP says if more follows.
-use Rattle.mime_http.proofs.Common.{◌≡◌, ◌∙◌, ◌==◌, ◌≢◌, refl, sym, ap, subst, arith, ℕ, ◌+◌, ◌-◌, ◌<◌, ◌≤◌, Bool, true, false, List, [], ◌∷◌, ◌++◌, length, take, drop, get_or, Some, None, length-append, slice_get, option_map, option_and_then, true≢false, nat_tests, length-take-le, nil_from_length, IsCharBoundary-before_ascii, none-some, slice_get_within, slice_get-get_or, get_or_from_slice_get, is_quoted_byte, is_space, AreSpaces, IsAccepted, IsViable, IsDeadAt, takes, awaits_after, ClosedParameters, Begun, in_type, in_subtype, in_list, ListState, in_spaces, in_name, in_value, in_quotes, after_quotes, grow_state, grow, walk, walk_from, walk_by-append_some, spelled-from_walk, walk-from_viable, prefix_of_viable_is_viable, Place, Start, Plain, Spaced, place_after, added, tight_from, tight, IsHttpMediaType, IsHttpViable, IsHttpLongestPrefix, IsHttpDeadAt, begins_with_semicolon, Begins, IsLoose, trim_start}
-use Rattle.std.proofs.lemmas.List.{append-nil, append_assoc}
-use Rattle.mime_http.specs.declared.tight.Place.TheVariants.{Equals}
+use Rattle.mime_http.proofs.Common.{AreSpaces, Begins, Begun, Bool, ClosedParameters, Equals, IsAccepted, IsCharBoundary-before_ascii, IsDeadAt, IsHttpDeadAt, IsHttpLongestPrefix, IsHttpMediaType, IsHttpViable, IsLoose, IsViable, List, ListState, None, Place, Plain, Some, Spaced, Start, [], added, after_quotes, ap, append-nil, append_assoc, arith, awaits_after, begins_with_semicolon, drop, false, get_or, get_or_from_slice_get, grow, grow_state, in_list, in_name, in_quotes, in_spaces, in_subtype, in_type, in_value, is_quoted_byte, is_space, length, length-append, length-take-le, nat_tests, nil_from_length, none-some, option_and_then, option_map, place_after, prefix_of_viable_is_viable, refl, slice_get, slice_get-get_or, slice_get_within, spelled-from_walk, subst, sym, take, takes, tight, tight_from, trim_start, true, true≢false, walk, walk-from_viable, walk_by-append_some, walk_from, ℕ, ◌++◌, ◌+◌, ◌-◌, ◌<◌, ◌==◌, ◌∙◌, ◌∷◌, ◌≡◌, ◌≢◌, ◌≤◌}
 use Rattle.mime_http.proofs.Places.{place_from, place_from-append, at_start, spaced, nothing_out}
 use Rattle.mime_http.proofs.Trims.{split_white, below_128}
 use Rattle.mime_http.proofs.HttpViability.{place_in_list, place_at, LeavesSpaces, no_space_grows, tight-append, viable_from_tight, viable_from_accepted, tight_from_viable, accepted_from_spaced, prefix_of_http_viable}

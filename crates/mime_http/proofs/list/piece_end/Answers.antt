@@ -1,11 +1,8 @@
 -- Before a comma that is the first mark, or to the end.
-use Rattle.std.proofs.Common.{arith, ◌≡◌, ◌-◌, ◌<◌, ◌≤◌, ◌∷◌, sym, ap, subst, length, take, drop, get_or}
-use Rattle.std.proofs.lemmas.Bool.Decides.{nat_tests}
-use Rattle.std.proofs.lemmas.List.{length-drop, take_rest}
-use Rattle.mime_http.specs.Walk.{AreUnmarked, cut, cut_after}
+use Rattle.mime_http.proofs.Common.{AreUnmarked, ap, arith, cut, cut_after, drop, get_or, length, length-drop, nat_tests, subst, sym, take, take_rest, ◌-◌, ◌<◌, ◌∷◌, ◌≡◌, ◌≤◌}
 use Rattle.mime_http.proofs.Pieces.{unmarked_from, piece_from, piece_of_len}
-use Rattle.mime_http.proofs.list.piece_end.Goals as goal
 use Rattle.mime_http.proofs.list.piece_end.Goals.{else-mark-line-via-then-mark-line+else-line-mark-eq34, else-mark-line-via-else-mark-line}
+use Rattle.mime_http.proofs.list.piece_end.Goals as goal
 
 pub quoted_piece_len-requires-clause-within : goal.quoted_piece_len-requires-clause-within
 quoted_piece_len-requires-clause-within c =

@@ -1,8 +1,5 @@
 -- The lowest bit from the position on is the first mark.
-use Rattle.std.proofs.Common.{◌≡◌, ◌∙◌, ◌+◌, ◌-◌, ◌/◌, ◌^◌, ◌<◌, ◌≤◌, ℕ, List, arith, ap, true, length, map, get_or}
-use lib.Count.{count_trailing_zeros}
-use lib.Lanes.{chunk, mask_l}
-use Rattle.mime_http.specs.Walk.{is_mark, AreUnmarked}
+use Rattle.mime_http.proofs.Common.{AreUnmarked, List, ap, arith, chunk, count_trailing_zeros, get_or, is_mark, length, map, mask_l, true, ℕ, ◌+◌, ◌-◌, ◌/◌, ◌<◌, ◌^◌, ◌∙◌, ◌≡◌, ◌≤◌}
 use Rattle.mime_http.proofs.Pieces.{count, none_set, some_set, few, unmarked, marked, bits_from}
 use Rattle.mime_http.proofs.list.unmarked_at_end.Goals as goal
 

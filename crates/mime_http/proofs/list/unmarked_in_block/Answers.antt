@@ -1,5 +1,5 @@
 -- The lowest bit is the first mark.
-use Rattle.std.proofs.Common.{arith}
+use Rattle.mime_http.proofs.Common.{arith}
 use Rattle.mime_http.proofs.Pieces.{none_set, some_set, few, unmarked, marked}
 use Rattle.mime_http.proofs.list.unmarked_in_block.Goals as goal
 

@@ -1,17 +1,10 @@
 -- The next merit is above the highest so far, or it isn't.
-use Rattle.std.proofs.Common.{◌≡◌, ◌≢◌, ◌∙◌, ◌+◌, ◌<◌, ◌≤◌, ◌==◌, refl, true, false, arith, ℕ, List, Option, Some, None, ◌∷◌, map, drop, length, ap, sym, subst}
-use Rattle.std.specs.Prelude.{IfSome, position, if◌then◌else◌}
-use Rattle.std.specs.Ordering.{is_gt, nat_cmp, eq_by_cmp}
-use Rattle.std.proofs.Math.ListN.{drop_of_length-le}
-use Rattle.std.proofs.lemmas.Bool.{ne_eqb, eq-eqb}
-use Rattle.std.proofs.lemmas.List.{length-map}
-use Rattle.std.proofs.lemmas.Iterator.Adapters.{position_from-zero}
-use Rattle.mime_http.specs.Ranges.{Rank, merit, rank_cmp}
+use Rattle.mime_http.proofs.Common.{IfSome, List, None, Option, Rank, Some, ap, arith, drop, drop_of_length-le, eq-eqb, eq_by_cmp, false, if◌then◌else◌, is_gt, length, length-map, map, merit, nat_cmp, ne_eqb, position, position_from-zero, rank_cmp, refl, subst, sym, true, ℕ, ◌+◌, ◌<◌, ◌==◌, ◌∙◌, ◌∷◌, ◌≡◌, ◌≢◌, ◌≤◌}
 use Rattle.mime_http.proofs.Highest.{Highest, first_left, mapped_left, raised, stays, at_end}
 use Rattle.mime_http.proofs.Ranks.{ranks_total, one_rank, gt_of_ranks}
 use Rattle.mime_http.proofs.Picked.{highest, best_is_position}
-use Rattle.mime_http.proofs.offers.best_of.Goals as goal
 use Rattle.mime_http.proofs.offers.best_of.Goals.{then-gt, else-gt}
+use Rattle.mime_http.proofs.offers.best_of.Goals as goal
 
 -- a position that is below one bound is below a higher one
 below : (best : Option ℕ) (most more : ℕ) → most ≤ more → IfSome best (λ b. b < most) → IfSome best (λ b. b < more)

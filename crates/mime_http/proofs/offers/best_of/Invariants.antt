@@ -1,7 +1,5 @@
 -- The highest rank so far, and its first place.
-use Rattle.std.proofs.Common.{map}
-use Rattle.std.specs.Prelude.{IfSome, ◌<◌}
-use Rattle.mime_http.specs.Ranges.{merit}
+use Rattle.mime_http.proofs.Common.{IfSome, map, merit, ◌<◌}
 use Rattle.mime_http.proofs.Ranks.{ranks_total, one_rank}
 use Rattle.mime_http.proofs.Highest.{Highest}
 use Rattle.mime_http.proofs.offers.best_of.Given as goal

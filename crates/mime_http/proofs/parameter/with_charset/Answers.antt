@@ -1,10 +1,6 @@
 -- A token is safe, and needs no quotes and no backslash.
-use Rattle.std.proofs.Common.{rules, ◌≡◌, ◌∙◌, ap, refl, sym, codes, true, if◌then◌else◌}
-use Rattle.mime.specs.Bytes.{is_token_byte, is_quoted_text_byte}
-use Rattle.mime.specs.Values.{lowered}
-use Rattle.mime_http.specs.Written.{escaped, is_token_value, with_pair}
-use Rattle.mime_http.specs.declared.quoted.Form.TheVariants.{Token, Quoted, Escaped}
-use Rattle.std.specs.List.{list_all}
+use Rattle.mime_http.proofs.Common.{Escaped, Token, ap, codes, escaped, if◌then◌else◌, is_quoted_text_byte, is_token_byte, is_token_value, list_all, lowered, refl, rules, sym, true, with_pair, ◌∙◌, ◌≡◌}
+use Rattle.mime_http.specs.declared.quoted.Form.TheVariants.{Quoted}
 use Rattle.mime_http.proofs.Contents.{token_needs_none, token_is_safe}
 use Rattle.mime_http.proofs.Written.{token_from_test}
 use Rattle.mime_http.proofs.parameter.with_charset.Goals as goal

@@ -1,7 +1,5 @@
 -- A weight that is written so is the only parameter.
-use Rattle.std.proofs.Common.{◌≡◌, true, rules, arith, get_or, length, ◌∷◌, []}
-use Rattle.std.specs.Char.{is_ascii_digit}
-use Rattle.std.proofs.lemmas.Slice.Eq.{HasBytesAt}
+use Rattle.mime_http.proofs.Common.{HasBytesAt, [], arith, get_or, is_ascii_digit, length, rules, true, ◌∷◌, ◌≡◌}
 use Rattle.mime_http.proofs.ShortWeight.{at_once, after_a_space, one_decimal}
 use Rattle.mime_http.proofs.range.demanded.Goals as goal
 

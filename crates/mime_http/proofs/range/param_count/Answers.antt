@@ -1,6 +1,5 @@
 -- There is an item for each pair.
-use Rattle.std.proofs.Common.{◌∙◌, ap, length}
-use Rattle.std.proofs.lemmas.List.{length-map}
+use Rattle.mime_http.proofs.Common.{ap, length, length-map, ◌∙◌}
 use Rattle.mime_http.proofs.range.param_count.Goals as goal
 
 pub returns : goal.returns

@@ -1,10 +1,5 @@
 -- What comes out of a value in UTF-8 is in UTF-8.
-use Rattle.std.proofs.Common.{◌≡◌, ◌∙◌, ◌++◌, ◌≤◌, ℕ, List, sym, ap, subst, drop, length, append-nil}
-use Rattle.std.proofs.lemmas.List.{drop_all}
-use Rattle.std.specs.Str.{IsUtf8}
-use Rattle.std.specs.Vec.{vec_items}
-use Rattle.mime_http.specs.declared.tight.Place.{Place}
-use Rattle.mime_http.specs.Places.{tight_from, tight}
+use Rattle.mime_http.proofs.Common.{IsUtf8, List, Place, ap, append-nil, drop, drop_all, length, subst, sym, tight, tight_from, vec_items, ℕ, ◌++◌, ◌∙◌, ◌≡◌, ◌≤◌}
 use Rattle.mime_http.proofs.HttpText.{tight_utf8}
 use Rattle.mime_http.proofs.tight.copied.Goals as goal
 

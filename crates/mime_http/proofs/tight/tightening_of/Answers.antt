@@ -1,14 +1,5 @@
 -- The byte at fault is left out, or the fault stands.
-use Rattle.std.proofs.Common.{arith, ◌≡◌, ◌∙◌, ◌-◌, ap, subst, sym, ℕ, List, length, get_or}
-use Rattle.std.specs.Prelude.{IfOk}
-use Rattle.std.proofs.lemmas.Bool.Decides.{nat_tests}
-use Rattle.std.proofs.lemmas.Option.{slice_get_within, get_or_from_slice_get}
-use Rattle.mime.specs.Grammar.{is_space}
-use Rattle.mime.specs.Faults.{IsFault, IsDeadAt}
-use Rattle.mime.specs.declared.scan.fault.ParseError.{ParseError}
-use Rattle.mime.specs.declared.scan.fault.ParseError.TheVariants.{InvalidToken}
-use Rattle.mime_http.specs.Tightening.{Stands, IsLoose, IsTightening}
-use Rattle.mime_http.specs.declared.tight.Place.TheVariants.{Start}
+use Rattle.mime_http.proofs.Common.{IfOk, InvalidToken, IsDeadAt, IsFault, IsLoose, IsTightening, List, ParseError, Stands, Start, ap, arith, get_or, get_or_from_slice_get, is_space, length, nat_tests, slice_get_within, subst, sym, ℕ, ◌-◌, ◌∙◌, ◌≡◌}
 use Rattle.mime_http.proofs.Trims.{trimmed-le}
 use Rattle.mime_http.proofs.Spare.{spare_start, spare_semicolon}
 use Rattle.mime_http.proofs.WhiteAtFault.{first_space}

@@ -1,18 +1,7 @@
 -- What the library reads as it stands is what HTTP writes, and stays as it is.
-use Rattle.std.proofs.Common.{rules, arith, ◌≡◌, ◌≢◌, ◌∙◌, ℕ, List, [], ◌∷◌, subst, sym}
-use Rattle.std.specs.Str.{IsUtf8}
-use Rattle.std.proofs.lemmas.Bool.{true≢false}
-use Rattle.std.proofs.lemmas.Str.{IsUtf8-from_ascii}
-use Rattle.std.proofs.lemmas.Str.Ascii.{IsAscii-cons, IsAscii-nil}
-use Rattle.std.specs.Prelude.{Result, Ok, Err, IfOk, IfErr}
-use Rattle.mime.specs.Values.{OwnedMedia, Reads, IsAccepted}
-use Rattle.mime.specs.Faults.{Explains}
+use Rattle.mime_http.proofs.Common.{Err, Explains, FaultIsSpare, HttpExplains, HttpReads, IfErr, IfOk, IsAccepted, IsAscii-cons, IsAscii-nil, IsHttpMediaType, IsUtf8, IsUtf8-from_ascii, List, Ok, OwnedMedia, Reads, ReadsTight, Result, [], arith, rules, subst, sym, tight, true≢false, ℕ, ◌∙◌, ◌∷◌, ◌≡◌, ◌≢◌}
 use Rattle.mime_http.specs.declared.value.FieldError.{FieldError}
-use Rattle.mime_http.specs.HttpMediaType.{HttpReads, IsHttpMediaType}
-use Rattle.mime_http.specs.HttpFaults.{HttpExplains}
-use Rattle.mime_http.specs.Places.{tight}
 use Rattle.mime_http.proofs.HttpBack.{read_is_http}
-use Rattle.mime_http.specs.Tight.{ReadsTight, FaultIsSpare}
 use Rattle.mime_http.proofs.HttpLaws.{reads_tight}
 use Rattle.mime_http.proofs.Places.{accepted_stays}
 use Rattle.mime_http.proofs.HttpLaws.{plain_is_http}

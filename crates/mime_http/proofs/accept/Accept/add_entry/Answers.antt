@@ -1,10 +1,5 @@
 -- An entry's media type or itself was pushed.
-use Rattle.std.proofs.Common.{◌≡◌, ◌∙◌, List, ℕ, sym, ap, subst, [], ◌∷◌, ◌++◌, Ok, Err}
-use Rattle.std.specs.Prelude.{Result, OnOk}
-use Rattle.std.specs.Str.{IsUtf8}
-use Rattle.mime.specs.Values.{Reads}
-use Rattle.mime_http.specs.HttpList.{Header, trim_start, trim_end}
-use Rattle.mime_http.specs.Walk.{Adds}
+use Rattle.mime_http.proofs.Common.{Adds, Err, Header, IsUtf8, List, Ok, OnOk, Reads, Result, [], ap, subst, sym, trim_end, trim_start, ℕ, ◌++◌, ◌∙◌, ◌∷◌, ◌≡◌}
 use Rattle.mime_http.proofs.Adds.{add_range, add_bad}
 use Rattle.mime_http.proofs.Places.{accepted_stays}
 use Rattle.mime_http.proofs.accept.Accept.add_entry.Goals as goal

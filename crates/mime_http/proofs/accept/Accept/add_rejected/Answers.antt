@@ -1,12 +1,5 @@
 -- The entry's media type or itself was pushed.
-use Rattle.std.proofs.Common.{rules, ◌∙◌, refl, sym, ap, subst, [], ◌∷◌, ◌++◌}
-use Rattle.std.specs.Prelude.{Some, None}
-use Rattle.std.specs.Str.{IsUtf8}
-use Rattle.std.specs.Vec.{vec_items}
-use Rattle.mime.specs.Values.{Reads}
-use Rattle.mime_http.specs.HttpMediaType.{IsHttpMediaType}
-use Rattle.mime_http.specs.Places.{tight}
-use Rattle.mime_http.specs.HttpList.{Header, trim_end}
+use Rattle.mime_http.proofs.Common.{Header, IsHttpMediaType, IsUtf8, None, Reads, Some, [], ap, refl, rules, subst, sym, tight, trim_end, vec_items, ◌++◌, ◌∙◌, ◌∷◌}
 use Rattle.mime_http.proofs.Adds.{read_entry, pushed, add_range, add_bad}
 use Rattle.mime_http.proofs.accept.Accept.add_rejected.Goals as goal
 

@@ -1,13 +1,5 @@
 -- The first piece from here on is taken, and those after its comma are left; at the end the best of all is chosen.
-use Rattle.std.proofs.Common.{◌≡◌, ◌∙◌, ◌+◌, ◌-◌, ◌<◌, ◌≤◌, arith, ℕ, List, [], ◌∷◌, sym, ap, subst, refl, take, drop, map, length, length-take}
-use Rattle.std.proofs.lemmas.Bool.{true≢false}
-use Rattle.std.proofs.lemmas.List.{append-nil}
-use Rattle.mime.specs.Values.{MediaType}
-use Rattle.mime_http.specs.HttpList.{Header, IsHeader}
-use Rattle.mime_http.specs.Ranges.{best_offer}
-use Rattle.mime_http.specs.Walk.{cut, cut_after, Adds}
-use Rattle.mime_http.specs.Chosen.{IsChosen, ChoosesOn}
-use Rattle.mime_http.specs.declared.listed.Chosen.{Chosen}
+use Rattle.mime_http.proofs.Common.{Adds, ChoosesOn, Chosen, Header, IsChosen, IsHeader, List, MediaType, [], ap, append-nil, arith, best_offer, cut, cut_after, drop, length, length-take, map, refl, subst, sym, take, true≢false, ℕ, ◌+◌, ◌-◌, ◌<◌, ◌∙◌, ◌∷◌, ◌≡◌, ◌≤◌}
 use Rattle.mime_http.proofs.Adds.{SoFar, none_so_far, some_more, all_added, is_header, piece_is_blank}
 use Rattle.mime_http.proofs.Chosen.{chooses_nothing, best_is_chosen, none_is_chosen}
 use Rattle.mime_http.proofs.Pieces.{empty_piece, pieces_after, no_piece_after}

@@ -1,8 +1,5 @@
 -- An entry is an offer, or it is bad.
-use Rattle.std.proofs.Common.{◌≡◌, ◌∙◌, sym, subst}
-use Rattle.std.specs.Str.{IsUtf8}
-use Rattle.mime.specs.Values.{Reads}
-use Rattle.mime_http.specs.HttpList.{trim_start}
+use Rattle.mime_http.proofs.Common.{IsUtf8, Reads, subst, sym, trim_start, ◌∙◌, ◌≡◌}
 use Rattle.mime_http.proofs.Chosen.{chooses_offer, chooses_bad}
 use Rattle.mime_http.proofs.Places.{accepted_stays}
 use Rattle.mime_http.proofs.listed.Chosen.take_entry.Goals as goal

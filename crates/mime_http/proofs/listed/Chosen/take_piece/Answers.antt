@@ -1,9 +1,5 @@
 -- A piece is blank, or what its entry is.
-use Rattle.std.proofs.Common.{arith, ◌≡◌, ◌∙◌, [], sym, subst}
-use Rattle.std.specs.Str.{IsAscii}
-use Rattle.std.proofs.lemmas.Grind.{common_steps}
-use Rattle.std.proofs.lemmas.List.{nil_from_length}
-use Rattle.mime_http.specs.HttpList.{trim_start}
+use Rattle.mime_http.proofs.Common.{IsAscii, [], arith, common_steps, nil_from_length, subst, sym, trim_start, ◌∙◌, ◌≡◌}
 use Rattle.mime_http.proofs.Chosen.{chooses_nothing, trimmed_chosen}
 use Rattle.mime_http.proofs.Trims.{some_left, trimmed_from_blank, trim_twice, ascii_trimmed}
 use Rattle.mime_http.proofs.listed.Chosen.take_piece.Goals as goal

@@ -1,10 +1,5 @@
 -- The entry is an offer, or it is bad.
-use Rattle.std.proofs.Common.{◌∙◌, sym, subst, arith}
-use Rattle.std.specs.Prelude.{Some, None}
-use Rattle.std.specs.Str.{IsUtf8}
-use Rattle.mime.specs.Values.{Reads}
-use Rattle.mime_http.specs.HttpMediaType.{IsHttpMediaType}
-use Rattle.mime_http.specs.Places.{tight}
+use Rattle.mime_http.proofs.Common.{IsHttpMediaType, IsUtf8, None, Reads, Some, arith, subst, sym, tight, ◌∙◌}
 use Rattle.mime_http.proofs.Adds.{read_entry}
 use Rattle.mime_http.proofs.Chosen.{chooses_offer, chooses_bad}
 use Rattle.mime_http.proofs.listed.Chosen.take_rejected.Goals as goal
