@@ -1,5 +1,5 @@
 -- The fault of a value, from that of what is left of it.
-use Rattle.mime_http.proofs.Common.{Bool, Closed, EndsIn, Equals, HttpLacks, InvalidToken, IsAccepted, IsFault, IsHttpFault, IsHttpLongestPrefix, IsHttpViable, IsViable, Lacks, List, MissingEqual, MissingQuote, MissingSlash, MissingSubtype, MissingValue, Paired, ParseError, Place, Plain, Quoted, Reach, Semicolon, Some, Spaced, Start, [], added, ap, append-nil, append_assoc, arith, brought_back, completed_is_rejected, false, false≢true, inl, inr, is_left_out, length, length-append, limit_of, place_after, prefix_of_viable_is_viable, refl, same_Some, slice_get, slice_get-prefix, slice_get_within, subst, suc, sym, take, take-append-add, take-append_seam, take-length, tight, tight_from, true, viable-from_lacks, ℕ, ⊤, ◌++◌, ◌+◌, ◌-◌, ◌<◌, ◌∙◌, ◌∷◌, ◌≡◌, ◌≤◌, ◌⊎◌}
+use Rattle.mime_http.proofs.Common.{Closed, EndsIn, Equals, HttpLacks, InvalidToken, IsAccepted, IsFault, IsHttpFault, IsHttpLongestPrefix, IsHttpViable, IsViable, Lacks, List, MissingEqual, MissingQuote, MissingSlash, MissingSubtype, MissingValue, Paired, ParseError, Place, Plain, Quoted, Reach, Semicolon, Some, Spaced, Start, [], added, ap, append-nil, append_assoc, arith, brought_back, completed_is_rejected, false≢true, inl, inr, is_left_out, length, length-append, limit_of, place_after, prefix_of_viable_is_viable, refl, same_Some, slice_get, slice_get-prefix, slice_get_within, subst, suc, sym, take, take-append-add, take-append_seam, take-length, tight, tight_from, true, viable-from_lacks, ℕ, ⊤, ◌++◌, ◌+◌, ◌-◌, ◌<◌, ◌∙◌, ◌∷◌, ◌≡◌, ◌≤◌, ◌⊎◌, cases_Bool, ⊎_elim}
 use Rattle.mime_http.proofs.Places.{place_from, place_from-append}
 use Rattle.mime_http.proofs.PlacesAgain.{IsSettled, kept_adds, no_space}
 use Rattle.mime_http.proofs.HttpViability.{tight-append, settled_end, goes_on_as, viable_from_tight, tight_from_viable, accepted_from_spaced, viable_from_accepted, prefix_of_http_viable}
@@ -79,11 +79,10 @@ left_out_idle place b out busy = subst IsBusy {y = Spaced} (rw out refl) busy
 
 -- so a byte that leads there adds itself last
 pub adds_itself : (place : Place) (b : ℕ) → IsBusy (place_after place b) → AddsItself place b
-adds_itself place b busy = go (is_left_out place b) refl
-  where
-    go : (t : Bool) → is_left_out place b ≡ t → AddsItself place b
-    go true out = absurd (left_out_idle place b out busy)
-    go false kept = record { before = brought_back place b; adds = kept_adds place b kept }
+adds_itself place b busy = ⊎_elim
+    (λ out. absurd (left_out_idle place b out busy))
+    (λ kept. record { before = brought_back place b; adds = kept_adds place b kept })
+    (cases_Bool (is_left_out place b))
 
 -- a value ends in a byte that leads there if what comes out of it does
 ends_in : (value : List ℕ) (b : ℕ) → ((place : Place) → IsBusy (place_after place b)) → IsSettled (place_from Start value)

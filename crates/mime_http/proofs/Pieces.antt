@@ -1,5 +1,5 @@
 -- A line's first piece: bytes without a mark go on with it, and a comma outside strings ends it.
-use Rattle.mime_http.proofs.Common.{AreUnmarked, At, Bool, List, Outside, [], after, after_outside, ap, ap₂, arith, bit_or, cases_lt, chunk, cond, count_trailing_zeros, cut, cut_after, cut_from, drop, drop-drop, drop-map, drop_of_length-le, ends, eqb, false, get_or, get_or-drop, is_mark, leading_from_mask_l, length, length-chunk, length-drop, length-map, map, map-map, mask_l, mask_l-mod, nat_tests, not, prefix_len, refl, run_in_chunk_fails, run_in_chunk_le, run_in_chunk_stops, subst, suc, sym, take, take_all, top, trailing_mask_l, true, zero, ℕ, ⊎_elim, ◌%◌, ◌+◌, ◌-◌, ◌/◌, ◌<◌, ◌==◌, ◌^◌, ◌||◌, ◌∙◌, ◌∷◌, ◌≡◌, ◌≤◌}
+use Rattle.mime_http.proofs.Common.{AreUnmarked, At, Bool, List, Outside, [], after, after_outside, ap, ap₂, arith, bit_or, cases_lt, chunk, cond, count_trailing_zeros, cut, cut_after, cut_from, drop, drop-drop, drop-map, drop_of_length-le, ends, eqb, false, get_or, get_or-drop, is_mark, leading_from_mask_l, length, length-chunk, length-drop, length-map, map, map-map, mask_l, mask_l-mod, nat_tests, not, prefix_len, refl, run_in_chunk_fails, run_in_chunk_le, run_in_chunk_stops, subst, suc, sym, take, take_all, top, trailing_mask_l, true, zero, ℕ, ⊎_elim, ◌%◌, ◌+◌, ◌-◌, ◌/◌, ◌<◌, ◌==◌, ◌^◌, ◌||◌, ◌∙◌, ◌∷◌, ◌≡◌, ◌≤◌, cond_both}
 use Rattle.mime.proofs.BlocksLemmas.{mask-drop}
 use Rattle.mime_http.specs.Walk.{Equals, Quoted, Paired}
 use Rattle.mime_http.proofs.Passes.{IsOutside, goes_on, comma_ends}
@@ -39,11 +39,7 @@ after_unmarked place is b quote = absurd is
 
 -- so a byte leads to a place outside strings
 outside_after : (b : ℕ) → IsOutside (after_outside b)
-outside_after b = go (b == 61) refl
-  where
-    go : (e : Bool) → (b == 61) ≡ e → IsOutside (after_outside b)
-    go true is = rw is tt
-    go false is = rw is tt
+outside_after b = cond_both (b == 61) _ _ IsOutside (λ is. tt) (λ other. tt)
 
 -- they lead to a place outside strings, which the last of them tells
 pub record Led (line : List ℕ) (n : ℕ) : Type 0 where

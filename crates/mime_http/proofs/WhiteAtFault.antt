@@ -1,5 +1,5 @@
 -- White space at fault: what tightening leaves of a value, and what HTTP says if more follows.
-use Rattle.mime_http.proofs.Common.{AreSpaces, Begins, Bool, Equals, IsAccepted, IsCharBoundary-before_ascii, IsDeadAt, IsHttpDeadAt, IsHttpLongestPrefix, IsHttpMediaType, IsHttpViable, IsLoose, IsViable, List, Place, Plain, Some, Spaced, Start, [], added, ap, append-nil, append_assoc, arith, begins_with_semicolon, drop, false, get_or, get_or_from_slice_get, grow, in_type, is_quoted_byte, is_space, length, length-append, length-take-le, nat_tests, nil_from_length, none-some, option_and_then, place_after, prefix_of_viable_is_viable, refl, slice_get, slice_get-get_or, slice_get_within, subst, sym, take, tight, tight_from, trim_start, true, true≢false, walk-from_viable, walk_by-append_some, walk_from, ℕ, ◌++◌, ◌+◌, ◌-◌, ◌<◌, ◌==◌, ◌∙◌, ◌∷◌, ◌≡◌, ◌≢◌, ◌≤◌, Closed, Paired, Quoted, Semicolon, false≢true}
+use Rattle.mime_http.proofs.Common.{AreSpaces, Begins, Equals, IsAccepted, IsCharBoundary-before_ascii, IsDeadAt, IsHttpDeadAt, IsHttpLongestPrefix, IsHttpMediaType, IsHttpViable, IsLoose, IsViable, List, Place, Plain, Some, Spaced, Start, [], added, ap, append-nil, append_assoc, arith, begins_with_semicolon, drop, false, get_or, get_or_from_slice_get, grow, in_type, is_quoted_byte, is_space, length, length-append, length-take-le, nat_tests, nil_from_length, none-some, option_and_then, place_after, prefix_of_viable_is_viable, refl, slice_get, slice_get-get_or, slice_get_within, subst, sym, take, tight, tight_from, trim_start, true, walk-from_viable, walk_by-append_some, walk_from, ℕ, ◌++◌, ◌+◌, ◌-◌, ◌<◌, ◌==◌, ◌∙◌, ◌∷◌, ◌≡◌, ◌≢◌, ◌≤◌, Closed, Paired, Quoted, Semicolon, false≢true}
 use Rattle.mime_http.proofs.Places.{place_from, place_from-append, at_start, spaced, nothing_out, LeavesWhite, after_token, after_equals, left_white}
 use Rattle.mime_http.proofs.Trims.{split_white, below_128}
 use Rattle.mime_http.proofs.HttpViability.{no_space_grows, tight-append, viable_from_tight, viable_from_accepted, tight_from_viable, accepted_from_spaced, prefix_of_http_viable}
@@ -176,12 +176,4 @@ begins value pos b dead some white no_semicolon =
     let split = split_white (drop (pos + 1) value) in
     begins_so value pos b (later value pos b dead some white) dead.there (below_128 b white) split.0
     (trim_start (drop (pos + 1) value)) split.1 split.2
-    (λ c more is. (no_more_white (drop (pos + 1) value) c more is, other_byte_than c more is))
-  where
-    other_byte_than : (c : ℕ) (more : List ℕ) → trim_start (drop (pos + 1) value) ≡ c ∷ more → (c == 59) ≡ false
-    other_byte_than c more is = go (c == 59) refl
-      where
-        go : (t : Bool) → (c == 59) ≡ t → (c == 59) ≡ false
-        go true semicolon =
-            absurd (true≢false (sym semicolon ∙ (sym (ap begins_with_semicolon is) ∙ no_semicolon)))
-        go false other = other
+    (λ c more is. (no_more_white (drop (pos + 1) value) c more is, sym (ap begins_with_semicolon is) ∙ no_semicolon))
