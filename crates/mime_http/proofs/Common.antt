@@ -3,7 +3,7 @@ pub use lib.Count.{count_trailing_zeros}
 pub use lib.Lanes.{chunk, mask_l, top}
 pub use Rattle.std.proofs.Common.{Bool, Bor, Err, Global, List, None, Ok, Option, Some, String, [], ap, append-nil, append_assoc, ap₂, arith, bit_or, cond, drop, eqb, false, get_or, inl, inr, is_some, length, length-append, length-drop, length-take, map, refl, replicate, rules, string_bytes, subst, suc, sym, take, true, w8, zero, ℕ, ⊎_elim, ◌%◌, ◌*◌, ◌++◌, ◌+◌, ◌-◌, ◌/◌, ◌<◌, ◌==◌, ◌^◌, ◌||◌, ◌∙◌, ◌∷◌, ◌≡◌, ◌≢◌, ◌≤◌, ◌⊎◌}
 pub use Rattle.std.proofs.Math.ListN.{drop_of_length-le}
-pub use Rattle.std.proofs.Math.Seq.{drop-append-add, drop-append_seam, drop-cons, drop-length, take-append-add, take-append_seam, take-length, take-suc}
+pub use Rattle.std.proofs.Math.Seq.{drop-append-add, drop-append_seam, drop-cons, drop-length, take-add, take-append-add, take-append_seam, take-length, take-suc}
 pub use Rattle.std.proofs.lemmas.Bool.{and_from, and_parts, cases_Bool, cases_lt, cond_both, eq-eqb, eqb-true, false_from_ne_true, false≢true, ne_eqb, or_parts, true≢false}
 pub use Rattle.std.proofs.lemmas.Bool.Decides.{nat_tests, same_from_decides}
 pub use Rattle.std.proofs.lemmas.Cmp.{back_total, nat_cmp_total, on_total, ranked, then_total, tied_back, tied_itself, upto}

@@ -209,7 +209,7 @@ highest ranks = fold (ord_max rank_cmp) (0, 0, 0, 0) ranks
 
 module _ (all : List Rank) where
   -- whether a rank is the best: no other is above it, and it weighs more than 0
-  abbrev is_best : Rank → Bool
+  abbrev pub is_best : Rank → Bool
   is_best one = nat_lt 0 one.0 && list_all (λ other. is_le (rank_cmp other one)) all
 
   -- no offer ranks above the highest,
