@@ -1,6 +1,6 @@
 -- Lines are cut in one way, and each line is.
 use Rattle.mime_http.proofs.Common.{AreBetweenCommas, At, BeginsPiece, IsInString, IsPiece, List, OneCut, Outside, [], after, ap, append-nil, append_assoc, arith, comma, cut, cut_from, ends, false, flat_map, length, line_end, no_line, opens_string, piece_byte, piece_end, piece_string, refl, string_byte, string_end, string_pair, subst, sym, true, ℕ, ◌++◌, ◌<◌, ◌==◌, ◌∙◌, ◌∷◌, ◌≡◌, cases_Bool, cond_both, eqb-true, ⊎_elim}
-use Rattle.mime_http.proofs.Passes.{comma_ends, through}
+use Rattle.mime_http.proofs.Passes.{comma_ends, opens_none, through}
 
 -- ---- the only cut
 
@@ -141,13 +141,9 @@ next_of b bytes rest = record {
     either : (c : ℕ) (P : ℕ → Type 0) → P c → ((b == c) ≡ false → P b) → P b
     either c P same other = ⊎_elim (λ is. subst P (sym (eqb-true b c is)) same) other (cases_Bool (b == c))
 
-    none : (b == 61) ≡ false → (bytes : List ℕ) → opens_string (b ∷ bytes) ≡ false
-    none other [] = refl
-    none other (c ∷ bytes) = rw other refl
-
     cut : HasCut (b ∷ bytes)
     cut = either 44 (λ x. HasCut (x ∷ bytes)) (record { pieces = _; is = comma [] bytes [] _ piece_end rest.cut.is })
-        (λ no_comma. either 61 (λ x. HasCut (x ∷ bytes)) rest.equals (λ other. grown b no_comma (none other bytes) rest.cut.is))
+        (λ no_comma. either 61 (λ x. HasCut (x ∷ bytes)) rest.equals (λ other. grown b no_comma (opens_none b bytes other) rest.cut.is))
 
 -- so it holds of all bytes
 all_of : (bytes : List ℕ) → All bytes

@@ -15,15 +15,15 @@ pub record Counted (offer : MediaType) (pairs : List (List ℕ × List ℕ)) (it
   pub weighed : option_or weight (first_value (codes "q") rest) ≡ first_value (codes "q") pairs
 
 -- the first pair, of which there is an item
-record First (rest : List (List ℕ × List ℕ)) (item : Item) (next : List Item) : Type 0 where
-  pair : List ℕ × List ℕ
-  more : List (List ℕ × List ℕ)
-  here : rest ≡ pair ∷ more
-  seen : item_of pair ≡ item
-  after : next ≡ items_of more
+pub record First (rest : List (List ℕ × List ℕ)) (item : Item) (next : List Item) : Type 0 where
+  pub pair : List ℕ × List ℕ
+  pub more : List (List ℕ × List ℕ)
+  pub here : rest ≡ pair ∷ more
+  pub seen : item_of pair ≡ item
+  pub after : next ≡ items_of more
 
 -- the first item is that of the first pair
-first : (rest : List (List ℕ × List ℕ)) (item : Item) (next : List Item) → items_of rest ≡ item ∷ next → First rest item next
+pub first : (rest : List (List ℕ × List ℕ)) (item : Item) (next : List Item) → items_of rest ≡ item ∷ next → First rest item next
 first [] item next is = absurd (omega (arith, ap length is))
 first (pair ∷ more) item next is = record {
   pair = pair;
@@ -115,7 +115,7 @@ module _ {offer : MediaType} {pairs : List (List ℕ × List ℕ)} {items next :
       omega (arith, long, so_far.counted)
 
 -- no item is left of no pair
-no_pair : (rest : List (List ℕ × List ℕ)) → items_of rest ≡ [] → rest ≡ []
+pub no_pair : (rest : List (List ℕ × List ℕ)) → items_of rest ≡ [] → rest ≡ []
 no_pair [] is = refl
 no_pair (pair ∷ more) is = absurd (omega (arith, ap length is))
 

@@ -10,29 +10,28 @@ use Rattle.mime_http.proofs.Contents.{is_special, token_plain, token_safe, token
 holds_of_both : (Bool → Bool) → Bool
 holds_of_both p = p true && p false
 
--- what holds of both truth values holds of each
+-- what holds of both truth values holds of each,
 at : (p : Bool → Bool) → holds_of_both p ≡ true → (b : Bool) → p b ≡ true
 unfolding holds_of_both
 at p is true = (and_parts (p true) (p false) is).0
 at p is false = (and_parts (p true) (p false) is).1
 
+-- a test of any three
+holds_of_all : (Bool → Bool → Bool → Bool) → Bool
+holds_of_all p = holds_of_both (λ x. holds_of_both (λ y. holds_of_both (p x y)))
+
+-- and so it is with three
+at_three : (p : Bool → Bool → Bool → Bool) → holds_of_all p ≡ true → (x y z : Bool) → p x y z ≡ true
+unfolding holds_of_all
+at_three p is x y z =
+    at (p x y) (at (λ y. holds_of_both (p x y)) (at (λ x. holds_of_both (λ y. holds_of_both (p x y))) is x) y) z
+
 -- the bits of two kinds
 and_kinds : (t q e t2 q2 e2 : Bool) → bit_and (kind_from t q e) (kind_from t2 q2 e2) ≡ kind_from (t && t2) (q && q2) (e && e2)
-unfolding holds_of_both
+unfolding holds_of_both holds_of_all
 and_kinds t q e t2 q2 e2 =
-    eqb-true _ _
-    (at (λ e2. bit_and (kind_from t q e) (kind_from t2 q2 e2) == kind_from (t && t2) (q && q2) (e && e2))
-    (at (λ q2. holds_of_both (λ e2. bit_and (kind_from t q e) (kind_from t2 q2 e2) == kind_from (t && t2) (q && q2) (e && e2)))
-    (at (λ t2. holds_of_both (λ q2. holds_of_both (λ e2. bit_and (kind_from t q e) (kind_from t2 q2 e2) == kind_from (t && t2) (q && q2)
-    (e && e2))))
-    (at (λ e. holds_of_both (λ t2. holds_of_both (λ q2. holds_of_both
-    (λ e2. bit_and (kind_from t q e) (kind_from t2 q2 e2) == kind_from (t && t2) (q && q2) (e && e2)))))
-    (at (λ q. holds_of_both (λ e. holds_of_both (λ t2. holds_of_both
-    (λ q2. holds_of_both (λ e2. bit_and (kind_from t q e) (kind_from t2 q2 e2) == kind_from (t && t2) (q && q2) (e && e2))))))
-    (at (λ t. holds_of_both (λ q. holds_of_both (λ e. holds_of_both
-    (λ t2. holds_of_both (λ q2. holds_of_both (λ e2. bit_and (kind_from t q e) (kind_from t2 q2 e2) == kind_from (t && t2) (q && q2)
-    (e && e2)))))))
-    refl t) q) e) t2) q2) e2)
+    let Same = λ (t q e t2 q2 e2 : Bool). bit_and (kind_from t q e) (kind_from t2 q2 e2) == kind_from (t && t2) (q && q2) (e && e2) in
+    eqb-true _ _ (at_three (Same t q e) (at_three (λ t q e. holds_of_all (Same t q e)) refl t q e) t2 q2 e2)
 
 -- the kind of joined bytes
 pub kind_of-append : (xs ys : List ℕ) → kind_of (xs ++ ys) ≡ bit_and (kind_of xs) (kind_of ys)

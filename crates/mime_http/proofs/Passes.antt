@@ -75,6 +75,11 @@ no_quote : (b : ℕ) (bytes : List ℕ) → (b == 61) ≡ true → opens_string 
 no_quote b [] is opens = refl
 no_quote b (c ∷ bytes) is opens = rw is at opens
 
+-- another byte than an equals sign opens none
+pub opens_none : (b : ℕ) (bytes : List ℕ) → (b == 61) ≡ false → opens_string (b ∷ bytes) ≡ false
+opens_none b [] other = refl
+opens_none b (c ∷ bytes) other = rw other refl
+
 -- so what follows it fits the place after it,
 after_outside_fits : (b : ℕ) (bytes : List ℕ) → opens_string (b ∷ bytes) ≡ false → Fits (after_outside b) bytes
 after_outside_fits b bytes opens =
