@@ -47,10 +47,6 @@ loop-at-preserved c =
       }
     ]
 
-pub returns-then-most-gt0-clause-within : goal.returns-then-most-gt0-clause-within
-returns-then-most-gt0-clause-within c =
-    below c.loop-at.best c.loop-at.at (length c.args.offers.now) c.loop-at.auto.at-end c.loop-at.invariant.within
-
 -- all have been looked at
 ended : (all : List Rank) (at : ℕ) (most : Rank) (best : Option ℕ) → length all ≤ at
     → Highest ranks_total one_rank (0, 0, 0, 0) (take at all) most best → Highest ranks_total one_rank (0, 0, 0, 0) all most best

@@ -1,5 +1,5 @@
 -- The next line's pieces come before those of the lines that are left.
-use Rattle.mime_http.proofs.Common.{Adds, AddsLines, AreSorted, Header, IsHeader, List, [], ap, append-nil, arith, codes, common_steps, cut, drop_of_length-le, flat_map, length, lines_or_any, map, refl, subst, sym, true≢false, vec_items, ℕ, ◌++◌, ◌∙◌, ◌∷◌, ◌≡◌, ◌≢◌, ◌≤◌}
+use Rattle.mime_http.proofs.Common.{Adds, AddsLines, AreSorted, Header, IsHeader, List, [], ap, append-nil, arith, codes, common_steps, cut, drop_of_length-le, flat_map, length, lines_or_any, map, refl, subst, sym, true≢false, vec_items, ℕ, ◌++◌, ◌∙◌, ◌∷◌, ◌≡◌, ◌≢◌, ◌≤◌, true}
 use Rattle.mime_http.proofs.Adds.{SoFar, none_so_far, some_more, all_added, pieces_added, is_header, middle_is_blank, left_is_nothing, first_is_nothing}
 use Rattle.mime_http.proofs.Cuts.{are_cut, only_cut}
 use Rattle.mime_http.proofs.Highest.{item_left}
@@ -83,11 +83,6 @@ returns-clause-header c =
     let past : length lines ≤ c.loop-line.line-index = omega arith in
     done (λ line. line.now) lines c.loop-line.accept
     (subst (λ rest. Left (λ line. line.now) lines rest c.loop-line.accept) (drop_of_length-le lines past) c.loop-line.invariant)
-
-pub returns-in_err-add_line-clause-nothing : goal.returns-in_err-add_line-clause-nothing
-returns-in_err-add_line-clause-nothing c = λ holds.
-    let none : length c.args.lines.now ≡ 0 = grind (arith, common_steps) in
-    absurd (some_line (λ line. line.now) c.args.lines.now none holds)
 
 pub returns-in_err-add_line-2-clause-nothing : goal.returns-in_err-add_line-2-clause-nothing
 returns-in_err-add_line-2-clause-nothing c = λ holds.
