@@ -206,27 +206,31 @@ module _ (one other : ℕ) where
       ∙ (mask_l-mod (map is_set (chunk at 16 text)) 64 (omega (arith, length-map (chunk at 16 text) is_set, length-chunk at 16 text room))
       ∙ ap mask_l (set_by_marks (chunk at 16 text)))
 
+-- so many of these bytes come before the first mark, or all
+pub record BeforeMark (one other : ℕ) (text : List ℕ) (at n r : ℕ) : Type 0 where
+  pub within : r ≤ n
+  pub unmarked : AreUnmarked one other text at (at + r)
+  pub mark : r < n → is_mark one other (get_or text (at + r) 0) ≡ true
+
 module _ (one other : ℕ) (text : List ℕ) (at n : ℕ) (lanes : n ≤ 64) (room : at + n ≤ length text) (mask : ℕ)
     (is : mask ≡ mask_l (map (is_mark one other) (chunk at n text))) where
-  abbrev pub count : ℕ
-  count = prefix_len (λ b. not (is_mark one other b)) (chunk at n text)
+  counted : (r : ℕ) → r ≡ prefix_len (λ b. not (is_mark one other b)) (chunk at n text) → BeforeMark one other text at n r
+  counted r count = record {
+    within = run_in_chunk_le (is_mark one other) text at n r 0 room count;
+    unmarked = run_in_chunk_fails (is_mark one other) text at n r 0 room count;
+    mark = run_in_chunk_stops (is_mark one other) text at n r 0 room count;
+  }
 
-  pub none_set : mask ≡ 0 → n ≡ count
-  none_set none = sym (leading_from_mask_l (is_mark one other) (chunk at n text) (sym is ∙ none) ∙ length-chunk at n text room)
+  -- all, if no bit is set,
+  pub none_set : mask ≡ 0 → BeforeMark one other text at n n
+  none_set none =
+      counted n (sym (leading_from_mask_l (is_mark one other) (chunk at n text) (sym is ∙ none) ∙ length-chunk at n text room))
 
-  pub some_set : ¬ (mask ≡ 0) → count_trailing_zeros 64 mask ≡ count
+  -- and else as many as the zeros before the lowest bit
+  pub some_set : ¬ (mask ≡ 0) → BeforeMark one other text at n (count_trailing_zeros 64 mask)
   some_set some =
-      ap (count_trailing_zeros 64) is
-      ∙ trailing_mask_l (is_mark one other) 64 (chunk at n text) (omega (arith, lanes, length-chunk at n text room)) (omega (arith, is, some))
-
-  pub few : (r : ℕ) → r ≡ count → r ≤ n
-  few r counted = run_in_chunk_le (is_mark one other) text at n r 0 room counted
-
-  pub unmarked : (r : ℕ) → r ≡ count → AreUnmarked one other text at (at + r)
-  unmarked r counted = run_in_chunk_fails (is_mark one other) text at n r 0 room counted
-
-  pub marked : (r : ℕ) → r ≡ count → r < n → is_mark one other (get_or text (at + r) 0) ≡ true
-  marked r counted = run_in_chunk_stops (is_mark one other) text at n r 0 room counted
+      counted _ (ap (count_trailing_zeros 64) is
+      ∙ trailing_mask_l (is_mark one other) 64 (chunk at n text) (omega (arith, lanes, length-chunk at n text room)) (omega (arith, is, some)))
 
 -- The bits of the last block from a position on are those of the bytes from there on.
 pub bits_from : (one other : ℕ) (text : List ℕ) (from : ℕ) → 16 ≤ length text → length text < from + 16 → from ≤ length text
