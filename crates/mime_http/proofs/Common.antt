@@ -10,10 +10,10 @@ pub use Rattle.std.proofs.lemmas.Cmp.{back_total, nat_cmp_total, on_total, ranke
 pub use Rattle.std.proofs.lemmas.Grind.{common_steps, flat_map-append}
 pub use Rattle.std.proofs.lemmas.Iterator.Adapters.{position_from-zero}
 pub use Rattle.std.proofs.lemmas.List.{append_cancel_left, append_cancel_right, drop-drop, drop_all, get_or-drop, get_or-map, get_or_default, get_or_past, length-map, length-take-le, map-append, nil_from_length, take-append-drop, take_all, take_more, take_rest}
-pub use Rattle.std.proofs.lemmas.List.Elements.{Contains-get_or}
-pub use Rattle.std.proofs.lemmas.List.Folds.{list_all-append, list_all-map}
+pub use Rattle.std.proofs.lemmas.List.Elements.{All-contains, Contains-get_or}
+pub use Rattle.std.proofs.lemmas.List.Folds.{list_all-append, list_all-map, list_any-append}
 pub use Rattle.std.proofs.lemmas.List.FromFn.{get_or-map-range_with_len}
-pub use Rattle.std.proofs.lemmas.List.Sums.{fold_push, prefix_len-le-length, prefix_len_stops, take_while-cons}
+pub use Rattle.std.proofs.lemmas.List.Sums.{AllPass-from_list_all, fold_push, list_all-from_AllPass, prefix_len-le-length, prefix_len_stops, take_while-cons}
 pub use Rattle.std.proofs.lemmas.Option.{MatchOption-at_some, get_or_from_slice_get, none-some, option_and_then_some, same_Some, slice_get-get_or, slice_get_within}
 pub use Rattle.std.proofs.lemmas.Simd.{leading_from_mask_l, length-chunk, map-map, mask_l-mod, none_from_empty_mask, run_in_chunk_fails, run_in_chunk_le, run_in_chunk_stops, tops_compared, trailing_mask_l, zip2_of_maps, zip2_splat, zip2_splat_left}
 pub use Rattle.std.proofs.lemmas.Slice.Eq.{HasBytesAt, bytes_eq-Decides, text_from_reads}
