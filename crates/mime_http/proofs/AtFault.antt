@@ -1,12 +1,12 @@
 -- A byte at fault in a value, and the bytes before it: the place there, and what is left of the value from there on.
-use Rattle.mime_http.proofs.Common.{AreSpaces, Begun, Bool, InvalidToken, IsDeadAt, IsHttpDeadAt, IsHttpLongestPrefix, IsHttpMediaType, IsHttpViable, IsViable, List, ListState, None, Option, Paired, Place, Quoted, Some, Spaced, Stands, Start, [], added, and_parts, ap, append-nil, arith, awaits_after, drop, drop-append_seam, drop-drop, false, get_or, get_or_from_slice_get, grow, if◌then◌else◌, in_list, in_quotes, in_type, in_value, is_space, length, length-append, length-drop, length-take-le, option_and_then, place_after, refl, slice_get, slice_get_within, subst, suc, sym, take, take-append-drop, take-length, take-suc, tight, tight_from, trim_start, true, viable-from_walk, walk, walk-from_viable, walk_by-append_some, walk_from, ℕ, ◌++◌, ◌+◌, ◌-◌, ◌<◌, ◌∙◌, ◌∷◌, ◌≡◌, ◌≤◌, Closed, ClosedParameters, IsFalse, Semicolon, after_quotes, cases_Bool, cond_both, false_from_ne_true, grow_state, in_spaces, none-some, option_map, position, spelled-from_walk, ⊎_elim, ⊤, ◌==◌, ◌≢◌, takes}
+use Rattle.mime_http.proofs.Common.{AreSpaces, Begun, Bool, InvalidToken, IsDeadAt, IsHttpDeadAt, IsHttpMediaType, IsHttpViable, IsViable, List, ListState, None, Option, Paired, Place, Quoted, Some, Spaced, Stands, Start, [], added, and_parts, ap, append-nil, arith, awaits_after, drop, drop-append_seam, drop-drop, false, get_or, get_or_from_slice_get, grow, if◌then◌else◌, in_list, in_quotes, in_type, in_value, is_space, length, length-append, length-drop, length-take-le, option_and_then, place_after, refl, slice_get, slice_get_within, subst, suc, sym, take, take-append-drop, take-length, take-suc, tight, tight_from, trim_start, true, viable-from_walk, walk, walk-from_viable, walk_by-append_some, walk_from, ℕ, ◌++◌, ◌+◌, ◌-◌, ◌<◌, ◌∙◌, ◌∷◌, ◌≡◌, ◌≤◌, Closed, ClosedParameters, IsFalse, Semicolon, after_quotes, cases_Bool, cond_both, false_from_ne_true, grow_state, in_spaces, none-some, option_map, position, spelled-from_walk, ⊎_elim, ⊤, ◌==◌, ◌≢◌, takes}
 use Rattle.mime_http.proofs.Highest.{item_left}
 use Rattle.mime_http.proofs.Places.{place_from, comes_out_whole, SkipsWhite, white_skipped}
 use Rattle.mime_http.proofs.PlacesAgain.{IsSettled}
 use Rattle.mime_http.proofs.Trims.{split_white}
 use Rattle.mime_http.proofs.HttpViability.{place_in_list, place_at, walked, tight-append, viable_from_tight, tight_from_viable}
 use Rattle.mime_http.proofs.HowFar.{tight_one}
-use Rattle.mime_http.proofs.HttpFaults.{longest_at}
+use Rattle.mime_http.proofs.HttpFaults.{longest_before}
 
 -- ---- a byte with which a begun tree goes on comes out as it is
 
@@ -182,14 +182,9 @@ dead_too value pos b cut here comes =
     let text : tight (before ++ (b ∷ [])) ≡ before ++ (b ∷ []) =
     tight_one before b ∙ (ap (λ x. x ++ added (place_from Start before) b) (so_far cut.fault) ∙ ap (λ x. before ++ x) comes) in
     record {
-      prefix = subst (λ n. IsHttpLongestPrefix value n) cut.long
-          (subst (λ v. IsHttpLongestPrefix v (length before)) cut.split
-          (longest_at before (b ∷ rest)
+      prefix = longest_before before b rest cut.split cut.long
           (viable_from_tight before (at_rest cut.fault) (subst IsViable (sym (so_far cut.fault)) cut.fault.viable))
-          (λ c bytes e viable.
-          let same : b ≡ c = cc in
-          let begins = subst (λ x. IsHttpViable (before ++ (x ∷ []))) (sym same) viable in
-          cut.fault.dead (subst IsViable text (tight_from_viable (before ++ (b ∷ [])) begins)))));
+          (λ begins. cut.fault.dead (subst IsViable text (tight_from_viable (before ++ (b ∷ [])) begins)));
       there = here;
     }
 

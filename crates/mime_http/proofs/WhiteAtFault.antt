@@ -4,7 +4,7 @@ use Rattle.mime_http.proofs.Places.{place_from, place_from-append, at_start, spa
 use Rattle.mime_http.proofs.Trims.{split_white, below_128}
 use Rattle.mime_http.proofs.HttpViability.{no_space_grows, tight-append, viable_from_tight, viable_from_accepted, tight_from_viable, accepted_from_spaced, prefix_of_http_viable}
 use Rattle.mime_http.proofs.HowFar.{tight_one}
-use Rattle.mime_http.proofs.HttpFaults.{longest_at}
+use Rattle.mime_http.proofs.HttpFaults.{longest_at, longest_before}
 use Rattle.mime_http.proofs.AtFault.{Refuses, refuses, there, so_far, at_rest, CutAt, cut_at, no_more_white, still_spaced, after_white, leaves_out}
 
 -- ---- white space at fault
@@ -133,14 +133,9 @@ module _ (value : List ℕ) (pos b : ℕ) (space : LaterSpace value pos b) where
 
     dead_before : ¬ (IsAccepted begin) → IsHttpDeadAt value pos b
     dead_before rejected = record {
-      prefix = subst (λ n. IsHttpLongestPrefix value n) space.cut.long
-          (subst (λ v. IsHttpLongestPrefix v (length begin)) space.cut.split
-          (longest_at begin (b ∷ drop (pos + 1) value)
+      prefix = longest_before begin b (drop (pos + 1) value) space.cut.split space.cut.long
           (viable_from_tight begin (at_rest space.cut.fault) (subst IsViable (sym (so_far space.cut.fault)) space.cut.fault.viable))
-          (λ c bytes e viable.
-          let same : b ≡ c = cc in
-          let begins = subst (λ x. IsHttpViable (begin ++ (x ∷ []))) (sym same) viable in
-          rejected (subst IsAccepted (comes_alone [] refl) (accepted_from_spaced (begin ++ (b ∷ [])) (spaced_there [] refl) begins)))));
+          (λ begins. rejected (subst IsAccepted (comes_alone [] refl) (accepted_from_spaced (begin ++ (b ∷ [])) (spaced_there [] refl) begins)));
       there = here;
     }
 
