@@ -36,24 +36,25 @@ module _ (piece : List ℕ) {old new : Header} where
     now_bad = bad ∙ sym (append-nil old.bad);
   }
 
-  pub add_range : (range : MediaType) → IsUtf8 (trim_start piece) × Reads (tight (trim_start piece)) range
-      → new.ranges ≡ old.ranges ++ (range ∷ []) → new.bad ≡ old.bad → Adds (piece ∷ []) old new
-  add_range range is ranges bad = record {
+  -- a media type adds a range,
+  pub add_range : (range : MediaType) → IsUtf8 piece → Reads (tight piece) range → new.ranges ≡ old.ranges ++ (range ∷ [])
+      → new.bad ≡ old.bad → Adds (piece ∷ []) old new
+  add_range range utf8 reads ranges bad = record {
     ranges = range ∷ [];
     bad = [];
-    sorted = a_range piece range [] [] [] (utf8_before piece is.0) (read_is_http piece range (tight_before piece is.1))
-        (reads_tight piece (tight_before piece is.1)) no_text;
+    sorted = a_range piece range [] [] [] utf8 (read_is_http piece range reads) (reads_tight piece reads) no_text;
     now_ranges = ranges;
     now_bad = bad ∙ sym (append-nil old.bad);
   }
 
-  pub add_bad : ¬ (trim_start piece ≡ []) → ¬ (IsUtf8 (trim_start piece) × IsHttpMediaType (trim_start piece)) → new.ranges ≡ old.ranges
-      → new.bad ≡ old.bad ++ (trim_end (trim_start piece) ∷ []) → Adds (piece ∷ []) old new
-  add_bad some isnt ranges bad = record {
+  -- and any other entry itself
+  pub add_bad : trim_start piece ≡ piece → ¬ (piece ≡ []) → ¬ (IsUtf8 piece × IsHttpMediaType piece) → new.ranges ≡ old.ranges
+      → new.bad ≡ old.bad ++ (trim_end piece ∷ []) → Adds (piece ∷ []) old new
+  add_bad trimmed some isnt ranges bad = record {
     ranges = [];
-    bad = trim_end (trim_start piece) ∷ [];
-    sorted = a_bad piece [] [] [] (λ white. some (trimmed_from_blank piece white))
-        (λ is. isnt (utf8_trimmed piece is.0, (is.1.0, http_trimmed piece is.1.0 is.1.1))) no_text;
+    bad = trim_end piece ∷ [];
+    sorted = subst (λ entry. AreSorted (piece ∷ []) [] (trim_end entry ∷ [])) trimmed
+        (a_bad piece [] [] [] (λ white. some (sym trimmed ∙ trimmed_from_blank piece white)) isnt no_text);
     now_ranges = ranges ∙ sym (append-nil old.ranges);
     now_bad = bad;
   }

@@ -57,26 +57,25 @@ module _ (ranges : List MediaType) (piece : List ℕ) {old : Chosen} where
   chooses_nothing none before was = (before, add_nothing piece none refl refl, was)
 
   -- a media type is an offer,
-  pub chooses_offer : (media : MediaType) {new : Chosen} → IsUtf8 (trim_start piece) × Reads (tight (trim_start piece)) media
+  pub chooses_offer : (media : MediaType) {new : Chosen} → IsUtf8 piece → Reads (tight piece) media
       → ((before : Header) → IsChosen ranges before old → IsChosen ranges (record before { ranges = before.ranges ++ (media ∷ []) }) new)
       → ChoosesOn ranges piece old new
-  chooses_offer media is takes before was =
-      (record before { ranges = before.ranges ++ (media ∷ []) }, add_range piece media is refl refl, takes before was)
+  chooses_offer media utf8 reads takes before was =
+      (record before { ranges = before.ranges ++ (media ∷ []) }, add_range piece media utf8 reads refl refl, takes before was)
 
   -- and anything else is counted
-  pub chooses_bad : ¬ (trim_start piece ≡ []) → ¬ (IsUtf8 (trim_start piece) × IsHttpMediaType (trim_start piece))
+  pub chooses_bad : trim_start piece ≡ piece → ¬ (piece ≡ []) → ¬ (IsUtf8 piece × IsHttpMediaType piece)
       → ChoosesOn ranges piece old (record old { bad = old.bad + 1 })
-  chooses_bad some isnt before was =
-      let entry = trim_end (trim_start piece) in (
-        record before { bad = before.bad ++ (entry ∷ []) },
-        add_bad piece some isnt refl refl,
-        record {
-          most = was.most;
-          best = was.best;
-          count = was.count;
-          bad = omega (arith, was.bad, length-append before.bad (entry ∷ []));
-        },
-      )
+  chooses_bad trimmed some isnt before was = (
+    record before { bad = before.bad ++ (trim_end piece ∷ []) },
+    add_bad piece trimmed some isnt refl refl,
+    record {
+      most = was.most;
+      best = was.best;
+      count = was.count;
+      bad = omega (arith, was.bad, length-append before.bad (trim_end piece ∷ []));
+    },
+  )
 
 -- what is chosen after an entry is chosen after the piece that it is trimmed of
 chooses_trimmed : (ranges : List MediaType) (piece text : List ℕ) {old new : Chosen} → text ≡ trim_start piece

@@ -251,3 +251,7 @@ walk_text reads = subst (λ text. Walk EndsText Start text) reads.spelled (tree 
 -- so tightening leaves an accepted text as it is
 pub accepted_stays : (text : List ℕ) → IsAccepted text → tight text ≡ text
 accepted_stays text is = comes_out_whole (walk_text is.1).leads
+
+-- and what is read of a text is read of it tightened
+pub tight_too : (text : List ℕ) {media : MediaType} → Reads text media → Reads (tight text) media
+tight_too text {media} reads = subst (λ text. Reads text media) (sym (accepted_stays text (media, reads))) reads
