@@ -1,18 +1,8 @@
 -- What is added to a header, piece by piece and line by line.
-use Rattle.std.proofs.Common.{◌≡◌, ◌∙◌, refl, sym, ap, subst, ℕ, List, [], ◌∷◌, ◌++◌, map}
-use Rattle.std.specs.Prelude.{flat_map}
-use Rattle.std.specs.Prelude.{Result, Option, Ok, Err, OnOk, MatchResult, MatchOption}
+use Rattle.mime_http.proofs.Common.{Adds, AddsLines, AreBetweenCommas, AreSorted, AreSpaces, BeginsPiece, Err, Header, HttpReads, IsHeader, IsHttpMediaType, IsPiece, IsRejected, IsUtf8, List, MatchOption, MatchResult, MediaType, Ok, OnOk, Option, OwnedMedia, Reads, Result, [], a_bad, a_range, ap, append-nil, append_assoc, cut, flat_map, lines_or_any, map, map-append, no_text, refl, subst, sym, tight, trim_end, trim_start, ℕ, ◌++◌, ◌∙◌, ◌∷◌, ◌≡◌}
 use Rattle.std.specs.Result.{result_ok}
-use Rattle.std.specs.Str.{IsUtf8}
-use Rattle.std.proofs.lemmas.List.{append-nil, append_assoc, map-append}
-use Rattle.mime.specs.Grammar.{AreSpaces}
-use Rattle.mime.specs.Values.{MediaType, OwnedMedia, Reads}
-use Rattle.mime_http.specs.HttpMediaType.{HttpReads, IsHttpMediaType}
-use Rattle.mime_http.specs.HttpList.{lines_or_any, AreBetweenCommas, IsPiece, BeginsPiece, trim_start, trim_end, AreSorted, no_text, blank, a_range, a_bad, Header, IsHeader}
-use Rattle.mime_http.specs.Walk.{cut, Adds, AddsLines}
+use Rattle.mime_http.specs.HttpList.{blank}
 use Rattle.mime_http.specs.declared.fault.Rejected.{Rejected}
-use Rattle.mime_http.specs.Places.{tight}
-use Rattle.mime_http.specs.Tightening.{IsRejected}
 use Rattle.mime_http.proofs.HttpBack.{read_is_http}
 use Rattle.mime_http.proofs.HttpLaws.{reads_tight, tight_reads}
 use Rattle.mime_http.proofs.Cuts.{are_cut, only_cut}
@@ -46,24 +36,25 @@ module _ (piece : List ℕ) {old new : Header} where
     now_bad = bad ∙ sym (append-nil old.bad);
   }
 
-  pub add_range : (range : MediaType) → IsUtf8 (trim_start piece) × Reads (tight (trim_start piece)) range
-      → new.ranges ≡ old.ranges ++ (range ∷ []) → new.bad ≡ old.bad → Adds (piece ∷ []) old new
-  add_range range is ranges bad = record {
+  -- a media type adds a range,
+  pub add_range : (range : MediaType) → IsUtf8 piece → Reads (tight piece) range → new.ranges ≡ old.ranges ++ (range ∷ [])
+      → new.bad ≡ old.bad → Adds (piece ∷ []) old new
+  add_range range utf8 reads ranges bad = record {
     ranges = range ∷ [];
     bad = [];
-    sorted = a_range piece range [] [] [] (utf8_before piece is.0) (read_is_http piece range (tight_before piece is.1))
-        (reads_tight piece (tight_before piece is.1)) no_text;
+    sorted = a_range piece range [] [] [] utf8 (read_is_http piece range reads) (reads_tight piece reads) no_text;
     now_ranges = ranges;
     now_bad = bad ∙ sym (append-nil old.bad);
   }
 
-  pub add_bad : ¬ (trim_start piece ≡ []) → ¬ (IsUtf8 (trim_start piece) × IsHttpMediaType (trim_start piece)) → new.ranges ≡ old.ranges
-      → new.bad ≡ old.bad ++ (trim_end (trim_start piece) ∷ []) → Adds (piece ∷ []) old new
-  add_bad some isnt ranges bad = record {
+  -- and any other entry itself
+  pub add_bad : trim_start piece ≡ piece → ¬ (piece ≡ []) → ¬ (IsUtf8 piece × IsHttpMediaType piece) → new.ranges ≡ old.ranges
+      → new.bad ≡ old.bad ++ (trim_end piece ∷ []) → Adds (piece ∷ []) old new
+  add_bad trimmed some isnt ranges bad = record {
     ranges = [];
-    bad = trim_end (trim_start piece) ∷ [];
-    sorted = a_bad piece [] [] [] (λ white. some (trimmed_from_blank piece white))
-        (λ is. isnt (utf8_trimmed piece is.0, (is.1.0, http_trimmed piece is.1.0 is.1.1))) no_text;
+    bad = trim_end piece ∷ [];
+    sorted = subst (λ entry. AreSorted (piece ∷ []) [] (trim_end entry ∷ [])) trimmed
+        (a_bad piece [] [] [] (λ white. some (sym trimmed ∙ trimmed_from_blank piece white)) isnt no_text);
     now_ranges = ranges ∙ sym (append-nil old.ranges);
     now_bad = bad;
   }

@@ -1,14 +1,12 @@
 -- A byte at fault in a value, and the bytes before it: the place there, and what is left of the value from there on.
-use Rattle.mime_http.proofs.Common.{◌≡◌, ◌∙◌, refl, sym, ap, subst, arith, ℕ, suc, ◌+◌, ◌-◌, ◌<◌, ◌≤◌, Bool, true, false, List, [], ◌∷◌, ◌++◌, length, take, drop, get_or, Option, Some, None, length-append, length-drop, take-length, take-suc, drop-append_seam, slice_get, if◌then◌else◌, option_and_then, and_parts, drop-drop, length-take-le, take-append-drop, slice_get_within, get_or_from_slice_get, is_space, AreSpaces, IsViable, IsDeadAt, awaits_after, InvalidToken, Begun, in_type, in_list, ListState, in_value, in_quotes, grow, walk, walk_from, walk_by-append_some, viable-from_walk, walk-from_viable, Place, Start, Spaced, place_after, added, tight_from, tight, IsHttpMediaType, IsHttpViable, IsHttpLongestPrefix, IsHttpDeadAt, Stands, trim_start}
-use Rattle.std.proofs.lemmas.List.{append-nil}
-use Rattle.mime_http.specs.declared.tight.Place.TheVariants.{Quoted, Paired}
+use Rattle.mime_http.proofs.Common.{AreSpaces, Begun, Bool, InvalidToken, IsDeadAt, IsHttpDeadAt, IsHttpMediaType, IsHttpViable, IsViable, List, ListState, None, Option, Paired, Place, Quoted, Some, Spaced, Stands, Start, [], added, and_parts, ap, append-nil, arith, awaits_after, drop, drop-append_seam, drop-drop, false, get_or, get_or_from_slice_get, grow, if◌then◌else◌, in_list, in_quotes, in_type, in_value, is_space, length, length-append, length-drop, length-take-le, option_and_then, place_after, refl, slice_get, slice_get_within, subst, suc, sym, take, take-append-drop, take-length, take-suc, tight, tight_from, trim_start, true, viable-from_walk, walk, walk-from_viable, walk_by-append_some, walk_from, ℕ, ◌++◌, ◌+◌, ◌-◌, ◌<◌, ◌∙◌, ◌∷◌, ◌≡◌, ◌≤◌, Closed, ClosedParameters, IsFalse, Semicolon, after_quotes, cases_Bool, cond_both, false_from_ne_true, grow_state, in_spaces, none-some, option_map, position, spelled-from_walk, ⊎_elim, ⊤, ◌==◌, ◌≢◌, takes}
 use Rattle.mime_http.proofs.Highest.{item_left}
 use Rattle.mime_http.proofs.Places.{place_from, comes_out_whole, SkipsWhite, white_skipped}
 use Rattle.mime_http.proofs.PlacesAgain.{IsSettled}
 use Rattle.mime_http.proofs.Trims.{split_white}
 use Rattle.mime_http.proofs.HttpViability.{place_in_list, place_at, walked, tight-append, viable_from_tight, tight_from_viable}
 use Rattle.mime_http.proofs.HowFar.{tight_one}
-use Rattle.mime_http.proofs.HttpFaults.{longest_at}
+use Rattle.mime_http.proofs.HttpFaults.{longest_before}
 
 -- ---- a byte with which a begun tree goes on comes out as it is
 
@@ -56,11 +54,7 @@ so_far {before} fault = comes_out_whole (walked (in_type []) before fault.begun 
 
 -- no white space was left out in a list,
 settled_in_list : (position : ListState) → IsSettled (place_in_list position)
-settled_in_list (in_quotes n name content) = go (awaits_after false content)
-  where
-    go : (awaiting : Bool) → IsSettled (if awaiting then Paired else Quoted)
-    go true = tt
-    go false = tt
+settled_in_list (in_quotes n name content) = cond_both (awaits_after false content) _ _ IsSettled (λ is. tt) (λ is. tt)
 settled_in_list (in_value n name (v ∷ value)) = tt
 settled_in_list position = tt
 
@@ -73,6 +67,41 @@ walk_is_settled begun = tt
 -- nor before a fault
 pub at_rest : {before : List ℕ} {b : ℕ} → Fault before b → IsSettled (place_from Start before)
 at_rest fault = subst IsSettled (sym (there fault)) (walk_is_settled fault.begun)
+
+-- what isn't taken at a place where the library stops, which is at no text's start
+abbrev pub Refuses : Place → ℕ → Type 0
+Refuses Start b = ⊥
+Refuses Spaced b = ⊥
+Refuses Quoted b = IsFalse (takes false b)
+Refuses Paired b = IsFalse (takes true b)
+Refuses Closed b = IsFalse (is_space b) × IsFalse (b == 59)
+Refuses Semicolon b = IsFalse (is_space b)
+Refuses place b = ⊤
+
+-- a byte at fault isn't taken at the place there
+pub refuses : {before : List ℕ} {b : ℕ} → Fault before b → before ≢ [] → Refuses (place_from Start before) b
+refuses {before} {b} fault some = subst (λ place. Refuses place b) (sym (there fault)) (by fault.begun fault.reached fault.stops)
+  where
+    in_string : (awaiting : Bool) → IsFalse (takes awaiting b) → Refuses (if awaiting then Paired else Quoted) b
+    in_string true refused = refused
+    in_string false refused = refused
+
+    at : (top sub : List ℕ) (closed : ClosedParameters) (position : ListState)
+        → option_map (in_list top sub) (grow_state closed position b) ≡ None → Refuses (place_in_list position) b
+    at top sub closed (in_spaces n) stops = false_from_ne_true _ (λ white. none-some _ (sym (rw white at stops)))
+    at top sub closed (in_value n name (v ∷ value)) stops = tt
+    at top sub closed (in_quotes n name content) stops =
+        in_string (awaits_after false content) (false_from_ne_true _ (λ goes. none-some _ (sym (rw goes at stops))))
+    at top sub closed (after_quotes n name content m) stops =
+        let other : is_space b ≡ false = false_from_ne_true _ (λ white. none-some _ (sym (rw white at stops))) in
+        (other, false_from_ne_true _ (λ semicolon. none-some _ (sym (rw (other, semicolon) at stops))))
+    at top sub closed position stops = tt
+
+    by : (begun : Begun) → walk before ≡ Some begun → grow begun b ≡ None → Refuses (place_at begun) b
+    by (in_type []) reached stops = absurd (some (sym (spelled-from_walk before (in_type []) reached)))
+    by (in_list top sub list) reached stops = at top sub list.closed list.position stops
+    by (in_type (t ∷ top)) reached stops = tt
+    by begun reached stops = tt
 
 -- a value is cut at its fault
 pub record CutAt (value : List ℕ) (pos b : ℕ) : Type 0 where
@@ -101,14 +130,13 @@ cut_at value pos b dead =
 -- what is left doesn't begin with white space
 pub no_more_white : (bytes : List ℕ) (c : ℕ) (rest : List ℕ) → trim_start bytes ≡ c ∷ rest → is_space c ≡ false
 no_more_white [] c rest e = absurd (cc)
-no_more_white (b ∷ bytes) c rest e = go (no_more_white bytes c rest) (is_space b) refl
-  where
-    go : (trim_start bytes ≡ c ∷ rest → is_space c ≡ false) → (w : Bool) → is_space b ≡ w → is_space c ≡ false
-    go more true is = more (rw is at e)
-    go more false is =
-        let both : b ∷ bytes ≡ c ∷ rest = rw is at e in
-        let first : b ≡ c = cc in
-        subst (λ x. is_space x ≡ false) first is
+no_more_white (b ∷ bytes) c rest e = ⊎_elim
+    (λ (white : is_space b ≡ true). no_more_white bytes c rest (rw white at e))
+    (λ (other : is_space b ≡ false).
+    let both : b ∷ bytes ≡ c ∷ rest = rw other at e in
+    let first : b ≡ c = cc in
+    subst (λ x. is_space x ≡ false) first other)
+    (cases_Bool (is_space b))
 
 -- after white space that was left out, more leads to the same place
 pub still_spaced : (white : List ℕ) → AreSpaces white → place_from Spaced white ≡ Spaced
@@ -154,14 +182,9 @@ dead_too value pos b cut here comes =
     let text : tight (before ++ (b ∷ [])) ≡ before ++ (b ∷ []) =
     tight_one before b ∙ (ap (λ x. x ++ added (place_from Start before) b) (so_far cut.fault) ∙ ap (λ x. before ++ x) comes) in
     record {
-      prefix = subst (λ n. IsHttpLongestPrefix value n) cut.long
-          (subst (λ v. IsHttpLongestPrefix v (length before)) cut.split
-          (longest_at before (b ∷ rest)
+      prefix = longest_before before b rest cut.split cut.long
           (viable_from_tight before (at_rest cut.fault) (subst IsViable (sym (so_far cut.fault)) cut.fault.viable))
-          (λ c bytes e viable.
-          let same : b ≡ c = cc in
-          let begins = subst (λ x. IsHttpViable (before ++ (x ∷ []))) (sym same) viable in
-          cut.fault.dead (subst IsViable text (tight_from_viable (before ++ (b ∷ [])) begins)))));
+          (λ begins. cut.fault.dead (subst IsViable text (tight_from_viable (before ++ (b ∷ [])) begins)));
       there = here;
     }
 

@@ -1,14 +1,5 @@
 -- The highest of a list is one of it, and none is higher; so the closest range is the closest.
-use Rattle.std.proofs.Common.{◌≡◌, ◌∙◌, ◌<◌, ◌⊎◌, inl, inr, refl, sym, ap, subst, arith, ⊎_elim, ℕ, zero, suc, Bool, true, false, List, [], ◌∷◌, map}
-use Rattle.std.specs.Prelude.{fold, if◌then◌else◌, Contains}
-use Rattle.std.specs.Ordering.{is_lt, is_gt, ord_max, nat_cmp, ordering_then, MatchOrdering}
-use Rattle.std.specs.declared.cmp.Ordering.{Ordering}
-use Rattle.std.specs.declared.cmp.Ordering.TheVariants.{Less, Equal}
-use Rattle.std.specs.Cmp.{IsTotalOrder}
-use Rattle.std.proofs.lemmas.Bool.{true≢false}
-use Rattle.std.proofs.lemmas.Cmp.{ranked}
-use Rattle.mime_http.specs.Ranges.{Rank, rank_cmp}
-use Rattle.mime_http.specs.RangesLaws.{IsAtMost}
+use Rattle.mime_http.proofs.Common.{Bool, Contains, Equal, IsAtMost, IsTotalOrder, Less, List, MatchOrdering, Ordering, Rank, [], ap, arith, false, fold, if◌then◌else◌, inl, inr, is_gt, is_lt, map, nat_cmp, ord_max, ordering_then, rank_cmp, ranked, refl, subst, suc, sym, true, true≢false, zero, ℕ, ⊎_elim, ◌<◌, ◌∙◌, ◌∷◌, ◌≡◌, ◌⊎◌, get_or-map, length-map}
 use Rattle.mime_http.proofs.Highest.{least_item}
 
 -- an item of a longer list, and of a mapped one
@@ -17,9 +8,7 @@ in_more y xs x (k, within, is) = (suc k, omega (arith, within), is)
 
 -- what a list contains, the list of its values contains,
 pub in_mapped : {X Y : Type 0} (f : X → Y) (xs : List X) (x : X) → Contains xs x → Contains (map f xs) (f x)
-in_mapped f [] x (k, within, is) = absurd (omega (arith, within))
-in_mapped f (y ∷ xs) x (zero, within, is) = (zero, omega arith, ap f is)
-in_mapped f (y ∷ xs) x (suc k, within, is) = in_more (f y) (map f xs) (f x) (in_mapped f xs x (k, omega (arith, within), is))
+in_mapped f xs x (k, within, is) = (k, omega (arith, within, length-map xs f), get_or-map f xs k x (f x) within ∙ ap f is)
 
 -- and the other way
 pub of_mapped : {X Y : Type 0} (f : X → Y) (xs : List X) (y : Y) → Contains (map f xs) y → (x : X) × Contains xs x × (f x ≡ y)

@@ -1,19 +1,5 @@
 -- The content of quoted strings: what is written for a value, and what needs no backslash.
-use Rattle.std.proofs.Common.{◌≡◌, ◌≢◌, ◌∙◌, ◌==◌, ◌<◌, ◌≤◌, ℕ, zero, suc, Bool, true, false, List, [], ◌∷◌, ◌++◌, arith, refl, sym, ap, ap₂, cond, ⊎_elim, append-nil, append_assoc, ◌+◌, ◌*◌, get_or, length, take, drop}
-use Rattle.std.specs.Prelude.{◌||◌, ◌&&◌, not, if◌then◌else◌}
-use Rattle.std.specs.Char.{to_ascii_lowercase}
-use Rattle.std.specs.List.{list_all}
-use Rattle.std.proofs.Math.Seq.{take-length, drop-length, take-append-add, drop-append-add}
-use Rattle.std.proofs.lemmas.Bool.{and_parts, and_from, or_parts, cond_both, cases_Bool, eqb-true, false_from_ne_true}
-use Rattle.std.proofs.lemmas.Bool.Decides.{nat_tests}
-use Rattle.mime.specs.Bytes.{is_token_byte, is_quoted_byte, is_quoted_text_byte}
-use Rattle.mime.specs.Grammar.{IsToken, IsContent, no_byte, text_byte, quoted_pair}
-use Rattle.mime.specs.HeaderLaws.{AreHeaderBytes}
-use Rattle.mime.specs.Values.{lowered, is_charset}
-use Rattle.mime.proofs.HandedOut.{AreTokenBytes-from_token}
-use Rattle.mime_http.specs.Boundary.{is_bchar, IsBoundary}
-use Rattle.mime_http.specs.Unescaped.{unescaped}
-use Rattle.mime_http.specs.Written.{escaped, WrittenIsMeant}
+use Rattle.mime_http.proofs.Common.{AreHeaderBytes, AreTokenBytes-from_token, Bool, IsBoundary, IsContent, IsToken, List, WrittenIsMeant, [], and_parts, ap, append-nil, append_assoc, ap₂, arith, cases_Bool, cond, cond_both, drop, drop-append-add, drop-length, eqb-true, escaped, false, false_from_ne_true, get_or, if◌then◌else◌, is_bchar, is_charset, is_quoted_byte, is_quoted_text_byte, is_token_byte, length, list_all, lowered, nat_tests, no_byte, not, or_parts, quoted_pair, refl, suc, sym, take, take-append-add, take-length, text_byte, to_ascii_lowercase, true, unescaped, zero, ℕ, ⊎_elim, ◌&&◌, ◌*◌, ◌++◌, ◌+◌, ◌<◌, ◌==◌, ◌||◌, ◌∙◌, ◌∷◌, ◌≡◌, ◌≢◌, ◌≤◌, list_all-wider}
 
 -- whether a byte is written after a backslash
 abbrev pub is_special : ℕ → Bool
@@ -28,14 +14,6 @@ plain_class p fits [] all = refl
 plain_class p fits (b ∷ bytes) all =
     let parts = and_parts (p b) (list_all p bytes) all in
     rw (fits b parts.0) (ap (λ rest. b ∷ rest) (plain_class p fits bytes parts.1))
-
--- and those of one within quoted strings may stand in a header
-safe_class : (p : ℕ → Bool) → ((b : ℕ) → p b ≡ true → is_quoted_byte b ≡ true) → (bytes : List ℕ) → list_all p bytes ≡ true
-    → AreHeaderBytes bytes
-safe_class p fits [] all = refl
-safe_class p fits (b ∷ bytes) all =
-    let parts = and_parts (p b) (list_all p bytes) all in
-    and_from (is_quoted_byte b) (list_all is_quoted_byte bytes) (fits b parts.0) (safe_class p fits bytes parts.1)
 
 -- a token byte is no quote and no backslash,
 pub token_plain : (b : ℕ) → is_token_byte b ≡ true → is_special b ≡ false
@@ -68,7 +46,7 @@ token_needs_none bytes token = plain_class is_token_byte token_plain bytes (AreT
 
 -- and may stand in a header,
 pub token_is_safe : (bytes : List ℕ) → IsToken bytes → AreHeaderBytes bytes
-token_is_safe bytes token = safe_class is_token_byte token_safe bytes (AreTokenBytes-from_token bytes token)
+token_is_safe bytes token = list_all-wider is_token_byte is_quoted_byte token_safe bytes (AreTokenBytes-from_token bytes token)
 
 -- and so does a boundary,
 pub boundary_is_plain : (bytes : List ℕ) → IsBoundary bytes → escaped bytes ≡ bytes
@@ -76,7 +54,7 @@ boundary_is_plain bytes is = plain_class is_bchar (λ b is. grind (arith, nat_te
 
 -- which may stand there, too
 pub boundary_is_safe : (bytes : List ℕ) → IsBoundary bytes → AreHeaderBytes bytes
-boundary_is_safe bytes is = safe_class is_bchar bchar_safe bytes is.all
+boundary_is_safe bytes is = list_all-wider is_bchar is_quoted_byte bchar_safe bytes is.all
 
 -- ---- bytes before the first backslash
 
@@ -138,17 +116,6 @@ unescaped_end front value start at long within none =
     ∙ append_assoc front (take at value) (unescaped (drop at value))
     ∙ ap (λ rest. front ++ rest) (sym (unescaped_before value at within none))
 
--- a boundary means itself
-pub boundary_means_itself : (bytes : List ℕ) → IsBoundary bytes → unescaped bytes ≡ bytes
-boundary_means_itself bytes is = go bytes is.all
-  where
-    go : (bytes : List ℕ) → list_all is_bchar bytes ≡ true → unescaped bytes ≡ bytes
-    go [] all = refl
-    go (b ∷ bytes) all =
-        let parts = and_parts (is_bchar b) (list_all is_bchar bytes) all in
-        let other : (b == 92) ≡ false = grind (arith, nat_tests, parts.0) in
-        plain_first b bytes other ∙ ap (λ rest. b ∷ rest) (go bytes parts.1)
-
 -- ---- how long a meaning is
 
 -- two bytes stand for each at most, and a backslash at the end for none
@@ -187,6 +154,10 @@ meant (b ∷ value) =
     (λ plain.
     let parts = or_parts (b == 34) (b == 92) plain in
     rw plain (plain_first b (escaped value) parts.1 ∙ ap (λ rest. b ∷ rest) (meant value))) (cases_Bool (is_special b))
+
+-- so a boundary means itself
+pub boundary_means_itself : (bytes : List ℕ) → IsBoundary bytes → unescaped bytes ≡ bytes
+boundary_means_itself bytes is = ap unescaped (sym (boundary_is_plain bytes is)) ∙ meant bytes
 
 -- lowercasing it is writing the value in lowercase
 lowered_escaped : (value : List ℕ) → lowered (escaped value) ≡ escaped (lowered value)

@@ -1,9 +1,6 @@
 -- Lines are cut in one way, and each line is.
-use Rattle.mime_http.proofs.Common.{◌≡◌, ◌∙◌, ◌==◌, refl, sym, ap, subst, arith, ℕ, Bool, true, false, List, [], ◌∷◌, ◌++◌, ◌<◌, length, flat_map, nat_tests, AreBetweenCommas, no_line, line_end, comma, IsInString, string_end, string_byte, string_pair, opens_string, IsPiece, piece_end, piece_byte, piece_string, BeginsPiece}
-use Rattle.std.proofs.lemmas.List.{append-nil, append_assoc}
-use Rattle.mime_http.specs.Walk.{At, Outside, after, ends, cut_from, cut}
-use Rattle.mime_http.specs.ListLaws.{OneCut}
-use Rattle.mime_http.proofs.Passes.{comma_ends, through}
+use Rattle.mime_http.proofs.Common.{AreBetweenCommas, At, BeginsPiece, IsInString, IsPiece, List, OneCut, Outside, [], after, ap, append-nil, append_assoc, arith, comma, cut, cut_from, ends, false, flat_map, length, line_end, no_line, opens_string, piece_byte, piece_end, piece_string, refl, string_byte, string_end, string_pair, subst, sym, true, ℕ, ◌++◌, ◌<◌, ◌==◌, ◌∙◌, ◌∷◌, ◌≡◌, cases_Bool, cond_both, eqb-true, ⊎_elim}
+use Rattle.mime_http.proofs.Passes.{comma_ends, opens_none, through}
 
 -- ---- the only cut
 
@@ -14,29 +11,23 @@ cut_of_piece {piece} is = ap (cut_from Outside []) (sym (append-nil piece)) ∙ 
 -- a cut has a piece
 some_piece : (place : At) (piece bytes : List ℕ) → 0 < length (cut_from place piece bytes)
 some_piece place piece [] = omega arith
-some_piece place piece (b ∷ bytes) = go (some_piece (after place b) (piece ++ (b ∷ [])) bytes) (ends place b) refl
-  where
-    go : 0 < length (cut_from (after place b) (piece ++ (b ∷ [])) bytes) → (e : Bool) → ends place b ≡ e
-        → 0 < length (cut_from place piece (b ∷ bytes))
-    go rest true is = rw is (omega arith)
-    go rest false is = rw is rest
+some_piece place piece (b ∷ bytes) =
+    cond_both (ends place b) _ _ (λ pieces. 0 < length pieces) (λ end. omega arith)
+    (λ on. some_piece (after place b) (piece ++ (b ∷ [])) bytes)
 
 -- bytes of which none ends a piece begin with such
 cut_of_front : (xs ys : List ℕ) (place : At) (piece : List ℕ) → cut_from place piece (xs ++ ys) ≡ (piece ++ (xs ++ ys)) ∷ []
     → cut_from place piece xs ≡ (piece ++ xs) ∷ []
 cut_of_front [] ys place piece is = ap (λ p. p ∷ []) (sym (append-nil piece))
-cut_of_front (x ∷ xs) ys place piece is = go (cut_of_front xs ys (after place x) (piece ++ (x ∷ []))) (ends place x) refl
-  where
-    go : (cut_from (after place x) (piece ++ (x ∷ [])) (xs ++ ys) ≡ ((piece ++ (x ∷ [])) ++ (xs ++ ys)) ∷ []
-        → cut_from (after place x) (piece ++ (x ∷ [])) xs ≡ ((piece ++ (x ∷ [])) ++ xs) ∷ [])
-        → (e : Bool) → ends place x ≡ e → cut_from place piece (x ∷ xs) ≡ (piece ++ (x ∷ xs)) ∷ []
-    go rest true end =
-        let two : piece ∷ cut_from Outside [] (xs ++ ys) ≡ (piece ++ (x ∷ (xs ++ ys))) ∷ [] = rw end at is in
-        absurd (omega (arith, some_piece Outside [] (xs ++ ys), ap length two))
-    go rest false on =
-        let one : cut_from (after place x) (piece ++ (x ∷ [])) (xs ++ ys) ≡ (piece ++ (x ∷ (xs ++ ys))) ∷ [] = rw on at is in
-        rw on (rest (one ∙ ap (λ p. p ∷ []) (sym (append_assoc piece (x ∷ []) (xs ++ ys))))
-        ∙ ap (λ p. p ∷ []) (append_assoc piece (x ∷ []) xs))
+cut_of_front (x ∷ xs) ys place piece is = ⊎_elim
+    (λ (end : ends place x ≡ true).
+    let two : piece ∷ cut_from Outside [] (xs ++ ys) ≡ (piece ++ (x ∷ (xs ++ ys))) ∷ [] = rw end at is in
+    absurd (omega (arith, some_piece Outside [] (xs ++ ys), ap length two)))
+    (λ (on : ends place x ≡ false).
+    let one : cut_from (after place x) (piece ++ (x ∷ [])) (xs ++ ys) ≡ (piece ++ (x ∷ (xs ++ ys))) ∷ [] = rw on at is in
+    rw on (cut_of_front xs ys (after place x) (piece ++ (x ∷ [])) (one ∙ ap (λ p. p ∷ []) (sym (append_assoc piece (x ∷ []) (xs ++ ys))))
+    ∙ ap (λ p. p ∷ []) (append_assoc piece (x ∷ []) xs)))
+    (cases_Bool (ends place x))
 
 -- a piece that a line's end ends is cut into itself
 cut_of_front_piece : (text : List ℕ) → BeginsPiece text → cut text ≡ text ∷ []
@@ -141,41 +132,18 @@ pair_before b (stays_open content more inside) = stays_open (92 ∷ b ∷ conten
 next_of : (b : ℕ) (bytes : List ℕ) → All bytes → All (b ∷ bytes)
 next_of b bytes rest = record {
   cut = cut;
-  equals = equals (b == 34) refl;
-  string = string (b == 34) refl (b == 92) refl;
+  equals = either 34 (λ x. HasCut (61 ∷ x ∷ bytes)) (after_opening rest.string) (λ other. grown 61 refl other cut.is);
+  string = either 34 (λ x. GoesOn (x ∷ bytes)) (closes [] bytes string_end rest.cut)
+      (λ quote. either 92 (λ x. GoesOn (x ∷ bytes)) rest.backslash (λ other. byte_before b quote other rest.string));
   backslash = pair_before b rest.string;
 }
   where
-    cut_by : (c : Bool) → (b == 44) ≡ c → (e : Bool) → (b == 61) ≡ e → HasCut (b ∷ bytes)
-    cut_by true is e equals =
-        let same : b ≡ 44 = grind (arith, nat_tests) in
-        subst (λ x. HasCut (x ∷ bytes)) (sym same) (record { pieces = _; is = comma [] bytes [] _ piece_end rest.cut.is })
-    cut_by false is true equals =
-        let same : b ≡ 61 = grind (arith, nat_tests) in
-        subst (λ x. HasCut (x ∷ bytes)) (sym same) rest.equals
-    cut_by false is false equals = grown b is (none bytes) rest.cut.is
-      where
-        none : (bytes : List ℕ) → opens_string (b ∷ bytes) ≡ false
-        none [] = refl
-        none (c ∷ bytes) = rw equals refl
+    either : (c : ℕ) (P : ℕ → Type 0) → P c → ((b == c) ≡ false → P b) → P b
+    either c P same other = ⊎_elim (λ is. subst P (sym (eqb-true b c is)) same) other (cases_Bool (b == c))
 
     cut : HasCut (b ∷ bytes)
-    cut = cut_by (b == 44) refl (b == 61) refl
-
-    equals : (q : Bool) → (b == 34) ≡ q → HasCut (61 ∷ b ∷ bytes)
-    equals true is =
-        let same : b ≡ 34 = grind (arith, nat_tests) in
-        subst (λ x. HasCut (61 ∷ x ∷ bytes)) (sym same) (after_opening rest.string)
-    equals false is = grown 61 refl is cut.is
-
-    string : (q : Bool) → (b == 34) ≡ q → (s : Bool) → (b == 92) ≡ s → GoesOn (b ∷ bytes)
-    string true is s backslash =
-        let same : b ≡ 34 = grind (arith, nat_tests) in
-        subst (λ x. GoesOn (x ∷ bytes)) (sym same) (closes [] bytes string_end rest.cut)
-    string false is true backslash =
-        let same : b ≡ 92 = grind (arith, nat_tests) in
-        subst (λ x. GoesOn (x ∷ bytes)) (sym same) rest.backslash
-    string false is false backslash = byte_before b is backslash rest.string
+    cut = either 44 (λ x. HasCut (x ∷ bytes)) (record { pieces = _; is = comma [] bytes [] _ piece_end rest.cut.is })
+        (λ no_comma. either 61 (λ x. HasCut (x ∷ bytes)) rest.equals (λ other. grown b no_comma (opens_none b bytes other) rest.cut.is))
 
 -- so it holds of all bytes
 all_of : (bytes : List ℕ) → All bytes

@@ -1,12 +1,5 @@
 -- Counting the parameters that a range demands, and finding its weight, item by item.
-use Rattle.std.proofs.Common.{◌≡◌, ◌∙◌, ◌+◌, refl, sym, ap, subst, arith, ℕ, Bool, true, false, List, [], ◌∷◌, length, drop, get_or, Some, None, codes, bytes_eq, Option}
-use Rattle.std.specs.Prelude.{if◌then◌else◌, ◌≤◌, not, option_map, unwrap_or}
-use Rattle.std.specs.Option.{option_or}
-use Rattle.std.specs.List.{list_all}
-use Rattle.mime.specs.Items.{Item, item_of, items_of}
-use Rattle.mime.specs.Values.{MediaType}
-use Rattle.mime_http.specs.Weight.{thousandths_of}
-use Rattle.mime_http.specs.Ranges.{demanded, has, first_value}
+use Rattle.mime_http.proofs.Common.{Bool, Item, List, MediaType, None, Option, Some, [], ap, arith, bytes_eq, codes, demanded, drop, false, first_value, get_or, has, if◌then◌else◌, item_of, items_of, length, list_all, not, option_map, option_or, refl, subst, sym, thousandths_of, true, unwrap_or, ℕ, ◌+◌, ◌∙◌, ◌∷◌, ◌≡◌, ◌≤◌}
 
 -- whether a name is that of a weight
 abbrev is_weight : List ℕ → Bool
@@ -22,15 +15,15 @@ pub record Counted (offer : MediaType) (pairs : List (List ℕ × List ℕ)) (it
   pub weighed : option_or weight (first_value (codes "q") rest) ≡ first_value (codes "q") pairs
 
 -- the first pair, of which there is an item
-record First (rest : List (List ℕ × List ℕ)) (item : Item) (next : List Item) : Type 0 where
-  pair : List ℕ × List ℕ
-  more : List (List ℕ × List ℕ)
-  here : rest ≡ pair ∷ more
-  seen : item_of pair ≡ item
-  after : next ≡ items_of more
+pub record First (rest : List (List ℕ × List ℕ)) (item : Item) (next : List Item) : Type 0 where
+  pub pair : List ℕ × List ℕ
+  pub more : List (List ℕ × List ℕ)
+  pub here : rest ≡ pair ∷ more
+  pub seen : item_of pair ≡ item
+  pub after : next ≡ items_of more
 
 -- the first item is that of the first pair
-first : (rest : List (List ℕ × List ℕ)) (item : Item) (next : List Item) → items_of rest ≡ item ∷ next → First rest item next
+pub first : (rest : List (List ℕ × List ℕ)) (item : Item) (next : List Item) → items_of rest ≡ item ∷ next → First rest item next
 first [] item next is = absurd (omega (arith, ap length is))
 first (pair ∷ more) item next is = record {
   pair = pair;
@@ -122,7 +115,7 @@ module _ {offer : MediaType} {pairs : List (List ℕ × List ℕ)} {items next :
       omega (arith, long, so_far.counted)
 
 -- no item is left of no pair
-no_pair : (rest : List (List ℕ × List ℕ)) → items_of rest ≡ [] → rest ≡ []
+pub no_pair : (rest : List (List ℕ × List ℕ)) → items_of rest ≡ [] → rest ≡ []
 no_pair [] is = refl
 no_pair (pair ∷ more) is = absurd (omega (arith, ap length is))
 

@@ -1,20 +1,9 @@
 -- The best offer is the first in the order of all.
-use Rattle.std.proofs.Common.{◌≡◌, ◌∙◌, ◌⊎◌, inl, inr, ◌<◌, ◌≤◌, ◌+◌, ◌==◌, refl, sym, ap, subst, arith, ⊎_elim, ℕ, zero, suc, Bool, true, false, List, [], ◌∷◌, length, map, get_or, Some, None}
-use Rattle.std.specs.Prelude.{fold, Contains}
-use Rattle.std.specs.List.{position_from, AllPairs}
-use Rattle.std.specs.Ordering.{is_eq, is_gt, ord_max, eq_by_cmp}
-use Rattle.std.proofs.lemmas.Bool.{true≢false, ne_eqb, cases_Bool}
-use Rattle.std.proofs.lemmas.Cmp.{tied_itself}
-use Rattle.std.proofs.lemmas.List.{get_or_default}
-use Rattle.std.proofs.lemmas.List.Elements.{Contains-get_or}
-use Rattle.std.proofs.lemmas.Iterator.Adapters.{position_from-zero}
-use Rattle.mime.specs.Values.{MediaType}
-use Rattle.mime_http.specs.Ranges.{Rank, rank_cmp, merit, best_offer, AreInOrder}
-use Rattle.mime_http.specs.RangesLaws.{BestIsFirst}
-use Rattle.mime_http.proofs.Closest.{highest_is_there, none_is_higher, at_most}
+use Rattle.mime_http.proofs.Common.{AllPairs, AreInOrder, BestIsFirst, Bool, Contains, Contains-get_or, List, MediaType, None, Rank, Some, [], ap, arith, best_offer, cases_Bool, cond_both, eq_by_cmp, false, get_or, get_or_default, inl, inr, is_eq, is_gt, length, lowest, map, merit, ne_eqb, position_from, position_from-zero, rank_cmp, refl, subst, suc, sym, tied_itself, true, true≢false, zero, ℕ, ⊎_elim, ◌+◌, ◌<◌, ◌==◌, ◌∙◌, ◌∷◌, ◌≡◌, ◌≤◌, ◌⊎◌}
+use Rattle.mime_http.proofs.Closest.{highest_is_there}
 use Rattle.mime_http.proofs.Highest.{same_by}
 use Rattle.mime_http.proofs.Order.{rank_at, ComesBefore}
-use Rattle.mime_http.proofs.Picked.{best_is_position}
+use Rattle.mime_http.proofs.Picked.{highest, not_above, no_more, best_is_position}
 use Rattle.mime_http.proofs.Ranks.{ranks_total, one_rank}
 
 -- the first place at which a test passes
@@ -27,14 +16,6 @@ found_from p n (x ∷ xs) (suc k) d within here before =
     rw (before 0 (omega arith))
     (found_from p (n + 1) xs k d (omega (arith, within)) here (λ j below. before (suc j) (omega (arith, below))) ∙ ap Some next)
 
--- the rank of an offer that weighs nothing
-abbrev none : Rank
-none = (0, 0, 0, 0)
-
--- the highest of some ranks
-abbrev highest_of : List Rank → Rank
-highest_of ranks = fold (ord_max rank_cmp) (0, 0, 0, 0) ranks
-
 -- an offer that weighs more than 0 is one of them
 weighs_within : (ranks : List Rank) (at : ℕ) → 0 < (rank_at ranks at).0 → at < length ranks
 weighs_within [] at weighs = absurd (omega (arith, weighs))
@@ -42,23 +23,20 @@ weighs_within (rank ∷ ranks) zero weighs = omega arith
 weighs_within (rank ∷ ranks) (suc at) weighs = omega (arith, weighs_within ranks at weighs)
 
 module _ (ranks : List Rank) where
-  -- no offer ranks higher
-  none_above : (at : ℕ) → 0 < (rank_at ranks at).0 → is_gt (rank_cmp (rank_at ranks at) (highest_of ranks)) ≡ false
-  none_above at weighs =
-      none_is_higher ranks_total one_rank none ranks (rank_at ranks at) (Contains-get_or ranks at none (weighs_within ranks at weighs))
+  among : (at : ℕ) → 0 < (rank_at ranks at).0 → Contains ranks (rank_at ranks at)
+  among at weighs = Contains-get_or ranks at lowest (weighs_within ranks at weighs)
 
-  no_less : (at : ℕ) → 0 < (rank_at ranks at).0 → 0 < (highest_of ranks).0
-  no_less at weighs =
-      ⊎_elim (λ less. omega (arith, weighs, less)) (λ more. omega (arith, weighs, more.0))
-      (at_most (rank_at ranks at) (highest_of ranks) (none_above at weighs))
+  -- so the highest weighs something
+  no_less : (at : ℕ) → 0 < (rank_at ranks at).0 → 0 < (highest ranks).0
+  no_less at weighs = omega (arith, weighs, no_more ranks (rank_at ranks at) (among at weighs))
 
   -- the highest rank is that of an offer, if it weighs more than 0
-  somewhere : 0 < (highest_of ranks).0 → (at : ℕ) × (rank_at ranks at ≡ highest_of ranks)
+  somewhere : 0 < (highest ranks).0 → (at : ℕ) × (rank_at ranks at ≡ highest ranks)
   somewhere weighs =
       ⊎_elim
       (λ nothing. absurd (omega (arith, weighs, ap (λ (r : Rank). r.0) nothing)))
-      (λ there. (there.0, get_or_default ranks there.0 none (highest_of ranks) there.1 ∙ there.2))
-      (highest_is_there ranks_total none ranks)
+      (λ there. (there.0, get_or_default ranks there.0 lowest (highest ranks) there.1 ∙ there.2))
+      (highest_is_there ranks_total lowest ranks)
 
   first_or_before : (best : ℕ) (others : List ℕ) → AllPairs (ComesBefore ranks) (best ∷ others) → (at : ℕ) → Contains (best ∷ others) at
       → (best ≡ at) ⊎ ComesBefore ranks best at
@@ -74,8 +52,8 @@ module _ (ranges offers : List MediaType) (best : ℕ) (others : List ℕ) (are 
   best_weighs = (are.all best).0 (0, omega arith, refl)
 
   -- an offer of the highest rank is the best, or comes after it
-  as_high : (at : ℕ) → rank_at (map (merit ranges) offers) at ≡ highest_of (map (merit ranges) offers)
-      → (rank_at (map (merit ranges) offers) best ≡ highest_of (map (merit ranges) offers)) × (best ≤ at)
+  as_high : (at : ℕ) → rank_at (map (merit ranges) offers) at ≡ highest (map (merit ranges) offers)
+      → (rank_at (map (merit ranges) offers) best ≡ highest (map (merit ranges) offers)) × (best ≤ at)
   as_high at is =
       let all = map (merit ranges) offers in
       let weighs : 0 < (rank_at all at).0 = subst (λ (r : Rank). 0 < r.0) (sym is) (no_less all best best_weighs) in
@@ -83,7 +61,7 @@ module _ (ranges offers : List MediaType) (best : ℕ) (others : List ℕ) (are 
       (λ same. (ap (rank_at all) same ∙ is, omega (arith, same)))
       (λ after. ⊎_elim
       (λ above. absurd (true≢false (sym above ∙ subst (λ r. is_gt (rank_cmp (rank_at all best) r) ≡ false) (sym is)
-      (none_above all best best_weighs))))
+      (not_above all (rank_at all best) (among all best best_weighs)))))
       (λ level. (level.0 ∙ is, omega (arith, level.1)))
       after)
       (first_or_before all best others are.best_first at ((are.all at).1 weighs))
@@ -94,37 +72,33 @@ module _ (ranges offers : List MediaType) (best : ℕ) (others : List ℕ) (are 
       let weighs = no_less all best best_weighs in
       let high = somewhere all weighs in
       let is = (as_high high.0 high.1).0 in
-      let test = λ (r : Rank). eq_by_cmp rank_cmp r (highest_of all) in
-      let some : ((highest_of all).0 == 0) ≡ false = ne_eqb (highest_of all).0 0 (λ no. absurd (omega (arith, no, weighs))) in
+      let test = λ (r : Rank). eq_by_cmp rank_cmp r (highest all) in
+      let some : ((highest all).0 == 0) ≡ false = ne_eqb (highest all).0 0 (λ no. absurd (omega (arith, no, weighs))) in
       let here : test (rank_at all best) ≡ true =
-      subst (λ r. test r ≡ true) (sym is) (ap is_eq (tied_itself ranks_total (highest_of all))) in
+      subst (λ r. test r ≡ true) (sym is) (ap is_eq (tied_itself ranks_total (highest all))) in
       let before : (j : ℕ) → j < best → test (rank_at all j) ≡ false = λ j below. ⊎_elim
       (λ level. absurd (omega (
         arith,
         below,
-        (as_high j (same_by ranks_total one_rank (rank_at all j) (highest_of all)
-            (rank_cmp (rank_at all j) (highest_of all)) refl level)).1,
+        (as_high j (same_by ranks_total one_rank (rank_at all j) (highest all)
+            (rank_cmp (rank_at all j) (highest all)) refl level)).1,
       )))
       (λ other. other)
       (cases_Bool (test (rank_at all j))) in
       best_is_position all
-      ∙ rw some (position_from-zero test all ∙ found_from test 0 all best none (weighs_within all best best_weighs) here before ∙ ap Some
+      ∙ rw some (position_from-zero test all ∙ found_from test 0 all best lowest (weighs_within all best best_weighs) here before ∙ ap Some
       (omega arith))
 
 -- if none is in order, none is best
 none_is_best : (ranges offers : List MediaType) → AreInOrder ranges offers [] → best_offer ranges offers ≡ None
-none_is_best ranges offers are = go ((highest_of all).0 == 0) refl
-  where
-    all : List Rank
-    all = map (merit ranges) offers
-
-    go : (z : Bool) → ((highest_of (map (merit ranges) offers)).0 == 0) ≡ z → best_offer ranges offers ≡ None
-    go true is = best_is_position (map (merit ranges) offers) ∙ rw is refl
-    go false is =
-        let weighs : 0 < (highest_of (map (merit ranges) offers)).0 = grind (arith, is) in
-        let high = somewhere (map (merit ranges) offers) weighs in
-        let there = (are.all high.0).1 (subst (λ (r : Rank). 0 < r.0) (sym high.1) weighs) in
-        absurd (omega (arith, there.1))
+none_is_best ranges offers are =
+    let all = map (merit ranges) offers in
+    best_is_position all ∙ cond_both ((highest all).0 == 0) _ _ (λ found. found ≡ None) (λ is. refl)
+    (λ is.
+    let weighs : 0 < (highest all).0 = grind (arith, is) in
+    let high = somewhere all weighs in
+    let there = (are.all high.0).1 (subst (λ (r : Rank). 0 < r.0) (sym high.1) weighs) in
+    absurd (omega (arith, there.1)))
 
 -- the best offer is the first in order
 pub best_is_first : BestIsFirst

@@ -1,14 +1,8 @@
 -- The kinds of a value's bytes, and the form in which it is written.
-use Rattle.mime_http.proofs.Common.{◌≡◌, ◌≢◌, ◌∙◌, ◌==◌, ◌<◌, ◌≤◌, ℕ, suc, Bool, true, false, List, [], ◌∷◌, ◌++◌, arith, refl, sym, ap, subst, ⊎_elim, drop, get_or, take, length, ◌+◌, ◌&&◌, bit_and, not, codes, if◌then◌else◌, list_all, prefix_len, drop-cons, take_more, and_parts, and_from, eqb-true, cases_Bool, false≢true, false_from_ne_true, nat_tests, list_all-append, is_token_byte, is_quoted_byte, is_quoted_text_byte, list_all-wider, AreTokenBytes-from_token}
-use Rattle.std.proofs.Common.{append_assoc}
-use Rattle.std.proofs.lemmas.List.Sums.{prefix_len-le-length, prefix_len_stops}
-use Rattle.mime_http.specs.Forms.{kind_from, kind_of, is_plain, form_of, marks, content, text_in}
-use Rattle.mime_http.specs.declared.quoted.Form.{Form}
-use Rattle.mime_http.specs.declared.quoted.Form.TheVariants.{Token, Quoted, Escaped}
+use Rattle.mime_http.proofs.Common.{AreTokenBytes-from_token, Bool, Escaped, Form, IsBoundary, List, Token, [], and_from, and_parts, ap, append_assoc, arith, bit_and, cases_Bool, codes, content, drop, drop-cons, eqb-true, escaped, false, false_from_ne_true, false≢true, form_of, get_or, if◌then◌else◌, is_bchar, is_plain, is_quoted_byte, is_quoted_text_byte, is_token_byte, is_token_value, kind_from, kind_of, length, list_all, list_all-append, list_all-wider, marks, nat_tests, not, prefix_len, prefix_len-le-length, prefix_len_stops, quote_of, refl, subst, suc, sym, take, take_more, text_in, text_of_pair, true, ℕ, ⊎_elim, ◌&&◌, ◌++◌, ◌+◌, ◌<◌, ◌==◌, ◌∙◌, ◌∷◌, ◌≡◌, ◌≢◌, ◌≤◌}
+use Rattle.mime_http.specs.declared.quoted.Form.TheVariants.{Quoted}
 use Rattle.mime_http.proofs.Written.{token_from_test}
 use Rattle.mime_http.proofs.Contents.{is_special, token_plain, token_safe, token_needs_none, plain_class, text_plain, bchar_text}
-use Rattle.mime_http.specs.Boundary.{is_bchar, IsBoundary}
-use Rattle.mime_http.specs.Written.{escaped, is_token_value, quote_of, text_of_pair}
 
 -- ---- bits
 
@@ -16,29 +10,28 @@ use Rattle.mime_http.specs.Written.{escaped, is_token_value, quote_of, text_of_p
 holds_of_both : (Bool → Bool) → Bool
 holds_of_both p = p true && p false
 
--- what holds of both truth values holds of each
+-- what holds of both truth values holds of each,
 at : (p : Bool → Bool) → holds_of_both p ≡ true → (b : Bool) → p b ≡ true
 unfolding holds_of_both
 at p is true = (and_parts (p true) (p false) is).0
 at p is false = (and_parts (p true) (p false) is).1
 
+-- a test of any three
+holds_of_all : (Bool → Bool → Bool → Bool) → Bool
+holds_of_all p = holds_of_both (λ x. holds_of_both (λ y. holds_of_both (p x y)))
+
+-- and so it is with three
+at_three : (p : Bool → Bool → Bool → Bool) → holds_of_all p ≡ true → (x y z : Bool) → p x y z ≡ true
+unfolding holds_of_all
+at_three p is x y z =
+    at (p x y) (at (λ y. holds_of_both (p x y)) (at (λ x. holds_of_both (λ y. holds_of_both (p x y))) is x) y) z
+
 -- the bits of two kinds
 and_kinds : (t q e t2 q2 e2 : Bool) → bit_and (kind_from t q e) (kind_from t2 q2 e2) ≡ kind_from (t && t2) (q && q2) (e && e2)
-unfolding holds_of_both
+unfolding holds_of_both holds_of_all
 and_kinds t q e t2 q2 e2 =
-    eqb-true _ _
-    (at (λ e2. bit_and (kind_from t q e) (kind_from t2 q2 e2) == kind_from (t && t2) (q && q2) (e && e2))
-    (at (λ q2. holds_of_both (λ e2. bit_and (kind_from t q e) (kind_from t2 q2 e2) == kind_from (t && t2) (q && q2) (e && e2)))
-    (at (λ t2. holds_of_both (λ q2. holds_of_both (λ e2. bit_and (kind_from t q e) (kind_from t2 q2 e2) == kind_from (t && t2) (q && q2)
-    (e && e2))))
-    (at (λ e. holds_of_both (λ t2. holds_of_both (λ q2. holds_of_both
-    (λ e2. bit_and (kind_from t q e) (kind_from t2 q2 e2) == kind_from (t && t2) (q && q2) (e && e2)))))
-    (at (λ q. holds_of_both (λ e. holds_of_both (λ t2. holds_of_both
-    (λ q2. holds_of_both (λ e2. bit_and (kind_from t q e) (kind_from t2 q2 e2) == kind_from (t && t2) (q && q2) (e && e2))))))
-    (at (λ t. holds_of_both (λ q. holds_of_both (λ e. holds_of_both
-    (λ t2. holds_of_both (λ q2. holds_of_both (λ e2. bit_and (kind_from t q e) (kind_from t2 q2 e2) == kind_from (t && t2) (q && q2)
-    (e && e2)))))))
-    refl t) q) e) t2) q2) e2)
+    let Same = λ (t q e t2 q2 e2 : Bool). bit_and (kind_from t q e) (kind_from t2 q2 e2) == kind_from (t && t2) (q && q2) (e && e2) in
+    eqb-true _ _ (at_three (Same t q e) (at_three (λ t q e. holds_of_all (Same t q e)) refl t q e) t2 q2 e2)
 
 -- the kind of joined bytes
 pub kind_of-append : (xs ys : List ℕ) → kind_of (xs ++ ys) ≡ bit_and (kind_of xs) (kind_of ys)

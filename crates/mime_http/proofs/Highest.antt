@@ -1,13 +1,5 @@
 -- The highest of a list, and its first place, item by item.
-use Rattle.std.proofs.Common.{◌≡◌, ◌≢◌, ◌∙◌, ◌+◌, ◌<◌, refl, sym, ap, subst, arith, ⊎_elim, ℕ, Bool, true, false, List, [], ◌∷◌, length, drop, get_or, map, Option, Some, None, drop-cons}
-use Rattle.std.specs.Prelude.{fold, if◌then◌else◌}
-use Rattle.std.specs.List.{position_from, drop-map}
-use Rattle.std.specs.Ordering.{is_lt, is_eq, is_gt, ord_max, eq_by_cmp, ordering_reverse}
-use Rattle.std.specs.declared.cmp.Ordering.{Ordering}
-use Rattle.std.specs.declared.cmp.Ordering.TheVariants.{Less, Equal, Greater}
-use Rattle.std.specs.Cmp.{IsTotalOrder}
-use Rattle.std.proofs.lemmas.Bool.{cases_Bool, true≢false}
-use Rattle.std.proofs.lemmas.Cmp.{upto, tied_itself, tied_back}
+use Rattle.mime_http.proofs.Common.{Bool, Equal, Greater, IsTotalOrder, Less, List, None, Option, Ordering, Some, [], ap, arith, drop, drop-cons, drop-map, eq_by_cmp, false, fold, get_or, if◌then◌else◌, is_eq, is_gt, is_lt, length, map, ord_max, ordering_reverse, position_from, refl, subst, sym, tied_back, tied_itself, true, true≢false, upto, ℕ, ◌+◌, ◌<◌, ◌∙◌, ◌∷◌, ◌≡◌, ◌≢◌, false_from_ne_true, fold_push, suc, take, take-add, ◌++◌}
 
 -- what is left from a place on begins with the item there
 pub item_left : {X : Type 0} (xs : List X) (i : ℕ) (d : X) → i < length xs → drop i xs ≡ get_or xs i d ∷ drop (i + 1) xs
@@ -23,6 +15,21 @@ first_left xs i x within is = item_left xs i x within ∙ ap (λ y. y ∷ drop (
 pub mapped_left : {X Y : Type 0} (f : X → Y) (xs : List X) (i : ℕ) (x : X) → drop i xs ≡ x ∷ drop (i + 1) xs
     → drop i (map f xs) ≡ f x ∷ drop (i + 1) (map f xs)
 mapped_left f xs i x is = drop-map f i xs ∙ (ap (map f) is ∙ ap (λ ys. f x ∷ ys) (sym (drop-map f (i + 1) xs)))
+
+-- the first bytes and the next one are one more
+pub one_taken : {X : Type 0} (xs : List X) (i : ℕ) (x : X) → drop i xs ≡ x ∷ drop (i + 1) xs → take (i + 1) xs ≡ take i xs ++ (x ∷ [])
+one_taken xs i x is = take-add i 1 xs ∙ ap (λ ys. take i xs ++ take 1 ys) is
+
+-- what is found is found with more after it
+found_still : {K : Type 0} (test : K → Bool) (xs more : List K) (at : ℕ) {i : ℕ} → position_from test at xs ≡ Some i
+    → position_from test at (xs ++ more) ≡ Some i
+found_still test [] more at is = absurd (cc)
+found_still test (x ∷ xs) more at {i} is =
+    (elim (test x) as (λ b. (if b then Some at else position_from test (at + 1) xs) ≡ Some i
+    → (if b then Some at else position_from test (at + 1) (xs ++ more)) ≡ Some i) [
+      | true ↦ λ here. here
+      | false ↦ found_still test xs more (at + 1)
+    ]) is
 
 module _ {K : Type 0} {R : K → K → Ordering} (total : IsTotalOrder R) (one : (x y : K) → R x y ≡ Equal → x ≡ y) where
   least_by : (m x : K) (r : Ordering) → R x m ≡ r → is_gt (R m (if is_lt r then m else x)) ≡ false
@@ -63,72 +70,46 @@ module _ {K : Type 0} {R : K → K → Ordering} (total : IsTotalOrder R) (one :
   between_by x y Equal is low high = one x y is
   between_by x y Greater is low high = absurd (true≢false low)
 
-  -- the first place of the highest is known, or what is left decides; if all are as low as the start, nothing is said of it
-  pub record Highest (start : K) (all : List K) (at : ℕ) (most : K) (best : Option ℕ) : Type 0 where
-    pub high : fold (ord_max R) most (drop at all) ≡ fold (ord_max R) start all
-    pub here : fold (ord_max R) start all ≢ start → fold (ord_max R) start all ≡ most
-        → position_from (λ x. eq_by_cmp R x (fold (ord_max R) start all)) 0 all ≡ best
-    pub after : fold (ord_max R) start all ≢ most
-        → position_from (λ x. eq_by_cmp R x (fold (ord_max R) start all)) 0 all
-        ≡ position_from (λ x. eq_by_cmp R x (fold (ord_max R) start all)) at (drop at all)
+  -- one above the highest is the first of its rank
+  first_place : (x m : K) (xs : List K) (at : ℕ) → is_gt (R x (fold (ord_max R) m xs)) ≡ true
+      → position_from (λ y. eq_by_cmp R y x) at (xs ++ (x ∷ [])) ≡ Some (at + length xs)
+  first_place x m [] at above =
+      let yes : eq_by_cmp R x x ≡ true = ap is_eq (tied_itself total x) in
+      rw yes (ap Some (omega arith))
+  first_place x m (y ∷ xs) at above =
+      let higher = ord_max R m y in
+      let low = least_item m y xs in
+      let no : eq_by_cmp R y x ≡ false = false_from_ne_true _
+      (λ yes. true≢false (sym above ∙ subst (λ z. is_gt (R z (fold (ord_max R) higher xs)) ≡ false) (same_by y x (R y x) refl yes) low)) in
+      rw no (first_place x higher xs (at + 1) above ∙ ap Some (omega arith))
 
-  pub at_start : (start : K) (all : List K) → Highest start all 0 start None
-  at_start start all = record { high = refl; here = λ no yes. absurd (no yes); after = λ no. refl }
+  -- the highest of a list is known with its first place; if all are as low as the start, nothing is said of that
+  pub record Highest (start : K) (xs : List K) (most : K) (best : Option ℕ) : Type 0 where
+    pub high : most ≡ fold (ord_max R) start xs
+    pub first : most ≢ start → (at : ℕ) × (best ≡ Some at) × (position_from (λ x. eq_by_cmp R x most) 0 xs ≡ Some at)
 
-  -- the place that is found, if the next item is looked at
-  looked_at : (test : K → Bool) (all : List K) (at : ℕ) (x : K) → drop at all ≡ x ∷ drop (at + 1) all
-      → position_from test at (drop at all) ≡ (if test x then Some at else position_from test (at + 1) (drop (at + 1) all))
-  looked_at test all at x is = ap (position_from test at) is
+  pub nothing_yet : (start : K) → Highest start [] start None
+  nothing_yet start = record { high = refl; first = λ some. absurd (some refl) }
 
-  module _ {start : K} {all : List K} {at : ℕ} {most : K} {best : Option ℕ} (x : K) where
-    pub raised : Highest start all at most best → drop at all ≡ x ∷ drop (at + 1) all → is_gt (R x most) ≡ true
-        → Highest start all (at + 1) x (Some at)
-    raised so_far is above =
-        let top = fold (ord_max R) start all in
-        let test = λ (y : K). eq_by_cmp R y top in
-        let rest = drop (at + 1) all in
-        let high : fold (ord_max R) x rest ≡ top =
-        sym (ap (λ m. fold (ord_max R) m rest) (raised_by most x (R x most) above))
-        ∙ (sym (ap (fold (ord_max R) most) is) ∙ so_far.high) in
-        let low : is_gt (R x top) ≡ false = subst (λ y. is_gt (R x y) ≡ false) high (least x rest) in
-        let higher : top ≢ most = λ same. true≢false (sym above ∙ subst (λ y. is_gt (R x y) ≡ false) same low) in
-        let found = so_far.after higher ∙ looked_at test all at x is in
-        record {
-          high = high;
-          here =
-              λ positive same. found ∙ (let yes : test x ≡ true =
-              subst (λ y. is_eq (R x y) ≡ true) (sym same) (ap is_eq (tied_itself total x)) in rw yes refl);
-          after = λ other. found ∙ (⊎_elim
-              (λ yes. absurd (other (sym (same_by x top (R x top) refl yes))))
-              (λ no. let missed : test x ≡ false = no in rw missed refl)
-              (cases_Bool (test x)));
-        }
+  module _ {start most : K} {xs : List K} {best : Option ℕ} (x : K) (was : Highest start xs most best) where
+    -- with one more it is the higher of two
+    of_two : fold (ord_max R) start (xs ++ (x ∷ [])) ≡ ord_max R most x
+    of_two = fold_push (ord_max R) start xs x ∙ ap (λ m. ord_max R m x) (sym was.high)
 
-    pub stays : Highest start all at most best → drop at all ≡ x ∷ drop (at + 1) all → is_gt (R x most) ≡ false
-        → Highest start all (at + 1) most best
-    stays so_far is below =
-        let top = fold (ord_max R) start all in
-        let test = λ (y : K). eq_by_cmp R y top in
-        let rest = drop (at + 1) all in
-        let high : fold (ord_max R) most rest ≡ top =
-        sym (ap (λ m. fold (ord_max R) m rest) (stays_by most x (R x most) refl below))
-        ∙ (sym (ap (fold (ord_max R) most) is) ∙ so_far.high) in
-        let low : is_gt (R most top) ≡ false = subst (λ y. is_gt (R most y) ≡ false) high (least most rest) in
-        record {
-          high = high;
-          here = so_far.here;
-          after = λ other. so_far.after other ∙ (looked_at test all at x is ∙ (⊎_elim
-              (λ yes.
-              let same = same_by x top (R x top) refl yes in
-              let lower = subst (λ y. is_gt (R y most) ≡ false) same below in
-              let turned = sym (ap is_gt (total.antisymm most top)) ∙ low in
-              absurd (other (between_by top most (R top most) refl lower turned)))
-              (λ no. let missed : test x ≡ false = no in rw missed refl)
-              (cases_Bool (test x))));
-        }
+    pub raised : is_gt (R x most) ≡ true → Highest start (xs ++ (x ∷ [])) x (Some (length xs))
+    raised above = record {
+      high = sym (of_two ∙ raised_by most x (R x most) above);
+      first = λ some. (
+        length xs,
+        refl,
+        first_place x start xs 0 (ap (λ m. is_gt (R x m)) (sym was.high) ∙ above) ∙ ap Some (omega arith),
+      );
+    }
 
-  pub at_end : {start : K} {all : List K} {at : ℕ} {most : K} {best : Option ℕ} → Highest start all at most best → drop at all ≡ []
-      → (fold (ord_max R) start all ≡ most) × (most ≢ start → position_from (λ x. eq_by_cmp R x (fold (ord_max R) start all)) 0 all ≡ best)
-  at_end {start} {all} {at} {most} {best} so_far none =
-      let same = sym so_far.high ∙ ap (fold (ord_max R) most) none in
-      (same, λ positive. so_far.here (λ is. positive (sym same ∙ is)) same)
+    pub stays : is_gt (R x most) ≡ false → Highest start (xs ++ (x ∷ [])) most best
+    stays below = record {
+      high = sym (of_two ∙ stays_by most x (R x most) refl below);
+      first = λ some.
+          let there = was.first some in
+          (there.0, there.1, found_still (λ y. eq_by_cmp R y most) xs (x ∷ []) 0 there.2);
+    }

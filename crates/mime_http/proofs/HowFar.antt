@@ -1,11 +1,6 @@
 -- How far a value goes before more than some bytes come out of it, and what is known there.
-use Rattle.mime_http.proofs.Common.{◌≡◌, ◌∙◌, refl, sym, ap, subst, arith, ℕ, ◌+◌, ◌-◌, ◌<◌, ◌≤◌, Bool, true, false, List, [], ◌∷◌, ◌++◌, length, length-append, take, Some, take-append_seam, take-append-add, nat_lt, slice_get, nat_tests, IsUtf8-nil, IsUtf8-take, IsCharBoundary-from_take, IsCharBoundary, boundary_after, slice_get-prefix, is_space, Place, Start, Spaced, Closed, Semicolon, place_after, added, tight_from, tight}
-use Rattle.std.proofs.lemmas.List.{append-nil, append_assoc}
-use Rattle.std.specs.Str.{IsUtf8}
+use Rattle.mime_http.proofs.Common.{Closed, IsCharBoundary, IsCharBoundary-from_take, IsUtf8, IsUtf8-nil, IsUtf8-take, List, Paired, Place, Quoted, Reach, Semicolon, Some, Spaced, Start, [], added, ap, append-nil, append_assoc, arith, boundary_after, false, is_space, length, length-append, nat_lt, nat_tests, place_after, reach_after, reach_from, refl, settled_at, slice_get, slice_get-prefix, start, subst, sym, take, take-append-add, take-append_seam, tight, tight_from, true, ℕ, ◌++◌, ◌+◌, ◌-◌, ◌<◌, ◌∙◌, ◌∷◌, ◌≡◌, ◌≤◌, cases_Bool, cond_both, ⊎_elim}
 use Rattle.mime_http.proofs.HttpText.{tight_utf8}
-use Rattle.mime_http.specs.declared.tight.Place.TheVariants.{Quoted, Paired}
-use Rattle.mime_http.specs.declared.fault.Reach.{Reach}
-use Rattle.mime_http.specs.Reached.{start, settled_at, reach_after, reach_from}
 use Rattle.mime_http.proofs.Places.{place_from, place_from-append, after_value, before_name}
 use Rattle.mime_http.proofs.PlacesAgain.{IsSettled, outside_settled, within_settled, kept_settled}
 use Rattle.mime_http.proofs.HttpViability.{tight-append}
@@ -57,11 +52,10 @@ white_adds_nothing Quoted b e = absurd (subst IsSettled e (within_settled b))
 white_adds_nothing Paired b e = absurd (subst IsSettled e tt)
 white_adds_nothing Closed b e = absurd (subst IsSettled e (kept_settled after_value b))
 white_adds_nothing Semicolon b e = absurd (subst IsSettled e (kept_settled before_name b))
-white_adds_nothing place b e = go (is_space b) refl
-  where
-    go : (t : Bool) → is_space b ≡ t → (is_space b ≡ true) × (added place b ≡ [])
-    go true white = (white, rw white refl)
-    go false other = absurd (subst IsSettled e (outside_settled place b other))
+white_adds_nothing place b e = ⊎_elim
+    (λ (white : is_space b ≡ true). (white, rw white refl))
+    (λ (other : is_space b ≡ false). absurd (subst IsSettled e (outside_settled place b other)))
+    (cases_Bool (is_space b))
 
 -- what comes out with one byte more
 pub tight_one : (front : List ℕ) (b : ℕ) → tight (front ++ (b ∷ [])) ≡ tight front ++ added (place_from Start front) b
@@ -114,13 +108,8 @@ stops_from : (bytes front : List ℕ) (limit : ℕ) (reach : Reach) → SoFar fr
 stops_from [] front limit reach is =
     record { front = front; after = []; split = refl; so_far = is; next = λ b bytes e. absurd (cc) }
 stops_from (b ∷ bytes) front limit reach is =
-    go (stops_from bytes (front ++ (b ∷ [])) limit (reach_after reach b)) (nat_lt reach.left (length (added reach.place b))) refl
-  where
-    go : (SoFar (front ++ (b ∷ [])) limit (reach_after reach b)
-        → Stops ((front ++ (b ∷ [])) ++ bytes) limit (reach_from (reach_after reach b) bytes))
-        → (t : Bool) → nat_lt reach.left (length (added reach.place b)) ≡ t
-        → Stops (front ++ (b ∷ bytes)) limit (reach_from reach (b ∷ bytes))
-    go rest true over = rw over (record {
+    cond_both (nat_lt reach.left (length (added reach.place b))) _ _ (Stops (front ++ (b ∷ bytes)) limit)
+    (λ over. record {
       front = front;
       after = b ∷ bytes;
       split = refl;
@@ -132,9 +121,9 @@ stops_from (b ∷ bytes) front limit reach is =
           subst (λ x. limit < length (tight (front ++ (x ∷ [])))) first
           (omega (arith, longer, is.out, ap length same, length-append (tight front) (added reach.place b)));
     })
-    go rest false fits =
-        rw fits (subst (λ value. Stops value limit (reach_from (reach_after reach b) bytes)) (append_assoc front (b ∷ []) bytes)
-        (rest (one_byte_further front limit reach b is fits)))
+    (λ fits.
+    subst (λ value. Stops value limit (reach_from (reach_after reach b) bytes)) (append_assoc front (b ∷ []) bytes)
+    (stops_from bytes (front ++ (b ∷ [])) limit (reach_after reach b) (one_byte_further front limit reach b is fits)))
 
 -- so it is known of the whole value how far it goes
 pub stops : (value : List ℕ) (limit : ℕ) → Stops value limit (reach_from (start limit) value)
@@ -166,21 +155,17 @@ goes {value} {limit} {reach} stop =
     )
 
 -- after white space the bytes may be cut
-utf8_to_space : {value : List ℕ} → IsUtf8 value → (front after : List ℕ) → value ≡ front ++ after → place_from Start front ≡ Spaced
-    → IsUtf8 front
-utf8_to_space {value} is front after split spaced_there = go (snoc front) split spaced_there
-  where
-    go : {front : List ℕ} → Snoc front → value ≡ front ++ after → place_from Start front ≡ Spaced → IsUtf8 front
-    go none split spaced_there = IsUtf8-nil
-    go (last front b) split spaced_there =
-        let white = (white_adds_nothing (place_from Start front) b (sym (place_from-append Start front (b ∷ [])) ∙ spaced_there)).0 in
-        let ascii : b < 128 = grind (arith, nat_tests) in
-        let there : slice_get value (length front) ≡ Some b =
-        ap (λ v. slice_get v (length front)) (split ∙ append_assoc front (b ∷ []) after) ∙ slice_get-prefix front b after
-        (length front) refl in
-        let cut : take (length front + 1) value ≡ front ++ (b ∷ []) =
-        ap (take (length front + 1)) (split ∙ append_assoc front (b ∷ []) after) ∙ take-append-add front (b ∷ after) 1 in
-        subst IsUtf8 cut (IsUtf8-take value (length front + 1) is (boundary_after value (length front) b is there ascii))
+utf8_to_space : {value front : List ℕ} → IsUtf8 value → Snoc front → (after : List ℕ) → value ≡ front ++ after
+    → place_from Start front ≡ Spaced → IsUtf8 front
+utf8_to_space is none after split spaced_there = IsUtf8-nil
+utf8_to_space {value} is (last front b) after split spaced_there =
+    let white = (white_adds_nothing (place_from Start front) b (sym (place_from-append Start front (b ∷ [])) ∙ spaced_there)).0 in
+    let ascii : b < 128 = grind (arith, nat_tests) in
+    let there : slice_get value (length front) ≡ Some b =
+    ap (λ v. slice_get v (length front)) (split ∙ append_assoc front (b ∷ []) after) ∙ slice_get-prefix front b after (length front) refl in
+    let cut : take (length front + 1) value ≡ front ++ (b ∷ []) =
+    ap (take (length front + 1)) (split ∙ append_assoc front (b ∷ []) after) ∙ take-append-add front (b ∷ after) 1 in
+    subst IsUtf8 cut (IsUtf8-take value (length front + 1) is (boundary_after value (length front) b is there ascii))
 
 -- so the tightened value may be cut where those bytes come out
 pub boundary : {value : List ℕ} {limit : ℕ} {reach : Reach} → IsUtf8 value → (stop : Stops value limit reach)
@@ -195,4 +180,4 @@ boundary {value} {limit} {reach} is stop spaced_there =
       ap length text,
       length-append (tight stop.front) (tight_from (place_from Start stop.front) stop.after),
     ))
-    (subst IsUtf8 (sym (goes stop).1) ((tight_utf8 stop.front).0 (utf8_to_space is stop.front stop.after stop.split spaced_there)))
+    (subst IsUtf8 (sym (goes stop).1) ((tight_utf8 stop.front).0 (utf8_to_space is (snoc stop.front) stop.after stop.split spaced_there)))

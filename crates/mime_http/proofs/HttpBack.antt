@@ -1,7 +1,5 @@
 -- What is read is what HTTP writes: bytes that tightening makes a syntax tree's text are a media type as HTTP writes it.
-use Rattle.mime_http.proofs.Common.{◌≡◌, ◌∙◌, ◌==◌, refl, sym, ap, subst, arith, ℕ, Bool, true, false, List, [], ◌∷◌, ◌++◌, length, drop, Reads, ◌+◌, and_parts, and_from, nat_tests, is_token_byte, Parameter, plain, quoted, Parameters, final, more, Tail, no_list, listed, SyntaxTree, is_space, AreSpaces, text_of_parameter, text_of_list, text_of_tail, text_of, IsToken, IsParameter, AreParameters, IsTail, IsWellFormed, MediaType, lowered, last_plus, AreTokenBytes-from_token, one_reading, Plain, Closed, Semicolon, place_after, tight_from, tight, IsHttpParameter, with_token, with_string, AreHttpParameters, no_more, semicolon, semicolon_and, HttpReads}
-use Rattle.std.proofs.lemmas.List.{append-nil, append_assoc}
-use Rattle.mime.specs.Grammar.{blank}
+use Rattle.mime_http.proofs.Common.{AreHttpParameters, AreParameters, AreSpaces, AreTokenBytes-from_token, Closed, HttpReads, IsHttpParameter, IsParameter, IsTail, IsToken, IsWellFormed, List, MediaType, Parameter, Parameters, Plain, Reads, Semicolon, SyntaxTree, Tail, [], and_from, and_parts, ap, append-nil, append_assoc, blank, drop, false, final, is_space, is_token_byte, last_plus, length, listed, lowered, more, no_list, no_more, one_reading, place_after, plain, quoted, refl, semicolon, semicolon_and, subst, sym, text_of, text_of_list, text_of_parameter, text_of_tail, tight, tight_from, true, with_string, with_token, ℕ, ◌++◌, ◌+◌, ◌==◌, ◌∙◌, ◌∷◌, ◌≡◌, cases_Bool, eqb-true, ⊎_elim}
 use Rattle.mime_http.proofs.Places.{after_token, after_equals, IsPlainByte, token_is_plain, of_type, of_name}
 use Rattle.mime_http.proofs.HttpForth.{spaces-append, http_is_read}
 use Rattle.mime_http.proofs.OutAgain.{After, and_then, said, any_back, token_byte_back, plain_end_back, plain_semicolon_back, start_back, after_plain_byte, token_back, value_back, content_back, closed_back}
@@ -105,18 +103,20 @@ goes_on_with out next = record {
 separators_back : (bytes n out : List ℕ) → AreSpaces n → tight_from Semicolon bytes ≡ n ++ out
     → ((b : ℕ) (rest : List ℕ) → b ∷ tight_from (place_after Semicolon b) rest ≡ out → Goes (b ∷ rest)) → Goes bytes
 separators_back [] n out white e next = goes_end
-separators_back (b ∷ bytes) n out white e next = go (λ n white e. separators_back bytes n out white e next) n white e (b == 59) refl
+separators_back (b ∷ bytes) n out white e next = ⊎_elim
+    (λ (second : (b == 59) ≡ true).
+    let same = eqb-true b 59 second in
+    subst (λ y. Goes (y ∷ bytes)) (sym same) (goes_semicolon bytes
+    (separators_back bytes n out white (subst (λ y. tight_from Semicolon (y ∷ bytes) ≡ n ++ out) same e) next)))
+    (λ (other : (b == 59) ≡ false).
+    go n white (said Semicolon b bytes (b ∷ []) _ (rw other refl) e) (λ n white e. separators_back bytes n out white e next))
+    (cases_Bool (b == 59))
   where
-    go : ((n : List ℕ) → AreSpaces n → tight_from Semicolon bytes ≡ n ++ out → Goes bytes) → (n : List ℕ) → AreSpaces n
-        → tight_from Semicolon (b ∷ bytes) ≡ n ++ out → (t : Bool) → (b == 59) ≡ t → Goes (b ∷ bytes)
-    go rest n white e true second =
-        let same : b ≡ 59 = grind (arith, nat_tests) in
-        subst (λ y. Goes (y ∷ bytes)) (sym same)
-        (goes_semicolon bytes (rest n white (subst (λ y. tight_from Semicolon (y ∷ bytes) ≡ n ++ out) same e)))
-    go rest [] white e false other = next b bytes (said Semicolon b bytes (b ∷ []) _ (rw other refl) e)
-    go rest (c ∷ n) white e false other =
+    go : (n : List ℕ) → AreSpaces n → b ∷ tight_from (place_after Semicolon b) bytes ≡ n ++ out
+        → ((n : List ℕ) → AreSpaces n → tight_from Semicolon bytes ≡ n ++ out → Goes bytes) → Goes (b ∷ bytes)
+    go [] white e rest = next b bytes e
+    go (c ∷ n) white e rest =
         let parts = and_parts (is_space c) _ white in
-        let both : b ∷ tight_from (place_after Semicolon b) bytes ≡ c ∷ (n ++ out) = said Semicolon b bytes (b ∷ []) _ (rw other refl) e in
         let first : b ≡ c = cc in
         let others : tight_from (place_after Semicolon b) bytes ≡ n ++ out = cc in
         let space : is_space b ≡ true = ap is_space first ∙ parts.0 in
@@ -181,50 +181,46 @@ tree_back : (strict : SyntaxTree) → IsWellFormed strict → (value : List ℕ)
     → (media : MediaType) × HttpReads value media
 tree_back strict is value e = go strict.top is.0 e
   where
-    finish : (x : ℕ) (top : List ℕ) → IsToken (x ∷ top) → (spaces : List ℕ) → AreSpaces spaces → (here : List ℕ)
-        → value ≡ spaces ++ (x ∷ here)
-        → (rest : List ℕ) → here ≡ (top ++ (47 ∷ strict.sub)) ++ rest → Rest rest → (media : MediaType) × HttpReads value media
-    finish x top token spaces white here first rest then end = (
-      record {
-        essence = lowered (x ∷ top) ++ (47 ∷ lowered strict.sub);
-        slash = length (x ∷ top);
-        plus = last_plus (length (x ∷ top) + 2) (drop 1 (lowered strict.sub));
-        pairs = end.pairs;
-        kept = [];
-      },
-      record {
-        before = spaces;
-        top = x ∷ top;
-        sub = strict.sub;
-        parameters = end.text;
-        after = end.after;
-        spelled = sym (first ∙ ap (λ r. spaces ++ (x ∷ r)) (then ∙ (append_assoc top (47 ∷ strict.sub) rest
-            ∙ ap (λ r. top ++ (47 ∷ (strict.sub ++ r))) end.split)));
-        white_before = white;
-        is_top = token;
-        is_sub = is.1;
-        are_parameters = end.is;
-        white_after = end.white;
-        essence = refl;
-        slash = refl;
-        plus = refl;
-      },
-    )
+    after : List ℕ
+    after = text_of_tail strict.tail
 
-    go : (top : List ℕ) → IsToken top → tight value ≡ top ++ (47 ∷ (strict.sub ++ text_of_tail strict.tail))
-        → (media : MediaType) × HttpReads value media
+    go : (top : List ℕ) → IsToken top → tight value ≡ top ++ (47 ∷ (strict.sub ++ after)) → (media : MediaType) × HttpReads value media
     go [] token e = absurd token
     go (x ∷ top) token e =
         let parts = and_parts (is_token_byte x) _ token in
-        let here = start_back value x (top ++ (47 ∷ (strict.sub ++ text_of_tail strict.tail))) e in
-        let left = subst (λ p. tight_from p here.rest ≡ top ++ (47 ∷ (strict.sub ++ text_of_tail strict.tail)))
+        let here = start_back value x (top ++ (47 ∷ (strict.sub ++ after))) e in
+        let left = subst (λ p. tight_from p here.rest ≡ top ++ (47 ∷ (strict.sub ++ after)))
         (after_plain_byte of_type x (token_is_plain x parts.0)) here.left in
-        let there : After here.rest (top ++ (47 ∷ strict.sub)) Plain (text_of_tail strict.tail) =
+        let there : After here.rest (top ++ (47 ∷ strict.sub)) Plain after =
         and_then (token_back top here.rest _ parts.1 left)
-        (λ rest left. and_then (token_byte_back after_token rest 47 (strict.sub ++ text_of_tail strict.tail) refl refl left)
-        (λ rest left. token_back strict.sub rest (text_of_tail strict.tail) (AreTokenBytes-from_token strict.sub is.1) left)) in
-        finish x top token here.spaces here.white here.rest here.split there.rest there.split
-        ((tail_back strict.tail is.2).plain there.rest there.left)
+        (λ rest left. and_then (token_byte_back after_token rest 47 (strict.sub ++ after) refl refl left)
+        (λ rest left. token_back strict.sub rest after (AreTokenBytes-from_token strict.sub is.1) left)) in
+        let end = (tail_back strict.tail is.2).plain there.rest there.left in (
+          record {
+            essence = lowered (x ∷ top) ++ (47 ∷ lowered strict.sub);
+            slash = length (x ∷ top);
+            plus = last_plus (length (x ∷ top) + 2) (drop 1 (lowered strict.sub));
+            pairs = end.pairs;
+            kept = [];
+          },
+          record {
+            before = here.spaces;
+            top = x ∷ top;
+            sub = strict.sub;
+            parameters = end.text;
+            after = end.after;
+            spelled = sym (here.split ∙ ap (λ r. here.spaces ++ (x ∷ r)) (there.split ∙ (append_assoc top (47 ∷ strict.sub) there.rest
+                ∙ ap (λ r. top ++ (47 ∷ (strict.sub ++ r))) end.split)));
+            white_before = here.white;
+            is_top = token;
+            is_sub = is.1;
+            are_parameters = end.is;
+            white_after = end.white;
+            essence = refl;
+            slash = refl;
+            plus = refl;
+          },
+        )
 
 -- The white space before what is read may be any, and so may the kept text.
 pub respelled : {value other : List ℕ} {media : MediaType} (reads : HttpReads value media) (before kept : List ℕ) → AreSpaces before

@@ -1,9 +1,7 @@
 -- Worked facts of the pages `HttpMediaType`, `HttpFaults` and `Tight`: a value that is read, values that aren't media types, their faults,
 -- and tightened values.
-use Rattle.mime_http.proofs.Common.{◌≡◌, ◌∙◌, ◌==◌, ◌&&◌, refl, sym, ap, subst, arith, ℕ, List, length, true, false, list_all, not, Bool, false≢true, is_space, MediaType, listed, final, quoted, [], ◌∷◌, ◌++◌, None, codes, is_token_byte, is_quoted_byte, IsAccepted, MissingSubtype, MissingValue, InvalidToken, in_subtype, accepted-from_complete, viable-from_walk, dead-from_walk, not_viable-at_dead, stopped-from_walk, rejected-from_walk, IsContent-taken, tight, with_string, no_more, semicolon, semicolon_and, HttpReads, IsHttpMediaType, IsHttpViable, IsHttpFault}
+use Rattle.mime_http.proofs.Common.{Bool, FaultIsSpare, HttpReads, InvalidToken, IsAccepted, IsContent-taken, IsHttpFault, IsHttpMediaType, IsHttpViable, List, MediaType, MissingSubtype, MissingValue, None, ReadsTight, Tightens, [], accepted-from_complete, another, ap, append_assoc, arith, codes, dead-from_walk, false, false≢true, final, first, in_subtype, is_quoted_byte, is_space, is_token_byte, length, list_all, listed, no_more, not, not_viable-at_dead, quoted, refl, rejected-from_walk, semicolon, semicolon_and, stopped-from_walk, subst, sym, tight, true, viable-from_walk, white, with_string, ℕ, ◌&&◌, ◌++◌, ◌==◌, ◌∙◌, ◌∷◌, ◌≡◌}
 use Rattle.std.proofs.Math.Bool.{and-false}
-use Rattle.std.proofs.lemmas.List.{append_assoc}
-use Rattle.mime_http.specs.Tight.{Tightens, ReadsTight, first, white, another, FaultIsSpare}
 use Rattle.mime_http.proofs.Tightened.{tight_is}
 use Rattle.mime_http.proofs.HttpFaults.{longest_at, same_last}
 use Rattle.mime_http.proofs.HttpForth.{http_is_tight}

@@ -1,9 +1,5 @@
 -- The fault of a value, from that of what is left of it.
-use Rattle.mime_http.proofs.Common.{◌≡◌, ◌∙◌, refl, sym, ap, subst, arith, ℕ, suc, ◌+◌, ◌-◌, ◌<◌, ◌≤◌, Bool, true, false, List, [], ◌∷◌, ◌++◌, length, length-append, take, Some, ◌⊎◌, inl, inr, take-append_seam, take-append-add, take-length, ⊤, slice_get, false≢true, same_Some, slice_get_within, slice_get-prefix, viable-from_lacks, prefix_of_viable_is_viable, completed_is_rejected, IsAccepted, IsViable, EndsIn, Lacks, IsFault, ParseError, MissingSlash, MissingSubtype, MissingEqual, MissingValue, MissingQuote, InvalidToken, Place, Start, Plain, Spaced, Closed, Semicolon, place_after, is_left_out, brought_back, added, tight_from, tight, IsHttpViable, IsHttpLongestPrefix, HttpLacks, IsHttpFault}
-use Rattle.std.proofs.lemmas.List.{append-nil, append_assoc}
-use Rattle.mime_http.specs.declared.tight.Place.TheVariants.{Equals, Quoted, Paired}
-use Rattle.mime_http.specs.declared.fault.Reach.{Reach}
-use Rattle.mime_http.specs.Reached.{limit_of}
+use Rattle.mime_http.proofs.Common.{Closed, EndsIn, Equals, HttpLacks, InvalidToken, IsAccepted, IsFault, IsHttpFault, IsHttpLongestPrefix, IsHttpViable, IsViable, Lacks, List, MissingEqual, MissingQuote, MissingSlash, MissingSubtype, MissingValue, Paired, ParseError, Place, Plain, Quoted, Reach, Semicolon, Some, Spaced, Start, [], added, ap, append-nil, append_assoc, arith, brought_back, completed_is_rejected, false≢true, inl, inr, is_left_out, length, length-append, limit_of, place_after, prefix_of_viable_is_viable, refl, same_Some, slice_get, slice_get-prefix, slice_get_within, subst, suc, sym, take, take-append-add, take-append_seam, take-length, tight, tight_from, true, viable-from_lacks, ℕ, ⊤, ◌++◌, ◌+◌, ◌-◌, ◌<◌, ◌∙◌, ◌∷◌, ◌≡◌, ◌≤◌, ◌⊎◌, cases_Bool, ⊎_elim, nil_from_length}
 use Rattle.mime_http.proofs.Places.{place_from, place_from-append}
 use Rattle.mime_http.proofs.PlacesAgain.{IsSettled, kept_adds, no_space}
 use Rattle.mime_http.proofs.HttpViability.{tight-append, settled_end, goes_on_as, viable_from_tight, tight_from_viable, accepted_from_spaced, viable_from_accepted, prefix_of_http_viable}
@@ -45,6 +41,15 @@ longest_at front after viable dies = record {
         (append_assoc front (b ∷ []) (take k bytes))) in
         dies b bytes refl (prefix_of_http_viable (front ++ (b ∷ [])) (take k bytes) (subst IsHttpViable text more))
 
+-- so they are before a byte with which they die
+pub longest_before : {value : List ℕ} {pos : ℕ} (front : List ℕ) (b : ℕ) (rest : List ℕ) → front ++ (b ∷ rest) ≡ value → length front ≡ pos
+    → IsHttpViable front → ¬ (IsHttpViable (front ++ (b ∷ []))) → IsHttpLongestPrefix value pos
+longest_before {value} front b rest split long viable dies =
+    subst (λ n. IsHttpLongestPrefix value n) long (subst (λ v. IsHttpLongestPrefix v (length front)) split
+    (longest_at front (b ∷ rest) viable (λ c bytes e goes.
+    let same : c ≡ b = cc in
+    dies (subst (λ x. IsHttpViable (front ++ (x ∷ []))) same goes))))
+
 -- ---- what is missing at the end
 
 -- Bytes that end in a byte, and those that end in the same.
@@ -83,11 +88,10 @@ left_out_idle place b out busy = subst IsBusy {y = Spaced} (rw out refl) busy
 
 -- so a byte that leads there adds itself last
 pub adds_itself : (place : Place) (b : ℕ) → IsBusy (place_after place b) → AddsItself place b
-adds_itself place b busy = go (is_left_out place b) refl
-  where
-    go : (t : Bool) → is_left_out place b ≡ t → AddsItself place b
-    go true out = absurd (left_out_idle place b out busy)
-    go false kept = record { before = brought_back place b; adds = kept_adds place b kept }
+adds_itself place b busy = ⊎_elim
+    (λ out. absurd (left_out_idle place b out busy))
+    (λ kept. record { before = brought_back place b; adds = kept_adds place b kept })
+    (cases_Bool (is_left_out place b))
 
 -- a value ends in a byte that leads there if what comes out of it does
 ends_in : (value : List ℕ) (b : ℕ) → ((place : Place) → IsBusy (place_after place b)) → IsSettled (place_from Start value)
@@ -174,7 +178,7 @@ fault_here value fault reach is stop or =
           (longest_at stop.front stop.after (viable or there.viable) there.dies));
       end = λ over.
           let none : stop.after ≡ [] =
-          nothing stop.after (omega (arith, over, stop.so_far.at, ap length stop.split, length-append stop.front stop.after)) in
+          nil_from_length stop.after (omega (arith, over, stop.so_far.at, ap length stop.split, length-append stop.front stop.after)) in
           let whole : value ≡ stop.front = stop.split ∙ (ap (λ x. stop.front ++ x) none ∙ append-nil stop.front) in
           fault_at_end value fault is
           (omega (arith, stop.so_far.out, ap (λ v. length (tight v)) whole))
@@ -184,10 +188,6 @@ fault_here value fault reach is stop or =
     viable : IsSettled (place_from Start stop.front) ⊎ IsAccepted (tight stop.front) → IsViable (tight stop.front) → IsHttpViable stop.front
     viable (inl at_rest) core = viable_from_tight stop.front at_rest core
     viable (inr accepted) core = viable_from_accepted stop.front accepted
-
-    nothing : (xs : List ℕ) → length xs ≤ 0 → xs ≡ []
-    nothing [] e = refl
-    nothing (x ∷ xs) e = absurd (omega (arith, e))
 
 -- where it may neither end nor go on, the white space that was left out is
 pub fault_before : (value : List ℕ) (fault : ParseError) (reach : Reach) → IsFault (tight value) fault
@@ -202,11 +202,8 @@ fault_before value fault reach is stop spaced_there rejected =
     go {after = after} (back front c white at_rest first one all) spaced_there rejected there =
         let split : value ≡ front ++ (c ∷ (white ++ after)) = there.split ∙ append_assoc front (c ∷ white) after in
         record {
-          prefix = subst (λ v. IsHttpLongestPrefix v (length front)) (sym split)
-              (longest_at front (c ∷ (white ++ after)) (viable_from_tight front at_rest (subst IsViable all there.viable))
-              (λ b bytes e viable.
-              let same : c ≡ b = cc in
-              let begins = subst (λ x. IsHttpViable (front ++ (x ∷ []))) (sym same) viable in
-              rejected (subst IsAccepted (one ∙ sym all) (accepted_from_spaced (front ++ (c ∷ [])) first begins))));
+          prefix = longest_before front c (white ++ after) (sym split) refl
+              (viable_from_tight front at_rest (subst IsViable all there.viable))
+              (λ begins. rejected (subst IsAccepted (one ∙ sym all) (accepted_from_spaced (front ++ (c ∷ [])) first begins)));
           end = λ over. absurd (omega (arith, over, ap length split, length-append front (c ∷ (white ++ after))));
         }

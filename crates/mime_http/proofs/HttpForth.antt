@@ -1,9 +1,5 @@
 -- What HTTP writes is read: tightened, it is the text of a syntax tree with the same parts.
-use Rattle.mime_http.proofs.Common.{◌≡◌, ◌∙◌, refl, sym, ap, subst, ℕ, true, List, [], ◌∷◌, ◌++◌, and_parts, and_from, list_all-append, is_token_byte, plain, quoted, Parameters, final, more, Tail, no_list, listed, SyntaxTree, is_space, AreSpaces, AreTokenBytes, IsToken, text_of_list, text_of_tail, text_of, AreParameters, IsTail, MediaType, Reads, value_of, lowered, lowered_value, lowered_list, lowered_tail, pairs_of_list, pairs_of_tail, tight, HttpReads, IsHttpParameter, with_token, with_string, AreHttpParameters, no_more, semicolon, semicolon_and}
-use Rattle.std.proofs.lemmas.List.{append-nil, append_assoc}
-use Rattle.mime.specs.Grammar.{blank}
-use Rattle.mime_http.specs.HeaderLaws.{HttpIsRead}
-use Rattle.mime_http.specs.Tight.{Tightens, at_end, a_semicolon, before_token, a_string, a_byte}
+use Rattle.mime_http.proofs.Common.{AreHttpParameters, AreParameters, AreSpaces, AreTokenBytes, HttpIsRead, HttpReads, IsHttpParameter, IsParameter, IsTail, IsToken, List, MediaType, Parameter, Parameters, Reads, SyntaxTree, Tail, Tightens, [], a_byte, a_semicolon, a_string, and_from, and_parts, ap, append-nil, append_assoc, at_end, before_token, blank, final, is_space, is_token_byte, list_all-append, listed, lowered_list, lowered_parameter, lowered_tail, more, no_list, no_more, pair_of, pairs_of_list, pairs_of_tail, plain, quoted, refl, semicolon, semicolon_and, subst, sym, text_of, text_of_list, text_of_parameter, text_of_tail, tight, true, value_of, with_string, with_token, ℕ, ◌++◌, ◌∙◌, ◌∷◌, ◌≡◌}
 use Rattle.mime_http.proofs.Places.{token_is_plain}
 use Rattle.mime_http.proofs.Tightened.{IsOther, other_byte, tight_is}
 
@@ -71,61 +67,40 @@ indent n bytes {pairs} white from = go from.list from.is from.left from.has
       has = has;
     }
 
--- a parameter, and what is after it
+-- a parameter, and what is after it, are a list
+parameter_first : (p : Parameter) → IsParameter p → (tail : Tail) → IsTail tail → {bytes : List ℕ} {pairs : List (List ℕ × List ℕ)}
+    → Tightens 59 bytes (text_of_parameter p ++ text_of_tail tail) → pairs_of_tail (lowered_tail tail) ≡ pairs
+    → Listed bytes (pair_of (lowered_parameter p) ∷ pairs)
+parameter_first p is no_list fine {bytes} left has = record {
+  list = final [] p;
+  is = (refl, is);
+  left = subst (Tightens 59 bytes) (append-nil _) left;
+  has = ap (λ ps. pair_of (lowered_parameter p) ∷ ps) has;
+}
+parameter_first p is (listed list) fine left has =
+    record { list = more [] p list; is = (refl, is, fine); left = left; has = ap (λ ps. pair_of (lowered_parameter p) ∷ ps) has }
+
+-- so a parameter as HTTP writes it is read, in quotes with the white space after it
 with_parameter : {text : List ℕ} {pair : List ℕ × List ℕ} → IsHttpParameter text pair → (bytes : List ℕ) {pairs : List (List ℕ × List ℕ)}
     → Tailed bytes pairs → Listed (text ++ bytes) (pair ∷ pairs)
-with_parameter (with_token name value named valued) bytes {pairs} after = go after.tail after.is after.token after.has
-  where
-    left : {text : List ℕ} → ((last : ℕ) → IsOther last → Tightens last bytes text)
-        → Tightens 59 ((name ++ (61 ∷ value)) ++ bytes) ((name ++ (61 ∷ value)) ++ text)
-    left {text} after =
-        subst (Tightens 59 ((name ++ (61 ∷ value)) ++ bytes)) (sym (append_assoc name (61 ∷ value) text))
-        (subst (λ x. Tightens 59 x (name ++ (61 ∷ (value ++ text)))) (sym (append_assoc name (61 ∷ value) bytes))
-        (token_left name named (λ last is. a_byte last 61 (value ++ bytes) (value ++ text) refl refl refl (token_left value valued after 61)) 59))
-
-    go : (tail : Tail) → IsTail tail → ((last : ℕ) → IsOther last → Tightens last bytes (text_of_tail tail))
-        → pairs_of_tail (lowered_tail tail) ≡ pairs
-        → Listed ((name ++ (61 ∷ value)) ++ bytes) ((lowered name, lowered_value name value) ∷ pairs)
-    go no_list fine after has = record {
-      list = final [] (plain name value);
-      is = (refl, (named, valued));
-      left = subst (Tightens 59 ((name ++ (61 ∷ value)) ++ bytes)) (append-nil _) (left after);
-      has = ap (λ ps. (lowered name, lowered_value name value) ∷ ps) has;
-    }
-    go (listed list) fine after has = record {
-      list = more [] (plain name value) list;
-      is = (refl, (named, valued), fine);
-      left = left after;
-      has = ap (λ ps. (lowered name, lowered_value name value) ∷ ps) has;
-    }
-with_parameter (with_string name content named valued) bytes {pairs} after =
-    go after.spaces after.tail after.white after.is after.string after.has
-  where
-    grouped : (out : List ℕ) → (name ++ (61 ∷ 34 ∷ (content ++ (34 ∷ [])))) ++ out ≡ name ++ (61 ∷ 34 ∷ (content ++ (34 ∷ out)))
-    grouped out = append_assoc name _ out ∙ ap (λ x. name ++ (61 ∷ 34 ∷ x)) (append_assoc content (34 ∷ []) out)
-
-    left : {text : List ℕ} → Tightens 34 bytes text
-        → Tightens 59 ((name ++ (61 ∷ 34 ∷ (content ++ (34 ∷ [])))) ++ bytes) (name ++ (61 ∷ 34 ∷ (content ++ (34 ∷ text))))
-    left {text} after =
-        subst (λ x. Tightens 59 x (name ++ (61 ∷ 34 ∷ (content ++ (34 ∷ text))))) (sym (grouped bytes))
-        (token_left name named (λ last is. a_string last content bytes text valued after) 59)
-
-    go : (m : List ℕ) (tail : Tail) → AreSpaces m → IsTail tail → Tightens 34 bytes (m ++ text_of_tail tail)
-        → pairs_of_tail (lowered_tail tail) ≡ pairs
-        → Listed ((name ++ (61 ∷ 34 ∷ (content ++ (34 ∷ [])))) ++ bytes) ((lowered name, lowered_value name content) ∷ pairs)
-    go m no_list white fine after has = record {
-      list = final [] (quoted name content m);
-      is = (refl, (named, valued, white));
-      left = left (subst (Tightens 34 bytes) (append-nil m) after);
-      has = ap (λ ps. (lowered name, lowered_value name content) ∷ ps) has;
-    }
-    go m (listed list) white fine after has = record {
-      list = more [] (quoted name content m) list;
-      is = (refl, (named, valued, white), fine);
-      left = subst (Tightens 59 _) (ap (λ x. name ++ (61 ∷ 34 ∷ x)) (sym (append_assoc content (34 ∷ m) _))
-          ∙ sym (append_assoc name (61 ∷ 34 ∷ (content ++ (34 ∷ m))) _)) (left after);
-      has = ap (λ ps. (lowered name, lowered_value name content) ∷ ps) has;
-    }
+with_parameter (with_token name value named valued) bytes after =
+    let out = text_of_tail after.tail in
+    parameter_first (plain name value) (named, valued) after.tail after.is
+    (subst (Tightens 59 ((name ++ (61 ∷ value)) ++ bytes)) (sym (append_assoc name (61 ∷ value) out))
+    (subst (λ x. Tightens 59 x (name ++ (61 ∷ (value ++ out)))) (sym (append_assoc name (61 ∷ value) bytes))
+    (token_left name named (λ last is. a_byte last 61 (value ++ bytes) (value ++ out) refl refl refl (token_left value valued after.token 61)) 59)))
+    after.has
+with_parameter (with_string name content named valued) bytes after =
+    let m = after.spaces in
+    let out = text_of_tail after.tail in
+    let text = (name ++ (61 ∷ 34 ∷ (content ++ (34 ∷ [])))) ++ bytes in
+    let grouped : text ≡ name ++ (61 ∷ 34 ∷ (content ++ (34 ∷ bytes))) =
+    append_assoc name _ bytes ∙ ap (λ x. name ++ (61 ∷ 34 ∷ x)) (append_assoc content (34 ∷ []) bytes) in
+    parameter_first (quoted name content m) (named, valued, after.white) after.tail after.is
+    (subst (Tightens 59 text) (ap (λ x. name ++ (61 ∷ 34 ∷ x)) (sym (append_assoc content (34 ∷ m) out)) ∙ sym (append_assoc name _ out))
+    (subst (λ x. Tightens 59 x (name ++ (61 ∷ 34 ∷ (content ++ (34 ∷ (m ++ out)))))) (sym grouped)
+    (token_left name named (λ last is. a_string last content bytes (m ++ out) valued after.string) 59)))
+    after.has
 
 -- ---- parameters and the white space after them
 

@@ -1,12 +1,9 @@
 -- A value that is no media type has exactly one fault.
-use Rattle.mime_http.proofs.Common.{◌≡◌, ◌∙◌, refl, sym, ap, subst, arith, ℕ, ◌<◌, List, [], ◌∷◌, ◌++◌, length, inl, inr, ⊎_elim, take-length, slice_get, codes, cases_lt, same_Some, slice_get_within, slice_get-get_or, IsAccepted, EndsIn, Lacks, IsFault, ParseError, MissingSlash, MissingSubtype, MissingEqual, MissingValue, MissingQuote, InvalidToken, NoMemory, accepted_or_rejected, one_fault, Place, Start, Spaced, place_after, tight_from, tight, IsHttpMediaType, IsHttpViable, IsHttpLongestPrefix, HttpLacks, IsHttpFault}
-use Rattle.std.proofs.Common.{append_assoc}
-use Rattle.mime_http.specs.Reached.{start, reach_from, limit_of}
-use Rattle.mime_http.specs.HeaderLaws.{OneHttpFault}
+use Rattle.mime_http.proofs.Common.{EndsIn, HttpLacks, InvalidToken, IsAccepted, IsFault, IsHttpFault, IsHttpLongestPrefix, IsHttpMediaType, IsHttpViable, Lacks, List, MissingEqual, MissingQuote, MissingSlash, MissingSubtype, MissingValue, NoMemory, OneHttpFault, ParseError, Place, Spaced, Start, [], accepted_or_rejected, ap, append_assoc, arith, cases_lt, codes, inl, inr, length, limit_of, one_fault, place_after, refl, same_Some, slice_get, slice_get-get_or, slice_get_within, subst, sym, take-length, tight, tight_from, ℕ, ⊎_elim, ◌++◌, ◌<◌, ◌∙◌, ◌∷◌, ◌≡◌}
 use Rattle.mime_http.proofs.Places.{place_from}
 use Rattle.mime_http.proofs.PlacesAgain.{IsSettled}
 use Rattle.mime_http.proofs.HttpViability.{http_from_accepted, tight_accepted, accepted_from_spaced}
-use Rattle.mime_http.proofs.HowFar.{Kind, spaced, settled, kind, stops, tight_one}
+use Rattle.mime_http.proofs.HowFar.{spaced, settled, kind, stops, tight_one}
 use Rattle.mime_http.proofs.HttpFaults.{IsBusy, busy_after, adds_itself, FaultAt, fault_here, fault_before}
 
 -- ---- one at least
@@ -18,17 +15,12 @@ rejected_tight value isnt is = isnt (http_from_accepted value is)
 -- from its fault one of the value is found, at a position,
 found_at : (value : List ℕ) (fault : ParseError) → IsFault (tight value) fault → (pos : ℕ) × FaultAt value fault pos
 found_at value fault is =
-    let limit = limit_of (tight value) fault in
-    let reach = reach_from (start limit) value in
-    let stop = stops value limit in
-    go (kind (place_from Start stop.front))
-  where
-    go : Kind (place_from Start (stops value (limit_of (tight value) fault)).front) → (pos : ℕ) × FaultAt value fault pos
-    go (settled at_rest e) = (_, fault_here value fault _ is (stops value (limit_of (tight value) fault)) (inl at_rest))
-    go (spaced e) = ⊎_elim
-        (λ yes. (_, fault_here value fault _ is (stops value (limit_of (tight value) fault)) (inr yes)))
-        (λ no. (_, fault_before value fault _ is (stops value (limit_of (tight value) fault)) e no))
-        (accepted_or_rejected (tight (stops value (limit_of (tight value) fault)).front))
+    let stop = stops value (limit_of (tight value) fault) in
+    elim (kind (place_from Start stop.front)) [
+      | settled at_rest e ↦ (_, fault_here value fault _ is stop (inl at_rest))
+      | spaced e ↦ ⊎_elim (λ yes. (_, fault_here value fault _ is stop (inr yes))) (λ no. (_, fault_before value fault _ is stop e no))
+          (accepted_or_rejected (tight stop.front))
+    ]
 
 -- so the value has one
 found : (value : List ℕ) → ¬ (IsHttpMediaType value) → (fault : ParseError) × IsHttpFault value fault
@@ -98,12 +90,10 @@ viable_from_lacks value fault lacks = (_, lacks.0)
 
 -- so a rejected one is settled, and lacks the same tightened
 lacks_from_http : (value : List ℕ) (fault : ParseError) → ¬ (IsHttpMediaType value) → HttpLacks value fault → Lacks (tight value) fault
-lacks_from_http value fault isnt lacks = go (kind (place_from Start value))
-  where
-    go : Kind (place_from Start value) → Lacks (tight value) fault
-    go (settled at_rest e) = lacks_tight value fault at_rest lacks
-    go (spaced e) =
-        absurd (isnt (http_from_accepted value (accepted_from_spaced value e (viable_from_lacks value fault lacks))))
+lacks_from_http value fault isnt lacks = elim (kind (place_from Start value)) [
+  | settled at_rest e ↦ lacks_tight value fault at_rest lacks
+  | spaced e ↦ absurd (isnt (http_from_accepted value (accepted_from_spaced value e (viable_from_lacks value fault lacks))))
+]
 
 -- two faults of a value are the same
 same_fault : (value : List ℕ) → ¬ (IsHttpMediaType value) → (first second : ParseError) → IsHttpFault value first → IsHttpFault value second

@@ -1,13 +1,9 @@
 -- Tightening leaves bytes in UTF-8 exactly if they are.
-use Rattle.mime_http.proofs.Common.{◌≡◌, ◌∙◌, ◌==◌, ◌<◌, ◌≤◌, refl, sym, ap, subst, arith, ℕ, zero, suc, true, List, [], ◌∷◌, ◌++◌, length, ⊎_elim, length-append, ⊤, nat_le, nat_lt, ◌&&◌, ◌↔◌, list_all, and_parts, cond_both, cases_lt, nat_tests, IsUtf8-nil, IsUtf8-append, IsUtf8-encode, IsUtf8-from_ascii, encode_ascii, cons_from_encodes, length-encode, len_utf8_bounds, high_bytes, Place, Start, Plain, Spaced, place_after, is_left_out, brought_back, added, tight_from, tight}
-use Rattle.std.specs.Prelude.{IsUtf8}
-use Rattle.std.proofs.lemmas.List.{append_assoc}
-use Rattle.std.proofs.lemmas.Str.Ascii.{IsAscii-cons, IsAscii-nil}
+use Rattle.mime_http.proofs.Common.{IsAscii-cons, IsAscii-nil, IsUtf8, IsUtf8-append, IsUtf8-encode, IsUtf8-from_ascii, IsUtf8-nil, List, Paired, Place, Plain, Quoted, Spaced, Start, [], added, and_parts, ap, append_assoc, arith, brought_back, cases_lt, cond_both, cons_from_encodes, encode_ascii, high_bytes, is_left_out, len_utf8_bounds, length, length-append, length-encode, list_all, nat_le, nat_lt, nat_tests, place_after, refl, subst, suc, sym, tight, tight_from, true, zero, ℕ, ⊎_elim, ⊤, ◌&&◌, ◌++◌, ◌<◌, ◌==◌, ◌↔◌, ◌∙◌, ◌∷◌, ◌≡◌, ◌≤◌}
 use lib.Utf8.{scalars, scalar, encodes, encode}
-use Rattle.mime_http.specs.declared.tight.Place.TheVariants.{Quoted, Paired}
-use Rattle.mime_http.proofs.Places.{IsPlainByte, after_token}
+use Rattle.mime_http.proofs.Places.{Leads, IsPlainByte, after_token, one, so, walk_class}
 use Rattle.mime_http.proofs.PlacesAgain.{kept_adds, is_kept}
-use Rattle.mime_http.proofs.OutAgain.{After, and_then, to_place, token_byte_back, any_back}
+use Rattle.mime_http.proofs.OutAgain.{After, to_place, token_byte_back, any_back, class_back}
 
 -- ---- ASCII bytes
 
@@ -106,12 +102,10 @@ high_of b is = high b (grind (arith, nat_tests))
 
 -- they come out as they are,
 run : {place : Place} → Holds place → (hs rest : List ℕ) → AreHigh hs → tight_from place (hs ++ rest) ≡ hs ++ tight_from place rest
-run {place} holds [] rest all = refl
-run {place} holds (b ∷ hs) rest all =
-    let parts = and_parts (nat_le 128 b && nat_lt b 248) _ all in
-    let is = high_of b parts.0 in
-    ap (λ a. a ++ tight_from (place_after place b) (hs ++ rest)) (stays_as_it_is holds b is)
-    ∙ (ap (λ p. b ∷ tight_from p (hs ++ rest)) (stays_there holds b is) ∙ ap (λ x. b ∷ x) (run holds hs rest parts.1))
+run {place} holds hs rest all =
+    let leads : Leads place hs hs place = walk_class (λ b. nat_le 128 b && nat_lt b 248) place
+    (λ b is. so (one place b) (stays_as_it_is holds b (high_of b is)) (stays_there holds b (high_of b is))) hs all in
+    leads.tightly rest
 
 -- a byte that comes out there was there,
 one_back : {place : Place} → Holds place → (bytes : List ℕ) (b : ℕ) (out : List ℕ) → IsPlainByte b → tight_from place bytes ≡ b ∷ out
@@ -122,12 +116,8 @@ one_back within bytes b out is e = any_back Quoted (λ b. refl) bytes b out e
 -- and so were all of them
 run_back : {place : Place} → Holds place → (hs bytes out : List ℕ) → AreHigh hs → tight_from place bytes ≡ hs ++ out
     → After bytes hs place out
-run_back holds [] bytes out all e = record { rest = bytes; split = refl; left = e }
-run_back holds (b ∷ hs) bytes out all e =
-    let parts = and_parts (nat_le 128 b && nat_lt b 248) _ all in
-    let is = high_of b parts.0 in
-    and_then (to_place (stays_there holds b is) (one_back holds bytes b (hs ++ out) is e))
-    (λ rest left. run_back holds hs rest out parts.1 left)
+run_back {place} holds hs bytes out = class_back (λ b. nat_le 128 b && nat_lt b 248) place
+    (λ b bytes out is e. to_place (stays_there holds b (high_of b is)) (one_back holds bytes b out (high_of b is) e)) hs bytes out
 
 -- ---- there and back
 

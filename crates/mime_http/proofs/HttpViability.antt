@@ -1,9 +1,7 @@
 -- Which beginnings of a value may still become a media type as HTTP writes it: by the library's walk over what is left of them.
-use Rattle.mime_http.proofs.Common.{◌≡◌, ◌∙◌, ◌==◌, refl, sym, ap, subst, arith, ℕ, Bool, true, false, List, [], ◌∷◌, ◌++◌, Option, Some, None, ⊤, IsTrue, IsFalse, MatchOption, if◌then◌else◌, option_map, and_parts, cond_both, false≢true, nat_tests, append_cancel_left, none-some, same_Some, option_and_then_some, MatchOption-at_some, is_token_byte, is_quoted_byte, SyntaxTree, is_space, IsAccepted, IsViable, takes, continues, awaits_next, awaits_after, ClosedParameters, Begun, in_type, in_subtype, in_list, ListState, in_spaces, in_name, in_value, in_quotes, after_quotes, grow_state, grow_list, list_at, grow, walk, walk_from, tree_of, walk_by-append, awaits_after-append, by_class, walk-accepted, accepted-from_complete, Place, Start, Plain, Spaced, Closed, Semicolon, place_after, added, tight_from, tight, IsHttpMediaType, IsHttpViable}
-use Rattle.std.proofs.lemmas.List.{append-nil, append_assoc}
-use Rattle.mime_http.specs.declared.tight.Place.TheVariants.{Equals, Quoted, Paired}
-use Rattle.mime_http.proofs.Places.{place_from, Leads, no_bytes, one, both, so, token_is_plain, of_type, goes_on, of_value, of_name, plain_byte, before_name, after_value, space, accepted_stays}
-use Rattle.mime_http.proofs.PlacesAgain.{IsSettled, IsLike, itself, left_after_plain, left_after_equals, ends_like}
+use Rattle.mime_http.proofs.Common.{Begun, Bool, Closed, ClosedParameters, Equals, IsAccepted, IsFalse, IsHttpMediaType, IsHttpViable, IsTrue, IsViable, List, ListState, MatchOption, MatchOption-at_some, None, Option, Paired, Place, Plain, Quoted, Semicolon, Some, Spaced, Start, SyntaxTree, [], accepted-from_complete, added, after_quotes, and_parts, ap, append-nil, append_assoc, append_cancel_left, arith, awaits_after, awaits_after-append, awaits_next, by_class, cond_both, continues, false, false≢true, grow, grow_list, grow_state, if◌then◌else◌, in_list, in_name, in_quotes, in_spaces, in_subtype, in_type, in_value, is_quoted_byte, is_space, is_token_byte, list_at, nat_tests, none-some, option_and_then_some, option_map, place_after, refl, same_Some, subst, sym, takes, tight, tight_from, tree_of, true, walk, walk-accepted, walk_by-append, walk_from, ℕ, ◌++◌, ◌==◌, ◌∙◌, ◌∷◌, ◌≡◌, cases_Bool, eqb-true, position, ⊎_elim}
+use Rattle.mime_http.proofs.Places.{place_from, Leads, no_bytes, one, both, so, token_is_plain, of_type, goes_on, of_value, of_name, plain_byte, before_name, after_value, space, accepted_stays, LeavesWhite, left_white}
+use Rattle.mime_http.proofs.PlacesAgain.{IsSettled, IsLike, itself, left_after, ends_like}
 use Rattle.mime_http.proofs.HttpBack.{read_is_http}
 use Rattle.mime_http.proofs.HttpLaws.{accepted_from_http}
 
@@ -105,78 +103,60 @@ walked begun (b ∷ bytes) last e =
 
 -- ---- after white space that was left out only a semicolon or the end may follow, and only where the value may end
 
--- the places after which white space is left out
-abbrev pub LeavesSpaces : Place → Type 0
-LeavesSpaces Plain = ⊤
-LeavesSpaces Equals = ⊤
-LeavesSpaces place = ⊥
-
--- none is within quotes
-not_in_quotes : (awaiting : Bool) → LeavesSpaces (if awaiting then Paired else Quoted) → ⊥
-not_in_quotes true is = is
-not_in_quotes false is = is
-
--- there a space goes on with nothing
-pub no_space_grows : (begun : Begun) → LeavesSpaces (place_at begun) → grow begun 32 ≡ None
-unfolding is_token_byte
-no_space_grows (in_type []) is = absurd is
-no_space_grows (in_type (t ∷ top)) is = refl
-no_space_grows (in_subtype top []) is = refl
-no_space_grows (in_subtype top (s ∷ sub)) is = refl
-no_space_grows (in_list top sub list) is = ap (option_map (in_list top sub)) (at list.closed list.position is)
+-- where white space is left out a space goes on with nothing,
+pub no_space_grows : (begun : Begun) → LeavesWhite (place_at begun) → grow begun 32 ≡ None
+no_space_grows begun leaves = go (grow begun 32) (grows_to begun 32)
   where
-    at : (closed : ClosedParameters) (position : ListState) → LeavesSpaces (place_in_list position) → grow_state closed position 32 ≡ None
-    at closed (in_spaces n) is = absurd is
-    at closed (in_name n name) is = refl
-    at closed (in_value n name []) is = refl
-    at closed (in_value n name (v ∷ value)) is = refl
-    at closed (in_quotes n name content) is = absurd (not_in_quotes (awaits_after false content) is)
-    at closed (after_quotes n name content m) is = absurd is
+    go : (next : Option Begun) → MatchOption next (Unit {0}) (GoesTo (place_at begun) 32) → next ≡ None
+    go None goes = refl
+    go (Some next) goes =
+        let stays : tight_from (place_at begun) (32 ∷ []) ≡ 32 ∷ [] = goes.tightly [] in
+        let left : tight_from (place_at begun) (32 ∷ []) ≡ [] = (left_white leaves 32 refl).tightly [] in
+        absurd (cc)
 
--- a semicolon goes on only where the tree may end
+-- the tree may end
 abbrev MayEnd : Begun → Type 0
 MayEnd begun = (tree : SyntaxTree) × (tree_of begun ≡ Some tree)
 
 -- and a semicolon only if the text may end there
-semicolon_grows : (begun : Begun) → LeavesSpaces (place_at begun) → MatchOption (grow begun 59) (Unit {0}) (λ next. MayEnd begun)
+semicolon_grows : (begun : Begun) → LeavesWhite (place_at begun) → MatchOption (grow begun 59) (Unit {0}) (λ next. MayEnd begun)
 unfolding is_token_byte
-semicolon_grows (in_type []) is = absurd is
+semicolon_grows (in_type []) is = tt
 semicolon_grows (in_type (t ∷ top)) is = tt
 semicolon_grows (in_subtype top []) is = tt
 semicolon_grows (in_subtype top (s ∷ sub)) is = (_, refl)
 semicolon_grows (in_list top sub list) is = at list.closed list.position is
   where
-    at : (closed : ClosedParameters) (position : ListState) → LeavesSpaces (place_in_list position)
+    not_in_quotes : (awaiting : Bool) → ¬ (LeavesWhite (if awaiting then Paired else Quoted))
+    not_in_quotes true is = elim is [ ]
+    not_in_quotes false is = elim is [ ]
+
+    at : (closed : ClosedParameters) (position : ListState) → LeavesWhite (place_in_list position)
         → MatchOption (grow (in_list top sub (list_at closed position)) 59) (Unit {0})
         (λ next. MayEnd (in_list top sub (list_at closed position)))
-    at closed (in_spaces n) is = absurd is
-    at closed (in_name n name) is = tt
-    at closed (in_value n name []) is = tt
     at closed (in_value n name (v ∷ value)) is = (_, refl)
     at closed (in_quotes n name content) is = absurd (not_in_quotes (awaits_after false content) is)
-    at closed (after_quotes n name content m) is = absurd is
+    at closed (after_quotes n name content m) is = (_, refl)
+    at closed position is = tt
 
 -- so if the library walks what comes out after white space that was left out, the text may end before it
-ends_there : (begun : Begun) → LeavesSpaces (place_at begun) → (bytes : List ℕ) (last : Begun)
+ends_there : (begun : Begun) → LeavesWhite (place_at begun) → (bytes : List ℕ) (last : Begun)
     → walk_from begun (tight_from Spaced bytes) ≡ Some last → MayEnd last → MayEnd begun
 ends_there begun is [] last e may = subst MayEnd (sym (same_Some begun last e)) may
-ends_there begun is (b ∷ bytes) last e may = go (ends_there begun is bytes last) (is_space b) refl (b == 59) refl
-  where
-    go : (walk_from begun (tight_from Spaced bytes) ≡ Some last → MayEnd last → MayEnd begun)
-        → (t : Bool) → is_space b ≡ t → (s : Bool) → (b == 59) ≡ s → MayEnd begun
-    go rest true white s semicolon = rest (rw white at e) may
-    go rest false other true semicolon =
-        let same : b ≡ 59 = grind (arith, nat_tests) in
-        let goes : walk_from begun (59 ∷ tight_from Semicolon bytes) ≡ Some last =
-        subst (λ x. walk_from begun (tight_from Spaced (x ∷ bytes)) ≡ Some last) same e in
-        option_and_then_some (λ next. walk_from next (tight_from Semicolon bytes)) (grow begun 59) last goes
-        (λ next grew left. MatchOption-at_some (Unit {0}) (λ next. MayEnd begun) next grew (semicolon_grows begun is))
-    go rest false other false semicolon =
-        let put_back : added Spaced b ≡ 32 ∷ b ∷ [] = rw (other, semicolon) refl in
-        let goes : walk_from begun (32 ∷ b ∷ tight_from (place_after Spaced b) bytes) ≡ Some last =
-        ap (λ a. walk_from begun (a ++ tight_from (place_after Spaced b) bytes)) (sym put_back) ∙ e in
-        option_and_then_some (λ next. walk_from next (b ∷ tight_from (place_after Spaced b) bytes)) (grow begun 32) last goes
-        (λ next grew left. absurd (none-some next (sym (no_space_grows begun is) ∙ grew)))
+ends_there begun is (b ∷ bytes) last e may = ⊎_elim
+    (λ (white : is_space b ≡ true). ends_there begun is bytes last (rw white at e) may)
+    (λ (other : is_space b ≡ false). ⊎_elim
+    (λ (semicolon : (b == 59) ≡ true).
+    option_and_then_some (λ next. walk_from next (tight_from Semicolon bytes)) (grow begun 59) last
+    (subst (λ x. walk_from begun (tight_from Spaced (x ∷ bytes)) ≡ Some last) (eqb-true b 59 semicolon) e)
+    (λ next grew left. MatchOption-at_some (Unit {0}) (λ next. MayEnd begun) next grew (semicolon_grows begun is)))
+    (λ (no : (b == 59) ≡ false).
+    let put_back : added Spaced b ≡ 32 ∷ b ∷ [] = rw (other, no) refl in
+    option_and_then_some (λ next. walk_from next (b ∷ tight_from (place_after Spaced b) bytes)) (grow begun 32) last
+    (ap (λ a. walk_from begun (a ++ tight_from (place_after Spaced b) bytes)) (sym put_back) ∙ e)
+    (λ next grew left. absurd (none-some next (sym (no_space_grows begun is) ∙ grew))))
+    (cases_Bool (b == 59)))
+    (cases_Bool (is_space b))
 
 -- ---- what is left of a beginning
 
@@ -195,14 +175,12 @@ http_from_accepted value is = (is.0, read_is_http value is.0 is.1)
 -- the place at the end of what is left of a beginning
 like_settled : {place like : Place} → IsLike place like → IsSettled place → like ≡ place
 like_settled (itself place settled) is = refl
-like_settled left_after_plain is = absurd is
-like_settled left_after_equals is = absurd is
+like_settled (left_after leaves) is = absurd is
 
 -- what was written before white space that was left out ends where such is left out
-leaves_like : {place like : Place} → IsLike place like → place ≡ Spaced → LeavesSpaces like
+leaves_like : {place like : Place} → IsLike place like → place ≡ Spaced → LeavesWhite like
 leaves_like (itself place settled) same = absurd (subst IsSettled same settled)
-leaves_like left_after_plain same = tt
-leaves_like left_after_equals same = tt
+leaves_like (left_after leaves) same = leaves
 
 -- with no white space left out at its end, what comes out of a beginning ends where the beginning does
 pub settled_end : (front : List ℕ) → IsSettled (place_from Start front) → place_from Start (tight front) ≡ place_from Start front
@@ -243,7 +221,7 @@ accepted_from_spaced front spaced viable =
     (sym (walk_by-append grow (in_type []) (tight front) _) ∙ found.2.0)
     (λ begun reached goes.
     let there : place_at begun ≡ end.like = sym (walked (in_type []) (tight front) begun reached).there ∙ end.leads.there in
-    let may = ends_there begun (subst LeavesSpaces (sym there) (leaves_like end.is_like spaced)) viable.0 found.0
+    let may = ends_there begun (subst LeavesWhite (sym there) (leaves_like end.is_like spaced)) viable.0 found.0
     (subst (λ place. walk_from begun (tight_from place viable.0) ≡ Some found.0) spaced goes) (found.1, found.2.1) in
     accepted-from_complete (tight front) begun may.0 reached may.1)
 

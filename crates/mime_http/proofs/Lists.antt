@@ -1,51 +1,39 @@
 -- Lists as HTTP writes them are read as their elements, and what is read with nothing bad are such lists.
-use Rattle.mime_http.proofs.Common.{◌≡◌, ◌∙◌, ◌==◌, refl, sym, ap, subst, arith, ℕ, true, false, List, [], ◌∷◌, ◌++◌, ⊤, and_parts, nat_tests, is_token_byte, is_space, AreSpaces, AreTokenBytes, IsToken, IsContent, no_byte, text_byte, quoted_pair, MediaType, IsAccepted, IsHttpParameter, with_token, with_string, AreHttpParameters, no_more, semicolon, semicolon_and, HttpReads, IsHttpMediaType, AreBetweenCommas, no_line, line_end, comma, trim_start, trim_end, AreSorted, no_text, a_range, a_bad, IsInString, string_end, string_byte, string_pair, opens_string, IsPiece, piece_end, piece_byte, piece_string, BeginsPiece, tight, one_reading}
-use Rattle.std.proofs.lemmas.List.{append-nil, append_assoc}
+use Rattle.mime_http.proofs.Common.{AreBetweenCommas, AreElements, AreHttpParameters, AreSame, AreSorted, AreSpaces, BadIsAlone, BeginsPiece, HttpListsAreRead, HttpReads, IsAccepted, IsContent, IsHttpMediaType, IsHttpParameter, IsInString, IsPiece, IsToken, List, MediaType, OneHeader, ReadAreHttpLists, [], a_bad, a_range, and_parts, ap, append-nil, append_assoc, arith, comma, element, false, is_space, is_token_byte, line_end, nat_tests, no_byte, no_line, no_more, no_text, nothing, one_reading, piece_byte, piece_end, piece_string, quoted_pair, refl, semicolon, semicolon_and, string_byte, string_end, string_pair, subst, sym, text_byte, tight, trim_end, trim_start, true, with_string, with_token, without_kept, ℕ, ⊤, ◌++◌, ◌==◌, ◌∙◌, ◌∷◌, ◌≡◌, AreTokenBytes-from_token, Bool, IsFalse, list_all}
 use Rattle.mime_http.specs.HttpList.{blank}
-use Rattle.mime_http.specs.ListLaws.{AreElements, no_text as no_element, nothing, element, without_kept, AreSame, HttpListsAreRead, ReadAreHttpLists, OneHeader, BadIsAlone}
+use Rattle.mime_http.specs.ListLaws.{no_text as no_element}
 use Rattle.mime_http.proofs.Places.{token_is_plain, text_is_no_mark, at_start, nothing_out}
 use Rattle.mime_http.proofs.Adds.{sorted_both}
-use Rattle.mime_http.proofs.HttpLaws.{reads_tight, tight_reads}
 use Rattle.mime_http.proofs.HttpBack.{read_is_http}
 use Rattle.mime_http.proofs.HttpForth.{http_is_read}
-use Rattle.mime_http.proofs.HttpLaws.{accepted_from_http}
+use Rattle.mime_http.proofs.HttpLaws.{accepted_from_http, reads_tight, tight_reads}
+use Rattle.mime_http.proofs.Passes.{opens_none}
 use Rattle.mime_http.proofs.Cuts.{only_cut}
 
 -- ---- what HTTP writes has no comma outside strings
 
 -- a byte that is no comma and no equals sign may stand before a piece,
 before : (b : ℕ) {piece : List ℕ} → (b == 44) ≡ false → (b == 61) ≡ false → IsPiece piece → IsPiece (b ∷ piece)
-before b {piece} other equals is = piece_byte b piece other (none piece) is
-  where
-    none : (piece : List ℕ) → opens_string (b ∷ piece) ≡ false
-    none [] = refl
-    none (c ∷ piece) = rw equals refl
+before b {piece} other equals is = piece_byte b piece other (opens_none b piece equals) is
 
--- so may token bytes,
-before_token_bytes : (bytes : List ℕ) {piece : List ℕ} → AreTokenBytes bytes → IsPiece piece → IsPiece (bytes ++ piece)
-before_token_bytes [] all is = is
-before_token_bytes (b ∷ bytes) all is =
-    let parts = and_parts (is_token_byte b) _ all in
-    let marks = token_is_plain b parts.0 in
-    before b marks.comma marks.equals (before_token_bytes bytes parts.1 is)
+-- so may bytes of a class without them,
+before_class : (class : ℕ → Bool) → ((b : ℕ) → class b ≡ true → IsFalse (b == 44) × IsFalse (b == 61)) → (bytes : List ℕ) {piece : List ℕ}
+    → list_all class bytes ≡ true → IsPiece piece → IsPiece (bytes ++ piece)
+before_class class other [] all is = is
+before_class class other (b ∷ bytes) all is =
+    let parts = and_parts (class b) _ all in
+    let marks = other b parts.0 in
+    before b marks.0 marks.1 (before_class class other bytes parts.1 is)
 
 -- a token,
 before_token : (bytes : List ℕ) {piece : List ℕ} → IsToken bytes → IsPiece piece → IsPiece (bytes ++ piece)
-before_token [] token is = absurd token
-before_token (b ∷ bytes) token is = before_token_bytes (b ∷ bytes) token is
+before_token bytes token =
+    before_class is_token_byte (λ b yes. let marks = token_is_plain b yes in (marks.comma, marks.equals)) bytes
+    (AreTokenBytes-from_token bytes token)
 
 -- white space,
 before_spaces : (bytes : List ℕ) {piece : List ℕ} → AreSpaces bytes → IsPiece piece → IsPiece (bytes ++ piece)
-before_spaces [] all is = is
-before_spaces (b ∷ bytes) all is =
-    let parts = and_parts (is_space b) _ all in
-    before b (no_comma b parts.0) (no_equals b parts.0) (before_spaces bytes parts.1 is)
-  where
-    no_comma : (b : ℕ) → is_space b ≡ true → (b == 44) ≡ false
-    no_comma b is = grind (arith, nat_tests)
-
-    no_equals : (b : ℕ) → is_space b ≡ true → (b == 61) ≡ false
-    no_equals b is = grind (arith, nat_tests)
+before_spaces = before_class is_space (λ b white. (grind (arith, nat_tests), grind (arith, nat_tests)))
 
 -- and the value of a parameter with its equals sign
 before_value : (value : List ℕ) {piece : List ℕ} → IsToken value → IsPiece piece → IsPiece (61 ∷ (value ++ piece))

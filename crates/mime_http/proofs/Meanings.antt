@@ -1,14 +1,5 @@
 -- A media type covers itself, and what covers an offer is told by what both mean.
-use Rattle.std.proofs.Common.{◌≡◌, ◌∙◌, refl, sym, ap, ℕ, Bool, true, false, List, [], ◌∷◌, ◌++◌, length, map, Option, Some, None, is_some, codes, bytes_eq}
-use Rattle.std.specs.Prelude.{◌&&◌, ◌||◌, not, if◌then◌else◌, option_map}
-use Rattle.std.specs.List.{list_all, list_any}
-use Rattle.std.proofs.lemmas.Bool.{and_from}
-use Rattle.std.proofs.lemmas.List.{append_assoc}
-use Rattle.std.proofs.lemmas.Slice.Eq.{bytes_eq-Decides}
-use Rattle.mime.specs.Values.{MediaType, type_of}
-use Rattle.mime_http.specs.Ranges.{Rank, weight_of, named_parts, demanded, has, closeness}
-use Rattle.mime_http.specs.Unescaped.{unescaped}
-use Rattle.mime_http.specs.RangesLaws.{CoversItself, meaning_of, MeanTheSame, MeaningCounts}
+use Rattle.mime_http.proofs.Common.{Bool, CoversItself, List, MeanTheSame, MeaningCounts, MediaType, None, Option, Rank, Some, [], and_from, ap, append_assoc, bytes_eq, bytes_eq-Decides, closeness, codes, demanded, false, has, if◌then◌else◌, is_some, length, list_all, list_any, map, meaning_of, named_parts, not, option_map, refl, sym, true, type_of, unescaped, weight_of, ℕ, ◌&&◌, ◌++◌, ◌||◌, ◌∙◌, ◌∷◌, ◌≡◌, length-map, list_all-map, list_any-append}
 
 -- a list of parameters
 abbrev Pairs : Type 0
@@ -19,11 +10,8 @@ Pairs = List (List ℕ × List ℕ)
 -- a list with this item, for which a test is true
 any_there : {X : Type 0} (test : X → Bool) (before : List X) (x : X) (after : List X) → test x ≡ true
     → list_any test (before ++ (x ∷ after)) ≡ true
-any_there test [] x after is = rw is refl
-any_there test (y ∷ before) x after is = elim (test y) as (λ b. (b || list_any test (before ++ (x ∷ after))) ≡ true) [
-  | true ↦ refl
-  | false ↦ any_there test before x after is
-]
+any_there test before x after is =
+    list_any-append test before (x ∷ after) ∙ rw is (elim (list_any test before) as (λ b. (b || true) ≡ true) [ true ↦ refl | false ↦ refl ])
 
 -- bytes are equal to themselves
 same_bytes : (bytes : List ℕ) → bytes_eq bytes bytes ≡ true
@@ -76,30 +64,23 @@ has_by_meaning [] pair = refl
 has_by_meaning (own ∷ pairs) pair =
     ap (λ rest. (bytes_eq own.0 pair.0 && bytes_eq (meaning_of own).1 (meaning_of pair).1) || rest) (has_by_meaning pairs pair)
 
--- all that are demanded if it has what they mean,
-all_by_meaning : (offer : MediaType) (pairs : Pairs)
-    → list_all (has offer) (demanded pairs) ≡ list_all (has_meant (map meaning_of offer.pairs)) (demanded (map meaning_of pairs))
-all_by_meaning offer [] = refl
-all_by_meaning offer (pair ∷ pairs) =
-    let meant = map meaning_of offer.pairs in
-    let rest = all_by_meaning offer pairs in
-    elim (not (bytes_eq pair.0 (codes "q"))) as (λ b. list_all (has offer) (if b then pair ∷ demanded pairs else demanded pairs)
-    ≡ list_all (has_meant meant) (if b then meaning_of pair ∷ demanded (map meaning_of pairs) else demanded (map meaning_of pairs))) [
-      | true ↦ ap (λ first. first && list_all (has offer) (demanded pairs)) (has_by_meaning offer.pairs pair)
-          ∙ ap (λ others. has_meant meant (meaning_of pair) && others) rest
-      | false ↦ rest
+-- as many are demanded,
+demanded_meant : (pairs : Pairs) → demanded (map meaning_of pairs) ≡ map meaning_of (demanded pairs)
+demanded_meant [] = refl
+demanded_meant (pair ∷ pairs) =
+    elim (not (bytes_eq pair.0 (codes "q"))) as (λ b. (if b then meaning_of pair ∷ demanded (map meaning_of pairs)
+    else demanded (map meaning_of pairs)) ≡ map meaning_of (if b then pair ∷ demanded pairs else demanded pairs)) [
+      | true ↦ ap (λ rest. meaning_of pair ∷ rest) (demanded_meant pairs)
+      | false ↦ demanded_meant pairs
     ]
 
--- and as many are demanded
-count_by_meaning : (pairs : Pairs) → length (demanded pairs) ≡ length (demanded (map meaning_of pairs))
-count_by_meaning [] = refl
-count_by_meaning (pair ∷ pairs) =
-    let rest = count_by_meaning pairs in
-    elim (not (bytes_eq pair.0 (codes "q"))) as (λ b. length (if b then pair ∷ demanded pairs else demanded pairs)
-    ≡ length (if b then meaning_of pair ∷ demanded (map meaning_of pairs) else demanded (map meaning_of pairs))) [
-      | true ↦ ap (λ n. Prim.Native.Nat.suc n) rest
-      | false ↦ rest
-    ]
+-- and all that are demanded are there if it has what they mean
+all_by_meaning : (offer : MediaType) (pairs : Pairs)
+    → list_all (has offer) (demanded pairs) ≡ list_all (has_meant (map meaning_of offer.pairs)) (demanded (map meaning_of pairs))
+all_by_meaning offer pairs =
+    (λ i. list_all (λ pair. has_by_meaning offer.pairs pair i) (demanded pairs))
+    ∙ (sym (list_all-map (has_meant (map meaning_of offer.pairs)) meaning_of (demanded pairs))
+    ∙ ap (list_all (has_meant (map meaning_of offer.pairs))) (sym (demanded_meant pairs)))
 
 -- how closely a range covers an offer, by what both mean
 abbrev Meant : Type 0
@@ -126,7 +107,7 @@ closeness_by_meaning offer range at =
     (named_parts range offer) else None)
     (all_by_meaning offer range.pairs)
     ∙ ap (λ count. if list_all (has_meant (map meaning_of offer.pairs)) (demanded (map meaning_of range.pairs))
-    then option_map (λ named. (named, count, weight_of range, at)) (named_parts range offer) else None) (count_by_meaning range.pairs)
+    then option_map (λ named. (named, count, weight_of range, at)) (named_parts range offer) else None) (sym (ap length (demanded_meant range.pairs) ∙ length-map (demanded range.pairs) meaning_of))
 
 -- media types that mean the same are alike
 meant_alike : (media other : MediaType) → MeanTheSame media other → meant_of media ≡ meant_of other

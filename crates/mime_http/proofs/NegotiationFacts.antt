@@ -1,28 +1,14 @@
 -- Worked facts of the pages `HttpList` and `Weight`: what is true of a text, and what is false.
-use Rattle.std.proofs.Common.{◌≡◌, subst, refl, ap, arith, ℕ, List, [], ◌∷◌, length, None, ◌++◌, drop, get_or, append-nil, sym}
-use Rattle.std.specs.Prelude.{◌+◌, codes, flat_map}
-use Rattle.std.proofs.lemmas.Str.{IsUtf8-nil}
-use Rattle.mime.specs.Bytes.{is_token_byte}
-use Rattle.mime.specs.Grammar.{AreSpaces, IsToken, no_list}
-use Rattle.mime.specs.Values.{MediaType, Reads, value_of, lowered, last_plus}
-use Rattle.mime_http.specs.HttpMediaType.{HttpReads, no_more, IsHttpMediaType}
-use Rattle.mime_http.specs.HttpList.{no_line, line_end, comma, no_text, a_range, IsPiece, trim_start, trim_end, AreSorted, a_bad, Header, IsHeader}
-use Rattle.mime_http.specs.ListLaws.{no_text as no_element, nothing as nothing_there, element, AreHttpLists}
-use Rattle.mime_http.specs.Weight.{thousandths_of}
-use Rattle.mime_http.specs.RangesLaws.{IsQvalue, two_digits}
+use Rattle.mime_http.proofs.Common.{AreHttpLists, AreSorted, AreSpaces, Header, HttpReads, IsHeader, IsHttpMediaType, IsPiece, IsQvalue, IsToken, IsUtf8, IsUtf8-nil, List, MediaType, None, Reads, [], a_bad, a_range, ap, append-nil, arith, codes, comma, cut, drop, element, flat_map, get_or, is_token_byte, last_plus, length, line_end, lowered, no_line, no_list, no_more, no_text, refl, stopped-from_walk, subst, sym, thousandths_of, tight, trim_end, trim_start, true≢false, two_digits, value_of, ℕ, ◌++◌, ◌+◌, ◌∷◌, ◌≡◌}
+use Rattle.mime_http.specs.ListLaws.{no_text as no_element, nothing as nothing_there}
 use Rattle.mime_http.proofs.Numbers.{weight_is_number}
-use Rattle.mime_http.specs.Walk.{cut}
 use Rattle.mime_http.proofs.Cuts.{cut_of_piece, are_cut}
-use Rattle.std.proofs.lemmas.Bool.{true≢false}
-use Rattle.mime.proofs.HandedOut.{stopped-from_walk}
-use Rattle.mime_http.specs.Places.{tight}
 use Rattle.mime_http.proofs.HttpLaws.{accepted_from_http}
 use Rattle.mime_http.proofs.HttpBack.{read_is_http}
 use Rattle.mime_http.proofs.HttpLaws.{reads_tight}
 use Rattle.mime_http.proofs.Lists.{one_header, http_lists_are_read, bad_is_alone}
 use Rattle.mime_http.proofs.RangesFacts.{of}
 use Rattle.mime_http.proofs.HttpText.{AreAscii, put_ascii}
-use Rattle.std.specs.Str.{IsUtf8}
 
 -- ---- weights (RFC 9110, 12.4.2)
 

@@ -1,13 +1,6 @@
 -- A weight that is read digit by digit is the number that its text begins with.
-use Rattle.std.proofs.Common.{◌≡◌, ◌∙◌, refl, sym, ap, arith, ⊎_elim, ◌+◌, ◌*◌, ◌-◌, ◌≤◌, ◌==◌, ℕ, Bool, true, false, List, [], ◌∷◌, ◌++◌, length, take, drop}
-use Rattle.std.specs.Prelude.{codes, slice_index, fold, min, take_while, if◌then◌else◌, replicate}
-use Rattle.std.specs.Char.{is_ascii_digit}
-use Rattle.std.proofs.lemmas.Bool.{cases_Bool, eqb-true}
-use Rattle.std.proofs.lemmas.Bool.Decides.{nat_tests}
-use Rattle.std.proofs.lemmas.List.Sums.{take_while-cons}
-use Rattle.mime_http.specs.Weight.{thousandths_of}
-use Rattle.mime_http.specs.Digits.{worth, read_number}
-use Rattle.mime_http.specs.RangesLaws.{zero, zero_dot, one_digit, two_digits, three_digits, one, one_dot, WeightIsNumber}
+use Rattle.mime_http.proofs.Common.{Bool, List, WeightIsNumber, [], ap, arith, cases_Bool, codes, drop, eqb-true, false, fold, if◌then◌else◌, is_ascii_digit, length, min, nat_tests, one_digit, one_dot, read_number, refl, replicate, slice_index, sym, take, take_while, take_while-cons, thousandths_of, three_digits, true, two_digits, worth, zero_dot, ℕ, ⊎_elim, ◌*◌, ◌++◌, ◌+◌, ◌-◌, ◌==◌, ◌∙◌, ◌∷◌, ◌≡◌, ◌≤◌}
+use Rattle.mime_http.specs.RangesLaws.{zero, one}
 
 -- a number with one more digit
 abbrev step : ℕ → ℕ → ℕ

@@ -1,22 +1,8 @@
 -- The offers that weigh more than 0, sorted, are in order.
-use Rattle.std.proofs.Common.{◌≡◌, ◌≢◌, ◌∙◌, ◌⊎◌, inl, inr, ◌<◌, ◌+◌, refl, sym, ap, subst, arith, ⊎_elim, ℕ, zero, suc, Bool, true, false, List, [], ◌∷◌, length, map, get_or}
-use Rattle.std.specs.Prelude.{if◌then◌else◌, ◌==◌, Contains}
-use Rattle.std.specs.List.{AllByRecursion, IsDistinct}
+use Rattle.mime_http.proofs.Common.{AllByRecursion, AreInOrder, Contains, Contains-get_or, Equal, Greater, IsDistinct, IsTotalOrder, Less, List, MatchOrdering, MediaType, Ordering, Rank, Reverse, [], ap, arith, back_total, eq-eqb, false, flip_args, get_or, get_or-map, if◌then◌else◌, inl, inr, is_gt, is_lt, length, length-map, map, merit, nat_cmp, nat_cmp_total, nat_tests, ne_eqb, on, on_total, ordering_then, rank_cmp, ranked, refl, subst, suc, sym, then_cmp, then_total, true, true≢false, zero, ℕ, ⊎_elim, ◌+◌, ◌<◌, ◌==◌, ◌∙◌, ◌∷◌, ◌≡◌, ◌≢◌, ◌⊎◌, cases_Bool, cond_both}
 use Rattle.std.specs.List.Sorted.{IsPermutation, IsSorted}
-use Rattle.std.specs.Ordering.{nat_cmp, then_cmp, on, flip_args, ordering_then, is_lt, is_gt, MatchOrdering}
-use Rattle.std.specs.Cmp.{IsTotalOrder}
-use Rattle.std.specs.declared.cmp.Ordering.{Ordering}
-use Rattle.std.specs.declared.cmp.Ordering.TheVariants.{Less, Equal, Greater}
-use Rattle.std.specs.declared.cmp.Reverse.{Reverse}
-use Rattle.std.proofs.lemmas.Bool.{true≢false, ne_eqb, eq-eqb}
-use Rattle.std.proofs.lemmas.Bool.Decides.{nat_tests}
-use Rattle.std.proofs.lemmas.Cmp.{ranked, nat_cmp_total, on_total, then_total, back_total}
-use Rattle.std.proofs.lemmas.List.{get_or-map, length-map}
-use Rattle.std.proofs.lemmas.List.Elements.{Contains-get_or}
 use Rattle.std.proofs.lemmas.List.Sorted.{ranks_by, sorted_far, IsPermutation-sym, IsPermutation-map, Contains-permutation}
 use Rattle.std.proofs.lemmas.Map.Keys.{IsDistinct-IsPermutation, apart_from_distinct}
-use Rattle.mime.specs.Values.{MediaType}
-use Rattle.mime_http.specs.Ranges.{Rank, rank_cmp, merit, AreInOrder}
 use Rattle.mime_http.proofs.Closest.{in_more, in_mapped, of_mapped}
 use Rattle.mime_http.proofs.Ranks.{ranks_total, one_rank}
 
@@ -54,7 +40,10 @@ one_further is = record { far = suc is.far; there = omega (arith, is.there); is 
 -- what is found of the offers is at its position,
 weighing_is_at : (at : ℕ) (ranks : List Rank) (entry : Rank × ℕ) → Contains (weighing at ranks) entry → IsAt at ranks entry
 weighing_is_at at [] entry (k, within, is) = absurd (omega (arith, within))
-weighing_is_at at (rank ∷ ranks) entry there = go (weighing_is_at (at + 1) ranks entry) (rank.0 == 0) refl
+weighing_is_at at (rank ∷ ranks) entry there = ⊎_elim
+    (λ (none : (rank.0 == 0) ≡ true). one_further (weighing_is_at (at + 1) ranks entry (rw none at there)))
+    (λ (some : (rank.0 == 0) ≡ false). here (grind (arith, some)) (rw some at there) (weighing_is_at (at + 1) ranks entry))
+    (cases_Bool (rank.0 == 0))
   where
     here : 0 < rank.0 → Contains ((rank, at) ∷ weighing (at + 1) ranks) entry
         → (Contains (weighing (at + 1) ranks) entry → IsAt (at + 1) ranks entry)
@@ -67,11 +56,6 @@ weighing_is_at at (rank ∷ ranks) entry there = go (weighing_is_at (at + 1) ran
     }
     here weighs (suc k, within, is) rest = one_further (rest (k, omega (arith, within), is))
 
-    go : (Contains (weighing (at + 1) ranks) entry → IsAt (at + 1) ranks entry) → (z : Bool) → (rank.0 == 0) ≡ z
-        → IsAt at (rank ∷ ranks) entry
-    go rest true is = one_further (rest (rw is at there))
-    go rest false is = here (grind (arith, is)) (rw is at there) rest
-
 -- and what weighs something is found
 at_is_weighing : (at : ℕ) (ranks : List Rank) (far : ℕ) → 0 < (rank_at ranks far).0
     → Contains (weighing at ranks) (rank_at ranks far, at + far)
@@ -82,36 +66,27 @@ at_is_weighing at (rank ∷ ranks) zero weighs =
     rw some (0, omega arith, ap (λ n. (rank, n)) same)
 at_is_weighing at (rank ∷ ranks) (suc far) weighs =
     let next : at + 1 + far ≡ at + suc far = omega arith in
-    go (subst (λ n. Contains (weighing (at + 1) ranks) (rank_at ranks far, n)) next (at_is_weighing (at + 1) ranks far weighs))
-    (rank.0 == 0) refl
-  where
-    go : Contains (weighing (at + 1) ranks) (rank_at ranks far, at + suc far) → (z : Bool) → (rank.0 == 0) ≡ z
-        → Contains (weighing at (rank ∷ ranks)) (rank_at ranks far, at + suc far)
-    go there true is = rw is there
-    go there false is = rw is (in_more (rank, at) (weighing (at + 1) ranks) _ there)
+    let there = subst (λ n. Contains (weighing (at + 1) ranks) (rank_at ranks far, n)) next (at_is_weighing (at + 1) ranks far weighs) in
+    cond_both (rank.0 == 0) _ _ (λ found. Contains found (rank_at ranks far, at + suc far)) (λ none. there)
+    (λ some. in_more (rank, at) (weighing (at + 1) ranks) _ there)
 
 -- ---- their positions differ
 
 -- those after an offer have other positions
 further : (low at : ℕ) (ranks : List Rank) → low < at → AllByRecursion (λ y. (low == y) ≡ false) (map (λ e. e.1) (weighing at ranks))
 further low at [] below = tt
-further low at (rank ∷ ranks) below = go (further low (at + 1) ranks (omega (arith, below))) (rank.0 == 0) refl
-  where
-    go : AllByRecursion (λ y. (low == y) ≡ false) (map (λ e. e.1) (weighing (at + 1) ranks)) → (z : Bool) → (rank.0 == 0) ≡ z
-        → AllByRecursion (λ y. (low == y) ≡ false) (map (λ e. e.1) (weighing at (rank ∷ ranks)))
-    go rest true is = rw is rest
-    go rest false is = rw is (ne_eqb low at (λ same. absurd (omega (arith, same, below))), rest)
+further low at (rank ∷ ranks) below =
+    let rest = further low (at + 1) ranks (omega (arith, below)) in
+    cond_both (rank.0 == 0) _ _ (λ found. AllByRecursion (λ y. (low == y) ≡ false) (map (λ e. e.1) found)) (λ none. rest)
+    (λ some. (ne_eqb low at (λ same. absurd (omega (arith, same, below))), rest))
 
 -- so all positions differ
 are_distinct : (at : ℕ) (ranks : List Rank) → IsDistinct (λ x y. x == y) (map (λ e. e.1) (weighing at ranks))
 unfolding IsDistinct
 are_distinct at [] = tt
-are_distinct at (rank ∷ ranks) = go (are_distinct (at + 1) ranks) (rank.0 == 0) refl
-  where
-    go : IsDistinct (λ x y. x == y) (map (λ e. e.1) (weighing (at + 1) ranks)) → (z : Bool) → (rank.0 == 0) ≡ z
-        → IsDistinct (λ x y. x == y) (map (λ e. e.1) (weighing at (rank ∷ ranks)))
-    go rest true is = rw is rest
-    go rest false is = rw is (further at (at + 1) ranks (omega arith), rest)
+are_distinct at (rank ∷ ranks) =
+    cond_both (rank.0 == 0) _ _ (λ (found : List (Rank × ℕ)). IsDistinct (λ x y. x == y) (map (λ e. e.1) found))
+    (λ none. are_distinct (at + 1) ranks) (λ some. (further at (at + 1) ranks (omega arith), are_distinct (at + 1) ranks))
 
 -- ---- sorted, they are in order
 

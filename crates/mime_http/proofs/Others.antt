@@ -1,13 +1,7 @@
 -- Writing the parameters of other names, item by item.
-use Rattle.std.proofs.Common.{◌≡◌, ◌∙◌, ◌+◌, ◌≤◌, refl, sym, ap, subst, arith, ℕ, suc, Bool, not, List, [], ◌∷◌, ◌++◌, length, drop, get_or, bytes_eq, append-nil, append_assoc, length-append}
-use Rattle.std.proofs.lemmas.Bool.{false_from_ne_true}
-use Rattle.std.proofs.lemmas.Grind.{flat_map-append}
+use Rattle.mime_http.proofs.Common.{Bool, Item, List, NameIs, [], ap, append-nil, append_assoc, arith, bytes_eq, bytes_eq-Decides, false_from_ne_true, flat_map-append, items_of, length, length-append, lowered, not, others, refl, subst, suc, sym, text_of_pair, text_of_pairs, ℕ, ◌++◌, ◌+◌, ◌∙◌, ◌∷◌, ◌≡◌, ◌≤◌, false, true}
+use Rattle.mime_http.proofs.Demanded.{first, no_pair}
 use Rattle.std.proofs.lemmas.List.Filters.{length-filter_both}
-use Rattle.std.proofs.lemmas.Slice.Eq.{bytes_eq-Decides}
-use Rattle.mime.specs.Items.{Item, item_of, items_of}
-use Rattle.mime.specs.Names.{NameIs}
-use Rattle.mime.specs.Values.{lowered}
-use Rattle.mime_http.specs.Written.{text_of_pair, text_of_pairs, others}
 
 -- of the pairs whose items are left, those of other names are still to be written after this text, and to be counted
 pub record Left (name whole text : List ℕ) (total count : ℕ) (items : List Item) : Type 0 where
@@ -19,55 +13,47 @@ pub record Left (name whole text : List ℕ) (total count : ℕ) (items : List I
 -- if no item is left, all is written and counted
 pub none_left : {name whole text : List ℕ} {total count : ℕ} {items : List Item} → Left name whole text total count items → items ≡ []
     → (text ≡ whole) × (count ≡ total)
-none_left {name} {whole} {text} {total} {count} left ended = go left.rest (sym left.same ∙ ended) left.written left.counted
-  where
-    go : (rest : List (List ℕ × List ℕ)) → items_of rest ≡ [] → text ++ text_of_pairs (others name rest) ≡ whole
-        → count + length (others name rest) ≡ total → (text ≡ whole) × (count ≡ total)
-    go [] is written counted = (sym (append-nil text) ∙ written, omega (arith, counted))
-    go (pair ∷ rest) is written counted = absurd (omega (arith, ap length is))
+none_left {name} {text = text} left ended =
+    let none : others name left.rest ≡ [] = ap (others name) (no_pair left.rest (sym left.same ∙ ended)) in (
+      sym (append-nil text) ∙ (ap (λ rest. text ++ text_of_pairs rest) (sym none) ∙ left.written),
+      omega (arith, ap length none, left.counted),
+    )
 
 -- the next is of this name
 pub named_skipped : {name whole text : List ℕ} {total count : ℕ} {items next : List Item} {item : Item}
     → Left name whole text total count items
     → items ≡ item ∷ next → NameIs item.name item.name_ignores_case name → Left name whole text total count next
-named_skipped {name} {whole} {text} {total} {count} {next =
-    next} {item = item} left is named = go left.rest (sym left.same ∙ is) left.written left.counted
-  where
-    go : (rest : List (List ℕ × List ℕ)) → items_of rest ≡ item ∷ next → text ++ text_of_pairs (others name rest) ≡ whole
-        → count + length (others name rest) ≡ total → Left name whole text total count next
-    go [] is written counted = absurd (omega (arith, ap length is))
-    go (pair ∷ rest) is written counted =
-        let here : item_of pair ≡ item = ap (λ items. get_or items 0 item) is in
-        let same = subst (λ (i : Item). NameIs i.name i.name_ignores_case name) (sym here) named in
-        let test = (bytes_eq-Decides (lowered pair.0) (lowered name)).1 same in
-        record { rest = rest; same = sym (ap (drop 1) is); written = rw test at written; counted = rw test at counted }
+named_skipped {name} {text = text} {count = count} {next = next} {item = item} left is named =
+    let f = first left.rest item next (sym left.same ∙ is) in
+    let is_named = subst (λ (i : Item). NameIs i.name i.name_ignores_case name) (sym f.seen) named in
+    let test : bytes_eq (lowered f.pair.0) (lowered name) ≡ true = (bytes_eq-Decides _ _).1 is_named in
+    let same : others name left.rest ≡ others name f.more = ap (others name) f.here ∙ rw test refl in
+    record {
+      rest = f.more;
+      same = f.after;
+      written = ap (λ rest. text ++ text_of_pairs rest) (sym same) ∙ left.written;
+      counted = ap (λ rest. count + length rest) (sym same) ∙ left.counted;
+    }
 
 -- the next is of another, and is written
 pub copied : {name whole text : List ℕ} {total count : ℕ} {items next : List Item} {item : Item} → Left name whole text total count items
     → items ≡ item ∷ next → ¬ (NameIs item.name item.name_ignores_case name)
     → (count + 1 ≤ total) × Left name whole (text ++ text_of_pair (item.name, item.value)) total (count + 1) next
-copied {name} {whole} {text} {total} {count} {next =
-    next} {item = item} left is other = go left.rest (sym left.same ∙ is) left.written left.counted
-  where
-    go : (rest : List (List ℕ × List ℕ)) → items_of rest ≡ item ∷ next → text ++ text_of_pairs (others name rest) ≡ whole
-        → count + length (others name rest) ≡ total
-        → (count + 1 ≤ total) × Left name whole (text ++ text_of_pair (item.name, item.value)) total (count + 1) next
-    go [] is written counted = absurd (omega (arith, ap length is))
-    go (pair ∷ rest) is written counted =
-        let here : item_of pair ≡ item = ap (λ items. get_or items 0 item) is in
-        let differ = subst (λ (i : Item). ¬ (NameIs i.name i.name_ignores_case name)) (sym here) other in
-        let test = false_from_ne_true _ (λ same. differ ((bytes_eq-Decides (lowered pair.0) (lowered name)).0 same)) in
-        let more : text ++ (text_of_pair pair ++ text_of_pairs (others name rest)) ≡ whole = rw test at written in
-        let one_more : count + suc (length (others name rest)) ≡ total = rw test at counted in (
-          omega (arith, one_more),
-          subst (λ (i : Item). Left name whole (text ++ text_of_pair (i.name, i.value)) total (count + 1) next) here
-              (record {
-                rest = rest;
-                same = sym (ap (drop 1) is);
-                written = append_assoc text (text_of_pair pair) _ ∙ more;
-                counted = omega (arith, one_more);
-              }),
-        )
+copied {name} {whole} {text} {total} {count} {next = next} {item = item} left is other =
+    let f = first left.rest item next (sym left.same ∙ is) in
+    let differ = subst (λ (i : Item). ¬ (NameIs i.name i.name_ignores_case name)) (sym f.seen) other in
+    let test : bytes_eq (lowered f.pair.0) (lowered name) ≡ false = false_from_ne_true _ (λ same. differ ((bytes_eq-Decides _ _).0 same)) in
+    let same : others name left.rest ≡ f.pair ∷ others name f.more = ap (others name) f.here ∙ rw test refl in
+    let one_more : count + suc (length (others name f.more)) ≡ total = ap (λ rest. count + length rest) (sym same) ∙ left.counted in (
+      omega (arith, one_more),
+      subst (λ (i : Item). Left name whole (text ++ text_of_pair (i.name, i.value)) total (count + 1) next) f.seen
+          (record {
+            rest = f.more;
+            same = f.after;
+            written = append_assoc text (text_of_pair f.pair) _ ∙ (ap (λ rest. text ++ text_of_pairs rest) (sym same) ∙ left.written);
+            counted = omega (arith, one_more);
+          }),
+    )
 
 -- those of other names are no more than all
 pub others_within : (name : List ℕ) (pairs : List (List ℕ × List ℕ)) → length (others name pairs) ≤ length pairs

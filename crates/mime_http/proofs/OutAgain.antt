@@ -1,8 +1,6 @@
 -- Bytes of which these come out begin with these, but for white space that is left out.
-use Rattle.mime_http.proofs.Common.{◌≡◌, ◌∙◌, ◌==◌, refl, sym, ap, subst, arith, ℕ, Bool, true, false, List, [], ◌∷◌, ◌++◌, and_parts, and_from, true≢false, is_token_byte, is_space, AreSpaces, AreTokenBytes, IsToken, IsContent, no_byte, text_byte, quoted_pair, Place, Start, Plain, Spaced, Closed, Semicolon, place_after, added, tight_from}
-use Rattle.std.proofs.lemmas.List.{append_assoc}
-use Rattle.mime_http.specs.declared.tight.Place.TheVariants.{Equals, Quoted, Paired}
-use Rattle.mime_http.proofs.Places.{IsPlainByte, token_is_plain, TakesToken, goes_on, of_value, plain_byte, text_is_no_mark, LeavesWhite, after_token, after_equals}
+use Rattle.mime_http.proofs.Common.{AreSpaces, AreTokenBytes, Bool, Closed, Equals, IsContent, IsToken, List, Paired, Place, Plain, Quoted, Semicolon, Spaced, Start, [], added, and_from, and_parts, ap, append_assoc, arith, false, is_space, is_token_byte, no_byte, place_after, quoted_pair, refl, subst, sym, text_byte, tight_from, true, true≢false, ℕ, ◌++◌, ◌==◌, ◌∙◌, ◌∷◌, ◌≡◌, cases_Bool, cond_both, eqb-true, list_all, ⊎_elim, ◌≢◌, brought_back}
+use Rattle.mime_http.proofs.Places.{IsPlainByte, token_is_plain, TakesToken, goes_on, of_value, plain_byte, text_is_no_mark, LeavesWhite, after_token, after_equals, left_white, other_written}
 
 -- ---- bytes that come out as they are
 
@@ -53,61 +51,7 @@ any_back place stays (b ∷ bytes) x out e = kept_back place b bytes x out (stay
 
 -- ---- white space that was left out
 
--- before a byte that isn't white space or a semicolon it isn't left out
-spaced_other : (bytes : List ℕ) (x : ℕ) (out : List ℕ) → is_space x ≡ false → (x == 59) ≡ false → tight_from Spaced bytes ≡ x ∷ out → ⊥
-spaced_other [] x out no_space no_semicolon e = cc
-spaced_other (b ∷ bytes) x out no_space no_semicolon e = go (spaced_other bytes) (is_space b) refl (b == 59) refl
-  where
-    go : ((y : ℕ) (out : List ℕ) → is_space y ≡ false → (y == 59) ≡ false → tight_from Spaced bytes ≡ y ∷ out → ⊥)
-        → (t : Bool) → is_space b ≡ t → (s : Bool) → (b == 59) ≡ s → ⊥
-    go rest true white s is = rest x out no_space no_semicolon (rw white at e)
-    go rest false other true is =
-        let both : b ∷ tight_from Semicolon bytes ≡ x ∷ out = rw (other, is) at e in
-        let first : b ≡ x = cc in
-        true≢false (sym is ∙ (ap (λ y. y == 59) first ∙ no_semicolon))
-    go rest false other false is =
-        let both : 32 ∷ b ∷ tight_from (place_after Spaced b) bytes ≡ x ∷ out =
-        said Spaced b bytes (32 ∷ b ∷ []) _ (rw (other, is) refl) e in
-        let first : 32 ≡ x = cc in
-        true≢false (ap is_space first ∙ no_space)
-
--- a byte outside quotes that isn't white space or a semicolon comes out as it is
-pub token_byte_back : {place : Place} → LeavesWhite place → (bytes : List ℕ) (x : ℕ) (out : List ℕ) → is_space x ≡ false → (x == 59) ≡ false
-    → tight_from place bytes ≡ x ∷ out → After bytes (x ∷ []) (place_after place x) out
-token_byte_back leaves [] x out no_space no_semicolon e = absurd (cc)
-token_byte_back leaves (b ∷ bytes) x out no_space no_semicolon e = go leaves (is_space b) refl e
-  where
-    go : {place : Place} → LeavesWhite place → (t : Bool) → is_space b ≡ t → tight_from place (b ∷ bytes) ≡ x ∷ out
-        → After (b ∷ bytes) (x ∷ []) (place_after place x) out
-    go after_token true white e = absurd (spaced_other bytes x out no_space no_semicolon (rw white at e))
-    go after_equals true white e = absurd (spaced_other bytes x out no_space no_semicolon (rw white at e))
-    go after_token false other e = kept_back Plain b bytes x out (rw other refl) e
-    go after_equals false other e = kept_back Equals b bytes x out (rw other refl) e
-
--- at the end
-spaced_end_back : (bytes : List ℕ) → tight_from Spaced bytes ≡ [] → AreSpaces bytes
-spaced_end_back [] e = refl
-spaced_end_back (b ∷ bytes) e = go (spaced_end_back bytes) (is_space b) refl (b == 59) refl
-  where
-    go : (tight_from Spaced bytes ≡ [] → AreSpaces bytes) → (t : Bool) → is_space b ≡ t → (s : Bool) → (b == 59) ≡ s → AreSpaces (b ∷ bytes)
-    go rest true white s is = and_from (is_space b) _ white (rest (rw white at e))
-    go rest false other true is =
-        let both : b ∷ tight_from Semicolon bytes ≡ [] = rw (other, is) at e in absurd (cc)
-    go rest false other false is =
-        let both : 32 ∷ b ∷ tight_from (place_after Spaced b) bytes ≡ [] =
-        said Spaced b bytes (32 ∷ b ∷ []) _ (rw (other, is) refl) e in absurd (cc)
-
--- if nothing comes out after a token, there is nothing but white space
-pub plain_end_back : (bytes : List ℕ) → tight_from Plain bytes ≡ [] → AreSpaces bytes
-plain_end_back [] e = refl
-plain_end_back (b ∷ bytes) e = go (is_space b) refl
-  where
-    go : (t : Bool) → is_space b ≡ t → AreSpaces (b ∷ bytes)
-    go true white = and_from (is_space b) _ white (spaced_end_back bytes (rw white at e))
-    go false other =
-        let both : b ∷ tight_from (place_after Plain b) bytes ≡ [] = said Plain b bytes (b ∷ []) _ (rw other refl) e in absurd (cc)
-
--- before a semicolon, and before the first byte
+-- bytes are white space, this byte, and what comes out as `out` from a place on
 pub record AfterSpaces (bytes : List ℕ) (x : ℕ) (to : Place) (out : List ℕ) : Type 0 where
   pub spaces : List ℕ
   pub white : AreSpaces spaces
@@ -130,39 +74,72 @@ one_more b white first = record {
   left = first.left;
 }
 
--- a semicolon that comes out after white space was there,
-spaced_semicolon_back : (bytes out : List ℕ) → tight_from Spaced bytes ≡ 59 ∷ out → AfterSpaces bytes 59 Semicolon out
-spaced_semicolon_back [] out e = absurd (cc)
-spaced_semicolon_back (b ∷ bytes) out e = go (spaced_semicolon_back bytes out) (is_space b) refl (b == 59) refl
-  where
-    go : (tight_from Spaced bytes ≡ 59 ∷ out → AfterSpaces bytes 59 Semicolon out)
-        → (t : Bool) → is_space b ≡ t → (s : Bool) → (b == 59) ≡ s → AfterSpaces (b ∷ bytes) 59 Semicolon out
-    go rest true white s is = one_more b white (rest (rw white at e))
-    go rest false other true is = no_spaces (kept_back Spaced b bytes 59 out (rw (other, is) refl) e)
-    go rest false other false is =
-        let both : 32 ∷ b ∷ tight_from (place_after Spaced b) bytes ≡ 59 ∷ out =
-        said Spaced b bytes (32 ∷ b ∷ []) _ (rw (other, is) refl) e in
-        let first : ◌≡◌ {A = ℕ} 32 59 = cc in
-        absurd (omega (arith, first))
+-- what comes out after it begins with a space, or with a semicolon that was there,
+spaced_back : (bytes : List ℕ) (x : ℕ) (out : List ℕ) → x ≢ 32 → tight_from Spaced bytes ≡ x ∷ out
+    → (x ≡ 59) × AfterSpaces bytes x Semicolon out
+spaced_back [] x out isnt e = absurd (cc)
+spaced_back (b ∷ bytes) x out isnt e = ⊎_elim
+    (λ (white : is_space b ≡ true).
+    let there = spaced_back bytes x out isnt (rw white at e) in (there.0, one_more b white there.1))
+    (λ (other : is_space b ≡ false). ⊎_elim
+    (λ (semicolon : (b == 59) ≡ true).
+    let there = kept_back Spaced b bytes x out (rw (other, semicolon) refl) e in
+    let both : b ∷ tight_from Semicolon bytes ≡ x ∷ out = rw (other, semicolon) at e in
+    let first : x ≡ b = cc in
+    let same = first ∙ eqb-true b 59 semicolon in
+    (same, no_spaces (to_place (ap (place_after Spaced) same) there)))
+    (λ (no : (b == 59) ≡ false).
+    let both : 32 ∷ b ∷ tight_from (place_after Spaced b) bytes ≡ x ∷ out = said Spaced b bytes (32 ∷ b ∷ []) _ (rw (other, no) refl) e in
+    let first : x ≡ 32 = cc in
+    absurd (isnt first))
+    (cases_Bool (b == 59)))
+    (cases_Bool (is_space b))
 
--- and so was one after a token, with white space before it,
+-- or nothing does
+spaced_end_back : (bytes : List ℕ) → tight_from Spaced bytes ≡ [] → AreSpaces bytes
+spaced_end_back [] e = refl
+spaced_end_back (b ∷ bytes) e = ⊎_elim
+    (λ (white : is_space b ≡ true). and_from (is_space b) _ white (spaced_end_back bytes (rw white at e)))
+    (λ (other : is_space b ≡ false).
+    absurd (cond_both (b == 59) [] (32 ∷ []) (λ back. (back ++ (b ∷ [])) ++ tight_from (place_after Spaced b) bytes ≡ [] → ⊥)
+    (λ is e. cc) (λ is e. cc) (said Spaced b bytes (brought_back Spaced b ++ (b ∷ [])) _ (rw other refl) e)))
+    (cases_Bool (is_space b))
+
+-- a byte outside quotes that isn't white space or a semicolon comes out as it is
+pub token_byte_back : {place : Place} → LeavesWhite place → (bytes : List ℕ) (x : ℕ) (out : List ℕ) → is_space x ≡ false → (x == 59) ≡ false
+    → tight_from place bytes ≡ x ∷ out → After bytes (x ∷ []) (place_after place x) out
+token_byte_back leaves [] x out no_space no_semicolon e = absurd (cc)
+token_byte_back {place} leaves (b ∷ bytes) x out no_space no_semicolon e = ⊎_elim
+    (λ (white : is_space b ≡ true).
+    let there = spaced_back bytes x out (λ is. true≢false (sym (ap is_space is) ∙ no_space)) (sym ((left_white leaves b white).tightly bytes) ∙ e) in
+    absurd (true≢false (sym (ap (λ y. y == 59) there.0) ∙ no_semicolon)))
+    (λ (other : is_space b ≡ false). kept_back place b bytes x out (other_written leaves b other) e)
+    (cases_Bool (is_space b))
+
+-- if nothing comes out after a token, there is nothing but white space
+pub plain_end_back : (bytes : List ℕ) → tight_from Plain bytes ≡ [] → AreSpaces bytes
+plain_end_back [] e = refl
+plain_end_back (b ∷ bytes) e = ⊎_elim
+    (λ (white : is_space b ≡ true). and_from (is_space b) _ white (spaced_end_back bytes (rw white at e)))
+    (λ (other : is_space b ≡ false).
+    let both : b ∷ tight_from (place_after Plain b) bytes ≡ [] = said Plain b bytes (b ∷ []) _ (rw other refl) e in absurd (cc))
+    (cases_Bool (is_space b))
+
+-- a semicolon that comes out after a token was there, with white space before it,
 pub plain_semicolon_back : (bytes out : List ℕ) → tight_from Plain bytes ≡ 59 ∷ out → AfterSpaces bytes 59 Semicolon out
 plain_semicolon_back [] out e = absurd (cc)
-plain_semicolon_back (b ∷ bytes) out e = go (is_space b) refl
-  where
-    go : (t : Bool) → is_space b ≡ t → AfterSpaces (b ∷ bytes) 59 Semicolon out
-    go true white = one_more b white (spaced_semicolon_back bytes out (rw white at e))
-    go false other = no_spaces (kept_back Plain b bytes 59 out (rw other refl) e)
+plain_semicolon_back (b ∷ bytes) out e = ⊎_elim
+    (λ (white : is_space b ≡ true). one_more b white (spaced_back bytes 59 out (λ is. absurd (omega (arith, is))) (rw white at e)).1)
+    (λ (other : is_space b ≡ false). no_spaces (kept_back Plain b bytes 59 out (rw other refl) e))
+    (cases_Bool (is_space b))
 
--- and the first byte of all
+-- and so was the first byte of all
 pub start_back : (bytes : List ℕ) (x : ℕ) (out : List ℕ) → tight_from Start bytes ≡ x ∷ out → AfterSpaces bytes x (place_after Start x) out
 start_back [] x out e = absurd (cc)
-start_back (b ∷ bytes) x out e = go (start_back bytes x out) (is_space b) refl
-  where
-    go : (tight_from Start bytes ≡ x ∷ out → AfterSpaces bytes x (place_after Start x) out)
-        → (t : Bool) → is_space b ≡ t → AfterSpaces (b ∷ bytes) x (place_after Start x) out
-    go rest true white = one_more b white (rest (rw white at e))
-    go rest false other = no_spaces (kept_back Start b bytes x out (rw other refl) e)
+start_back (b ∷ bytes) x out e = ⊎_elim
+    (λ (white : is_space b ≡ true). one_more b white (start_back bytes x out (rw white at e)))
+    (λ (other : is_space b ≡ false). no_spaces (kept_back Start b bytes x out (rw other refl) e))
+    (cases_Bool (is_space b))
 
 -- ---- tokens, quoted content, and the white space after it
 
@@ -170,14 +147,20 @@ start_back (b ∷ bytes) x out e = go (start_back bytes x out) (is_space b) refl
 pub after_plain_byte : {place : Place} → TakesToken place → (b : ℕ) → IsPlainByte b → place_after place b ≡ Plain
 after_plain_byte takes b is = (plain_byte takes b is).there
 
--- a token that comes out is there,
+-- bytes of a class of which each is there, and leads back, if it comes out, are there if they come out
+pub class_back : (class : ℕ → Bool) (place : Place) → ((b : ℕ) (bytes out : List ℕ) → class b ≡ true → tight_from place bytes ≡ b ∷ out
+    → After bytes (b ∷ []) place out) → (xs bytes out : List ℕ) → list_all class xs ≡ true → tight_from place bytes ≡ xs ++ out
+    → After bytes xs place out
+class_back class place back [] bytes out all e = record { rest = bytes; split = refl; left = e }
+class_back class place back (x ∷ xs) bytes out all e =
+    let parts = and_parts (class x) _ all in
+    and_then (back x bytes (xs ++ out) parts.0 e) (λ rest left. class_back class place back xs rest out parts.1 left)
+
+-- so is a token,
 pub token_back : (xs bytes out : List ℕ) → AreTokenBytes xs → tight_from Plain bytes ≡ xs ++ out → After bytes xs Plain out
-token_back [] bytes out all e = record { rest = bytes; split = refl; left = e }
-token_back (x ∷ xs) bytes out all e =
-    let parts = and_parts (is_token_byte x) _ all in
-    let is = token_is_plain x parts.0 in
-    and_then (to_place (after_plain_byte goes_on x is) (token_byte_back after_token bytes x (xs ++ out) is.space is.semicolon e))
-    (λ rest left. token_back xs rest out parts.1 left)
+token_back = class_back is_token_byte Plain (λ b bytes out token e.
+    let is = token_is_plain b token in
+    to_place (after_plain_byte goes_on b is) (token_byte_back after_token bytes b out is.space is.semicolon e))
 
 -- a value that is a token
 pub value_back : (xs bytes out : List ℕ) → IsToken xs → tight_from Equals bytes ≡ xs ++ out → After bytes xs Plain out
@@ -203,8 +186,5 @@ content_back (quoted_pair b content is more_content) bytes out e =
 
 -- and the white space after that
 pub closed_back : (n bytes out : List ℕ) → AreSpaces n → tight_from Closed bytes ≡ n ++ out → After bytes n Closed out
-closed_back [] bytes out all e = record { rest = bytes; split = refl; left = e }
-closed_back (b ∷ n) bytes out all e =
-    let parts = and_parts (is_space b) _ all in
-    and_then (to_place {q = Closed} (rw parts.0 refl) (any_back Closed (λ b. refl) bytes b (n ++ out) e))
-    (λ rest left. closed_back n rest out parts.1 left)
+closed_back =
+    class_back is_space Closed (λ b bytes out white e. to_place {q = Closed} (rw white refl) (any_back Closed (λ b. refl) bytes b out e))

@@ -1,7 +1,6 @@
 -- A piece passes from outside strings to outside strings.
-use Rattle.mime_http.proofs.Common.{◌≡◌, ◌∙◌, ◌==◌, refl, sym, ap, subst, ℕ, Bool, true, false, List, [], ◌∷◌, ◌++◌, ⊤, IsInString, string_end, string_byte, string_pair, opens_string, IsPiece, piece_end, piece_byte, piece_string}
-use Rattle.std.proofs.lemmas.List.{append-nil, append_assoc}
-use Rattle.mime_http.specs.Walk.{At, Outside, Equals, Quoted, Paired, after_outside, after, ends, cut_from}
+use Rattle.mime_http.proofs.Common.{At, Bool, IsInString, IsPiece, List, Outside, [], after, after_outside, ap, append-nil, append_assoc, cut_from, ends, false, opens_string, piece_byte, piece_end, piece_string, refl, string_byte, string_end, string_pair, subst, sym, true, ℕ, ⊤, ◌++◌, ◌==◌, ◌∙◌, ◌∷◌, ◌≡◌, cond_both}
+use Rattle.mime_http.specs.Walk.{Equals, Quoted, Paired}
 
 -- ---- from a place on
 
@@ -76,13 +75,15 @@ no_quote : (b : ℕ) (bytes : List ℕ) → (b == 61) ≡ true → opens_string 
 no_quote b [] is opens = refl
 no_quote b (c ∷ bytes) is opens = rw is at opens
 
+-- another byte than an equals sign opens none
+pub opens_none : (b : ℕ) (bytes : List ℕ) → (b == 61) ≡ false → opens_string (b ∷ bytes) ≡ false
+opens_none b [] other = refl
+opens_none b (c ∷ bytes) other = rw other refl
+
 -- so what follows it fits the place after it,
 after_outside_fits : (b : ℕ) (bytes : List ℕ) → opens_string (b ∷ bytes) ≡ false → Fits (after_outside b) bytes
-after_outside_fits b bytes opens = by_equals (b == 61) refl
-  where
-    by_equals : (e : Bool) → (b == 61) ≡ e → Fits (after_outside b) bytes
-    by_equals true is = rw is (no_quote b bytes is opens)
-    by_equals false is = rw is tt
+after_outside_fits b bytes opens =
+    cond_both (b == 61) _ _ (λ place. Fits place bytes) (λ is. no_quote b bytes is opens) (λ other. tt)
 
 -- from each place
 after_fits : (place : At) (b : ℕ) (bytes : List ℕ) → opens_string (b ∷ bytes) ≡ false → Fits place (b ∷ bytes) → Fits (after place b) bytes

@@ -1,20 +1,5 @@
 -- What is picked from a list item by item is what none is higher than: the closest range, and the best offer.
-use Rattle.std.proofs.Common.{◌≡◌, ◌∙◌, ◌≤◌, ◌+◌, ◌==◌, refl, sym, ap, subst, arith, ⊎_elim, ℕ, zero, suc, Bool, true, false, List, [], ◌∷◌, map, Option, Some, None, is_some}
-use Rattle.std.specs.Prelude.{fold, filter_map, find, position, nat_lt, ◌&&◌, if◌then◌else◌, Contains, MatchOption}
-use Rattle.std.specs.List.{list_all, cons_option, enumerate_from, position_from}
-use Rattle.std.specs.Option.{option_cmp}
-use Rattle.std.specs.Ordering.{is_lt, is_le, is_eq, is_gt, ord_max, eq_by_cmp}
-use Rattle.std.specs.declared.cmp.Ordering.{Ordering}
-use Rattle.std.specs.declared.cmp.Ordering.TheVariants.{Equal, Greater}
-use Rattle.std.specs.Cmp.{IsTotalOrder}
-use Rattle.std.specs.Cmp.Lexicographic.{options_total}
-use Rattle.std.proofs.lemmas.Bool.{true≢false, cases_Bool, and_parts, and_from, eqb-true, eq-eqb}
-use Rattle.std.proofs.lemmas.Bool.Decides.{nat_tests}
-use Rattle.std.proofs.lemmas.Cmp.{tied_itself}
-use Rattle.std.proofs.lemmas.Iterator.Adapters.{position_from-zero}
-use Rattle.mime.specs.Values.{MediaType}
-use Rattle.mime_http.specs.Ranges.{Rank, rank_cmp, closeness, closest}
-use Rattle.mime_http.specs.RangesLaws.{IsAtMost, ClosestIsClosest}
+use Rattle.mime_http.proofs.Common.{Bool, ClosestIsClosest, Contains, Equal, Greater, IsAtMost, IsTotalOrder, List, MatchOption, MediaType, None, Option, Ordering, Rank, Some, [], and_from, and_parts, ap, arith, cases_Bool, closeness, closest, cons_option, enumerate_from, eq-eqb, eq_by_cmp, eqb-true, false, filter_map, find, fold, if◌then◌else◌, is_eq, is_gt, is_le, is_lt, is_some, list_all, map, nat_lt, nat_tests, option_cmp, options_total, ord_max, position, position_from, position_from-zero, rank_cmp, refl, subst, suc, sym, tied_itself, true, true≢false, zero, ℕ, ⊎_elim, ◌&&◌, ◌+◌, ◌==◌, ◌∙◌, ◌∷◌, ◌≡◌, ◌≤◌, All-contains, AllPass-from_list_all, Contains-get_or, cond_both, get_or, list_all-from_AllPass}
 use Rattle.mime_http.proofs.Closest.{in_more, in_mapped, of_mapped, highest_is_there, none_is_higher, at_most}
 use Rattle.mime_http.proofs.Highest.{same_by, between_by}
 use Rattle.mime_http.proofs.Ranks.{ranks_total, one_rank}
@@ -23,15 +8,11 @@ use Rattle.mime_http.proofs.Ranks.{ranks_total, one_rank}
 
 -- what a test of all says of each
 each_passes : {X : Type 0} (p : X → Bool) (xs : List X) (x : X) → list_all p xs ≡ true → Contains xs x → p x ≡ true
-each_passes p [] x all (k, within, is) = absurd (omega (arith, within))
-each_passes p (y ∷ xs) x all (zero, within, is) = subst (λ z. p z ≡ true) is (and_parts (p y) (list_all p xs) all).0
-each_passes p (y ∷ xs) x all (suc k, within, is) = each_passes p xs x (and_parts (p y) (list_all p xs) all).1 (k, omega (arith, within), is)
+each_passes p xs x all = All-contains (λ x. p x ≡ true) xs x (AllPass-from_list_all p xs all)
 
 -- a test that each passes all pass
 all_pass : {X : Type 0} (p : X → Bool) (xs : List X) → ((x : X) → Contains xs x → p x ≡ true) → list_all p xs ≡ true
-all_pass p [] each = refl
-all_pass p (x ∷ xs) each =
-    and_from (p x) (list_all p xs) (each x (zero, omega arith, refl)) (all_pass p xs (λ y there. each y (in_more x xs y there)))
+all_pass p xs each = list_all-from_AllPass p xs (λ k d within. each (get_or xs k d) (Contains-get_or xs k d within))
 
 -- what is found, if no other passes
 find_one : {X : Type 0} (p : X → Bool) (xs : List X) (x : X) → Contains xs x → p x ≡ true → ((y : X) → Contains xs y → p y ≡ true → y ≡ x)
@@ -224,15 +205,15 @@ highest ranks = fold (ord_max rank_cmp) (0, 0, 0, 0) ranks
 
 module _ (all : List Rank) where
   -- whether a rank is the best: no other is above it, and it weighs more than 0
-  abbrev is_best : Rank → Bool
+  abbrev pub is_best : Rank → Bool
   is_best one = nat_lt 0 one.0 && list_all (λ other. is_le (rank_cmp other one)) all
 
   -- no offer ranks above the highest,
-  not_above : (rank : Rank) → Contains all rank → is_gt (rank_cmp rank (highest all)) ≡ false
+  pub not_above : (rank : Rank) → Contains all rank → is_gt (rank_cmp rank (highest all)) ≡ false
   not_above rank there = none_is_higher ranks_total one_rank (0, 0, 0, 0) all rank there
 
   -- none weighs more,
-  no_more : (rank : Rank) → Contains all rank → rank.0 ≤ (highest all).0
+  pub no_more : (rank : Rank) → Contains all rank → rank.0 ≤ (highest all).0
   no_more rank there =
       ⊎_elim (λ less. omega (arith, less)) (λ same. omega (arith, same.0)) (at_most rank (highest all) (not_above rank there))
 
@@ -269,15 +250,10 @@ module _ (all : List Rank) where
 pub best_is_position : (all : List Rank)
     → position (λ one. nat_lt 0 one.0 && list_all (λ other. is_le (rank_cmp other one)) all) all
     ≡ (if (highest all).0 == 0 then None else position (λ rank. eq_by_cmp rank_cmp rank (highest all)) all)
-best_is_position all = go ((highest all).0 == 0) refl
-  where
-    go : (zero : Bool) → ((highest all).0 == 0) ≡ zero
-        → position (is_best all) all ≡ (if (highest all).0 == 0 then None else position (λ rank. eq_by_cmp rank_cmp rank (highest all)) all)
-    go true is =
-        rw is (position_from-zero (is_best all) all
-        ∙ (same_position (is_best all) (λ rank. false) 0 all (none_weighs all (eqb-true (highest all).0 0 is)) ∙ never 0 all))
-    go false is =
-        rw is (position_from-zero (is_best all) all
-        ∙ (same_position (is_best all) (λ rank. eq_by_cmp rank_cmp rank (highest all)) 0 all
-        (λ rank there. one_best all _ is rank there refl)
-        ∙ sym (position_from-zero (λ rank. eq_by_cmp rank_cmp rank (highest all)) all)))
+best_is_position all =
+    let is_highest = λ (rank : Rank). eq_by_cmp rank_cmp rank (highest all) in
+    position_from-zero (is_best all) all
+    ∙ cond_both ((highest all).0 == 0) _ _ (λ found. position_from (is_best all) 0 all ≡ found)
+    (λ is. same_position (is_best all) (λ rank. false) 0 all (none_weighs all (eqb-true (highest all).0 0 is)) ∙ never 0 all)
+    (λ is. same_position (is_best all) is_highest 0 all (λ rank there. one_best all _ is rank there refl)
+    ∙ sym (position_from-zero is_highest all))

@@ -1,42 +1,57 @@
 -- A line's first piece: bytes without a mark go on with it, and a comma outside strings ends it.
-use Rattle.std.proofs.Common.{◌≡◌, ◌∙◌, ◌==◌, ◌||◌, refl, sym, ap, ap₂, subst, arith, ℕ, zero, suc, Bool, true, false, not, cond, eqb, List, [], ◌∷◌, ◌<◌, ◌≤◌, ◌+◌, ◌-◌, ◌%◌, ◌/◌, ◌^◌, length, take, drop, get_or, map, bit_or, ⊎_elim}
-use Rattle.std.proofs.lemmas.Bool.{cases_lt}
-use Rattle.std.proofs.lemmas.Bool.Decides.{nat_tests}
-use Rattle.std.proofs.lemmas.List.{length-map, length-drop, take_all, get_or-drop, drop-drop}
-use Rattle.std.specs.List.{drop-map}
+use Rattle.mime_http.proofs.Common.{AreUnmarked, At, Bool, List, Outside, [], after, after_outside, ap, ap₂, arith, bit_or, cases_lt, chunk, cond, count_trailing_zeros, cut, cut_after, cut_from, drop, drop-drop, drop-map, drop_of_length-le, ends, eqb, false, get_or, get_or-drop, is_mark, leading_from_mask_l, length, length-chunk, length-drop, length-map, map, map-map, mask_l, mask_l-mod, nat_tests, not, prefix_len, refl, run_in_chunk_fails, run_in_chunk_le, run_in_chunk_stops, subst, suc, sym, take, take_all, top, trailing_mask_l, true, zero, ℕ, ⊎_elim, ◌%◌, ◌+◌, ◌-◌, ◌/◌, ◌<◌, ◌==◌, ◌^◌, ◌||◌, ◌∙◌, ◌∷◌, ◌≡◌, ◌≤◌, cond_both, ne_eqb, or_parts}
 use Rattle.mime.proofs.BlocksLemmas.{mask-drop}
-use Rattle.std.proofs.lemmas.Simd.{map-map, mask_l-mod, length-chunk, leading_from_mask_l, trailing_mask_l, run_in_chunk_le, run_in_chunk_fails, run_in_chunk_stops}
-use Rattle.std.proofs.Math.ListN.{drop_of_length-le}
-use Rattle.std.specs.List.{prefix_len}
-use lib.Count.{count_trailing_zeros}
-use lib.Lanes.{chunk, mask_l, top}
-use Rattle.mime_http.specs.Walk.{At, Outside, Equals, Quoted, Paired, after_outside, after, ends, cut_from, cut, cut_after, is_mark, AreUnmarked}
-use Rattle.mime_http.proofs.Passes.{IsOutside, goes_on, comma_ends}
+use Rattle.mime_http.specs.Walk.{Equals, Quoted, Paired}
+use Rattle.mime_http.proofs.Passes.{IsOutside, goes_on}
 use Rattle.mime_http.proofs.Highest.{item_left}
 use Rattle.mime_http.proofs.Trims.{next_taken}
+
+-- the cut of a line, of which the bytes before a position lead to this place
+abbrev pub cut_at : At → List ℕ → ℕ → List (List ℕ)
+cut_at place line at = cut_from place (take at line) (drop at line)
 
 -- ---- a byte further
 
 -- a byte that doesn't end a piece belongs to it,
-pub cut_goes_on : (place : At) (line : List ℕ) (at : ℕ) → at < length line → ends place (get_or line at 0) ≡ false
-    → cut_from place (take at line) (drop at line) ≡ cut_from (after place (get_or line at 0)) (take (at + 1) line) (drop (at + 1) line)
+cut_goes_on : (place : At) (line : List ℕ) (at : ℕ) → at < length line → ends place (get_or line at 0) ≡ false
+    → cut_at place line at ≡ cut_at (after place (get_or line at 0)) line (at + 1)
 cut_goes_on place line at within on =
     ap (cut_from place (take at line)) (item_left line at 0 within)
     ∙ (rw on (ap (λ piece. cut_from (after place (get_or line at 0)) piece (drop (at + 1) line)) (next_taken line at within)))
 
 -- and a comma ends it,
-pub cut_ends : (place : At) (line : List ℕ) (at : ℕ) → at < length line → ends place (get_or line at 0) ≡ true
-    → cut_from place (take at line) (drop at line) ≡ take at line ∷ cut_after (drop at line)
+cut_ends : (place : At) (line : List ℕ) (at : ℕ) → at < length line → ends place (get_or line at 0) ≡ true
+    → cut_at place line at ≡ take at line ∷ cut_after (drop at line)
 cut_ends place line at within end =
     let left = item_left line at 0 within in
     ap (cut_from place (take at line)) left ∙ (rw end (ap (λ x. take at line ∷ cut_after x) (sym left)))
 
 -- as the line's end does
-pub cut_at_end : (place : At) (line : List ℕ) (at : ℕ) → length line ≤ at
-    → cut_from place (take at line) (drop at line) ≡ take at line ∷ cut_after (drop at line)
+cut_at_end : (place : At) (line : List ℕ) (at : ℕ) → length line ≤ at → cut_at place line at ≡ take at line ∷ cut_after (drop at line)
 cut_at_end place line at past =
     let empty : drop at line ≡ [] = drop_of_length-le line past in
     ap (cut_from place (take at line)) empty ∙ ap (λ x. take at line ∷ cut_after x) (sym empty)
+
+-- where no quote follows, the places outside strings are alike
+alike : (place : At) → IsOutside place → (line : List ℕ) (at : ℕ) → (at < length line → (get_or line at 0 == 34) ≡ false)
+    → cut_at place line at ≡ cut_at Outside line at
+alike Outside is line at other = refl
+alike Equals is line at other = ⊎_elim
+    (λ (within : at < length line).
+    let left = item_left line at 0 within in
+    ap (cut_from Equals (take at line)) left ∙ (rw (other within) refl ∙ sym (ap (cut_from Outside (take at line)) left)))
+    (λ past. cut_at_end Equals line at past ∙ sym (cut_at_end Outside line at past))
+    (cases_lt at (length line))
+alike place is line at other = absurd is
+
+-- a comma outside strings ends the piece, and so does the line's end
+pub ends_outside : (line : List ℕ) (at : ℕ) → (at < length line → get_or line at 0 ≡ 44) → cut_at Outside line at ≡ cut line
+    → cut line ≡ take at line ∷ cut_after (drop at line)
+ends_outside line at comma left =
+    sym left ∙ ⊎_elim
+    (λ (more : at < length line). cut_ends Outside line at more (ap (ends Outside) (comma more)))
+    (λ past. cut_at_end Outside line at past)
+    (cases_lt at (length line))
 
 -- ---- bytes without a mark
 
@@ -48,193 +63,122 @@ after_unmarked place is b quote = absurd is
 
 -- so a byte leads to a place outside strings
 outside_after : (b : ℕ) → IsOutside (after_outside b)
-outside_after b = go (b == 61) refl
-  where
-    go : (e : Bool) → (b == 61) ≡ e → IsOutside (after_outside b)
-    go true is = rw is tt
-    go false is = rw is tt
+outside_after b = cond_both (b == 61) _ _ IsOutside (λ is. tt) (λ other. tt)
 
--- they lead to a place outside strings, which the last of them tells
-pub record Led (line : List ℕ) (n : ℕ) : Type 0 where
-  pub place : At
-  pub is_outside : IsOutside place
-  pub so_far : cut_from place (take n line) (drop n line) ≡ cut line
-  pub first : n ≡ 0 → place ≡ Outside
-  pub later : 0 < n → place ≡ after_outside (get_or line (n - 1) 0)
+-- they lead to a place outside strings
+record Led (line : List ℕ) (n : ℕ) : Type 0 where
+  place : At
+  is_outside : IsOutside place
+  so_far : cut_at place line n ≡ cut line
 
--- a byte more that is no comma and no quote
-led_further : (line : List ℕ) (n : ℕ) → suc n ≤ length line → AreUnmarked 44 34 line 0 (suc n) → Led line n → Led line (suc n)
-led_further line n within unmarked before =
+-- bytes that are no comma and no quote do
+unmarked_lead : (line : List ℕ) (n : ℕ) → n ≤ length line → AreUnmarked 44 34 line 0 n → Led line n
+unmarked_lead line zero within unmarked = record { place = Outside; is_outside = tt; so_far = refl }
+unmarked_lead line (suc n) within unmarked =
+    let before = unmarked_lead line n (omega (arith, within)) (λ k from to. unmarked k from (omega (arith, to))) in
     let b = get_or line n 0 in
     let plain : is_mark 44 34 b ≡ false = unmarked n (omega arith) (omega arith) in
-    let comma : (b == 44) ≡ false = grind (arith, nat_tests, plain) in
-    let quote : (b == 34) ≡ false = grind (arith, nat_tests, plain) in
+    let comma : (b == 44) ≡ false = (or_parts (b == 44) (b == 34) plain).0 in
     let one : n + 1 ≡ suc n = omega arith in
-    let last : n ≡ suc n - 1 = omega arith in
     record {
       place = after_outside b;
       is_outside = outside_after b;
-      so_far =
-          sym (ap (λ m. cut_from (after_outside b) (take m line) (drop m line)) one)
-          ∙ (sym (ap (λ place. cut_from place (take (n + 1) line) (drop (n + 1) line))
-          (after_unmarked before.place before.is_outside b quote))
+      so_far = sym (ap (cut_at (after_outside b) line) one)
+          ∙ (sym (ap (λ place. cut_at place line (n + 1)) (after_unmarked before.place before.is_outside b (or_parts (b == 44) (b == 34) plain).1))
           ∙ (sym (cut_goes_on before.place line n (omega (arith, within)) (goes_on before.place b comma)) ∙ before.so_far));
-      first = λ none. absurd (omega (arith, none));
-      later = λ some. ap (λ i. after_outside (get_or line i 0)) last;
     }
 
--- so bytes without them lead to a place outside strings
-pub unmarked_lead : (line : List ℕ) (n : ℕ) → n ≤ length line → AreUnmarked 44 34 line 0 n → Led line n
-unmarked_lead line zero within unmarked =
-    record { place = Outside; is_outside = tt; so_far = refl; first = λ none. refl; later = λ some. absurd (omega (arith, some)) }
-unmarked_lead line (suc n) within unmarked =
-    led_further line n within unmarked (unmarked_lead line n (omega (arith, within)) (λ k from to. unmarked k from (omega (arith, to))))
+-- so if no quote is next, the cut goes on outside strings,
+pub outside_at : (line : List ℕ) (n : ℕ) → n ≤ length line → AreUnmarked 44 34 line 0 n
+    → (n < length line → (get_or line n 0 == 34) ≡ false) → cut_at Outside line n ≡ cut line
+outside_at line n within unmarked other =
+    let led = unmarked_lead line n within unmarked in sym (alike led.place led.is_outside line n other) ∙ led.so_far
 
--- and a comma or the end after them ends the first piece
-pub piece_ends : (line : List ℕ) (at : ℕ) → at ≤ length line → AreUnmarked 44 34 line 0 at → (at < length line → get_or line at 0 ≡ 44)
-    → cut line ≡ take at line ∷ cut_after (drop at line)
-piece_ends line at within unmarked comma =
-    let led = unmarked_lead line at within unmarked in
-    sym led.so_far ∙ ⊎_elim
-    (λ (more : at < length line).
-    cut_ends led.place line at more (ap (ends led.place) (comma more) ∙ comma_ends led.place led.is_outside))
-    (λ past. cut_at_end led.place line at past)
-    (cases_lt at (length line))
+-- as at a byte that is no mark
+pub outside_before : (line : List ℕ) (n : ℕ) → n < length line → AreUnmarked 44 34 line 0 (n + 1) → cut_at Outside line n ≡ cut line
+outside_before line n within unmarked =
+    outside_at line n (omega (arith, within)) (λ k from to. unmarked k from (omega (arith, to)))
+    (λ more. (or_parts (get_or line n 0 == 44) (get_or line n 0 == 34) (unmarked n (omega arith) (omega arith))).1)
 
 -- ---- from mark to mark
 
--- bytes at which a place stays, and that end no piece
+-- bytes at which a place stays, and that end no piece, change nothing of the cut
 stays : (place : At) (one other : ℕ) (on : (b : ℕ) → is_mark one other b ≡ false → ends place b ≡ false)
     (still : (b : ℕ) → is_mark one other b ≡ false → after place b ≡ place) (line : List ℕ) (from n : ℕ) → from + n ≤ length line
-    → AreUnmarked one other line from (from + n)
-    → cut_from place (take (from + n) line) (drop (from + n) line) ≡ cut_from place (take from line) (drop from line)
-stays place one other on still line from zero within unmarked =
-    let none : from + 0 ≡ from = omega arith in ap (λ m. cut_from place (take m line) (drop m line)) none
+    → AreUnmarked one other line from (from + n) → cut_at place line (from + n) ≡ cut_at place line from
+stays place one other on still line from zero within unmarked = ap (cut_at place line) (omega arith)
 stays place one other on still line from (suc n) within unmarked =
     let at = from + n in
     let b = get_or line at 0 in
     let plain : is_mark one other b ≡ false = unmarked at (omega arith) (omega arith) in
     let next : at + 1 ≡ from + suc n = omega arith in
-    sym (ap (λ m. cut_from place (take m line) (drop m line)) next)
-    ∙ (sym (ap (λ p. cut_from p (take (at + 1) line) (drop (at + 1) line)) (still b plain))
+    sym (ap (cut_at place line) next)
+    ∙ (sym (ap (λ p. cut_at p line (at + 1)) (still b plain))
     ∙ (sym (cut_goes_on place line at (omega (arith, within)) (on b plain))
     ∙ stays place one other on still line from n (omega (arith, within)) (λ k least most. unmarked k least (omega (arith, most)))))
 
--- bytes that stay in a place change nothing of the cut
+-- the same, by where they end
 stays_to : (place : At) (one other : ℕ) (on : (b : ℕ) → is_mark one other b ≡ false → ends place b ≡ false)
     (still : (b : ℕ) → is_mark one other b ≡ false → after place b ≡ place) (line : List ℕ) (from to : ℕ) → from ≤ to → to ≤ length line
-    → AreUnmarked one other line from to → cut_from place (take to line) (drop to line) ≡ cut_from place (take from line) (drop from line)
+    → AreUnmarked one other line from to → cut_at place line to ≡ cut_at place line from
 stays_to place one other on still line from to least within unmarked =
     let n = to - from in
     let is : from + n ≡ to = omega (arith, least) in
-    sym (ap (λ m. cut_from place (take m line) (drop m line)) is)
+    sym (ap (cut_at place line) is)
     ∙ stays place one other on still line from n (omega (arith, within, least))
     (λ k from_k to_k. unmarked k from_k (omega (arith, to_k, least)))
 
--- outside strings any byte but a comma and an equals sign
-outside_on : (b : ℕ) → is_mark 44 61 b ≡ false → ends Outside b ≡ false
-outside_on b plain = grind (arith, nat_tests, plain)
-
--- a byte that is no comma and no equals sign stays outside,
-outside_still : (b : ℕ) → is_mark 44 61 b ≡ false → after Outside b ≡ Outside
-outside_still b plain =
-    let equals : (b == 61) ≡ false = grind (arith, nat_tests, plain) in
-    rw equals refl
-
--- and so does a run of them
+-- outside strings any byte but a comma and an equals sign is such,
 pub outside_run : (line : List ℕ) (from to : ℕ) → from ≤ to → to ≤ length line → AreUnmarked 44 61 line from to
-    → cut_from Outside (take to line) (drop to line) ≡ cut_from Outside (take from line) (drop from line)
-outside_run = stays_to Outside 44 61 outside_on outside_still
+    → cut_at Outside line to ≡ cut_at Outside line from
+outside_run =
+    stays_to Outside 44 61 (λ b plain. (or_parts (b == 44) (b == 61) plain).0) (λ b plain. rw (or_parts (b == 44) (b == 61) plain).1 refl)
 
--- in strings any byte but a quote and a backslash
+-- and in strings any byte but a quote and a backslash leads back,
 string_still : (b : ℕ) → is_mark 34 92 b ≡ false → after Quoted b ≡ Quoted
-string_still b plain =
-    let quote : (b == 34) ≡ false = grind (arith, nat_tests, plain) in
-    let backslash : (b == 92) ≡ false = grind (arith, nat_tests, plain) in
-    rw (backslash, quote) refl
+string_still b plain = let parts = or_parts (b == 34) (b == 92) plain in rw (parts.1, parts.0) refl
 
--- a run without quotes and backslashes stays in a string,
+-- as bytes without them do
 pub string_run : (line : List ℕ) (from to : ℕ) → from ≤ to → to ≤ length line → AreUnmarked 34 92 line from to
-    → cut_from Quoted (take to line) (drop to line) ≡ cut_from Quoted (take from line) (drop from line)
+    → cut_at Quoted line to ≡ cut_at Quoted line from
 string_run = stays_to Quoted 34 92 (λ b plain. refl) string_still
 
 -- a byte in a string, by the place after it
-pub string_byte : (line : List ℕ) (at : ℕ) (place : At) → at < length line → after Quoted (get_or line at 0) ≡ place
-    → cut_from place (take (at + 1) line) (drop (at + 1) line) ≡ cut_from Quoted (take at line) (drop at line)
-string_byte line at place within there =
-    sym (ap (λ p. cut_from p (take (at + 1) line) (drop (at + 1) line)) there) ∙ sym (cut_goes_on Quoted line at within refl)
+string_byte : (line : List ℕ) (at : ℕ) (place : At) → at < length line → after Quoted (get_or line at 0) ≡ place
+    → cut_at place line (at + 1) ≡ cut_at Quoted line at
+string_byte line at place within there = sym (ap (λ p. cut_at p line (at + 1)) there) ∙ sym (cut_goes_on Quoted line at within refl)
 
 -- and so does one such byte
 pub string_plain : (line : List ℕ) (at : ℕ) → at < length line → ¬ (get_or line at 0 ≡ 34) → ¬ (get_or line at 0 ≡ 92)
-    → cut_from Quoted (take (at + 1) line) (drop (at + 1) line) ≡ cut_from Quoted (take at line) (drop at line)
+    → cut_at Quoted line (at + 1) ≡ cut_at Quoted line at
 string_plain line at within no_quote no_backslash =
     string_byte line at Quoted within (string_still (get_or line at 0) (grind (arith, nat_tests, no_quote, no_backslash)))
 
 -- a backslash with the byte that it pairs
 pub string_pair : (line : List ℕ) (at : ℕ) → at + 1 < length line → get_or line at 0 ≡ 92
-    → cut_from Quoted (take (at + 2) line) (drop (at + 2) line) ≡ cut_from Quoted (take at line) (drop at line)
+    → cut_at Quoted line (at + 2) ≡ cut_at Quoted line at
 string_pair line at within backslash =
     let next : at + 1 + 1 ≡ at + 2 = omega arith in
-    sym (ap (λ m. cut_from Quoted (take m line) (drop m line)) next)
-    ∙ (sym (cut_goes_on Paired line (at + 1) within refl) ∙ string_byte line at Paired (omega (arith, within))
-    (ap (after Quoted) backslash))
-
--- at the end all places are alike
-pub alike_at_end : (place other : At) (line : List ℕ) (at : ℕ) → length line ≤ at
-    → cut_from place (take at line) (drop at line) ≡ cut_from other (take at line) (drop at line)
-alike_at_end place other line at past = cut_at_end place line at past ∙ sym (cut_at_end other line at past)
-
--- right after an equals sign a byte that is no quote is as outside strings
-alike_at_other : (place : At) → IsOutside place → (line : List ℕ) (at : ℕ) → at < length line → (get_or line at 0 == 34) ≡ false
-    → cut_from place (take at line) (drop at line) ≡ cut_from Outside (take at line) (drop at line)
-alike_at_other Outside is line at within other = refl
-alike_at_other Equals is line at within other =
-    let left = item_left line at 0 within in
-    ap (cut_from Equals (take at line)) left ∙ (rw other refl ∙ sym (ap (cut_from Outside (take at line)) left))
-alike_at_other Quoted is line at within other = absurd is
-alike_at_other Paired is line at within other = absurd is
+    sym (ap (cut_at Quoted line) next)
+    ∙ (sym (cut_goes_on Paired line (at + 1) within refl) ∙ string_byte line at Paired (omega (arith, within)) (ap (after Quoted) backslash))
 
 -- after an equals sign the cut is as before it,
-pub equals_past : (line : List ℕ) (at : ℕ) → at < length line → get_or line at 0 ≡ 61
-    → cut_from Equals (take (at + 1) line) (drop (at + 1) line) ≡ cut_from Outside (take at line) (drop at line)
+equals_past : (line : List ℕ) (at : ℕ) → at < length line → get_or line at 0 ≡ 61 → cut_at Equals line (at + 1) ≡ cut_at Outside line at
 equals_past line at within equals =
-    sym (ap (λ b. cut_from (after Outside b) (take (at + 1) line) (drop (at + 1) line)) equals)
-    ∙ sym (cut_goes_on Outside line at within (ap (ends Outside) equals))
+    sym (ap (λ b. cut_at (after Outside b) line (at + 1)) equals) ∙ sym (cut_goes_on Outside line at within (ap (ends Outside) equals))
 
 -- if no quote follows,
 pub equals_alone : (line : List ℕ) (at : ℕ) → at < length line → get_or line at 0 ≡ 61
-    → (at + 1 < length line → ¬ (get_or line (at + 1) 0 ≡ 34))
-    → cut_from Outside (take (at + 1) line) (drop (at + 1) line) ≡ cut_from Outside (take at line) (drop at line)
+    → (at + 1 < length line → ¬ (get_or line (at + 1) 0 ≡ 34)) → cut_at Outside line (at + 1) ≡ cut_at Outside line at
 equals_alone line at within equals other =
-    ⊎_elim
-    (λ (more : at + 1 < length line). sym (alike_at_other Equals tt line (at + 1) more (grind (arith, nat_tests, other more))))
-    (λ past. alike_at_end Outside Equals line (at + 1) past)
-    (cases_lt (at + 1) (length line))
-    ∙ equals_past line at within equals
+    sym (alike Equals tt line (at + 1) (λ more. ne_eqb _ 34 (other more))) ∙ equals_past line at within equals
 
 -- and else a string opens
 pub string_opens : (line : List ℕ) (at : ℕ) → at + 1 < length line → get_or line at 0 ≡ 61 → get_or line (at + 1) 0 ≡ 34
-    → cut_from Quoted (take (at + 1 + 1) line) (drop (at + 1 + 1) line) ≡ cut_from Outside (take at line) (drop at line)
+    → cut_at Quoted line (at + 1 + 1) ≡ cut_at Outside line at
 string_opens line at within equals quote =
-    sym (ap (λ b. cut_from (after Equals b) (take (at + 1 + 1) line) (drop (at + 1 + 1) line)) quote)
+    sym (ap (λ b. cut_at (after Equals b) line (at + 1 + 1)) quote)
     ∙ (sym (cut_goes_on Equals line (at + 1) within (ap (ends Equals) quote)) ∙ equals_past line at (omega (arith, within)) equals)
-
--- at a byte that is no mark the place before it is as outside strings
-pub outside_before : (line : List ℕ) (n : ℕ) → n < length line → AreUnmarked 44 34 line 0 (n + 1)
-    → cut_from Outside (take n line) (drop n line) ≡ cut line
-outside_before line n within unmarked =
-    let led = unmarked_lead line n (omega (arith, within)) (λ k from to. unmarked k from (omega (arith, to))) in
-    let plain : is_mark 44 34 (get_or line n 0) ≡ false = unmarked n (omega arith) (omega arith) in
-    sym (alike_at_other led.place led.is_outside line n within (grind (arith, nat_tests, plain))) ∙ led.so_far
-
--- a comma outside strings ends the piece, and so does the line's end
-pub ends_outside : (line : List ℕ) (at : ℕ) → (at < length line → get_or line at 0 ≡ 44)
-    → cut_from Outside (take at line) (drop at line) ≡ cut line → cut line ≡ take at line ∷ cut_after (drop at line)
-ends_outside line at comma left =
-    sym left ∙ ⊎_elim
-    (λ (more : at < length line). cut_ends Outside line at more (ap (ends Outside) (comma more)))
-    (λ past. cut_at_end Outside line at past)
-    (cases_lt at (length line))
 
 -- ---- the marks in a block
 
@@ -246,13 +190,10 @@ module _ (one other : ℕ) where
   is_set b = top 7 (lane b)
 
   set_by_mark : (b : ℕ) → is_set b ≡ is_mark one other b
-  set_by_mark b = go (eqb b one) (eqb b other)
-    where
-      go : (x y : Bool) → top 7 (bit_or (cond x 255 0) (cond y 255 0)) ≡ (x || y)
-      go true true = refl
-      go true false = refl
-      go false true = refl
-      go false false = refl
+  set_by_mark b = elim (eqb b one) as (λ x. top 7 (bit_or (cond x 255 0) (cond (eqb b other) 255 0)) ≡ (x || eqb b other)) [
+    | true ↦ elim (eqb b other) as (λ y. top 7 (bit_or 255 (cond y 255 0)) ≡ true) [ true ↦ refl | false ↦ refl ]
+    | false ↦ elim (eqb b other) as (λ y. top 7 (bit_or 0 (cond y 255 0)) ≡ y) [ true ↦ refl | false ↦ refl ]
+  ]
 
   set_by_marks : (v : List ℕ) → map is_set v ≡ map (is_mark one other) v
   set_by_marks [] = refl
@@ -265,27 +206,31 @@ module _ (one other : ℕ) where
       ∙ (mask_l-mod (map is_set (chunk at 16 text)) 64 (omega (arith, length-map (chunk at 16 text) is_set, length-chunk at 16 text room))
       ∙ ap mask_l (set_by_marks (chunk at 16 text)))
 
+-- so many of these bytes come before the first mark, or all
+pub record BeforeMark (one other : ℕ) (text : List ℕ) (at n r : ℕ) : Type 0 where
+  pub within : r ≤ n
+  pub unmarked : AreUnmarked one other text at (at + r)
+  pub mark : r < n → is_mark one other (get_or text (at + r) 0) ≡ true
+
 module _ (one other : ℕ) (text : List ℕ) (at n : ℕ) (lanes : n ≤ 64) (room : at + n ≤ length text) (mask : ℕ)
     (is : mask ≡ mask_l (map (is_mark one other) (chunk at n text))) where
-  abbrev pub count : ℕ
-  count = prefix_len (λ b. not (is_mark one other b)) (chunk at n text)
+  counted : (r : ℕ) → r ≡ prefix_len (λ b. not (is_mark one other b)) (chunk at n text) → BeforeMark one other text at n r
+  counted r count = record {
+    within = run_in_chunk_le (is_mark one other) text at n r 0 room count;
+    unmarked = run_in_chunk_fails (is_mark one other) text at n r 0 room count;
+    mark = run_in_chunk_stops (is_mark one other) text at n r 0 room count;
+  }
 
-  pub none_set : mask ≡ 0 → n ≡ count
-  none_set none = sym (leading_from_mask_l (is_mark one other) (chunk at n text) (sym is ∙ none) ∙ length-chunk at n text room)
+  -- all, if no bit is set,
+  pub none_set : mask ≡ 0 → BeforeMark one other text at n n
+  none_set none =
+      counted n (sym (leading_from_mask_l (is_mark one other) (chunk at n text) (sym is ∙ none) ∙ length-chunk at n text room))
 
-  pub some_set : ¬ (mask ≡ 0) → count_trailing_zeros 64 mask ≡ count
+  -- and else as many as the zeros before the lowest bit
+  pub some_set : ¬ (mask ≡ 0) → BeforeMark one other text at n (count_trailing_zeros 64 mask)
   some_set some =
-      ap (count_trailing_zeros 64) is
-      ∙ trailing_mask_l (is_mark one other) 64 (chunk at n text) (omega (arith, lanes, length-chunk at n text room)) (omega (arith, is, some))
-
-  pub few : (r : ℕ) → r ≡ count → r ≤ n
-  few r counted = run_in_chunk_le (is_mark one other) text at n r 0 room counted
-
-  pub unmarked : (r : ℕ) → r ≡ count → AreUnmarked one other text at (at + r)
-  unmarked r counted = run_in_chunk_fails (is_mark one other) text at n r 0 room counted
-
-  pub marked : (r : ℕ) → r ≡ count → r < n → is_mark one other (get_or text (at + r) 0) ≡ true
-  marked r counted = run_in_chunk_stops (is_mark one other) text at n r 0 room counted
+      counted _ (ap (count_trailing_zeros 64) is
+      ∙ trailing_mask_l (is_mark one other) 64 (chunk at n text) (omega (arith, lanes, length-chunk at n text room)) (omega (arith, is, some)))
 
 -- The bits of the last block from a position on are those of the bytes from there on.
 pub bits_from : (one other : ℕ) (text : List ℕ) (from : ℕ) → 16 ≤ length text → length text < from + 16 → from ≤ length text
@@ -319,8 +264,10 @@ piece_from line from to least within plain comma =
     let n = to - from in
     let there : from + n ≡ to = omega (arith, least) in
     let size = length-drop from line in
-    piece_ends rest n (omega (arith, size, within, least)) (unmarked_from line from to least plain)
-    (λ more. get_or-drop from line n 0 ∙ (ap (λ i. get_or line i 0) there ∙ comma (omega (arith, more, size, least))))
+    let ended : n < length rest → get_or rest n 0 ≡ 44 =
+    λ more. get_or-drop from line n 0 ∙ (ap (λ i. get_or line i 0) there ∙ comma (omega (arith, more, size, least))) in
+    ends_outside rest n ended (outside_at rest n (omega (arith, size, within, least)) (unmarked_from line from to least plain)
+    (λ more. ap (λ b. b == 34) (ended more)))
     ∙ ap (λ left. take n rest ∷ cut_after left) (drop-drop n from line ∙ ap (λ i. drop i line) there)
 
 -- and any first piece ends as many bytes after that position

@@ -1,8 +1,5 @@
 -- What is read from a place on: an accepted text is written as it is.
-use Rattle.mime_http.proofs.Common.{◌≡◌, ◌∙◌, ◌==◌, refl, sym, ap, subst, arith, ℕ, true, false, List, [], ◌∷◌, ◌++◌, and_parts, nat_tests, is_token_byte, is_quoted_byte, is_quoted_text_byte, Parameter, plain, quoted, Parameters, final, more, Tail, no_list, listed, SyntaxTree, is_space, AreSpaces, text_of_parameter, text_of_list, text_of_tail, text_of, AreTokenBytes, IsToken, IsContent, no_byte, text_byte, quoted_pair, IsParameter, AreParameters, IsTail, IsWellFormed, MediaType, Reads, IsAccepted, Place, Start, Plain, Spaced, Closed, Semicolon, place_after, added, tight_from, tight}
-use Rattle.std.proofs.lemmas.List.{append-nil, append_assoc}
-use Rattle.mime.specs.Grammar.{blank}
-use Rattle.mime_http.specs.declared.tight.Place.TheVariants.{Equals, Quoted, Paired}
+use Rattle.mime_http.proofs.Common.{AreParameters, AreSpaces, Closed, Equals, IsAccepted, IsContent, IsParameter, IsTail, IsToken, IsWellFormed, List, MediaType, Paired, Parameter, Parameters, Place, Plain, Quoted, Reads, Semicolon, Spaced, Start, SyntaxTree, Tail, [], added, and_parts, ap, append-nil, append_assoc, arith, blank, false, final, is_quoted_byte, is_quoted_text_byte, is_space, is_token_byte, listed, more, nat_tests, no_byte, no_list, place_after, plain, quoted, quoted_pair, refl, subst, sym, text_byte, text_of, text_of_list, text_of_parameter, text_of_tail, tight, tight_from, true, ℕ, ◌++◌, ◌==◌, ◌∙◌, ◌∷◌, ◌≡◌, Bool, list_all}
 
 -- the place after bytes
 abbrev pub place_from : Place → List ℕ → Place
@@ -80,19 +77,20 @@ plain_byte goes_on b is = so (one Plain b) (rw is.space refl) (rw (is.space, is.
 plain_byte of_value b is = so (one Equals b) (rw is.space refl) (rw (is.space, is.semicolon, is.equals, is.quote) refl)
 plain_byte of_name b is = so (one Semicolon b) (rw is.semicolon refl) (rw (is.space, is.semicolon, is.equals, is.quote) refl)
 
--- within a token each byte comes out, and a token goes on
-walk_token : (bytes : List ℕ) → AreTokenBytes bytes → Leads Plain bytes bytes Plain
-walk_token [] all = no_bytes Plain
-walk_token (b ∷ bytes) all =
-    let parts = and_parts (is_token_byte b) _ all in
-    both (plain_byte goes_on b (token_is_plain b parts.0)) (walk_token bytes parts.1)
+-- bytes of a class of which each comes out as it is and leads back come out as they are
+pub walk_class : (class : ℕ → Bool) (place : Place) → ((b : ℕ) → class b ≡ true → Leads place (b ∷ []) (b ∷ []) place) → (bytes : List ℕ)
+    → list_all class bytes ≡ true → Leads place bytes bytes place
+walk_class class place leads [] all = no_bytes place
+walk_class class place leads (b ∷ bytes) all =
+    let parts = and_parts (class b) _ all in both (leads b parts.0) (walk_class class place leads bytes parts.1)
 
 -- so it does from wherever a token may be
 pub token : {place : Place} → TakesToken place → (bytes : List ℕ) → IsToken bytes → Leads place bytes bytes Plain
 token takes [] is = absurd is
 token takes (b ∷ bytes) is =
     let parts = and_parts (is_token_byte b) _ is in
-    both (plain_byte takes b (token_is_plain b parts.0)) (walk_token bytes parts.1)
+    both (plain_byte takes b (token_is_plain b parts.0))
+    (walk_class is_token_byte Plain (λ b yes. plain_byte goes_on b (token_is_plain b yes)) bytes parts.1)
 
 -- places after which white space stays
 pub data KeepsSpace : Place → Type 0 where
@@ -110,10 +108,7 @@ space before_name b is = so (one Semicolon b) (rw (space_is_no_semicolon b is) r
 
 -- white space that stays comes out as it is
 pub walk_spaces : {place : Place} → KeepsSpace place → (bytes : List ℕ) → AreSpaces bytes → Leads place bytes bytes place
-walk_spaces {place} kept [] all = no_bytes place
-walk_spaces kept (b ∷ bytes) all =
-    let parts = and_parts (is_space b) _ all in
-    both (space kept b parts.0) (walk_spaces kept bytes parts.1)
+walk_spaces {place} kept = walk_class is_space place (space kept)
 
 -- ---- white space that is left out
 
@@ -141,19 +136,34 @@ pub data LeavesWhite : Place → Type 0 where
   after_token : LeavesWhite Plain
   after_equals : LeavesWhite Equals
 
--- It is left out before a semicolon,
+-- There it adds nothing,
+pub left_white : {place : Place} → LeavesWhite place → (b : ℕ) → is_space b ≡ true → Leads place (b ∷ []) [] Spaced
+left_white after_token b white = so (one Plain b) (rw white refl) (rw white refl)
+left_white after_equals b white = so (one Equals b) (rw white refl) (rw white refl)
+
+-- another byte itself,
+pub other_written : {place : Place} → LeavesWhite place → (b : ℕ) → is_space b ≡ false → added place b ≡ b ∷ []
+other_written after_token b other = rw other refl
+other_written after_equals b other = rw other refl
+
+-- a semicolon, too,
+pub semicolon_written : {place : Place} → LeavesWhite place → Leads place (59 ∷ []) (59 ∷ []) Semicolon
+semicolon_written after_token = one Plain 59
+semicolon_written after_equals = one Equals 59
+
+-- also with white space before it,
 pub token_semicolon : {place : Place} → LeavesWhite place → (n w : List ℕ) → AreSpaces n
     → tight_from place (n ++ (59 ∷ w)) ≡ 59 ∷ tight_from Semicolon w
-token_semicolon after_token [] w all = refl
-token_semicolon after_equals [] w all = refl
-token_semicolon after_token (b ∷ n) w all = let parts = and_parts (is_space b) _ all in rw parts.0 (white_skipped spaced n (59 ∷ w) parts.1)
-token_semicolon after_equals (b ∷ n) w all = let parts = and_parts (is_space b) _ all in rw parts.0 (white_skipped spaced n (59 ∷ w) parts.1)
+token_semicolon leaves [] w all = (semicolon_written leaves).tightly w
+token_semicolon leaves (b ∷ n) w all =
+    let parts = and_parts (is_space b) _ all in
+    (left_white leaves b parts.0).tightly (n ++ (59 ∷ w)) ∙ white_skipped spaced n (59 ∷ w) parts.1
 
--- and at the end
+-- and nothing is left of white space at the end
 pub token_end : {place : Place} → LeavesWhite place → (n : List ℕ) → AreSpaces n → tight_from place n ≡ []
 token_end leaves [] all = refl
-token_end after_token (b ∷ n) all = let parts = and_parts (is_space b) _ all in rw parts.0 (nothing_out spaced n parts.1)
-token_end after_equals (b ∷ n) all = let parts = and_parts (is_space b) _ all in rw parts.0 (nothing_out spaced n parts.1)
+token_end leaves (b ∷ n) all =
+    let parts = and_parts (is_space b) _ all in (left_white leaves b parts.0).tightly n ∙ nothing_out spaced n parts.1
 
 -- ---- accepted texts
 
@@ -241,3 +251,7 @@ walk_text reads = subst (λ text. Walk EndsText Start text) reads.spelled (tree 
 -- so tightening leaves an accepted text as it is
 pub accepted_stays : (text : List ℕ) → IsAccepted text → tight text ≡ text
 accepted_stays text is = comes_out_whole (walk_text is.1).leads
+
+-- and what is read of a text is read of it tightened
+pub tight_too : (text : List ℕ) {media : MediaType} → Reads text media → Reads (tight text) media
+tight_too text {media} reads = subst (λ text. Reads text media) (sym (accepted_stays text (media, reads))) reads

@@ -1,9 +1,6 @@
 -- What was written from a place on is written again.
-use Rattle.mime_http.proofs.Common.{◌≡◌, ◌∙◌, ◌==◌, refl, ap, sym, subst, arith, ℕ, Bool, true, false, List, [], ◌∷◌, ◌++◌, ⊤, if◌then◌else◌, nat_tests, is_space, Place, Start, Plain, Spaced, Closed, Semicolon, after_quote, after_within, place_after, is_left_out, brought_back, added, tight_from, tight}
-use Rattle.std.proofs.lemmas.List.{append-nil, append_assoc}
-use Rattle.mime_http.specs.declared.tight.Place.TheVariants.{Equals, Quoted, Paired}
-use Rattle.mime_http.specs.Places.{after_unquoted}
-use Rattle.mime_http.proofs.Places.{place_from, Leads, both, one, so, no_bytes, KeepsSpace, after_value, before_name}
+use Rattle.mime_http.proofs.Common.{Closed, Equals, List, Paired, Place, Plain, Quoted, Semicolon, Spaced, Start, [], added, after_quote, after_unquoted, after_within, ap, append-nil, append_assoc, arith, brought_back, false, is_left_out, is_space, nat_tests, place_after, refl, subst, sym, tight, tight_from, true, ℕ, ⊤, ◌++◌, ◌==◌, ◌∙◌, ◌∷◌, ◌≡◌, cases_Bool, cond_both, eqb-true, ⊎_elim}
+use Rattle.mime_http.proofs.Places.{place_from, Leads, both, one, so, no_bytes, KeepsSpace, after_value, before_name, LeavesWhite, after_token, after_equals, left_white, semicolon_written}
 
 -- a place after which no white space was left out
 abbrev pub IsSettled : Place → Type 0
@@ -13,8 +10,7 @@ IsSettled place = ⊤
 -- the place at which what was written so far ends: the same, or that before the white space that was left out
 pub data IsLike : Place → Place → Type 0 where
   itself : (place : Place) → IsSettled place → IsLike place place
-  left_after_plain : IsLike Spaced Plain
-  left_after_equals : IsLike Spaced Equals
+  left_after : {place : Place} → LeavesWhite place → IsLike Spaced place
 
 -- a quote leads to a settled place,
 after_quote_settled : (place : Place) → IsSettled (after_quote place)
@@ -23,22 +19,14 @@ after_quote_settled place = tt
 
 -- a byte other than white space leads to a settled place
 pub outside_settled : (place : Place) (b : ℕ) → is_space b ≡ false → IsSettled (after_unquoted place b)
-outside_settled place b is = rw is (go (b == 59) (b == 61) (b == 34))
-  where
-    go : (s e q : Bool) → IsSettled (if s then Semicolon else if e then Equals else if q then after_quote place else Plain)
-    go true e q = tt
-    go false true q = tt
-    go false false true = after_quote_settled place
-    go false false false = tt
+outside_settled place b is =
+    rw is (cond_both (b == 59) _ _ IsSettled (λ yes. tt) (λ no. cond_both (b == 61) _ _ IsSettled (λ yes. tt)
+    (λ no. cond_both (b == 34) _ _ IsSettled (λ yes. after_quote_settled place) (λ no. tt))))
 
 -- and so does each byte within quotes,
 pub within_settled : (b : ℕ) → IsSettled (after_within b)
-within_settled b = go (b == 92) (b == 34)
-  where
-    go : (s q : Bool) → IsSettled (if s then Paired else if q then Closed else Quoted)
-    go true q = tt
-    go false true = tt
-    go false false = tt
+within_settled b =
+    cond_both (b == 92) _ _ IsSettled (λ yes. tt) (λ no. cond_both (b == 34) _ _ IsSettled (λ yes. tt) (λ no. tt))
 
 -- A byte that isn't left out comes out, after what comes back before it,
 pub kept_adds : (place : Place) (b : ℕ) → is_left_out place b ≡ false → added place b ≡ brought_back place b ++ (b ∷ [])
@@ -85,91 +73,54 @@ left_out_again place like b e is =
 
 -- after a quoted value, and after a semicolon
 pub kept_settled : {place : Place} → KeepsSpace place → (b : ℕ) → IsSettled (place_after place b)
-kept_settled after_value b = go (is_space b) refl
-  where
-    go : (t : Bool) → is_space b ≡ t → IsSettled (place_after Closed b)
-    go true white = rw white tt
-    go false other = outside_settled Closed b other
-kept_settled before_name b = go (is_space b) refl
-  where
-    go : (t : Bool) → is_space b ≡ t → IsSettled (place_after Semicolon b)
-    go true white = rw white tt
-    go false other = outside_settled Semicolon b other
+kept_settled after_value b = ⊎_elim (λ white. rw white tt) (λ other. outside_settled Closed b other) (cases_Bool (is_space b))
+kept_settled before_name b = ⊎_elim (λ white. rw white tt) (λ other. outside_settled Semicolon b other) (cases_Bool (is_space b))
 
 -- a semicolon is no white space
 pub no_space : (b : ℕ) → (b == 59) ≡ true → is_space b ≡ false
 no_space b is = grind (arith, nat_tests)
 
+-- and each byte is, by whether it is left out
+either_again : (place : Place) → IsSettled place → (b : ℕ) → (is_left_out place b ≡ true → IsLike (place_after place b) place)
+    → (is_left_out place b ≡ false → IsSettled (place_after place b)) → Again place b place
+either_again place is b out kept = ⊎_elim
+    (λ left. left_out_again place place b (rw left refl) (out left))
+    (λ stays. written_again place b (kept_adds place b stays ∙ ap (λ x. x ++ (b ∷ [])) (nothing_back place is b)) (kept stays))
+    (cases_Bool (is_left_out place b))
+
 -- from a settled place each byte is written again
 settled_again : (place : Place) → IsSettled place → (b : ℕ) → Again place b place
 settled_again Spaced is b = absurd is
-settled_again Start is b = go (is_space b) refl
-  where
-    go : (t : Bool) → is_space b ≡ t → Again Start b Start
-    go true white = left_out_again Start Start b (rw white refl) (rw white (itself Start tt))
-    go false other = written_again Start b (rw other refl) (outside_settled Start b other)
-settled_again Plain is b = go (is_space b) refl
-  where
-    go : (t : Bool) → is_space b ≡ t → Again Plain b Plain
-    go true white = left_out_again Plain Plain b (rw white refl) (rw white left_after_plain)
-    go false other = written_again Plain b (rw other refl) (outside_settled Plain b other)
-settled_again Equals is b = go (is_space b) refl
-  where
-    go : (t : Bool) → is_space b ≡ t → Again Equals b Equals
-    go true white = left_out_again Equals Equals b (rw white refl) (rw white left_after_equals)
-    go false other = written_again Equals b (rw other refl) (outside_settled Equals b other)
-settled_again Semicolon is b = go (b == 59) refl
-  where
-    go : (t : Bool) → (b == 59) ≡ t → Again Semicolon b Semicolon
-    go true second = left_out_again Semicolon Semicolon b (rw second refl) (rw (no_space b second, second) (itself Semicolon tt))
-    go false other = written_again Semicolon b (rw other refl) (kept_settled before_name b)
+settled_again Start is b = either_again Start is b (λ white. rw white (itself Start tt)) (outside_settled Start b)
+settled_again Plain is b = either_again Plain is b (λ white. rw white (left_after after_token)) (outside_settled Plain b)
+settled_again Equals is b = either_again Equals is b (λ white. rw white (left_after after_equals)) (outside_settled Equals b)
+settled_again Semicolon is b =
+    either_again Semicolon is b (λ second. rw (no_space b second, second) (itself Semicolon tt)) (λ other. kept_settled before_name b)
 settled_again Closed is b = written_again Closed b refl (kept_settled after_value b)
 settled_again Quoted is b = written_again Quoted b refl (within_settled b)
 settled_again Paired is b = written_again Paired b refl tt
 
--- the places after which white space is left out
-data LeavesSpace : Place → Type 0 where
-  leaves_plain : LeavesSpace Plain
-  leaves_equals : LeavesSpace Equals
-
--- from a place after which white space is left out: a space adds nothing,
-white_held : {like : Place} → LeavesSpace like → Leads like (32 ∷ []) [] Spaced
-white_held leaves_plain = one Plain 32
-white_held leaves_equals = one Equals 32
-
--- a semicolon adds itself,
-semicolon_written : {like : Place} → LeavesSpace like → Leads like (59 ∷ []) (59 ∷ []) Semicolon
-semicolon_written leaves_plain = one Plain 59
-semicolon_written leaves_equals = one Equals 59
-
--- and the place is like that after the white space
-like_spaced : {like : Place} → LeavesSpace like → IsLike Spaced like
-like_spaced leaves_plain = left_after_plain
-like_spaced leaves_equals = left_after_equals
-
--- so what a byte adds after white space that was left out is written again,
-spaced_again : {like : Place} → LeavesSpace like → (b : ℕ) → Again Spaced b like
-spaced_again {like} leaves b = go (is_space b) refl (b == 59) refl
-  where
-    go : (t : Bool) → is_space b ≡ t → (s : Bool) → (b == 59) ≡ s → Again Spaced b like
-    go true white s is = left_out_again Spaced like b (rw white refl) (rw white (like_spaced leaves))
-    go false other true is =
-        let same : b ≡ 59 = grind (arith, nat_tests) in
-        subst (λ x. Again Spaced x like) (sym same)
-        record { to = Semicolon; leads = semicolon_written leaves; is_like = itself Semicolon tt }
-    go false other false is =
-        let e : added Spaced b ≡ 32 ∷ b ∷ [] = rw (other, is) refl in
-        record {
-          to = place_after Spaced b;
-          leads = subst (λ a. Leads like a a (place_after Spaced b)) (sym e) (so (both (white_held leaves) (one Spaced b)) e refl);
-          is_like = itself _ (outside_settled Spaced b other);
-        }
+-- what a byte adds after white space that was left out is written again,
+spaced_again : {like : Place} → LeavesWhite like → (b : ℕ) → Again Spaced b like
+spaced_again {like} leaves b = ⊎_elim
+    (λ (white : is_space b ≡ true). left_out_again Spaced like b (rw white refl) (rw white (left_after leaves)))
+    (λ (other : is_space b ≡ false). ⊎_elim
+    (λ is. subst (λ x. Again Spaced x like) (sym (eqb-true b 59 is))
+    (record { to = Semicolon; leads = semicolon_written leaves; is_like = itself Semicolon tt }))
+    (λ (is : (b == 59) ≡ false).
+    let e : added Spaced b ≡ 32 ∷ b ∷ [] = rw (other, is) refl in
+    record {
+      to = place_after Spaced b;
+      leads = subst (λ a. Leads like a a (place_after Spaced b)) (sym e) (so (both (left_white leaves 32 refl) (one Spaced b)) e refl);
+      is_like = itself _ (outside_settled Spaced b other);
+    })
+    (cases_Bool (b == 59)))
+    (cases_Bool (is_space b))
 
 -- and from each like place
 again : {place like : Place} → IsLike place like → (b : ℕ) → Again place b like
 again (itself place settled) b = settled_again place settled b
-again left_after_plain b = spaced_again leaves_plain b
-again left_after_equals b = spaced_again leaves_equals b
+again (left_after leaves) b = spaced_again leaves b
 
 -- what was written of bytes up to a place ends at a like place, and is written again
 pub record Ends (place : Place) (text : List ℕ) : Type 0 where

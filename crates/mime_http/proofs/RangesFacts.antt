@@ -1,10 +1,6 @@
 -- Worked facts of the pages `Ranges` and `Unescaped`: what covers an offer, and which is the best; with the examples of RFC 9110 (12.5.1)
 -- and of RFC 7231 (5.3.2).
-use Rattle.std.proofs.Common.{◌≡◌, refl, ap, subst, arith, ℕ, zero, suc, true, List, [], ◌∷◌, ◌++◌, Option, Some, None, is_some}
-use Rattle.std.specs.Prelude.{codes, unwrap_or, slice_get, Contains}
-use Rattle.mime.specs.Values.{MediaType}
-use Rattle.mime_http.specs.Ranges.{closeness, given_weight, best_offer, AreInOrder}
-use Rattle.mime_http.specs.RangesLaws.{MeanTheSame}
+use Rattle.mime_http.proofs.Common.{AreInOrder, Contains, List, MeanTheSame, MediaType, None, Option, Some, [], ap, arith, best_offer, closeness, codes, given_weight, is_some, refl, slice_get, subst, suc, true, unwrap_or, zero, ℕ, ◌++◌, ◌∷◌, ◌≡◌}
 use Rattle.mime_http.proofs.First.{best_is_first}
 use Rattle.mime_http.proofs.Meanings.{covers_itself, meaning_counts}
 use Rattle.mime_http.proofs.Strangers.{stranger_changes_nothing}

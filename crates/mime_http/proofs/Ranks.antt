@@ -1,12 +1,5 @@
 -- Ranks are in a total order, in which no two are level.
-use Rattle.std.proofs.Common.{◌≡◌, ◌<◌, ℕ, ap, refl, subst, Some}
-use Rattle.std.specs.Ordering.{nat_cmp, ordering_then, partial_ordering_then, is_some_and, is_lt, is_gt, MatchOrdering}
-use Rattle.std.specs.declared.cmp.Ordering.{Ordering}
-use Rattle.std.specs.declared.cmp.Ordering.TheVariants.{Less, Equal, Greater}
-use Rattle.std.specs.Cmp.{IsTotalOrder}
-use Rattle.std.proofs.lemmas.Bool.{true≢false}
-use Rattle.std.proofs.lemmas.Cmp.{ranked, nat_cmp_total, on_total, then_total}
-use Rattle.mime_http.specs.Ranges.{Rank, rank_cmp}
+use Rattle.mime_http.proofs.Common.{Equal, Greater, IsTotalOrder, Less, MatchOrdering, Ordering, Rank, Some, ap, is_gt, is_lt, is_some_and, nat_cmp, nat_cmp_total, on_total, ordering_then, partial_ordering_then, rank_cmp, ranked, refl, subst, then_total, true≢false, ℕ, ◌<◌, ◌≡◌}
 
 -- ranks are in a total order
 pub ranks_total : IsTotalOrder rank_cmp

@@ -1,5 +1,5 @@
 -- Why HTTP rejects a value, from what tightening leaves of it.
-use Rattle.mime_http.proofs.Common.{arith, ◌≡◌, refl, sym, subst, ℕ, ◌≤◌, List, length, take, string_bytes, String, Global, Reads, IsAccepted, IsFault, Explains, ParseError, NoMemory, IsHttpMediaType, tight, Begins, IsTightening, LeavesFault, IsRejected}
+use Rattle.mime_http.proofs.Common.{Begins, Explains, Global, IsAccepted, IsFault, IsHttpMediaType, IsRejected, IsTightening, LeavesFault, List, NoMemory, ParseError, Reads, String, arith, length, refl, string_bytes, subst, sym, take, tight, ℕ, ◌≡◌, ◌≤◌}
 use Rattle.mime_http.specs.declared.tight.Tightening.{Tightening}
 use Rattle.mime_http.specs.declared.tight.Tightening.TheVariants.{Nothing, Prefix, Copy}
 use Rattle.mime_http.proofs.HttpBack.{read_is_http}

@@ -1,18 +1,5 @@
 -- A media type whose kept text ends in a weight of one decimal, right after the essence, has no other parameter.
-use Rattle.std.proofs.Common.{◌≡◌, ◌∙◌, refl, sym, ap, arith, ℕ, suc, ◌+◌, Bool, true, List, [], ◌∷◌, ◌++◌, length, drop, get_or, Some, None, codes}
-use Rattle.std.specs.Prelude.{◌&&◌, ◌*◌, ◌-◌, if◌then◌else◌}
-use Rattle.std.specs.List.{list_all}
-use Rattle.std.proofs.lemmas.Slice.Eq.{HasBytesAt, text_from_reads}
-use Rattle.std.specs.Char.{is_ascii_digit}
-use Rattle.std.proofs.Math.Seq.{drop-append_seam}
-use Rattle.std.proofs.lemmas.List.{append_assoc, length-append}
-use Rattle.mime.specs.Bytes.{is_token_byte}
-use Rattle.mime.specs.Grammar.{plain, final, listed, SyntaxTree, AreSpaces, text_of_tail, text_of, IsToken, IsWellFormed}
-use Rattle.mime.specs.Values.{MediaType, Reads, value_of, essence_of, lowered_tree}
-use Rattle.mime_http.specs.Weight.{thousandths_of}
-use Rattle.mime_http.specs.Ranges.{first_value, demanded, has}
-use Rattle.mime.proofs.HandedOut.{length-lowered, one_reading}
-use Rattle.mime_http.specs.Digits.{read_number}
+use Rattle.mime_http.proofs.Common.{AreSpaces, Bool, HasBytesAt, IsToken, IsWellFormed, List, MediaType, None, Reads, Some, SyntaxTree, [], ap, append_assoc, arith, codes, demanded, drop, drop-append_seam, essence_of, final, first_value, get_or, has, if◌then◌else◌, is_ascii_digit, is_token_byte, length, length-append, length-lowered, list_all, listed, lowered_tree, one_reading, plain, read_number, refl, suc, sym, text_from_reads, text_of, text_of_tail, thousandths_of, true, value_of, ℕ, ◌&&◌, ◌*◌, ◌++◌, ◌+◌, ◌-◌, ◌∙◌, ◌∷◌, ◌≡◌}
 use Rattle.mime_http.proofs.Demanded.{found_of}
 use Rattle.mime_http.proofs.Numbers.{read_is}
 
@@ -108,24 +95,20 @@ one_more_byte : (text bytes : List ℕ) (at end d : ℕ) → end ≡ at + length
 one_more_byte text [] at end d is has last = (ap (λ i. get_or text i 0) (omega (arith, is)) ∙ last, tt)
 one_more_byte text (b ∷ bytes) at end d is has last = (has.0, one_more_byte text bytes (suc at) end d (omega (arith, is)) has.1 last)
 
--- both ways in which the weight is written
-module _ (offer media : MediaType) (rest : List ℕ) (reads : Reads media.kept media)
-    (after : rest ≡ drop (length media.essence) media.kept) where
-  pub at_once : length rest ≡ 6 → HasBytesAt rest 0 (59 ∷ 113 ∷ 61 ∷ 48 ∷ 46 ∷ []) → is_ascii_digit (get_or rest 5 0) ≡ true
-      → DemandsNothing offer media (get_or rest 5 0)
-  at_once long bytes digit =
-      let d = get_or rest 5 0 in
-      let whole : rest ≡ 59 ∷ 113 ∷ 61 ∷ 48 ∷ 46 ∷ d ∷ [] =
-      text_from_reads rest _ long (one_more_byte rest (59 ∷ 113 ∷ 61 ∷ 48 ∷ 46 ∷ []) 0 5 d refl bytes refl) in
-      demands_nothing offer media d (weight_alone media rest [] d reads after whole refl digit)
-
-  pub after_a_space : length rest ≡ 7 → HasBytesAt rest 0 (59 ∷ 32 ∷ 113 ∷ 61 ∷ 48 ∷ 46 ∷ []) → is_ascii_digit (get_or rest 6 0) ≡ true
-      → DemandsNothing offer media (get_or rest 6 0)
-  after_a_space long bytes digit =
-      let d = get_or rest 6 0 in
-      let whole : rest ≡ 59 ∷ 32 ∷ 113 ∷ 61 ∷ 48 ∷ 46 ∷ d ∷ [] =
-      text_from_reads rest _ long (one_more_byte rest (59 ∷ 32 ∷ 113 ∷ 61 ∷ 48 ∷ 46 ∷ []) 0 6 d refl bytes refl) in
-      demands_nothing offer media d (weight_alone media rest (32 ∷ []) d reads after whole refl digit)
+-- so it is if the weight is written after this white space
+pub weight_of_one_decimal : (n : List ℕ) (end : ℕ) (offer media : MediaType) (rest : List ℕ) → AreSpaces n → end ≡ 5 + length n
+    → Reads media.kept media → rest ≡ drop (length media.essence) media.kept → length rest ≡ end + 1
+    → HasBytesAt rest 0 (59 ∷ (n ++ (113 ∷ 61 ∷ 48 ∷ 46 ∷ []))) → is_ascii_digit (get_or rest end 0) ≡ true
+    → DemandsNothing offer media (get_or rest end 0)
+weight_of_one_decimal n end offer media rest spaces at reads after long bytes digit =
+    let d = get_or rest end 0 in
+    let front = 59 ∷ (n ++ (113 ∷ 61 ∷ 48 ∷ 46 ∷ [])) in
+    let size = length-append n (113 ∷ 61 ∷ 48 ∷ 46 ∷ []) in
+    let whole : rest ≡ front ++ (d ∷ []) =
+    text_from_reads rest _ (omega (arith, long, at, size, length-append front (d ∷ [])))
+    (one_more_byte rest front 0 end d (omega (arith, at, size)) bytes refl) in
+    demands_nothing offer media d (weight_alone media rest n d reads after
+    (whole ∙ ap (λ text. 59 ∷ text) (append_assoc n (113 ∷ 61 ∷ 48 ∷ 46 ∷ []) (d ∷ []))) spaces digit)
 
 -- a weight of one decimal in thousandths
 pub one_decimal : (d weight : ℕ) → is_ascii_digit d ≡ true → weight ≡ 100 * (d - 48) → weight ≡ thousandths_of (48 ∷ 46 ∷ d ∷ [])

@@ -1,17 +1,7 @@
 -- A range that covers none of the offers only moves the ranges after it by one position, which changes no comparison.
-use Rattle.std.proofs.Common.{◌≡◌, ◌∙◌, ◌⊎◌, inl, inr, ◌<◌, ◌≤◌, ◌+◌, ◌-◌, refl, sym, ap, subst, arith, ℕ, zero, suc, Bool, true, false, List, [], ◌∷◌, ◌++◌, map, length, get_or, Option, Some, None}
-use Rattle.std.specs.Prelude.{filter_map, find, position, nat_lt, ◌&&◌, if◌then◌else◌, Contains, option_map, unwrap_or, is_some}
-use Rattle.std.specs.List.{list_all, cons_option, enumerate_from, position_from}
-use Rattle.std.specs.Ordering.{is_le, is_gt, nat_cmp, ordering_then}
-use Rattle.std.specs.declared.cmp.Ordering.{Ordering}
-use Rattle.std.proofs.lemmas.Bool.{true≢false}
-use Rattle.std.proofs.lemmas.Bool.Decides.{nat_tests}
-use Rattle.std.proofs.lemmas.Iterator.Adapters.{position_from-zero}
-use Rattle.std.proofs.lemmas.List.{length-append}
-use Rattle.mime.specs.Values.{MediaType}
-use Rattle.mime_http.specs.Ranges.{Rank, rank_cmp, named_parts, demanded, has, weight_of, closeness, closest, merit, merit_at, AreInOrder}
-use Rattle.mime_http.specs.RangesLaws.{StrangerChangesNothing}
+use Rattle.mime_http.proofs.Common.{AreInOrder, Bool, Contains, List, MediaType, None, Option, Rank, Some, StrangerChangesNothing, [], ap, arith, closeness, closest, cons_option, demanded, enumerate_from, false, filter_map, find, get_or, has, if◌then◌else◌, inl, inr, is_gt, is_le, length, length-append, list_all, map, merit, merit_at, named_parts, nat_cmp, nat_lt, nat_tests, option_map, ordering_then, position, position_from, position_from-zero, rank_cmp, refl, subst, suc, sym, true, unwrap_or, weight_of, zero, ℕ, ◌&&◌, ◌++◌, ◌+◌, ◌-◌, ◌<◌, ◌∙◌, ◌∷◌, ◌≡◌, ◌≤◌, ◌⊎◌, list_all-map}
 use Rattle.mime_http.proofs.Closest.{in_more}
+use Rattle.mime_http.proofs.Picked.{is_best}
 
 -- ---- positions after the range
 
@@ -19,9 +9,9 @@ use Rattle.mime_http.proofs.Closest.{in_more}
 abbrev shifted : ℕ → ℕ → ℕ
 shifted k at = if nat_lt at k then at else at + 1
 
--- a rank of which the position is shifted
-abbrev shifted_rank : ℕ → Rank → Rank
-shifted_rank k rank = (rank.0, rank.1, rank.2, shifted k rank.3)
+-- a rank with another last place
+abbrev moved : (ℕ → ℕ) → Rank → Rank
+moved g rank = (rank.0, rank.1, rank.2, g rank.3)
 
 -- a position before the stranger stays,
 position_stays : (k at : ℕ) → at < k → shifted k at ≡ at
@@ -35,73 +25,58 @@ position_moves k at after = let test : nat_lt at k ≡ false = grind (arith, nat
 same_order : (k x y : ℕ) → nat_cmp (shifted k x) (shifted k y) ≡ nat_cmp x y
 same_order k x y = grind (arith, nat_tests)
 
--- ranks of which the fourth place alone differs compare by it
-fourth : (a b : Ordering) (c d : Ordering) → c ≡ d → ordering_then (ordering_then a b) c ≡ ordering_then (ordering_then a b) d
-fourth a b c d same = ap (ordering_then (ordering_then a b)) same
+-- and then so are ranks,
+same_rank_order : (g : ℕ → ℕ) → ((x y : ℕ) → nat_cmp (g x) (g y) ≡ nat_cmp x y) → (x y : Rank)
+    → rank_cmp (moved g x) (moved g y) ≡ rank_cmp x y
+same_rank_order g same x y =
+    ap (ordering_then (ordering_then (ordering_then (nat_cmp x.0 y.0) (nat_cmp x.1 y.1)) (nat_cmp x.2 y.2))) (same x.3 y.3)
 
--- and so are ranks
-same_rank_order : (k : ℕ) (x y : Rank) → rank_cmp (shifted_rank k x) (shifted_rank k y) ≡ rank_cmp x y
-same_rank_order k x y =
-    ap (ordering_then (ordering_then (ordering_then (nat_cmp x.0 y.0) (nat_cmp x.1 y.1)) (nat_cmp x.2 y.2))) (same_order k x.3 y.3)
+-- and the same rank has none above it
+same_top : (g : ℕ → ℕ) → ((x y : ℕ) → nat_cmp (g x) (g y) ≡ nat_cmp x y) → (all : List Rank) (one : Rank)
+    → list_all (λ other. is_le (rank_cmp other (moved g one))) (map (moved g) all) ≡ list_all (λ other. is_le (rank_cmp other one)) all
+same_top g same all one =
+    list_all-map (λ other. is_le (rank_cmp other (moved g one))) (moved g) all
+    ∙ (λ i. list_all (λ other. is_le (same_rank_order g same other one i)) all)
 
--- ---- maps that keep an order
-
--- all values pass a test if all that they are made of do
-all_mapped : {X Y : Type 0} (f : X → Y) (p : Y → Bool) (q : X → Bool) → ((x : X) → p (f x) ≡ q x) → (xs : List X)
-    → list_all p (map f xs) ≡ list_all q xs
-all_mapped f p q same [] = refl
-all_mapped f p q same (x ∷ xs) = ap (λ b. b && list_all p (map f xs)) (same x) ∙ ap (λ b. q x && b) (all_mapped f p q same xs)
+-- ---- maps of lists
 
 -- the first that passes is made of the first,
-found_mapped : {X Y : Type 0} (f : X → Y) (p : Y → Bool) (q : X → Bool) → ((x : X) → p (f x) ≡ q x) → (xs : List X)
-    → find p (map f xs) ≡ option_map f (find q xs)
-found_mapped f p q same [] = refl
-found_mapped f p q same (x ∷ xs) =
-    ap (λ b. if b then Some (f x) else find p (map f xs)) (same x)
-    ∙ elim (q x) as (λ b. (if b then Some (f x) else find p (map f xs)) ≡ option_map f (if b then Some x else find q xs)) [
+found_mapped : {X Y : Type 0} (f : X → Y) (p : Y → Bool) (xs : List X) → find p (map f xs) ≡ option_map f (find (λ x. p (f x)) xs)
+found_mapped f p [] = refl
+found_mapped f p (x ∷ xs) =
+    elim (p (f x)) as (λ b. (if b then Some (f x) else find p (map f xs)) ≡ option_map f (if b then Some x else find (λ x. p (f x)) xs)) [
       | true ↦ refl
-      | false ↦ found_mapped f p q same xs
+      | false ↦ found_mapped f p xs
     ]
 
 -- at the same position
-place_mapped : {X Y : Type 0} (f : X → Y) (p : Y → Bool) (q : X → Bool) → ((x : X) → p (f x) ≡ q x) → (at : ℕ) (xs : List X)
-    → position_from p at (map f xs) ≡ position_from q at xs
-place_mapped f p q same at [] = refl
-place_mapped f p q same at (x ∷ xs) =
-    ap (λ b. if b then Some at else position_from p (at + 1) (map f xs)) (same x)
-    ∙ ap (λ rest. if q x then Some at else rest) (place_mapped f p q same (at + 1) xs)
+place_mapped : {X Y : Type 0} (f : X → Y) (p : Y → Bool) (at : ℕ) (xs : List X)
+    → position_from p at (map f xs) ≡ position_from (λ x. p (f x)) at xs
+place_mapped f p at [] = refl
+place_mapped f p at (x ∷ xs) = ap (λ rest. if p (f x) then Some at else rest) (place_mapped f p (at + 1) xs)
 
 -- ---- what covers an offer
 
 -- how closely a range covers an offer, once it stands elsewhere
-covers_so : (offer range : MediaType) (k at : ℕ)
-    → closeness offer (shifted k at, range) ≡ option_map (shifted_rank k) (closeness offer (at, range))
-covers_so offer range k at =
+covers_so : (offer range : MediaType) (g : ℕ → ℕ) (at : ℕ)
+    → closeness offer (g at, range) ≡ option_map (moved g) (closeness offer (at, range))
+covers_so offer range g at =
     elim (list_all (has offer) (demanded range.pairs)) as (λ all. (if all
-    then option_map (λ named. (named, length (demanded range.pairs), weight_of range, shifted k at)) (named_parts range offer) else None)
-    ≡ option_map (shifted_rank k) (if all
+    then option_map (λ named. (named, length (demanded range.pairs), weight_of range, g at)) (named_parts range offer) else None)
+    ≡ option_map (moved g) (if all
     then option_map (λ named. (named, length (demanded range.pairs), weight_of range, at)) (named_parts range offer) else None)) [
       | true ↦ both (named_parts range offer)
       | false ↦ refl
     ]
   where
-    both : (named : Option ℕ) → option_map (λ n. (n, length (demanded range.pairs), weight_of range, shifted k at)) named
-        ≡ option_map (shifted_rank k) (option_map (λ n. (n, length (demanded range.pairs), weight_of range, at)) named)
+    both : (named : Option ℕ) → option_map (λ n. (n, length (demanded range.pairs), weight_of range, g at)) named
+        ≡ option_map (moved g) (option_map (λ n. (n, length (demanded range.pairs), weight_of range, at)) named)
     both None = refl
     both (Some n) = refl
 
 -- a range that covers nothing covers nothing at another position
 covers_none : (offer range : MediaType) (at : ℕ) → closeness offer (0, range) ≡ None → closeness offer (at, range) ≡ None
-covers_none offer range at none = go (list_all (has offer) (demanded range.pairs)) (named_parts range offer) none
-  where
-    close : ℕ → ℕ → Rank
-    close at named = (named, length (demanded range.pairs), weight_of range, at)
-
-    go : (all : Bool) (named : Option ℕ) → (if all then option_map (close 0) named else None) ≡ None
-        → (if all then option_map (close at) named else None) ≡ None
-    go false named is = refl
-    go true None is = refl
-    go true (Some n) is = absurd (true≢false (ap is_some is))
+covers_none offer range at none = covers_so offer range (λ _. at) 0 ∙ ap (option_map (moved (λ _. at))) none
 
 -- a value before values
 onto_mapped : {X Y : Type 0} (f : X → Y) (first : Option X) (rest : List X)
@@ -115,39 +90,38 @@ module _ (offer : MediaType) where
   covering at ranges = filter_map (closeness offer) (enumerate_from at ranges)
 
   -- ranges after it cover as closely, one position later,
-  later : (k at : ℕ) (ranges : List MediaType) → k ≤ at → covering (at + 1) ranges ≡ map (shifted_rank k) (covering at ranges)
+  later : (k at : ℕ) (ranges : List MediaType) → k ≤ at → covering (at + 1) ranges ≡ map (moved (shifted k)) (covering at ranges)
   later k at [] after = refl
   later k at (range ∷ ranges) after =
-      let here : closeness offer (at + 1, range) ≡ option_map (shifted_rank k) (closeness offer (at, range)) =
-      ap (λ n. closeness offer (n, range)) (sym (position_moves k at after)) ∙ covers_so offer range k at in
+      let here : closeness offer (at + 1, range) ≡ option_map (moved (shifted k)) (closeness offer (at, range)) =
+      ap (λ n. closeness offer (n, range)) (sym (position_moves k at after)) ∙ covers_so offer range (shifted k) at in
       ap (λ first. cons_option first (covering (at + 1 + 1) ranges)) here
-      ∙ (ap (cons_option (option_map (shifted_rank k) (closeness offer (at, range)))) (later k (at + 1) ranges (omega (arith, after)))
-      ∙ onto_mapped (shifted_rank k) (closeness offer (at, range)) (covering (at + 1) ranges))
+      ∙ (ap (cons_option (option_map (moved (shifted k)) (closeness offer (at, range)))) (later k (at + 1) ranges (omega (arith, after)))
+      ∙ onto_mapped (moved (shifted k)) (closeness offer (at, range)) (covering (at + 1) ranges))
 
   module _ (range : MediaType) (none : closeness offer (0, range) ≡ None) (after : List MediaType) where
     -- so all that cover are the same, with moved positions,
     one_more : (k at : ℕ) (before : List MediaType) → k ≡ at + length before
-        → covering at (before ++ (range ∷ after)) ≡ map (shifted_rank k) (covering at (before ++ after))
+        → covering at (before ++ (range ∷ after)) ≡ map (moved (shifted k)) (covering at (before ++ after))
     one_more k at [] long =
         ap (λ first. cons_option first (covering (at + 1) after)) (covers_none offer range at none) ∙ later k at after (omega (arith, long))
     one_more k at (first ∷ before) long =
-        let here : closeness offer (at, first) ≡ option_map (shifted_rank k) (closeness offer (at, first)) =
-        ap (λ n. closeness offer (n, first)) (sym (position_stays k at (omega (arith, long)))) ∙ covers_so offer first k at in
+        let here : closeness offer (at, first) ≡ option_map (moved (shifted k)) (closeness offer (at, first)) =
+        ap (λ n. closeness offer (n, first)) (sym (position_stays k at (omega (arith, long)))) ∙ covers_so offer first (shifted k) at in
         ap (λ found. cons_option found (covering (at + 1) (before ++ (range ∷ after)))) here
-        ∙ (ap (cons_option (option_map (shifted_rank k) (closeness offer (at, first)))) (one_more k (at + 1) before (omega (arith, long)))
-        ∙ onto_mapped (shifted_rank k) (closeness offer (at, first)) (covering (at + 1) (before ++ after)))
+        ∙ (ap (cons_option (option_map (moved (shifted k)) (closeness offer (at, first)))) (one_more k (at + 1) before (omega (arith, long)))
+        ∙ onto_mapped (moved (shifted k)) (closeness offer (at, first)) (covering (at + 1) (before ++ after)))
 
     -- and the closest is the same
     still_closest : (before : List MediaType)
-        → closest (before ++ (range ∷ after)) offer ≡ option_map (shifted_rank (length before)) (closest (before ++ after) offer)
+        → closest (before ++ (range ∷ after)) offer ≡ option_map (moved (shifted (length before))) (closest (before ++ after) offer)
     still_closest before =
-        let k = length before in
+        let g = shifted (length before) in
         let old = covering 0 (before ++ after) in
         let top = λ (all : List Rank) (one : Rank). list_all (λ other. is_le (rank_cmp other one)) all in
-        ap (λ all. find (top all) all) (one_more k 0 before (omega arith))
-        ∙ found_mapped (shifted_rank k) (top (map (shifted_rank k) old)) (top old)
-        (λ one. all_mapped (shifted_rank k) (λ other. is_le (rank_cmp other (shifted_rank k one))) (λ other. is_le (rank_cmp other one))
-        (λ other. ap is_le (same_rank_order k other one)) old) old
+        ap (λ all. find (top all) all) (one_more (length before) 0 before (omega arith))
+        ∙ (found_mapped (moved g) (top (map (moved g) old)) old
+        ∙ (λ i. option_map (moved g) (find (λ one. same_top g (same_order (length before)) old one i) old)))
 
 -- ---- ranks of offers
 
@@ -155,18 +129,9 @@ module _ (offer : MediaType) where
 abbrev raised : ℕ → ℕ → ℕ → ℕ
 raised k long early = if nat_lt (long - early) k then early + 1 else early
 
--- a rank of which the earliness is raised
-abbrev raised_rank : ℕ → ℕ → Rank → Rank
-raised_rank k long rank = (rank.0, rank.1, rank.2, raised k long rank.3)
-
 -- raised earliness is in the same order,
 same_earliness : (k long x y : ℕ) → nat_cmp (raised k long x) (raised k long y) ≡ nat_cmp x y
 same_earliness k long x y = grind (arith, nat_tests)
-
--- and so are ranks
-same_merit_order : (k long : ℕ) (x y : Rank) → rank_cmp (raised_rank k long x) (raised_rank k long y) ≡ rank_cmp x y
-same_merit_order k long x y =
-    ap (ordering_then (ordering_then (ordering_then (nat_cmp x.0 y.0) (nat_cmp x.1 y.1)) (nat_cmp x.2 y.2))) (same_earliness k long x.3 y.3)
 
 -- the earliness of a shifted position is raised,
 early_so : (k long at : ℕ) → k ≤ long → long + 1 - shifted k at ≡ raised k long (long - at)
@@ -182,7 +147,7 @@ module _ (before after : List MediaType) (range : MediaType) where
   with_it = before ++ (range ∷ after)
 
   abbrev raise : Rank → Rank
-  raise = raised_rank (length before) (length (before ++ after))
+  raise = moved (raised (length before) (length (before ++ after)))
 
   -- the position lies within the ranges
   within : length before ≤ length (before ++ after)
@@ -202,7 +167,7 @@ module _ (before after : List MediaType) (range : MediaType) where
 
   -- what is made of the closest range
   raised_by : (found : Option Rank)
-      → merit_by (length with_it) (option_map (shifted_rank (length before)) found) ≡ raise (merit_by (length (before ++ after)) found)
+      → merit_by (length with_it) (option_map (moved (shifted (length before))) found) ≡ raise (merit_by (length (before ++ after)) found)
   raised_by None = sym none_stays
   raised_by (Some close) =
       let early : length with_it - shifted (length before) close.3 ≡ raised (length before) (length (before ++ after))
@@ -224,19 +189,13 @@ module _ (before after : List MediaType) (range : MediaType) where
       ∙ ap (λ rest. raise (merit (before ++ after) offer) ∷ rest)
       (merits_so offers (λ other there. none other (in_more offer offers other there)))
 
-  -- whether a rank is the best
-  abbrev is_best : List Rank → Rank → Bool
-  is_best all one = nat_lt 0 one.0 && list_all (λ other. is_le (rank_cmp other one)) all
-
   -- the best is the same
   same_best : (all : List Rank) → position (is_best (map raise all)) (map raise all) ≡ position (is_best all) all
   same_best all =
+      let same = same_top (raised (length before) (length (before ++ after))) (same_earliness (length before) (length (before ++ after))) all in
       position_from-zero (is_best (map raise all)) (map raise all)
-      ∙ (place_mapped raise (is_best (map raise all)) (is_best all)
-      (λ one. ap (λ b. nat_lt 0 one.0 && b) (all_mapped raise (λ other. is_le (rank_cmp other (raise one)))
-      (λ other. is_le (rank_cmp other one))
-      (λ other. ap is_le (same_merit_order (length before) (length (before ++ after)) other one)) all)) 0 all
-      ∙ sym (position_from-zero (is_best all) all))
+      ∙ (place_mapped raise (is_best (map raise all)) 0 all
+      ∙ ((λ i. position_from (λ (one : Rank). nat_lt 0 one.0 && same one i) 0 all) ∙ sym (position_from-zero (is_best all) all)))
 
   -- a rank by its position
   at_mapped : (all : List Rank) (at : ℕ) → get_or (map raise all) at (0, 0, 0, 0) ≡ raise (get_or all at (0, 0, 0, 0))
@@ -255,8 +214,8 @@ module _ (before after : List MediaType) (range : MediaType) where
         ≡ rank_cmp (merit_at (before ++ after) offers at) (merit_at (before ++ after) offers other)
     same_place_order at other =
         (λ i. rank_cmp (place_so at i) (place_so other i))
-        ∙ same_merit_order (length before) (length (before ++ after)) (merit_at (before ++ after) offers at)
-        (merit_at (before ++ after) offers other)
+        ∙ same_rank_order (raised (length before) (length (before ++ after))) (same_earliness (length before) (length (before ++ after)))
+        (merit_at (before ++ after) offers at) (merit_at (before ++ after) offers other)
 
     -- so the first comes first,
     still_before : (at other : ℕ)

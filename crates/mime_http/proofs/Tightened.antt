@@ -1,8 +1,5 @@
 -- A value tightened, as the page `Tight` has it, is what comes out of it byte by byte.
-use Rattle.mime_http.proofs.Common.{◌≡◌, ◌∙◌, ◌==◌, refl, sym, ap, subst, arith, ℕ, true, false, List, ◌∷◌, ◌++◌, nat_tests, cond_both, false≢true, length, length-append, ◌≤◌, is_space, AreSpaces, IsContent, Place, Start, Plain, Closed, Semicolon, tight_from, tight}
-use Rattle.std.specs.Prelude.{◌||◌, if◌then◌else◌}
-use Rattle.mime_http.specs.declared.tight.Place.TheVariants.{Equals, Quoted}
-use Rattle.mime_http.specs.Tight.{white_left, semicolon_left, Tightens, at_end, a_semicolon, before_token, a_string, a_byte}
+use Rattle.mime_http.proofs.Common.{AreSpaces, Closed, Equals, IsContent, List, Place, Plain, Quoted, Semicolon, Start, Tightens, a_byte, a_semicolon, a_string, ap, arith, at_end, before_token, cond_both, false, false≢true, if◌then◌else◌, is_space, length, length-append, nat_tests, refl, semicolon_left, subst, sym, tight, tight_from, true, white_left, ℕ, ◌++◌, ◌==◌, ◌||◌, ◌∙◌, ◌∷◌, ◌≡◌, ◌≤◌}
 use Rattle.mime_http.proofs.Places.{Leads, after_value, before_name, walk_spaces, quoted_content, comes_out_whole, at_start, white_skipped, nothing_out, LeavesWhite, after_token, after_equals, token_semicolon, token_end}
 
 -- ---- what is left of bytes comes out of them

@@ -1,11 +1,6 @@
 -- A piece without the white space around it.
-use Rattle.mime_http.proofs.Common.{◌≡◌, ◌∙◌, ◌<◌, ◌≤◌, refl, sym, ap, subst, arith, suc, ℕ, Bool, true, false, List, [], ◌∷◌, ◌++◌, ◌+◌, ◌-◌, length, take, get_or, length-append, ◌&&◌, list_all, and_parts, nat_tests, take-suc, is_token_byte, is_space, AreSpaces, IsToken, MediaType, HttpReads, trim_start, trim_end}
-use Rattle.std.proofs.Common.{append-nil, append_assoc}
-use Rattle.std.specs.Str.{IsAscii, IsUtf8}
-use Rattle.std.proofs.lemmas.Bool.{true≢false, eq-eqb}
-use Rattle.std.specs.Prelude.{◌==◌}
+use Rattle.mime_http.proofs.Common.{AreSpaces, Bool, HttpReads, IsAscii, IsToken, IsUtf8, List, MediaType, [], and_parts, ap, append-nil, append_assoc, arith, eq-eqb, false, get_or, is_space, is_token_byte, length, length-append, list_all, nat_tests, refl, subst, suc, sym, take, take-suc, tight, trim_end, trim_start, true, true≢false, ℕ, ◌&&◌, ◌++◌, ◌+◌, ◌-◌, ◌<◌, ◌==◌, ◌∙◌, ◌∷◌, ◌≡◌, ◌≤◌, and_from, cond_both, if◌then◌else◌}
 use Rattle.mime_http.proofs.HttpBack.{respelled}
-use Rattle.mime_http.specs.Places.{tight}
 use Rattle.mime_http.proofs.HttpForth.{spaces-append}
 use Rattle.mime_http.proofs.HttpText.{AreAscii, put_ascii, drop_ascii}
 use Rattle.mime_http.proofs.Places.{token_is_plain, at_start, white_skipped}
@@ -15,12 +10,10 @@ use Rattle.mime_http.proofs.Places.{token_is_plain, at_start, white_skipped}
 -- Bytes are white space, and what is left without it.
 pub split_white : (bytes : List ℕ) → (white : List ℕ) × AreSpaces white × (bytes ≡ white ++ trim_start bytes)
 split_white [] = ([], refl, refl)
-split_white (b ∷ bytes) = go (split_white bytes) (is_space b) refl
-  where
-    go : (white : List ℕ) × AreSpaces white × (bytes ≡ white ++ trim_start bytes) → (w : Bool) → is_space b ≡ w
-        → (white : List ℕ) × AreSpaces white × (b ∷ bytes ≡ white ++ trim_start (b ∷ bytes))
-    go (white, all, same) true is = (b ∷ white, rw is all, rw is (ap (λ x. b ∷ x) same))
-    go (white, all, same) false is = ([], refl, rw is refl)
+split_white (b ∷ bytes) =
+    let rest = split_white bytes in
+    cond_both (is_space b) _ _ (λ left. (white : List ℕ) × AreSpaces white × (b ∷ bytes ≡ white ++ left))
+    (λ is. (b ∷ rest.0, and_from (is_space b) _ is rest.1, ap (λ x. b ∷ x) rest.2)) (λ other. ([], refl, refl))
 
 -- White space before bytes is left out of them,
 trim_past : (white rest : List ℕ) → AreSpaces white → trim_start (white ++ rest) ≡ trim_start rest
@@ -105,34 +98,24 @@ next_taken piece at within =
 -- a byte at the end that is white space is left out
 trim_end-space : (bytes : List ℕ) (b : ℕ) → is_space b ≡ true → trim_end (bytes ++ (b ∷ [])) ≡ trim_end bytes
 trim_end-space [] b white = rw white refl
-trim_end-space (c ∷ bytes) b white = go (trim_end-space bytes b white) (list_all is_space (c ∷ bytes)) refl
+trim_end-space (c ∷ bytes) b white =
+    ap (λ all. if is_space c && all then [] else c ∷ trim_end (bytes ++ (b ∷ []))) (still_all bytes)
+    ∙ ap (λ rest. if list_all is_space (c ∷ bytes) then [] else c ∷ rest) (trim_end-space bytes b white)
   where
-    same : list_all is_space (c ∷ (bytes ++ (b ∷ []))) ≡ list_all is_space (c ∷ bytes)
-    same = ap (λ t. is_space c && t) (still_all bytes)
-      where
-        still_all : (bytes : List ℕ) → list_all is_space (bytes ++ (b ∷ [])) ≡ list_all is_space bytes
-        still_all [] = rw white refl
-        still_all (d ∷ bytes) = ap (λ t. is_space d && t) (still_all bytes)
-
-    go : trim_end (bytes ++ (b ∷ [])) ≡ trim_end bytes → (w : Bool) → list_all is_space (c ∷ bytes) ≡ w
-        → trim_end (c ∷ (bytes ++ (b ∷ []))) ≡ trim_end (c ∷ bytes)
-    go rest true all = let longer = same ∙ all in rw (longer, all) refl
-    go rest false some = let longer = same ∙ some in rw (longer, some) (ap (λ x. c ∷ x) rest)
+    still_all : (bytes : List ℕ) → list_all is_space (bytes ++ (b ∷ [])) ≡ list_all is_space bytes
+    still_all [] = rw white refl
+    still_all (d ∷ bytes) = ap (λ t. is_space d && t) (still_all bytes)
 
 -- and else all bytes stay
 trim_end-other : (bytes : List ℕ) (b : ℕ) → is_space b ≡ false → trim_end (bytes ++ (b ∷ [])) ≡ bytes ++ (b ∷ [])
 trim_end-other [] b other = rw other refl
 trim_end-other (c ∷ bytes) b other =
-    let some : list_all is_space (c ∷ (bytes ++ (b ∷ []))) ≡ false = ap (λ t. is_space c && t) (never_all bytes) ∙ nowhere (is_space c) in
-    rw some (ap (λ x. c ∷ x) (trim_end-other bytes b other))
+    rw (never_all (c ∷ bytes)) (ap (λ x. c ∷ x) (trim_end-other bytes b other))
   where
-    nowhere : (t : Bool) → (t && false) ≡ false
-    nowhere true = refl
-    nowhere false = refl
-
     never_all : (bytes : List ℕ) → list_all is_space (bytes ++ (b ∷ [])) ≡ false
     never_all [] = rw other refl
-    never_all (d ∷ bytes) = ap (λ t. is_space d && t) (never_all bytes) ∙ nowhere (is_space d)
+    never_all (d ∷ bytes) =
+        ap (λ t. is_space d && t) (never_all bytes) ∙ elim (is_space d) as (λ t. (t && false) ≡ false) [ true ↦ refl | false ↦ refl ]
 
 -- the same, counted to the end
 last_taken : (piece : List ℕ) (end : ℕ) → 0 < end → end ≤ length piece
@@ -159,8 +142,5 @@ end_at_other piece end some within other =
 -- What is left of ASCII without the white space before it is ASCII.
 pub ascii_trimmed : (piece : List ℕ) → IsAscii piece → IsAscii (trim_start piece)
 ascii_trimmed [] ascii = ascii
-ascii_trimmed (b ∷ piece) ascii = go (ascii_trimmed piece (λ i. ascii (suc i))) (is_space b) refl
-  where
-    go : IsAscii (trim_start piece) → (w : Bool) → is_space b ≡ w → IsAscii (trim_start (b ∷ piece))
-    go rest true is = rw is rest
-    go rest false is = rw is ascii
+ascii_trimmed (b ∷ piece) ascii =
+    cond_both (is_space b) _ _ IsAscii (λ white. ascii_trimmed piece (λ i. ascii (suc i))) (λ other. ascii)

@@ -1,44 +1,25 @@
 -- White space at fault: what tightening leaves of a value, and what HTTP says if more follows.
-use Rattle.mime_http.proofs.Common.{◌≡◌, ◌∙◌, ◌==◌, ◌≢◌, refl, sym, ap, subst, arith, ℕ, ◌+◌, ◌-◌, ◌<◌, ◌≤◌, Bool, true, false, List, [], ◌∷◌, ◌++◌, length, take, drop, get_or, Some, None, length-append, slice_get, option_map, option_and_then, true≢false, nat_tests, length-take-le, nil_from_length, IsCharBoundary-before_ascii, none-some, slice_get_within, slice_get-get_or, get_or_from_slice_get, is_quoted_byte, is_space, AreSpaces, IsAccepted, IsViable, IsDeadAt, takes, awaits_after, ClosedParameters, Begun, in_type, in_subtype, in_list, ListState, in_spaces, in_name, in_value, in_quotes, after_quotes, grow_state, grow, walk, walk_from, walk_by-append_some, spelled-from_walk, walk-from_viable, prefix_of_viable_is_viable, Place, Start, Plain, Spaced, place_after, added, tight_from, tight, IsHttpMediaType, IsHttpViable, IsHttpLongestPrefix, IsHttpDeadAt, begins_with_semicolon, Begins, IsLoose, trim_start}
-use Rattle.std.proofs.lemmas.List.{append-nil, append_assoc}
-use Rattle.mime_http.specs.declared.tight.Place.TheVariants.{Equals}
-use Rattle.mime_http.proofs.Places.{place_from, place_from-append, at_start, spaced, nothing_out}
+use Rattle.mime_http.proofs.Common.{AreSpaces, Begins, Equals, IsAccepted, IsCharBoundary-before_ascii, IsDeadAt, IsHttpDeadAt, IsHttpLongestPrefix, IsHttpMediaType, IsHttpViable, IsLoose, IsViable, List, Place, Plain, Some, Spaced, Start, [], added, ap, append-nil, append_assoc, arith, begins_with_semicolon, drop, false, get_or, get_or_from_slice_get, grow, in_type, is_quoted_byte, is_space, length, length-append, length-take-le, nat_tests, nil_from_length, none-some, option_and_then, place_after, prefix_of_viable_is_viable, refl, slice_get, slice_get-get_or, slice_get_within, subst, sym, take, tight, tight_from, trim_start, true, walk-from_viable, walk_by-append_some, walk_from, ℕ, ◌++◌, ◌+◌, ◌-◌, ◌<◌, ◌==◌, ◌∙◌, ◌∷◌, ◌≡◌, ◌≢◌, ◌≤◌, Closed, Paired, Quoted, Semicolon, false≢true}
+use Rattle.mime_http.proofs.Places.{place_from, place_from-append, at_start, spaced, nothing_out, LeavesWhite, after_token, after_equals, left_white}
 use Rattle.mime_http.proofs.Trims.{split_white, below_128}
-use Rattle.mime_http.proofs.HttpViability.{place_in_list, place_at, LeavesSpaces, no_space_grows, tight-append, viable_from_tight, viable_from_accepted, tight_from_viable, accepted_from_spaced, prefix_of_http_viable}
+use Rattle.mime_http.proofs.HttpViability.{no_space_grows, tight-append, viable_from_tight, viable_from_accepted, tight_from_viable, accepted_from_spaced, prefix_of_http_viable}
 use Rattle.mime_http.proofs.HowFar.{tight_one}
-use Rattle.mime_http.proofs.HttpFaults.{longest_at}
-use Rattle.mime_http.proofs.AtFault.{there, so_far, at_rest, CutAt, cut_at, no_more_white, still_spaced, after_white, leaves_out}
+use Rattle.mime_http.proofs.HttpFaults.{longest_at, longest_before}
+use Rattle.mime_http.proofs.AtFault.{Refuses, refuses, there, so_far, at_rest, CutAt, cut_at, no_more_white, still_spaced, after_white, leaves_out}
 
 -- ---- white space at fault
 
--- it isn't one that goes on after a semicolon, or in or after quotes
-space_leaves : (before : List ℕ) (b : ℕ) (begun : Begun) → walk before ≡ Some begun → before ≢ [] → is_space b ≡ true → grow begun b ≡ None
-    → LeavesSpaces (place_at begun)
+-- where the library stops at it, it is left out
+white_leaves : (place : Place) (b : ℕ) → is_space b ≡ true → Refuses place b → LeavesWhite place
 unfolding is_quoted_byte
-space_leaves before b (in_type []) reached some white stops = absurd (some (sym (spelled-from_walk before (in_type []) reached)))
-space_leaves before b (in_type (t ∷ top)) reached some white stops = tt
-space_leaves before b (in_subtype top sub) reached some white stops = tt
-space_leaves before b (in_list top sub list) reached some white stops = at list.closed list.position stops
-  where
-    in_quotes_goes : (awaiting : Bool) → takes awaiting b ≡ true
-    in_quotes_goes true = grind (arith, nat_tests)
-    in_quotes_goes false = grind (arith, nat_tests)
-
-    at : (closed : ClosedParameters) (position : ListState) → option_map (in_list top sub) (grow_state closed position b) ≡ None
-        → LeavesSpaces (place_in_list position)
-    at closed (in_spaces n) stops = absurd (none-some _ (sym (rw white at stops)))
-    at closed (in_name n name) stops = tt
-    at closed (in_value n name []) stops = tt
-    at closed (in_value n name (v ∷ value)) stops = tt
-    at closed (in_quotes n name content) stops =
-        let goes = in_quotes_goes (awaits_after false content) in absurd (none-some _ (sym (rw goes at stops)))
-    at closed (after_quotes n name content m) stops = absurd (none-some _ (sym (rw white at stops)))
-
--- there a byte of white space adds nothing
-left_out_after : (place : Place) → LeavesSpaces place → (b : ℕ) → is_space b ≡ true → (added place b ≡ []) × (place_after place b ≡ Spaced)
-left_out_after Plain is b white = (rw white refl, rw white refl)
-left_out_after Equals is b white = (rw white refl, rw white refl)
-left_out_after place is b white = absurd is
+white_leaves Start b white refused = absurd refused
+white_leaves Plain b white refused = after_token
+white_leaves Spaced b white refused = absurd refused
+white_leaves Equals b white refused = after_equals
+white_leaves Quoted b white refused = absurd (false≢true (sym refused ∙ grind (arith, nat_tests)))
+white_leaves Paired b white refused = absurd (false≢true (sym refused ∙ grind (arith, nat_tests)))
+white_leaves Closed b white refused = absurd (false≢true (sym refused.0 ∙ white))
+white_leaves Semicolon b white refused = absurd (false≢true (sym refused ∙ white))
 
 -- before the first byte white space is left out
 pub first_space : (value : List ℕ)
@@ -55,7 +36,7 @@ some_before value pos some within empty =
 pub record LaterSpace (value : List ℕ) (pos b : ℕ) : Type 0 where
   pub cut : CutAt value pos b
   pub within : pos < length value
-  pub leaves : LeavesSpaces (place_at cut.fault.begun)
+  pub leaves : LeavesWhite (place_from Start (take pos value))
   pub nothing : added (place_from Start (take pos value)) b ≡ []
   pub next : place_after (place_from Start (take pos value)) b ≡ Spaced
 
@@ -64,10 +45,9 @@ pub later : (value : List ℕ) (pos b : ℕ) → IsDeadAt value pos b → 0 < po
 later value pos b dead some white =
     let cut = cut_at value pos b dead in
     let within = slice_get_within value pos b dead.there in
-    let fault = cut.fault in
-    let leaves = space_leaves (take pos value) b fault.begun fault.reached (some_before value pos some within) white fault.stops in
-    let out = left_out_after (place_from Start (take pos value)) (subst LeavesSpaces (sym (there fault)) leaves) b white in
-    record { cut = cut; within = within; leaves = leaves; nothing = out.0; next = out.1 }
+    let leaves = white_leaves (place_from Start (take pos value)) b white (refuses cut.fault (some_before value pos some within)) in
+    let out = left_white leaves b white in
+    record { cut = cut; within = within; leaves = leaves; nothing = sym (append-nil _) ∙ out.tightly []; next = out.there }
 
 -- so those bytes come out as they are, and the rest as after white space
 pub later_space : (value : List ℕ) (pos b : ℕ) → IsDeadAt value pos b → 0 < pos → is_space b ≡ true
@@ -111,7 +91,7 @@ module _ (value : List ℕ) (pos b : ℕ) (space : LaterSpace value pos b) where
       let found = walk-from_viable (begin ++ (32 ∷ [])) viable in
       none-some found.0
       (sym (walk_by-append_some grow (in_type []) fault.begun begin (32 ∷ []) fault.reached
-      ∙ ap (option_and_then (λ s. walk_from s [])) (no_space_grows fault.begun space.leaves)) ∙ found.1)
+      ∙ ap (option_and_then (λ s. walk_from s [])) (no_space_grows fault.begun (subst LeavesWhite (there fault) space.leaves))) ∙ found.1)
 
   dies_after : (white : List ℕ) → AreSpaces white → (c : ℕ) → is_space c ≡ false → (c == 59) ≡ false
       → ¬ (IsHttpViable ((begin ++ (b ∷ white)) ++ (c ∷ [])))
@@ -153,14 +133,9 @@ module _ (value : List ℕ) (pos b : ℕ) (space : LaterSpace value pos b) where
 
     dead_before : ¬ (IsAccepted begin) → IsHttpDeadAt value pos b
     dead_before rejected = record {
-      prefix = subst (λ n. IsHttpLongestPrefix value n) space.cut.long
-          (subst (λ v. IsHttpLongestPrefix v (length begin)) space.cut.split
-          (longest_at begin (b ∷ drop (pos + 1) value)
+      prefix = longest_before begin b (drop (pos + 1) value) space.cut.split space.cut.long
           (viable_from_tight begin (at_rest space.cut.fault) (subst IsViable (sym (so_far space.cut.fault)) space.cut.fault.viable))
-          (λ c bytes e viable.
-          let same : b ≡ c = cc in
-          let begins = subst (λ x. IsHttpViable (begin ++ (x ∷ []))) (sym same) viable in
-          rejected (subst IsAccepted (comes_alone [] refl) (accepted_from_spaced (begin ++ (b ∷ [])) (spaced_there [] refl) begins)))));
+          (λ begins. rejected (subst IsAccepted (comes_alone [] refl) (accepted_from_spaced (begin ++ (b ∷ [])) (spaced_there [] refl) begins)));
       there = here;
     }
 
@@ -196,12 +171,4 @@ begins value pos b dead some white no_semicolon =
     let split = split_white (drop (pos + 1) value) in
     begins_so value pos b (later value pos b dead some white) dead.there (below_128 b white) split.0
     (trim_start (drop (pos + 1) value)) split.1 split.2
-    (λ c more is. (no_more_white (drop (pos + 1) value) c more is, other_byte_than c more is))
-  where
-    other_byte_than : (c : ℕ) (more : List ℕ) → trim_start (drop (pos + 1) value) ≡ c ∷ more → (c == 59) ≡ false
-    other_byte_than c more is = go (c == 59) refl
-      where
-        go : (t : Bool) → (c == 59) ≡ t → (c == 59) ≡ false
-        go true semicolon =
-            absurd (true≢false (sym semicolon ∙ (sym (ap begins_with_semicolon is) ∙ no_semicolon)))
-        go false other = other
+    (λ c more is. (no_more_white (drop (pos + 1) value) c more is, sym (ap begins_with_semicolon is) ∙ no_semicolon))

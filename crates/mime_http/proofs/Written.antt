@@ -1,9 +1,6 @@
 -- What is written of parameters is read as them.
-use Rattle.mime_http.proofs.Common.{◌≡◌, ◌∙◌, ◌+◌, refl, sym, ap, subst, ℕ, Bool, true, false, cond, List, [], ◌∷◌, ◌++◌, drop, map, drop, arith, not, bytes_eq, AllByRecursion, cond_both, nat_tests, is_token_byte, Parameter, plain, quoted, Parameters, final, more, listed, SyntaxTree, IsToken, IsContent, IsParameter, AreParameters, text_of_parameter, text_of_list, MediaType, Reads, lowered, lowered_value, lowered_parameter, lowered_list, lowered_tree, kept_text, pair_of, pairs_of_list, pairs_of_tail, last_plus, essence_is_read, lowered-lowered, length-lowered, list_all-lowered, IsToken-lowered, lowered_value-either, lowered_value-lowered, pairs_of_tail-lowered}
-use Rattle.std.proofs.Common.{append-nil, append_assoc}
-use Rattle.mime.specs.HeaderLaws.{IsSafePair, IsSafe}
+use Rattle.mime_http.proofs.Common.{AllByRecursion, AreParameters, Bool, IsContent, IsParameter, IsSafe, IsSafePair, IsToken, IsToken-lowered, List, MediaType, Parameter, Parameters, Reads, SyntaxTree, [], ap, append-nil, append_assoc, arith, bytes_eq, cond, cond_both, drop, essence_is_read, false, final, is_token_byte, is_token_value, kept_text, last_plus, length-lowered, list_all-lowered, listed, lowered, lowered-lowered, lowered_list, lowered_parameter, lowered_tree, lowered_value, lowered_value-either, lowered_value-lowered, map, more, nat_tests, not, others, pair_of, pairs_of_list, pairs_of_tail, pairs_of_tail-lowered, plain, quoted, refl, subst, sym, text_of_list, text_of_pair, text_of_pairs, text_of_parameter, true, with_pair, with_pairs, ℕ, ◌++◌, ◌+◌, ◌∙◌, ◌∷◌, ◌≡◌}
 use Rattle.mime.specs.Inner.KeptText.{lowered_pair, IsLowPair}
-use Rattle.mime_http.specs.Written.{is_token_value, text_of_pair, text_of_pairs, others, with_pairs, with_pair}
 
 -- ---- one parameter
 

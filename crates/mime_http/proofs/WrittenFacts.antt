@@ -1,9 +1,5 @@
 -- Worked facts of the pages Unescaped, Written and Boundary.
-use Rattle.mime_http.proofs.Common.{◌≡◌, ◌≢◌, ℕ, List, [], ◌∷◌, true, false, None, refl, sym, ◌∙◌, arith, codes, bytes_eq, true≢false, same_Some, is_token_byte, MediaType}
-use Rattle.std.proofs.lemmas.Slice.Eq.{bytes_eq-Decides}
-use Rattle.mime_http.specs.Boundary.{IsBoundary, IsBoundaryOf}
-use Rattle.mime_http.specs.Unescaped.{unescaped}
-use Rattle.mime_http.specs.Written.{escaped, is_token_value, text_of_pair, text_of_pairs, others, with_pairs, with_pair}
+use Rattle.mime_http.proofs.Common.{IsBoundary, IsBoundaryOf, List, MediaType, None, [], arith, bytes_eq, bytes_eq-Decides, codes, escaped, false, is_token_byte, is_token_value, others, refl, same_Some, sym, text_of_pair, text_of_pairs, true, true≢false, unescaped, with_pair, with_pairs, ℕ, ◌∙◌, ◌∷◌, ◌≡◌, ◌≢◌}
 
 -- bytes that aren't equal differ
 differ : (first second : List ℕ) → bytes_eq first second ≡ false → first ≢ second

@@ -1,7 +1,5 @@
 -- A media type precedes the white space, or the white space is at fault.
-use Rattle.std.proofs.Common.{rules, ◌≡◌, sym, subst, take, get_or}
-use Rattle.mime.specs.Values.{IsAccepted}
-use Rattle.mime_http.specs.HttpFaults.{IsHttpDeadAt}
+use Rattle.mime_http.proofs.Common.{IsAccepted, IsHttpDeadAt, get_or, rules, subst, sym, take, ◌≡◌}
 use Rattle.mime_http.proofs.Rejections.{prefix_rejected}
 use Rattle.mime_http.proofs.fault.fault_at_white.Goals.{then-next-value+then-is_accepted, else-next-value, else-next-value-via-then-next-value+else-is_accepted, else-next-value-via-else-next-value}
 use Rattle.mime_http.proofs.fault.fault_at_white.Goals as goal

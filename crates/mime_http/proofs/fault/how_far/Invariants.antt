@@ -1,6 +1,5 @@
 -- What is left to go leads as far as the whole value.
-use Rattle.std.proofs.Common.{◌≡◌, drop}
-use Rattle.mime_http.specs.Reached.{start, reach_from}
+use Rattle.mime_http.proofs.Common.{drop, reach_from, start, ◌≡◌}
 use Rattle.mime_http.proofs.fault.how_far.Given as goal
 
 abbrev pub invariant-loop-byte : goal.invariant-loop-byte

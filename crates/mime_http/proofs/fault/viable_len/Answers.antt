@@ -1,13 +1,5 @@
 -- The bytes that the value goes before the fault of what is left of it, and whether it may end after them.
-use Rattle.std.proofs.Common.{rules, ◌≡◌, ◌∙◌, sym, ap, subst, ℕ, ◌-◌, List, take, inl, inr}
-use Rattle.std.specs.Str.{IsCharBoundary}
-use Rattle.mime.specs.Values.{IsAccepted}
-use Rattle.mime.specs.Faults.{IsFault}
-use Rattle.mime.specs.declared.scan.fault.ParseError.{ParseError}
-use Rattle.mime_http.specs.declared.tight.Place.TheVariants.{Start, Spaced}
-use Rattle.mime_http.specs.declared.fault.Reach.{Reach}
-use Rattle.mime_http.specs.Places.{tight}
-use Rattle.mime_http.specs.Reached.{start, reach_from, limit_of}
+use Rattle.mime_http.proofs.Common.{IsAccepted, IsCharBoundary, IsFault, List, ParseError, Reach, Spaced, Start, ap, inl, inr, limit_of, reach_from, rules, start, subst, sym, take, tight, ℕ, ◌-◌, ◌∙◌, ◌≡◌}
 use Rattle.mime_http.proofs.Places.{place_from}
 use Rattle.mime_http.proofs.HowFar.{Stops, stops, unspaced, goes, boundary}
 use Rattle.mime_http.proofs.HttpFaults.{FaultAt, fault_here, fault_before}

@@ -1,11 +1,6 @@
 -- No bit is set, so no byte is past ASCII.
-use Rattle.std.proofs.Common.{◌≡◌, ◌∙◌, ◌≤◌, ◌+◌, ◌%◌, ◌^◌, ℕ, List, arith, sym, ap, cond, map, length, replicate, w8}
-use Rattle.std.specs.Prelude.{nat_lt}
+use Rattle.mime_http.proofs.Common.{List, ap, arith, chunk, cond, length, length-chunk, length-map, map, mask_l, mask_l-mod, nat_lt, nat_tests, none_from_empty_mask, replicate, sym, top, tops_compared, w8, zip2_splat_left, ℕ, ◌%◌, ◌+◌, ◌^◌, ◌∙◌, ◌≡◌, ◌≤◌}
 use Rattle.std.specs.Simd.Lanes.{zip2}
-use Rattle.std.proofs.lemmas.Bool.Decides.{nat_tests}
-use Rattle.std.proofs.lemmas.List.{length-map}
-use Rattle.std.proofs.lemmas.Simd.{tops_compared, zip2_splat_left, mask_l-mod, length-chunk, none_from_empty_mask}
-use lib.Lanes.{chunk, mask_l, top}
 use Rattle.mime_http.proofs.list.is_ascii_block.Goals as goal
 
 -- the bits of the bytes past ASCII, as they are computed

@@ -1,7 +1,5 @@
 -- Block by block, and the last block at once.
-use Rattle.std.proofs.Common.{◌<◌, ◌≤◌, ◌-◌, refl, arith, sym, subst, length, ⊎_elim}
-use Rattle.std.proofs.lemmas.Bool.{cases_lt}
-use Rattle.std.proofs.lemmas.List.{get_or_past}
+use Rattle.mime_http.proofs.Common.{arith, cases_lt, get_or_past, length, refl, subst, sym, ⊎_elim, ◌-◌, ◌<◌, ◌≤◌}
 use Rattle.mime_http.proofs.list.is_short_ascii.Goals as goal
 
 pub loop-at-preserved : goal.loop-at-preserved

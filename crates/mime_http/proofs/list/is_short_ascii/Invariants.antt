@@ -1,6 +1,5 @@
 -- The bytes so far are ASCII.
-use Rattle.std.proofs.Common.{ℕ, ◌<◌, ◌-◌, length}
-use Rattle.std.specs.Prelude.{slice_index}
+use Rattle.mime_http.proofs.Common.{length, slice_index, ℕ, ◌-◌, ◌<◌}
 use Rattle.mime_http.proofs.list.is_short_ascii.Given as goal
 
 abbrev pub invariant-loop-at : goal.invariant-loop-at

@@ -1,7 +1,5 @@
 -- Each byte is compared in a lane of its own.
-use Rattle.std.proofs.Common.{ℕ, bit_or}
-use Rattle.std.proofs.lemmas.Simd.{zip2_splat, zip2_of_maps, length-chunk}
-use lib.Lanes.{chunk}
+use Rattle.mime_http.proofs.Common.{bit_or, chunk, length-chunk, zip2_of_maps, zip2_splat, ℕ}
 use Rattle.mime_http.proofs.Pieces.{marks}
 use Rattle.mime_http.proofs.list.marks_in_block.Goals as goal
 

@@ -1,6 +1,5 @@
 -- No byte so far is a mark.
-use Rattle.std.proofs.Common.{◌≤◌, ◌-◌, length}
-use Rattle.mime_http.specs.Walk.{AreUnmarked}
+use Rattle.mime_http.proofs.Common.{AreUnmarked, length, ◌-◌, ◌≤◌}
 use Rattle.mime_http.proofs.list.next_mark.Given as goal
 
 abbrev pub invariant-loop-at : goal.invariant-loop-at

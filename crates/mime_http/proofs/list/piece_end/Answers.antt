@@ -1,11 +1,8 @@
 -- Before a comma that is the first mark, or to the end.
-use Rattle.std.proofs.Common.{arith, ◌≡◌, ◌-◌, ◌<◌, ◌≤◌, ◌∷◌, sym, ap, subst, length, take, drop, get_or}
-use Rattle.std.proofs.lemmas.Bool.Decides.{nat_tests}
-use Rattle.std.proofs.lemmas.List.{length-drop, take_rest}
-use Rattle.mime_http.specs.Walk.{AreUnmarked, cut, cut_after}
+use Rattle.mime_http.proofs.Common.{AreUnmarked, arith, cut, cut_after, drop, get_or, length, length-drop, nat_tests, subst, sym, take, take_rest, ◌-◌, ◌<◌, ◌∷◌, ◌≡◌, ◌≤◌, false, piece_end, true}
 use Rattle.mime_http.proofs.Pieces.{unmarked_from, piece_from, piece_of_len}
-use Rattle.mime_http.proofs.list.piece_end.Goals as goal
 use Rattle.mime_http.proofs.list.piece_end.Goals.{else-mark-line-via-then-mark-line+else-line-mark-eq34, else-mark-line-via-else-mark-line}
+use Rattle.mime_http.proofs.list.piece_end.Goals as goal
 
 pub quoted_piece_len-requires-clause-within : goal.quoted_piece_len-requires-clause-within
 quoted_piece_len-requires-clause-within c =
@@ -20,11 +17,6 @@ quoted_piece_len-requires-clause-unmarked c =
     let mark = c.next_mark-mark in
     subst (λ rest. AreUnmarked 44 34 rest 0 (mark.result - c.args.from)) (sym (take_rest line c.args.from))
     (unmarked_from line c.args.from mark.result mark.ensures.least mark.ensures.unmarked)
-
-pub returns-then-line-mark-eq34-clause-within : goal.returns-then-line-mark-eq34-clause-within
-returns-then-line-mark-eq34-clause-within c =
-    let line = c.args.line.now in
-    omega (arith, c.quoted_piece_len.ensures.within, ap length (take_rest line c.args.from), length-drop c.args.from line, c.requires)
 
 pub returns-then-line-mark-eq34-clause-piece : goal.returns-then-line-mark-eq34-clause-piece
 returns-then-line-mark-eq34-clause-piece c =

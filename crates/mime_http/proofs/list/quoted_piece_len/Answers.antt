@@ -1,10 +1,8 @@
 -- The bytes before the quote lead outside strings, each search goes on there, and a string is left at its end.
-use Rattle.std.proofs.Common.{arith, ◌≡◌, ◌∙◌, ◌-◌, ◌<◌, length, take, drop, get_or, ap}
-use Rattle.std.proofs.lemmas.Bool.Decides.{nat_tests}
-use Rattle.mime_http.specs.Walk.{Outside, cut_from}
+use Rattle.mime_http.proofs.Common.{Outside, ap, arith, cut_from, drop, get_or, length, nat_tests, take, ◌-◌, ◌<◌, ◌∙◌, ◌≡◌}
 use Rattle.mime_http.proofs.Pieces.{outside_before, outside_run, equals_alone, string_opens, ends_outside}
-use Rattle.mime_http.proofs.list.quoted_piece_len.Goals as goal
 use Rattle.mime_http.proofs.list.quoted_piece_len.Goals.{then-quote-gt0, else-quote-gt0, then-at-line-via-then-at-line, then-at-line-via-else-at-line+then-line-at-eq44, else-at-line-2-via-then-at-line-2+else-line-at-eq34, else-at-line-2-via-else-at-line-2}
+use Rattle.mime_http.proofs.list.quoted_piece_len.Goals as goal
 
 pub loop-at-init : goal.loop-at-init
 loop-at-init c =

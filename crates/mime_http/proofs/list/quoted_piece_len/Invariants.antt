@@ -1,6 +1,5 @@
 -- The piece so far is outside strings, and with what is left of the line it is cut as the line.
-use Rattle.std.proofs.Common.{◌≡◌, ◌≤◌, ◌-◌, length, take, drop}
-use Rattle.mime_http.specs.Walk.{Outside, cut_from, cut}
+use Rattle.mime_http.proofs.Common.{Outside, cut, cut_from, drop, length, take, ◌-◌, ◌≡◌, ◌≤◌}
 use Rattle.mime_http.proofs.list.quoted_piece_len.Given as goal
 
 abbrev pub invariant-loop-at : goal.invariant-loop-at

@@ -1,5 +1,5 @@
 -- A byte that is neither a quote nor a backslash was passed with those after it, or a backslash with the byte that it pairs.
-use Rattle.std.proofs.Common.{arith, ◌≡◌, ◌∙◌, ◌+◌, ◌<◌, length, get_or}
+use Rattle.mime_http.proofs.Common.{arith, get_or, length, ◌+◌, ◌<◌, ◌∙◌, ◌≡◌}
 use Rattle.mime_http.proofs.Pieces.{string_plain, string_run, string_pair}
 use Rattle.mime_http.proofs.list.string_end.Goals as goal
 

@@ -1,6 +1,6 @@
 -- The piece so far is in the string still.
-use Rattle.std.proofs.Common.{◌≡◌, ◌≤◌, ◌-◌, length, take, drop}
-use Rattle.mime_http.specs.Walk.{Quoted, cut_from}
+use Rattle.mime_http.proofs.Common.{cut_from, drop, length, take, ◌-◌, ◌≡◌, ◌≤◌}
+use Rattle.mime_http.specs.Walk.{Quoted}
 use Rattle.mime_http.proofs.list.string_end.Given as goal
 
 abbrev pub invariant-loop-at : goal.invariant-loop-at

@@ -1,9 +1,8 @@
 -- White space at the end is left out, and any other byte stays.
-use Rattle.std.proofs.Common.{arith, ◌≡◌, ◌∙◌, sym, ap, take}
-use Rattle.mime_http.specs.HttpList.{trim_end}
+use Rattle.mime_http.proofs.Common.{ap, arith, sym, take, trim_end, ◌∙◌, ◌≡◌}
 use Rattle.mime_http.proofs.Trims.{end_at_space, end_at_other}
-use Rattle.mime_http.proofs.list.trim_end.Goals as goal
 use Rattle.mime_http.proofs.list.trim_end.Goals.{then-loop-end-test+else-is_space, else-loop-end-test}
+use Rattle.mime_http.proofs.list.trim_end.Goals as goal
 
 pub loop-end-preserved : goal.loop-end-preserved
 loop-end-preserved c = (

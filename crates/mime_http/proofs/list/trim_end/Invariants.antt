@@ -1,6 +1,5 @@
 -- What is left out so far is white space.
-use Rattle.std.proofs.Common.{◌≡◌, ◌≤◌, length, take}
-use Rattle.mime_http.specs.HttpList.{trim_end}
+use Rattle.mime_http.proofs.Common.{length, take, trim_end, ◌≡◌, ◌≤◌}
 use Rattle.mime_http.proofs.list.trim_end.Given as goal
 
 abbrev pub invariant-loop-end : goal.invariant-loop-end

@@ -1,6 +1,5 @@
 -- So far all is white space.
-use Rattle.std.proofs.Common.{◌≡◌, drop}
-use Rattle.mime_http.specs.HttpList.{trim_start}
+use Rattle.mime_http.proofs.Common.{drop, trim_start, ◌≡◌}
 use Rattle.mime_http.proofs.list.trim_spaces.Given as goal
 
 abbrev pub invariant-loop-at : goal.invariant-loop-at

@@ -1,6 +1,5 @@
 -- What is left of the two means the same exactly if they do.
-use Rattle.std.proofs.Common.{◌≡◌, bytes_eq, length}
-use Rattle.mime_http.specs.Unescaped.{unescaped}
+use Rattle.mime_http.proofs.Common.{bytes_eq, length, unescaped, ◌≡◌}
 use Rattle.mime_http.proofs.meaning.mean_the_same_bytes.Given as goal
 
 abbrev pub invariant-loop-byte : goal.invariant-loop-byte

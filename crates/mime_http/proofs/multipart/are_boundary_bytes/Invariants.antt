@@ -1,7 +1,5 @@
 -- All bytes so far may stand in a boundary, or one may not.
-use Rattle.std.proofs.Common.{◌≡◌, take}
-use Rattle.std.specs.List.{list_all}
-use Rattle.mime_http.specs.Boundary.{is_bchar}
+use Rattle.mime_http.proofs.Common.{is_bchar, list_all, take, ◌≡◌}
 use Rattle.mime_http.proofs.multipart.are_boundary_bytes.Given as goal
 
 abbrev pub invariant-loop-byte : goal.invariant-loop-byte

@@ -1,8 +1,5 @@
 -- The table holds whether each byte may stand in a boundary.
-use Rattle.std.proofs.Common.{refl, arith, ap, ◌∙◌, ◌≡◌, false, map, get_or}
-use Rattle.std.specs.List.{range_with_len}
-use Rattle.std.proofs.lemmas.List.FromFn.{get_or-map-range_with_len}
-use Rattle.mime_http.specs.Boundary.{is_bchar}
+use Rattle.mime_http.proofs.Common.{ap, arith, false, get_or, get_or-map-range_with_len, is_bchar, map, range_with_len, refl, ◌∙◌, ◌≡◌}
 use Rattle.mime_http.specs.declared.multipart.TheConstants.{BOUNDARY_BYTES}
 use Rattle.mime_http.proofs.multipart.is_boundary_byte.Goals as goal
 

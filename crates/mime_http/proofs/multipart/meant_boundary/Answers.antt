@@ -1,12 +1,8 @@
 -- A boundary means itself; what is too long means none, and what has no backslash means itself.
-use Rattle.std.proofs.Common.{rules, ◌≡◌, ◌≢◌, ◌∙◌, ◌<◌, ℕ, subst, sym, get_or, length, arith}
-use Rattle.std.proofs.lemmas.Bool.{false≢true}
-use Rattle.std.specs.Vec.{vec_items}
-use Rattle.std.proofs.lemmas.Str.Pattern.{contains_char}
-use Rattle.mime_http.specs.Boundary.{IsBoundary}
+use Rattle.mime_http.proofs.Common.{IsBoundary, arith, contains_char, false≢true, get_or, length, rules, subst, sym, vec_items, ℕ, ◌<◌, ◌∙◌, ◌≡◌, ◌≢◌}
 use Rattle.mime_http.proofs.Contents.{boundary_means_itself, length-unescaped, unescaped_same}
-use Rattle.mime_http.proofs.multipart.meant_boundary.Goals as goal
 use Rattle.mime_http.proofs.multipart.meant_boundary.Goals.{then-bytes-via-then-bytes, then-bytes-via-else-bytes+then-not-contains}
+use Rattle.mime_http.proofs.multipart.meant_boundary.Goals as goal
 
 pub returns-then-is_boundary : goal.returns-then-is_boundary
 returns-then-is_boundary c =

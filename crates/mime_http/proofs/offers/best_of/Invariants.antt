@@ -1,7 +1,5 @@
 -- The highest rank so far, and its first place.
-use Rattle.std.proofs.Common.{map}
-use Rattle.std.specs.Prelude.{IfSome, ◌<◌}
-use Rattle.mime_http.specs.Ranges.{merit}
+use Rattle.mime_http.proofs.Common.{IfSome, map, merit, ◌<◌, take}
 use Rattle.mime_http.proofs.Ranks.{ranks_total, one_rank}
 use Rattle.mime_http.proofs.Highest.{Highest}
 use Rattle.mime_http.proofs.offers.best_of.Given as goal
@@ -9,6 +7,6 @@ use Rattle.mime_http.proofs.offers.best_of.Given as goal
 abbrev pub invariant-loop-at : goal.invariant-loop-at
 invariant-loop-at l = record {
   first : Highest ranks_total one_rank (0, 0, 0, 0)
-      (map (merit (map (λ range. range.media) l.ranges)) (map (λ offer. offer.media) l.offers)) l.at l.most l.best;
+      (take l.at (map (merit (map (λ range. range.media) l.ranges)) (map (λ offer. offer.media) l.offers))) l.most l.best;
   within : IfSome l.best (λ best. best < l.at);
 }

@@ -1,10 +1,5 @@
 -- The next range is the first of those that are left.
-use Rattle.std.proofs.Common.{◌∙◌, ◌+◌, ap, sym, drop, map}
-use Rattle.std.specs.Prelude.{fold}
-use Rattle.std.specs.List.{enumerate_from}
-use Rattle.std.specs.Option.{option_cmp}
-use Rattle.std.specs.Ordering.{ord_max}
-use Rattle.mime_http.specs.Ranges.{rank_cmp, closeness}
+use Rattle.mime_http.proofs.Common.{ap, closeness, drop, enumerate_from, fold, map, option_cmp, ord_max, rank_cmp, sym, ◌+◌, ◌∙◌}
 use Rattle.mime_http.proofs.Highest.{first_left, mapped_left}
 use Rattle.mime_http.proofs.Picked.{closest_is_kept}
 use Rattle.mime_http.proofs.offers.closest_of.Goals as goal

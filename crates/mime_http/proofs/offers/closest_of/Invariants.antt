@@ -1,10 +1,5 @@
 -- The closest so far, and the ranges that are left, give the closest of all.
-use Rattle.std.proofs.Common.{◌≡◌, drop, map}
-use Rattle.std.specs.Prelude.{fold}
-use Rattle.std.specs.List.{enumerate_from}
-use Rattle.std.specs.Option.{option_cmp}
-use Rattle.std.specs.Ordering.{ord_max}
-use Rattle.mime_http.specs.Ranges.{rank_cmp, closeness, closest}
+use Rattle.mime_http.proofs.Common.{closeness, closest, drop, enumerate_from, fold, map, option_cmp, ord_max, rank_cmp, ◌≡◌}
 use Rattle.mime_http.proofs.offers.closest_of.Given as goal
 
 abbrev pub invariant-loop-at : goal.invariant-loop-at

@@ -1,17 +1,9 @@
 -- The next offer is put last, or it weighs nothing; sorted, they are in order.
-use Rattle.std.proofs.Common.{◌≡◌, ◌∙◌, ◌++◌, ◌+◌, ◌≤◌, ◌==◌, arith, ℕ, List, true, false, [], ◌∷◌, map, drop, length, refl, ap, sym, subst, Ok, Err}
-use Rattle.std.specs.Prelude.{Result, IfOk, if◌then◌else◌}
-use Rattle.std.specs.Vec.{vec_items}
-use Rattle.std.specs.declared.cmp.Reverse.{Reverse}
-use Rattle.std.proofs.Math.ListN.{drop_of_length-le}
-use Rattle.std.proofs.lemmas.Bool.{ne_eqb, eq-eqb}
-use Rattle.std.proofs.lemmas.List.{append-nil, append_assoc, map-append, length-map}
-use Rattle.mime.specs.Values.{MediaType}
-use Rattle.mime_http.specs.Ranges.{Rank, merit, AreInOrder}
+use Rattle.mime_http.proofs.Common.{AreInOrder, Err, IfOk, List, MediaType, Ok, Rank, Result, Reverse, [], ap, append-nil, append_assoc, arith, drop, drop_of_length-le, eq-eqb, false, if◌then◌else◌, length, length-map, map, map-append, merit, ne_eqb, refl, subst, sym, true, vec_items, ℕ, ◌++◌, ◌+◌, ◌==◌, ◌∙◌, ◌∷◌, ◌≡◌, ◌≤◌}
 use Rattle.mime_http.proofs.Highest.{first_left, mapped_left}
 use Rattle.mime_http.proofs.Order.{entry_of, weighing, are_in_order}
-use Rattle.mime_http.proofs.offers.order_of.Goals as goal
 use Rattle.mime_http.proofs.offers.order_of.Goals.{then-merit-gt0+in_ok-push, else-merit-gt0}
+use Rattle.mime_http.proofs.offers.order_of.Goals as goal
 
 -- what was pushed goes from the rest to the end
 pushed : {X Y : Type 0} (f : X → Y) (old new : List X) (x : X) (rest : List Y) → new ≡ old ++ (x ∷ [])

@@ -1,7 +1,5 @@
 -- The offers so far, and those that are left, are all.
-use Rattle.std.proofs.Common.{◌≡◌, ◌++◌, map, drop}
-use Rattle.std.specs.Vec.{vec_items}
-use Rattle.mime_http.specs.Ranges.{merit}
+use Rattle.mime_http.proofs.Common.{drop, map, merit, vec_items, ◌++◌, ◌≡◌}
 use Rattle.mime_http.proofs.Order.{entry_of, weighing}
 use Rattle.mime_http.proofs.offers.order_of.Given as goal
 

@@ -1,7 +1,5 @@
 -- A charset without capitals has none when it is escaped.
-use Rattle.std.proofs.Common.{◌≡◌, refl}
-use Rattle.mime.proofs.HandedOut.{lowered_value-either}
-use Rattle.mime_http.specs.Written.{escaped}
+use Rattle.mime_http.proofs.Common.{escaped, lowered_value-either, refl, ◌≡◌}
 use Rattle.mime_http.proofs.Contents.{escaped-lowered}
 use Rattle.mime_http.proofs.parameter.is_kept_as_written.Goals as goal
 

@@ -1,6 +1,5 @@
 -- Lowercasing leaves the bytes so far as they are.
-use Rattle.std.proofs.Common.{◌≡◌, take}
-use Rattle.mime.specs.Values.{lowered}
+use Rattle.mime_http.proofs.Common.{lowered, take, ◌≡◌}
 use Rattle.mime_http.proofs.parameter.is_lowercase.Given as goal
 
 abbrev pub invariant-loop-byte : goal.invariant-loop-byte

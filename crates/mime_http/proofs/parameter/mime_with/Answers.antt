@@ -1,13 +1,5 @@
 -- What is written is known to be read as the media type with the parameter.
-use Rattle.std.proofs.Common.{string_bytes, arith, ◌≡◌, ◌∙◌, ◌+◌, ◌≤◌, ◌++◌, ◌∷◌, [], ℕ, List, length, ap, ap₂, subst, sym, append_assoc, length-append}
-use Rattle.std.specs.Prelude.{Result, Ok, Err, IfOk}
-use Rattle.mime.specs.Grammar.{IsToken}
-use Rattle.mime.specs.HeaderLaws.{AreHeaderBytes, IsSafe}
-use Rattle.mime.specs.Values.{MediaType, Reads, lowered, lowered_value}
-use Rattle.mime.proofs.HandedOut.{lowered-lowered}
-use Rattle.mime_http.specs.Forms.{form_of, text_in}
-use Rattle.mime_http.specs.Written.{escaped, text_of_pairs, others, with_pair}
-use Rattle.mime_http.specs.declared.quoted.Form.{Form}
+use Rattle.mime_http.proofs.Common.{AreHeaderBytes, Err, Form, IfOk, IsSafe, IsToken, List, MediaType, Ok, Reads, Result, [], ap, append_assoc, ap₂, arith, escaped, form_of, length, length-append, lowered, lowered-lowered, lowered_value, others, string_bytes, subst, sym, text_in, text_of_pairs, with_pair, ℕ, ◌++◌, ◌+◌, ◌∙◌, ◌∷◌, ◌≡◌, ◌≤◌}
 use Rattle.mime_http.proofs.Contents.{content_of_escaped}
 use Rattle.mime_http.proofs.Forms.{form_text}
 use Rattle.mime_http.proofs.Others.{and_last, pairs_within_text}

@@ -1,9 +1,5 @@
 -- Each parameter is of the name, or is written.
-use Rattle.std.proofs.Common.{rules, arith, ◌≡◌, ◌+◌, ◌++◌, ◌∷◌, ap, ◌∙◌, subst, sym, [], length, string_bytes, append_assoc}
-use Rattle.mime.specs.Items.{item_seen}
-use Rattle.mime.specs.Names.{NameIs}
-use Rattle.mime_http.specs.Forms.{text_in}
-use Rattle.mime_http.specs.Written.{text_of_pairs, others}
+use Rattle.mime_http.proofs.Common.{NameIs, [], ap, append_assoc, arith, item_seen, length, others, rules, string_bytes, subst, sym, text_in, text_of_pairs, ◌++◌, ◌+◌, ◌∙◌, ◌∷◌, ◌≡◌}
 use Rattle.mime_http.proofs.Forms.{kept_text}
 use Rattle.mime_http.proofs.Others.{Left, none_left, named_skipped, copied, others_within}
 use Rattle.mime_http.proofs.parameter.text_with.Goals as goal

@@ -1,6 +1,5 @@
 -- The parameters of other names so far were written.
-use Rattle.std.proofs.Common.{◌++◌, length, string_bytes}
-use Rattle.mime_http.specs.Written.{text_of_pairs, others}
+use Rattle.mime_http.proofs.Common.{length, others, string_bytes, text_of_pairs, ◌++◌}
 use Rattle.mime_http.proofs.Others.{Left}
 use Rattle.mime_http.proofs.parameter.text_with.Given as goal
 

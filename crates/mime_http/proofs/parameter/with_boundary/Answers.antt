@@ -1,8 +1,5 @@
 -- A boundary is safe, and needs no backslash.
-use Rattle.std.proofs.Common.{rules, ◌≡◌, ◌∙◌, ap, refl, sym, codes}
-use Rattle.mime.specs.Bytes.{is_token_byte}
-use Rattle.mime_http.specs.Boundary.{IsBoundary}
-use Rattle.mime_http.specs.Written.{escaped, with_pair}
+use Rattle.mime_http.proofs.Common.{IsBoundary, ap, codes, escaped, is_token_byte, refl, rules, sym, with_pair, ◌∙◌, ◌≡◌}
 use Rattle.mime_http.proofs.Contents.{boundary_is_plain, boundary_is_safe}
 use Rattle.mime_http.proofs.Forms.{boundary_form}
 use Rattle.mime_http.proofs.parameter.with_boundary.Goals as goal

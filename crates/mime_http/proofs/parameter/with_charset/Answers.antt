@@ -1,10 +1,5 @@
 -- A token is safe, and needs no quotes and no backslash.
-use Rattle.std.proofs.Common.{rules, ◌≡◌, ◌∙◌, ap, refl, sym, codes, true, if◌then◌else◌}
-use Rattle.mime.specs.Bytes.{is_token_byte, is_quoted_text_byte}
-use Rattle.mime.specs.Values.{lowered}
-use Rattle.mime_http.specs.Written.{escaped, is_token_value, with_pair}
-use Rattle.mime_http.specs.declared.quoted.Form.TheVariants.{Token, Quoted, Escaped}
-use Rattle.std.specs.List.{list_all}
+use Rattle.mime_http.proofs.Common.{ap, codes, escaped, is_token_byte, lowered, refl, rules, with_pair, ◌∙◌, ◌≡◌}
 use Rattle.mime_http.proofs.Contents.{token_needs_none, token_is_safe}
 use Rattle.mime_http.proofs.Written.{token_from_test}
 use Rattle.mime_http.proofs.parameter.with_charset.Goals as goal
@@ -15,11 +10,6 @@ mime_with-requires-clause-named c = refl
 
 pub mime_with-requires-clause-safe : goal.mime_with-requires-clause-safe
 mime_with-requires-clause-safe c = token_is_safe c.args.charset.now (token_from_test c.args.charset.now (search rules))
-
-pub mime_with-requires-clause-fits : goal.mime_with-requires-clause-fits
-mime_with-requires-clause-fits c =
-    let token : is_token_value c.args.charset.now ≡ true = search rules in
-    ap (λ is. if is then Token else (if list_all is_quoted_text_byte c.args.charset.now then Quoted else Escaped)) (sym token)
 
 pub returns-clause-made : goal.returns-clause-made
 unfolding is_token_byte

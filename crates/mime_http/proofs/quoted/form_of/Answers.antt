@@ -1,10 +1,8 @@
 -- A value of another kind is a token.
-use Rattle.std.proofs.Common.{rules, ◌≢◌, ◌<◌, refl, length}
-use Rattle.std.proofs.lemmas.Bool.{false≢true}
-use Rattle.mime_http.specs.Forms.{kind_of}
+use Rattle.mime_http.proofs.Common.{false≢true, kind_of, length, refl, rules, ◌<◌, ◌≢◌}
 use Rattle.mime_http.proofs.Forms.{token_from_kind}
-use Rattle.mime_http.proofs.quoted.form_of.Goals as goal
 use Rattle.mime_http.proofs.quoted.form_of.Goals.{then-kind-eq-Q, else-kind-eq-Q}
+use Rattle.mime_http.proofs.quoted.form_of.Goals as goal
 
 pub returns-else-is_empty : goal.returns-else-is_empty
 returns-else-is_empty c =

@@ -1,6 +1,5 @@
 -- A block is seen.
-use Rattle.std.proofs.Common.{◌∙◌, ◌≡◌, ◌++◌, subst, sym, bit_and}
-use Rattle.std.proofs.lemmas.List.{take-append-drop}
+use Rattle.mime_http.proofs.Common.{bit_and, subst, sym, take-append-drop, ◌++◌, ◌∙◌, ◌≡◌}
 use Rattle.mime_http.proofs.Forms.{Seen, block_seen}
 use Rattle.mime_http.proofs.quoted.kind_of.Goals as goal
 

@@ -1,5 +1,5 @@
 -- The kind of what was seen; each block makes what is left shorter.
-use Rattle.std.proofs.Common.{length}
+use Rattle.mime_http.proofs.Common.{length}
 use Rattle.mime_http.proofs.Forms.{Seen}
 use Rattle.mime_http.proofs.quoted.kind_of.Given as goal
 

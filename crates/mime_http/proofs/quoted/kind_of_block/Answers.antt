@@ -1,5 +1,5 @@
 -- One more byte has a kind, too.
-use Rattle.std.proofs.Common.{◌∙◌, bit_and}
+use Rattle.mime_http.proofs.Common.{bit_and, ◌∙◌}
 use Rattle.mime_http.proofs.Forms.{kind_of_more}
 use Rattle.mime_http.proofs.quoted.kind_of_block.Goals as goal
 

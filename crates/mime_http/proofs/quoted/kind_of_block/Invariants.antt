@@ -1,6 +1,5 @@
 -- The kind of the bytes so far.
-use Rattle.std.proofs.Common.{◌≡◌, take}
-use Rattle.mime_http.specs.Forms.{kind_of}
+use Rattle.mime_http.proofs.Common.{kind_of, take, ◌≡◌}
 use Rattle.mime_http.proofs.quoted.kind_of_block.Given as goal
 
 abbrev pub invariant-loop-byte : goal.invariant-loop-byte

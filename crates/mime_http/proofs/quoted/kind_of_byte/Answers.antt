@@ -1,9 +1,5 @@
 -- The table holds the kind of each byte.
-use Rattle.std.proofs.Common.{refl, arith, ap, ◌∙◌, ◌≡◌, ◌∷◌, [], map, get_or}
-use Rattle.std.specs.List.{range_with_len}
-use Rattle.std.proofs.lemmas.List.FromFn.{get_or-map-range_with_len}
-use Rattle.mime.specs.Bytes.{is_token_byte, is_quoted_byte}
-use Rattle.mime_http.specs.Forms.{kind_of}
+use Rattle.mime_http.proofs.Common.{[], ap, arith, get_or, get_or-map-range_with_len, is_quoted_byte, is_token_byte, kind_of, map, range_with_len, refl, ◌∙◌, ◌∷◌, ◌≡◌}
 use Rattle.mime_http.specs.declared.quoted.TheConstants.{KINDS}
 use Rattle.mime_http.proofs.quoted.kind_of_byte.Goals as goal
 

@@ -1,10 +1,5 @@
 -- Each backslash is added before the byte that needs it.
-use Rattle.std.proofs.Common.{rules, ◌≡◌, ◌<◌, ◌∙◌, ◌∷◌, ◌++◌, ◌+◌, [], false, get_or, ap, arith, string_bytes, take, drop, length}
-use Rattle.std.specs.List.{prefix_len}
-use Rattle.std.proofs.lemmas.List.{get_or-drop}
-use Rattle.std.proofs.lemmas.List.Sums.{prefix_len-le-length, prefix_len_stops}
-use Rattle.mime_http.specs.Forms.{is_plain}
-use Rattle.mime_http.specs.Written.{escaped}
+use Rattle.mime_http.proofs.Common.{[], ap, arith, drop, escaped, false, get_or, get_or-drop, is_plain, length, prefix_len, prefix_len-le-length, prefix_len_stops, rules, string_bytes, take, ◌++◌, ◌+◌, ◌<◌, ◌∙◌, ◌∷◌, ◌≡◌}
 use Rattle.mime_http.proofs.Forms.{run_written, more_written, next_end}
 use Rattle.mime_http.proofs.quoted.push_escaped.Goals as goal
 

@@ -1,9 +1,7 @@
 -- What was added so far, then the bytes that need no backslash or have it, and then what is written for the others, are the whole.
-use Rattle.std.proofs.Common.{◌≡◌, ◌++◌, ◌≤◌, ◌<◌, ◌-◌, false, length, take, drop, get_or, string_bytes}
+use Rattle.mime_http.proofs.Common.{drop, escaped, false, get_or, is_plain, length, string_bytes, take, ◌++◌, ◌-◌, ◌<◌, ◌≡◌, ◌≤◌}
 use denote.Text.{Utf8}
 use denote.Shadow.{shadow}
-use Rattle.mime_http.specs.Forms.{is_plain}
-use Rattle.mime_http.specs.Written.{escaped}
 use Rattle.mime_http.proofs.quoted.push_escaped.Given as goal
 
 abbrev pub invariant-loop-run : goal.invariant-loop-run

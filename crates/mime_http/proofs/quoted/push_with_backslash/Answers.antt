@@ -1,8 +1,5 @@
 -- A quote or a backslash alone is the run.
-use Rattle.std.proofs.Common.{rules, ◌≡◌, ◌++◌, ◌∷◌, [], sym, ◌∙◌, append_assoc, string_bytes}
-use Rattle.std.specs.Prelude.{OnOk}
-use Rattle.std.specs.Cmp.Lexicographic.{same_text}
-use Rattle.mime.specs.Bytes.{quote_byte, backslash_byte}
+use Rattle.mime_http.proofs.Common.{OnOk, [], append_assoc, backslash_byte, quote_byte, rules, same_text, string_bytes, sym, ◌++◌, ◌∙◌, ◌∷◌, ◌≡◌}
 use Rattle.mime_http.proofs.quoted.push_with_backslash.Goals as goal
 
 pub returns-then-eq : goal.returns-then-eq

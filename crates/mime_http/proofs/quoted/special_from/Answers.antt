@@ -1,6 +1,5 @@
 -- One more byte needs no backslash.
-use Rattle.std.proofs.Common.{◌∙◌, ◌≢◌, ◌<◌, ◌∷◌, [], sym, get_or, length, rules}
-use Rattle.mime_http.specs.Forms.{kind_of}
+use Rattle.mime_http.proofs.Common.{[], get_or, kind_of, length, rules, sym, ◌<◌, ◌∙◌, ◌∷◌, ◌≢◌}
 use Rattle.mime_http.proofs.Forms.{plain_from_kind, plain_more}
 use Rattle.mime_http.proofs.quoted.special_from.Goals as goal
 

@@ -1,7 +1,5 @@
 -- The end of the run from here on stays the same.
-use Rattle.std.proofs.Common.{◌≡◌, ◌+◌, ◌-◌, length, drop}
-use Rattle.std.specs.List.{prefix_len}
-use Rattle.mime_http.specs.Forms.{is_plain}
+use Rattle.mime_http.proofs.Common.{drop, is_plain, length, prefix_len, ◌+◌, ◌-◌, ◌≡◌}
 use Rattle.mime_http.proofs.quoted.special_from.Given as goal
 
 abbrev pub invariant-loop-at : goal.invariant-loop-at

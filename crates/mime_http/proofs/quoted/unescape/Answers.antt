@@ -1,10 +1,5 @@
 -- The bytes before the first backslash mean themselves, and what is behind them is moved together.
-use Rattle.std.proofs.Common.{rules, ◌≡◌, ◌≢◌, ◌∙◌, ◌+◌, ◌++◌, ◌<◌, ℕ, List, Option, ap, sym, subst, get_or, length, take, drop, arith}
-use Rattle.std.specs.Vec.{vec_items}
-use Rattle.std.specs.Option.{MatchOption}
-use Rattle.std.proofs.Math.Seq.{take-append_seam}
-use Rattle.std.proofs.lemmas.Str.Pattern.{find_char}
-use Rattle.mime_http.specs.Unescaped.{unescaped}
+use Rattle.mime_http.proofs.Common.{List, MatchOption, Option, ap, arith, drop, find_char, get_or, length, rules, subst, sym, take, take-append_seam, unescaped, vec_items, ℕ, ◌++◌, ◌+◌, ◌<◌, ◌∙◌, ◌≡◌, ◌≢◌}
 use Rattle.mime_http.proofs.Contents.{unescaped_end, unescaped_same}
 use Rattle.mime_http.proofs.quoted.unescape.Goals as goal
 

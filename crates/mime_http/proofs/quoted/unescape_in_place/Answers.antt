@@ -1,6 +1,5 @@
 -- Nothing is left, so what was moved is the whole.
-use Rattle.std.proofs.Common.{◌≡◌, ◌∙◌, ◌++◌, ap, sym, arith, [], append-nil, take, drop}
-use Rattle.std.proofs.Math.ListN.{drop_of_length-le}
+use Rattle.mime_http.proofs.Common.{[], ap, append-nil, arith, drop, drop_of_length-le, sym, take, ◌++◌, ◌∙◌, ◌≡◌}
 use Rattle.mime_http.proofs.Contents.{unescaped_from, unescaped_is}
 use Rattle.mime_http.proofs.quoted.unescape_in_place.Goals as goal
 

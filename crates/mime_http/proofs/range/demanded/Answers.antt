@@ -1,8 +1,6 @@
 -- A weight that is written so is the only parameter.
-use Rattle.std.proofs.Common.{◌≡◌, true, rules, arith, get_or, length, ◌∷◌, []}
-use Rattle.std.specs.Char.{is_ascii_digit}
-use Rattle.std.proofs.lemmas.Slice.Eq.{HasBytesAt}
-use Rattle.mime_http.proofs.ShortWeight.{at_once, after_a_space, one_decimal}
+use Rattle.mime_http.proofs.Common.{HasBytesAt, [], arith, get_or, is_ascii_digit, length, rules, true, ◌∷◌, ◌≡◌, refl}
+use Rattle.mime_http.proofs.ShortWeight.{weight_of_one_decimal, one_decimal}
 use Rattle.mime_http.proofs.range.demanded.Goals as goal
 
 pub returns-in-59 : goal.returns-in-59
@@ -13,8 +11,8 @@ returns-in-59 c =
     let digit : is_ascii_digit (get_or rest 5 0) ≡ true = search rules in
     let weight = one_decimal (get_or rest 5 0) c.tenths.result digit c.tenths.ensures in
     rw weight
-    (at_once c.args.offer.now.media c.args.range.now.media rest c.after_essence.ensures.reads c.after_essence.ensures.after long bytes
-    digit)
+    (weight_of_one_decimal [] 5 c.args.offer.now.media c.args.range.now.media rest refl refl c.after_essence.ensures.reads
+    c.after_essence.ensures.after long bytes digit)
 
 pub returns-in-59-2 : goal.returns-in-59-2
 returns-in-59-2 c =
@@ -24,5 +22,5 @@ returns-in-59-2 c =
     let digit : is_ascii_digit (get_or rest 6 0) ≡ true = search rules in
     let weight = one_decimal (get_or rest 6 0) c.tenths-in-59-2.result digit c.tenths-in-59-2.ensures in
     rw weight
-    (after_a_space c.args.offer.now.media c.args.range.now.media rest c.after_essence.ensures.reads c.after_essence.ensures.after long bytes
-    digit)
+    (weight_of_one_decimal (32 ∷ []) 6 c.args.offer.now.media c.args.range.now.media rest refl refl c.after_essence.ensures.reads
+    c.after_essence.ensures.after long bytes digit)

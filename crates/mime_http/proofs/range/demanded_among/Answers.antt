@@ -1,9 +1,5 @@
 -- Each item is of a weight, or counted, or missing.
-use Rattle.std.proofs.Common.{rules, arith, ◌≡◌, ◌∙◌, refl, sym, ap, subst, ◌∷◌, [], true, false, List, ℕ, Bor, Option, Some, None, codes, bytes_eq}
-use Rattle.std.specs.Prelude.{option_map, unwrap_or}
-use Rattle.std.specs.Option.{option_or}
-use Rattle.mime.specs.Items.{item_seen}
-use Rattle.mime_http.specs.Weight.{thousandths_of}
+use Rattle.mime_http.proofs.Common.{Bor, List, None, Option, Some, [], ap, arith, bytes_eq, codes, false, item_seen, option_map, option_or, refl, rules, subst, sym, thousandths_of, true, unwrap_or, ℕ, ◌∙◌, ◌∷◌, ◌≡◌}
 use Rattle.mime_http.proofs.Demanded.{Counted, found_of, none_yet, weight_passed, one_counted, one_missing, room_for_one, all_counted, demanded_within}
 use Rattle.mime_http.proofs.range.demanded_among.Goals as goal
 

@@ -1,7 +1,5 @@
 -- The parameters so far were counted, of which the first weight is known, and there is room for the rest.
-use Rattle.std.proofs.Common.{◌≤◌, length}
-use Rattle.std.specs.Prelude.{option_map}
-use Rattle.mime_http.specs.Ranges.{demanded}
+use Rattle.mime_http.proofs.Common.{demanded, length, option_map, ◌≤◌}
 use Rattle.mime_http.proofs.Demanded.{Counted}
 use Rattle.mime_http.proofs.range.demanded_among.Given as goal
 

@@ -1,11 +1,6 @@
 -- A look-up by a name finds the first value under it.
-use Rattle.std.proofs.Common.{◌≡◌, List, [], ◌∷◌, ℕ, Bool, Option, Some, None, bytes_eq, sym, ap, ◌∙◌, ⊎_elim}
-use Rattle.std.specs.Prelude.{option_map}
-use Rattle.std.proofs.lemmas.Bool.{cases_Bool, true≢false}
-use Rattle.std.proofs.lemmas.Slice.Eq.{bytes_eq-Decides}
-use Rattle.mime.specs.Items.{items_of, IsFirstAccepted, name_seen, name_text}
+use Rattle.mime_http.proofs.Common.{Bool, IsFirstAccepted, List, None, Option, Some, [], ap, bytes_eq, bytes_eq-Decides, cases_Bool, first_value, items_of, name_seen, name_text, option_map, sym, true≢false, ℕ, ⊎_elim, ◌∙◌, ◌∷◌, ◌≡◌}
 use Rattle.mime.specs.declared.name.Name.{Name}
-use Rattle.mime_http.specs.Ranges.{first_value}
 use Rattle.mime_http.proofs.range.first_value.Goals as goal
 
 -- the text of what was seen

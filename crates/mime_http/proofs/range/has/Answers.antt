@@ -1,9 +1,5 @@
 -- The parameters are the offer's pairs.
-use Rattle.std.proofs.Common.{rules, ◌≡◌, ◌∙◌, refl, ap, List, ℕ, Bool, [], ◌∷◌, bytes_eq}
-use Rattle.std.specs.Prelude.{◌&&◌, ◌||◌}
-use Rattle.std.specs.List.{list_any}
-use Rattle.mime.specs.Items.{items_of}
-use Rattle.mime_http.specs.Unescaped.{unescaped}
+use Rattle.mime_http.proofs.Common.{Bool, List, [], ap, bytes_eq, items_of, list_any, refl, rules, unescaped, ℕ, ◌&&◌, ◌||◌, ◌∙◌, ◌∷◌, ◌≡◌}
 use Rattle.mime_http.proofs.range.has.Goals as goal
 
 -- a test of items is one of pairs

@@ -1,8 +1,5 @@
 -- The parameters that are left decide.
-use Rattle.std.proofs.Common.{◌≡◌, bytes_eq, ◌&&◌}
-use Rattle.std.specs.List.{list_any}
-use Rattle.mime_http.specs.Ranges.{has}
-use Rattle.mime_http.specs.Unescaped.{unescaped}
+use Rattle.mime_http.proofs.Common.{bytes_eq, has, list_any, unescaped, ◌&&◌, ◌≡◌}
 use Rattle.mime_http.proofs.range.has.Given as goal
 
 abbrev pub invariant-loop-own : goal.invariant-loop-own

@@ -1,12 +1,6 @@
 -- What is left of an essence is the type exactly if the essence is the type and the end.
-use Rattle.std.proofs.Common.{◌≡◌, ◌∙◌, ◌++◌, List, ℕ, Option, Some, None, bytes_eq, Bor, ap, subst, sym, refl}
-use Rattle.std.specs.Option.{option_eq}
-use Rattle.std.specs.Prelude.{MatchOption}
+use Rattle.mime_http.proofs.Common.{Bor, List, MatchOption, None, Option, Some, ap, append_cancel_right, bytes_eq, bytes_eq-Decides, false_from_ne_true, option_eq, refl, same_from_decides, subst, sym, ℕ, ◌++◌, ◌∙◌, ◌≡◌}
 use Rattle.std.specs.Str.Pattern.{FindsTextSuffix, StripsSuffix}
-use Rattle.std.proofs.lemmas.Bool.{false_from_ne_true}
-use Rattle.std.proofs.lemmas.Bool.Decides.{same_from_decides}
-use Rattle.std.proofs.lemmas.List.{append_cancel_right}
-use Rattle.std.proofs.lemmas.Slice.Eq.{bytes_eq-Decides}
 use Rattle.mime_http.proofs.range.is_all_of.Goals as goal
 
 -- the test of what is left is the test of the whole

@@ -1,10 +1,5 @@
 -- What comes out of a value in UTF-8 is in UTF-8.
-use Rattle.std.proofs.Common.{◌≡◌, ◌∙◌, ◌++◌, ◌≤◌, ℕ, List, sym, ap, subst, drop, length, append-nil}
-use Rattle.std.proofs.lemmas.List.{drop_all}
-use Rattle.std.specs.Str.{IsUtf8}
-use Rattle.std.specs.Vec.{vec_items}
-use Rattle.mime_http.specs.declared.tight.Place.{Place}
-use Rattle.mime_http.specs.Places.{tight_from, tight}
+use Rattle.mime_http.proofs.Common.{IsUtf8, List, Place, ap, append-nil, drop, drop_all, length, subst, sym, tight, tight_from, ℕ, ◌++◌, ◌∙◌, ◌≡◌, ◌≤◌, false}
 use Rattle.mime_http.proofs.HttpText.{tight_utf8}
 use Rattle.mime_http.proofs.tight.copied.Goals as goal
 
@@ -18,8 +13,3 @@ pub from_utf8_unchecked-requires : goal.from_utf8_unchecked-requires
 from_utf8_unchecked-requires c =
     let out = all_out _ _ c.args.value.now c.loop-byte.place c.loop-byte.byte-index c.loop-byte-test.false c.loop-byte.invariant in
     subst IsUtf8 (sym out) ((tight_utf8 c.args.value.now).0 c.requires.utf8)
-
-pub returns : goal.returns
-returns c _ =
-    ap vec_items c.from_utf8_unchecked.ensures.value
-    ∙ all_out _ _ c.args.value.now c.loop-byte.place c.loop-byte.byte-index c.loop-byte-test.false c.loop-byte.invariant

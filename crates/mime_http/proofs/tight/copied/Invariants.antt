@@ -1,7 +1,5 @@
 -- What came out so far, and what is left to come, are the whole.
-use Rattle.std.proofs.Common.{◌≡◌, ◌++◌, drop}
-use Rattle.std.specs.Vec.{vec_items}
-use Rattle.mime_http.specs.Places.{tight_from, tight}
+use Rattle.mime_http.proofs.Common.{drop, tight, tight_from, vec_items, ◌++◌, ◌≡◌}
 use Rattle.mime_http.proofs.tight.copied.Given as goal
 
 abbrev pub invariant-loop-byte : goal.invariant-loop-byte

@@ -1,9 +1,5 @@
 -- White space is followed by a semicolon, by the end, or by what HTTP doesn't allow there.
-use Rattle.std.proofs.Common.{arith, ◌∙◌, ◌+◌, ◌-◌, ap, subst, sym, length, drop, get_or}
-use Rattle.std.proofs.lemmas.List.{take_rest, length-drop}
-use Rattle.mime_http.specs.declared.tight.Place.TheVariants.{Spaced}
-use Rattle.mime_http.specs.HttpList.{trim_start}
-use Rattle.mime_http.specs.Tightening.{begins_with_semicolon, Begins, IsLoose}
+use Rattle.mime_http.proofs.Common.{Begins, IsLoose, Spaced, ap, arith, begins_with_semicolon, drop, get_or, length, length-drop, subst, sym, take_rest, trim_start, ◌+◌, ◌-◌, ◌∙◌}
 use Rattle.mime_http.proofs.Trims.{trimmed-le}
 use Rattle.mime_http.proofs.Spare.{spare_white}
 use Rattle.mime_http.proofs.WhiteAtFault.{begins, later_space}

@@ -1,14 +1,5 @@
 -- The byte at fault is left out, or the fault stands.
-use Rattle.std.proofs.Common.{arith, ◌≡◌, ◌∙◌, ◌-◌, ap, subst, sym, ℕ, List, length, get_or}
-use Rattle.std.specs.Prelude.{IfOk}
-use Rattle.std.proofs.lemmas.Bool.Decides.{nat_tests}
-use Rattle.std.proofs.lemmas.Option.{slice_get_within, get_or_from_slice_get}
-use Rattle.mime.specs.Grammar.{is_space}
-use Rattle.mime.specs.Faults.{IsFault, IsDeadAt}
-use Rattle.mime.specs.declared.scan.fault.ParseError.{ParseError}
-use Rattle.mime.specs.declared.scan.fault.ParseError.TheVariants.{InvalidToken}
-use Rattle.mime_http.specs.Tightening.{Stands, IsLoose, IsTightening}
-use Rattle.mime_http.specs.declared.tight.Place.TheVariants.{Start}
+use Rattle.mime_http.proofs.Common.{IfOk, InvalidToken, IsDeadAt, IsFault, IsLoose, IsTightening, List, ParseError, Stands, Start, ap, arith, get_or, get_or_from_slice_get, is_space, length, nat_tests, slice_get_within, subst, sym, ℕ, ◌-◌, ◌∙◌, ◌≡◌, ends_in_semicolon_or_space, false, trim_start, true}
 use Rattle.mime_http.proofs.Trims.{trimmed-le}
 use Rattle.mime_http.proofs.Spare.{spare_start, spare_semicolon}
 use Rattle.mime_http.proofs.WhiteAtFault.{first_space}
@@ -92,9 +83,6 @@ returns-in-32-clause-memory c = λ isnt.
     let value = c.args.value.now in
     let at = fault_at value c.args.fault _ _ c.requires.fault c.in-InvalidToken.is in
     absurd (isnt (spare_start value _ _ at.dead (grind (arith, nat_tests, c.in-32.is)) c.if-pos-eq0.true))
-
-pub returns-in-32-2-clause-memory : goal.returns-in-32-2-clause-memory
-returns-in-32-2-clause-memory c = c.tightening_at_white.ensures.memory
 
 pub returns-in-59-clause-memory : goal.returns-in-59-clause-memory
 returns-in-59-clause-memory c = λ isnt.

@@ -1,20 +1,9 @@
 -- What the library reads as it stands is what HTTP writes, and stays as it is.
-use Rattle.std.proofs.Common.{rules, arith, ◌≡◌, ◌≢◌, ◌∙◌, ℕ, List, [], ◌∷◌, subst, sym}
-use Rattle.std.specs.Str.{IsUtf8}
-use Rattle.std.proofs.lemmas.Bool.{true≢false}
-use Rattle.std.proofs.lemmas.Str.{IsUtf8-from_ascii}
-use Rattle.std.proofs.lemmas.Str.Ascii.{IsAscii-cons, IsAscii-nil}
-use Rattle.std.specs.Prelude.{Result, Ok, Err, IfOk, IfErr}
-use Rattle.mime.specs.Values.{OwnedMedia, Reads, IsAccepted}
-use Rattle.mime.specs.Faults.{Explains}
+use Rattle.mime_http.proofs.Common.{Err, Explains, FaultIsSpare, HttpExplains, HttpReads, IfErr, IfOk, IsAccepted, IsAscii-cons, IsAscii-nil, IsHttpMediaType, IsUtf8, IsUtf8-from_ascii, List, Ok, OwnedMedia, Reads, ReadsTight, Result, [], arith, rules, subst, sym, tight, true≢false, ℕ, ◌∙◌, ◌∷◌, ◌≡◌, ◌≢◌, NoMemory}
 use Rattle.mime_http.specs.declared.value.FieldError.{FieldError}
-use Rattle.mime_http.specs.HttpMediaType.{HttpReads, IsHttpMediaType}
-use Rattle.mime_http.specs.HttpFaults.{HttpExplains}
-use Rattle.mime_http.specs.Places.{tight}
 use Rattle.mime_http.proofs.HttpBack.{read_is_http}
-use Rattle.mime_http.specs.Tight.{ReadsTight, FaultIsSpare}
 use Rattle.mime_http.proofs.HttpLaws.{reads_tight}
-use Rattle.mime_http.proofs.Places.{accepted_stays}
+use Rattle.mime_http.proofs.Places.{tight_too}
 use Rattle.mime_http.proofs.HttpLaws.{plain_is_http}
 use Rattle.mime_http.proofs.Rejections.{fault_explains}
 use Rattle.mime_http.proofs.value.content_type.Goals as goal
@@ -39,7 +28,7 @@ pub returns-in-Ok-from_str-clause-kept : goal.returns-in-Ok-from_str-clause-kept
 returns-in-Ok-from_str-clause-kept c =
     let text : c.in-Ok.text.now ≡ c.args.value.now = search rules in
     let read = subst (λ text. Reads text c.in-Ok-from_str.mime.media) text c.in-Ok-from_str.ensures.read in
-    reads_tight c.args.value.now (subst (λ text. Reads text c.in-Ok-from_str.mime.media) (sym (accepted_stays c.args.value.now (_, read))) read)
+    reads_tight c.args.value.now (tight_too c.args.value.now read)
 
 pub returns-in-NoMemory-clause-rejected : goal.returns-in-NoMemory-clause-rejected
 returns-in-NoMemory-clause-rejected c = λ isnt.

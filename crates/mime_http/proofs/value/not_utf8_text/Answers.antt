@@ -1,6 +1,5 @@
 -- The pieces written one by one are the whole text.
-use Rattle.std.proofs.Common.{◌≡◌, List, [], ◌∷◌, ◌++◌, ℕ, sym, ap, ◌∙◌, append-nil, append_assoc}
-use Rattle.std.specs.List.{FoldsTo, concat}
+use Rattle.mime_http.proofs.Common.{FoldsTo, List, [], ap, append-nil, append_assoc, concat, sym, ℕ, ◌++◌, ◌∙◌, ◌∷◌, ◌≡◌}
 use Rattle.std.specs.Fmt.{WritesInCalls}
 use Rattle.std.specs.Fmt.InlineText.{inline_text, IsIntact, AppendsIfIntact}
 use Rattle.std.specs.declared.fmt.InlineText.{InlineText}

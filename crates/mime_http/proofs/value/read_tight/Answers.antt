@@ -1,9 +1,5 @@
 -- What tightening leaves is read as the value, and if it isn't, HTTP rejects the value.
-use Rattle.std.proofs.Common.{rules, ◌≡◌, ◌∙◌, sym, subst, take, string_bytes}
-use Rattle.mime.specs.Values.{IsAccepted}
-use Rattle.mime.specs.Faults.{IsFault, Explains}
-use Rattle.mime_http.specs.Places.{tight}
-use Rattle.mime_http.specs.Tightening.{Begins, IsTightening}
+use Rattle.mime_http.proofs.Common.{Begins, Explains, IsAccepted, IsFault, IsTightening, rules, string_bytes, subst, sym, take, tight, ◌∙◌, ◌≡◌}
 use Rattle.mime_http.proofs.HttpViability.{http_from_accepted}
 use Rattle.mime_http.proofs.Rejections.{fault_explains, rejected_nothing, rejected_at_next, rejected_prefix, rejected_copy}
 use Rattle.mime_http.proofs.value.read_tight.Goals.{in_default-via-in-Prefix+else-next-value, in_default-via-in_default, in-Prefix, in-Copy}

@@ -1,5 +1,5 @@
 -- ASCII is UTF-8.
-use Rattle.std.proofs.lemmas.Str.{IsUtf8-from_ascii}
+use Rattle.mime_http.proofs.Common.{IsUtf8-from_ascii}
 use Rattle.mime_http.proofs.value.text_of_piece.Goals.{then-is_ascii-via-then-is_ascii, then-is_ascii-via-else-is_ascii+then-is_ascii-2}
 use Rattle.mime_http.proofs.value.text_of_piece.Goals as goal
 

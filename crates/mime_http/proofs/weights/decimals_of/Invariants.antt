@@ -1,6 +1,5 @@
 -- What was added so far, and what is left to add, are the whole, and there is room for the rest.
-use Rattle.std.proofs.Common.{◌≡◌, ◌+◌, ◌*◌, ◌≤◌, drop}
-use Rattle.mime_http.specs.Digits.{worth}
+use Rattle.mime_http.proofs.Common.{drop, worth, ◌*◌, ◌+◌, ◌≡◌, ◌≤◌}
 use Rattle.mime_http.proofs.weights.decimals_of.Given as goal
 
 abbrev pub invariant-loop-byte : goal.invariant-loop-byte

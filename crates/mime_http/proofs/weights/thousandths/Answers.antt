@@ -1,7 +1,5 @@
 -- What is read digit by digit is the number that the text begins with.
-use Rattle.std.proofs.Common.{arith, ◌≡◌, ◌∙◌}
-use Rattle.std.proofs.lemmas.Grind.{common_steps}
-use Rattle.mime_http.specs.Digits.{read_number}
+use Rattle.mime_http.proofs.Common.{arith, common_steps, read_number, ◌∙◌, ◌≡◌}
 use Rattle.mime_http.proofs.Numbers.{read_is}
 use Rattle.mime_http.proofs.weights.thousandths.Goals as goal
 

@@ -1,6 +1,5 @@
 -- Only zeros so far, so what is left decides.
-use Rattle.std.proofs.Common.{◌≡◌, drop}
-use Rattle.mime_http.specs.Digits.{read_number}
+use Rattle.mime_http.proofs.Common.{drop, read_number, ◌≡◌}
 use Rattle.mime_http.proofs.weights.thousandths.Given as goal
 
 abbrev pub invariant-loop-at : goal.invariant-loop-at

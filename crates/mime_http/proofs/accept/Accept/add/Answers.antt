@@ -1,9 +1,5 @@
 -- A piece is blank, or it adds what its entry adds.
-use Rattle.std.proofs.Common.{arith, ◌≡◌, ◌∙◌, refl, sym, subst, []}
-use Rattle.std.specs.Str.{IsAscii}
-use Rattle.std.proofs.lemmas.Grind.{common_steps}
-use Rattle.std.proofs.lemmas.List.{nil_from_length}
-use Rattle.mime_http.specs.HttpList.{trim_start}
+use Rattle.mime_http.proofs.Common.{IsAscii, [], arith, common_steps, nil_from_length, refl, subst, sym, trim_start, ◌∙◌, ◌≡◌, false}
 use Rattle.mime_http.proofs.Adds.{add_nothing, trimmed_added}
 use Rattle.mime_http.proofs.Trims.{some_left, trimmed_from_blank, trim_twice, ascii_trimmed}
 use Rattle.mime_http.proofs.accept.Accept.add.Goals as goal
@@ -16,9 +12,6 @@ returns-then-is_empty-clause-added c =
 pub add_entry-requires-clause-ascii : goal.add_entry-requires-clause-ascii
 add_entry-requires-clause-ascii c = λ known.
     subst IsAscii (sym c.trim_start-entry.ensures) (ascii_trimmed c.args.piece.now (c.requires known))
-
-pub add_entry-requires-clause-some : goal.add_entry-requires-clause-some
-add_entry-requires-clause-some c = some_left _ _ c.is_empty.ensures c.if-is_empty.false
 
 pub add_entry-requires-clause-trimmed : goal.add_entry-requires-clause-trimmed
 add_entry-requires-clause-trimmed c = subst (λ t. trim_start t ≡ t) (sym c.trim_start-entry.ensures) (trim_twice c.args.piece.now)

@@ -1,12 +1,7 @@
 -- An entry's media type or itself was pushed.
-use Rattle.std.proofs.Common.{◌≡◌, ◌∙◌, List, ℕ, sym, ap, subst, [], ◌∷◌, ◌++◌, Ok, Err}
-use Rattle.std.specs.Prelude.{Result, OnOk}
-use Rattle.std.specs.Str.{IsUtf8}
-use Rattle.mime.specs.Values.{Reads}
-use Rattle.mime_http.specs.HttpList.{Header, trim_start, trim_end}
-use Rattle.mime_http.specs.Walk.{Adds}
+use Rattle.mime_http.proofs.Common.{Adds, Err, Header, IsUtf8, List, Ok, OnOk, Reads, Result, [], subst, trim_end, trim_start, ℕ, ◌++◌, ◌∷◌, ◌≡◌}
 use Rattle.mime_http.proofs.Adds.{add_range, add_bad}
-use Rattle.mime_http.proofs.Places.{accepted_stays}
+use Rattle.mime_http.proofs.Places.{tight_too}
 use Rattle.mime_http.proofs.accept.Accept.add_entry.Goals as goal
 
 -- what isn't UTF-8 is bad
@@ -14,8 +9,7 @@ bad_added : {E X : Type 0} (result : Result X E) (entry : List ℕ) (old new : H
     → ¬ (IsUtf8 entry) → OnOk result (new.ranges ≡ old.ranges) → OnOk result (new.bad ≡ old.bad ++ (trim_end entry ∷ []))
     → OnOk result (Adds (entry ∷ []) old new)
 bad_added (Ok x) entry old new trimmed some isnt ranges bad =
-    add_bad entry (λ none. some (sym trimmed ∙ none)) (λ both. isnt (subst IsUtf8 trimmed both.0)) ranges
-    (bad ∙ ap (λ e. old.bad ++ (trim_end e ∷ [])) (sym trimmed))
+    add_bad entry trimmed some (λ both. isnt both.0) ranges bad
 bad_added (Err e) entry old new trimmed some isnt ranges bad = tt
 
 pub returns-in_default : goal.returns-in_default
@@ -27,8 +21,5 @@ pub returns-in_ok-add_range-in-Ok-from_str : goal.returns-in_ok-add_range-in-Ok-
 returns-in_ok-add_range-in-Ok-from_str c =
     let entry = c.args.entry.now in
     let media = c.in-Ok-from_str.range.media in
-    let text : c.in-Ok.text.now ≡ trim_start entry = c.in-Ok.ensures.cases.0 ∙ sym c.requires.trimmed in
-    let utf8 : IsUtf8 (trim_start entry) = subst IsUtf8 (sym c.requires.trimmed) c.in-Ok.ensures.cases.1 in
-    let read = subst (λ text. Reads text media) text c.in-Ok-from_str.ensures.read in
-    let kept = subst (λ text. Reads text media) (sym (accepted_stays (trim_start entry) (media, read))) read in
-    add_range entry media (utf8, kept) c.in_ok-add_range-in-Ok-from_str.ensures.ranges c.in_ok-add_range-in-Ok-from_str.ensures.bad
+    let read = subst (λ text. Reads text media) c.in-Ok.ensures.cases.0 c.in-Ok-from_str.ensures.read in
+    add_range entry media c.in-Ok.ensures.cases.1 (tight_too entry read) c.in_ok-add_range-in-Ok-from_str.ensures.ranges c.in_ok-add_range-in-Ok-from_str.ensures.bad

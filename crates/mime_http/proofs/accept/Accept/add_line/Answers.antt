@@ -1,8 +1,5 @@
 -- The first piece from here on is added, and those after its comma are left.
-use Rattle.std.proofs.Common.{◌≡◌, ◌∙◌, refl, ◌+◌, ◌-◌, ◌<◌, arith, [], ◌∷◌, length, sym, ap, subst, take, drop}
-use Rattle.std.proofs.lemmas.Bool.{true≢false}
-use Rattle.std.proofs.lemmas.List.{append-nil}
-use Rattle.mime_http.specs.Walk.{cut, Adds}
+use Rattle.mime_http.proofs.Common.{Adds, [], ap, append-nil, arith, cut, drop, length, refl, subst, sym, take, true≢false, ◌+◌, ◌-◌, ◌<◌, ◌∙◌, ◌∷◌, ◌≡◌}
 use Rattle.mime_http.proofs.Adds.{SoFar, none_so_far, some_more, all_added, add_nothing, lines_added, piece_is_blank}
 use Rattle.mime_http.proofs.Pieces.{empty_piece, pieces_after, no_piece_after}
 use Rattle.mime_http.proofs.accept.Accept.add_line.Goals as goal

@@ -1,6 +1,5 @@
 -- The pieces so far were added, and those from here on remain.
-use Rattle.std.proofs.Common.{◌-◌, ◌≤◌, length, drop}
-use Rattle.mime_http.specs.Walk.{cut}
+use Rattle.mime_http.proofs.Common.{cut, drop, length, ◌-◌, ◌≤◌}
 use Rattle.mime_http.proofs.Adds.{SoFar}
 use Rattle.mime_http.proofs.accept.Accept.add_line.Given as goal
 

@@ -1,12 +1,5 @@
 -- The entry's media type or itself was pushed.
-use Rattle.std.proofs.Common.{rules, ◌∙◌, refl, sym, ap, subst, [], ◌∷◌, ◌++◌}
-use Rattle.std.specs.Prelude.{Some, None}
-use Rattle.std.specs.Str.{IsUtf8}
-use Rattle.std.specs.Vec.{vec_items}
-use Rattle.mime.specs.Values.{Reads}
-use Rattle.mime_http.specs.HttpMediaType.{IsHttpMediaType}
-use Rattle.mime_http.specs.Places.{tight}
-use Rattle.mime_http.specs.HttpList.{Header, trim_end}
+use Rattle.mime_http.proofs.Common.{Header, IsHttpMediaType, None, Reads, Some, [], ap, refl, rules, sym, tight, trim_end, vec_items, ◌++◌, ◌∙◌, ◌∷◌}
 use Rattle.mime_http.proofs.Adds.{read_entry, pushed, add_range, add_bad}
 use Rattle.mime_http.proofs.accept.Accept.add_rejected.Goals as goal
 
@@ -16,7 +9,7 @@ returns-in_ok-push-in-Some c =
     let media = c.in-Some.range.media in
     let reads : Reads (tight entry) media =
     read_entry entry _ (Some c.in-Some.range) (sym c.ok.ensures.value ∙ c.in-Some.is) c.in_ok-read_tight.ensures.read in
-    add_range entry media (subst (λ t. IsUtf8 t × Reads (tight t) media) (sym c.requires.trimmed) (c.utf8.entry, reads))
+    add_range entry media c.utf8.entry reads
     (pushed (λ range. range.media) (vec_items c.self.inside.ranges) (vec_items c.push.new.self) c.in-Some.range media (search rules) refl
     ∙ ap (λ (h : Header). h.ranges ++ (media ∷ [])) c.self.view_is)
     (ap (λ (h : Header). h.bad) c.self.view_is)
@@ -24,9 +17,6 @@ returns-in_ok-push-in-Some c =
 pub returns-in_ok-add_bad-in-None : goal.returns-in_ok-add_bad-in-None
 returns-in_ok-add_bad-in-None c =
     let entry = c.args.entry.now in
-    let trimmed = c.requires.trimmed in
     let isnt : ¬ (IsHttpMediaType entry) = read_entry entry _ None (sym c.ok.ensures.value ∙ c.in-None.is) c.in_ok-read_tight.ensures.read in
-    add_bad entry (λ none. c.requires.some (sym trimmed ∙ none)) (λ both. isnt (subst IsHttpMediaType trimmed both.1))
-    c.in_ok-add_bad-in-None.ensures.ranges
-    (c.in_ok-add_bad-in-None.ensures.bad
-    ∙ ap (λ e. c.args.self.now.bad ++ (trim_end e ∷ [])) (c.as_bytes.ensures.value ∙ sym trimmed))
+    add_bad entry c.requires.trimmed c.requires.some (λ both. isnt both.1) c.in_ok-add_bad-in-None.ensures.ranges
+    (c.in_ok-add_bad-in-None.ensures.bad ∙ ap (λ e. c.args.self.now.bad ++ (trim_end e ∷ [])) c.as_bytes.ensures.value)

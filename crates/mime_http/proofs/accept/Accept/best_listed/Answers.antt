@@ -1,15 +1,7 @@
 -- The first piece from here on is taken, and those after its comma are left; at the end the best of all is chosen.
-use Rattle.std.proofs.Common.{◌≡◌, ◌∙◌, ◌+◌, ◌-◌, ◌<◌, ◌≤◌, arith, ℕ, List, [], ◌∷◌, sym, ap, subst, refl, take, drop, map, length, length-take}
-use Rattle.std.proofs.lemmas.Bool.{true≢false}
-use Rattle.std.proofs.lemmas.List.{append-nil}
-use Rattle.mime.specs.Values.{MediaType}
-use Rattle.mime_http.specs.HttpList.{Header, IsHeader}
-use Rattle.mime_http.specs.Ranges.{best_offer}
-use Rattle.mime_http.specs.Walk.{cut, cut_after, Adds}
-use Rattle.mime_http.specs.Chosen.{IsChosen, ChoosesOn}
-use Rattle.mime_http.specs.declared.listed.Chosen.{Chosen}
+use Rattle.mime_http.proofs.Common.{Adds, ChoosesOn, Chosen, Header, IsChosen, IsHeader, List, MediaType, [], ap, append-nil, arith, best_offer, cut, cut_after, drop, length, length-take, map, refl, subst, sym, take, true≢false, ℕ, ◌+◌, ◌-◌, ◌<◌, ◌∙◌, ◌∷◌, ◌≡◌, ◌≤◌, false, true}
 use Rattle.mime_http.proofs.Adds.{SoFar, none_so_far, some_more, all_added, is_header, piece_is_blank}
-use Rattle.mime_http.proofs.Chosen.{chooses_nothing, best_is_chosen, none_is_chosen}
+use Rattle.mime_http.proofs.Chosen.{chooses_nothing, highest_chosen, best_is_found, none_is_found}
 use Rattle.mime_http.proofs.Pieces.{empty_piece, pieces_after, no_piece_after}
 use Rattle.mime_http.proofs.accept.Accept.best_listed.Goals as goal
 
@@ -110,7 +102,7 @@ returns-then-chosen-gt0-clause-best c =
     let ranges = map (λ range. range.media) c.ranges-ranges.result.now in
     let last = last_taken ranges c.args.list.now c.loop-from.from c.piece_end-end.result c.piece_end-end.ensures.piece
     c.loop-from.invariant.taken (omega (arith, c.if-end-list.true)) c.in_ok-take_piece.ensures.piece in
-    let best = best_is_chosen last.2 (λ none. absurd (omega (arith, none, c.if-chosen-gt0.true))) in
+    let best = best_is_found (highest_chosen last.2) (λ none. absurd (omega (arith, none, c.if-chosen-gt0.true))) in
     (last.0, last.1, best ∙ ap (λ ranges. best_offer ranges last.0.ranges) c.ranges-ranges.ensures, last.2.bad)
 
 pub returns-else-chosen-gt0-clause-best : goal.returns-else-chosen-gt0-clause-best
@@ -118,5 +110,5 @@ returns-else-chosen-gt0-clause-best c =
     let ranges = map (λ range. range.media) c.ranges-ranges.result.now in
     let last = last_taken ranges c.args.list.now c.loop-from.from c.piece_end-end.result c.piece_end-end.ensures.piece
     c.loop-from.invariant.taken (omega (arith, c.if-end-list.true)) c.in_ok-take_piece.ensures.piece in
-    let best = none_is_chosen last.2 (omega (arith, c.if-chosen-gt0.false)) in
+    let best = none_is_found (highest_chosen last.2) (omega (arith, c.if-chosen-gt0.false)) in
     (last.0, last.1, best ∙ ap (λ ranges. best_offer ranges last.0.ranges) c.ranges-ranges.ensures, last.2.bad)

@@ -1,8 +1,5 @@
 -- The pieces so far were taken, and those from here on remain.
-use Rattle.std.proofs.Common.{◌+◌, ◌-◌, ◌≤◌, [], length, map, drop}
-use Rattle.mime_http.specs.HttpList.{Header}
-use Rattle.mime_http.specs.Walk.{cut}
-use Rattle.mime_http.specs.Chosen.{IsChosen}
+use Rattle.mime_http.proofs.Common.{Header, IsChosen, [], cut, drop, length, map, ◌+◌, ◌-◌, ◌≤◌}
 use Rattle.mime_http.proofs.Adds.{SoFar}
 use Rattle.mime_http.proofs.accept.Accept.best_listed.Given as goal
 

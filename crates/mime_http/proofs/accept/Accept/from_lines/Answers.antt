@@ -1,19 +1,10 @@
 -- The next line's pieces come before those of the lines that are left.
-use Rattle.std.proofs.Common.{arith, ◌≡◌, ◌≢◌, ◌++◌, ◌∙◌, ◌≤◌, refl, [], ◌∷◌, ℕ, List, map, length, subst, sym, ap, codes}
-use Rattle.std.specs.Prelude.{flat_map}
-use Rattle.std.specs.Vec.{vec_items}
-use Rattle.std.proofs.lemmas.Bool.{true≢false}
-use Rattle.std.proofs.lemmas.Grind.{common_steps}
-use Rattle.std.proofs.lemmas.List.{append-nil}
-use Rattle.std.proofs.Math.ListN.{drop_of_length-le}
-use Rattle.mime_http.specs.HttpList.{AreSorted, Header, IsHeader, lines_or_any}
-use Rattle.mime_http.specs.Walk.{Adds, AddsLines}
+use Rattle.mime_http.proofs.Common.{Adds, AddsLines, AreSorted, Header, IsHeader, List, [], ap, append-nil, arith, codes, common_steps, cut, drop_of_length-le, flat_map, length, lines_or_any, map, refl, subst, sym, true≢false, vec_items, ℕ, ◌++◌, ◌∙◌, ◌∷◌, ◌≡◌, ◌≢◌, ◌≤◌, true}
 use Rattle.mime_http.proofs.Adds.{SoFar, none_so_far, some_more, all_added, pieces_added, is_header, middle_is_blank, left_is_nothing, first_is_nothing}
-use Rattle.mime_http.specs.Walk.{cut}
 use Rattle.mime_http.proofs.Cuts.{are_cut, only_cut}
 use Rattle.mime_http.proofs.Highest.{item_left}
-use Rattle.mime_http.proofs.accept.Accept.from_lines.Goals as goal
 use Rattle.mime_http.proofs.accept.Accept.from_lines.Goals.{then-is_empty+in_ok-add_line, else-is_empty}
+use Rattle.mime_http.proofs.accept.Accept.from_lines.Goals as goal
 
 -- a header without ranges and bad entries
 abbrev nothing : Header
@@ -92,11 +83,6 @@ returns-clause-header c =
     let past : length lines ≤ c.loop-line.line-index = omega arith in
     done (λ line. line.now) lines c.loop-line.accept
     (subst (λ rest. Left (λ line. line.now) lines rest c.loop-line.accept) (drop_of_length-le lines past) c.loop-line.invariant)
-
-pub returns-in_err-add_line-clause-nothing : goal.returns-in_err-add_line-clause-nothing
-returns-in_err-add_line-clause-nothing c = λ holds.
-    let none : length c.args.lines.now ≡ 0 = grind (arith, common_steps) in
-    absurd (some_line (λ line. line.now) c.args.lines.now none holds)
 
 pub returns-in_err-add_line-2-clause-nothing : goal.returns-in_err-add_line-2-clause-nothing
 returns-in_err-add_line-2-clause-nothing c = λ holds.

@@ -1,9 +1,6 @@
 -- The lines so far were added.
-use Rattle.std.proofs.Common.{[], map, drop}
-use Rattle.std.specs.Prelude.{flat_map}
-use Rattle.mime_http.specs.HttpList.{lines_or_any}
+use Rattle.mime_http.proofs.Common.{[], cut, drop, flat_map, lines_or_any, map}
 use Rattle.mime_http.proofs.Adds.{SoFar}
-use Rattle.mime_http.specs.Walk.{cut}
 use Rattle.mime_http.proofs.accept.Accept.from_lines.Given as goal
 
 abbrev pub invariant-loop-line : goal.invariant-loop-line

@@ -1,11 +1,9 @@
 -- The offer ranks above all before it, or it doesn't.
-use Rattle.std.proofs.Common.{◌≡◌, ◌∙◌, ◌+◌, sym, ap}
-use Rattle.std.specs.Ordering.{is_gt, nat_cmp}
-use Rattle.mime_http.specs.Ranges.{rank_cmp}
+use Rattle.mime_http.proofs.Common.{ap, is_gt, nat_cmp, rank_cmp, sym, ◌+◌, ◌∙◌, ◌≡◌}
 use Rattle.mime_http.proofs.Ranks.{gt_of_ranks}
 use Rattle.mime_http.proofs.Chosen.{raised, stays}
-use Rattle.mime_http.proofs.listed.Chosen.take.Goals as goal
 use Rattle.mime_http.proofs.listed.Chosen.take.Goals.{then-gt, else-gt}
+use Rattle.mime_http.proofs.listed.Chosen.take.Goals as goal
 
 pub returns-clause-offer : goal.returns-clause-offer
 returns-clause-offer c = λ before was.

@@ -1,9 +1,5 @@
 -- A piece is blank, or what its entry is.
-use Rattle.std.proofs.Common.{arith, ◌≡◌, ◌∙◌, [], sym, subst}
-use Rattle.std.specs.Str.{IsAscii}
-use Rattle.std.proofs.lemmas.Grind.{common_steps}
-use Rattle.std.proofs.lemmas.List.{nil_from_length}
-use Rattle.mime_http.specs.HttpList.{trim_start}
+use Rattle.mime_http.proofs.Common.{IsAscii, [], arith, common_steps, nil_from_length, subst, sym, trim_start, ◌∙◌, ◌≡◌, Chosen, false}
 use Rattle.mime_http.proofs.Chosen.{chooses_nothing, trimmed_chosen}
 use Rattle.mime_http.proofs.Trims.{some_left, trimmed_from_blank, trim_twice, ascii_trimmed}
 use Rattle.mime_http.proofs.listed.Chosen.take_piece.Goals as goal
@@ -16,9 +12,6 @@ returns-then-is_empty-clause-piece c =
 pub take_entry-requires-clause-ascii : goal.take_entry-requires-clause-ascii
 take_entry-requires-clause-ascii c = λ known.
     subst IsAscii (sym c.trim_start-entry.ensures) (ascii_trimmed c.args.piece.now (c.requires.ascii known))
-
-pub take_entry-requires-clause-some : goal.take_entry-requires-clause-some
-take_entry-requires-clause-some c = some_left _ _ c.is_empty.ensures c.if-is_empty.false
 
 pub take_entry-requires-clause-trimmed : goal.take_entry-requires-clause-trimmed
 take_entry-requires-clause-trimmed c = subst (λ t. trim_start t ≡ t) (sym c.trim_start-entry.ensures) (trim_twice c.args.piece.now)

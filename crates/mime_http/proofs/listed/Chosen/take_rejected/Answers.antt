@@ -1,10 +1,5 @@
 -- The entry is an offer, or it is bad.
-use Rattle.std.proofs.Common.{◌∙◌, sym, subst, arith}
-use Rattle.std.specs.Prelude.{Some, None}
-use Rattle.std.specs.Str.{IsUtf8}
-use Rattle.mime.specs.Values.{Reads}
-use Rattle.mime_http.specs.HttpMediaType.{IsHttpMediaType}
-use Rattle.mime_http.specs.Places.{tight}
+use Rattle.mime_http.proofs.Common.{IsHttpMediaType, None, Reads, Some, arith, sym, tight, ◌∙◌, Chosen, take}
 use Rattle.mime_http.proofs.Adds.{read_entry}
 use Rattle.mime_http.proofs.Chosen.{chooses_offer, chooses_bad}
 use Rattle.mime_http.proofs.listed.Chosen.take_rejected.Goals as goal
@@ -15,16 +10,15 @@ returns-in-Some c =
     let media = c.in-Some.offer.media in
     let reads : Reads (tight entry) media = read_entry entry _ (Some c.in-Some.offer) (sym c.ok.ensures.value ∙ c.in-Some.is) c.in_ok-read_tight.ensures.read in
     record {
-      entry = chooses_offer _ entry media (subst (λ t. IsUtf8 t × Reads (tight t) media) (sym c.requires.trimmed) (c.utf8.entry, reads)) c.take.ensures.offer;
+      entry = chooses_offer _ entry media c.utf8.entry reads c.take.ensures.offer;
       few = c.take.ensures.few;
     }
 
 pub returns-in-None : goal.returns-in-None
 returns-in-None c =
     let entry = c.args.entry.now in
-    let trimmed = c.requires.trimmed in
     let isnt : ¬ (IsHttpMediaType entry) = read_entry entry _ None (sym c.ok.ensures.value ∙ c.in-None.is) c.in_ok-read_tight.ensures.read in
     record {
-      entry = chooses_bad _ entry (λ none. c.requires.some (sym trimmed ∙ none)) (λ both. isnt (subst IsHttpMediaType trimmed both.1));
+      entry = chooses_bad _ entry c.requires.trimmed c.requires.some (λ both. isnt both.1);
       few = omega arith;
     }

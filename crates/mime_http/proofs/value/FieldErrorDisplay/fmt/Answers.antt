@@ -1,8 +1,6 @@
 -- The text of the fault follows what is written first.
-use Rattle.std.proofs.Common.{List, ℕ, [], ◌∷◌, ◌++◌, ◌∙◌, sym, ap, subst, refl, codes}
+use Rattle.mime_http.proofs.Common.{FoldsTo, List, [], ap, codes, concat, field_error_text, refl, subst, sym, ℕ, ◌++◌, ◌∙◌, ◌∷◌}
 use Rattle.std.proofs.lemmas.List.Folds.{concat-append}
-use Rattle.std.specs.List.{FoldsTo, concat}
-use Rattle.mime_http.specs.HttpPrinted.{field_error_text}
 use Rattle.mime_http.proofs.value.FieldErrorDisplay.fmt.Goals as goal
 
 -- calls after calls
