@@ -15,8 +15,8 @@ TOP = os.path.dirname(os.path.dirname(os.path.realpath(__file__)))
 PROVED = os.environ.get("PROVED") or TOP
 # What passed in earlier runs: a file each, with a checksum of all that it rests on. A fresh clone has none.
 KEPT = f"{TOP}/out/kept"
-# The seconds that rt may take for one command, and a program for one input. Both take far less.
-RT_SECONDS, PROGRAM_SECONDS = 20 * 60, 60
+# The seconds that rt may take for one command, and a program for one input. Both take far less, unless they make way for others.
+RT_SECONDS, PROGRAM_SECONDS = 60 * 60, 60
 
 # What makes each kind of a crate's program, by how its name ends: as LLVM builds it, as Rattle's own compiler does, and its tests.
 KINDS = {"": "rt run --backend llvm", ".by-rattle": "rt run --backend rattle", "_tests": "rt test"}
