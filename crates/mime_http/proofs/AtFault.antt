@@ -190,8 +190,7 @@ dead_too value pos b cut here comes =
 
 -- so the fault stands
 pub stays_dead : (value : List ℕ) (pos b : ℕ) → CutAt value pos b → slice_get value pos ≡ Some b
-    → ComesOut (place_from Start (take pos value)) b
-    → Stands value (InvalidToken pos b)
+    → ComesOut (place_from Start (take pos value)) b → Stands value (InvalidToken pos b)
 stays_dead value pos b cut here comes =
     let dead = dead_too value pos b cut here comes in
     record {

@@ -79,8 +79,7 @@ module _ (ranges : List MediaType) (piece : List ℕ) {old : Chosen} where
 
 -- what is chosen after an entry is chosen after the piece that it is trimmed of
 chooses_trimmed : (ranges : List MediaType) (piece text : List ℕ) {old new : Chosen} → text ≡ trim_start piece
-    → ChoosesOn ranges text old new
-    → ChoosesOn ranges piece old new
+    → ChoosesOn ranges text old new → ChoosesOn ranges piece old new
 chooses_trimmed ranges piece text is chooses before was =
     let after = chooses before was in (after.0, add_trimmed piece text is after.1, after.2)
 
@@ -103,8 +102,7 @@ module _ {all : List Rank} {most : Rank} {best : Option ℕ} (is : Highest ranks
       let there = is.first (λ low. some (ap (λ m. m.0) low)) in
       let weighs : ((highest all).0 == 0) ≡ false = ap (λ m. m.0 == 0) (sym is.high) ∙ ne_eqb most.0 0 some in
       let place = position_from-zero (λ r. eq_by_cmp rank_cmp r most) all ∙ there.2 in
-      let found : Found best =
-      rw weighs (there.1 ∙ sym (ap (λ m. position (λ r. eq_by_cmp rank_cmp r m) all) (sym is.high) ∙ place)) in
+      let found : Found best = rw weighs (there.1 ∙ sym (ap (λ m. position (λ r. eq_by_cmp rank_cmp r m) all) (sym is.high) ∙ place)) in
       found ∙ sym (best_is_position all)
 
   -- and else there is none

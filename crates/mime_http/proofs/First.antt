@@ -74,8 +74,7 @@ module _ (ranges offers : List MediaType) (best : ℕ) (others : List ℕ) (are 
       let is = (as_high high.0 high.1).0 in
       let test = λ (r : Rank). eq_by_cmp rank_cmp r (highest all) in
       let some : ((highest all).0 == 0) ≡ false = ne_eqb (highest all).0 0 (λ no. absurd (omega (arith, no, weighs))) in
-      let here : test (rank_at all best) ≡ true =
-      subst (λ r. test r ≡ true) (sym is) (ap is_eq (tied_itself ranks_total (highest all))) in
+      let here : test (rank_at all best) ≡ true = subst (λ r. test r ≡ true) (sym is) (ap is_eq (tied_itself ranks_total (highest all))) in
       let before : (j : ℕ) → j < best → test (rank_at all j) ≡ false = λ j below. ⊎_elim
       (λ level. absurd (omega (
         arith,

@@ -43,8 +43,7 @@ closes true not_taken = absurd (false≢true (sym not_taken))
 closes false not_taken = one Quoted 34
 
 -- in a list each byte that goes on comes out, and leads to the place after it
-grown_list : (closed : ClosedParameters) (position : ListState) (b : ℕ)
-    → MatchOption (grow_state closed position b) (Unit {0})
+grown_list : (closed : ClosedParameters) (position : ListState) (b : ℕ) → MatchOption (grow_state closed position b) (Unit {0})
     (λ next. Leads (place_in_list position) (b ∷ []) (b ∷ []) (place_in_list next.position))
 grown_list closed (in_spaces n) b =
     cond_both (is_space b) _ _ (λ o. MatchOption o (Unit {0}) (λ next. Leads Semicolon (b ∷ []) (b ∷ []) (place_in_list next.position)))
@@ -195,8 +194,7 @@ goes_on_as front more settled is =
     sym (end.leads.tightly more) ∙ accepted_stays (tight front ++ more) is in
     let same : tight_from (place_from Start front) more ≡ more =
     ap (λ place. tight_from place more) (sym (like_settled end.is_like settled)) ∙ append_cancel_left (tight front) _ _ written in
-    http_from_accepted (front ++ more)
-    (subst IsAccepted (sym (tight-append Start front more ∙ ap (λ x. tight front ++ x) same)) is)
+    http_from_accepted (front ++ more) (subst IsAccepted (sym (tight-append Start front more ∙ ap (λ x. tight front ++ x) same)) is)
 
 -- so if what comes out of it is viable, it is
 pub viable_from_tight : (front : List ℕ) → IsSettled (place_from Start front) → IsViable (tight front) → IsHttpViable front

@@ -176,8 +176,7 @@ nothing_is_no_value is = go is.1.tree.top _ is.1.well_formed.0 is.1.spelled
 
 -- and so is white space, as HTTP writes it
 http_is_not_blank : {piece : List ℕ} → AreSpaces piece → ¬ (IsHttpMediaType piece)
-http_is_not_blank {piece} white is =
-    nothing_is_no_value (subst IsAccepted (nothing_out at_start piece white) (accepted_from_http piece is))
+http_is_not_blank {piece} white is = nothing_is_no_value (subst IsAccepted (nothing_out at_start piece white) (accepted_from_http piece is))
 
 -- texts are sorted in one way
 one_sorting : {texts : List (List ℕ)} {ranges others : List MediaType} {bad poor : List (List ℕ)} → AreSorted texts ranges bad

@@ -46,8 +46,7 @@ weighing_is_at at (rank ∷ ranks) entry there = ⊎_elim
     (cases_Bool (rank.0 == 0))
   where
     here : 0 < rank.0 → Contains ((rank, at) ∷ weighing (at + 1) ranks) entry
-        → (Contains (weighing (at + 1) ranks) entry → IsAt (at + 1) ranks entry)
-        → IsAt at (rank ∷ ranks) entry
+        → (Contains (weighing (at + 1) ranks) entry → IsAt (at + 1) ranks entry) → IsAt at (rank ∷ ranks) entry
     here weighs (zero, within, is) rest = record {
       far = 0;
       there = ap (λ (e : Rank × ℕ). e.1) (sym is) ∙ omega arith;
@@ -100,8 +99,7 @@ offers_total = then_total (back_total (on_total (λ offer. offer.0.0) ranks_tota
 
 -- one that isn't after another is higher, or as high and offered earlier
 first_by : (x y : Rank) (i j : ℕ) (a b : Ordering) → rank_cmp x y ≡ a → MatchOrdering b (j < i) (j ≡ i) (i < j)
-    → is_lt (ordering_then a b) ≡ false → i ≢ j
-    → (is_gt (rank_cmp x y) ≡ true) ⊎ ((x ≡ y) × (i < j))
+    → is_lt (ordering_then a b) ≡ false → i ≢ j → (is_gt (rank_cmp x y) ≡ true) ⊎ ((x ≡ y) × (i < j))
 first_by x y i j Greater b is far low differ = inl (ap is_gt is)
 first_by x y i j Less b is far low differ = absurd (true≢false low)
 first_by x y i j Equal Less is far low differ = absurd (true≢false low)

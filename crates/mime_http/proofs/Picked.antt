@@ -247,8 +247,7 @@ module _ (all : List Rank) where
       (cases_Bool (is_best rank))
 
 -- the best offer stands first of those that none is above
-pub best_is_position : (all : List Rank)
-    → position (λ one. nat_lt 0 one.0 && list_all (λ other. is_le (rank_cmp other one)) all) all
+pub best_is_position : (all : List Rank) → position (λ one. nat_lt 0 one.0 && list_all (λ other. is_le (rank_cmp other one)) all) all
     ≡ (if (highest all).0 == 0 then None else position (λ rank. eq_by_cmp rank_cmp rank (highest all)) all)
 best_is_position all =
     let is_highest = λ (rank : Rank). eq_by_cmp rank_cmp rank (highest all) in

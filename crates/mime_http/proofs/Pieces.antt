@@ -223,8 +223,7 @@ module _ (one other : ℕ) (text : List ℕ) (at n : ℕ) (lanes : n ≤ 64) (ro
 
   -- all, if no bit is set,
   pub none_set : mask ≡ 0 → BeforeMark one other text at n n
-  none_set none =
-      counted n (sym (leading_from_mask_l (is_mark one other) (chunk at n text) (sym is ∙ none) ∙ length-chunk at n text room))
+  none_set none = counted n (sym (leading_from_mask_l (is_mark one other) (chunk at n text) (sym is ∙ none) ∙ length-chunk at n text room))
 
   -- and else as many as the zeros before the lowest bit
   pub some_set : ¬ (mask ≡ 0) → BeforeMark one other text at n (count_trailing_zeros 64 mask)
@@ -257,8 +256,7 @@ unmarked_from line from to least plain = λ k first last.
 
 -- up to a comma or the end, are the first piece from there on,
 pub piece_from : (line : List ℕ) (from to : ℕ) → from ≤ to → to ≤ length line → AreUnmarked 44 34 line from to
-    → (to < length line → get_or line to 0 ≡ 44)
-    → cut (drop from line) ≡ take (to - from) (drop from line) ∷ cut_after (drop to line)
+    → (to < length line → get_or line to 0 ≡ 44) → cut (drop from line) ≡ take (to - from) (drop from line) ∷ cut_after (drop to line)
 piece_from line from to least within plain comma =
     let rest = drop from line in
     let n = to - from in
@@ -288,5 +286,4 @@ no_piece_after line end past = ap cut_after (drop_of_length-le line past)
 -- An empty piece comes before a comma.
 pub empty_piece : (line : List ℕ) (from : ℕ) → from < length line → get_or line from 0 ≡ 44
     → cut (drop from line) ≡ [] ∷ cut (drop (from + 1) line)
-empty_piece line from within comma =
-    ap cut (item_left line from 0 within ∙ ap (λ b. b ∷ drop (from + 1) line) comma)
+empty_piece line from within comma = ap cut (item_left line from 0 within ∙ ap (λ b. b ∷ drop (from + 1) line) comma)

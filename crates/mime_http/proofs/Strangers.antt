@@ -209,8 +209,7 @@ module _ (before after : List MediaType) (range : MediaType) where
     place_so at = ap (λ all. get_or all at (0, 0, 0, 0)) (merits_so offers none) ∙ at_mapped (map (merit (before ++ after)) offers) at
 
     -- two offers compare as before,
-    same_place_order : (at other : ℕ)
-        → rank_cmp (merit_at with_it offers at) (merit_at with_it offers other)
+    same_place_order : (at other : ℕ) → rank_cmp (merit_at with_it offers at) (merit_at with_it offers other)
         ≡ rank_cmp (merit_at (before ++ after) offers at) (merit_at (before ++ after) offers other)
     same_place_order at other =
         (λ i. rank_cmp (place_so at i) (place_so other i))

@@ -36,8 +36,7 @@ module _ (ranges : List MediaType) (list : List ℕ) where
     -- those after it
     more_taken : {new : Chosen} → end < length list → ChoosesOn ranges (take (end - from) (drop from list)) old new
         → Taken ranges list (cut (drop (end + 1) list)) new
-    more_taken {new} more chooses =
-        subst (λ pieces. Taken ranges list pieces new) (pieces_after list end more) (next pieces_taken chooses)
+    more_taken {new} more chooses = subst (λ pieces. Taken ranges list pieces new) (pieces_after list end more) (next pieces_taken chooses)
 
     -- the last piece, after which nothing is left
     last_taken : {new : Chosen} → length list ≤ end → ChoosesOn ranges (take (end - from) (drop from list)) old new
