@@ -129,7 +129,7 @@ sorted_elements (element text range texts media utf8 reads rest) =
     record {
       ranges = range-kept ∷ more.ranges;
       same = ap (λ others. without_kept range ∷ others) more.same;
-      sorted = a_range text range-kept texts more.ranges [] utf8 (read_is_http text range-kept kept.1) (reads_tight text kept.1) more.sorted;
+      sorted = a_range text range-kept texts _ [] utf8 (read_is_http text range-kept kept.1) (reads_tight text kept.1) more.sorted;
     }
 
 -- a list as HTTP writes it is read as its elements

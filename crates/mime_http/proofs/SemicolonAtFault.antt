@@ -30,7 +30,8 @@ after_semicolon_bare Paired refused = absurd (true≢false refused)
 after_semicolon_bare place refused = refl
 
 -- and so after one of either
-after_separator : (place : Place) (b : ℕ) → is_semicolon_or_space b ≡ true → Refuses (place_after place b) 59 → place_after place b ≡ Semicolon
+after_separator : (place : Place) (b : ℕ) → is_semicolon_or_space b ≡ true → Refuses (place_after place b) 59
+    → place_after place b ≡ Semicolon
 after_separator place b is refused = ⊎_elim
     (λ (semicolon : (b == 59) ≡ true).
     let same = eqb-true b 59 semicolon in
@@ -115,7 +116,8 @@ first_semicolon value pos b dead is ends =
 -- ---- another byte at fault, or none
 
 -- and so does each other byte
-pub byte_that_stays : (value : List ℕ) (pos b : ℕ) → IsDeadAt value pos b → is_semicolon_or_space b ≡ false → Stands value (InvalidToken pos b)
+pub byte_that_stays : (value : List ℕ) (pos b : ℕ) → IsDeadAt value pos b → is_semicolon_or_space b ≡ false
+    → Stands value (InvalidToken pos b)
 byte_that_stays value pos b dead is =
     let cut = cut_at value pos b dead in
     let space : is_space b ≡ false = grind (arith, nat_tests) in

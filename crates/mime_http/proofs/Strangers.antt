@@ -109,7 +109,8 @@ module _ (offer : MediaType) where
         let here : closeness offer (at, first) ≡ option_map (moved (shifted k)) (closeness offer (at, first)) =
         ap (λ n. closeness offer (n, first)) (sym (position_stays k at (omega (arith, long)))) ∙ covers_so offer first (shifted k) at in
         ap (λ found. cons_option found (covering (at + 1) (before ++ (range ∷ after)))) here
-        ∙ (ap (cons_option (option_map (moved (shifted k)) (closeness offer (at, first)))) (one_more k (at + 1) before (omega (arith, long)))
+        ∙ (ap (cons_option (option_map (moved (shifted k)) (closeness offer (at, first))))
+        (one_more k (at + 1) before (omega (arith, long)))
         ∙ onto_mapped (moved (shifted k)) (closeness offer (at, first)) (covering (at + 1) (before ++ after)))
 
     -- and the closest is the same
@@ -192,7 +193,8 @@ module _ (before after : List MediaType) (range : MediaType) where
   -- the best is the same
   same_best : (all : List Rank) → position (is_best (map raise all)) (map raise all) ≡ position (is_best all) all
   same_best all =
-      let same = same_top (raised (length before) (length (before ++ after))) (same_earliness (length before) (length (before ++ after))) all in
+      let long = length (before ++ after) in
+      let same = same_top (raised (length before) long) (same_earliness (length before) long) all in
       position_from-zero (is_best (map raise all)) (map raise all)
       ∙ (place_mapped raise (is_best (map raise all)) 0 all
       ∙ ((λ i. position_from (λ (one : Rank). nat_lt 0 one.0 && same one i) 0 all) ∙ sym (position_from-zero (is_best all) all)))

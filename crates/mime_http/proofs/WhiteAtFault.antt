@@ -132,7 +132,8 @@ module _ (value : List ℕ) (pos b : ℕ) (space : LaterSpace value pos b) where
     dead_before rejected = record {
       prefix = longest_before begin b (drop (pos + 1) value) space.cut.split space.cut.long
           (viable_from_tight begin (at_rest space.cut.fault) (subst IsViable (sym (so_far space.cut.fault)) space.cut.fault.viable))
-          (λ begins. rejected (subst IsAccepted (comes_alone [] refl) (accepted_from_spaced (begin ++ (b ∷ [])) (spaced_there [] refl) begins)));
+          (λ begins. rejected (subst IsAccepted (comes_alone [] refl)
+          (accepted_from_spaced (begin ++ (b ∷ [])) (spaced_there [] refl) begins)));
       there = here;
     }
 

@@ -26,7 +26,8 @@ loop-at-preserved c =
     let taken : take (at + 1) all ≡ take at all ++ (found ∷ []) =
     one_taken all at _ next ∙ ap (λ merit. take at all ++ (merit ∷ [])) (sym c.merit-merit.ensures) in
     let count : length (take at all) ≡ at =
-    length-take-le at all (omega (arith, c.loop-at-test.true, length-map offers merit_of, length-map c.args.offers.now (λ offer. offer.media))) in
+    length-take-le at all
+    (omega (arith, c.loop-at-test.true, length-map offers merit_of, length-map c.args.offers.now (λ offer. offer.media))) in
     let above : c.gt.result ≡ is_gt (rank_cmp found c.loop-at.most) =
     c.gt.ensures ∙ gt_of_ranks (nat_cmp found.0 c.loop-at.most.0) (nat_cmp found.1 c.loop-at.most.1) (nat_cmp found.2 c.loop-at.most.2)
     (nat_cmp found.3 c.loop-at.most.3) in

@@ -72,5 +72,6 @@ returns-in_default c =
       short = λ utf8 accepted few.
           absurd (c.in_default.not-NoMemory
           (c.fault.ensures ∙ c.in-Err-from_str.ensures.accepted (subst IsAccepted (sym text) accepted)));
-      rejected = subst (λ t. ¬ (IsHttpMediaType t) → ¬ (FaultIsSpare t) → IfErr result (λ error. error ≢ FieldError.NoMemory)) text said.rejected;
+      rejected = subst (λ t. ¬ (IsHttpMediaType t) → ¬ (FaultIsSpare t) → IfErr result (λ error. error ≢ FieldError.NoMemory)) text
+          said.rejected;
     }

@@ -21,4 +21,5 @@ returns-in_ok-add_range-in-Ok-from_str c =
     let entry = c.args.entry.now in
     let media = c.in-Ok-from_str.range.media in
     let read = subst (λ text. Reads text media) c.in-Ok.ensures.cases.0 c.in-Ok-from_str.ensures.read in
-    add_range entry media c.in-Ok.ensures.cases.1 (tight_too entry read) c.in_ok-add_range-in-Ok-from_str.ensures.ranges c.in_ok-add_range-in-Ok-from_str.ensures.bad
+    add_range entry media c.in-Ok.ensures.cases.1 (tight_too entry read) c.in_ok-add_range-in-Ok-from_str.ensures.ranges
+    c.in_ok-add_range-in-Ok-from_str.ensures.bad

@@ -78,7 +78,8 @@ loop-from-preserved c =
     let more : end < length list = omega (arith, c.piece_end-end.ensures.within, c.if-end-list.false) in
     record {
       within = omega (arith, more);
-      taken = more_taken ranges list from end c.piece_end-end.ensures.piece c.loop-from.invariant.taken more c.in_ok-take_piece.ensures.piece;
+      taken = more_taken ranges list from end c.piece_end-end.ensures.piece c.loop-from.invariant.taken more
+          c.in_ok-take_piece.ensures.piece;
       few =
           omega (
             arith,
