@@ -1,9 +1,8 @@
 -- The next offer ranks above all before it, or it doesn't.
 use Rattle.mime_http.proofs.Common.{ChoosesOn, Chosen, Err, Header, IsChosen, IsHttpMediaType, IsUtf8, List, MediaType, None, Ok, OnOk, Option, Rank, Reads, Result, Some, [], ap, arith, eq-eqb, eq_by_cmp, false, if◌then◌else◌, is_gt, length, length-append, length-map, lowest, map, map-append, merit, ne_eqb, position, position_from-zero, rank_cmp, refl, subst, sym, tight, trim_end, trim_start, true, ℕ, ◌++◌, ◌+◌, ◌==◌, ◌∙◌, ◌∷◌, ◌≡◌, ◌≢◌, zero}
 use Rattle.mime_http.proofs.Adds.{add_nothing, add_range, add_bad, add_trimmed}
-use Rattle.mime_http.proofs.Highest.{Highest, raised as higher, stays as no_higher}
+use Rattle.mime_http.proofs.Highest.{Highest, raised as higher, stays as no_higher, ranks_total, one_rank}
 use Rattle.mime_http.proofs.Picked.{highest, is_best, best_is_position}
-use Rattle.mime_http.proofs.Ranks.{ranks_total, one_rank}
 
 -- what is chosen is the highest, with its first place
 pub highest_chosen : {ranges : List MediaType} {offered : Header} {chosen : Chosen} → IsChosen ranges offered chosen

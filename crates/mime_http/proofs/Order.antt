@@ -3,8 +3,7 @@ use Rattle.mime_http.proofs.Common.{AllByRecursion, AreInOrder, Contains, Contai
 use Rattle.std.specs.List.Sorted.{IsPermutation, IsSorted}
 use Rattle.std.proofs.lemmas.List.Sorted.{ranks_by, sorted_far, IsPermutation-sym, IsPermutation-map, Contains-permutation}
 use Rattle.std.proofs.lemmas.Map.Keys.{IsDistinct-IsPermutation, apart_from_distinct}
-use Rattle.mime_http.proofs.Closest.{in_more, in_mapped, of_mapped}
-use Rattle.mime_http.proofs.Ranks.{ranks_total, one_rank}
+use Rattle.mime_http.proofs.Highest.{in_more, in_mapped, of_mapped, ranks_total, one_rank}
 
 -- an offer comes before another: it ranks higher, or as high and is offered first
 abbrev pub rank_at : List Rank → ℕ → Rank

@@ -1,6 +1,6 @@
 -- A range that covers none of the offers only moves the ranges after it by one position, which changes no comparison.
 use Rattle.mime_http.proofs.Common.{AreInOrder, Bool, Contains, List, MediaType, None, Option, Rank, Some, StrangerChangesNothing, [], ap, arith, closeness, closest, cons_option, demanded, enumerate_from, false, filter_map, find, get_or, has, if◌then◌else◌, inl, inr, is_gt, is_le, length, length-append, list_all, map, merit, merit_at, named_parts, nat_cmp, nat_lt, nat_tests, option_map, ordering_then, position, position_from, position_from-zero, rank_cmp, refl, subst, suc, sym, true, unwrap_or, weight_of, zero, ℕ, ◌&&◌, ◌++◌, ◌+◌, ◌-◌, ◌<◌, ◌∙◌, ◌∷◌, ◌≡◌, ◌≤◌, ◌⊎◌, list_all-map}
-use Rattle.mime_http.proofs.Closest.{in_more}
+use Rattle.mime_http.proofs.Highest.{in_more}
 use Rattle.mime_http.proofs.Picked.{is_best}
 
 -- ---- positions after the range
