@@ -1,5 +1,5 @@
 -- The next offer ranks above all before it, or it doesn't.
-use Rattle.mime_http.proofs.Common.{ChoosesOn, Chosen, Err, Header, IsChosen, IsHttpMediaType, IsUtf8, List, MediaType, None, Ok, OnOk, Option, Rank, Reads, Result, Some, [], ap, arith, eq-eqb, eq_by_cmp, false, if◌then◌else◌, is_gt, length, length-append, length-map, lowest, map, map-append, merit, ne_eqb, position, position_from-zero, rank_cmp, refl, subst, sym, tight, trim_end, trim_start, true, ℕ, ◌++◌, ◌+◌, ◌==◌, ◌∙◌, ◌∷◌, ◌≡◌, ◌≢◌, zero}
+use Rattle.mime_http.proofs.Common.{ChoosesOn, Chosen, Err, Header, IsChosen, IsHttpMediaType, IsUtf8, List, MediaType, None, Ok, OnOk, Option, Rank, Reads, Result, Some, [], ap, arith, eq-eqb, eq_by_cmp, false, if◌then◌else◌, is_gt, length, length-append, length-map, lowest, map, map-append, merit, ne_eqb, position, position_from-zero, rank_cmp, refl, subst, sym, tight, trim_end, trim_start, true, ℕ, ◌++◌, ◌+◌, ◌==◌, ◌∙◌, ◌∷◌, ◌≡◌, ◌≢◌}
 use Rattle.mime_http.proofs.Adds.{add_nothing, add_range, add_bad, add_trimmed}
 use Rattle.mime_http.proofs.Highest.{Highest, raised as higher, stays as no_higher, ranks_total, one_rank}
 use Rattle.mime_http.proofs.Picked.{highest, is_best, best_is_position}

@@ -1,5 +1,5 @@
 -- A semicolon at fault is left out after another, and else stands; so does each other byte, and what is missing at the end.
-use Rattle.mime_http.proofs.Common.{Closed, Equals, HttpLacks, InvalidToken, IsAccepted, IsDeadAt, IsFault, IsHttpMediaType, IsLoose, Lacks, List, Paired, ParseError, Place, Quoted, Semicolon, Spaced, Stands, Start, [], added, after_quote, after_space, ap, arith, completed_is_rejected, ends_in_semicolon_or_space, false, in_type, is_quoted_byte, is_semicolon_or_space, is_space, nat_tests, place_after, refl, slice_get_within, subst, sym, take, tight, true, true≢false, viable-from_lacks, walk, walk-from_viable, ℕ, ⊤, ◌+◌, ◌==◌, ◌∙◌, ◌∷◌, ◌≡◌, ◌≢◌, cases_Bool, cond_both, eqb-true, ⊎_elim}
+use Rattle.mime_http.proofs.Common.{Closed, Equals, HttpLacks, InvalidToken, IsAccepted, IsDeadAt, IsFault, IsHttpMediaType, IsLoose, Lacks, List, Paired, ParseError, Place, Quoted, Semicolon, Spaced, Stands, Start, [], added, after_quote, after_space, ap, arith, completed_is_rejected, ends_in_semicolon_or_space, false, in_type, is_quoted_byte, is_semicolon_or_space, is_space, nat_tests, place_after, refl, slice_get_within, subst, sym, take, tight, true, true≢false, viable-from_lacks, walk-from_viable, ℕ, ⊤, ◌+◌, ◌==◌, ◌∙◌, ◌∷◌, ◌≡◌, ◌≢◌, cases_Bool, cond_both, eqb-true, ⊎_elim}
 use Rattle.mime_http.proofs.Places.{place_from, place_from-append, comes_out_whole}
 use Rattle.mime_http.proofs.PlacesAgain.{IsSettled, comes_out}
 use Rattle.mime_http.proofs.HttpLaws.{accepted_from_http}

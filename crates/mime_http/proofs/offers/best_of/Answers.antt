@@ -1,5 +1,5 @@
 -- The next merit is above the highest so far, or it isn't.
-use Rattle.mime_http.proofs.Common.{IfSome, List, None, Option, Rank, Some, ap, arith, false, is_gt, length, length-map, map, merit, nat_cmp, rank_cmp, subst, sym, true, ℕ, ◌+◌, ◌<◌, ◌∙◌, ◌∷◌, ◌≡◌, ◌≤◌, [], length-take-le, take, append-nil, drop_of_length-le, take-append-drop, ◌++◌}
+use Rattle.mime_http.proofs.Common.{IfSome, List, None, Option, Rank, Some, ap, arith, is_gt, length, length-map, map, merit, nat_cmp, rank_cmp, subst, sym, ℕ, ◌+◌, ◌<◌, ◌∙◌, ◌∷◌, ◌≡◌, ◌≤◌, [], length-take-le, take, append-nil, drop_of_length-le, take-append-drop, ◌++◌}
 use Rattle.mime_http.proofs.Highest.{Highest, first_left, mapped_left, one_taken, nothing_yet, raised, stays, ranks_total, one_rank, gt_of_ranks}
 use Rattle.mime_http.proofs.Chosen.{best_is_found, none_is_found}
 use Rattle.mime_http.proofs.offers.best_of.Goals.{then-gt, else-gt}

@@ -1,5 +1,5 @@
 -- What the library reads as it stands is what HTTP writes, and stays as it is.
-use Rattle.mime_http.proofs.Common.{Err, Explains, FaultIsSpare, HttpExplains, HttpReads, IfErr, IfOk, IsAccepted, IsAscii-cons, IsAscii-nil, IsHttpMediaType, IsUtf8, IsUtf8-from_ascii, List, Ok, OwnedMedia, Reads, ReadsTight, Result, [], arith, rules, subst, sym, tight, true≢false, ℕ, ◌∙◌, ◌∷◌, ◌≡◌, ◌≢◌, NoMemory}
+use Rattle.mime_http.proofs.Common.{Err, Explains, FaultIsSpare, HttpExplains, HttpReads, IfErr, IfOk, IsAccepted, IsAscii-cons, IsAscii-nil, IsHttpMediaType, IsUtf8, IsUtf8-from_ascii, List, Ok, OwnedMedia, Reads, ReadsTight, Result, [], arith, rules, subst, sym, tight, true≢false, ℕ, ◌∙◌, ◌∷◌, ◌≡◌, ◌≢◌}
 use Rattle.mime_http.specs.declared.value.FieldError.{FieldError}
 use Rattle.mime_http.proofs.HttpBack.{read_is_http}
 use Rattle.mime_http.proofs.HttpLaws.{reads_tight}

@@ -1,5 +1,5 @@
 -- The first piece from here on is taken, and those after its comma are left; at the end the best of all is chosen.
-use Rattle.mime_http.proofs.Common.{Adds, ChoosesOn, Chosen, Header, IsChosen, IsHeader, List, MediaType, [], ap, append-nil, arith, best_offer, cut, cut_after, drop, length, length-take, map, refl, subst, sym, take, true≢false, ℕ, ◌+◌, ◌-◌, ◌<◌, ◌∙◌, ◌∷◌, ◌≡◌, ◌≤◌, false, true}
+use Rattle.mime_http.proofs.Common.{Adds, ChoosesOn, Chosen, Header, IsChosen, IsHeader, List, MediaType, [], ap, append-nil, arith, best_offer, cut, cut_after, drop, length, length-take, map, refl, subst, sym, take, true≢false, ℕ, ◌+◌, ◌-◌, ◌<◌, ◌∙◌, ◌∷◌, ◌≡◌, ◌≤◌}
 use Rattle.mime_http.proofs.Adds.{SoFar, none_so_far, some_more, all_added, is_header, piece_is_blank}
 use Rattle.mime_http.proofs.Chosen.{chooses_nothing, highest_chosen, best_is_found, none_is_found}
 use Rattle.mime_http.proofs.Pieces.{empty_piece, pieces_after, no_piece_after}

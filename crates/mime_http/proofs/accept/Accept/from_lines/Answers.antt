@@ -1,5 +1,5 @@
 -- The next line's pieces come before those of the lines that are left.
-use Rattle.mime_http.proofs.Common.{Adds, AddsLines, AreSorted, Header, IsHeader, List, [], ap, append-nil, arith, codes, common_steps, cut, drop_of_length-le, flat_map, length, lines_or_any, map, refl, subst, sym, true≢false, vec_items, ℕ, ◌++◌, ◌∙◌, ◌∷◌, ◌≡◌, ◌≢◌, ◌≤◌, true}
+use Rattle.mime_http.proofs.Common.{Adds, AddsLines, AreSorted, Header, IsHeader, List, [], ap, append-nil, arith, codes, common_steps, cut, drop_of_length-le, flat_map, length, lines_or_any, map, refl, subst, sym, true≢false, vec_items, ℕ, ◌++◌, ◌∙◌, ◌∷◌, ◌≡◌, ◌≢◌, ◌≤◌}
 use Rattle.mime_http.proofs.Adds.{SoFar, none_so_far, some_more, all_added, pieces_added, is_header, middle_is_blank, left_is_nothing, first_is_nothing}
 use Rattle.mime_http.proofs.Cuts.{are_cut, only_cut}
 use Rattle.mime_http.proofs.Highest.{item_left}

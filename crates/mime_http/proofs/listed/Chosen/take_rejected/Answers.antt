@@ -1,5 +1,5 @@
 -- The entry is an offer, or it is bad.
-use Rattle.mime_http.proofs.Common.{IsHttpMediaType, None, Reads, Some, arith, sym, tight, ◌∙◌, Chosen, take}
+use Rattle.mime_http.proofs.Common.{IsHttpMediaType, None, Reads, Some, arith, sym, tight, ◌∙◌}
 use Rattle.mime_http.proofs.Adds.{read_entry}
 use Rattle.mime_http.proofs.Chosen.{chooses_offer, chooses_bad}
 use Rattle.mime_http.proofs.listed.Chosen.take_rejected.Goals as goal
