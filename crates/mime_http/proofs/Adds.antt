@@ -61,8 +61,7 @@ module _ (piece : List ℕ) {old new : Header} where
 
 -- what a piece adds without the white space before it, it adds
 sorted_before : (piece text : List ℕ) {ranges : List MediaType} {bad : List (List ℕ)} → text ≡ trim_start piece
-    → AreSorted (text ∷ []) ranges bad
-    → AreSorted (piece ∷ []) ranges bad
+    → AreSorted (text ∷ []) ranges bad → AreSorted (piece ∷ []) ranges bad
 sorted_before piece text is (blank _ _ _ _ white rest) =
     blank piece [] _ _ (blank_from_trimmed piece (sym (trim_twice piece) ∙ (ap trim_start (sym is) ∙ trimmed_from_blank text white))) rest
 sorted_before piece text is (a_range _ range _ _ _ utf8 reads kept rest) =
@@ -153,8 +152,7 @@ pieces_added {old = old} {new = new} lines = subst (λ pieces. Adds pieces old n
 
 -- so a header holds what its lines add to nothing
 pub is_header : (lines : List (List ℕ)) (header : Header)
-    → Adds (flat_map cut (lines_or_any lines)) (record { ranges = []; bad = [] }) header
-    → IsHeader lines header
+    → Adds (flat_map cut (lines_or_any lines)) (record { ranges = []; bad = [] }) header → IsHeader lines header
 is_header lines header added = record {
   pieces = flat_map cut (lines_or_any lines);
   cut = are_cut (lines_or_any lines);

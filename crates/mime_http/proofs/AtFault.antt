@@ -1,5 +1,5 @@
 -- A byte at fault in a value, and the bytes before it: the place there, and what is left of the value from there on.
-use Rattle.mime_http.proofs.Common.{AreSpaces, Begun, Bool, InvalidToken, IsDeadAt, IsHttpDeadAt, IsHttpMediaType, IsHttpViable, IsViable, List, ListState, None, Option, Paired, Place, Quoted, Some, Spaced, Stands, Start, [], added, and_parts, ap, append-nil, arith, awaits_after, drop, drop-append_seam, drop-drop, false, get_or, get_or_from_slice_get, grow, if◌then◌else◌, in_list, in_quotes, in_type, in_value, is_space, length, length-append, length-drop, length-take-le, option_and_then, place_after, refl, slice_get, slice_get_within, subst, suc, sym, take, take-append-drop, take-length, take-suc, tight, tight_from, trim_start, true, viable-from_walk, walk, walk-from_viable, walk_by-append_some, walk_from, ℕ, ◌++◌, ◌+◌, ◌-◌, ◌<◌, ◌∙◌, ◌∷◌, ◌≡◌, ◌≤◌, Closed, ClosedParameters, IsFalse, Semicolon, after_quotes, cases_Bool, cond_both, false_from_ne_true, grow_state, in_spaces, none-some, option_map, position, spelled-from_walk, ⊎_elim, ⊤, ◌==◌, ◌≢◌, takes}
+use Rattle.mime_http.proofs.Common.{AreSpaces, Begun, Bool, InvalidToken, IsDeadAt, IsHttpDeadAt, IsHttpMediaType, IsHttpViable, IsViable, List, ListState, None, Paired, Place, Quoted, Some, Spaced, Stands, Start, [], added, and_parts, ap, append-nil, arith, awaits_after, drop, drop-append_seam, drop-drop, false, get_or, get_or_from_slice_get, grow, if◌then◌else◌, in_list, in_quotes, in_type, in_value, is_space, length, length-append, length-drop, length-take-le, option_and_then, place_after, refl, slice_get, slice_get_within, subst, suc, sym, take, take-append-drop, take-length, take-suc, tight, tight_from, trim_start, true, viable-from_walk, walk, walk-from_viable, walk_by-append_some, walk_from, ℕ, ◌++◌, ◌+◌, ◌-◌, ◌<◌, ◌∙◌, ◌∷◌, ◌≡◌, ◌≤◌, Closed, ClosedParameters, IsFalse, Semicolon, after_quotes, cases_Bool, cond_both, false_from_ne_true, grow_state, in_spaces, none-some, option_map, position, spelled-from_walk, ⊎_elim, ⊤, ◌==◌, ◌≢◌, takes, by_option}
 use Rattle.mime_http.proofs.Highest.{item_left}
 use Rattle.mime_http.proofs.Places.{place_from, comes_out_whole, SkipsWhite, white_skipped}
 use Rattle.mime_http.proofs.PlacesAgain.{IsSettled}
@@ -24,15 +24,7 @@ pub record Fault (before : List ℕ) (b : ℕ) : Type 0 where
   pub reached : walk before ≡ Some begun
   pub stops : grow begun b ≡ None
 
--- a byte at fault leads nowhere
-no_way_on : (before : List ℕ) (b : ℕ) (begun : Begun) → walk before ≡ Some begun → ¬ (IsViable (before ++ (b ∷ []))) → (o : Option Begun)
-    → grow begun b ≡ o → o ≡ None
-no_way_on before b begun reached dead None e = refl
-no_way_on before b begun reached dead (Some next) e =
-    absurd (dead (viable-from_walk (before ++ (b ∷ [])) next
-    (walk_by-append_some grow (in_type []) begun before (b ∷ []) reached ∙ ap (option_and_then (λ s. walk_from s [])) e)))
-
--- so each byte at fault has such a walk before it
+-- each byte at fault has such a walk before it
 pub fault_of : (before : List ℕ) (b : ℕ) → IsViable before → ¬ (IsViable (before ++ (b ∷ []))) → Fault before b
 fault_of before b viable dead =
     let found = walk-from_viable before viable in
@@ -41,7 +33,9 @@ fault_of before b viable dead =
       dead = dead;
       begun = found.0;
       reached = found.1;
-      stops = no_way_on before b found.0 found.1 dead (grow found.0 b) refl;
+      stops = by_option (grow found.0 b) (λ stops. stops) (λ next grew.
+          absurd (dead (viable-from_walk (before ++ (b ∷ [])) next
+          (walk_by-append_some grow (in_type []) found.0 before (b ∷ []) found.1 ∙ ap (option_and_then (λ s. walk_from s [])) grew))));
     }
 
 -- the place there, and what came out before it
@@ -190,8 +184,7 @@ dead_too value pos b cut here comes =
 
 -- so the fault stands
 pub stays_dead : (value : List ℕ) (pos b : ℕ) → CutAt value pos b → slice_get value pos ≡ Some b
-    → ComesOut (place_from Start (take pos value)) b
-    → Stands value (InvalidToken pos b)
+    → ComesOut (place_from Start (take pos value)) b → Stands value (InvalidToken pos b)
 stays_dead value pos b cut here comes =
     let dead = dead_too value pos b cut here comes in
     record {

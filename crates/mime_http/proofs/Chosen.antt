@@ -1,9 +1,8 @@
 -- The next offer ranks above all before it, or it doesn't.
-use Rattle.mime_http.proofs.Common.{ChoosesOn, Chosen, Err, Header, IsChosen, IsHttpMediaType, IsUtf8, List, MediaType, None, Ok, OnOk, Option, Rank, Reads, Result, Some, [], ap, arith, eq-eqb, eq_by_cmp, false, if◌then◌else◌, is_gt, length, length-append, length-map, lowest, map, map-append, merit, ne_eqb, position, position_from-zero, rank_cmp, refl, subst, sym, tight, trim_end, trim_start, true, ℕ, ◌++◌, ◌+◌, ◌==◌, ◌∙◌, ◌∷◌, ◌≡◌, ◌≢◌, zero}
+use Rattle.mime_http.proofs.Common.{ChoosesOn, Chosen, Err, Header, IsChosen, IsHttpMediaType, IsUtf8, List, MediaType, None, Ok, OnOk, Option, Rank, Reads, Result, Some, [], ap, arith, eq-eqb, eq_by_cmp, false, if◌then◌else◌, is_gt, length, length-append, length-map, lowest, map, map-append, merit, ne_eqb, position, position_from-zero, rank_cmp, refl, subst, sym, tight, trim_end, trim_start, true, ℕ, ◌++◌, ◌+◌, ◌==◌, ◌∙◌, ◌∷◌, ◌≡◌, ◌≢◌}
 use Rattle.mime_http.proofs.Adds.{add_nothing, add_range, add_bad, add_trimmed}
-use Rattle.mime_http.proofs.Highest.{Highest, raised as higher, stays as no_higher}
+use Rattle.mime_http.proofs.Highest.{Highest, raised as higher, stays as no_higher, ranks_total, one_rank}
 use Rattle.mime_http.proofs.Picked.{highest, is_best, best_is_position}
-use Rattle.mime_http.proofs.Ranks.{ranks_total, one_rank}
 
 -- what is chosen is the highest, with its first place
 pub highest_chosen : {ranges : List MediaType} {offered : Header} {chosen : Chosen} → IsChosen ranges offered chosen
@@ -79,8 +78,7 @@ module _ (ranges : List MediaType) (piece : List ℕ) {old : Chosen} where
 
 -- what is chosen after an entry is chosen after the piece that it is trimmed of
 chooses_trimmed : (ranges : List MediaType) (piece text : List ℕ) {old new : Chosen} → text ≡ trim_start piece
-    → ChoosesOn ranges text old new
-    → ChoosesOn ranges piece old new
+    → ChoosesOn ranges text old new → ChoosesOn ranges piece old new
 chooses_trimmed ranges piece text is chooses before was =
     let after = chooses before was in (after.0, add_trimmed piece text is after.1, after.2)
 
@@ -103,8 +101,7 @@ module _ {all : List Rank} {most : Rank} {best : Option ℕ} (is : Highest ranks
       let there = is.first (λ low. some (ap (λ m. m.0) low)) in
       let weighs : ((highest all).0 == 0) ≡ false = ap (λ m. m.0 == 0) (sym is.high) ∙ ne_eqb most.0 0 some in
       let place = position_from-zero (λ r. eq_by_cmp rank_cmp r most) all ∙ there.2 in
-      let found : Found best =
-      rw weighs (there.1 ∙ sym (ap (λ m. position (λ r. eq_by_cmp rank_cmp r m) all) (sym is.high) ∙ place)) in
+      let found : Found best = rw weighs (there.1 ∙ sym (ap (λ m. position (λ r. eq_by_cmp rank_cmp r m) all) (sym is.high) ∙ place)) in
       found ∙ sym (best_is_position all)
 
   -- and else there is none

@@ -71,3 +71,4 @@ pub use Rattle.mime_http.specs.declared.quoted.Form.{Form}
 pub use Rattle.mime_http.specs.declared.quoted.Form.TheVariants.{Escaped, Token}
 pub use Rattle.mime_http.specs.declared.tight.Place.{Place}
 pub use Rattle.mime_http.specs.declared.tight.Place.TheVariants.{Closed, Equals, Paired, Plain, Quoted, Semicolon, Spaced, Start}
+pub use Rattle.mime.proofs.GrammarLemmas.Viability.{by_option}

@@ -1,10 +1,8 @@
 -- The best offer is the first in the order of all.
 use Rattle.mime_http.proofs.Common.{AllPairs, AreInOrder, BestIsFirst, Bool, Contains, Contains-get_or, List, MediaType, None, Rank, Some, [], ap, arith, best_offer, cases_Bool, cond_both, eq_by_cmp, false, get_or, get_or_default, inl, inr, is_eq, is_gt, length, lowest, map, merit, ne_eqb, position_from, position_from-zero, rank_cmp, refl, subst, suc, sym, tied_itself, true, true≢false, zero, ℕ, ⊎_elim, ◌+◌, ◌<◌, ◌==◌, ◌∙◌, ◌∷◌, ◌≡◌, ◌≤◌, ◌⊎◌}
-use Rattle.mime_http.proofs.Closest.{highest_is_there}
-use Rattle.mime_http.proofs.Highest.{same_by}
+use Rattle.mime_http.proofs.Highest.{highest_is_there, same_by, ranks_total, one_rank}
 use Rattle.mime_http.proofs.Order.{rank_at, ComesBefore}
 use Rattle.mime_http.proofs.Picked.{highest, not_above, no_more, best_is_position}
-use Rattle.mime_http.proofs.Ranks.{ranks_total, one_rank}
 
 -- the first place at which a test passes
 found_from : {X : Type 0} (p : X → Bool) (n : ℕ) (xs : List X) (k : ℕ) (d : X) → k < length xs → p (get_or xs k d) ≡ true
@@ -74,8 +72,7 @@ module _ (ranges offers : List MediaType) (best : ℕ) (others : List ℕ) (are 
       let is = (as_high high.0 high.1).0 in
       let test = λ (r : Rank). eq_by_cmp rank_cmp r (highest all) in
       let some : ((highest all).0 == 0) ≡ false = ne_eqb (highest all).0 0 (λ no. absurd (omega (arith, no, weighs))) in
-      let here : test (rank_at all best) ≡ true =
-      subst (λ r. test r ≡ true) (sym is) (ap is_eq (tied_itself ranks_total (highest all))) in
+      let here : test (rank_at all best) ≡ true = subst (λ r. test r ≡ true) (sym is) (ap is_eq (tied_itself ranks_total (highest all))) in
       let before : (j : ℕ) → j < best → test (rank_at all j) ≡ false = λ j below. ⊎_elim
       (λ level. absurd (omega (
         arith,

@@ -23,8 +23,7 @@ holds_of_all p = holds_of_both (λ x. holds_of_both (λ y. holds_of_both (p x y)
 -- and so it is with three
 at_three : (p : Bool → Bool → Bool → Bool) → holds_of_all p ≡ true → (x y z : Bool) → p x y z ≡ true
 unfolding holds_of_all
-at_three p is x y z =
-    at (p x y) (at (λ y. holds_of_both (p x y)) (at (λ x. holds_of_both (λ y. holds_of_both (p x y))) is x) y) z
+at_three p is x y z = at (p x y) (at (λ y. holds_of_both (p x y)) (at (λ x. holds_of_both (λ y. holds_of_both (p x y))) is x) y) z
 
 -- the bits of two kinds
 and_kinds : (t q e t2 q2 e2 : Bool) → bit_and (kind_from t q e) (kind_from t2 q2 e2) ≡ kind_from (t && t2) (q && q2) (e && e2)
@@ -44,8 +43,7 @@ kind_of-append xs ys =
 -- the kind of the bytes so far and one more
 pub kind_of_more : (xs : List ℕ) (i : ℕ) → i < length xs
     → bit_and (kind_of (take i xs)) (kind_of (get_or xs i 0 ∷ [])) ≡ kind_of (take (i + 1) xs)
-kind_of_more xs i within =
-    sym (kind_of-append (take i xs) (get_or xs i 0 ∷ [])) ∙ ap kind_of (sym (take_more xs i 0 within))
+kind_of_more xs i within = sym (kind_of-append (take i xs) (get_or xs i 0 ∷ [])) ∙ ap kind_of (sym (take_more xs i 0 within))
 
 -- ---- the kind of a value, block by block
 

@@ -1,5 +1,5 @@
--- The highest of a list, and its first place, item by item.
-use Rattle.mime_http.proofs.Common.{Bool, Equal, Greater, IsTotalOrder, Less, List, None, Option, Ordering, Some, [], ap, arith, drop, drop-cons, drop-map, eq_by_cmp, false, fold, get_or, if◌then◌else◌, is_eq, is_gt, is_lt, length, map, ord_max, ordering_reverse, position_from, refl, subst, sym, tied_back, tied_itself, true, true≢false, upto, ℕ, ◌+◌, ◌<◌, ◌∙◌, ◌∷◌, ◌≡◌, ◌≢◌, false_from_ne_true, fold_push, suc, take, take-add, ◌++◌}
+-- The highest of a list and its first place, and ranks, which are in a total order.
+use Rattle.mime_http.proofs.Common.{Bool, Contains, Equal, Greater, IsAtMost, IsTotalOrder, Less, List, MatchOrdering, None, Option, Ordering, Rank, Some, [], ap, arith, drop, drop-cons, drop-map, eq_by_cmp, false, false_from_ne_true, fold, fold_push, get_or, get_or-map, if◌then◌else◌, inl, inr, is_eq, is_gt, is_lt, is_some_and, length, length-map, map, nat_cmp, nat_cmp_total, on_total, ord_max, ordering_reverse, ordering_then, partial_ordering_then, position_from, rank_cmp, ranked, refl, subst, suc, sym, take, take-add, then_total, tied_back, tied_itself, true, true≢false, upto, zero, ℕ, ⊎_elim, ◌++◌, ◌+◌, ◌<◌, ◌∙◌, ◌∷◌, ◌≡◌, ◌≢◌, ◌⊎◌}
 
 -- what is left from a place on begins with the item there
 pub item_left : {X : Type 0} (xs : List X) (i : ℕ) (d : X) → i < length xs → drop i xs ≡ get_or xs i d ∷ drop (i + 1) xs
@@ -113,3 +113,99 @@ module _ {K : Type 0} {R : K → K → Ordering} (total : IsTotalOrder R) (one :
           let there = was.first some in
           (there.0, there.1, found_still (λ y. eq_by_cmp R y most) xs (x ∷ []) 0 there.2);
     }
+
+-- ---- the highest is one of the list
+
+-- an item of a longer list, and of a mapped one
+pub in_more : {X : Type 0} (y : X) (xs : List X) (x : X) → Contains xs x → Contains (y ∷ xs) x
+in_more y xs x (k, within, is) = (suc k, omega (arith, within), is)
+
+-- what a list contains, the list of its values contains,
+pub in_mapped : {X Y : Type 0} (f : X → Y) (xs : List X) (x : X) → Contains xs x → Contains (map f xs) (f x)
+in_mapped f xs x (k, within, is) = (k, omega (arith, within, length-map xs f), get_or-map f xs k x (f x) within ∙ ap f is)
+
+-- and the other way
+pub of_mapped : {X Y : Type 0} (f : X → Y) (xs : List X) (y : Y) → Contains (map f xs) y → (x : X) × Contains xs x × (f x ≡ y)
+of_mapped f [] y (k, within, is) = absurd (omega (arith, within))
+of_mapped f (x ∷ xs) y (zero, within, is) = (x, (zero, omega arith, refl), is)
+of_mapped f (x ∷ xs) y (suc k, within, is) =
+    let found = of_mapped f xs y (k, omega (arith, within), is) in
+    (found.0, in_more x xs found.0 found.1, found.2)
+
+module _ {K : Type 0} {R : K → K → Ordering} (total : IsTotalOrder R) where
+  one_of_two : (m x : K) (b : Bool) → ((if b then m else x) ≡ m) ⊎ ((if b then m else x) ≡ x)
+  one_of_two m x true = inl refl
+  one_of_two m x false = inr refl
+
+  -- the highest is what it began with, or an item
+  pub highest_is_there : (m : K) (xs : List K) → (fold (ord_max R) m xs ≡ m) ⊎ Contains xs (fold (ord_max R) m xs)
+  highest_is_there m [] = inl refl
+  highest_is_there m (x ∷ xs) =
+      ⊎_elim
+      (λ same. ⊎_elim (λ old. inl (same ∙ old)) (λ new. inr (zero, omega arith, sym (same ∙ new))) (one_of_two m x (is_lt (R x m))))
+      (λ there. inr (in_more x xs _ there))
+      (highest_is_there (ord_max R m x) xs)
+
+  -- no item is higher
+  pub none_is_higher : (one : (x y : K) → R x y ≡ Equal → x ≡ y) (m : K) (xs : List K) (x : K) → Contains xs x
+      → is_gt (R x (fold (ord_max R) m xs)) ≡ false
+  none_is_higher one m [] x (k, within, is) = absurd (omega (arith, within))
+  none_is_higher one m (y ∷ xs) x (zero, within, is) =
+      subst (λ z. is_gt (R z (fold (ord_max R) (ord_max R m y) xs)) ≡ false) is
+      (least_item total one m y xs)
+  none_is_higher one m (y ∷ xs) x (suc k, within, is) = none_is_higher one (ord_max R m y) xs x (k, omega (arith, within), is)
+
+-- two numbers are less, the same or more
+ranks : (x y : ℕ) → MatchOrdering (nat_cmp x y) (x < y) (x ≡ y) (y < x)
+ranks x y = ranked x y (nat_cmp x y) refl
+
+-- what four answers in turn say
+at_most_by : (x y : Rank) (a b c d : Ordering) → MatchOrdering a (x.0 < y.0) (x.0 ≡ y.0) (y.0 < x.0)
+    → MatchOrdering b (x.1 < y.1) (x.1 ≡ y.1) (y.1 < x.1) → MatchOrdering c (x.2 < y.2) (x.2 ≡ y.2) (y.2 < x.2)
+    → MatchOrdering d (x.3 < y.3) (x.3 ≡ y.3) (y.3 < x.3)
+    → is_gt (ordering_then (ordering_then (ordering_then a b) c) d) ≡ false → IsAtMost x y
+at_most_by x y Less b c d first second third fourth low = inl first
+at_most_by x y Equal Less c d first second third fourth low = inr (first, inl second)
+at_most_by x y Equal Equal Less d first second third fourth low = inr (first, inr (second, inl third))
+at_most_by x y Equal Equal Equal Less first second third fourth low = inr (first, inr (second, inr (third, omega (arith, fourth))))
+at_most_by x y Equal Equal Equal Equal first second third fourth low = inr (first, inr (second, inr (third, omega (arith, fourth))))
+at_most_by x y a b c d first second third fourth low = absurd (true≢false low)
+
+-- a rank that isn't above another is at most as high
+pub at_most : (x y : Rank) → is_gt (rank_cmp x y) ≡ false → IsAtMost x y
+at_most x y low =
+    at_most_by x y (nat_cmp x.0 y.0) (nat_cmp x.1 y.1) (nat_cmp x.2 y.2) (nat_cmp x.3 y.3) (ranks x.0 y.0) (ranks x.1 y.1) (ranks x.2 y.2)
+    (ranks x.3 y.3) low
+
+-- ---- ranks
+
+-- ranks are in a total order
+pub ranks_total : IsTotalOrder rank_cmp
+ranks_total =
+    then_total (then_total (then_total (on_total (λ rank. rank.0) nat_cmp_total) (on_total (λ rank. rank.1) nat_cmp_total))
+    (on_total (λ rank. rank.2) nat_cmp_total)) (on_total (λ rank. rank.3) nat_cmp_total)
+
+-- two answers in turn are level only if both are
+both_level : (r s : Ordering) → ordering_then r s ≡ Equal → (r ≡ Equal) × (s ≡ Equal)
+both_level Less s is = absurd (true≢false (ap is_lt is))
+both_level Equal s is = (refl, is)
+both_level Greater s is = absurd (true≢false (ap is_gt is))
+
+-- numbers that compare as equal are equal,
+level : (x y : ℕ) → nat_cmp x y ≡ Equal → x ≡ y
+level x y is = subst (λ o. MatchOrdering o (x < y) (x ≡ y) (y < x)) is (ranked x y (nat_cmp x y) refl)
+
+-- and so are ranks
+pub one_rank : (x y : Rank) → rank_cmp x y ≡ Equal → x ≡ y
+one_rank x y same =
+    let fourth = both_level _ (nat_cmp x.3 y.3) same in
+    let third = both_level _ (nat_cmp x.2 y.2) fourth.0 in
+    let both = both_level (nat_cmp x.0 y.0) (nat_cmp x.1 y.1) third.0 in
+    λ i. (level x.0 y.0 both.0 i, level x.1 y.1 both.1 i, level x.2 y.2 third.1 i, level x.3 y.3 fourth.1 i)
+
+-- `>` of two ranks is by their order
+pub gt_of_ranks : (a b c d : Ordering)
+    → is_some_and is_gt (partial_ordering_then (partial_ordering_then (partial_ordering_then (Some a) (Some b)) (Some c)) (Some d))
+    ≡ is_gt (ordering_then (ordering_then (ordering_then a b) c) d)
+gt_of_ranks Equal Equal Equal d = refl
+gt_of_ranks a b c d = refl

@@ -72,8 +72,7 @@ more_white (back front c white at_rest first one all) b spaced_there same =
 
 -- one byte further
 one_byte_further : (front : List ℕ) (limit : ℕ) (reach : Reach) (b : ℕ) → SoFar front limit reach
-    → nat_lt reach.left (length (added reach.place b)) ≡ false
-    → SoFar (front ++ (b ∷ [])) limit (reach_after reach b)
+    → nat_lt reach.left (length (added reach.place b)) ≡ false → SoFar (front ++ (b ∷ [])) limit (reach_after reach b)
 one_byte_further front limit reach b is fits = record {
   at = count;
   place = there;
@@ -127,8 +126,7 @@ stops_from (b ∷ bytes) front limit reach is =
 
 -- so it is known of the whole value how far it goes
 pub stops : (value : List ℕ) (limit : ℕ) → Stops value limit (reach_from (start limit) value)
-stops value limit =
-    stops_from value [] limit (start limit) (record { at = refl; place = refl; out = omega arith; back_to = here [] tt })
+stops value limit = stops_from value [] limit (start limit) (record { at = refl; place = refl; out = omega arith; back_to = here [] tt })
 
 -- bytes are none, or some and a last one
 pub data Snoc : List ℕ → Type 0 where

@@ -129,9 +129,8 @@ pub record FaultAt (value : List ℕ) (fault : ParseError) (pos : ℕ) : Type 0 
   pub end : length value ≤ pos → IsHttpFault value fault
 
 -- what the tightened value lacks the value lacks, if it is settled or may end
-fault_at_end : (value : List ℕ) (fault : ParseError) → IsFault (tight value) fault
-    → length (tight value) ≤ limit_of (tight value) fault → IsSettled (place_from Start value) ⊎ IsAccepted (tight value)
-    → IsHttpFault value fault
+fault_at_end : (value : List ℕ) (fault : ParseError) → IsFault (tight value) fault → length (tight value) ≤ limit_of (tight value) fault
+    → IsSettled (place_from Start value) ⊎ IsAccepted (tight value) → IsHttpFault value fault
 fault_at_end value (InvalidToken pos byte) dead within or =
     absurd (omega (arith, within, slice_get_within (tight value) pos byte dead.there))
 fault_at_end value other lacks within (inl at_rest) = end_lacks value other at_rest lacks

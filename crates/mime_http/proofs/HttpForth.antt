@@ -88,7 +88,8 @@ with_parameter (with_token name value named valued) bytes after =
     parameter_first (plain name value) (named, valued) after.tail after.is
     (subst (Tightens 59 ((name ++ (61 ∷ value)) ++ bytes)) (sym (append_assoc name (61 ∷ value) out))
     (subst (λ x. Tightens 59 x (name ++ (61 ∷ (value ++ out)))) (sym (append_assoc name (61 ∷ value) bytes))
-    (token_left name named (λ last is. a_byte last 61 (value ++ bytes) (value ++ out) refl refl refl (token_left value valued after.token 61)) 59)))
+    (token_left name named (λ last is. a_byte last 61 (value ++ bytes) (value ++ out) refl refl refl
+    (token_left value valued after.token 61)) 59)))
     after.has
 with_parameter (with_string name content named valued) bytes after =
     let m = after.spaces in

@@ -144,8 +144,7 @@ utf8_tight (c ∷ cs) place are = ⊎_elim
         ≡ begins.before ++ ((b ∷ hs) ++ tight_from (place_after place b) (encodes cs)) =
         ap (λ a. a ++ tight_from (place_after place b) (hs ++ encodes cs)) begins.adds
         ∙ (append_assoc begins.before (b ∷ []) _ ∙ ap (λ x. begins.before ++ (b ∷ x)) (run begins.holds hs (encodes cs) tests.1)) in
-        subst IsUtf8 (sym same)
-        (put_ascii begins.before _ begins.ascii (IsUtf8-append (b ∷ hs) _ utf8 (others (place_after place b))))
+        subst IsUtf8 (sym same) (put_ascii begins.before _ begins.ascii (IsUtf8-append (b ∷ hs) _ utf8 (others (place_after place b))))
 
 -- and if what comes out is in UTF-8, the bytes are
 utf8_back : (fuel : ℕ) (bytes : List ℕ) (place : Place) → length bytes ≤ fuel → IsUtf8 (tight_from place bytes) → IsUtf8 bytes

@@ -1,5 +1,5 @@
 -- Which beginnings of a value may still become a media type as HTTP writes it: by the library's walk over what is left of them.
-use Rattle.mime_http.proofs.Common.{Begun, Bool, Closed, ClosedParameters, Equals, IsAccepted, IsFalse, IsHttpMediaType, IsHttpViable, IsTrue, IsViable, List, ListState, MatchOption, MatchOption-at_some, None, Option, Paired, Place, Plain, Quoted, Semicolon, Some, Spaced, Start, SyntaxTree, [], accepted-from_complete, added, after_quotes, and_parts, ap, append-nil, append_assoc, append_cancel_left, arith, awaits_after, awaits_after-append, awaits_next, by_class, cond_both, continues, false, false≢true, grow, grow_list, grow_state, if◌then◌else◌, in_list, in_name, in_quotes, in_spaces, in_subtype, in_type, in_value, is_quoted_byte, is_space, is_token_byte, list_at, nat_tests, none-some, option_and_then_some, option_map, place_after, refl, same_Some, subst, sym, takes, tight, tight_from, tree_of, true, walk, walk-accepted, walk_by-append, walk_from, ℕ, ◌++◌, ◌==◌, ◌∙◌, ◌∷◌, ◌≡◌, cases_Bool, eqb-true, position, ⊎_elim}
+use Rattle.mime_http.proofs.Common.{Begun, Bool, Closed, ClosedParameters, Equals, IsAccepted, IsFalse, IsHttpMediaType, IsHttpViable, IsTrue, IsViable, List, ListState, MatchOption, MatchOption-at_some, None, Option, Paired, Place, Plain, Quoted, Semicolon, Some, Spaced, Start, SyntaxTree, [], accepted-from_complete, added, after_quotes, and_parts, ap, append-nil, append_assoc, append_cancel_left, arith, awaits_after, awaits_after-append, awaits_next, by_class, cond_both, continues, false, false≢true, grow, grow_list, grow_state, if◌then◌else◌, in_list, in_name, in_quotes, in_spaces, in_subtype, in_type, in_value, is_quoted_byte, is_space, is_token_byte, list_at, nat_tests, none-some, option_and_then_some, option_map, place_after, refl, same_Some, subst, sym, takes, tight, tight_from, tree_of, true, walk, walk-accepted, walk_by-append, walk_from, ℕ, ◌++◌, ◌==◌, ◌∙◌, ◌∷◌, ◌≡◌, cases_Bool, eqb-true, position, ⊎_elim, by_option}
 use Rattle.mime_http.proofs.Places.{place_from, Leads, no_bytes, one, both, so, token_is_plain, of_type, goes_on, of_value, of_name, plain_byte, before_name, after_value, space, accepted_stays, LeavesWhite, left_white}
 use Rattle.mime_http.proofs.PlacesAgain.{IsSettled, IsLike, itself, left_after, ends_like}
 use Rattle.mime_http.proofs.HttpBack.{read_is_http}
@@ -43,8 +43,7 @@ closes true not_taken = absurd (false≢true (sym not_taken))
 closes false not_taken = one Quoted 34
 
 -- in a list each byte that goes on comes out, and leads to the place after it
-grown_list : (closed : ClosedParameters) (position : ListState) (b : ℕ)
-    → MatchOption (grow_state closed position b) (Unit {0})
+grown_list : (closed : ClosedParameters) (position : ListState) (b : ℕ) → MatchOption (grow_state closed position b) (Unit {0})
     (λ next. Leads (place_in_list position) (b ∷ []) (b ∷ []) (place_in_list next.position))
 grown_list closed (in_spaces n) b =
     cond_both (is_space b) _ _ (λ o. MatchOption o (Unit {0}) (λ next. Leads Semicolon (b ∷ []) (b ∷ []) (place_in_list next.position)))
@@ -105,14 +104,11 @@ walked begun (b ∷ bytes) last e =
 
 -- where white space is left out a space goes on with nothing,
 pub no_space_grows : (begun : Begun) → LeavesWhite (place_at begun) → grow begun 32 ≡ None
-no_space_grows begun leaves = go (grow begun 32) (grows_to begun 32)
-  where
-    go : (next : Option Begun) → MatchOption next (Unit {0}) (GoesTo (place_at begun) 32) → next ≡ None
-    go None goes = refl
-    go (Some next) goes =
-        let stays : tight_from (place_at begun) (32 ∷ []) ≡ 32 ∷ [] = goes.tightly [] in
-        let left : tight_from (place_at begun) (32 ∷ []) ≡ [] = (left_white leaves 32 refl).tightly [] in
-        absurd (cc)
+no_space_grows begun leaves = by_option (grow begun 32) (λ stops. stops) (λ next grew.
+    let goes = MatchOption-at_some (Unit {0}) (GoesTo (place_at begun) 32) next grew (grows_to begun 32) in
+    let stays : tight_from (place_at begun) (32 ∷ []) ≡ 32 ∷ [] = goes.tightly [] in
+    let left : tight_from (place_at begun) (32 ∷ []) ≡ [] = (left_white leaves 32 refl).tightly [] in
+    absurd (cc))
 
 -- the tree may end
 abbrev MayEnd : Begun → Type 0
@@ -195,8 +191,7 @@ goes_on_as front more settled is =
     sym (end.leads.tightly more) ∙ accepted_stays (tight front ++ more) is in
     let same : tight_from (place_from Start front) more ≡ more =
     ap (λ place. tight_from place more) (sym (like_settled end.is_like settled)) ∙ append_cancel_left (tight front) _ _ written in
-    http_from_accepted (front ++ more)
-    (subst IsAccepted (sym (tight-append Start front more ∙ ap (λ x. tight front ++ x) same)) is)
+    http_from_accepted (front ++ more) (subst IsAccepted (sym (tight-append Start front more ∙ ap (λ x. tight front ++ x) same)) is)
 
 -- so if what comes out of it is viable, it is
 pub viable_from_tight : (front : List ℕ) → IsSettled (place_from Start front) → IsViable (tight front) → IsHttpViable front

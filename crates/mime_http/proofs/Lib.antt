@@ -2,7 +2,6 @@
 pub mod Adds
 pub mod AtFault
 pub mod Chosen
-pub mod Closest
 pub mod Common
 pub mod Contents
 pub mod Cuts
@@ -32,7 +31,6 @@ pub mod Pieces
 pub mod Places
 pub mod PlacesAgain
 pub mod RangesFacts
-pub mod Ranks
 pub mod Rejections
 pub mod SemicolonAtFault
 pub mod ShortWeight

@@ -129,7 +129,7 @@ sorted_elements (element text range texts media utf8 reads rest) =
     record {
       ranges = range-kept ∷ more.ranges;
       same = ap (λ others. without_kept range ∷ others) more.same;
-      sorted = a_range text range-kept texts more.ranges [] utf8 (read_is_http text range-kept kept.1) (reads_tight text kept.1) more.sorted;
+      sorted = a_range text range-kept texts _ [] utf8 (read_is_http text range-kept kept.1) (reads_tight text kept.1) more.sorted;
     }
 
 -- a list as HTTP writes it is read as its elements
@@ -176,8 +176,7 @@ nothing_is_no_value is = go is.1.tree.top _ is.1.well_formed.0 is.1.spelled
 
 -- and so is white space, as HTTP writes it
 http_is_not_blank : {piece : List ℕ} → AreSpaces piece → ¬ (IsHttpMediaType piece)
-http_is_not_blank {piece} white is =
-    nothing_is_no_value (subst IsAccepted (nothing_out at_start piece white) (accepted_from_http piece is))
+http_is_not_blank {piece} white is = nothing_is_no_value (subst IsAccepted (nothing_out at_start piece white) (accepted_from_http piece is))
 
 -- texts are sorted in one way
 one_sorting : {texts : List (List ℕ)} {ranges others : List MediaType} {bad poor : List (List ℕ)} → AreSorted texts ranges bad

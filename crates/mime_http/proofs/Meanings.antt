@@ -11,7 +11,8 @@ Pairs = List (List ℕ × List ℕ)
 any_there : {X : Type 0} (test : X → Bool) (before : List X) (x : X) (after : List X) → test x ≡ true
     → list_any test (before ++ (x ∷ after)) ≡ true
 any_there test before x after is =
-    list_any-append test before (x ∷ after) ∙ rw is (elim (list_any test before) as (λ b. (b || true) ≡ true) [ true ↦ refl | false ↦ refl ])
+    list_any-append test before (x ∷ after)
+    ∙ rw is (elim (list_any test before) as (λ b. (b || true) ≡ true) [ true ↦ refl | false ↦ refl ])
 
 -- bytes are equal to themselves
 same_bytes : (bytes : List ℕ) → bytes_eq bytes bytes ≡ true
@@ -107,7 +108,8 @@ closeness_by_meaning offer range at =
     (named_parts range offer) else None)
     (all_by_meaning offer range.pairs)
     ∙ ap (λ count. if list_all (has_meant (map meaning_of offer.pairs)) (demanded (map meaning_of range.pairs))
-    then option_map (λ named. (named, count, weight_of range, at)) (named_parts range offer) else None) (sym (ap length (demanded_meant range.pairs) ∙ length-map (demanded range.pairs) meaning_of))
+    then option_map (λ named. (named, count, weight_of range, at)) (named_parts range offer) else None)
+    (sym (ap length (demanded_meant range.pairs) ∙ length-map (demanded range.pairs) meaning_of))
 
 -- media types that mean the same are alike
 meant_alike : (media other : MediaType) → MeanTheSame media other → meant_of media ≡ meant_of other

@@ -3,8 +3,7 @@ use Rattle.mime_http.proofs.Common.{AllByRecursion, AreInOrder, Contains, Contai
 use Rattle.std.specs.List.Sorted.{IsPermutation, IsSorted}
 use Rattle.std.proofs.lemmas.List.Sorted.{ranks_by, sorted_far, IsPermutation-sym, IsPermutation-map, Contains-permutation}
 use Rattle.std.proofs.lemmas.Map.Keys.{IsDistinct-IsPermutation, apart_from_distinct}
-use Rattle.mime_http.proofs.Closest.{in_more, in_mapped, of_mapped}
-use Rattle.mime_http.proofs.Ranks.{ranks_total, one_rank}
+use Rattle.mime_http.proofs.Highest.{in_more, in_mapped, of_mapped, ranks_total, one_rank}
 
 -- an offer comes before another: it ranks higher, or as high and is offered first
 abbrev pub rank_at : List Rank → ℕ → Rank
@@ -46,8 +45,7 @@ weighing_is_at at (rank ∷ ranks) entry there = ⊎_elim
     (cases_Bool (rank.0 == 0))
   where
     here : 0 < rank.0 → Contains ((rank, at) ∷ weighing (at + 1) ranks) entry
-        → (Contains (weighing (at + 1) ranks) entry → IsAt (at + 1) ranks entry)
-        → IsAt at (rank ∷ ranks) entry
+        → (Contains (weighing (at + 1) ranks) entry → IsAt (at + 1) ranks entry) → IsAt at (rank ∷ ranks) entry
     here weighs (zero, within, is) rest = record {
       far = 0;
       there = ap (λ (e : Rank × ℕ). e.1) (sym is) ∙ omega arith;
@@ -100,8 +98,7 @@ offers_total = then_total (back_total (on_total (λ offer. offer.0.0) ranks_tota
 
 -- one that isn't after another is higher, or as high and offered earlier
 first_by : (x y : Rank) (i j : ℕ) (a b : Ordering) → rank_cmp x y ≡ a → MatchOrdering b (j < i) (j ≡ i) (i < j)
-    → is_lt (ordering_then a b) ≡ false → i ≢ j
-    → (is_gt (rank_cmp x y) ≡ true) ⊎ ((x ≡ y) × (i < j))
+    → is_lt (ordering_then a b) ≡ false → i ≢ j → (is_gt (rank_cmp x y) ≡ true) ⊎ ((x ≡ y) × (i < j))
 first_by x y i j Greater b is far low differ = inl (ap is_gt is)
 first_by x y i j Less b is far low differ = absurd (true≢false low)
 first_by x y i j Equal Less is far low differ = absurd (true≢false low)

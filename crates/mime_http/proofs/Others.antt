@@ -64,8 +64,7 @@ others_within name pairs =
 -- each parameter is written with a byte at least
 pub pairs_within_text : (pairs : List (List ℕ × List ℕ)) → length pairs ≤ length (text_of_pairs pairs)
 pairs_within_text [] = omega arith
-pairs_within_text (pair ∷ pairs) =
-    omega (arith, pairs_within_text pairs, length-append (text_of_pair pair) (text_of_pairs pairs))
+pairs_within_text (pair ∷ pairs) = omega (arith, pairs_within_text pairs, length-append (text_of_pair pair) (text_of_pairs pairs))
 
 -- and one more after all
 pub and_last : (essence : List ℕ) (pairs : List (List ℕ × List ℕ)) (pair : List ℕ × List ℕ)

@@ -111,7 +111,8 @@ pub token_byte_back : {place : Place} → LeavesWhite place → (bytes : List �
 token_byte_back leaves [] x out no_space no_semicolon e = absurd (cc)
 token_byte_back {place} leaves (b ∷ bytes) x out no_space no_semicolon e = ⊎_elim
     (λ (white : is_space b ≡ true).
-    let there = spaced_back bytes x out (λ is. true≢false (sym (ap is_space is) ∙ no_space)) (sym ((left_white leaves b white).tightly bytes) ∙ e) in
+    let there = spaced_back bytes x out (λ is. true≢false (sym (ap is_space is) ∙ no_space))
+    (sym ((left_white leaves b white).tightly bytes) ∙ e) in
     absurd (true≢false (sym (ap (λ y. y == 59) there.0) ∙ no_semicolon)))
     (λ (other : is_space b ≡ false). kept_back place b bytes x out (other_written leaves b other) e)
     (cases_Bool (is_space b))

@@ -82,8 +82,7 @@ opens_none b (c ∷ bytes) other = rw other refl
 
 -- so what follows it fits the place after it,
 after_outside_fits : (b : ℕ) (bytes : List ℕ) → opens_string (b ∷ bytes) ≡ false → Fits (after_outside b) bytes
-after_outside_fits b bytes opens =
-    cond_both (b == 61) _ _ (λ place. Fits place bytes) (λ is. no_quote b bytes is opens) (λ other. tt)
+after_outside_fits b bytes opens = cond_both (b == 61) _ _ (λ place. Fits place bytes) (λ is. no_quote b bytes is opens) (λ other. tt)
 
 -- from each place
 after_fits : (place : At) (b : ℕ) (bytes : List ℕ) → opens_string (b ∷ bytes) ≡ false → Fits place (b ∷ bytes) → Fits (after place b) bytes
@@ -108,8 +107,7 @@ in_string (string_pair b content rest) = passes_both (passes_one Quoted 92 refl)
 
 -- an equals sign and a quote lead into a string
 opened : (place : At) → IsOutside place → Passes place (61 ∷ 34 ∷ []) Quoted
-opened place is =
-    passes_both (passes_to (equals_leads place is) (passes_one place 61 (goes_on place 61 refl))) (passes_one Equals 34 refl)
+opened place is = passes_both (passes_to (equals_leads place is) (passes_one place 61 (goes_on place 61 refl))) (passes_one Equals 34 refl)
 
 -- a piece passes
 pub through : {piece : List ℕ} → IsPiece piece → (place : At) → Fits place piece → Through place piece

@@ -1,8 +1,6 @@
 -- What is picked from a list item by item is what none is higher than: the closest range, and the best offer.
 use Rattle.mime_http.proofs.Common.{Bool, ClosestIsClosest, Contains, Equal, Greater, IsAtMost, IsTotalOrder, List, MatchOption, MediaType, None, Option, Ordering, Rank, Some, [], and_from, and_parts, ap, arith, cases_Bool, closeness, closest, cons_option, enumerate_from, eq-eqb, eq_by_cmp, eqb-true, false, filter_map, find, fold, if◌then◌else◌, is_eq, is_gt, is_le, is_lt, is_some, list_all, map, nat_lt, nat_tests, option_cmp, options_total, ord_max, position, position_from, position_from-zero, rank_cmp, refl, subst, suc, sym, tied_itself, true, true≢false, zero, ℕ, ⊎_elim, ◌&&◌, ◌+◌, ◌==◌, ◌∙◌, ◌∷◌, ◌≡◌, ◌≤◌, All-contains, AllPass-from_list_all, Contains-get_or, cond_both, get_or, list_all-from_AllPass}
-use Rattle.mime_http.proofs.Closest.{in_more, in_mapped, of_mapped, highest_is_there, none_is_higher, at_most}
-use Rattle.mime_http.proofs.Highest.{same_by, between_by}
-use Rattle.mime_http.proofs.Ranks.{ranks_total, one_rank}
+use Rattle.mime_http.proofs.Highest.{in_more, in_mapped, of_mapped, highest_is_there, none_is_higher, at_most, same_by, between_by, ranks_total, one_rank}
 
 -- ---- lists
 
@@ -247,8 +245,7 @@ module _ (all : List Rank) where
       (cases_Bool (is_best rank))
 
 -- the best offer stands first of those that none is above
-pub best_is_position : (all : List Rank)
-    → position (λ one. nat_lt 0 one.0 && list_all (λ other. is_le (rank_cmp other one)) all) all
+pub best_is_position : (all : List Rank) → position (λ one. nat_lt 0 one.0 && list_all (λ other. is_le (rank_cmp other one)) all) all
     ≡ (if (highest all).0 == 0 then None else position (λ rank. eq_by_cmp rank_cmp rank (highest all)) all)
 best_is_position all =
     let is_highest = λ (rank : Rank). eq_by_cmp rank_cmp rank (highest all) in

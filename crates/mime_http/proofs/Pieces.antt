@@ -84,7 +84,8 @@ unmarked_lead line (suc n) within unmarked =
       place = after_outside b;
       is_outside = outside_after b;
       so_far = sym (ap (cut_at (after_outside b) line) one)
-          ∙ (sym (ap (λ place. cut_at place line (n + 1)) (after_unmarked before.place before.is_outside b (or_parts (b == 44) (b == 34) plain).1))
+          ∙ (sym (ap (λ place. cut_at place line (n + 1)) (after_unmarked before.place before.is_outside b
+          (or_parts (b == 44) (b == 34) plain).1))
           ∙ (sym (cut_goes_on before.place line n (omega (arith, within)) (goes_on before.place b comma)) ∙ before.so_far));
     }
 
@@ -160,7 +161,8 @@ pub string_pair : (line : List ℕ) (at : ℕ) → at + 1 < length line → get_
 string_pair line at within backslash =
     let next : at + 1 + 1 ≡ at + 2 = omega arith in
     sym (ap (cut_at Quoted line) next)
-    ∙ (sym (cut_goes_on Paired line (at + 1) within refl) ∙ string_byte line at Paired (omega (arith, within)) (ap (after Quoted) backslash))
+    ∙ (sym (cut_goes_on Paired line (at + 1) within refl)
+    ∙ string_byte line at Paired (omega (arith, within)) (ap (after Quoted) backslash))
 
 -- after an equals sign the cut is as before it,
 equals_past : (line : List ℕ) (at : ℕ) → at < length line → get_or line at 0 ≡ 61 → cut_at Equals line (at + 1) ≡ cut_at Outside line at
@@ -223,14 +225,14 @@ module _ (one other : ℕ) (text : List ℕ) (at n : ℕ) (lanes : n ≤ 64) (ro
 
   -- all, if no bit is set,
   pub none_set : mask ≡ 0 → BeforeMark one other text at n n
-  none_set none =
-      counted n (sym (leading_from_mask_l (is_mark one other) (chunk at n text) (sym is ∙ none) ∙ length-chunk at n text room))
+  none_set none = counted n (sym (leading_from_mask_l (is_mark one other) (chunk at n text) (sym is ∙ none) ∙ length-chunk at n text room))
 
   -- and else as many as the zeros before the lowest bit
   pub some_set : ¬ (mask ≡ 0) → BeforeMark one other text at n (count_trailing_zeros 64 mask)
   some_set some =
       counted _ (ap (count_trailing_zeros 64) is
-      ∙ trailing_mask_l (is_mark one other) 64 (chunk at n text) (omega (arith, lanes, length-chunk at n text room)) (omega (arith, is, some)))
+      ∙ trailing_mask_l (is_mark one other) 64 (chunk at n text) (omega (arith, lanes, length-chunk at n text room))
+      (omega (arith, is, some)))
 
 -- The bits of the last block from a position on are those of the bytes from there on.
 pub bits_from : (one other : ℕ) (text : List ℕ) (from : ℕ) → 16 ≤ length text → length text < from + 16 → from ≤ length text
@@ -251,14 +253,14 @@ bits_from one other text from long end within =
 -- ---- a piece that begins further on
 
 -- bytes without a mark from a position on,
-pub unmarked_from : (line : List ℕ) (from to : ℕ) → from ≤ to → AreUnmarked 44 34 line from to → AreUnmarked 44 34 (drop from line) 0 (to - from)
+pub unmarked_from : (line : List ℕ) (from to : ℕ) → from ≤ to → AreUnmarked 44 34 line from to
+    → AreUnmarked 44 34 (drop from line) 0 (to - from)
 unmarked_from line from to least plain = λ k first last.
     subst (λ b. is_mark 44 34 b ≡ false) (sym (get_or-drop from line k 0)) (plain (from + k) (omega arith) (omega (arith, last, least)))
 
 -- up to a comma or the end, are the first piece from there on,
 pub piece_from : (line : List ℕ) (from to : ℕ) → from ≤ to → to ≤ length line → AreUnmarked 44 34 line from to
-    → (to < length line → get_or line to 0 ≡ 44)
-    → cut (drop from line) ≡ take (to - from) (drop from line) ∷ cut_after (drop to line)
+    → (to < length line → get_or line to 0 ≡ 44) → cut (drop from line) ≡ take (to - from) (drop from line) ∷ cut_after (drop to line)
 piece_from line from to least within plain comma =
     let rest = drop from line in
     let n = to - from in
@@ -288,5 +290,4 @@ no_piece_after line end past = ap cut_after (drop_of_length-le line past)
 -- An empty piece comes before a comma.
 pub empty_piece : (line : List ℕ) (from : ℕ) → from < length line → get_or line from 0 ≡ 44
     → cut (drop from line) ≡ [] ∷ cut (drop (from + 1) line)
-empty_piece line from within comma =
-    ap cut (item_left line from 0 within ∙ ap (λ b. b ∷ drop (from + 1) line) comma)
+empty_piece line from within comma = ap cut (item_left line from 0 within ∙ ap (λ b. b ∷ drop (from + 1) line) comma)

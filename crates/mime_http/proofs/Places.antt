@@ -25,8 +25,7 @@ pub one : (place : Place) (b : ℕ) → Leads place (b ∷ []) (added place b) (
 one place b = record { there = refl; tightly = λ rest. refl }
 
 -- two that follow each other
-pub both : {p q r : Place} {xs ys out add : List ℕ} → Leads p xs out q → Leads q ys add r
-    → Leads p (xs ++ ys) (out ++ add) r
+pub both : {p q r : Place} {xs ys out add : List ℕ} → Leads p xs out q → Leads q ys add r → Leads p (xs ++ ys) (out ++ add) r
 both {p} {q} {r} {xs} {ys} {out} {add} first second = record {
   there = place_from-append p xs ys ∙ (ap (λ place. place_from place ys) first.there ∙ second.there);
   tightly = λ rest. ap (tight_from p) (append_assoc xs ys rest) ∙ (first.tightly (ys ++ rest)
@@ -35,8 +34,7 @@ both {p} {q} {r} {xs} {ys} {out} {add} first second = record {
 
 -- the same, said of other bytes and another place
 pub so : {p q r : Place} {xs out add : List ℕ} → Leads p xs out q → out ≡ add → q ≡ r → Leads p xs add r
-so {p} {q} {r} {xs} {out} {add} leads same there =
-    subst (λ place. Leads p xs add place) there (subst (λ o. Leads p xs o q) same leads)
+so {p} {q} {r} {xs} {out} {add} leads same there = subst (λ place. Leads p xs add place) there (subst (λ o. Leads p xs o q) same leads)
 
 -- What is written as it is stays so if nothing follows.
 pub comes_out_whole : {p q : Place} {text : List ℕ} → Leads p text text q → tight_from p text ≡ text

@@ -25,8 +25,7 @@ outside_settled place b is =
 
 -- and so does each byte within quotes,
 pub within_settled : (b : ℕ) → IsSettled (after_within b)
-within_settled b =
-    cond_both (b == 92) _ _ IsSettled (λ yes. tt) (λ no. cond_both (b == 34) _ _ IsSettled (λ yes. tt) (λ no. tt))
+within_settled b = cond_both (b == 92) _ _ IsSettled (λ yes. tt) (λ no. cond_both (b == 34) _ _ IsSettled (λ yes. tt) (λ no. tt))
 
 -- A byte that isn't left out comes out, after what comes back before it,
 pub kept_adds : (place : Place) (b : ℕ) → is_left_out place b ≡ false → added place b ≡ brought_back place b ++ (b ∷ [])
@@ -57,8 +56,7 @@ record Again (place : Place) (b : ℕ) (like : Place) : Type 0 where
   is_like : IsLike (place_after place b) to
 
 -- a byte that comes out is written again,
-written_again : (place : Place) (b : ℕ) → added place b ≡ b ∷ []
-    → IsSettled (place_after place b) → Again place b place
+written_again : (place : Place) (b : ℕ) → added place b ≡ b ∷ [] → IsSettled (place_after place b) → Again place b place
 written_again place b e settled = record {
   to = place_after place b;
   leads = subst (λ a. Leads place a a (place_after place b)) (sym e) (so (one place b) e refl);
@@ -66,8 +64,7 @@ written_again place b e settled = record {
 }
 
 -- and so is one that adds nothing
-left_out_again : (place like : Place) (b : ℕ) → added place b ≡ [] → IsLike (place_after place b) like
-    → Again place b like
+left_out_again : (place like : Place) (b : ℕ) → added place b ≡ [] → IsLike (place_after place b) like → Again place b like
 left_out_again place like b e is =
     record { to = like; leads = subst (λ a. Leads like a a like) (sym e) (no_bytes like); is_like = is }
 

@@ -1,5 +1,5 @@
 -- A semicolon at fault is left out after another, and else stands; so does each other byte, and what is missing at the end.
-use Rattle.mime_http.proofs.Common.{Closed, Equals, HttpLacks, InvalidToken, IsAccepted, IsDeadAt, IsFault, IsHttpMediaType, IsLoose, Lacks, List, Paired, ParseError, Place, Quoted, Semicolon, Spaced, Stands, Start, [], added, after_quote, after_space, ap, arith, completed_is_rejected, ends_in_semicolon_or_space, false, in_type, is_quoted_byte, is_semicolon_or_space, is_space, nat_tests, place_after, refl, slice_get_within, subst, sym, take, tight, true, true≢false, viable-from_lacks, walk, walk-from_viable, ℕ, ⊤, ◌+◌, ◌==◌, ◌∙◌, ◌∷◌, ◌≡◌, ◌≢◌, cases_Bool, cond_both, eqb-true, ⊎_elim}
+use Rattle.mime_http.proofs.Common.{Closed, Equals, HttpLacks, InvalidToken, IsAccepted, IsDeadAt, IsFault, IsHttpMediaType, IsLoose, Lacks, List, Paired, ParseError, Place, Quoted, Semicolon, Spaced, Stands, Start, [], added, after_quote, after_space, ap, arith, completed_is_rejected, ends_in_semicolon_or_space, false, in_type, is_quoted_byte, is_semicolon_or_space, is_space, nat_tests, place_after, refl, slice_get_within, subst, sym, take, tight, true, true≢false, viable-from_lacks, walk-from_viable, ℕ, ⊤, ◌+◌, ◌==◌, ◌∙◌, ◌∷◌, ◌≡◌, ◌≢◌, cases_Bool, cond_both, eqb-true, ⊎_elim}
 use Rattle.mime_http.proofs.Places.{place_from, place_from-append, comes_out_whole}
 use Rattle.mime_http.proofs.PlacesAgain.{IsSettled, comes_out}
 use Rattle.mime_http.proofs.HttpLaws.{accepted_from_http}
@@ -30,7 +30,8 @@ after_semicolon_bare Paired refused = absurd (true≢false refused)
 after_semicolon_bare place refused = refl
 
 -- and so after one of either
-after_separator : (place : Place) (b : ℕ) → is_semicolon_or_space b ≡ true → Refuses (place_after place b) 59 → place_after place b ≡ Semicolon
+after_separator : (place : Place) (b : ℕ) → is_semicolon_or_space b ≡ true → Refuses (place_after place b) 59
+    → place_after place b ≡ Semicolon
 after_separator place b is refused = ⊎_elim
     (λ (semicolon : (b == 59) ≡ true).
     let same = eqb-true b 59 semicolon in
@@ -115,7 +116,8 @@ first_semicolon value pos b dead is ends =
 -- ---- another byte at fault, or none
 
 -- and so does each other byte
-pub byte_that_stays : (value : List ℕ) (pos b : ℕ) → IsDeadAt value pos b → is_semicolon_or_space b ≡ false → Stands value (InvalidToken pos b)
+pub byte_that_stays : (value : List ℕ) (pos b : ℕ) → IsDeadAt value pos b → is_semicolon_or_space b ≡ false
+    → Stands value (InvalidToken pos b)
 byte_that_stays value pos b dead is =
     let cut = cut_at value pos b dead in
     let space : is_space b ≡ false = grind (arith, nat_tests) in

@@ -1,6 +1,6 @@
 -- A range that covers none of the offers only moves the ranges after it by one position, which changes no comparison.
 use Rattle.mime_http.proofs.Common.{AreInOrder, Bool, Contains, List, MediaType, None, Option, Rank, Some, StrangerChangesNothing, [], ap, arith, closeness, closest, cons_option, demanded, enumerate_from, false, filter_map, find, get_or, has, if◌then◌else◌, inl, inr, is_gt, is_le, length, length-append, list_all, map, merit, merit_at, named_parts, nat_cmp, nat_lt, nat_tests, option_map, ordering_then, position, position_from, position_from-zero, rank_cmp, refl, subst, suc, sym, true, unwrap_or, weight_of, zero, ℕ, ◌&&◌, ◌++◌, ◌+◌, ◌-◌, ◌<◌, ◌∙◌, ◌∷◌, ◌≡◌, ◌≤◌, ◌⊎◌, list_all-map}
-use Rattle.mime_http.proofs.Closest.{in_more}
+use Rattle.mime_http.proofs.Highest.{in_more}
 use Rattle.mime_http.proofs.Picked.{is_best}
 
 -- ---- positions after the range
@@ -109,7 +109,8 @@ module _ (offer : MediaType) where
         let here : closeness offer (at, first) ≡ option_map (moved (shifted k)) (closeness offer (at, first)) =
         ap (λ n. closeness offer (n, first)) (sym (position_stays k at (omega (arith, long)))) ∙ covers_so offer first (shifted k) at in
         ap (λ found. cons_option found (covering (at + 1) (before ++ (range ∷ after)))) here
-        ∙ (ap (cons_option (option_map (moved (shifted k)) (closeness offer (at, first)))) (one_more k (at + 1) before (omega (arith, long)))
+        ∙ (ap (cons_option (option_map (moved (shifted k)) (closeness offer (at, first))))
+        (one_more k (at + 1) before (omega (arith, long)))
         ∙ onto_mapped (moved (shifted k)) (closeness offer (at, first)) (covering (at + 1) (before ++ after)))
 
     -- and the closest is the same
@@ -192,7 +193,8 @@ module _ (before after : List MediaType) (range : MediaType) where
   -- the best is the same
   same_best : (all : List Rank) → position (is_best (map raise all)) (map raise all) ≡ position (is_best all) all
   same_best all =
-      let same = same_top (raised (length before) (length (before ++ after))) (same_earliness (length before) (length (before ++ after))) all in
+      let long = length (before ++ after) in
+      let same = same_top (raised (length before) long) (same_earliness (length before) long) all in
       position_from-zero (is_best (map raise all)) (map raise all)
       ∙ (place_mapped raise (is_best (map raise all)) 0 all
       ∙ ((λ i. position_from (λ (one : Rank). nat_lt 0 one.0 && same one i) 0 all) ∙ sym (position_from-zero (is_best all) all)))
@@ -209,8 +211,7 @@ module _ (before after : List MediaType) (range : MediaType) where
     place_so at = ap (λ all. get_or all at (0, 0, 0, 0)) (merits_so offers none) ∙ at_mapped (map (merit (before ++ after)) offers) at
 
     -- two offers compare as before,
-    same_place_order : (at other : ℕ)
-        → rank_cmp (merit_at with_it offers at) (merit_at with_it offers other)
+    same_place_order : (at other : ℕ) → rank_cmp (merit_at with_it offers at) (merit_at with_it offers other)
         ≡ rank_cmp (merit_at (before ++ after) offers at) (merit_at (before ++ after) offers other)
     same_place_order at other =
         (λ i. rank_cmp (place_so at i) (place_so other i))

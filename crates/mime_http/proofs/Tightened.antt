@@ -28,7 +28,8 @@ end_out (other is leaves) white all = rw (is.quote, is.semicolon) (token_end lea
 semicolon_out : {last : ℕ} {place : Place} → Last last place → (white rest : List ℕ) → AreSpaces white
     → tight_from place (white ++ (59 ∷ rest)) ≡ white_left last white ++ (semicolon_left last ++ tight_from Semicolon rest)
 semicolon_out nothing white rest all = white_skipped at_start white (59 ∷ rest) all
-semicolon_out string white rest all = let kept : Leads Closed white white Closed = walk_spaces after_value white all in kept.tightly (59 ∷ rest)
+semicolon_out string white rest all =
+    let kept : Leads Closed white white Closed = walk_spaces after_value white all in kept.tightly (59 ∷ rest)
 semicolon_out list white rest all =
     let kept : Leads Semicolon white white Semicolon = walk_spaces before_name white all in kept.tightly (59 ∷ rest)
 semicolon_out (other is leaves) white rest all = rw (is.quote, is.semicolon) (token_semicolon leaves white rest all)
@@ -75,7 +76,8 @@ tight_out (other tests leaves) (before_token last white rest text may all is) =
 tight_out at (a_string last content rest text quoted is) =
     string_out at quoted rest ∙ ap (λ x. 61 ∷ 34 ∷ (content ++ (34 ∷ x))) (tight_out string is)
 tight_out at (a_byte last b rest text not_white not_semicolon not_quote is) =
-    byte_out at b not_white not_semicolon not_quote rest ∙ ap (λ x. b ∷ x) (tight_out (byte_last b (other_byte b not_white not_semicolon not_quote)) is)
+    byte_out at b not_white not_semicolon not_quote rest
+    ∙ ap (λ x. b ∷ x) (tight_out (byte_last b (other_byte b not_white not_semicolon not_quote)) is)
 
 -- so a value is tightened to what comes out of it
 pub tight_is : {value text : List ℕ} → Tightens 32 value text → tight value ≡ text

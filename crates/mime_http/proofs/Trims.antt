@@ -109,8 +109,7 @@ trim_end-space (c ∷ bytes) b white =
 -- and else all bytes stay
 trim_end-other : (bytes : List ℕ) (b : ℕ) → is_space b ≡ false → trim_end (bytes ++ (b ∷ [])) ≡ bytes ++ (b ∷ [])
 trim_end-other [] b other = rw other refl
-trim_end-other (c ∷ bytes) b other =
-    rw (never_all (c ∷ bytes)) (ap (λ x. c ∷ x) (trim_end-other bytes b other))
+trim_end-other (c ∷ bytes) b other = rw (never_all (c ∷ bytes)) (ap (λ x. c ∷ x) (trim_end-other bytes b other))
   where
     never_all : (bytes : List ℕ) → list_all is_space (bytes ++ (b ∷ [])) ≡ false
     never_all [] = rw other refl
@@ -142,5 +141,4 @@ end_at_other piece end some within other =
 -- What is left of ASCII without the white space before it is ASCII.
 pub ascii_trimmed : (piece : List ℕ) → IsAscii piece → IsAscii (trim_start piece)
 ascii_trimmed [] ascii = ascii
-ascii_trimmed (b ∷ piece) ascii =
-    cond_both (is_space b) _ _ IsAscii (λ white. ascii_trimmed piece (λ i. ascii (suc i))) (λ other. ascii)
+ascii_trimmed (b ∷ piece) ascii = cond_both (is_space b) _ _ IsAscii (λ white. ascii_trimmed piece (λ i. ascii (suc i))) (λ other. ascii)

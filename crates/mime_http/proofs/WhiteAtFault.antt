@@ -22,15 +22,13 @@ white_leaves Closed b white refused = absurd (false≢true (sym refused.0 ∙ wh
 white_leaves Semicolon b white refused = absurd (false≢true (sym refused ∙ white))
 
 -- before the first byte white space is left out
-pub first_space : (value : List ℕ)
-    → IsLoose value 0 (length value - length (trim_start value)) Start
+pub first_space : (value : List ℕ) → IsLoose value 0 (length value - length (trim_start value)) Start
 first_space value =
     record { within = omega arith; from_within = omega arith; tightly = after_white at_start value 0 (omega arith) }
 
 -- there are bytes before a position after the first
 some_before : (value : List ℕ) (pos : ℕ) → 0 < pos → pos < length value → take pos value ≢ []
-some_before value pos some within empty =
-    omega (arith, some, within, length-take-le pos value (omega (arith, within)), ap length empty)
+some_before value pos some within empty = omega (arith, some, within, length-take-le pos value (omega (arith, within)), ap length empty)
 
 -- white space at fault after other bytes is left out
 pub record LaterSpace (value : List ℕ) (pos b : ℕ) : Type 0 where
@@ -128,14 +126,14 @@ module _ (value : List ℕ) (pos b : ℕ) (space : LaterSpace value pos b) where
         let first = some_first rest (omega (arith, within)) in
         let text : value ≡ ((front ++ (first.0 ∷ [])) ++ first.1) ++ [] =
         sym whole ∙ (ap (λ x. front ++ x) first.2 ∙ (sym (append_assoc front (first.0 ∷ []) first.1) ∙ sym (append-nil _))) in
-        dies first.0 first.1 first.2
-        (prefix_of_http_viable (front ++ (first.0 ∷ [])) first.1 ([], subst IsHttpMediaType text is))
+        dies first.0 first.1 first.2 (prefix_of_http_viable (front ++ (first.0 ∷ [])) first.1 ([], subst IsHttpMediaType text is))
 
     dead_before : ¬ (IsAccepted begin) → IsHttpDeadAt value pos b
     dead_before rejected = record {
       prefix = longest_before begin b (drop (pos + 1) value) space.cut.split space.cut.long
           (viable_from_tight begin (at_rest space.cut.fault) (subst IsViable (sym (so_far space.cut.fault)) space.cut.fault.viable))
-          (λ begins. rejected (subst IsAccepted (comes_alone [] refl) (accepted_from_spaced (begin ++ (b ∷ [])) (spaced_there [] refl) begins)));
+          (λ begins. rejected (subst IsAccepted (comes_alone [] refl)
+          (accepted_from_spaced (begin ++ (b ∷ [])) (spaced_there [] refl) begins)));
       there = here;
     }
 

@@ -176,8 +176,7 @@ pairs_are_low text value reads =
 -- pairs of other names stay as they are, before the new one
 others_stay : (name : List ℕ) (pairs : List (List ℕ × List ℕ)) (pair : List ℕ × List ℕ) → AllByRecursion IsLowPair pairs
     → map lowered_pair (others name pairs ++ (pair ∷ [])) ≡ others (lowered name) pairs ++ (lowered_pair pair ∷ [])
-others_stay name pairs pair all =
-    rw (lowered-lowered name) (go pairs all)
+others_stay name pairs pair all = rw (lowered-lowered name) (go pairs all)
   where
     go : (pairs : List (List ℕ × List ℕ)) → AllByRecursion IsLowPair pairs
         → map lowered_pair (others name pairs ++ (pair ∷ [])) ≡ others name pairs ++ (lowered_pair pair ∷ [])

@@ -1,14 +1,13 @@
 -- What a cut of a list is, and where its quoted content ends.
-use Rattle.std.proofs.Common.{◌≡◌, ◌≢◌, ℕ, zero, suc, ◌+◌, ◌<◌, ◌≤◌, Bool, true, false, List, [], ◌∷◌, ◌++◌, length, get_or, drop, refl, sym, ap, ◌∙◌, ne_eqb, arith, cond, ◌-◌, take, subst, append-nil, append_assoc, length-append, length-drop}
+use Rattle.std.proofs.Common.{⊎_elim, ◌≡◌, ◌≢◌, ℕ, zero, suc, ◌+◌, ◌<◌, ◌≤◌, Bool, true, false, List, [], ◌∷◌, ◌++◌, length, get_or, drop, refl, sym, ap, ◌∙◌, ne_eqb, arith, cond, ◌-◌, take, subst, append-nil, append_assoc, length-append, length-drop}
 use Rattle.std.specs.Prelude.{IsTrue, ◌==◌, ◌&&◌, not, Option, Some, codes}
-use Rattle.std.specs.Str.{bytes_eq}
 use Rattle.std.specs.List.{position_or_len, list_all}
-use Rattle.std.specs.Str.{IsUtf8, IsCharBoundary}
+use Rattle.std.specs.Str.{IsUtf8, IsCharBoundary, bytes_eq}
 use Rattle.std.proofs.lemmas.Str.{IsCharBoundary-start, IsCharBoundary-after_ascii}
 use Rattle.std.proofs.lemmas.Bool.Decides.{nat_tests}
 use Rattle.std.proofs.lemmas.List.Sums.{prefix_len_passes, prefix_len-le-length}
 use Rattle.std.proofs.lemmas.List.{drop_more, take_at, drop_at, drop-drop, take-append-drop, take_rest, length-take-le}
-use Rattle.std.proofs.lemmas.Bool.{and_parts, cond-true, cond-false, eqb-true, true≢false, cond_both}
+use Rattle.std.proofs.lemmas.Bool.{and_parts, cases_Bool, cond-true, cond-false, eqb-true, true≢false, cond_both}
 use Rattle.mime.specs.Bytes.{quote_byte, backslash_byte, equals_byte}
 use Rattle.mime.specs.Grammar.{IsContent, is_space}
 use Rattle.mime.specs.Inner.Blocks.{first_position, before_byte, after_byte, IsSuffixOf}
@@ -68,8 +67,7 @@ len_from-run awaiting (b ∷ run) after all done =
     ∙ omega (arith, len_from-run (awaits_next awaiting b) run after parts.1 done)
 
 -- content that a quote follows ends at that quote
-pub content_len-content : (content after : List ℕ) → IsContent content
-    → content_len (content ++ quote_byte ∷ after) ≡ length content
+pub content_len-content : (content after : List ℕ) → IsContent content → content_len (content ++ quote_byte ∷ after) ≡ length content
 content_len-content content after is = len_from-run false content after (content-taken content is) (content-awaits content is)
 
 -- at the length of the content that a text begins with there is a quote, or the text ends
@@ -77,23 +75,18 @@ quote_at_len : (awaiting : Bool) (text : List ℕ) → len_from awaiting text < 
     → get_or text (len_from awaiting text) 0 ≡ quote_byte
 quote_at_len awaiting [] within = absurd (omega arith)
 quote_at_len awaiting (b ∷ text) within =
-    go (not awaiting && b == quote_byte) (λ closes. eqb-true b quote_byte (and_parts (not awaiting) (b == quote_byte) closes).1)
-    (len_from (awaits_next awaiting b) text) (quote_at_len (awaits_next awaiting b) text) within
-  where
-    go : (closes : Bool) → (IsTrue closes → b ≡ quote_byte) → (n : ℕ) → (n < length text → get_or text n 0 ≡ quote_byte)
-        → cond closes 0 (suc n) < length (b ∷ text) → get_or (b ∷ text) (cond closes 0 (suc n)) 0 ≡ quote_byte
-    go true quote n after within = quote refl
-    go false quote n after within = after (omega (arith, within))
+    cond_both (not awaiting && b == quote_byte) _ _ (λ n. n < length (b ∷ text) → get_or (b ∷ text) n 0 ≡ quote_byte)
+    (λ closes _. eqb-true b quote_byte (and_parts (not awaiting) (b == quote_byte) closes).1)
+    (λ on within. quote_at_len (awaits_next awaiting b) text (omega (arith, within))) within
 
 -- it is no longer than its text
 len_from-le : (awaiting : Bool) (text : List ℕ) → len_from awaiting text ≤ length text
 len_from-le awaiting [] = omega arith
-len_from-le awaiting (b ∷ text) = either (not awaiting && b == quote_byte) (len_from-le (awaits_next awaiting b) text)
-  where
-    either : {n l : ℕ} (closes : Bool) → n ≤ l → cond closes 0 (suc n) ≤ suc l
-    either true le = omega arith
-    either false le = omega (arith, le)
+len_from-le awaiting (b ∷ text) =
+    cond_both (not awaiting && b == quote_byte) _ _ (λ n. n ≤ length (b ∷ text)) (λ closes. omega arith)
+    (λ on. omega (arith, len_from-le (awaits_next awaiting b) text))
 
+-- nor is content
 pub content_len-le : (text : List ℕ) (n : ℕ) → n ≡ content_len text → n ≤ length text
 content_len-le text n e = omega (arith, e, len_from-le false text)
 
@@ -104,8 +97,7 @@ get_or-content_len text n e within = rw e (quote_at_len false text (omega (arith
 -- ---- the search for the end of content, position by position
 
 -- what a position leaves to search for the end of quoted content
-len_from-at : (text : List ℕ) (position : ℕ) → position < length text
-    → len_from false (drop position text)
+len_from-at : (text : List ℕ) (position : ℕ) → position < length text → len_from false (drop position text)
     ≡ cond (get_or text position 0 == quote_byte) 0 (suc (len_from (get_or text position 0 == backslash_byte) (drop (position + 1) text)))
 len_from-at text position within = ap (len_from false) (drop_more text position 0 within)
 
@@ -115,13 +107,7 @@ pub search_past_pair : (text : List ℕ) (position whole : ℕ) → position + l
 search_past_pair text position whole e within backslash =
     let at = rw backslash at (len_from-at text position (omega arith)) in
     let next : position + 1 + 1 ≡ position + 2 = omega arith in
-    omega (
-      arith,
-      e,
-      at,
-      ap (len_from true) (drop_more text (position + 1) 0 within),
-      ap (λ n. len_from false (drop n text)) next,
-    )
+    omega (arith, e, at, ap (len_from true) (drop_more text (position + 1) 0 within), ap (λ n. len_from false (drop n text)) next)
 
 -- in that search three pairs are passed at once
 pub search_past_three : (text : List ℕ) (position whole : ℕ) → position + len_from false (drop position text) ≡ whole → position + 6 < length text
@@ -151,19 +137,14 @@ closes-not_at_other false b other = other
 first_quote : (awaiting : Bool) (text : List ℕ) (n : ℕ) → n ≡ position_or_len (λ b. b == quote_byte) text → (n ≡ 0 → awaiting ≡ false)
     → ((m : ℕ) → suc m ≡ n → get_or text m 0 ≢ backslash_byte) → len_from awaiting text ≡ n
 first_quote awaiting [] n e free before = sym e
-first_quote awaiting (b ∷ text) n e free before = go (first_quote (awaits_next awaiting b) text) (b == quote_byte) refl n e free before
-  where
-    go : ((n : ℕ) → n ≡ position_or_len (λ b. b == quote_byte) text → (n ≡ 0 → awaits_next awaiting b ≡ false)
-        → ((m : ℕ) → suc m ≡ n → get_or text m 0 ≢ backslash_byte) → len_from (awaits_next awaiting b) text ≡ n)
-        → (closes : Bool) → b == quote_byte ≡ closes → (n : ℕ) → n ≡ cond (not closes) (1 + position_or_len (λ b. b == quote_byte) text) 0
-        → (n ≡ 0 → awaiting ≡ false) → ((m : ℕ) → suc m ≡ n → get_or (b ∷ text) m 0 ≢ backslash_byte) → len_from awaiting (b ∷ text) ≡ n
-    go after true quote zero e free before = rw (free refl, quote) refl
-    go after true quote (suc n) e free before = absurd (omega (arith, e))
-    go after false other zero e free before = absurd (omega (arith, e))
-    go after false other (suc n) e free before =
-        cond-false (not awaiting && b == quote_byte) _ _ (closes-not_at_other awaiting b other)
-        ∙ ap suc (after n (omega (arith, e)) (λ none. awaits_next-not_backslash awaiting b (before 0 (ap suc (sym none))))
-        (λ m same. before (suc m) (ap suc same)))
+first_quote awaiting (b ∷ text) n e free before = ⊎_elim
+    (λ (quote : b == quote_byte ≡ true). let none : n ≡ 0 = e ∙ rw quote refl in rw (free none, quote) (sym none))
+    (λ (other : b == quote_byte ≡ false).
+    let on : n ≡ 1 + position_or_len (λ b. b == quote_byte) text = e ∙ rw other refl in
+    let rest = first_quote (awaits_next awaiting b) text (n - 1) (omega (arith, on))
+    (λ none. awaits_next-not_backslash awaiting b (before 0 (omega (arith, none, on)))) (λ m same. before (suc m) (omega (arith, same))) in
+    cond-false (not awaiting && b == quote_byte) _ _ (closes-not_at_other awaiting b other) ∙ omega (arith, rest, on))
+    (cases_Bool (b == quote_byte))
 
 -- content ends at the first quote, if no backslash precedes it
 pub content_len-first_quote : (text : List ℕ) (n : ℕ) → n ≡ first_position quote_byte text

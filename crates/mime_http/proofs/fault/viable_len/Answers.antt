@@ -20,8 +20,7 @@ module _ (value text : List ℕ) (fault : ParseError) (limit : ℕ) (reach : Rea
 
   -- where it may end, what it goes on with is at fault,
   ends : IsFault text fault → IsAccepted (take (limit - reach.left) text) → FaultAt value fault reach.at
-  ends is accepted =
-      fault_here value fault reach (subst (λ t. IsFault t fault) same is) stopped (inr (subst IsAccepted came_out accepted))
+  ends is accepted = fault_here value fault reach (subst (λ t. IsFault t fault) same is) stopped (inr (subst IsAccepted came_out accepted))
 
   -- and else the white space before that
   ends_not : IsFault text fault → reach.place ≡ Spaced → ¬ (IsAccepted (take (limit - reach.left) text)) → FaultAt value fault reach.settled

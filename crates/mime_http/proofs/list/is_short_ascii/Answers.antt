@@ -5,10 +5,7 @@ use Rattle.mime_http.proofs.list.is_short_ascii.Goals as goal
 pub loop-at-preserved : goal.loop-at-preserved
 loop-at-preserved c = λ k to.
     let at = c.loop-at.at in
-    ⊎_elim
-    (λ (before : k < at). c.loop-at.invariant k before)
-    (λ from. c.if-not-is_ascii_block.ensures refl k from to)
-    (cases_lt k at)
+    ⊎_elim (λ (before : k < at). c.loop-at.invariant k before) (λ from. c.if-not-is_ascii_block.ensures refl k from to) (cases_lt k at)
 
 pub returns : goal.returns
 returns c = λ known k.

@@ -1,7 +1,6 @@
 -- The next merit is above the highest so far, or it isn't.
-use Rattle.mime_http.proofs.Common.{IfSome, List, None, Option, Rank, Some, ap, arith, false, is_gt, length, length-map, map, merit, nat_cmp, rank_cmp, subst, sym, true, ℕ, ◌+◌, ◌<◌, ◌∙◌, ◌∷◌, ◌≡◌, ◌≤◌, [], length-take-le, take, append-nil, drop_of_length-le, take-append-drop, ◌++◌}
-use Rattle.mime_http.proofs.Highest.{Highest, first_left, mapped_left, one_taken, nothing_yet, raised, stays}
-use Rattle.mime_http.proofs.Ranks.{ranks_total, one_rank, gt_of_ranks}
+use Rattle.mime_http.proofs.Common.{IfSome, List, None, Option, Rank, Some, ap, arith, is_gt, length, length-map, map, merit, nat_cmp, rank_cmp, subst, sym, ℕ, ◌+◌, ◌<◌, ◌∙◌, ◌∷◌, ◌≡◌, ◌≤◌, [], length-take-le, take, append-nil, drop_of_length-le, take-append-drop, ◌++◌}
+use Rattle.mime_http.proofs.Highest.{Highest, first_left, mapped_left, one_taken, nothing_yet, raised, stays, ranks_total, one_rank, gt_of_ranks}
 use Rattle.mime_http.proofs.Chosen.{best_is_found, none_is_found}
 use Rattle.mime_http.proofs.offers.best_of.Goals.{then-gt, else-gt}
 use Rattle.mime_http.proofs.offers.best_of.Goals as goal
@@ -26,7 +25,8 @@ loop-at-preserved c =
     let taken : take (at + 1) all ≡ take at all ++ (found ∷ []) =
     one_taken all at _ next ∙ ap (λ merit. take at all ++ (merit ∷ [])) (sym c.merit-merit.ensures) in
     let count : length (take at all) ≡ at =
-    length-take-le at all (omega (arith, c.loop-at-test.true, length-map offers merit_of, length-map c.args.offers.now (λ offer. offer.media))) in
+    length-take-le at all
+    (omega (arith, c.loop-at-test.true, length-map offers merit_of, length-map c.args.offers.now (λ offer. offer.media))) in
     let above : c.gt.result ≡ is_gt (rank_cmp found c.loop-at.most) =
     c.gt.ensures ∙ gt_of_ranks (nat_cmp found.0 c.loop-at.most.0) (nat_cmp found.1 c.loop-at.most.1) (nat_cmp found.2 c.loop-at.most.2)
     (nat_cmp found.3 c.loop-at.most.3) in

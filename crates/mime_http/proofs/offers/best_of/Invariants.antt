@@ -1,7 +1,6 @@
 -- The highest rank so far, and its first place.
 use Rattle.mime_http.proofs.Common.{IfSome, map, merit, ◌<◌, take}
-use Rattle.mime_http.proofs.Ranks.{ranks_total, one_rank}
-use Rattle.mime_http.proofs.Highest.{Highest}
+use Rattle.mime_http.proofs.Highest.{ranks_total, one_rank, Highest}
 use Rattle.mime_http.proofs.offers.best_of.Given as goal
 
 abbrev pub invariant-loop-at : goal.invariant-loop-at

@@ -40,8 +40,7 @@ loop-at-preserved c =
 
 -- what is in order is what comes back
 when_ok : {V E : Type 0} (items : V → List ℕ) (ranges offers : List MediaType) (order : List ℕ) (result : Result V E)
-    → AreInOrder ranges offers order
-    → IfOk result (λ v. items v ≡ order) → IfOk result (λ v. AreInOrder ranges offers (items v))
+    → AreInOrder ranges offers order → IfOk result (λ v. items v ≡ order) → IfOk result (λ v. AreInOrder ranges offers (items v))
 when_ok items ranges offers order (Ok v) are is = subst (AreInOrder ranges offers) (sym is) are
 when_ok items ranges offers order (Err e) are is = is
 

@@ -19,8 +19,7 @@ is_written media name value text form fits made =
 
 -- so it has as many bytes as parameters, at least
 fits_text : (essence text : List ℕ) (pairs : List (List ℕ × List ℕ)) (pair : List ℕ × List ℕ)
-    → text ≡ essence ++ text_of_pairs (pairs ++ (pair ∷ []))
-    → length pairs + 1 ≤ length text
+    → text ≡ essence ++ text_of_pairs (pairs ++ (pair ∷ [])) → length pairs + 1 ≤ length text
 fits_text essence text pairs pair is =
     omega (
       arith,
@@ -34,13 +33,11 @@ fits_text essence text pairs pair is =
 -- there is one parameter more than those of other names
 one_more : (media : MediaType) (name content : List ℕ)
     → length (with_pair media (lowered name) content).pairs ≡ length (others name media.pairs) + 1
-one_more media name content =
-    rw (lowered-lowered name) (length-append (others name media.pairs) ((lowered name, content) ∷ []))
+one_more media name content = rw (lowered-lowered name) (length-append (others name media.pairs) ((lowered name, content) ∷ []))
 
 -- what is written is read as the media type with the parameter
 is_read : (media : MediaType) (name value text : List ℕ) → {kept : List ℕ} → Reads kept media → IsSafe media → IsToken name
-    → AreHeaderBytes value
-    → text ≡ media.essence ++ text_of_pairs (others name media.pairs ++ ((name, escaped value) ∷ []))
+    → AreHeaderBytes value → text ≡ media.essence ++ text_of_pairs (others name media.pairs ++ ((name, escaped value) ∷ []))
     → Reads text (with_pair media (lowered name) (lowered_value name (escaped value)))
 is_read media name value text reads header named safe is =
     subst (λ bytes. Reads bytes (with_pair media (lowered name) (lowered_value name (escaped value)))) (sym is)

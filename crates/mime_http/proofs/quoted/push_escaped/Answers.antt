@@ -28,7 +28,8 @@ loop-run-preserved c =
     let special : is_plain (get_or bytes 0 0) ≡ false = ap is_plain first ∙ c.loop-run.invariant.1.special c.loop-run-test.true in
     let is_end : end ≡ 1 + prefix_len is_plain (drop 1 bytes) = search rules in
     let next = next_end bytes end some is_end in
-    let pushed : string_bytes c.push_with_backslash.new.text ≡ (string_bytes c.loop-run.text ++ take run left) ++ (92 ∷ []) = search rules in (
+    let pushed : string_bytes c.push_with_backslash.new.text ≡ (string_bytes c.loop-run.text ++ take run left) ++ (92 ∷ []) =
+    search rules in (
       c.range_from-left.utf8,
       record {
         added = ap (λ text. text ++ (take end bytes ++ escaped (drop end bytes))) pushed

@@ -13,6 +13,7 @@ pub returns-then-eq-2 : goal.returns-then-eq-2
 returns-then-eq-2 c =
     let is = same_text c.args.run.now (backslash_byte ∷ []) (sym c.if-eq-2.true ∙ c.eq-2.ensures) in
     let old = string_bytes c.args.text.now in
-    let added : OnOk c.push_str-then-eq-2.result (string_bytes c.push_str-then-eq-2.new.self ≡ old ++ (backslash_byte ∷ backslash_byte ∷ [])) =
+    let added : OnOk c.push_str-then-eq-2.result (string_bytes c.push_str-then-eq-2.new.self
+    ≡ old ++ (backslash_byte ∷ backslash_byte ∷ [])) =
     search rules in
     rw (is, append_assoc old (backslash_byte ∷ []) (backslash_byte ∷ [])) added

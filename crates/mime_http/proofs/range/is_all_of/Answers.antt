@@ -7,8 +7,7 @@ use Rattle.mime_http.proofs.range.is_all_of.Goals as goal
 is_whole : (text end other : List ℕ) (other-borrowed : Bor (List ℕ)) (rest : Option (Bor (List ℕ))) → other-borrowed.now ≡ other
     → MatchOption rest (FindsTextSuffix end text None) (λ x. StripsSuffix (FindsTextSuffix end) text x.now)
     → option_eq (λ a b. bytes_eq a.now b.now) rest (Some other-borrowed) ≡ bytes_eq text (other ++ end)
-is_whole text end other b None same none =
-    sym (false_from_ne_true _ (λ is. none other ((bytes_eq-Decides text (other ++ end)).0 is)))
+is_whole text end other b None same none = sym (false_from_ne_true _ (λ is. none other ((bytes_eq-Decides text (other ++ end)).0 is)))
 is_whole text end other b (Some rest) same (n, found, is, long) =
     let whole : text ≡ rest.now ++ end = subst (λ r. text ≡ r ++ end) (sym is) found.1 in
     let test = bytes_eq-Decides text (other ++ end) in

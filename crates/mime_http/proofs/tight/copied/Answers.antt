@@ -1,5 +1,5 @@
 -- What comes out of a value in UTF-8 is in UTF-8.
-use Rattle.mime_http.proofs.Common.{IsUtf8, List, Place, ap, append-nil, drop, drop_all, length, subst, sym, tight, tight_from, ℕ, ◌++◌, ◌∙◌, ◌≡◌, ◌≤◌, false}
+use Rattle.mime_http.proofs.Common.{IsUtf8, List, Place, ap, append-nil, drop, drop_all, length, subst, sym, tight, tight_from, ℕ, ◌++◌, ◌∙◌, ◌≡◌, ◌≤◌}
 use Rattle.mime_http.proofs.HttpText.{tight_utf8}
 use Rattle.mime_http.proofs.tight.copied.Goals as goal
 

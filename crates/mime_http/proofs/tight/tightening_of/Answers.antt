@@ -1,5 +1,5 @@
 -- The byte at fault is left out, or the fault stands.
-use Rattle.mime_http.proofs.Common.{IfOk, InvalidToken, IsDeadAt, IsFault, IsLoose, IsTightening, List, ParseError, Stands, Start, ap, arith, get_or, get_or_from_slice_get, is_space, length, nat_tests, slice_get_within, subst, sym, ℕ, ◌-◌, ◌∙◌, ◌≡◌, ends_in_semicolon_or_space, false, trim_start, true}
+use Rattle.mime_http.proofs.Common.{IfOk, InvalidToken, IsDeadAt, IsFault, IsLoose, IsTightening, List, ParseError, Stands, Start, ap, arith, get_or, get_or_from_slice_get, is_space, length, nat_tests, slice_get_within, subst, sym, ℕ, ◌-◌, ◌∙◌, ◌≡◌}
 use Rattle.mime_http.proofs.Trims.{trimmed-le}
 use Rattle.mime_http.proofs.Spare.{spare_start, spare_semicolon}
 use Rattle.mime_http.proofs.WhiteAtFault.{first_space}

@@ -1,5 +1,5 @@
 -- What the library reads as it stands is what HTTP writes, and stays as it is.
-use Rattle.mime_http.proofs.Common.{Err, Explains, FaultIsSpare, HttpExplains, HttpReads, IfErr, IfOk, IsAccepted, IsAscii-cons, IsAscii-nil, IsHttpMediaType, IsUtf8, IsUtf8-from_ascii, List, Ok, OwnedMedia, Reads, ReadsTight, Result, [], arith, rules, subst, sym, tight, true≢false, ℕ, ◌∙◌, ◌∷◌, ◌≡◌, ◌≢◌, NoMemory}
+use Rattle.mime_http.proofs.Common.{Err, Explains, FaultIsSpare, HttpExplains, HttpReads, IfErr, IfOk, IsAccepted, IsAscii-cons, IsAscii-nil, IsHttpMediaType, IsUtf8, IsUtf8-from_ascii, List, Ok, OwnedMedia, Reads, ReadsTight, Result, [], arith, rules, subst, sym, tight, true≢false, ℕ, ◌∙◌, ◌∷◌, ◌≡◌, ◌≢◌}
 use Rattle.mime_http.specs.declared.value.FieldError.{FieldError}
 use Rattle.mime_http.proofs.HttpBack.{read_is_http}
 use Rattle.mime_http.proofs.HttpLaws.{reads_tight}
@@ -72,5 +72,6 @@ returns-in_default c =
       short = λ utf8 accepted few.
           absurd (c.in_default.not-NoMemory
           (c.fault.ensures ∙ c.in-Err-from_str.ensures.accepted (subst IsAccepted (sym text) accepted)));
-      rejected = subst (λ t. ¬ (IsHttpMediaType t) → ¬ (FaultIsSpare t) → IfErr result (λ error. error ≢ FieldError.NoMemory)) text said.rejected;
+      rejected = subst (λ t. ¬ (IsHttpMediaType t) → ¬ (FaultIsSpare t) → IfErr result (λ error. error ≢ FieldError.NoMemory)) text
+          said.rejected;
     }

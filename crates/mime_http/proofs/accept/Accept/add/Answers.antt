@@ -1,5 +1,5 @@
 -- A piece is blank, or it adds what its entry adds.
-use Rattle.mime_http.proofs.Common.{IsAscii, [], arith, common_steps, nil_from_length, refl, subst, sym, trim_start, ◌∙◌, ◌≡◌, false}
+use Rattle.mime_http.proofs.Common.{IsAscii, [], arith, common_steps, nil_from_length, refl, subst, sym, trim_start, ◌∙◌, ◌≡◌}
 use Rattle.mime_http.proofs.Adds.{add_nothing, trimmed_added}
 use Rattle.mime_http.proofs.Trims.{some_left, trimmed_from_blank, trim_twice, ascii_trimmed}
 use Rattle.mime_http.proofs.accept.Accept.add.Goals as goal

@@ -8,8 +8,7 @@ use Rattle.mime_http.proofs.accept.Accept.add_entry.Goals as goal
 bad_added : {E X : Type 0} (result : Result X E) (entry : List ℕ) (old new : Header) → trim_start entry ≡ entry → ¬ (entry ≡ [])
     → ¬ (IsUtf8 entry) → OnOk result (new.ranges ≡ old.ranges) → OnOk result (new.bad ≡ old.bad ++ (trim_end entry ∷ []))
     → OnOk result (Adds (entry ∷ []) old new)
-bad_added (Ok x) entry old new trimmed some isnt ranges bad =
-    add_bad entry trimmed some (λ both. isnt both.0) ranges bad
+bad_added (Ok x) entry old new trimmed some isnt ranges bad = add_bad entry trimmed some (λ both. isnt both.0) ranges bad
 bad_added (Err e) entry old new trimmed some isnt ranges bad = tt
 
 pub returns-in_default : goal.returns-in_default
@@ -22,4 +21,5 @@ returns-in_ok-add_range-in-Ok-from_str c =
     let entry = c.args.entry.now in
     let media = c.in-Ok-from_str.range.media in
     let read = subst (λ text. Reads text media) c.in-Ok.ensures.cases.0 c.in-Ok-from_str.ensures.read in
-    add_range entry media c.in-Ok.ensures.cases.1 (tight_too entry read) c.in_ok-add_range-in-Ok-from_str.ensures.ranges c.in_ok-add_range-in-Ok-from_str.ensures.bad
+    add_range entry media c.in-Ok.ensures.cases.1 (tight_too entry read) c.in_ok-add_range-in-Ok-from_str.ensures.ranges
+    c.in_ok-add_range-in-Ok-from_str.ensures.bad

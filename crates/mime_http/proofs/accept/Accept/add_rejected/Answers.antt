@@ -17,6 +17,7 @@ returns-in_ok-push-in-Some c =
 pub returns-in_ok-add_bad-in-None : goal.returns-in_ok-add_bad-in-None
 returns-in_ok-add_bad-in-None c =
     let entry = c.args.entry.now in
-    let isnt : ¬ (IsHttpMediaType entry) = read_entry entry _ None (sym c.ok.ensures.value ∙ c.in-None.is) c.in_ok-read_tight.ensures.read in
+    let isnt : ¬ (IsHttpMediaType entry) =
+    read_entry entry _ None (sym c.ok.ensures.value ∙ c.in-None.is) c.in_ok-read_tight.ensures.read in
     add_bad entry c.requires.trimmed c.requires.some (λ both. isnt both.1) c.in_ok-add_bad-in-None.ensures.ranges
     (c.in_ok-add_bad-in-None.ensures.bad ∙ ap (λ e. c.args.self.now.bad ++ (trim_end e ∷ [])) c.as_bytes.ensures.value)

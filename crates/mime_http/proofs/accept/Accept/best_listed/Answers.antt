@@ -1,5 +1,5 @@
 -- The first piece from here on is taken, and those after its comma are left; at the end the best of all is chosen.
-use Rattle.mime_http.proofs.Common.{Adds, ChoosesOn, Chosen, Header, IsChosen, IsHeader, List, MediaType, [], ap, append-nil, arith, best_offer, cut, cut_after, drop, length, length-take, map, refl, subst, sym, take, true≢false, ℕ, ◌+◌, ◌-◌, ◌<◌, ◌∙◌, ◌∷◌, ◌≡◌, ◌≤◌, false, true}
+use Rattle.mime_http.proofs.Common.{Adds, ChoosesOn, Chosen, Header, IsChosen, IsHeader, List, MediaType, [], ap, append-nil, arith, best_offer, cut, cut_after, drop, length, length-take, map, refl, subst, sym, take, true≢false, ℕ, ◌+◌, ◌-◌, ◌<◌, ◌∙◌, ◌∷◌, ◌≡◌, ◌≤◌}
 use Rattle.mime_http.proofs.Adds.{SoFar, none_so_far, some_more, all_added, is_header, piece_is_blank}
 use Rattle.mime_http.proofs.Chosen.{chooses_nothing, highest_chosen, best_is_found, none_is_found}
 use Rattle.mime_http.proofs.Pieces.{empty_piece, pieces_after, no_piece_after}
@@ -36,8 +36,7 @@ module _ (ranges : List MediaType) (list : List ℕ) where
     -- those after it
     more_taken : {new : Chosen} → end < length list → ChoosesOn ranges (take (end - from) (drop from list)) old new
         → Taken ranges list (cut (drop (end + 1) list)) new
-    more_taken {new} more chooses =
-        subst (λ pieces. Taken ranges list pieces new) (pieces_after list end more) (next pieces_taken chooses)
+    more_taken {new} more chooses = subst (λ pieces. Taken ranges list pieces new) (pieces_after list end more) (next pieces_taken chooses)
 
     -- the last piece, after which nothing is left
     last_taken : {new : Chosen} → length list ≤ end → ChoosesOn ranges (take (end - from) (drop from list)) old new
@@ -79,7 +78,8 @@ loop-from-preserved c =
     let more : end < length list = omega (arith, c.piece_end-end.ensures.within, c.if-end-list.false) in
     record {
       within = omega (arith, more);
-      taken = more_taken ranges list from end c.piece_end-end.ensures.piece c.loop-from.invariant.taken more c.in_ok-take_piece.ensures.piece;
+      taken = more_taken ranges list from end c.piece_end-end.ensures.piece c.loop-from.invariant.taken more
+          c.in_ok-take_piece.ensures.piece;
       few =
           omega (
             arith,

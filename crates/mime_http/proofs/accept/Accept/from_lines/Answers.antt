@@ -1,5 +1,5 @@
 -- The next line's pieces come before those of the lines that are left.
-use Rattle.mime_http.proofs.Common.{Adds, AddsLines, AreSorted, Header, IsHeader, List, [], ap, append-nil, arith, codes, common_steps, cut, drop_of_length-le, flat_map, length, lines_or_any, map, refl, subst, sym, true≢false, vec_items, ℕ, ◌++◌, ◌∙◌, ◌∷◌, ◌≡◌, ◌≢◌, ◌≤◌, true}
+use Rattle.mime_http.proofs.Common.{Adds, AddsLines, AreSorted, Header, IsHeader, List, [], ap, append-nil, arith, codes, common_steps, cut, drop_of_length-le, flat_map, length, lines_or_any, map, refl, subst, sym, true≢false, vec_items, ℕ, ◌++◌, ◌∙◌, ◌∷◌, ◌≡◌, ◌≢◌, ◌≤◌}
 use Rattle.mime_http.proofs.Adds.{SoFar, none_so_far, some_more, all_added, pieces_added, is_header, middle_is_blank, left_is_nothing, first_is_nothing}
 use Rattle.mime_http.proofs.Cuts.{are_cut, only_cut}
 use Rattle.mime_http.proofs.Highest.{item_left}
@@ -18,8 +18,7 @@ module _ {X : Type 0} (f : X → List ℕ) where
   abbrev Left : List X → List X → Header → Type 0
   Left all rest now = SoFar (flat_map cut (lines_or_any (map f all))) (flat_map cut (map f rest)) nothing now
 
-  of_no_line : (lines : List X) (now : Header) → length lines ≡ 0 → Adds (codes "*/*" ∷ []) nothing now
-      → Left lines lines now
+  of_no_line : (lines : List X) (now : Header) → length lines ≡ 0 → Adds (codes "*/*" ∷ []) nothing now → Left lines lines now
   of_no_line [] now none added = some_more (none_so_far (codes "*/*" ∷ []) nothing) added
   of_no_line (line ∷ lines) now none added = absurd (omega (arith, none))
 
@@ -38,8 +37,7 @@ module _ {X : Type 0} (f : X → List ℕ) where
 
   -- of lines that hold nothing each holds nothing, and there is one
   line_is_nothing : (all rest more : List X) (line : X) (now : Header) → rest ≡ line ∷ more → Left all rest now
-      → IsHeader (map f all) nothing
-      → AreSorted (flat_map cut (f line ∷ [])) [] []
+      → IsHeader (map f all) nothing → AreSorted (flat_map cut (f line ∷ [])) [] []
   line_is_nothing all rest more line now is left holds =
       let next = subst (λ lines. Left all lines now) is left in
       let sorted : AreSorted (next.before ++ (cut (f line) ++ flat_map cut (map f more))) [] [] =

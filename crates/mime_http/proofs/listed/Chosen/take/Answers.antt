@@ -1,6 +1,6 @@
 -- The offer ranks above all before it, or it doesn't.
 use Rattle.mime_http.proofs.Common.{ap, is_gt, nat_cmp, rank_cmp, sym, ◌+◌, ◌∙◌, ◌≡◌}
-use Rattle.mime_http.proofs.Ranks.{gt_of_ranks}
+use Rattle.mime_http.proofs.Highest.{gt_of_ranks}
 use Rattle.mime_http.proofs.Chosen.{raised, stays}
 use Rattle.mime_http.proofs.listed.Chosen.take.Goals.{then-gt, else-gt}
 use Rattle.mime_http.proofs.listed.Chosen.take.Goals as goal

@@ -1,5 +1,5 @@
 -- An entry is an offer, or it is bad.
-use Rattle.mime_http.proofs.Common.{Reads, subst, Chosen, take}
+use Rattle.mime_http.proofs.Common.{Reads, subst}
 use Rattle.mime_http.proofs.Chosen.{chooses_offer, chooses_bad}
 use Rattle.mime_http.proofs.Places.{tight_too}
 use Rattle.mime_http.proofs.listed.Chosen.take_entry.Goals as goal

@@ -1,5 +1,5 @@
 -- A piece is blank, or what its entry is.
-use Rattle.mime_http.proofs.Common.{IsAscii, [], arith, common_steps, nil_from_length, subst, sym, trim_start, ◌∙◌, ◌≡◌, Chosen, false}
+use Rattle.mime_http.proofs.Common.{IsAscii, [], arith, common_steps, nil_from_length, subst, sym, trim_start, ◌∙◌, ◌≡◌}
 use Rattle.mime_http.proofs.Chosen.{chooses_nothing, trimmed_chosen}
 use Rattle.mime_http.proofs.Trims.{some_left, trimmed_from_blank, trim_twice, ascii_trimmed}
 use Rattle.mime_http.proofs.listed.Chosen.take_piece.Goals as goal
