@@ -59,6 +59,7 @@ fn position_by_one(text: &[u8], byte: u8) -> usize
 
 /// The first position of a byte, or the length if it doesn't occur, searched block by block. It isn't inlined: most
 /// searches end in their first block.
+#[cold]
 #[inline(never)]
 fn position_by_blocks(text: &[u8], byte: u8) -> usize
     requires { BLOCK ≤ length text.now }

@@ -155,7 +155,7 @@ fn compare_texts(kept: &str, text: &str) -> Compared
 {
     let kept = kept.as_bytes();
     let text = text.as_bytes();
-    if kept.len() < BLOCK || text.len() < BLOCK {
+    if kept.len().min(text.len()) < BLOCK {
         return Compared::Undecided;
     }
     match first_difference(kept, text) {

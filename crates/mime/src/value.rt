@@ -31,11 +31,9 @@ use crate::value::short::{SHORT, ShortText};
 use std::alloc::{AllocError, Global};
 use std::marker::Model;
 
-/// The kept text of a media type: static for `*/*` and the constants, in the value itself if it was made from a short
-/// string, else allocated. `Short` stands last, so that one comparison tells it from the two that hold a pointer and a length.
+/// The kept text of a media type: in the value itself if it was made from a short string or constant, else allocated.
 #[derive(Drop)]
 enum Text {
-    Fixed(&'static str),
     Owned(String),
     Short(ShortText),
 }
@@ -61,7 +59,6 @@ impl Text {
         ensures { result.now ≡ bytes_of self.now }
     {
         match self {
-            Text::Fixed(text) => text,
             Text::Owned(text) => text.as_str(),
             Text::Short(text) => text.as_str(),
         }
@@ -122,7 +119,7 @@ impl Mime {
         }
         let mut reader = ByteReader::by_blocks(s);
         match scan(&mut reader) {
-            Verdict::Accepted(positions) => Mime::of_other(alloc, s, positions),
+            Verdict::Accepted(positions) => Mime::of_accepted(alloc, s, positions),
             Verdict::Unfinished(fault) => Err(FromStrError::new(fault)),
             Verdict::Stopped(byte, _) => {
                 let pos = reader.position(0);
@@ -142,21 +139,6 @@ impl Mime {
         ensures read { IfOk result (λ mime. Reads s.now mime.media) }
         ensures memory { IfErr result (λ error. error ≡ ParseError.NoMemory) }
         ensures star { s.now ≡ codes "*/*" → IfOk result (λ mime. mime.fixed ≡ true) }
-        ensures short { length s.now ≤ SHORT → IsOk result }
-    {
-        if s != "*/*" {
-            return Mime::of_other(alloc, s, positions);
-        }
-        Ok(Mime::star())
-    }
-
-    /// The media type of an accepted string, whose parts have these positions, kept as any string is. The only error is
-    /// that memory ran out.
-    #[inline(always)]
-    fn of_other(alloc: Global, s: &str, positions: Positions) -> Result<Mime, FromStrError>
-        requires { HasPositions s.now positions }
-        ensures read { IfOk result (λ mime. Reads s.now mime.media) }
-        ensures memory { IfErr result (λ error. error ≡ ParseError.NoMemory) }
         ensures short { length s.now ≤ SHORT → IsOk result }
     {
         let kept = positions_in_kept(positions);
@@ -217,15 +199,16 @@ impl Mime {
         Mime { text, places }
     }
 
-    /// The media type of a static string already in kept form, with the positions of its parts.
+    /// The media type of a short string already in kept form, with the positions of its parts.
     #[inline(always)]
-    pub(crate) fn fixed(text: &'static str, positions: Positions) -> Mime
-        requires { IsKept text.now positions }
+    pub(crate) fn fixed(text: &str, positions: Positions) -> Mime
+        requires kept { IsKept text.now positions }
+        requires short { length text.now ≤ SHORT }
         ensures media { result.media ≡ media_of text.now positions }
         ensures reads { Reads text.now result.media }
         ensures fixed { result.fixed ≡ true }
     {
-        Mime::of_kept(Text::Fixed(text), positions)
+        Mime::of_kept(Text::Short(ShortText::copied(text)), positions)
     }
 
     /// Returns the type, in lowercase: `text` for `Text/Plain` (RFC 7231, 3.1.1.1).

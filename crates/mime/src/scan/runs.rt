@@ -195,6 +195,7 @@ pub(crate) fn outside_at_start(text: &[u8], class: &Class) -> (usize, u64)
 
 /// How many bytes at the start of a string are of a class, block by block up to the last one that is whole. It isn't
 /// inlined: few strings are that long.
+#[cold]
 #[inline(never)]
 pub(crate) fn run_by_blocks(text: &[u8], class: &Class) -> usize
     ensures within { result ≤ length text.now }

@@ -70,6 +70,7 @@ fn low_len(name: &str, value: &str) -> usize
 
 /// Lowercases, in a string with `count` pairs, everything up to the semicolon, the names, and the values of `charset`.
 /// `bytes` is a copy of the string's bytes. It isn't inlined: most strings have no capital.
+#[cold]
 #[inline(never)]
 pub(crate) fn lowercase_text(bytes: &mut [u8], text: &str, semicolon: usize, count: usize)
     requires same { bytes.old ≡ text.now }

@@ -60,6 +60,7 @@ fn after_pairs(text: &[u8], from: usize) -> usize
 
 /// The length in bytes of a quoted value's content, searched byte by byte, but for pairs in a row. It isn't inlined:
 /// few values have a backslash before their first quote.
+#[cold]
 #[inline(never)]
 fn content_len_past_pairs(text: &[u8]) -> usize
     ensures { result ≡ content_len text.now }

@@ -18,6 +18,7 @@ use std::hash::{Hash, Hasher};
 
 /// Whether two values are equal, part by part. They may be written otherwise: `p=x` and `p="x"`. It isn't inlined: most
 /// calls of `eq` end before it.
+#[cold]
 #[inline(never)]
 fn same_parts(first: &Mime, second: &Mime) -> bool
     ensures { IsTrue result ↔ Same first.now.media second.now.media }
@@ -25,18 +26,30 @@ fn same_parts(first: &Mime, second: &Mime) -> bool
     first.essence_str() == second.essence_str() && first.pairs().eq(second.pairs())
 }
 
-/// How the parameters of two values compare. It isn't inlined, as `same_parts`.
+/// How two values compare, part by part. It isn't inlined, as `same_parts`.
 #[inline(never)]
-fn order_pairs(first: &Mime, second: &Mime) -> Ordering
-    ensures { result ≡ slice_cmp pair_cmp first.now.media.pairs second.now.media.pairs }
+fn order_parts(first: &Mime, second: &Mime) -> Ordering
+    ensures { result ≡ media_cmp first.now.media second.now.media }
+{
+    let order = first.essence_str().cmp(second.essence_str());
+    if order.is_ne() {
+        return order;
+    }
+    let pairs = first.pairs();
+    let others = second.pairs();
+    pairs.cmp(others)
+}
+
+/// How two values compare. It isn't inlined: most values of a sort differ in the length of their essence.
+#[inline(never)]
+fn order_of_one_length(first: &Mime, second: &Mime) -> Ordering
+    ensures { result ≡ media_cmp first.now.media second.now.media }
 {
     // Equal texts are equal values.
     if first.as_str() == second.as_str() {
         return Ordering::Equal;
     }
-    let pairs = first.pairs();
-    let others = second.pairs();
-    pairs.cmp(others)
+    order_parts(first, second)
 }
 
 /// Two values are equal if their essences are the same and so are their parameters, in the same
@@ -51,7 +64,8 @@ impl PartialEq for Mime {
         ensures computed { result ≡ eq_by_cmp media_cmp self.now.media other.now.media }
         ensures same { IsTrue result ↔ Same self.now.media other.now.media }
     {
-        if self.param_count() != other.param_count() {
+        // An essence of another length is another one. It is told without a look at the texts.
+        if self.essence_str().len() != other.essence_str().len() {
             return false;
         }
         // Equal texts are equal values.
@@ -59,7 +73,7 @@ impl PartialEq for Mime {
             return true;
         }
         // Without parameters the kept text is the essence, and the essences differ.
-        if self.param_count() == 0 {
+        if self.param_count() == 0 || self.param_count() != other.param_count() {
             return false;
         }
         same_parts(self, other)
@@ -98,14 +112,14 @@ impl Ord for Mime {
         ensures computed { result ≡ media_cmp self.now.media other.now.media }
         ensures order { IsOrderOf self.now.media other.now.media result }
     {
-        let order = self.essence_str().cmp(other.essence_str());
-        if order.is_ne() {
-            return order;
+        // Essences of different lengths are different. So are those of most values of a sort.
+        if self.essence_str().len() != other.essence_str().len() {
+            let order = self.essence_str().cmp(other.essence_str());
+            if order.is_ne() {
+                return order;
+            }
         }
-        if self.param_count() == 0 && other.param_count() == 0 {
-            return Ordering::Equal;
-        }
-        order_pairs(self, other)
+        order_of_one_length(self, other)
     }
 }
 
@@ -134,7 +148,6 @@ impl Clone for Mime {
 
     fn clone(&self) -> Result<Mime, AllocError> {
         let text = match &self.text {
-            Text::Fixed(text) => Text::Fixed(text),
             Text::Owned(text) => Text::Owned(text.clone()?),
             Text::Short(text) => Text::Short(text.copy()),
         };

@@ -7,7 +7,7 @@ use Rattle.mime.proofs.value.Mime.from_str.Goals as goal
 pub returns-in-Accepted-clause-explained : goal.returns-in-Accepted-clause-explained
 returns-in-Accepted-clause-explained c =
     let has = rw c.by_blocks-reader.ensures.left at c.in-Accepted.ensures.judged.1 in
-    Explains-no_memory _ _ (accepted-from_positions _ _ has) c.of_other.ensures.short c.of_other.ensures.memory
+    Explains-no_memory _ _ (accepted-from_positions _ _ has) c.of_accepted.ensures.short c.of_accepted.ensures.memory
 
 pub returns-in-Unfinished-clause-accepted : goal.returns-in-Unfinished-clause-accepted
 returns-in-Unfinished-clause-accepted c = λ accepted.
@@ -35,7 +35,7 @@ returns-in-Stopped-clause-explained c =
     (rw c.by_blocks-reader.ensures.left at c.in-Stopped.ensures.judged.1)
 
 pub returns-in-Accepted-clause-read : goal.returns-in-Accepted-clause-read
-returns-in-Accepted-clause-read c = c.of_other.ensures.read
+returns-in-Accepted-clause-read c = c.of_accepted.ensures.read
 
 pub returns-in-Accepted-clause-accepted : goal.returns-in-Accepted-clause-accepted
 returns-in-Accepted-clause-accepted c = search rules

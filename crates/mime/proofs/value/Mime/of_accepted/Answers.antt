@@ -1,10 +1,17 @@
--- `*/*` is told by its text.
-use Rattle.std.proofs.Common.{◌≡◌, ◌∙◌, ◌∷◌, [], sym}
-use Rattle.std.proofs.lemmas.Bool.{not-false}
-use Rattle.std.specs.Cmp.Lexicographic.{same_text}
+-- An accepted text is kept, and reads as the value of what is kept.
+use Rattle.mime.proofs.ValueLemmas.KeptText.{kept-from_positions, kept_reads}
 use Rattle.mime.proofs.value.Mime.of_accepted.Goals as goal
 
-pub returns-clause-read : goal.returns-clause-read
-returns-clause-read c =
-    let star : c.args.s.now ≡ 42 ∷ 47 ∷ 42 ∷ [] = same_text _ _ (sym (not-false _ (sym c.ne.ensures ∙ c.if-ne.false))) in
-    rw star c.star.ensures.reads
+pub of_kept-requires : goal.of_kept-requires
+of_kept-requires c = rw (c.keep.ensures, c.positions_in_kept-kept.ensures) (kept-from_positions _ _ c.requires)
+
+pub returns-then-s-le-SHORT-clause-read : goal.returns-then-s-le-SHORT-clause-read
+returns-then-s-le-SHORT-clause-read c =
+    rw (c.of_kept.ensures.media, c.keep.ensures, c.positions_in_kept-kept.ensures) (kept_reads _ _ c.requires)
+
+pub of_kept-requires-in-Ok : goal.of_kept-requires-in-Ok
+of_kept-requires-in-Ok c = rw (c.in-Ok.ensures, c.positions_in_kept-kept.ensures) (kept-from_positions _ _ c.requires)
+
+pub returns-in-Ok-clause-read : goal.returns-in-Ok-clause-read
+returns-in-Ok-clause-read c =
+    rw (c.of_kept-in-Ok.ensures.media, c.in-Ok.ensures, c.positions_in_kept-kept.ensures) (kept_reads _ _ c.requires)
