@@ -1,5 +1,5 @@
 -- What is added to a header, piece by piece and line by line.
-use Rattle.mime_http.proofs.Common.{Adds, AddsLines, AreBetweenCommas, AreSorted, AreSpaces, BeginsPiece, Err, Header, HttpReads, IsHeader, IsHttpMediaType, IsPiece, IsRejected, IsUtf8, List, MatchOption, MatchResult, MediaType, Ok, OnOk, Option, OwnedMedia, Reads, Result, [], a_bad, a_range, ap, append-nil, append_assoc, cut, flat_map, lines_or_any, map, map-append, no_text, refl, subst, sym, tight, trim_end, trim_start, ℕ, ◌++◌, ◌∙◌, ◌∷◌, ◌≡◌}
+use Rattle.mime_http.proofs.Common.{Adds, AddsLines, AreBetweenCommas, AreSorted, AreSpaces, BeginsPiece, Err, Header, HttpReads, IsHeader, IsHttpMediaType, IsPiece, IsRejected, IsUtf8, List, MatchOption, MatchResult, MediaType, Ok, Option, OwnedMedia, Reads, Result, [], a_bad, a_range, ap, append-nil, append_assoc, cut, flat_map, lines_or_any, map, map-append, no_text, refl, subst, sym, tight, trim_end, trim_start, ℕ, ◌++◌, ◌∙◌, ◌∷◌, ◌≡◌}
 use Rattle.std.specs.Result.{result_ok}
 use Rattle.mime_http.specs.HttpList.{blank}
 use Rattle.mime_http.specs.declared.fault.Rejected.{Rejected}
@@ -86,12 +86,6 @@ add_trimmed piece text is adds = record {
   now_ranges = adds.now_ranges;
   now_bad = adds.now_bad;
 }
-
--- if memory doesn't run out
-pub trimmed_added : {X E : Type 0} (result : Result X E) (piece text : List ℕ) (old new : Header) → text ≡ trim_start piece
-    → OnOk result (Adds (text ∷ []) old new) → OnOk result (Adds (piece ∷ []) old new)
-trimmed_added (Ok x) piece text old new is adds = add_trimmed piece text is adds
-trimmed_added (Err e) piece text old new is adds = tt
 
 -- two runs of texts are sorted one after the other
 pub sorted_both : {texts more : List (List ℕ)} {ranges others : List MediaType} {bad poor : List (List ℕ)} → AreSorted texts ranges bad

@@ -1,5 +1,5 @@
 -- The next offer ranks above all before it, or it doesn't.
-use Rattle.mime_http.proofs.Common.{ChoosesOn, Chosen, Err, Header, IsChosen, IsHttpMediaType, IsUtf8, List, MediaType, None, Ok, OnOk, Option, Rank, Reads, Result, Some, [], ap, arith, eq-eqb, eq_by_cmp, false, if◌then◌else◌, is_gt, length, length-append, length-map, lowest, map, map-append, merit, ne_eqb, position, position_from-zero, rank_cmp, refl, subst, sym, tight, trim_end, trim_start, true, ℕ, ◌++◌, ◌+◌, ◌==◌, ◌∙◌, ◌∷◌, ◌≡◌, ◌≢◌}
+use Rattle.mime_http.proofs.Common.{ChoosesOn, Chosen, Header, IsChosen, IsHttpMediaType, IsUtf8, List, MediaType, None, Option, Rank, Reads, Some, [], ap, arith, eq-eqb, eq_by_cmp, false, if◌then◌else◌, is_gt, length, length-append, length-map, lowest, map, map-append, merit, ne_eqb, position, position_from-zero, rank_cmp, refl, subst, sym, tight, trim_end, trim_start, true, ℕ, ◌++◌, ◌+◌, ◌==◌, ◌∙◌, ◌∷◌, ◌≡◌, ◌≢◌}
 use Rattle.mime_http.proofs.Adds.{add_nothing, add_range, add_bad, add_trimmed}
 use Rattle.mime_http.proofs.Highest.{Highest, raised as higher, stays as no_higher, ranks_total, one_rank}
 use Rattle.mime_http.proofs.Picked.{highest, is_best, best_is_position}
@@ -77,16 +77,10 @@ module _ (ranges : List MediaType) (piece : List ℕ) {old : Chosen} where
   )
 
 -- what is chosen after an entry is chosen after the piece that it is trimmed of
-chooses_trimmed : (ranges : List MediaType) (piece text : List ℕ) {old new : Chosen} → text ≡ trim_start piece
+pub chooses_trimmed : (ranges : List MediaType) (piece text : List ℕ) {old new : Chosen} → text ≡ trim_start piece
     → ChoosesOn ranges text old new → ChoosesOn ranges piece old new
 chooses_trimmed ranges piece text is chooses before was =
     let after = chooses before was in (after.0, add_trimmed piece text is after.1, after.2)
-
--- if memory doesn't run out
-pub trimmed_chosen : {X E : Type 0} (result : Result X E) (ranges : List MediaType) (piece text : List ℕ) (old new : Chosen)
-    → text ≡ trim_start piece → OnOk result (ChoosesOn ranges text old new) → OnOk result (ChoosesOn ranges piece old new)
-trimmed_chosen (Ok x) ranges piece text old new is chooses = chooses_trimmed ranges piece text is chooses
-trimmed_chosen (Err e) ranges piece text old new is chooses = tt
 
 -- ---- the end of the list
 
@@ -96,6 +90,7 @@ module _ {all : List Rank} {most : Rank} {best : Option ℕ} (is : Highest ranks
   abbrev Found : Option ℕ → Type 0
   Found best = best ≡ (if (highest all).0 == 0 then None else position (λ rank. eq_by_cmp rank_cmp rank (highest all)) all)
 
+  -- its place is found
   pub best_is_found : most.0 ≢ 0 → best ≡ position (is_best all) all
   best_is_found some =
       let there = is.first (λ low. some (ap (λ m. m.0) low)) in

@@ -72,3 +72,4 @@ pub use Rattle.mime_http.specs.declared.quoted.Form.TheVariants.{Escaped, Token}
 pub use Rattle.mime_http.specs.declared.tight.Place.{Place}
 pub use Rattle.mime_http.specs.declared.tight.Place.TheVariants.{Closed, Equals, Paired, Plain, Quoted, Semicolon, Spaced, Start}
 pub use Rattle.mime.proofs.GrammarLemmas.Viability.{by_option}
+pub use Rattle.std.proofs.lemmas.Result.{IfOk-weaker, on_ok_weaker}

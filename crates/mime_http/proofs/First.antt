@@ -21,6 +21,7 @@ weighs_within (rank ∷ ranks) zero weighs = omega arith
 weighs_within (rank ∷ ranks) (suc at) weighs = omega (arith, weighs_within ranks at weighs)
 
 module _ (ranks : List Rank) where
+  -- such an offer's rank is among all
   among : (at : ℕ) → 0 < (rank_at ranks at).0 → Contains ranks (rank_at ranks at)
   among at weighs = Contains-get_or ranks at lowest (weighs_within ranks at weighs)
 

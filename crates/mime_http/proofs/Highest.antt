@@ -88,6 +88,7 @@ module _ {K : Type 0} {R : K → K → Ordering} (total : IsTotalOrder R) (one :
     pub high : most ≡ fold (ord_max R) start xs
     pub first : most ≢ start → (at : ℕ) × (best ≡ Some at) × (position_from (λ x. eq_by_cmp R x most) 0 xs ≡ Some at)
 
+  -- of no item it is the start,
   pub nothing_yet : (start : K) → Highest start [] start None
   nothing_yet start = record { high = refl; first = λ some. absurd (some refl) }
 
@@ -96,6 +97,7 @@ module _ {K : Type 0} {R : K → K → Ordering} (total : IsTotalOrder R) (one :
     of_two : fold (ord_max R) start (xs ++ (x ∷ [])) ≡ ord_max R most x
     of_two = fold_push (ord_max R) start xs x ∙ ap (λ m. ord_max R m x) (sym was.high)
 
+    -- so it is the next item, if that is above it,
     pub raised : is_gt (R x most) ≡ true → Highest start (xs ++ (x ∷ [])) x (Some (length xs))
     raised above = record {
       high = sym (of_two ∙ raised_by most x (R x most) above);
@@ -106,6 +108,7 @@ module _ {K : Type 0} {R : K → K → Ordering} (total : IsTotalOrder R) (one :
       );
     }
 
+    -- and else what it was
     pub stays : is_gt (R x most) ≡ false → Highest start (xs ++ (x ∷ [])) most best
     stays below = record {
       high = sym (of_two ∙ stays_by most x (R x most) refl below);

@@ -1,7 +1,7 @@
 -- Tightening leaves bytes in UTF-8 exactly if they are.
 use Rattle.mime_http.proofs.Common.{IsAscii-cons, IsAscii-nil, IsUtf8, IsUtf8-append, IsUtf8-encode, IsUtf8-from_ascii, IsUtf8-nil, List, Paired, Place, Plain, Quoted, Spaced, Start, [], added, and_parts, ap, append_assoc, arith, brought_back, cases_lt, cond_both, cons_from_encodes, encode_ascii, high_bytes, is_left_out, len_utf8_bounds, length, length-append, length-encode, list_all, nat_le, nat_lt, nat_tests, place_after, refl, subst, suc, sym, tight, tight_from, true, zero, ℕ, ⊎_elim, ⊤, ◌&&◌, ◌++◌, ◌<◌, ◌==◌, ◌↔◌, ◌∙◌, ◌∷◌, ◌≡◌, ◌≤◌}
 use lib.Utf8.{scalars, scalar, encodes, encode}
-use Rattle.mime_http.proofs.Places.{Leads, IsPlainByte, after_token, one, so, walk_class}
+use Rattle.mime_http.proofs.Places.{Leads, IsPlainByte, after_token, goes_on, plain_byte, one, so, walk_class}
 use Rattle.mime_http.proofs.PlacesAgain.{kept_adds, is_kept}
 use Rattle.mime_http.proofs.OutAgain.{After, to_place, token_byte_back, any_back, class_back}
 
@@ -82,15 +82,10 @@ high_first place b is = record {
   holds = held place b is;
 }
 
--- each next
-stays_there : {place : Place} → Holds place → (b : ℕ) → IsPlainByte b → place_after place b ≡ place
-stays_there outside b is = rw (is.space, is.semicolon, is.equals, is.quote) refl
-stays_there within b is = rw (is.backslash, is.quote) refl
-
--- it comes out alone there
-stays_as_it_is : {place : Place} → Holds place → (b : ℕ) → IsPlainByte b → added place b ≡ b ∷ []
-stays_as_it_is outside b is = rw is.space refl
-stays_as_it_is within b is = refl
+-- each next comes out as it is, and leads back
+stays_there : {place : Place} → Holds place → (b : ℕ) → IsPlainByte b → Leads place (b ∷ []) (b ∷ []) place
+stays_there outside b is = plain_byte goes_on b is
+stays_there within b is = so (one Quoted b) refl (rw (is.backslash, is.quote) refl)
 
 -- bytes of a character past ASCII
 abbrev AreHigh : List ℕ → Type 0
@@ -103,9 +98,7 @@ high_of b is = high b (grind (arith, nat_tests))
 -- they come out as they are,
 run : {place : Place} → Holds place → (hs rest : List ℕ) → AreHigh hs → tight_from place (hs ++ rest) ≡ hs ++ tight_from place rest
 run {place} holds hs rest all =
-    let leads : Leads place hs hs place = walk_class (λ b. nat_le 128 b && nat_lt b 248) place
-    (λ b is. so (one place b) (stays_as_it_is holds b (high_of b is)) (stays_there holds b (high_of b is))) hs all in
-    leads.tightly rest
+    (walk_class (λ b. nat_le 128 b && nat_lt b 248) place (λ b is. stays_there holds b (high_of b is)) hs all).tightly rest
 
 -- a byte that comes out there was there,
 one_back : {place : Place} → Holds place → (bytes : List ℕ) (b : ℕ) (out : List ℕ) → IsPlainByte b → tight_from place bytes ≡ b ∷ out
@@ -117,7 +110,7 @@ one_back within bytes b out is e = any_back Quoted (λ b. refl) bytes b out e
 run_back : {place : Place} → Holds place → (hs bytes out : List ℕ) → AreHigh hs → tight_from place bytes ≡ hs ++ out
     → After bytes hs place out
 run_back {place} holds hs bytes out = class_back (λ b. nat_le 128 b && nat_lt b 248) place
-    (λ b bytes out is e. to_place (stays_there holds b (high_of b is)) (one_back holds bytes b out (high_of b is) e)) hs bytes out
+    (λ b bytes out is e. to_place (stays_there holds b (high_of b is)).there (one_back holds bytes b out (high_of b is) e)) hs bytes out
 
 -- ---- there and back
 

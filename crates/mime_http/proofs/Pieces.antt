@@ -216,6 +216,7 @@ pub record BeforeMark (one other : ℕ) (text : List ℕ) (at n r : ℕ) : Type 
 
 module _ (one other : ℕ) (text : List ℕ) (at n : ℕ) (lanes : n ≤ 64) (room : at + n ≤ length text) (mask : ℕ)
     (is : mask ≡ mask_l (map (is_mark one other) (chunk at n text))) where
+  -- as many as there are before the first
   counted : (r : ℕ) → r ≡ prefix_len (λ b. not (is_mark one other b)) (chunk at n text) → BeforeMark one other text at n r
   counted r count = record {
     within = run_in_chunk_le (is_mark one other) text at n r 0 room count;

@@ -1,5 +1,5 @@
 -- The next offer is put last, or it weighs nothing; sorted, they are in order.
-use Rattle.mime_http.proofs.Common.{AreInOrder, Err, IfOk, List, MediaType, Ok, Rank, Result, Reverse, [], ap, append-nil, append_assoc, arith, drop, drop_of_length-le, eq-eqb, false, if◌then◌else◌, length, length-map, map, map-append, merit, ne_eqb, refl, subst, sym, true, vec_items, ℕ, ◌++◌, ◌+◌, ◌==◌, ◌∙◌, ◌∷◌, ◌≡◌, ◌≤◌}
+use Rattle.mime_http.proofs.Common.{AreInOrder, IfOk, List, Rank, Reverse, [], ap, append-nil, append_assoc, arith, drop, drop_of_length-le, eq-eqb, false, if◌then◌else◌, length, length-map, map, map-append, merit, ne_eqb, refl, subst, sym, true, vec_items, ℕ, ◌++◌, ◌+◌, ◌==◌, ◌∙◌, ◌∷◌, ◌≡◌, ◌≤◌, IfOk-weaker}
 use Rattle.mime_http.proofs.Highest.{first_left, mapped_left}
 use Rattle.mime_http.proofs.Order.{entry_of, weighing, are_in_order}
 use Rattle.mime_http.proofs.offers.order_of.Goals.{then-merit-gt0+in_ok-push, else-merit-gt0}
@@ -38,12 +38,6 @@ loop-at-preserved c =
           (subst (λ b. map entry_of so_far ++ (if b then rest else (found, at) ∷ rest) ≡ weighing 0 all) nothing step)
     ]
 
--- what is in order is what comes back
-when_ok : {V E : Type 0} (items : V → List ℕ) (ranges offers : List MediaType) (order : List ℕ) (result : Result V E)
-    → AreInOrder ranges offers order → IfOk result (λ v. items v ≡ order) → IfOk result (λ v. AreInOrder ranges offers (items v))
-when_ok items ranges offers order (Ok v) are is = subst (AreInOrder ranges offers) (sym is) are
-when_ok items ranges offers order (Err e) are is = is
-
 pub returns-clause-order : goal.returns-clause-order
 returns-clause-order c =
     let ranges = map (λ range. range.media) c.args.ranges.now in
@@ -55,8 +49,9 @@ returns-clause-order c =
     sym (append-nil (map entry_of (vec_items c.loop-at.ranked)))
     ∙ (ap (λ ranks. map entry_of (vec_items c.loop-at.ranked) ++ weighing c.loop-at.at ranks) (sym (drop_of_length-le all past))
     ∙ c.loop-at.invariant) in
-    when_ok vec_items ranges offers _ c.positions.result
-    (are_in_order ranges offers (vec_items c.loop-at.ranked)
-    (vec_items c.sort.new.self) whole c.in_ok-sort.ensures.permutation c.in_ok-sort.ensures.sorted)
+    let are = are_in_order ranges offers (vec_items c.loop-at.ranked) (vec_items c.sort.new.self) whole c.in_ok-sort.ensures.permutation
+    c.in_ok-sort.ensures.sorted in
+    IfOk-weaker c.positions.result (λ order. vec_items order ≡ map (λ offer. offer.1) (vec_items c.sort.new.self))
+    (λ order. AreInOrder ranges offers (vec_items order)) (λ order is. subst (AreInOrder ranges offers) (sym is) are)
     (subst (λ sorted. IfOk c.positions.result (λ order. vec_items order ≡ map
     (λ offer. offer.1) sorted)) c.deref.ensures.value c.positions.ensures)

@@ -1,5 +1,5 @@
 -- What is written is known to be read as the media type with the parameter.
-use Rattle.mime_http.proofs.Common.{AreHeaderBytes, Err, Form, IfOk, IsSafe, IsToken, List, MediaType, Ok, Reads, Result, [], ap, append_assoc, ap₂, arith, escaped, form_of, length, length-append, lowered, lowered-lowered, lowered_value, others, string_bytes, subst, sym, text_in, text_of_pairs, with_pair, ℕ, ◌++◌, ◌+◌, ◌∙◌, ◌∷◌, ◌≡◌, ◌≤◌}
+use Rattle.mime_http.proofs.Common.{AreHeaderBytes, Form, IsSafe, IsToken, List, MediaType, Reads, [], ap, append_assoc, ap₂, arith, escaped, form_of, length, length-append, lowered, lowered-lowered, lowered_value, others, string_bytes, subst, sym, text_in, text_of_pairs, with_pair, ℕ, ◌++◌, ◌+◌, ◌∙◌, ◌∷◌, ◌≡◌, ◌≤◌, IfOk-weaker}
 use Rattle.mime_http.proofs.Contents.{content_of_escaped}
 use Rattle.mime_http.proofs.Forms.{form_text}
 use Rattle.mime_http.proofs.Others.{and_last, pairs_within_text}
@@ -50,11 +50,6 @@ kept_is : (media : MediaType) (name value text : List ℕ) → lowered name ≡ 
 kept_is media name value text low_name low_value is =
     ap₂ (λ n content. media.essence ++ text_of_pairs (others n media.pairs ++ ((n, content) ∷ []))) low_name low_value ∙ sym is
 
--- what holds of a value if another fact does
-if_ok : {T E : Type 0} (result : Result T E) (P Q : T → Type 0) → IfOk result P → ((x : T) → P x → Q x) → IfOk result Q
-if_ok (Ok x) P Q holds leads = leads x holds
-if_ok (Err error) P Q holds leads = tt
-
 pub overflow_add-count : goal.overflow_add-count
 overflow_add-count c =
     let is = is_written c.args.mime.now.media c.args.name.now c.args.value.now _ c.args.form c.requires.fits c.in_ok-text.ensures.text in
@@ -98,4 +93,4 @@ returns-then-is_kept_as_written c =
     let is = is_written media name value _ c.args.form c.requires.fits c.in_ok-text.ensures.text in
     let kept = c.as_str-kept.ensures.reads in
     let read = is_read media name value _ kept (c.kept_is_safe.ensures _ _ kept) c.requires.named c.requires.safe is in
-    if_ok _ _ _ c.into_mime.ensures.read (λ made reads. c.one_reading.ensures _ _ _ reads read)
+    IfOk-weaker _ _ _ (λ made reads. c.one_reading.ensures _ _ _ reads read) c.into_mime.ensures.read

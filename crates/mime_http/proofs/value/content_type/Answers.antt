@@ -1,5 +1,5 @@
 -- What the library reads as it stands is what HTTP writes, and stays as it is.
-use Rattle.mime_http.proofs.Common.{Err, Explains, FaultIsSpare, HttpExplains, HttpReads, IfErr, IfOk, IsAccepted, IsAscii-cons, IsAscii-nil, IsHttpMediaType, IsUtf8, IsUtf8-from_ascii, List, Ok, OwnedMedia, Reads, ReadsTight, Result, [], arith, rules, subst, sym, tight, true≢false, ℕ, ◌∙◌, ◌∷◌, ◌≡◌, ◌≢◌}
+use Rattle.mime_http.proofs.Common.{Explains, FaultIsSpare, HttpExplains, HttpReads, IfErr, IfOk, IsAccepted, IsAscii-cons, IsAscii-nil, IsHttpMediaType, IsUtf8, IsUtf8-from_ascii, OwnedMedia, Reads, ReadsTight, [], arith, rules, subst, sym, tight, true≢false, ◌∙◌, ◌∷◌, ◌≡◌, ◌≢◌, IfOk-weaker}
 use Rattle.mime_http.specs.declared.value.FieldError.{FieldError}
 use Rattle.mime_http.proofs.HttpBack.{read_is_http}
 use Rattle.mime_http.proofs.HttpLaws.{reads_tight}
@@ -44,28 +44,18 @@ read_rejected-requires c = record {
       (subst (Explains c.in-Ok.text.now) (sym c.fault.ensures) c.in-Err-from_str.ensures.explained);
 }
 
--- what is read of the tightened value is read of the value
-http_read : (value : List ℕ) (result : Result OwnedMedia FieldError) → IsUtf8 value → IfOk result (λ mime. Reads (tight value) mime.media)
-    → IfOk result (λ mime. IsUtf8 value × HttpReads value mime.media)
-http_read value (Ok mime) utf8 read = (utf8, read_is_http value mime.media read)
-http_read value (Err error) utf8 read = tt
-
--- and it is read of it tightened
-tight_read : (value : List ℕ) (result : Result OwnedMedia FieldError) → IfOk result (λ mime. Reads (tight value) mime.media)
-    → IfOk result (λ mime. ReadsTight value mime.media)
-tight_read value (Ok mime) read = reads_tight value read
-tight_read value (Err error) read = tt
-
 pub returns-in_default : goal.returns-in_default
 returns-in_default c =
     let value = c.args.value.now in
     let result = c.read_rejected.result in
     let said = c.read_rejected.ensures in
     let text : c.in-Ok.text.now ≡ value = search rules in
+    let read = λ (mime : OwnedMedia). Reads (tight value) mime.media in
     let kept = subst (λ t. IfOk result (λ mime. Reads (tight t) mime.media)) text said.kept in
     record {
-      http = http_read value result (search rules) kept;
-      kept = tight_read value result kept;
+      http = IfOk-weaker result read (λ mime. IsUtf8 value × HttpReads value mime.media)
+          (λ mime reads. (search rules, read_is_http value mime.media reads)) kept;
+      kept = IfOk-weaker result read (λ mime. ReadsTight value mime.media) (λ mime reads. reads_tight value reads) kept;
       explained = subst (λ t. IfErr result (λ error. HttpExplains t error)) text said.explained;
       accepted = λ utf8. subst (λ t. IsHttpMediaType t → IfErr result (λ error. error ≡ FieldError.NoMemory)) text said.accepted;
       star = λ is. absurd (true≢false (sym (c.in-Err-from_str.ensures.star (text ∙ is)).1));

@@ -1,6 +1,6 @@
 -- A piece is blank, or it adds what its entry adds.
-use Rattle.mime_http.proofs.Common.{IsAscii, [], arith, common_steps, nil_from_length, refl, subst, sym, trim_start, ◌∙◌, ◌≡◌}
-use Rattle.mime_http.proofs.Adds.{add_nothing, trimmed_added}
+use Rattle.mime_http.proofs.Common.{IsAscii, [], arith, common_steps, nil_from_length, refl, subst, sym, trim_start, ◌∙◌, ◌≡◌, on_ok_weaker}
+use Rattle.mime_http.proofs.Adds.{add_nothing, add_trimmed}
 use Rattle.mime_http.proofs.Trims.{some_left, trimmed_from_blank, trim_twice, ascii_trimmed}
 use Rattle.mime_http.proofs.accept.Accept.add.Goals as goal
 
@@ -17,7 +17,8 @@ pub add_entry-requires-clause-trimmed : goal.add_entry-requires-clause-trimmed
 add_entry-requires-clause-trimmed c = subst (λ t. trim_start t ≡ t) (sym c.trim_start-entry.ensures) (trim_twice c.args.piece.now)
 
 pub returns-clause-added : goal.returns-clause-added
-returns-clause-added c = trimmed_added c.add_entry.result c.args.piece.now _ _ _ c.trim_start-entry.ensures c.add_entry.ensures
+returns-clause-added c =
+    on_ok_weaker c.add_entry.result (add_trimmed c.args.piece.now _ c.trim_start-entry.ensures) c.add_entry.ensures
 
 pub returns-clause-blank : goal.returns-clause-blank
 returns-clause-blank c = λ white.

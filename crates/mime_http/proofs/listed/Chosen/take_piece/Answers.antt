@@ -1,6 +1,6 @@
 -- A piece is blank, or what its entry is.
-use Rattle.mime_http.proofs.Common.{IsAscii, [], arith, common_steps, nil_from_length, subst, sym, trim_start, ◌∙◌, ◌≡◌}
-use Rattle.mime_http.proofs.Chosen.{chooses_nothing, trimmed_chosen}
+use Rattle.mime_http.proofs.Common.{IsAscii, [], arith, common_steps, nil_from_length, subst, sym, trim_start, ◌∙◌, ◌≡◌, on_ok_weaker}
+use Rattle.mime_http.proofs.Chosen.{chooses_nothing, chooses_trimmed}
 use Rattle.mime_http.proofs.Trims.{some_left, trimmed_from_blank, trim_twice, ascii_trimmed}
 use Rattle.mime_http.proofs.listed.Chosen.take_piece.Goals as goal
 
@@ -17,7 +17,8 @@ pub take_entry-requires-clause-trimmed : goal.take_entry-requires-clause-trimmed
 take_entry-requires-clause-trimmed c = subst (λ t. trim_start t ≡ t) (sym c.trim_start-entry.ensures) (trim_twice c.args.piece.now)
 
 pub returns-clause-piece : goal.returns-clause-piece
-returns-clause-piece c = trimmed_chosen c.take_entry.result _ c.args.piece.now _ _ _ c.trim_start-entry.ensures c.take_entry.ensures.entry
+returns-clause-piece c =
+    on_ok_weaker c.take_entry.result (chooses_trimmed _ c.args.piece.now _ c.trim_start-entry.ensures) c.take_entry.ensures.entry
 
 pub returns-clause-blank : goal.returns-clause-blank
 returns-clause-blank c = λ white.
