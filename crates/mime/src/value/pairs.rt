@@ -134,12 +134,12 @@ fn leading_spaces(list: &str) -> usize
     ensures border { IsCharBoundary list.now result }
 {
     let bytes = list.as_bytes();
-    if bytes.is_empty() || bytes[0] > b' ' {
-        return 0;
-    }
     if bytes.len() > 1 && bytes[0] == b' ' && bytes[1] > b' ' {
         // Most lists begin with one space.
         return 1;
+    }
+    if bytes.is_empty() || bytes[0] > b' ' {
+        return 0;
     }
     count_spaces(bytes)
 }
