@@ -110,6 +110,7 @@ fn is_blank(text: &[u8]) -> bool
 
 /// The number of spaces and tabs with which a byte string begins, counted block by block, and then byte by byte. It
 /// isn't inlined: few lists begin with more than one.
+#[cold]
 #[inline(never)]
 fn count_spaces(bytes: &[u8]) -> usize
     ensures { result ≡ leading_spaces bytes.now }
