@@ -110,6 +110,7 @@ fn is_blank(text: &[u8]) -> bool
 
 /// The number of spaces and tabs with which a byte string begins, counted block by block, and then byte by byte. It
 /// isn't inlined: few lists begin with more than one.
+#[cold]
 #[inline(never)]
 fn count_spaces(bytes: &[u8]) -> usize
     ensures { result ≡ leading_spaces bytes.now }
@@ -134,12 +135,12 @@ fn leading_spaces(list: &str) -> usize
     ensures border { IsCharBoundary list.now result }
 {
     let bytes = list.as_bytes();
-    if bytes.is_empty() || bytes[0] > b' ' {
-        return 0;
-    }
     if bytes.len() > 1 && bytes[0] == b' ' && bytes[1] > b' ' {
         // Most lists begin with one space.
         return 1;
+    }
+    if bytes.is_empty() || bytes[0] > b' ' {
+        return 0;
     }
     count_spaces(bytes)
 }

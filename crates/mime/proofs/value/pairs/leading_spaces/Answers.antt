@@ -10,8 +10,8 @@ use Rattle.mime.proofs.value.pairs.leading_spaces.Goals as goal
 pub returns-then-is_empty-clause-border : goal.returns-then-is_empty-clause-border
 returns-then-is_empty-clause-border c = IsCharBoundary-start c.args.list.now c.utf8.list
 
-pub returns-then-bytes-gt32-2-clause-border : goal.returns-then-bytes-gt32-2-clause-border
-returns-then-bytes-gt32-2-clause-border c =
+pub returns-then-bytes-gt32-clause-border : goal.returns-then-bytes-gt32-clause-border
+returns-then-bytes-gt32-clause-border c =
     let list = c.args.list.now in
     IsCharBoundary-after_ascii list 0 c.utf8.list (omega arith) (grind (arith, nat_tests, c.if-bytes-eq32.true))
 
