@@ -6,7 +6,7 @@ ghost use Rattle.mime.specs.Values.{Reads, IsAccepted, lowered, type_of, subtype
 ghost use Rattle.mime.specs.Faults.{Explains};
 ghost use Rattle.mime.specs.Items.{items_of, name_seen, name_text, IsLowIf, IsLowItem, IsFirstAccepted};
 ghost use Rattle.mime.specs.Inner.Scanning.{HasPositions};
-ghost use Rattle.mime.specs.Inner.KeptText.{IsKept, media_of, AreLowPairs};
+ghost use Rattle.mime.specs.Inner.KeptText.{IsKept, media_of, AreLowPairs, kept_text_of};
 ghost use Rattle.mime.specs.Inner.ComparedText.{positions_before_list};
 ghost use Rattle.mime.specs.Inner.Known.{IsKnown};
 ghost use Rattle.mime.specs.Inner.KeptBytes.{bytes_of, is_fixed};
@@ -118,14 +118,22 @@ impl Mime {
             return Ok(Mime::star());
         }
         let mut reader = ByteReader::by_blocks(s);
-        match scan(&mut reader) {
-            Verdict::Accepted(positions) => Mime::of_accepted(alloc, s, positions),
-            Verdict::Unfinished(fault) => Err(FromStrError::new(fault)),
+        let positions = match scan(&mut reader) {
+            Verdict::Accepted(positions) => positions,
+            Verdict::Unfinished(fault) => return Err(FromStrError::new(fault)),
             Verdict::Stopped(byte, _) => {
                 let pos = reader.position(0);
-                Err(FromStrError::new(ParseError::InvalidToken { pos, byte }))
+                return Err(FromStrError::new(ParseError::InvalidToken { pos, byte }));
             }
+        };
+        // Each way to a short text returns, so that it isn't moved where they would join.
+        if s.len() <= SHORT && positions.pair_count == 0 {
+            return Ok(Mime::of_short(s, positions, ShortText::essence(s, positions)));
         }
+        if s.len() <= SHORT {
+            return Ok(Mime::of_short(s, positions, ShortText::with_pairs(s, positions)));
+        }
+        Mime::of_accepted(alloc, s, positions)
     }
 
     /// The media type of an accepted string, whose parts have these positions. The only error is that memory ran out.
@@ -141,14 +149,24 @@ impl Mime {
         ensures star { s.now ≡ codes "*/*" → IfOk result (λ mime. mime.fixed ≡ true) }
         ensures short { length s.now ≤ SHORT → IsOk result }
     {
-        let kept = positions_in_kept(positions);
         if s.len() <= SHORT {
-            return Ok(Mime::of_kept(Text::Short(ShortText::keep(s, positions)), kept));
+            return Ok(Mime::of_short(s, positions, ShortText::keep(s, positions)));
         }
         match keep(alloc, s, positions) {
-            Ok(text) => Ok(Mime::of_kept(Text::Owned(text), kept)),
+            Ok(text) => Ok(Mime::of_kept(Text::Owned(text), positions_in_kept(positions))),
             Err(_) => Err(FromStrError::new(ParseError::NoMemory)),
         }
+    }
+
+    /// The media type of an accepted string, whose parts have these positions, with its kept text in the value.
+    #[inline(always)]
+    fn of_short(s: &str, positions: Positions, text: ShortText) -> Mime
+        requires accepted { HasPositions s.now positions }
+        requires kept { text ≡ kept_text_of positions.pair_count positions.semicolon s.now }
+        ensures read { Reads s.now result.media }
+        ensures fixed { result.fixed ≡ true }
+    {
+        Mime::of_kept(Text::Short(text), positions_in_kept(positions))
     }
 
     /// The media type of a text that is known to be the kept text of one with the essence of this one, and `count`

@@ -44,19 +44,31 @@ fn padded(text: &str) -> [u8; BLOCK]
     bytes
 }
 
-/// The bytes of the kept text of a string with `count` pairs, with zeros after them: only what ignores case is lowercased.
+/// Lowercases what ignores case in a block that begins with a string with `count` pairs.
 #[inline(always)]
-fn pairs_kept(text: &str, semicolon: usize, count: usize) -> [u8; BLOCK]
+fn lowercase_pairs(block: &mut [u8; BLOCK], text: &str, semicolon: usize, count: usize)
     requires short { length text.now ≤ SHORT }
+    requires same { take (length text.now) block.old ≡ text.now }
     requires parted { slice_get text.now semicolon ≡ Some semicolon_byte }
     requires some { 0 < count }
-    ensures { take (length text.now) result ≡ with_pairs_lowered count semicolon text.now }
+    ensures { take (length text.now) block.new ≡ with_pairs_lowered count semicolon text.now }
 {
-    let mut bytes = padded(text);
-    if has_capital(&bytes) {
-        lowercase_text(&mut bytes[..text.len()], text, semicolon, count);
+    if has_capital(block) {
+        lowercase_text(&mut block[..text.len()], text, semicolon, count);
     }
-    bytes
+}
+
+/// The position of the semicolon of an accepted string with a parameter.
+#[inline(always)]
+fn semicolon_of(text: &str, positions: Positions) -> usize
+    requires accepted { HasPositions text.now positions }
+    requires some { 0 < positions.pair_count }
+    ensures { positions.semicolon ≡ Some result }
+{
+    match positions.semicolon {
+        Some(semicolon) => semicolon,
+        None => unreachable!(),
+    }
 }
 
 impl ShortText {
@@ -116,30 +128,49 @@ impl ShortText {
         ShortText::of(&bytes, text.len())
     }
 
-    /// The kept text of a string with `count` pairs: only what ignores case is lowercased.
+    /// The kept text of an accepted string of at most `SHORT` bytes without a parameter: an empty parameter list is dropped.
     #[inline(always)]
-    fn with_pairs(text: &str, semicolon: usize, count: usize) -> ShortText
+    pub(crate) fn essence(text: &str, positions: Positions) -> ShortText
+        requires accepted { HasPositions text.now positions }
         requires short { length text.now ≤ SHORT }
-        requires parted { slice_get text.now semicolon ≡ Some semicolon_byte }
-        requires some { 0 < count }
-        ensures { result ≡ with_pairs_lowered count semicolon text.now }
+        requires none { positions.pair_count ≡ 0 }
+        ensures { result ≡ kept_text_of positions.pair_count positions.semicolon text.now }
     {
-        ShortText::of(&pairs_kept(text, semicolon, count), text.len())
+        let end = positions.semicolon.unwrap_or(text.len());
+        ShortText::lowercased(&text[..end])
     }
 
-    /// The kept text of an accepted string of at most `SHORT` bytes. An empty parameter list is dropped.
+    /// The kept text of an accepted string of at most `SHORT` bytes with a parameter: only what ignores case is lowercased.
+    #[inline(always)]
+    pub(crate) fn with_pairs(text: &str, positions: Positions) -> ShortText
+        requires accepted { HasPositions text.now positions }
+        requires short { length text.now ≤ SHORT }
+        requires some { 0 < positions.pair_count }
+        ensures { result ≡ kept_text_of positions.pair_count positions.semicolon text.now }
+    {
+        // Lowercased where it is made, so that it isn't moved before it is kept.
+        let mut block = [0; BLOCK];
+        block[..text.len()].copy_from_slice(text.as_bytes());
+        lowercase_pairs(
+            &mut block,
+            text,
+            semicolon_of(text, positions),
+            positions.pair_count,
+        );
+        ShortText::of(&block, text.len())
+    }
+
+    /// The kept text of an accepted string of at most `SHORT` bytes.
     #[inline(always)]
     pub(crate) fn keep(text: &str, positions: Positions) -> ShortText
         requires accepted { HasPositions text.now positions }
         requires short { length text.now ≤ SHORT }
         ensures { result ≡ kept_text_of positions.pair_count positions.semicolon text.now }
     {
-        match positions.semicolon {
-            None => ShortText::lowercased(text),
-            Some(semicolon) if positions.pair_count == 0 => {
-                ShortText::lowercased(&text[..semicolon])
-            }
-            Some(semicolon) => ShortText::with_pairs(text, semicolon, positions.pair_count),
+        if positions.pair_count == 0 {
+            ShortText::essence(text, positions)
+        } else {
+            ShortText::with_pairs(text, positions)
         }
     }
 }

@@ -4,8 +4,8 @@ use Rattle.mime.proofs.ValueLemmas.Reading.{accepted-from_positions, Explains-fr
 use Rattle.mime.proofs.GrammarLemmas.Viability.{rejected-at_dead}
 use Rattle.mime.proofs.value.Mime.from_str.Goals as goal
 
-pub returns-in-Accepted-clause-explained : goal.returns-in-Accepted-clause-explained
-returns-in-Accepted-clause-explained c =
+pub returns-clause-explained : goal.returns-clause-explained
+returns-clause-explained c =
     let has = rw c.by_blocks-reader.ensures.left at c.in-Accepted.ensures.judged.1 in
     Explains-no_memory _ _ (accepted-from_positions _ _ has) c.of_accepted.ensures.short c.of_accepted.ensures.memory
 
@@ -34,14 +34,14 @@ returns-in-Stopped-clause-explained c =
     rw (c.new-in-Stopped.ensures, c.position-pos.ensures, sym c.by_blocks-reader.ensures.count)
     (rw c.by_blocks-reader.ensures.left at c.in-Stopped.ensures.judged.1)
 
-pub returns-in-Accepted-clause-read : goal.returns-in-Accepted-clause-read
-returns-in-Accepted-clause-read c = c.of_accepted.ensures.read
+pub returns-clause-read : goal.returns-clause-read
+returns-clause-read c = c.of_accepted.ensures.read
 
-pub returns-in-Accepted-clause-accepted : goal.returns-in-Accepted-clause-accepted
-returns-in-Accepted-clause-accepted c = search rules
+pub returns-clause-accepted : goal.returns-clause-accepted
+returns-clause-accepted c = search rules
 
-pub returns-in-Accepted-clause-star : goal.returns-in-Accepted-clause-star
-returns-in-Accepted-clause-star c = search rules
+pub returns-clause-star : goal.returns-clause-star
+returns-clause-star c = search rules
 
 pub returns-in-Unfinished-clause-read : goal.returns-in-Unfinished-clause-read
 returns-in-Unfinished-clause-read c = tt

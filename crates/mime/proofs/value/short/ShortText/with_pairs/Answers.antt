@@ -1,5 +1,5 @@
 -- Lowercasing in part keeps UTF-8.
-use Rattle.std.proofs.Common.{sym, subst}
+use Rattle.std.proofs.Common.{sym, subst, length}
 use Rattle.std.specs.Str.{IsUtf8}
 use Rattle.mime.proofs.ValueLemmas.KeptText.{kept-in_part}
 use Rattle.mime.proofs.ValueLemmas.Utf8.{IsUtf8-in_part}
@@ -8,5 +8,5 @@ use Rattle.mime.proofs.value.short.ShortText.with_pairs.Goals as goal
 pub of-requires-clause-utf8 : goal.of-requires-clause-utf8
 of-requires-clause-utf8 c =
     let text = c.args.text.now in
-    let parts = kept-in_part c.args.count c.args.semicolon text in
-    subst IsUtf8 (sym c.pairs_kept.ensures) (IsUtf8-in_part text _ parts c.utf8.text)
+    let parts = kept-in_part c.args.positions.pair_count c.semicolon_of.result text in
+    subst IsUtf8 (sym c.lowercase_pairs.ensures) (IsUtf8-in_part text _ parts c.utf8.text)

@@ -4,13 +4,13 @@ use Rattle.mime.specs.Values.{lowered}
 use Rattle.mime.proofs.LowercaseLemmas.{lowered-take}
 use Rattle.mime.proofs.ValueLemmas.KeptText.{kept-in_part}
 use Rattle.mime.proofs.ValueLemmas.Utf8.{low-in_part}
-use Rattle.mime.proofs.value.short.pairs_kept.Goals as goal
+use Rattle.mime.proofs.value.short.lowercase_pairs.Goals as goal
 
 pub returns-else-has_capital : goal.returns-else-has_capital
 returns-else-has_capital c =
     let text = c.args.text.now in
     let n = length text in
-    let padded = c.padded-bytes in
+    let same = c.requires.same in
     let low : lowered text ≡ text
-    = ap lowered (sym padded.ensures) ∙ lowered-take n padded.result ∙ ap (take n) (c.has_capital.ensures.0 c.if-has_capital.false) ∙ padded.ensures in
-    padded.ensures ∙ sym (low-in_part text _ (kept-in_part c.args.count c.args.semicolon text) low)
+    = ap lowered (sym same) ∙ lowered-take n c.args.block.now ∙ ap (take n) (c.has_capital.ensures.0 c.if-has_capital.false) ∙ same in
+    same ∙ sym (low-in_part text _ (kept-in_part c.args.count c.args.semicolon text) low)
