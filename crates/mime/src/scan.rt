@@ -19,14 +19,15 @@ use crate::bytes::{
 pub use crate::scan::fault::{FromStrError, ParseError};
 pub(crate) use crate::scan::reader::ByteReader;
 
-/// The parts of an accepted string: their positions, in bytes from 0, and the number of its parameters.
+/// The parts of an accepted string: their positions, in bytes from 0, and the number of its parameters. In this order the byte of another
+/// verdict lies beside no position, which would be moved in two parts.
 #[derive(Clone, Copy)]
 pub(crate) struct Positions {
-    pub(crate) slash: usize,
     /// The plus before the suffix.
     pub(crate) plus: Option<usize>,
     /// The semicolon after the essence.
     pub(crate) semicolon: Option<usize>,
+    pub(crate) slash: usize,
     /// The number of parameters.
     pub(crate) pair_count: usize,
 }

@@ -72,8 +72,9 @@ impl Text {
 /// `text/plain;` as `text/plain`.
 #[derive(Drop)]
 pub struct Mime {
-    text: Text,
+    // Before the text, so that the byte of an error doesn't lie beside the text, which would be moved in parts.
     places: Places,
+    text: Text,
 }
 
 impl Model for Mime {

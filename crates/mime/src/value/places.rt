@@ -12,9 +12,9 @@ pub(crate) struct Places {
     pub(crate) slash: usize,
     /// The plus before the suffix, or 0, which says that there is none.
     pub(crate) plus: usize,
+    pub(crate) pair_count: usize,
     /// The end of the essence: the semicolon after it, or the text's length if there is no parameter.
     pub(crate) essence_end: usize,
-    pub(crate) pair_count: usize,
 }
 
 /// The position that a word says, if it says one.

@@ -1,5 +1,5 @@
 -- Lowercasing in part keeps UTF-8.
-use Rattle.std.proofs.Common.{sym, subst, length}
+use Rattle.std.proofs.Common.{sym, subst}
 use Rattle.std.specs.Str.{IsUtf8}
 use Rattle.mime.proofs.ValueLemmas.KeptText.{kept-in_part}
 use Rattle.mime.proofs.ValueLemmas.Utf8.{IsUtf8-in_part}
