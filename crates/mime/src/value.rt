@@ -150,6 +150,9 @@ impl Mime {
         ensures star { s.now ≡ codes "*/*" → IfOk result (λ mime. mime.fixed ≡ true) }
         ensures short { length s.now ≤ SHORT → IsOk result }
     {
+        if s == "*/*" {
+            return Ok(Mime::star());
+        }
         if s.len() <= SHORT {
             return Ok(Mime::of_short(s, positions, ShortText::keep(s, positions)));
         }
