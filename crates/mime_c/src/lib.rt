@@ -90,13 +90,6 @@ const NOTHING: MimeFound = MimeFound {
     byte: 0,
 };
 
-/// Why a text isn't read: the answer of a call, and what is found.
-#[derive(Clone, Copy)]
-struct Failure {
-    answer: u32,
-    found: MimeFound,
-}
-
 /// The number of a fault.
 fn number_of(fault: &ParseError) -> u32
     ensures { result ≡ number_of fault.now }
@@ -146,34 +139,7 @@ fn text_of(bytes: &[u8]) -> Result<&str, Utf8Error>
     str::from_utf8(bytes)
 }
 
-/// The media type that a text is read as.
-#[tactic(auto, using(crate::specs::Answers::is_not_text))]
-fn read(alloc: Global, text: &[u8]) -> Result<Mime, Failure>
-    ensures read { IfOk result (λ mime. IsUtf8 text.now × Reads text.now mime.media) }
-    ensures fails { IfErr result (λ failure. Fails text.now failure.answer failure.found) }
-{
-    let text = match text_of(text) {
-        Ok(text) => text,
-        Err(error) => {
-            return Err(Failure {
-                answer: MIME_NOT_UTF8,
-                found: found_at(error.valid_up_to()),
-            });
-        }
-    };
-    match Mime::from_str(alloc, text) {
-        Ok(mime) => Ok(mime),
-        Err(error) => {
-            let fault = error.fault();
-            Err(Failure {
-                answer: number_of(fault),
-                found: found_of_fault(fault),
-            })
-        }
-    }
-}
-
-/// The number of why a header's value isn't read.
+/// The number of why a text or a header's value isn't read.
 fn number_of_error(error: &FieldError) -> u32
     ensures { result ≡ number_of_error error.now }
 {
@@ -184,7 +150,7 @@ fn number_of_error(error: &FieldError) -> u32
     }
 }
 
-/// What is found of why a header's value isn't read.
+/// What is found of why a text or a header's value isn't read.
 fn found_of_error(error: &FieldError) -> MimeFound
     ensures { result ≡ found_of_error error.now }
 {
@@ -192,6 +158,25 @@ fn found_of_error(error: &FieldError) -> MimeFound
         FieldError::NotUtf8 { pos } => found_at(*pos),
         FieldError::Invalid(fault) => found_of_fault(fault),
         FieldError::NoMemory => NOTHING,
+    }
+}
+
+/// The media type that a text is read as.
+#[tactic(auto, using(crate::specs::Answers::is_not_text))]
+fn read(alloc: Global, text: &[u8]) -> Result<Mime, FieldError>
+    ensures read { IfOk result (λ mime. IsUtf8 text.now × Reads text.now mime.media) }
+    ensures fails { IfErr result (λ error. Fails text.now (number_of_error error) (found_of_error error)) }
+{
+    let text = match text_of(text) {
+        Ok(text) => text,
+        Err(error) => {
+            let pos = error.valid_up_to();
+            return Err(FieldError::NotUtf8 { pos });
+        }
+    };
+    match Mime::from_str(alloc, text) {
+        Ok(mime) => Ok(mime),
+        Err(error) => Err(FieldError::Invalid(*error.fault())),
     }
 }
 
@@ -270,9 +255,9 @@ pub extern "C" fn mime_read(
             *found = put_texts(out, &mime);
             MIME_OK
         }
-        Err(failure) => {
-            *found = failure.found;
-            failure.answer
+        Err(error) => {
+            *found = found_of_error(&error);
+            number_of_error(&error)
         }
     }
 }
@@ -351,11 +336,11 @@ pub extern "C" fn mime_equal(alloc: Global, one: &[u8], other: &[u8], equal: &mu
     *equal = 0;
     let first = match read(alloc, one) {
         Ok(mime) => mime,
-        Err(failure) => return failure.answer,
+        Err(error) => return number_of_error(&error),
     };
     let second = match read(alloc, other) {
         Ok(mime) => mime,
-        Err(failure) => return failure.answer,
+        Err(error) => return number_of_error(&error),
     };
     *equal = u8::from(first == second);
     MIME_OK

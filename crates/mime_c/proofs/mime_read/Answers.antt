@@ -14,4 +14,5 @@ returns-in-Ok c =
     (is_read c.in-Ok.mime.media (omega (arith, c.if-out-text.false)) read.0 read.1 (texts_come_back _ _ read.1))
 
 pub returns-in-Err : goal.returns-in-Err
-returns-in-Err c = fails _ _ (omega (arith, c.if-out-text.false)) c.in-Err.ensures.fails
+returns-in-Err c =
+    rw (c.number_of_error.ensures, c.found_of_error.ensures) (fails _ _ (omega (arith, c.if-out-text.false)) c.in-Err.ensures.fails)
