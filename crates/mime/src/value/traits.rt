@@ -26,30 +26,18 @@ fn same_parts(first: &Mime, second: &Mime) -> bool
     first.essence_str() == second.essence_str() && first.pairs().eq(second.pairs())
 }
 
-/// How two values compare, part by part. It isn't inlined, as `same_parts`.
+/// How the parameters of two values compare. It isn't inlined, as `same_parts`.
 #[inline(never)]
-fn order_parts(first: &Mime, second: &Mime) -> Ordering
-    ensures { result ≡ media_cmp first.now.media second.now.media }
-{
-    let order = first.essence_str().cmp(second.essence_str());
-    if order.is_ne() {
-        return order;
-    }
-    let pairs = first.pairs();
-    let others = second.pairs();
-    pairs.cmp(others)
-}
-
-/// How two values compare. It isn't inlined: most values of a sort differ in the length of their essence.
-#[inline(never)]
-fn order_of_one_length(first: &Mime, second: &Mime) -> Ordering
-    ensures { result ≡ media_cmp first.now.media second.now.media }
+fn order_pairs(first: &Mime, second: &Mime) -> Ordering
+    ensures { result ≡ slice_cmp pair_cmp first.now.media.pairs second.now.media.pairs }
 {
     // Equal texts are equal values.
     if first.as_str() == second.as_str() {
         return Ordering::Equal;
     }
-    order_parts(first, second)
+    let pairs = first.pairs();
+    let others = second.pairs();
+    pairs.cmp(others)
 }
 
 /// Two values are equal if their essences are the same and so are their parameters, in the same
@@ -112,14 +100,14 @@ impl Ord for Mime {
         ensures computed { result ≡ media_cmp self.now.media other.now.media }
         ensures order { IsOrderOf self.now.media other.now.media result }
     {
-        // Essences of different lengths are different. So are those of most values of a sort.
-        if self.essence_str().len() != other.essence_str().len() {
-            let order = self.essence_str().cmp(other.essence_str());
-            if order.is_ne() {
-                return order;
-            }
+        let order = self.essence_str().cmp(other.essence_str());
+        if order.is_ne() {
+            return order;
         }
-        order_of_one_length(self, other)
+        if self.param_count() == 0 && other.param_count() == 0 {
+            return Ordering::Equal;
+        }
+        order_pairs(self, other)
     }
 }
 

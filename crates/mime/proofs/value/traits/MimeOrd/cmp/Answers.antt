@@ -1,5 +1,7 @@
--- The essences decide, or all of the parts, and what the answer says.
-use Rattle.std.proofs.Common.{rules}
+-- The essences decide, or the pairs, and what the answer says.
+use Rattle.std.proofs.Common.{rules, arith}
+use Rattle.std.proofs.lemmas.List.{nil_from_length}
+use Rattle.std.specs.declared.cmp.Ordering.TheVariants.{Equal}
 use Rattle.mime.proofs.ValueLemmas.Traits.{tells_answer}
 use Rattle.mime.proofs.value.traits.MimeOrd.cmp.Goals as goal
 
@@ -10,9 +12,20 @@ pub returns-then-is_ne-clause-order : goal.returns-then-is_ne-clause-order
 returns-then-is_ne-clause-order c =
     tells_answer c.args.self.now.media c.args.other.now.media c.cmp-order.result (search rules)
 
+pub returns-then-param_count-eq0-2-clause-computed : goal.returns-then-param_count-eq0-2-clause-computed
+returns-then-param_count-eq0-2-clause-computed c =
+    let none = nil_from_length c.args.self.now.media.pairs (omega arith) in
+    let other = nil_from_length c.args.other.now.media.pairs (omega arith) in
+    search rules
+
+pub returns-then-param_count-eq0-2-clause-order : goal.returns-then-param_count-eq0-2-clause-order
+returns-then-param_count-eq0-2-clause-order c =
+    let none = nil_from_length c.args.self.now.media.pairs (omega arith) in
+    let other = nil_from_length c.args.other.now.media.pairs (omega arith) in
+    tells_answer c.args.self.now.media c.args.other.now.media Equal (search rules)
+
 pub returns-clause-computed : goal.returns-clause-computed
-returns-clause-computed c = c.order_of_one_length.ensures
+returns-clause-computed c = search rules
 
 pub returns-clause-order : goal.returns-clause-order
-returns-clause-order c =
-    tells_answer c.args.self.now.media c.args.other.now.media c.order_of_one_length.result c.order_of_one_length.ensures
+returns-clause-order c = tells_answer c.args.self.now.media c.args.other.now.media c.order_pairs.result (search rules)
