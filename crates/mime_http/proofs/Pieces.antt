@@ -7,34 +7,34 @@ use Rattle.mime_http.proofs.Highest.{item_left}
 use Rattle.mime_http.proofs.Trims.{next_taken}
 
 -- the cut of a line, of which the bytes before a position lead to this place
-abbrev pub cut_at : At → List ℕ → ℕ → List (List ℕ)
-cut_at place line at = cut_from place (take at line) (drop at line)
+abbrev pub cut_on : At → List ℕ → ℕ → List (List ℕ)
+cut_on place line at = cut_from place (take at line) (drop at line)
 
 -- ---- a byte further
 
 -- a byte that doesn't end a piece belongs to it,
 cut_goes_on : (place : At) (line : List ℕ) (at : ℕ) → at < length line → ends place (get_or line at 0) ≡ false
-    → cut_at place line at ≡ cut_at (after place (get_or line at 0)) line (at + 1)
+    → cut_on place line at ≡ cut_on (after place (get_or line at 0)) line (at + 1)
 cut_goes_on place line at within on =
     ap (cut_from place (take at line)) (item_left line at 0 within)
     ∙ (rw on (ap (λ piece. cut_from (after place (get_or line at 0)) piece (drop (at + 1) line)) (next_taken line at within)))
 
 -- and a comma ends it,
 cut_ends : (place : At) (line : List ℕ) (at : ℕ) → at < length line → ends place (get_or line at 0) ≡ true
-    → cut_at place line at ≡ take at line ∷ cut_after (drop at line)
+    → cut_on place line at ≡ take at line ∷ cut_after (drop at line)
 cut_ends place line at within end =
     let left = item_left line at 0 within in
     ap (cut_from place (take at line)) left ∙ (rw end (ap (λ x. take at line ∷ cut_after x) (sym left)))
 
 -- as the line's end does
-cut_at_end : (place : At) (line : List ℕ) (at : ℕ) → length line ≤ at → cut_at place line at ≡ take at line ∷ cut_after (drop at line)
+cut_at_end : (place : At) (line : List ℕ) (at : ℕ) → length line ≤ at → cut_on place line at ≡ take at line ∷ cut_after (drop at line)
 cut_at_end place line at past =
     let empty : drop at line ≡ [] = drop_of_length-le line past in
     ap (cut_from place (take at line)) empty ∙ ap (λ x. take at line ∷ cut_after x) (sym empty)
 
 -- where no quote follows, the places outside strings are alike
 alike : (place : At) → IsOutside place → (line : List ℕ) (at : ℕ) → (at < length line → (get_or line at 0 == 34) ≡ false)
-    → cut_at place line at ≡ cut_at Outside line at
+    → cut_on place line at ≡ cut_on Outside line at
 alike Outside is line at other = refl
 alike Equals is line at other = ⊎_elim
     (λ (within : at < length line).
@@ -45,7 +45,7 @@ alike Equals is line at other = ⊎_elim
 alike place is line at other = absurd is
 
 -- a comma outside strings ends the piece, and so does the line's end
-pub ends_outside : (line : List ℕ) (at : ℕ) → (at < length line → get_or line at 0 ≡ 44) → cut_at Outside line at ≡ cut line
+pub ends_outside : (line : List ℕ) (at : ℕ) → (at < length line → get_or line at 0 ≡ 44) → cut_on Outside line at ≡ cut line
     → cut line ≡ take at line ∷ cut_after (drop at line)
 ends_outside line at comma left =
     sym left ∙ ⊎_elim
@@ -69,7 +69,7 @@ outside_after b = cond_both (b == 61) _ _ IsOutside (λ is. tt) (λ other. tt)
 record Led (line : List ℕ) (n : ℕ) : Type 0 where
   place : At
   is_outside : IsOutside place
-  so_far : cut_at place line n ≡ cut line
+  so_far : cut_on place line n ≡ cut line
 
 -- bytes that are no comma and no quote do
 unmarked_lead : (line : List ℕ) (n : ℕ) → n ≤ length line → AreUnmarked 44 34 line 0 n → Led line n
@@ -83,20 +83,20 @@ unmarked_lead line (suc n) within unmarked =
     record {
       place = after_outside b;
       is_outside = outside_after b;
-      so_far = sym (ap (cut_at (after_outside b) line) one)
-          ∙ (sym (ap (λ place. cut_at place line (n + 1)) (after_unmarked before.place before.is_outside b
+      so_far = sym (ap (cut_on (after_outside b) line) one)
+          ∙ (sym (ap (λ place. cut_on place line (n + 1)) (after_unmarked before.place before.is_outside b
           (or_parts (b == 44) (b == 34) plain).1))
           ∙ (sym (cut_goes_on before.place line n (omega (arith, within)) (goes_on before.place b comma)) ∙ before.so_far));
     }
 
 -- so if no quote is next, the cut goes on outside strings,
 pub outside_at : (line : List ℕ) (n : ℕ) → n ≤ length line → AreUnmarked 44 34 line 0 n
-    → (n < length line → (get_or line n 0 == 34) ≡ false) → cut_at Outside line n ≡ cut line
+    → (n < length line → (get_or line n 0 == 34) ≡ false) → cut_on Outside line n ≡ cut line
 outside_at line n within unmarked other =
     let led = unmarked_lead line n within unmarked in sym (alike led.place led.is_outside line n other) ∙ led.so_far
 
 -- as at a byte that is no mark
-pub outside_before : (line : List ℕ) (n : ℕ) → n < length line → AreUnmarked 44 34 line 0 (n + 1) → cut_at Outside line n ≡ cut line
+pub outside_before : (line : List ℕ) (n : ℕ) → n < length line → AreUnmarked 44 34 line 0 (n + 1) → cut_on Outside line n ≡ cut line
 outside_before line n within unmarked =
     outside_at line n (omega (arith, within)) (λ k from to. unmarked k from (omega (arith, to)))
     (λ more. (or_parts (get_or line n 0 == 44) (get_or line n 0 == 34) (unmarked n (omega arith) (omega arith))).1)
@@ -106,32 +106,32 @@ outside_before line n within unmarked =
 -- bytes at which a place stays, and that end no piece, change nothing of the cut
 stays : (place : At) (one other : ℕ) (on : (b : ℕ) → is_mark one other b ≡ false → ends place b ≡ false)
     (still : (b : ℕ) → is_mark one other b ≡ false → after place b ≡ place) (line : List ℕ) (from n : ℕ) → from + n ≤ length line
-    → AreUnmarked one other line from (from + n) → cut_at place line (from + n) ≡ cut_at place line from
-stays place one other on still line from zero within unmarked = ap (cut_at place line) (omega arith)
+    → AreUnmarked one other line from (from + n) → cut_on place line (from + n) ≡ cut_on place line from
+stays place one other on still line from zero within unmarked = ap (cut_on place line) (omega arith)
 stays place one other on still line from (suc n) within unmarked =
     let at = from + n in
     let b = get_or line at 0 in
     let plain : is_mark one other b ≡ false = unmarked at (omega arith) (omega arith) in
     let next : at + 1 ≡ from + suc n = omega arith in
-    sym (ap (cut_at place line) next)
-    ∙ (sym (ap (λ p. cut_at p line (at + 1)) (still b plain))
+    sym (ap (cut_on place line) next)
+    ∙ (sym (ap (λ p. cut_on p line (at + 1)) (still b plain))
     ∙ (sym (cut_goes_on place line at (omega (arith, within)) (on b plain))
     ∙ stays place one other on still line from n (omega (arith, within)) (λ k least most. unmarked k least (omega (arith, most)))))
 
 -- the same, by where they end
 stays_to : (place : At) (one other : ℕ) (on : (b : ℕ) → is_mark one other b ≡ false → ends place b ≡ false)
     (still : (b : ℕ) → is_mark one other b ≡ false → after place b ≡ place) (line : List ℕ) (from to : ℕ) → from ≤ to → to ≤ length line
-    → AreUnmarked one other line from to → cut_at place line to ≡ cut_at place line from
+    → AreUnmarked one other line from to → cut_on place line to ≡ cut_on place line from
 stays_to place one other on still line from to least within unmarked =
     let n = to - from in
     let is : from + n ≡ to = omega (arith, least) in
-    sym (ap (cut_at place line) is)
+    sym (ap (cut_on place line) is)
     ∙ stays place one other on still line from n (omega (arith, within, least))
     (λ k from_k to_k. unmarked k from_k (omega (arith, to_k, least)))
 
 -- outside strings any byte but a comma and an equals sign is such,
 pub outside_run : (line : List ℕ) (from to : ℕ) → from ≤ to → to ≤ length line → AreUnmarked 44 61 line from to
-    → cut_at Outside line to ≡ cut_at Outside line from
+    → cut_on Outside line to ≡ cut_on Outside line from
 outside_run =
     stays_to Outside 44 61 (λ b plain. (or_parts (b == 44) (b == 61) plain).0) (λ b plain. rw (or_parts (b == 44) (b == 61) plain).1 refl)
 
@@ -141,45 +141,45 @@ string_still b plain = let parts = or_parts (b == 34) (b == 92) plain in rw (par
 
 -- as bytes without them do
 pub string_run : (line : List ℕ) (from to : ℕ) → from ≤ to → to ≤ length line → AreUnmarked 34 92 line from to
-    → cut_at Quoted line to ≡ cut_at Quoted line from
+    → cut_on Quoted line to ≡ cut_on Quoted line from
 string_run = stays_to Quoted 34 92 (λ b plain. refl) string_still
 
 -- a byte in a string, by the place after it
 string_byte : (line : List ℕ) (at : ℕ) (place : At) → at < length line → after Quoted (get_or line at 0) ≡ place
-    → cut_at place line (at + 1) ≡ cut_at Quoted line at
-string_byte line at place within there = sym (ap (λ p. cut_at p line (at + 1)) there) ∙ sym (cut_goes_on Quoted line at within refl)
+    → cut_on place line (at + 1) ≡ cut_on Quoted line at
+string_byte line at place within there = sym (ap (λ p. cut_on p line (at + 1)) there) ∙ sym (cut_goes_on Quoted line at within refl)
 
 -- and so does one such byte
 pub string_plain : (line : List ℕ) (at : ℕ) → at < length line → ¬ (get_or line at 0 ≡ 34) → ¬ (get_or line at 0 ≡ 92)
-    → cut_at Quoted line (at + 1) ≡ cut_at Quoted line at
+    → cut_on Quoted line (at + 1) ≡ cut_on Quoted line at
 string_plain line at within no_quote no_backslash =
     string_byte line at Quoted within (string_still (get_or line at 0) (grind (arith, nat_tests, no_quote, no_backslash)))
 
 -- a backslash with the byte that it pairs
 pub string_pair : (line : List ℕ) (at : ℕ) → at + 1 < length line → get_or line at 0 ≡ 92
-    → cut_at Quoted line (at + 2) ≡ cut_at Quoted line at
+    → cut_on Quoted line (at + 2) ≡ cut_on Quoted line at
 string_pair line at within backslash =
     let next : at + 1 + 1 ≡ at + 2 = omega arith in
-    sym (ap (cut_at Quoted line) next)
+    sym (ap (cut_on Quoted line) next)
     ∙ (sym (cut_goes_on Paired line (at + 1) within refl)
     ∙ string_byte line at Paired (omega (arith, within)) (ap (after Quoted) backslash))
 
 -- after an equals sign the cut is as before it,
-equals_past : (line : List ℕ) (at : ℕ) → at < length line → get_or line at 0 ≡ 61 → cut_at Equals line (at + 1) ≡ cut_at Outside line at
+equals_past : (line : List ℕ) (at : ℕ) → at < length line → get_or line at 0 ≡ 61 → cut_on Equals line (at + 1) ≡ cut_on Outside line at
 equals_past line at within equals =
-    sym (ap (λ b. cut_at (after Outside b) line (at + 1)) equals) ∙ sym (cut_goes_on Outside line at within (ap (ends Outside) equals))
+    sym (ap (λ b. cut_on (after Outside b) line (at + 1)) equals) ∙ sym (cut_goes_on Outside line at within (ap (ends Outside) equals))
 
 -- if no quote follows,
 pub equals_alone : (line : List ℕ) (at : ℕ) → at < length line → get_or line at 0 ≡ 61
-    → (at + 1 < length line → ¬ (get_or line (at + 1) 0 ≡ 34)) → cut_at Outside line (at + 1) ≡ cut_at Outside line at
+    → (at + 1 < length line → ¬ (get_or line (at + 1) 0 ≡ 34)) → cut_on Outside line (at + 1) ≡ cut_on Outside line at
 equals_alone line at within equals other =
     sym (alike Equals tt line (at + 1) (λ more. ne_eqb _ 34 (other more))) ∙ equals_past line at within equals
 
 -- and else a string opens
 pub string_opens : (line : List ℕ) (at : ℕ) → at + 1 < length line → get_or line at 0 ≡ 61 → get_or line (at + 1) 0 ≡ 34
-    → cut_at Quoted line (at + 1 + 1) ≡ cut_at Outside line at
+    → cut_on Quoted line (at + 1 + 1) ≡ cut_on Outside line at
 string_opens line at within equals quote =
-    sym (ap (λ b. cut_at (after Equals b) line (at + 1 + 1)) quote)
+    sym (ap (λ b. cut_on (after Equals b) line (at + 1 + 1)) quote)
     ∙ (sym (cut_goes_on Equals line (at + 1) within (ap (ends Equals) quote)) ∙ equals_past line at (omega (arith, within)) equals)
 
 -- ---- the marks in a block

@@ -150,8 +150,8 @@ abbrev elaborate : List MediaType
 elaborate = plain (q (codes "0.5") ∷ []) ∷ html [] ∷ record dvi { pairs = q (codes "0.8") ∷ [] } ∷ c ∷ []
 
 -- both weigh the same
-alike : given_weight elaborate (html []) ≡ given_weight elaborate c
-alike = refl
+weigh_alike : given_weight elaborate (html []) ≡ given_weight elaborate c
+weigh_alike = refl
 
 -- either is the best,
 html_or_c : best_offer elaborate (plain [] ∷ dvi ∷ c ∷ []) ≡ Some 2

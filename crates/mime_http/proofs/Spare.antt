@@ -66,21 +66,21 @@ adds_no_more Spaced b = grind arith
 adds_no_more place b = grind arith
 
 -- and so do the bytes from a place on
-no_longer : (place : Place) (bytes : List ℕ) → length (tight_from place bytes) ≤ length bytes + owed place
-no_longer place [] = omega arith
-no_longer place (b ∷ bytes) =
+fits_again : (place : Place) (bytes : List ℕ) → length (tight_from place bytes) ≤ length bytes + owed place
+fits_again place [] = omega arith
+fits_again place (b ∷ bytes) =
     omega (
       arith,
       adds_no_more place b,
-      no_longer (place_after place b) bytes,
+      fits_again (place_after place b) bytes,
       length-append (added place b)
           (tight_from (place_after place b) bytes),
     )
 
 -- if a byte is left out, and none comes back for it, the value isn't left as it is
-shorter : (value : List ℕ) (front : List ℕ) (b : ℕ) (place : Place) (rest : List ℕ) → value ≡ front ++ (b ∷ rest)
+left_short : (value : List ℕ) (front : List ℕ) (b : ℕ) (place : Place) (rest : List ℕ) → value ≡ front ++ (b ∷ rest)
     → tight value ≡ front ++ tight_from place rest → length (tight_from place rest) ≤ length rest → ¬ (tight value ≡ value)
-shorter value front b place rest split tightly back same =
+left_short value front b place rest split tightly back same =
     absurd (omega (
       arith,
       back,
@@ -95,13 +95,13 @@ none_back bytes rest all =
     omega (
       arith,
       ap length (white_skipped spaced bytes (59 ∷ rest) all),
-      no_longer Semicolon rest,
+      fits_again Semicolon rest,
       length-append bytes (59 ∷ rest),
     )
 
 -- white space at the start is left out,
 first_left_out : (b : ℕ) (rest : List ℕ) → is_space b ≡ true → ¬ (tight (b ∷ rest) ≡ b ∷ rest)
-first_left_out b rest is = shorter (b ∷ rest) [] b Start rest refl (rw is refl) (omega (arith, no_longer Start rest))
+first_left_out b rest is = left_short (b ∷ rest) [] b Start rest refl (rw is refl) (omega (arith, fits_again Start rest))
 
 -- and so is that before a semicolon, and a semicolon after a separator
 pub spare_is_left_out : SpareIsLeftOut
@@ -114,7 +114,7 @@ spare_is_left_out _ (white (c ∷ front) more rest b is all fault) =
     let after : drop (length before + 1) value ≡ more ++ (59 ∷ rest) =
     ap (λ n. drop n value) (sym (length-append before (b ∷ []))) ∙ (ap (drop (length (before ++ (b ∷ []))))
     (sym (append_assoc before (b ∷ []) (more ++ (59 ∷ rest)))) ∙ drop-append_seam (before ++ (b ∷ [])) (more ++ (59 ∷ rest))) in
-    shorter value (take (length before) value) b Spaced (drop (length before + 1) value) (sym space.cut.split)
+    left_short value (take (length before) value) b Spaced (drop (length before + 1) value) (sym space.cut.split)
     (leaves_out value (length before) b Spaced space.cut space.within space.nothing space.next)
     (subst (λ x. length (tight_from Spaced x) ≤ length x) (sym after) (none_back more rest all))
 spare_is_left_out _ (another front rest b is fault) =
@@ -126,5 +126,5 @@ spare_is_left_out _ (another front rest b is fault) =
     let there = last_of front b in
     let ends : ends_in_semicolon_or_space (front ++ (b ∷ [])) ≡ true = rw there is in
     let loose = next_semicolon value pos 59 fault refl (subst (λ x. ends_in_semicolon_or_space x ≡ true) (sym begin) ends) in
-    shorter value (take pos value) 59 Semicolon (drop (pos + 1) value) (sym (cut_at value pos 59 fault).split) loose.tightly
-    (omega (arith, no_longer Semicolon (drop (pos + 1) value)))
+    left_short value (take pos value) 59 Semicolon (drop (pos + 1) value) (sym (cut_at value pos 59 fault).split) loose.tightly
+    (omega (arith, fits_again Semicolon (drop (pos + 1) value)))
