@@ -1,10 +1,10 @@
 -- Bytes: their classes and tables, the byte at a position of joined bytes, and where a text may be cut at an ASCII byte.
-use Rattle.std.proofs.Common.{◌≡◌, ℕ, ◌<◌, Bool, List, get_or, map, ap, sym, ◌∙◌, arith, length, true, subst, zero-add, suc, ◌+◌, [], ◌∷◌, ◌++◌, Some, slice_get, refl, false, ◌==◌}
+use Rattle.std.proofs.Common.{◌≡◌, ℕ, ◌<◌, Bool, List, get_or, map, ap, sym, ◌∙◌, arith, length, true, suc, ◌+◌, [], ◌∷◌, ◌++◌, Some, slice_get, refl, false, ◌==◌}
 use Rattle.std.specs.List.{range_with_len, list_all}
 use Rattle.std.proofs.lemmas.List.{get_or-map}
 use Rattle.std.proofs.lemmas.List.Folds.{list_all-append}
-use Rattle.std.proofs.lemmas.List.FromFn.{get_or-map-range_with_len, get_or-range_with_len}
-use Rattle.std.proofs.lemmas.List.Sums.{AllPass-from_list_all, passes_at_first}
+use Rattle.std.proofs.lemmas.List.FromFn.{get_or-map-range_with_len}
+use Rattle.std.proofs.lemmas.List.Sums.{passes_at_first}
 use Rattle.std.specs.Prelude.{IsTrue, IsFalse, ◌==◌, not}
 use Rattle.std.proofs.lemmas.Bool.{and_parts, and_from}
 use Rattle.std.proofs.lemmas.Bool.Decides.{nat_tests, Decides-eqb}
@@ -21,12 +21,6 @@ pub in_table : (class test : ℕ → Bool) (table : List ℕ) → map test table
 in_table class test table is size b below =
     sym (get_or-map test table b 0 (class b) (omega (arith, size, below)))
     ∙ ap (λ t. get_or t b (class b)) is ∙ get_or-map-range_with_len class 0 256 b b (class b) (omega arith) (omega arith)
-
--- what holds of all bytes holds of each
-pub at_byte : (p : ℕ → Bool) (b : ℕ) → b < 256 → list_all p (range_with_len 0 256) ≡ true → p b ≡ true
-at_byte p b within all =
-    subst (λ x. p x ≡ true) (get_or-range_with_len 0 256 b 0 within ∙ zero-add b)
-    (AllPass-from_list_all p (range_with_len 0 256) all b 0 within)
 
 -- a byte after a prefix
 pub slice_get-after : (prefix after : List ℕ) (i n : ℕ) → n ≡ length prefix + i → slice_get (prefix ++ after) n ≡ slice_get after i

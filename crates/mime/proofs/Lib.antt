@@ -5,8 +5,7 @@ pub mod LowercaseLemmas
 -- the sources
 pub mod ScanLemmas
 pub mod BlocksLemmas
-pub mod MembersLemmas
-pub mod IgnoringCaseLemmas
+pub mod StopsLemmas
 pub mod ValueLemmas
 pub mod CompareLemmas
 -- the cut, and runs of the iterator

@@ -1,10 +1,10 @@
 -- What lowercasing leaves as it is: lengths, cuts, classes of bytes, positions; and lowercasing twice is lowercasing once.
-use Rattle.std.proofs.Common.{◌≡◌, ℕ, ◌+◌, Bool, true, false, map, cond, List, [], ◌∷◌, ◌++◌, length, take, drop, refl, sym, ap, ◌∙◌, arith}
+use Rattle.std.proofs.Common.{◌≡◌, ℕ, ◌+◌, Bool, true, false, map, cond, List, [], ◌∷◌, ◌++◌, length, drop, refl, sym, ap, ◌∙◌, arith}
 use Rattle.std.specs.Prelude.{◌==◌, IsTrue}
 use Rattle.std.specs.Char.{to_ascii_lowercase}
 use Rattle.std.proofs.lemmas.Bool.{cond-true}
 use Rattle.std.proofs.lemmas.Bool.Decides.{nat_tests}
-use Rattle.std.proofs.lemmas.List.{map-append, length-map, take-map, drop-map}
+use Rattle.std.proofs.lemmas.List.{map-append, length-map}
 use Rattle.std.proofs.lemmas.List.Folds.{list_all-map}
 use Rattle.std.proofs.lemmas.Str.Ascii.{lowercase-lowercase}
 use Rattle.mime.specs.Bytes.{is_token_byte}
@@ -13,6 +13,7 @@ use Rattle.mime.specs.Values.{lowered, is_charset, lowered_value, lowered_parame
 use Rattle.mime.specs.Inner.Scanning.{positions_of, semicolon_of}
 use Rattle.mime.specs.Inner.KeptText.{IsLowPair, lowered_pair}
 use Rattle.mime.proofs.GrammarLemmas.Content.{IsContent-case}
+pub use Rattle.mime_search.proofs.IgnoringCase.{length-lowered, lowered-drop}
 use Rattle.std.specs.List.{list_all}
 
 -- lowercasing twice is lowercasing once
@@ -20,21 +21,9 @@ pub lowered-lowered : (text : List ℕ) → lowered (lowered text) ≡ lowered t
 lowered-lowered [] = refl
 lowered-lowered (b ∷ text) = cc (lowercase-lowercase b, lowered-lowered text)
 
--- a lowercased text keeps its length
-pub length-lowered : (text : List ℕ) → length (lowered text) ≡ length text
-length-lowered text = length-map text to_ascii_lowercase
-
 -- a text is lowercased part by part
 pub lowered-append : (prefix back : List ℕ) → lowered (prefix ++ back) ≡ lowered prefix ++ lowered back
 lowered-append prefix back = map-append to_ascii_lowercase prefix back
-
--- the text before a position is lowercased alone
-pub lowered-take : (n : ℕ) (text : List ℕ) → lowered (take n text) ≡ take n (lowered text)
-lowered-take n text = sym (take-map to_ascii_lowercase n text)
-
--- the text after a position is lowercased alone
-pub lowered-drop : (n : ℕ) (text : List ℕ) → lowered (drop n text) ≡ drop n (lowered text)
-lowered-drop n text = sym (drop-map to_ascii_lowercase n text)
 
 -- lowered bytes are of a class exactly if the bytes are, where case doesn't matter to the class
 pub list_all-lowered : (class : ℕ → Bool) → ((b : ℕ) → class (to_ascii_lowercase b) ≡ class b) → (bytes : List ℕ)

@@ -2,6 +2,7 @@
 pub mod Utf8
 pub mod Pairs
 pub mod ListText
+pub mod LoweredTo
 pub mod KeptText
 pub mod Parts
 pub mod Places

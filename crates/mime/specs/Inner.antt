@@ -3,7 +3,6 @@
 pub mod ByteClasses
 pub mod Remaining
 pub mod Quoted
-pub mod Members
 pub mod KnownStops
 pub mod Scanning
 pub mod Blocks

@@ -2,47 +2,25 @@
 
 ghost use Rattle.std.specs.Prelude.{◌≡◌, ◌+◌, ◌<◌, ◌≤◌, length, take, drop, slice_index};
 ghost use Rattle.std.specs.Str.{IsCharBoundary};
-ghost use Rattle.mime.specs.Inner.Blocks.{IsSuffixOf, first_position, before_byte, after_byte, mask_of};
+ghost use Rattle.mime.specs.Inner.Blocks.{first_position, before_byte, after_byte};
 
+pub(crate) use mime_search::BLOCK;
+use mime_search::{Class, first_stop, first_stop_at_end, stops_in_block};
 use std::marker::Model;
-use std::simd::prelude::*;
 
-/// The number of bytes that are compared at once.
-pub(crate) const BLOCK: usize = 16;
-
-/// The positions at which a byte occurs in the first block of a string, as a bit mask. The lowest bit is for position
-/// 0.
-#[inline(always)]
-pub(crate) fn mask(text: &[u8], byte: u8) -> u64
-    requires { BLOCK ≤ length text.now }
-    ensures { result ≡ mask_of byte (take BLOCK text.now) }
+/// The position of a byte, from one on, or the length if it doesn't occur. It isn't inlined: most searches end in their
+/// first or last block.
+#[cold]
+#[inline(never)]
+fn position_far(text: &[u8], from: usize, byte: u8) -> usize
+    requires { from ≤ length text.now }
+    ensures { result ≡ from + first_position byte (drop from text.now) }
 {
-    u8x16::from_slice(text)
-        .simd_eq(u8x16::splat(byte))
-        .to_bitmask()
+    first_stop(text, from, &Class::of(byte, byte))
 }
 
-/// The first position of a byte in `text`, or its length if it doesn't occur. `text` is a suffix of `whole` shorter
-/// than a block. If `whole` has a block, its last block is searched at once.
-#[inline(always)]
-fn position_in_last_block(whole: &[u8], text: &[u8], byte: u8) -> usize
-    requires end { IsSuffixOf text.now whole.now }
-    requires short { length text.now < BLOCK }
-    ensures { result ≡ first_position byte text.now }
-{
-    if whole.len() < BLOCK {
-        return position_by_one(text, byte);
-    }
-    let found = mask(&whole[whole.len() - BLOCK..], byte) >> (BLOCK - text.len());
-    if found == 0 {
-        text.len()
-    } else {
-        found.trailing_zeros() as usize
-    }
-}
-
-/// The first position of a byte, or the length if it doesn't occur, searched byte by byte. It isn't inlined: few
-/// strings with parameters are shorter than a block.
+/// The position of a byte, or the length if it doesn't occur, searched byte by byte. It isn't inlined: few strings with
+/// parameters are shorter than a block.
 #[inline(never)]
 fn position_by_one(text: &[u8], byte: u8) -> usize
     ensures { result ≡ first_position byte text.now }
@@ -55,25 +33,6 @@ fn position_by_one(text: &[u8], byte: u8) -> usize
         position += 1;
     }
     position
-}
-
-/// The first position of a byte, or the length if it doesn't occur, searched block by block. It isn't inlined: most
-/// searches end in their first block.
-#[cold]
-#[inline(never)]
-fn position_by_blocks(text: &[u8], byte: u8) -> usize
-    requires { BLOCK ≤ length text.now }
-    ensures { result ≡ first_position byte text.now }
-{
-    let mut left = text;
-    while left.len() >= BLOCK {
-        let found = mask(left, byte);
-        if found != 0 {
-            return text.len() - left.len() + found.trailing_zeros() as usize;
-        }
-        left = &left[BLOCK..];
-    }
-    text.len() - left.len() + position_in_last_block(text, left, byte)
 }
 
 /// A suffix of a string, together with the string: if the suffix is shorter than a block, the string's last block is
@@ -134,14 +93,20 @@ impl<'a> Suffix<'a> {
         ensures { result ≡ first_position byte self.now }
     {
         let text = self.text.as_bytes();
-        if text.len() < BLOCK {
-            return position_in_last_block(self.whole.as_bytes(), text, byte);
+        let class = Class::of(byte, byte);
+        if text.len() >= BLOCK {
+            let stops = stops_in_block(text, 0, &class);
+            if stops == 0 {
+                return position_far(text, BLOCK, byte);
+            }
+            return stops.trailing_zeros() as usize;
         }
-        let found = mask(text, byte);
-        if found == 0 {
-            return position_by_blocks(text, byte);
+        let whole = self.whole.as_bytes();
+        if whole.len() < BLOCK {
+            return position_by_one(text, byte);
         }
-        found.trailing_zeros() as usize
+        let from = whole.len() - text.len();
+        first_stop_at_end(whole, from, &class) - from
     }
 
     /// Splits at the ASCII byte at `position`, which is dropped. At the end, returns the whole suffix and an empty one.

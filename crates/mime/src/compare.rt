@@ -11,11 +11,11 @@ ghost use Rattle.mime.specs.declared.compare.Compared.TheVariants.{Equal, Differ
 
 use crate::blocks::{BLOCK, Suffix};
 use crate::bytes::is_space;
-use crate::ignoring_case::{eq_ignore_ascii_case, first_difference};
 use crate::name::constants::CHARSET;
 use crate::scan::{ByteReader, Positions, Verdict, parameters};
 use crate::value::Mime;
 use crate::value::pairs::Pairs;
+use mime_search::{eq_ignore_ascii_case, first_difference};
 
 /// Whether two strings are equal ignoring ASCII case.
 #[inline(always)]

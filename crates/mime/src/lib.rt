@@ -51,7 +51,6 @@ mod atoms;
 mod blocks;
 mod bytes;
 mod compare;
-mod ignoring_case;
 mod iter;
 pub mod laws;
 mod name;

@@ -6,7 +6,7 @@ ghost use Rattle.mime.specs.Names.{NameIs};
 
 pub(crate) mod constants;
 
-use crate::ignoring_case::eq_ignore_ascii_case;
+use mime_search::eq_ignore_ascii_case;
 use std::fmt;
 
 /// A part of a media type: a type, a subtype, a suffix, a parameter's name or its value (RFC 7231,

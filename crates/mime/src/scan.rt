@@ -198,6 +198,7 @@ pub(crate) fn separators(reader: &mut ByteReader<'_>) -> Option<u8>
 
 /// Reads a string after its first byte, to its end, or up to and including the first byte that no media type continues
 /// with.
+#[tactic(auto, using(crate::proofs::ScanLemmas::Passing::given_sum))]
 #[inline(always)]
 pub(crate) fn scan_after(first: u8, reader: &mut ByteReader<'_>) -> Verdict
     requires { 0 < reader.old.count }

@@ -72,9 +72,11 @@ impl Text {
 /// `text/plain;` as `text/plain`.
 #[derive(Drop)]
 pub struct Mime {
-    // Before the text, so that the byte of an error doesn't lie beside the text, which would be moved in parts.
+    // In this order the byte of an error of `mime_http` lies where the text has its tag, so that no word is moved in parts.
     places: Places,
     text: Text,
+    /// The end of the essence: the semicolon after it, or the text's length if there is no parameter.
+    essence_end: usize,
 }
 
 impl Model for Mime {
@@ -86,9 +88,9 @@ impl Model for Mime {
     ghost use Rattle.mime.specs.Inner.KeptPlaces.{positions_at, IsKeptAt};
     ghost use Rattle.mime.specs.Inner.KeptText.{media_of};
 
-    ghost view = { λ mime. record { media = media_of (bytes_of mime.text) (positions_at mime.places); fixed = is_fixed mime.text } };
+    ghost view = { λ mime. record { media = media_of (bytes_of mime.text) (positions_at mime.places mime.essence_end); fixed = is_fixed mime.text } };
 
-    ghost invariant = { λ mime. IsKeptAt (bytes_of mime.text) mime.places };
+    ghost invariant = { λ mime. IsKeptAt (bytes_of mime.text) mime.places mime.essence_end };
 }
 
 impl Mime {
@@ -217,8 +219,12 @@ impl Mime {
         ensures media { result.media ≡ media_of (bytes_of text) positions }
         ensures fixed { result.fixed ≡ is_fixed text }
     {
-        let places = Places::of(positions, text.as_str().len());
-        Mime { text, places }
+        let essence_end = positions.semicolon.unwrap_or(text.as_str().len());
+        Mime {
+            places: Places::of(positions, essence_end),
+            text,
+            essence_end,
+        }
     }
 
     /// The media type of a short string already in kept form, with the positions of its parts.
@@ -279,7 +285,7 @@ impl Mime {
     pub fn essence_str(&self) -> &str
         ensures { result.now ≡ self.now.media.essence }
     {
-        &self.text.as_str()[..self.places.essence_end]
+        &self.text.as_str()[..self.essence_end]
     }
 
     /// Returns the kept text, which is what is printed. If there is a parameter, it is the whole string that was
@@ -308,7 +314,11 @@ impl Mime {
         ensures low { AreLowPairs result }
     {
         let text = self.text.as_str();
-        Pairs::of_text(text, self.places.semicolon(), self.places.pair_count)
+        Pairs::of_text(
+            text,
+            self.places.semicolon(self.essence_end),
+            self.places.pair_count,
+        )
     }
 
     /// The number of parameters.

@@ -11,7 +11,7 @@ use Rattle.mime_http.specs.Tight.{ReadsTight}
 use Rattle.mime_http.specs.HttpMediaType.{HttpReads}
 use Rattle.mime_http.specs.HttpList.{AreBetweenCommas, no_line, line_end, comma, AreSorted, no_text, blank, a_range, a_bad, Header, IsHeader}
 use Rattle.mime_http.proofs.HttpForth.{http_is_tight}
-use Rattle.mime_http.proofs.Tightened.{no_longer}
+use Rattle.mime_c.proofs.NoLonger.{no_longer}
 use Rattle.mime_c.specs.Strings.{string_of, strings, ComeBack, parts_of, texts_of}
 use Rattle.mime_c.specs.HeaderAnswers.{range_texts, ranges_texts}
 use Rattle.mime_c.proofs.NoZero.{HasNoZero, come_back, no_zero-read, no_zero-pairs}

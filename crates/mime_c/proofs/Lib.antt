@@ -1,3 +1,4 @@
+pub mod NoLonger
 pub mod NoZero
 pub mod Room
 pub mod Writing

@@ -9,11 +9,11 @@ use Rattle.mime.specs.HeaderLaws.{IsSafePair}
 use Rattle.mime.specs.Values.{MediaType, Reads, lowered, lowered_value}
 use Rattle.mime.proofs.BytesLemmas.{is_other, list_all-wider}
 use Rattle.mime.proofs.LawsLemmas.Written.{kept_is_safe}
-use Rattle.mime.proofs.LowercaseLemmas.{length-lowered, lowered_value-either}
+use Rattle.mime.proofs.HandedOut.{length-lowered, lowered_value-either}
 use Rattle.mime_http.specs.Boundary.{is_bchar, IsBoundary}
 use Rattle.mime_http.specs.Tight.{ReadsTight}
 use Rattle.mime_http.specs.Written.{escaped_byte, escaped, is_token_value, quote_of, text_of_pair, text_of_pairs, others}
-use Rattle.mime_http.proofs.Tightened.{no_longer}
+use Rattle.mime_c.proofs.NoLonger.{no_longer}
 use Rattle.mime_c.specs.Strings.{strings, ComeBack, pair_texts}
 use Rattle.mime_c.specs.ParameterAnswers.{room_with, with_parameter}
 use Rattle.mime_c.proofs.NoZero.{come_back, no_zero-read}

@@ -7,7 +7,7 @@ use Rattle.mime.specs.Values.{MediaType, Reads, pair_of, pairs_of_list, pairs_of
 use Rattle.mime.specs.Inner.Scanning.{positions_of}
 use Rattle.mime.specs.Inner.KeptText.{kept_text_of}
 use Rattle.mime.specs.Cut.{CutItem, ItemsOf, is_read, is_rejected, is_empty, Cut, whole, unfinished, goes_on}
-use Rattle.mime.proofs.LowercaseLemmas.{length-lowered}
+use Rattle.mime.proofs.HandedOut.{length-lowered}
 use Rattle.mime.proofs.ValueLemmas.Utf8.{length-in_part}
 use Rattle.mime.proofs.ValueLemmas.KeptText.{text_of-essence, length-essence_of, value_of_low, value_of-lowering, keeps-tree, kept-in_part}
 use Rattle.mime.proofs.CutLemmas.Cuts.{split-size}

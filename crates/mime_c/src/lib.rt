@@ -187,7 +187,7 @@ fn copy(out: &mut [u8], at: usize, bytes: &[u8]) -> usize
     ensures writes { Writes out.old at bytes.now out.new result }
 {
     let end = at + bytes.len();
-    out[at..end].copy_from_slice(bytes);
+    mime_search::copy_bytes(&mut out[at..end], bytes);
     end
 }
 
@@ -215,6 +215,7 @@ fn put_parts(out: &mut [u8], at: usize, mime: &Mime) -> usize
 }
 
 /// Writes the strings of a media type, and returns what is found.
+#[inline(always)]
 fn put_texts(out: &mut [u8], mime: &Mime) -> MimeFound
     requires read { IsRead mime.now.media }
     requires room { length (strings (texts_of mime.now.media)) ≤ length out.old }
@@ -246,8 +247,8 @@ pub extern "C" fn mime_read(
 ) -> u32
     ensures { ReadsTo text.now out.old result out.new found.new }
 {
-    *found = NOTHING;
     if out.len() / 2 <= text.len() {
+        *found = NOTHING;
         return MIME_NO_ROOM;
     }
     match read(alloc, text) {
@@ -274,8 +275,8 @@ pub extern "C" fn mime_content_type(
 ) -> u32
     ensures { HeaderReadsTo value.now out.old result out.new found.new }
 {
-    *found = NOTHING;
     if out.len() / 2 <= value.len() {
+        *found = NOTHING;
         return MIME_NO_ROOM;
     }
     match content_type(alloc, value) {

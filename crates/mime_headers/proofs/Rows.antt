@@ -7,7 +7,7 @@ use Rattle.mime.specs.Values.{MediaType}
 use Rattle.mime_http.specs.HttpMediaType.{HttpReads}
 use Rattle.mime_http.specs.Ranges.{AreInOrder}
 use Rattle.mime_http.specs.Tight.{ReadsTight}
-use Rattle.mime_http.proofs.Highest.{first_left}
+use Rattle.std.proofs.lemmas.List.{drop_more}
 use Rattle.mime_io.specs.Inner.{Adds}
 use Rattle.mime_headers.specs.Head.{without_start}
 use Rattle.mime_headers.specs.Report.{param_row, media_rows, ReportsBoundary, ReportsType, ReportsTypes, row_at, row_if_refused}
@@ -16,6 +16,10 @@ use Rattle.mime_headers.specs.Report.ReportsTypes.{no_more, one_more}
 use Rattle.mime_headers.specs.Inner.{AddsOffers}
 
 -- ---- a loop that adds something for each item
+
+-- the next item is the first that is left
+pub first_left : {X : Type 0} (xs : List X) (i : ℕ) (x : X) → i < length xs → x ≡ get_or xs i x → drop i xs ≡ x ∷ drop (i + 1) xs
+first_left xs i x within is = drop_more xs i x within ∙ ap (λ y. y ∷ drop (i + 1) xs) (sym is)
 
 -- what is added of an item was left to add
 pub rows-next : {X : Type 0} (f : X → List ℕ) (xs : List X) (i : ℕ) (x : X) (old new whole : List ℕ) → i < length xs → x ≡ get_or xs i x

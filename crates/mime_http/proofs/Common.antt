@@ -33,7 +33,7 @@ pub use Rattle.std.specs.Vec.{vec_items}
 pub use Rattle.std.specs.declared.cmp.Ordering.{Ordering}
 pub use Rattle.std.specs.declared.cmp.Ordering.TheVariants.{Equal, Greater, Less}
 pub use Rattle.std.specs.declared.cmp.Reverse.{Reverse}
-pub use Rattle.mime.proofs.HandedOut.{AreTokenBytes-from_token, Begun, ClosedParameters, IsContent-taken, IsToken-lowered, ListState, accepted-from_complete, accepted_or_rejected, after_quotes, awaits_after-append, boundary_after, by_class, completed_is_rejected, dead-from_walk, essence_is_read, grow, grow_list, grow_state, high_bytes, in_list, in_name, in_quotes, in_spaces, in_subtype, in_type, in_value, length-lowered, list_all-lowered, list_all-wider, list_at, lowered-lowered, lowered_value-either, lowered_value-lowered, not_viable-at_dead, one_fault, one_reading, pairs_of_tail-lowered, prefix_of_viable_is_viable, rejected-from_walk, slice_get-prefix, spelled-from_walk, stopped-from_walk, tree_of, viable-from_lacks, viable-from_walk, walk, walk-accepted, walk-from_viable, walk_by-append, walk_by-append_some, walk_from}
+pub use Rattle.mime.proofs.HandedOut.{AreTokenBytes-from_token, Begun, ClosedParameters, IsContent-taken, IsToken-lowered, ListState, accepted-from_complete, accepted_or_rejected, after_quotes, awaits_after-append, boundary_after, by_class, completed_is_rejected, dead-from_walk, essence_is_read, grow, grow_list, grow_state, high_bytes, in_list, in_name, in_quotes, in_spaces, in_subtype, in_type, in_value, IsBegun, IsState, BegunList, walk_from-lengthens, length-lowered, list_all-lowered, list_all-wider, list_at, lowered-lowered, lowered_value-either, lowered_value-lowered, not_viable-at_dead, one_fault, one_reading, pairs_of_tail-lowered, prefix_of_viable_is_viable, rejected-from_walk, slice_get-prefix, spelled-from_walk, stopped-from_walk, tree_of, viable-from_lacks, viable-from_walk, walk, walk-accepted, walk-from_viable, walk_by-append, walk_by-append_some, walk_from}
 unfoldable pub use Rattle.mime.specs.Bytes.{is_quoted_byte, is_token_byte}
 pub use Rattle.mime.specs.Bytes.{backslash_byte, is_quoted_text_byte, quote_byte}
 pub use Rattle.mime.specs.Faults.{EndsIn, Explains, IsDeadAt, IsFault, IsViable, Lacks}
@@ -62,7 +62,7 @@ pub use Rattle.mime_http.specs.Reached.{limit_of, reach_after, reach_from, settl
 pub use Rattle.mime_http.specs.Tight.{FaultIsSpare, ReadsTight, Tightens, a_byte, a_semicolon, a_string, another, at_end, before_token, first, semicolon_left, white, white_left}
 pub use Rattle.mime_http.specs.Tightening.{Begins, IsLoose, IsRejected, IsTightening, LeavesFault, Stands, begins_with_semicolon, ends_in_semicolon_or_space, is_semicolon_or_space}
 pub use Rattle.mime_http.specs.Unescaped.{unescaped}
-pub use Rattle.mime_http.specs.Walk.{Adds, AddsLines, AreUnmarked, At, Outside, after, after_outside, cut, cut_after, cut_from, ends, is_mark}
+pub use Rattle.mime_http.specs.Walk.{Adds, AreUnmarked, At, Outside, after, after_outside, cut, cut_after, cut_from, ends, is_mark}
 pub use Rattle.mime_http.specs.Weight.{thousandths_of}
 pub use Rattle.mime_http.specs.Written.{WrittenIsMeant, escaped, is_token_value, others, quote_of, text_of_pair, text_of_pairs, with_pair, with_pairs}
 pub use Rattle.mime_http.specs.declared.fault.Reach.{Reach}

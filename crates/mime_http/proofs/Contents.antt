@@ -1,5 +1,5 @@
 -- The content of quoted strings: what is written for a value, and what needs no backslash.
-use Rattle.mime_http.proofs.Common.{AreHeaderBytes, AreTokenBytes-from_token, Bool, IsBoundary, IsContent, IsToken, List, WrittenIsMeant, [], and_parts, ap, append-nil, append_assoc, ap₂, arith, cases_Bool, cond, cond_both, drop, drop-append-add, drop-length, eqb-true, escaped, false, false_from_ne_true, get_or, if◌then◌else◌, is_bchar, is_charset, is_quoted_byte, is_quoted_text_byte, is_token_byte, length, list_all, lowered, nat_tests, no_byte, not, or_parts, quoted_pair, refl, suc, sym, take, take-append-add, take-length, text_byte, to_ascii_lowercase, true, unescaped, zero, ℕ, ⊎_elim, ◌&&◌, ◌*◌, ◌++◌, ◌+◌, ◌<◌, ◌==◌, ◌||◌, ◌∙◌, ◌∷◌, ◌≡◌, ◌≢◌, ◌≤◌, list_all-wider}
+use Rattle.mime_http.proofs.Common.{AreHeaderBytes, AreTokenBytes-from_token, Bool, IsBoundary, IsContent, IsToken, List, WrittenIsMeant, [], and_parts, ap, append-nil, append_assoc, arith, cases_Bool, cond, drop, drop-append-add, drop-length, eqb-true, escaped, false, false_from_ne_true, get_or, if◌then◌else◌, is_bchar, is_charset, is_quoted_byte, is_quoted_text_byte, is_token_byte, length, list_all, lowered, lowered_value, lowered_value-either, nat_tests, no_byte, not, quoted_pair, refl, suc, sym, take, take-append-add, take-length, text_byte, to_ascii_lowercase, true, unescaped, zero, ℕ, ⊎_elim, ◌&&◌, ◌*◌, ◌++◌, ◌+◌, ◌<◌, ◌==◌, ◌||◌, ◌∙◌, ◌∷◌, ◌≡◌, ◌≢◌, ◌≤◌, list_all-wider}
 
 -- whether a byte is written after a backslash
 abbrev pub is_special : ℕ → Bool
@@ -58,15 +58,6 @@ boundary_is_safe bytes is = list_all-wider is_bchar is_quoted_byte bchar_safe by
 
 -- ---- bytes before the first backslash
 
--- what has no capital has none when it is escaped
-pub escaped-lowered : (bytes : List ℕ) → lowered bytes ≡ bytes → lowered (escaped bytes) ≡ escaped bytes
-escaped-lowered [] low = refl
-escaped-lowered (b ∷ bytes) low =
-    let same : to_ascii_lowercase b ≡ b = ap (λ bs. get_or bs 0 0) low in
-    let rest = escaped-lowered bytes (ap (drop 1) low) in
-    cond_both (is_special b) (92 ∷ b ∷ []) (b ∷ []) (λ xs. lowered (xs ++ escaped bytes) ≡ xs ++ escaped bytes)
-    (λ special. ap₂ (λ c cs. 92 ∷ c ∷ cs) same rest) (λ plain. ap₂ (λ c cs. c ∷ cs) same rest)
-
 -- a byte other than a backslash means itself
 plain_first : (b : ℕ) (bytes : List ℕ) → (b == 92) ≡ false → unescaped (b ∷ bytes) ≡ b ∷ unescaped bytes
 plain_first b [] other = rw other refl
@@ -81,12 +72,7 @@ unescaped_from paired (b ∷ bytes) = if not paired && b == 92 then unescaped_fr
 pub unescaped_is : (bytes : List ℕ) → unescaped bytes ≡ unescaped_from false bytes
 unescaped_is [] = refl
 unescaped_is (b ∷ []) = refl
-unescaped_is (b ∷ c ∷ bytes) =
-    elim (b == 92) as (λ begins. (if begins then c ∷ unescaped bytes else b ∷ unescaped (c ∷ bytes))
-    ≡ (if begins then unescaped_from true (c ∷ bytes) else b ∷ unescaped_from false (c ∷ bytes))) [
-      | true ↦ ap (λ rest. c ∷ rest) (unescaped_is bytes)
-      | false ↦ ap (λ rest. b ∷ rest) (unescaped_is (c ∷ bytes))
-    ]
+unescaped_is (b ∷ c ∷ bytes) = grind (arith, unescaped_is bytes, unescaped_is (c ∷ bytes))
 
 -- they mean themselves
 pub unescaped_before : (bytes : List ℕ) (at : ℕ) → at ≤ length bytes → ((i : ℕ) → i < at → get_or bytes i 0 ≢ 92)
@@ -121,19 +107,8 @@ unescaped_end front value start at long within none =
 -- two bytes stand for each at most, and a backslash at the end for none
 pub length-unescaped : (bytes : List ℕ) → length bytes ≤ 2 * length (unescaped bytes) + 1
 length-unescaped [] = omega arith
-length-unescaped (b ∷ []) =
-    elim (b == 92) as (λ begins. 1 ≤ 2 * length (if begins then [] else b ∷ []) + 1) [
-      | true ↦ omega arith
-      | false ↦ omega arith
-    ]
-length-unescaped (b ∷ c ∷ bytes) =
-    let paired = length-unescaped bytes in
-    let plain = length-unescaped (c ∷ bytes) in
-    elim (b == 92) as (λ begins. length (b ∷ c ∷ bytes) ≤ 2 * length
-    (if begins then c ∷ unescaped bytes else b ∷ unescaped (c ∷ bytes)) + 1) [
-      | true ↦ omega (arith, paired)
-      | false ↦ omega (arith, plain)
-    ]
+length-unescaped (b ∷ []) = grind arith
+length-unescaped (b ∷ c ∷ bytes) = grind (arith, length-unescaped bytes, length-unescaped (c ∷ bytes))
 
 -- ---- what is written for a value
 
@@ -149,11 +124,7 @@ content_of_escaped (b ∷ value) all =
 -- it means the value
 meant : (value : List ℕ) → unescaped (escaped value) ≡ value
 meant [] = refl
-meant (b ∷ value) =
-    ⊎_elim (λ special. rw special (ap (λ rest. b ∷ rest) (meant value)))
-    (λ plain.
-    let parts = or_parts (b == 34) (b == 92) plain in
-    rw plain (plain_first b (escaped value) parts.1 ∙ ap (λ rest. b ∷ rest) (meant value))) (cases_Bool (is_special b))
+meant (b ∷ value) = grind (arith, meant value, plain_first b (escaped value))
 
 -- so a boundary means itself
 pub boundary_means_itself : (bytes : List ℕ) → IsBoundary bytes → unescaped bytes ≡ bytes
@@ -164,8 +135,12 @@ lowered_escaped : (value : List ℕ) → lowered (escaped value) ≡ escaped (lo
 lowered_escaped [] = refl
 lowered_escaped (b ∷ value) =
     let same : is_special (to_ascii_lowercase b) ≡ is_special b = grind (arith, nat_tests) in
-    rw same (⊎_elim (λ special. rw special (ap (λ rest. 92 ∷ to_ascii_lowercase b ∷ rest) (lowered_escaped value)))
-    (λ plain. rw plain (ap (λ rest. to_ascii_lowercase b ∷ rest) (lowered_escaped value))) (cases_Bool (is_special b)))
+    grind (arith, same, lowered_escaped value)
+
+-- so a value without capitals stays as it is written where it is read in lowercase
+pub kept_low : (name value : List ℕ) → lowered value ≡ value → lowered_value name (escaped value) ≡ escaped value
+kept_low name value low =
+    lowered_value-either (λ bytes. bytes ≡ escaped value) name (escaped value) refl (lowered_escaped value ∙ ap escaped low)
 
 -- what is written for a value means the value
 pub written_is_meant : WrittenIsMeant

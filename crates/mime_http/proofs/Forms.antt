@@ -1,36 +1,15 @@
 -- The kinds of a value's bytes, and the form in which it is written.
-use Rattle.mime_http.proofs.Common.{AreTokenBytes-from_token, Bool, Escaped, Form, IsBoundary, List, Token, [], and_from, and_parts, ap, append_assoc, arith, bit_and, cases_Bool, codes, content, drop, drop-cons, eqb-true, escaped, false, false_from_ne_true, false≢true, form_of, get_or, if◌then◌else◌, is_bchar, is_plain, is_quoted_byte, is_quoted_text_byte, is_token_byte, is_token_value, kind_from, kind_of, length, list_all, list_all-append, list_all-wider, marks, nat_tests, not, prefix_len, prefix_len-le-length, prefix_len_stops, quote_of, refl, subst, suc, sym, take, take_more, text_in, text_of_pair, true, ℕ, ⊎_elim, ◌&&◌, ◌++◌, ◌+◌, ◌<◌, ◌==◌, ◌∙◌, ◌∷◌, ◌≡◌, ◌≢◌, ◌≤◌}
+use Rattle.mime_http.proofs.Common.{AreTokenBytes-from_token, Bool, Escaped, IsBoundary, List, Token, [], and_from, and_parts, ap, append_assoc, arith, bit_and, cases_Bool, drop, drop-cons, escaped, false, false≢true, form_of, get_or, if◌then◌else◌, is_bchar, is_plain, is_quoted_byte, is_quoted_text_byte, is_token_byte, is_token_value, kind_from, kind_of, length, list_all, list_all-append, list_all-wider, nat_tests, prefix_len, prefix_len-le-length, prefix_len_stops, refl, suc, sym, take, take_more, text_in, text_of_pair, true, ℕ, ⊎_elim, ◌&&◌, ◌++◌, ◌+◌, ◌<◌, ◌∙◌, ◌∷◌, ◌≡◌, ◌≢◌, ◌≤◌}
+use Rattle.std.specs.Cmp.{both_ways}
 use Rattle.mime_http.specs.declared.quoted.Form.TheVariants.{Quoted}
 use Rattle.mime_http.proofs.Written.{token_from_test}
-use Rattle.mime_http.proofs.Contents.{is_special, token_plain, token_safe, token_needs_none, plain_class, text_plain, bchar_text}
+use Rattle.mime_http.proofs.Contents.{boundary_is_plain, boundary_is_safe, token_is_safe, is_special, token_plain, token_safe, token_needs_none, plain_class, text_plain, bchar_text}
 
 -- ---- bits
 
--- a test of both Booleans
-holds_of_both : (Bool → Bool) → Bool
-holds_of_both p = p true && p false
-
--- what holds of both truth values holds of each,
-at : (p : Bool → Bool) → holds_of_both p ≡ true → (b : Bool) → p b ≡ true
-unfolding holds_of_both
-at p is true = (and_parts (p true) (p false) is).0
-at p is false = (and_parts (p true) (p false) is).1
-
--- a test of any three
-holds_of_all : (Bool → Bool → Bool → Bool) → Bool
-holds_of_all p = holds_of_both (λ x. holds_of_both (λ y. holds_of_both (p x y)))
-
--- and so it is with three
-at_three : (p : Bool → Bool → Bool → Bool) → holds_of_all p ≡ true → (x y z : Bool) → p x y z ≡ true
-unfolding holds_of_all
-at_three p is x y z = at (p x y) (at (λ y. holds_of_both (p x y)) (at (λ x. holds_of_both (λ y. holds_of_both (p x y))) is x) y) z
-
 -- the bits of two kinds
 and_kinds : (t q e t2 q2 e2 : Bool) → bit_and (kind_from t q e) (kind_from t2 q2 e2) ≡ kind_from (t && t2) (q && q2) (e && e2)
-unfolding holds_of_both holds_of_all
-and_kinds t q e t2 q2 e2 =
-    let Same = λ (t q e t2 q2 e2 : Bool). bit_and (kind_from t q e) (kind_from t2 q2 e2) == kind_from (t && t2) (q && q2) (e && e2) in
-    eqb-true _ _ (at_three (Same t q e) (at_three (λ t q e. holds_of_all (Same t q e)) refl t q e) t2 q2 e2)
+and_kinds t q e t2 q2 e2 = grind arith
 
 -- the kind of joined bytes
 pub kind_of-append : (xs ys : List ℕ) → kind_of (xs ++ ys) ≡ bit_and (kind_of xs) (kind_of ys)
@@ -67,10 +46,7 @@ block_seen seen block rest is = record {
 -- a quote and a backslash have a kind of their own
 special_kind : (b : ℕ) → is_plain b ≡ false → kind_of (b ∷ []) ≡ 1
 unfolding is_token_byte is_quoted_byte
-special_kind b special =
-    ⊎_elim (λ quote. subst (λ b. kind_of (b ∷ []) ≡ 1) (sym (eqb-true b 34 quote)) refl)
-    (λ other. subst (λ b. kind_of (b ∷ []) ≡ 1) (sym (eqb-true b 92 (grind (arith, nat_tests, special, other)))) refl)
-    (cases_Bool (b == 34))
+special_kind b special = grind (arith, nat_tests)
 
 -- a byte that needs no backslash is plain
 pub plain_from_kind : (b : ℕ) → kind_of (b ∷ []) ≢ 1 → is_plain b ≡ true
@@ -80,9 +56,7 @@ plain_from_kind b other = ⊎_elim (λ plain. plain) (λ special. absurd (other 
 pub plain_more : (bytes : List ℕ) (n : ℕ) → n < length bytes → is_plain (get_or bytes n 0) ≡ true
     → n + prefix_len is_plain (drop n bytes) ≡ (n + 1) + prefix_len is_plain (drop (n + 1) bytes)
 plain_more bytes n within plain =
-    let next : suc n ≡ n + 1 = omega arith in
-    ap (λ rest. n + prefix_len is_plain rest) (drop-cons bytes n 0 within) ∙ rw plain (omega arith)
-    ∙ ap (λ m. (n + 1) + prefix_len is_plain (drop m bytes)) next
+    grind (arith, drop-cons bytes n 0 within)
 
 -- ---- what is written, run by run
 
@@ -104,9 +78,8 @@ byte_written : (bytes : List ℕ) (end : ℕ) → 0 < length bytes → is_plain 
 byte_written [] end some special is = absurd (omega (arith, some))
 byte_written (b ∷ bytes) end some special is =
     let longer : end ≡ suc (prefix_len is_plain bytes) = omega (arith, is) in
-    ⊎_elim (λ needs. rw needs (ap (λ rest. 92 ∷ b ∷ rest) (sym (run_written bytes))
-    ∙ sym (ap (λ n. 92 ∷ (take n (b ∷ bytes) ++ escaped (drop n (b ∷ bytes)))) longer)))
-    (λ plain. absurd (false≢true (sym special ∙ ap not plain))) (cases_Bool (is_special b))
+    let needs : is_special b ≡ true = grind arith in
+    rw (needs, longer) (ap (λ rest. 92 ∷ b ∷ rest) (sym (run_written bytes)))
 
 -- what is written after a special byte, up to the next, and what is left
 pub more_written : (text left bytes whole : List ℕ) (run end : ℕ) → bytes ≡ drop run left → 0 < length bytes
@@ -124,25 +97,14 @@ pub next_end : (bytes : List ℕ) (end : ℕ) → 0 < length bytes → end ≡ 1
     → (end ≤ length bytes) × (end < length bytes → is_plain (get_or bytes end 0) ≡ false)
 next_end [] end some is = absurd (omega (arith, some))
 next_end (b ∷ bytes) end some is =
-    let longer : end ≡ suc (prefix_len is_plain bytes) = omega (arith, is) in (
-      omega (arith, is, prefix_len-le-length is_plain bytes),
-      λ within.
-          ap (λ n. is_plain (get_or (b ∷ bytes) n 0)) longer
-          ∙ prefix_len_stops is_plain bytes 0 (omega (arith, within, is)),
-    )
+    (omega (arith, is, prefix_len-le-length is_plain bytes), λ within. grind (arith, prefix_len_stops is_plain bytes 0))
 
 -- ---- tokens
 
 -- if the bits don't say that a backslash or quotes are needed, neither is
 token_from_bits : (t q e : Bool) → (t ≡ true → q ≡ true) → (q ≡ true → e ≡ true) → kind_from t q e ≢ 0 → kind_from t q e ≢ 1
     → kind_from t q e ≢ 3 → (t ≡ true) × (e ≡ true)
-token_from_bits true true true plain fits n b q = (refl, refl)
-token_from_bits true true false plain fits n b q = absurd (false≢true (fits refl))
-token_from_bits true false e plain fits n b q = absurd (false≢true (plain refl))
-token_from_bits false true true plain fits n b q = absurd (q refl)
-token_from_bits false true false plain fits n b q = absurd (false≢true (fits refl))
-token_from_bits false false true plain fits n b q = absurd (b refl)
-token_from_bits false false false plain fits n b q = absurd (n refl)
+token_from_bits t q e plain fits n b k = grind arith
 
 -- a value of the last kind is a token
 pub token_from_kind : (value : List ℕ) → 0 < length value → kind_of value ≢ 0 → kind_of value ≢ 1 → kind_of value ≢ 3
@@ -155,27 +117,9 @@ token_from_kind (b ∷ bytes) some =
 
 -- ---- what is written in a form
 
--- a form writes a value as the marks of its content say
-text_as : (form : Form) (name value content_bytes : List ℕ) → content form value ≡ content_bytes → marks form ≡ quote_of content_bytes
-    → text_in form name value ≡ text_of_pair (name, content_bytes)
-text_as form name value bytes between sides = λ i. codes "; " ++ (name ++ (61 ∷ (sides i ++ (between i ++ sides i))))
-
--- a token is in the first form, and other content in the second
-as_token : (bytes : List ℕ) → is_token_value bytes ≡ true → [] ≡ quote_of bytes
-as_token bytes token = ap (λ is. if is then [] else (34 ∷ [])) (sym token)
-
--- what is no token is in quotes
-in_quotes : (bytes : List ℕ) → is_token_value bytes ≡ false → 34 ∷ [] ≡ quote_of bytes
-in_quotes bytes other = ap (λ is. if is then [] else (34 ∷ [])) (sym other)
-
 -- content that is kept is written as it is
 pub kept_text : (name bytes : List ℕ) → text_in (if is_token_value bytes then Token else Quoted) name bytes ≡ text_of_pair (name, bytes)
-kept_text name bytes =
-    ⊎_elim (λ token.
-    ap (λ is. text_in (if is then Token else Quoted) name bytes) token ∙ text_as Token name bytes bytes refl (as_token bytes token))
-    (λ other.
-    ap (λ is. text_in (if is then Token else Quoted) name bytes) other ∙ text_as Quoted name bytes bytes refl (in_quotes bytes other))
-    (cases_Bool (is_token_value bytes))
+kept_text name bytes = grind arith
 
 -- what is a token with backslashes is one without
 tokens_from_escaped : (value : List ℕ) → list_all is_token_byte (escaped value) ≡ true → list_all is_token_byte value ≡ true
@@ -194,29 +138,25 @@ token_from_escaped [] token = token
 token_from_escaped (b ∷ value) token =
     tokens_from_escaped (b ∷ value) (AreTokenBytes-from_token (escaped (b ∷ value)) (token_from_test (escaped (b ∷ value)) token))
 
+-- escaped it is a token exactly if it is one
+same_test : (value : List ℕ) → is_token_value (escaped value) ≡ is_token_value value
+same_test value = both_ways _ _ (token_from_escaped value)
+    (λ token. ap is_token_value (token_needs_none value (token_from_test value token)) ∙ token)
+
 -- a value is written in its form
 pub form_text : (name value : List ℕ) → text_in (form_of value) name value ≡ text_of_pair (name, escaped value)
 form_text name value =
-    ⊎_elim (λ token.
-    let same = token_needs_none value (token_from_test value token) in
-    ap (λ is. text_in (if is then Token else (if list_all is_quoted_text_byte value then Quoted else Escaped)) name value) token
-    ∙ text_as Token name value (escaped value) (sym same) (as_token value token ∙ sym (ap quote_of same)))
-    (λ other.
-    ap (λ is. text_in (if is then Token else (if list_all is_quoted_text_byte value then Quoted else Escaped)) name value) other
-    ∙ ⊎_elim (λ plain.
-    let same = plain_class is_quoted_text_byte text_plain value plain in
-    ap (λ is. text_in (if is then Quoted else Escaped) name value) plain
-    ∙ text_as Quoted name value (escaped value) (sym same) (in_quotes value other ∙ sym (ap quote_of same)))
-    (λ special.
-    let no_token = false_from_ne_true (is_token_value (escaped value))
-    (λ token. false≢true (sym other ∙ token_from_escaped value token)) in
-    ap (λ is. text_in (if is then Quoted else Escaped) name value) special
-    ∙ text_as Escaped name value (escaped value) refl (in_quotes (escaped value) no_token))
-    (cases_Bool (list_all is_quoted_text_byte value)))
-    (cases_Bool (is_token_value value))
+    let plain : list_all is_quoted_text_byte value ≡ true → escaped value ≡ value = plain_class is_quoted_text_byte text_plain value in
+    let token : is_token_value value ≡ true → escaped value ≡ value = λ is. token_needs_none value (token_from_test value is) in
+    grind (arith, same_test value)
 
 -- a boundary is in a form without backslashes
 pub boundary_form : (bytes : List ℕ) → IsBoundary bytes → form_of bytes ≡ (if is_token_value bytes then Token else Quoted)
 boundary_form bytes is =
     ap (λ plain. if is_token_value bytes then Token else (if plain then Quoted else Escaped))
     (list_all-wider is_bchar is_quoted_text_byte bchar_text bytes is.all)
+
+-- how a token and a boundary are written
+pub ruleset token_written = (token_is_safe, token_needs_none, token_from_test)
+
+pub ruleset boundary_written = (boundary_is_safe, boundary_is_plain, boundary_form)

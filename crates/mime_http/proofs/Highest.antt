@@ -1,210 +1,28 @@
--- The highest of a list and its first place, and ranks, which are in a total order.
-use Rattle.mime_http.proofs.Common.{Bool, Contains, Equal, Greater, IsAtMost, IsTotalOrder, Less, List, MatchOrdering, None, Option, Ordering, Rank, Some, [], ap, arith, drop, drop-cons, drop-map, eq_by_cmp, false, false_from_ne_true, fold, fold_push, get_or, get_or-map, if◌then◌else◌, inl, inr, is_eq, is_gt, is_lt, is_some_and, length, length-map, map, nat_cmp, nat_cmp_total, on_total, ord_max, ordering_reverse, ordering_then, partial_ordering_then, position_from, rank_cmp, ranked, refl, subst, suc, sym, take, take-add, then_total, tied_back, tied_itself, true, true≢false, upto, zero, ℕ, ⊎_elim, ◌++◌, ◌+◌, ◌<◌, ◌∙◌, ◌∷◌, ◌≡◌, ◌≢◌, ◌⊎◌}
+-- The highest of ranks and its first place, and which of all is the best.
+use Rattle.mime_http.proofs.Common.{AllPass-from_list_all, Bool, Equal, IsAtMost, List, None, Option, Ordering, Rank, Some, [], and_from, ap, arith, false, false_from_ne_true, get_or, get_or-map, is_gt, is_le, is_some_and, length, length-append, length-map, list_all, list_all-from_AllPass, lowest, map, nat_lt, nat_tests, ordering_then, and_parts, partial_ordering_then, position, position_from, position_from-zero, rank_cmp, refl, subst, suc, sym, true, zero, ℕ, ◌&&◌, ◌++◌, ◌+◌, ◌<◌, ◌∙◌, ◌∷◌, ◌≡◌}
+use Rattle.mime_http.specs.Chosen.{IsFirstPlace, IsHighest, NotAbove}
+use Rattle.std.proofs.Math.Seq.{get_or-append_seam}
+use Rattle.std.proofs.lemmas.List.{get_or_append_left}
+use Rattle.std.proofs.lemmas.List.Elements.{All-nil, All-push, All-weaker}
+use Rattle.std.specs.List.{All}
 
--- what is left from a place on begins with the item there
-pub item_left : {X : Type 0} (xs : List X) (i : ℕ) (d : X) → i < length xs → drop i xs ≡ get_or xs i d ∷ drop (i + 1) xs
-item_left xs i d within =
-    let next : Prim.Native.Nat.suc i ≡ i + 1 = omega arith in
-    drop-cons xs i d within ∙ ap (λ j. get_or xs i d ∷ drop j xs) next
-
--- the first that is left is the one at this position,
-pub first_left : {X : Type 0} (xs : List X) (i : ℕ) (x : X) → i < length xs → x ≡ get_or xs i x → drop i xs ≡ x ∷ drop (i + 1) xs
-first_left xs i x within is = item_left xs i x within ∙ ap (λ y. y ∷ drop (i + 1) xs) (sym is)
-
--- and so is its value
-pub mapped_left : {X Y : Type 0} (f : X → Y) (xs : List X) (i : ℕ) (x : X) → drop i xs ≡ x ∷ drop (i + 1) xs
-    → drop i (map f xs) ≡ f x ∷ drop (i + 1) (map f xs)
-mapped_left f xs i x is = drop-map f i xs ∙ (ap (map f) is ∙ ap (λ ys. f x ∷ ys) (sym (drop-map f (i + 1) xs)))
-
--- the first bytes and the next one are one more
-pub one_taken : {X : Type 0} (xs : List X) (i : ℕ) (x : X) → drop i xs ≡ x ∷ drop (i + 1) xs → take (i + 1) xs ≡ take i xs ++ (x ∷ [])
-one_taken xs i x is = take-add i 1 xs ∙ ap (λ ys. take i xs ++ take 1 ys) is
-
--- what is found is found with more after it
-found_still : {K : Type 0} (test : K → Bool) (xs more : List K) (at : ℕ) {i : ℕ} → position_from test at xs ≡ Some i
-    → position_from test at (xs ++ more) ≡ Some i
-found_still test [] more at is = absurd (cc)
-found_still test (x ∷ xs) more at {i} is =
-    (elim (test x) as (λ b. (if b then Some at else position_from test (at + 1) xs) ≡ Some i
-    → (if b then Some at else position_from test (at + 1) (xs ++ more)) ≡ Some i) [
-      | true ↦ λ here. here
-      | false ↦ found_still test xs more (at + 1)
-    ]) is
-
-module _ {K : Type 0} {R : K → K → Ordering} (total : IsTotalOrder R) (one : (x y : K) → R x y ≡ Equal → x ≡ y) where
-  least_by : (m x : K) (r : Ordering) → R x m ≡ r → is_gt (R m (if is_lt r then m else x)) ≡ false
-  least_by m x Less is = ap is_gt (tied_itself total m)
-  least_by m x Equal is = ap is_gt (tied_back total x m is)
-  least_by m x Greater is = ap is_gt (total.antisymm m x ∙ ap ordering_reverse is)
-
-  -- the highest is no less than what it began with
-  pub least : (m : K) (xs : List K) → is_gt (R m (fold (ord_max R) m xs)) ≡ false
-  least m [] = ap is_gt (tied_itself total m)
-  least m (x ∷ xs) =
-      upto total m (ord_max R m x) (fold (ord_max R) (ord_max R m x) xs) (least_by m x (R x m) refl) (least (ord_max R m x) xs)
-
-  item_by : (m x : K) (r : Ordering) → R x m ≡ r → is_gt (R x (if is_lt r then m else x)) ≡ false
-  item_by m x Less is = ap is_gt is
-  item_by m x r is = ap is_gt (tied_itself total x)
-
-  -- nor than its first item
-  pub least_item : (m x : K) (xs : List K) → is_gt (R x (fold (ord_max R) (ord_max R m x) xs)) ≡ false
-  least_item m x xs = upto total x (ord_max R m x) _ (item_by m x (R x m) refl) (least (ord_max R m x) xs)
-
-  pub raised_by : (m x : K) (r : Ordering) → is_gt r ≡ true → (if is_lt r then m else x) ≡ x
-  raised_by m x Less is = absurd (true≢false (sym is))
-  raised_by m x r is = refl
-
-  pub stays_by : (m x : K) (r : Ordering) → R x m ≡ r → is_gt r ≡ false → (if is_lt r then m else x) ≡ m
-  stays_by m x Less is low = refl
-  stays_by m x Equal is low = one x m is
-  stays_by m x Greater is low = absurd (true≢false low)
-
-  pub same_by : (x y : K) (r : Ordering) → R x y ≡ r → is_eq r ≡ true → x ≡ y
-  same_by x y Less is level = absurd (true≢false (sym level))
-  same_by x y Equal is level = one x y is
-  same_by x y Greater is level = absurd (true≢false (sym level))
-
-  pub between_by : (x y : K) (r : Ordering) → R x y ≡ r → is_gt r ≡ false → is_gt (ordering_reverse r) ≡ false → x ≡ y
-  between_by x y Less is low high = absurd (true≢false high)
-  between_by x y Equal is low high = one x y is
-  between_by x y Greater is low high = absurd (true≢false low)
-
-  -- one above the highest is the first of its rank
-  first_place : (x m : K) (xs : List K) (at : ℕ) → is_gt (R x (fold (ord_max R) m xs)) ≡ true
-      → position_from (λ y. eq_by_cmp R y x) at (xs ++ (x ∷ [])) ≡ Some (at + length xs)
-  first_place x m [] at above =
-      let yes : eq_by_cmp R x x ≡ true = ap is_eq (tied_itself total x) in
-      rw yes (ap Some (omega arith))
-  first_place x m (y ∷ xs) at above =
-      let higher = ord_max R m y in
-      let low = least_item m y xs in
-      let no : eq_by_cmp R y x ≡ false = false_from_ne_true _
-      (λ yes. true≢false (sym above ∙ subst (λ z. is_gt (R z (fold (ord_max R) higher xs)) ≡ false) (same_by y x (R y x) refl yes) low)) in
-      rw no (first_place x higher xs (at + 1) above ∙ ap Some (omega arith))
-
-  -- the highest of a list is known with its first place; if all are as low as the start, nothing is said of that
-  pub record Highest (start : K) (xs : List K) (most : K) (best : Option ℕ) : Type 0 where
-    pub high : most ≡ fold (ord_max R) start xs
-    pub first : most ≢ start → (at : ℕ) × (best ≡ Some at) × (position_from (λ x. eq_by_cmp R x most) 0 xs ≡ Some at)
-
-  -- of no item it is the start,
-  pub nothing_yet : (start : K) → Highest start [] start None
-  nothing_yet start = record { high = refl; first = λ some. absurd (some refl) }
-
-  module _ {start most : K} {xs : List K} {best : Option ℕ} (x : K) (was : Highest start xs most best) where
-    -- with one more it is the higher of two
-    of_two : fold (ord_max R) start (xs ++ (x ∷ [])) ≡ ord_max R most x
-    of_two = fold_push (ord_max R) start xs x ∙ ap (λ m. ord_max R m x) (sym was.high)
-
-    -- so it is the next item, if that is above it,
-    pub raised : is_gt (R x most) ≡ true → Highest start (xs ++ (x ∷ [])) x (Some (length xs))
-    raised above = record {
-      high = sym (of_two ∙ raised_by most x (R x most) above);
-      first = λ some. (
-        length xs,
-        refl,
-        first_place x start xs 0 (ap (λ m. is_gt (R x m)) (sym was.high) ∙ above) ∙ ap Some (omega arith),
-      );
-    }
-
-    -- and else what it was
-    pub stays : is_gt (R x most) ≡ false → Highest start (xs ++ (x ∷ [])) most best
-    stays below = record {
-      high = sym (of_two ∙ stays_by most x (R x most) refl below);
-      first = λ some.
-          let there = was.first some in
-          (there.0, there.1, found_still (λ y. eq_by_cmp R y most) xs (x ∷ []) 0 there.2);
-    }
-
--- ---- the highest is one of the list
-
--- an item of a longer list, and of a mapped one
-pub in_more : {X : Type 0} (y : X) (xs : List X) (x : X) → Contains xs x → Contains (y ∷ xs) x
-in_more y xs x (k, within, is) = (suc k, omega (arith, within), is)
-
--- what a list contains, the list of its values contains,
-pub in_mapped : {X Y : Type 0} (f : X → Y) (xs : List X) (x : X) → Contains xs x → Contains (map f xs) (f x)
-in_mapped f xs x (k, within, is) = (k, omega (arith, within, length-map xs f), get_or-map f xs k x (f x) within ∙ ap f is)
-
--- and the other way
-pub of_mapped : {X Y : Type 0} (f : X → Y) (xs : List X) (y : Y) → Contains (map f xs) y → (x : X) × Contains xs x × (f x ≡ y)
-of_mapped f [] y (k, within, is) = absurd (omega (arith, within))
-of_mapped f (x ∷ xs) y (zero, within, is) = (x, (zero, omega arith, refl), is)
-of_mapped f (x ∷ xs) y (suc k, within, is) =
-    let found = of_mapped f xs y (k, omega (arith, within), is) in
-    (found.0, in_more x xs found.0 found.1, found.2)
-
-module _ {K : Type 0} {R : K → K → Ordering} (total : IsTotalOrder R) where
-  one_of_two : (m x : K) (b : Bool) → ((if b then m else x) ≡ m) ⊎ ((if b then m else x) ≡ x)
-  one_of_two m x true = inl refl
-  one_of_two m x false = inr refl
-
-  -- the highest is what it began with, or an item
-  pub highest_is_there : (m : K) (xs : List K) → (fold (ord_max R) m xs ≡ m) ⊎ Contains xs (fold (ord_max R) m xs)
-  highest_is_there m [] = inl refl
-  highest_is_there m (x ∷ xs) =
-      ⊎_elim
-      (λ same. ⊎_elim (λ old. inl (same ∙ old)) (λ new. inr (zero, omega arith, sym (same ∙ new))) (one_of_two m x (is_lt (R x m))))
-      (λ there. inr (in_more x xs _ there))
-      (highest_is_there (ord_max R m x) xs)
-
-  -- no item is higher
-  pub none_is_higher : (one : (x y : K) → R x y ≡ Equal → x ≡ y) (m : K) (xs : List K) (x : K) → Contains xs x
-      → is_gt (R x (fold (ord_max R) m xs)) ≡ false
-  none_is_higher one m [] x (k, within, is) = absurd (omega (arith, within))
-  none_is_higher one m (y ∷ xs) x (zero, within, is) =
-      subst (λ z. is_gt (R z (fold (ord_max R) (ord_max R m y) xs)) ≡ false) is
-      (least_item total one m y xs)
-  none_is_higher one m (y ∷ xs) x (suc k, within, is) = none_is_higher one (ord_max R m y) xs x (k, omega (arith, within), is)
-
--- two numbers are less, the same or more
-ranks : (x y : ℕ) → MatchOrdering (nat_cmp x y) (x < y) (x ≡ y) (y < x)
-ranks x y = ranked x y (nat_cmp x y) refl
-
--- what four answers in turn say
-at_most_by : (x y : Rank) (a b c d : Ordering) → MatchOrdering a (x.0 < y.0) (x.0 ≡ y.0) (y.0 < x.0)
-    → MatchOrdering b (x.1 < y.1) (x.1 ≡ y.1) (y.1 < x.1) → MatchOrdering c (x.2 < y.2) (x.2 ≡ y.2) (y.2 < x.2)
-    → MatchOrdering d (x.3 < y.3) (x.3 ≡ y.3) (y.3 < x.3)
-    → is_gt (ordering_then (ordering_then (ordering_then a b) c) d) ≡ false → IsAtMost x y
-at_most_by x y Less b c d first second third fourth low = inl first
-at_most_by x y Equal Less c d first second third fourth low = inr (first, inl second)
-at_most_by x y Equal Equal Less d first second third fourth low = inr (first, inr (second, inl third))
-at_most_by x y Equal Equal Equal Less first second third fourth low = inr (first, inr (second, inr (third, omega (arith, fourth))))
-at_most_by x y Equal Equal Equal Equal first second third fourth low = inr (first, inr (second, inr (third, omega (arith, fourth))))
-at_most_by x y a b c d first second third fourth low = absurd (true≢false low)
-
--- a rank that isn't above another is at most as high
-pub at_most : (x y : Rank) → is_gt (rank_cmp x y) ≡ false → IsAtMost x y
-at_most x y low =
-    at_most_by x y (nat_cmp x.0 y.0) (nat_cmp x.1 y.1) (nat_cmp x.2 y.2) (nat_cmp x.3 y.3) (ranks x.0 y.0) (ranks x.1 y.1) (ranks x.2 y.2)
-    (ranks x.3 y.3) low
+-- the value of an item's value is the one at its position
+pub value_at : {X Y Z : Type 0} (f : Y → Z) (g : X → Y) (xs : List X) (i : ℕ) (x : X) (d : Z) → i < length xs → x ≡ get_or xs i x
+    → f (g x) ≡ get_or (map f (map g xs)) i d
+value_at f g xs i x d within is =
+    ap (λ y. f (g y)) is ∙ sym (get_or-map f (map g xs) i (g x) d (omega (arith, within, length-map xs g))
+    ∙ ap f (get_or-map g xs i x (g x) within))
 
 -- ---- ranks
 
--- ranks are in a total order
-pub ranks_total : IsTotalOrder rank_cmp
-ranks_total =
-    then_total (then_total (then_total (on_total (λ rank. rank.0) nat_cmp_total) (on_total (λ rank. rank.1) nat_cmp_total))
-    (on_total (λ rank. rank.2) nat_cmp_total)) (on_total (λ rank. rank.3) nat_cmp_total)
-
--- two answers in turn are level only if both are
-both_level : (r s : Ordering) → ordering_then r s ≡ Equal → (r ≡ Equal) × (s ≡ Equal)
-both_level Less s is = absurd (true≢false (ap is_lt is))
-both_level Equal s is = (refl, is)
-both_level Greater s is = absurd (true≢false (ap is_gt is))
-
--- numbers that compare as equal are equal,
-level : (x y : ℕ) → nat_cmp x y ≡ Equal → x ≡ y
-level x y is = subst (λ o. MatchOrdering o (x < y) (x ≡ y) (y < x)) is (ranked x y (nat_cmp x y) refl)
-
--- and so are ranks
+-- of ranks that compare as equal each part is equal
 pub one_rank : (x y : Rank) → rank_cmp x y ≡ Equal → x ≡ y
 one_rank x y same =
-    let fourth = both_level _ (nat_cmp x.3 y.3) same in
-    let third = both_level _ (nat_cmp x.2 y.2) fourth.0 in
-    let both = both_level (nat_cmp x.0 y.0) (nat_cmp x.1 y.1) third.0 in
-    λ i. (level x.0 y.0 both.0 i, level x.1 y.1 both.1 i, level x.2 y.2 third.1 i, level x.3 y.3 fourth.1 i)
+    let first : x.0 ≡ y.0 = grind (arith, nat_tests) in
+    let second : x.1 ≡ y.1 = grind (arith, nat_tests) in
+    let third : x.2 ≡ y.2 = grind (arith, nat_tests) in
+    let fourth : x.3 ≡ y.3 = grind (arith, nat_tests) in
+    λ i. (first i, second i, third i, fourth i)
 
 -- `>` of two ranks is by their order
 pub gt_of_ranks : (a b c d : Ordering)
@@ -212,3 +30,133 @@ pub gt_of_ranks : (a b c d : Ordering)
     ≡ is_gt (ordering_then (ordering_then (ordering_then a b) c) d)
 gt_of_ranks Equal Equal Equal d = refl
 gt_of_ranks a b c d = refl
+
+-- a rank that isn't above another is at most as high,
+pub at_most : (x y : Rank) → NotAbove y x → IsAtMost x y
+at_most x y low = grind (arith, nat_tests)
+
+-- and below what is above that
+above_both : (x y z : Rank) → is_gt (rank_cmp x y) ≡ true → NotAbove y z → is_gt (rank_cmp x z) ≡ true
+above_both x y z above low = grind (arith, nat_tests)
+
+-- a rank isn't above itself,
+pub not_above_itself : (x : Rank) → NotAbove x x
+not_above_itself x = grind (arith, nat_tests)
+
+-- nor is what is below it
+pub lower : (x y : Rank) → is_gt (rank_cmp x y) ≡ true → NotAbove x y
+lower x y above = grind (arith, nat_tests)
+
+-- either is above the other, or it isn't
+not_above : (x y : Rank) → is_gt (rank_cmp x y) ≡ false → NotAbove y x
+not_above x y low = grind (arith, nat_tests)
+
+-- what isn't above a rank that isn't above another isn't above that
+pub up_to : (x y z : Rank) → NotAbove y x → NotAbove z y → NotAbove z x
+up_to x y z low high =
+    not_above x z (false_from_ne_true _ (λ above. absurd (grind (arith, nat_tests, above_both x z y above high, low))))
+
+-- ---- with one rank more
+
+-- of no rank the lowest is the highest
+pub nothing_yet : IsHighest [] lowest None
+nothing_yet = record { above = All-nil _; first = λ some. absurd (omega (arith, some)) }
+
+module _ {ranks : List Rank} {most : Rank} {best : Option ℕ} (x : Rank) (was : IsHighest ranks most best) where
+  -- a first place stays the first
+  still_first : {at : ℕ} → IsFirstPlace ranks most at → IsFirstPlace (ranks ++ (x ∷ [])) most at
+  still_first {at} is = record {
+    within = omega (arith, is.within, length-append ranks (x ∷ []));
+    there = get_or_append_left ranks (x ∷ []) lowest at is.within ∙ is.there;
+    before = λ j less. subst (λ rank. is_gt (rank_cmp most rank) ≡ true)
+        (sym (get_or_append_left ranks (x ∷ []) lowest j (omega (arith, less, is.within)))) (is.before j less);
+  }
+
+  -- a rank above the highest is the highest, and last,
+  pub highest_raised : is_gt (rank_cmp x most) ≡ true → IsHighest (ranks ++ (x ∷ [])) x (Some (length ranks))
+  highest_raised higher = record {
+    above = All-push (NotAbove x) ranks x (All-weaker (NotAbove most) (NotAbove x)
+        (λ rank low. lower x rank (above_both x most rank higher low)) ranks was.above) (not_above_itself x);
+    first = λ some. (
+      length ranks,
+      refl,
+      record {
+        within = omega (arith, length-append ranks (x ∷ []));
+        there = get_or-append_seam ranks x [] lowest;
+        before = λ j less. subst (λ rank. is_gt (rank_cmp x rank) ≡ true) (sym (get_or_append_left ranks (x ∷ []) lowest j less))
+            (above_both x most _ higher (was.above j lowest less));
+      },
+    );
+  }
+
+  -- and beside another the highest stays
+  pub highest_stays : is_gt (rank_cmp x most) ≡ false → IsHighest (ranks ++ (x ∷ [])) most best
+  highest_stays low = record {
+    above = All-push (NotAbove most) ranks x was.above (not_above x most low);
+    first = λ some. let place = was.first some in (place.0, place.1, still_first place.2);
+  }
+
+-- ---- the best
+
+-- the first item that passes a test is found at its place,
+found_first : {X : Type 0} (p : X → Bool) (n : ℕ) (xs : List X) (k : ℕ) (d : X) → k < length xs → p (get_or xs k d) ≡ true
+    → ((j : ℕ) → j < k → p (get_or xs j d) ≡ false) → position_from p n xs ≡ Some (n + k)
+found_first p n [] k d within here before = absurd (omega (arith, within))
+found_first p n (x ∷ xs) zero d within here before = rw here (ap Some (omega arith))
+found_first p n (x ∷ xs) (suc k) d within here before =
+    let next : n + 1 + k ≡ n + suc k = omega arith in
+    rw (before 0 (omega arith))
+    (found_first p (n + 1) xs k d (omega (arith, within)) here (λ j below. before (suc j) (omega (arith, below))) ∙ ap Some next)
+
+-- and if none passes, none is found
+none_found : {X : Type 0} (p : X → Bool) (n : ℕ) (xs : List X) → All (λ x. p x ≡ false) xs → position_from p n xs ≡ None
+none_found p n [] fails = refl
+none_found p n (x ∷ xs) fails =
+    rw (fails 0 x (omega arith)) (none_found p (n + 1) xs (λ k d within. fails (suc k) d (omega (arith, within))))
+
+module _ (all : List Rank) where
+  -- whether a rank is the best: no other is above it, and it weighs more than 0
+  abbrev pub is_best : Rank → Bool
+  is_best one = nat_lt 0 one.0 && list_all (λ other. is_le (rank_cmp other one)) all
+
+  -- a rank that weighs nothing isn't the best,
+  pub light_is_not_best : (rank : Rank) → rank.0 ≡ 0 → is_best rank ≡ false
+  light_is_not_best rank none = let nothing : nat_lt 0 rank.0 ≡ false = grind (arith, nat_tests) in rw nothing refl
+
+  -- nor is one below another
+  pub lower_is_not_best : (at : ℕ) (rank : Rank) → at < length all → is_gt (rank_cmp (get_or all at lowest) rank) ≡ true
+      → is_best rank ≡ false
+  lower_is_not_best at rank within above =
+      false_from_ne_true _
+      (λ best.
+      let low : is_le (rank_cmp (get_or all at lowest) rank) ≡ true =
+      AllPass-from_list_all _ all (and_parts (nat_lt 0 rank.0) _ best).1 at lowest within in
+      absurd (grind (arith, nat_tests, low, above)))
+
+  -- the best is found at its first place,
+  pub best_at : (at : ℕ) → at < length all → 0 < (get_or all at lowest).0 → All (NotAbove (get_or all at lowest)) all
+      → ((j : ℕ) → j < at → is_best (get_or all j lowest) ≡ false) → position is_best all ≡ Some at
+  best_at at within weighs above before =
+      position_from-zero is_best all
+      ∙ (found_first is_best 0 all at lowest within
+      (and_from _ _ (grind (arith, nat_tests, weighs)) (list_all-from_AllPass _ all above)) before ∙ ap Some (omega arith))
+
+  -- and none is if none weighs anything
+  pub none_is_best : All (λ rank. rank.0 ≡ 0) all → position is_best all ≡ None
+  none_is_best light =
+      position_from-zero is_best all ∙ none_found is_best 0 all (λ k d within. light_is_not_best (get_or all k d) (light k d within))
+
+module _ {all : List Rank} {most : Rank} {best : Option ℕ} (is : IsHighest all most best) where
+  -- so the highest is the best if it weighs anything,
+  pub best_is_found : 0 < most.0 → best ≡ position (is_best all) all
+  best_is_found some =
+      let found = is.first some in
+      let place = found.2 in
+      found.1 ∙ sym (best_at all found.0 place.within (subst (λ (r : Rank). 0 < r.0) (sym place.there) some)
+      (subst (λ top. All (NotAbove top) all) (sym place.there) is.above)
+      (λ j less. lower_is_not_best all found.0 _ place.within
+      (subst (λ top. is_gt (rank_cmp top (get_or all j lowest)) ≡ true) (sym place.there) (place.before j less))))
+
+  -- and else there is none
+  pub none_is_found : most.0 ≡ 0 → None ≡ position (is_best all) all
+  none_is_found none = sym (none_is_best all (λ k d within. grind (arith, nat_tests, is.above k d within, none)))

@@ -1,8 +1,7 @@
 -- How far a value goes before more than some bytes come out of it, and what is known there.
-use Rattle.mime_http.proofs.Common.{Closed, IsCharBoundary, IsCharBoundary-from_take, IsUtf8, IsUtf8-nil, IsUtf8-take, List, Paired, Place, Quoted, Reach, Semicolon, Some, Spaced, Start, [], added, ap, append-nil, append_assoc, arith, boundary_after, false, is_space, length, length-append, nat_lt, nat_tests, place_after, reach_after, reach_from, refl, settled_at, slice_get, slice_get-prefix, start, subst, sym, take, take-append-add, take-append_seam, tight, tight_from, true, ℕ, ◌++◌, ◌+◌, ◌-◌, ◌<◌, ◌∙◌, ◌∷◌, ◌≡◌, ◌≤◌, cases_Bool, cond_both, ⊎_elim}
-use Rattle.mime_http.proofs.HttpText.{tight_utf8}
-use Rattle.mime_http.proofs.Places.{place_from, place_from-append, after_value, before_name}
-use Rattle.mime_http.proofs.PlacesAgain.{IsSettled, outside_settled, within_settled, kept_settled}
+use Rattle.mime_http.proofs.Common.{AreSpaces, Equals, Plain, and_from, IsCharBoundary, IsCharBoundary-from_take, IsUtf8, IsUtf8-nil, IsUtf8-append, List, Place, Reach, Spaced, Start, [], added, ap, append-nil, append_assoc, arith, false, is_space, length, length-append, nat_lt, nat_tests, place_after, reach_after, reach_from, refl, settled_at, start, subst, sym, take, take-append_seam, tight, tight_from, true, ℕ, ◌++◌, ◌+◌, ◌-◌, ◌<◌, ◌∙◌, ◌∷◌, ◌≡◌, ◌≤◌, cond_both}
+use Rattle.mime_http.proofs.HttpText.{around, put_one, tight_utf8}
+use Rattle.mime_http.proofs.Places.{spaces-append, is_settled, IsSettled, LeavesWhite, after_token, after_equals, place_from, place_from-append}
 use Rattle.mime_http.proofs.HttpViability.{tight-append}
 
 -- ---- a place is after white space that was left out, or settled
@@ -27,8 +26,7 @@ unspaced place isnt = tt
 -- where bytes end but for the white space after them that was left out
 pub data SettledAt : List ℕ → ℕ → Type 0 where
   here : (front : List ℕ) → IsSettled (place_from Start front) → SettledAt front (length front)
-  back : (front : List ℕ) (c : ℕ) (white : List ℕ) → IsSettled (place_from Start front) → place_from Start (front ++ (c ∷ [])) ≡ Spaced
-      → tight (front ++ (c ∷ [])) ≡ tight front → tight (front ++ (c ∷ white)) ≡ tight front
+  back : (front : List ℕ) (c : ℕ) (white : List ℕ) → LeavesWhite (place_from Start front) → AreSpaces (c ∷ white)
       → SettledAt (front ++ (c ∷ white)) (length front)
 
 -- what is known after these bytes
@@ -46,29 +44,30 @@ pub record Stops (value : List ℕ) (limit : ℕ) (reach : Reach) : Type 0 where
   pub so_far : SoFar front limit reach
   pub next : (b : ℕ) (bytes : List ℕ) → after ≡ b ∷ bytes → limit < length (tight (front ++ (b ∷ [])))
 
--- only white space is left out so, and it adds nothing
-white_adds_nothing : (place : Place) (b : ℕ) → place_after place b ≡ Spaced → (is_space b ≡ true) × (added place b ≡ [])
-white_adds_nothing Quoted b e = absurd (subst IsSettled e (within_settled b))
-white_adds_nothing Paired b e = absurd (subst IsSettled e tt)
-white_adds_nothing Closed b e = absurd (subst IsSettled e (kept_settled after_value b))
-white_adds_nothing Semicolon b e = absurd (subst IsSettled e (kept_settled before_name b))
-white_adds_nothing place b e = ⊎_elim
-    (λ (white : is_space b ≡ true). (white, rw white refl))
-    (λ (other : is_space b ≡ false). absurd (subst IsSettled e (outside_settled place b other)))
-    (cases_Bool (is_space b))
+-- only white space is left out so
+white_is_left : (place : Place) (b : ℕ) → place_after place b ≡ Spaced → is_space b ≡ true
+white_is_left place b e = grind (arith, nat_tests)
 
 -- what comes out with one byte more
 pub tight_one : (front : List ℕ) (b : ℕ) → tight (front ++ (b ∷ [])) ≡ tight front ++ added (place_from Start front) b
 tight_one front b = tight-append Start front (b ∷ []) ∙ ap (λ x. tight front ++ x) (append-nil _)
 
+-- at a settled place it is left out after a token or an equals sign
+left_from_there : (place : Place) (b : ℕ) → IsSettled place → place_after place b ≡ Spaced → LeavesWhite place
+left_from_there Spaced b at_rest is = absurd at_rest
+left_from_there Plain b at_rest is = after_token
+left_from_there Equals b at_rest is = after_equals
+left_from_there place b at_rest is = absurd (grind (arith, nat_tests))
+
 -- one byte of white space more may be left out
-more_white : {front : List ℕ} {n : ℕ} → SettledAt front n → (b : ℕ) → place_from Start (front ++ (b ∷ [])) ≡ Spaced
-    → tight (front ++ (b ∷ [])) ≡ tight front → SettledAt (front ++ (b ∷ [])) n
-more_white (here front at_rest) b spaced_there same = back front b [] at_rest spaced_there same same
-more_white (back front c white at_rest first one all) b spaced_there same =
-    let grouped : (front ++ (c ∷ white)) ++ (b ∷ []) ≡ front ++ (c ∷ (white ++ (b ∷ []))) = append_assoc front (c ∷ white) (b ∷ []) in
-    subst (λ x. SettledAt x (length front)) (sym grouped)
-    (back front c (white ++ (b ∷ [])) at_rest first one (ap tight (sym grouped) ∙ (same ∙ all)))
+more_white : {front : List ℕ} {n : ℕ} → SettledAt front n → (b : ℕ) → is_space b ≡ true → place_from Start (front ++ (b ∷ [])) ≡ Spaced
+    → SettledAt (front ++ (b ∷ [])) n
+more_white (here front at_rest) b white spaced_there =
+    back front b [] (left_from_there (place_from Start front) b at_rest
+    (sym (place_from-append Start front (b ∷ [])) ∙ spaced_there)) (and_from (is_space b) true white refl)
+more_white (back front c spaces leaves all) b white spaced_there =
+    subst (λ x. SettledAt x (length front)) (sym (append_assoc front (c ∷ spaces) (b ∷ [])))
+    (back front c (spaces ++ (b ∷ [])) leaves (spaces-append (c ∷ spaces) (b ∷ []) all (and_from (is_space b) true white refl)))
 
 -- one byte further
 one_byte_further : (front : List ℕ) (limit : ℕ) (reach : Reach) (b : ℕ) → SoFar front limit reach
@@ -95,8 +94,7 @@ one_byte_further front limit reach b is fits = record {
         → SettledAt (front ++ (b ∷ [])) (settled_at (place_after reach.place b) reach.settled (reach.at + 1))
     settle (spaced e) =
         subst (λ place. SettledAt (front ++ (b ∷ [])) (settled_at place reach.settled (reach.at + 1))) (sym e)
-        (more_white is.back_to b (there ∙ e)
-        (same ∙ (ap (λ x. tight front ++ x) (white_adds_nothing reach.place b e).1 ∙ append-nil (tight front))))
+        (more_white is.back_to b (white_is_left reach.place b e) (there ∙ e))
     settle (settled is_settled e) =
         subst (SettledAt (front ++ (b ∷ []))) (sym (e reach.settled (reach.at + 1) ∙ count))
         (here (front ++ (b ∷ [])) (subst IsSettled (sym there) is_settled))
@@ -157,13 +155,10 @@ utf8_to_space : {value front : List ℕ} → IsUtf8 value → Snoc front → (af
     → place_from Start front ≡ Spaced → IsUtf8 front
 utf8_to_space is none after split spaced_there = IsUtf8-nil
 utf8_to_space {value} is (last front b) after split spaced_there =
-    let white = (white_adds_nothing (place_from Start front) b (sym (place_from-append Start front (b ∷ [])) ∙ spaced_there)).0 in
+    let white = white_is_left (place_from Start front) b (sym (place_from-append Start front (b ∷ [])) ∙ spaced_there) in
     let ascii : b < 128 = grind (arith, nat_tests) in
-    let there : slice_get value (length front) ≡ Some b =
-    ap (λ v. slice_get v (length front)) (split ∙ append_assoc front (b ∷ []) after) ∙ slice_get-prefix front b after (length front) refl in
-    let cut : take (length front + 1) value ≡ front ++ (b ∷ []) =
-    ap (take (length front + 1)) (split ∙ append_assoc front (b ∷ []) after) ∙ take-append-add front (b ∷ after) 1 in
-    subst IsUtf8 cut (IsUtf8-take value (length front + 1) is (boundary_after value (length front) b is there ascii))
+    let parts = around front b after ascii (subst IsUtf8 (split ∙ append_assoc front (b ∷ []) after) is) in
+    IsUtf8-append front (b ∷ []) parts.0 (put_one b [] ascii IsUtf8-nil)
 
 -- so the tightened value may be cut where those bytes come out
 pub boundary : {value : List ℕ} {limit : ℕ} {reach : Reach} → IsUtf8 value → (stop : Stops value limit reach)

@@ -1,252 +1,182 @@
--- What is read is what HTTP writes: bytes that tightening makes a syntax tree's text are a media type as HTTP writes it.
-use Rattle.mime_http.proofs.Common.{AreHttpParameters, AreParameters, AreSpaces, AreTokenBytes-from_token, Closed, HttpReads, IsHttpParameter, IsParameter, IsTail, IsToken, IsWellFormed, List, MediaType, Parameter, Parameters, Plain, Reads, Semicolon, SyntaxTree, Tail, [], and_from, and_parts, ap, append-nil, append_assoc, blank, drop, false, final, is_space, is_token_byte, last_plus, length, listed, lowered, more, no_list, no_more, one_reading, place_after, plain, quoted, refl, semicolon, semicolon_and, subst, sym, text_of, text_of_list, text_of_parameter, text_of_tail, tight, tight_from, true, with_string, with_token, ℕ, ◌++◌, ◌+◌, ◌==◌, ◌∙◌, ◌∷◌, ◌≡◌, cases_Bool, eqb-true, ⊎_elim}
-use Rattle.mime_http.proofs.Places.{after_token, after_equals, IsPlainByte, token_is_plain, of_type, of_name}
-use Rattle.mime_http.proofs.HttpForth.{spaces-append, http_is_read}
-use Rattle.mime_http.proofs.OutAgain.{After, and_then, said, any_back, token_byte_back, plain_end_back, plain_semicolon_back, start_back, after_plain_byte, token_back, value_back, content_back, closed_back}
+-- What is read is what HTTP writes: where what comes out of bytes is walked, they are what HTTP writes so far.
+use Rattle.mime_http.proofs.Common.{Begun, Bool, ClosedParameters, HttpReads, IsBegun, IsHttpMediaType, List, ListState, MatchOption, MatchOption-at_some, MediaType, None, Paired, Place, Quoted, Reads, Semicolon, Some, Spaced, Start, SyntaxTree, [], added, after_quotes, and_from, ap, append-nil, append_assoc, arith, awaits_after, by_option, cases_Bool, cond_both, eqb-true, false, grow, if◌then◌else◌, in_list, in_name, in_quotes, in_spaces, in_subtype, in_type, in_value, is_left_out, is_space, is_token_byte, list_at, none-some, one_reading, option_and_then_some, place_after, refl, same_Some, subst, sym, tight, tight_from, tree_of, true, walk, walk-accepted, walk_by-append, walk_from, walk_from-lengthens, ℕ, ⊎_elim, ◌++◌, ◌==◌, ◌∙◌, ◌∷◌, ◌≡◌}
+use Rattle.mime_http.proofs.Places.{IsSettled, LeavesWhite, after_equals, after_token, left_white, place_from, settled_adds}
+use Rattle.mime_http.proofs.HttpForth.{http_is_read}
+use Rattle.mime_http.proofs.Spelled.{EndsSo, Spelled, ended_so, ended_spaces, more_before, respelled, semicolon_next, spaced_after}
+use Rattle.mime_http.proofs.Walked.{Goes, grows_to, place_at, place_in_list}
 
--- ---- parameters
+-- ---- the places at begun trees
 
--- bytes are parameters and white space after them
-record Rest (bytes : List ℕ) : Type 0 where
-  text : List ℕ
-  pairs : List (List ℕ × List ℕ)
-  after : List ℕ
-  is : AreHttpParameters text pairs
-  white : AreSpaces after
-  split : bytes ≡ text ++ after
+-- no white space was left out in a list,
+settled_in_list : (position : ListState) → IsSettled (place_in_list position)
+settled_in_list (in_quotes n name content) = cond_both (awaits_after false content) _ _ IsSettled (λ is. tt) (λ is. tt)
+settled_in_list (in_value n name (v ∷ value)) = tt
+settled_in_list position = tt
 
--- bytes are so after a semicolon with white space around it
-abbrev Goes : List ℕ → Type 0
-Goes bytes = (before after : List ℕ) → AreSpaces before → AreSpaces after → Rest (before ++ (59 ∷ (after ++ bytes)))
+-- nor elsewhere that the library walks
+pub walk_is_settled : (begun : Begun) → IsSettled (place_at begun)
+walk_is_settled (in_list top sub list) = settled_in_list list.position
+walk_is_settled (in_type (t ∷ top)) = tt
+walk_is_settled begun = tt
 
--- at the end,
-goes_end : Goes []
-goes_end before after white also = record {
-  text = before ++ (59 ∷ (after ++ []));
-  pairs = [];
-  after = [];
-  is = semicolon before after [] [] white also no_more;
-  white = refl;
-  split = sym (append-nil _);
-}
+-- where white space is left out a space goes on with nothing,
+pub no_space_grows : (begun : Begun) → LeavesWhite (place_at begun) → grow begun 32 ≡ None
+no_space_grows begun leaves = by_option (grow begun 32) (λ stops. stops) (λ next grew.
+    let goes = MatchOption-at_some (Unit {0}) (Goes begun 32) next grew (grows_to begun 32) in
+    let stays : tight_from (place_at begun) (32 ∷ []) ≡ 32 ∷ [] = goes.0.tightly [] in
+    let left : tight_from (place_at begun) (32 ∷ []) ≡ [] = (left_white leaves 32 refl).tightly [] in
+    absurd (cc))
 
--- before white space,
-goes_space : (b : ℕ) (bytes : List ℕ) → is_space b ≡ true → Goes bytes → Goes (b ∷ bytes)
-goes_space b bytes is goes before after white also =
-    subst Rest (ap (λ x. before ++ (59 ∷ x)) (append_assoc after (b ∷ []) bytes))
-    (goes before (after ++ (b ∷ [])) white (spaces-append after (b ∷ []) also (and_from (is_space b) true is refl)))
+-- ---- the bytes so far
 
--- before another semicolon,
-goes_semicolon : (bytes : List ℕ) → Goes bytes → Goes (59 ∷ bytes)
-goes_semicolon bytes goes before after white also =
-    let next : Rest (59 ∷ bytes) = goes [] [] refl refl in
-    record {
-      text = before ++ (59 ∷ (after ++ next.text));
-      pairs = next.pairs;
-      after = next.after;
-      is = semicolon before after next.text next.pairs white also next.is;
-      white = next.white;
-      split = ap (λ x. before ++ (59 ∷ (after ++ x))) next.split
-          ∙ sym (append_assoc before _ next.after ∙ ap (λ x. before ++ (59 ∷ x)) (append_assoc after next.text next.after));
-    }
+-- Bytes up to a place are spelled as a begun tree; after white space that was left out they are a media type if the tree may end.
+pub data Reached : Place → Begun → List ℕ → Type 0 where
+  is_spelled : (begun : Begun) (front : List ℕ) → IsBegun begun → Spelled begun front → Reached (place_at begun) begun front
+  is_spaced : (begun : Begun) (front : List ℕ) → LeavesWhite (place_at begun) → IsBegun begun
+      → EndsSo begun front → Reached Spaced begun front
 
--- and before a parameter, with what follows it
-goes_parameter : {text : List ℕ} {pair : List ℕ × List ℕ} → IsHttpParameter text pair → (bytes : List ℕ) → Rest bytes → Goes (text ++ bytes)
-goes_parameter {text} {pair} is bytes next before after white also = record {
-  text = before ++ (59 ∷ (after ++ (text ++ next.text)));
-  pairs = pair ∷ next.pairs;
-  after = next.after;
-  is = semicolon_and before after text next.text pair next.pairs white also is next.is;
-  white = next.white;
-  split = ap (λ x. before ++ (59 ∷ (after ++ (text ++ x)))) next.split
-      ∙ sym (append_assoc before _ next.after ∙ (ap (λ x. before ++ (59 ∷ x)) (append_assoc after _ next.after)
-      ∙ ap (λ x. before ++ (59 ∷ (after ++ x))) (append_assoc text next.text next.after)));
-}
+-- where the tree may end they are one
+pub ended_at : {place : Place} {begun : Begun} {front : List ℕ} → Reached place begun front → EndsSo begun front
+ended_at (is_spelled begun front fine is) = ended_so begun front fine is
+ended_at (is_spaced begun front leaves fine is) = is
 
--- what follows a parameter, if it comes out as `out`
-record Continues (out : List ℕ) : Type 0 where
-  plain : (bytes : List ℕ) → tight_from Plain bytes ≡ out → Rest bytes
-  closed : (bytes m : List ℕ) → AreSpaces m → tight_from Closed bytes ≡ m ++ out → Rest bytes
+-- white space after them leaves them so
+white_after : (begun : Begun) (front : List ℕ) (b : ℕ) → is_space b ≡ true → EndsSo begun front
+    → EndsSo begun (front ++ (b ∷ []))
+white_after begun front b white is = elim (tree_of begun) as (λ o. MatchOption o (Unit {0}) (λ tree. IsHttpMediaType front)
+    → MatchOption o (Unit {0}) (λ tree. IsHttpMediaType (front ++ (b ∷ [])))) [
+      | None ↦ λ is. tt
+      | Some tree ↦ λ is. spaced_after is (b ∷ []) (and_from (is_space b) true white refl)
+    ] is
 
--- nothing follows: white space at most
-nothing_follows : Continues []
-nothing_follows = record {
-  plain = λ bytes e. record { text = []; pairs = []; after = bytes; is = no_more; white = plain_end_back bytes e; split = refl };
-  closed = λ bytes m white e.
-      let there = closed_back m bytes [] white e in
-      record {
-        text = [];
-        pairs = [];
-        after = m;
-        is = no_more;
-        white = white;
-        split = there.split ∙ (ap (λ x. m ++ x) (nothing there.rest there.left) ∙ append-nil m);
-      };
-}
+-- the tree may end
+abbrev pub MayEnd : Begun → Type 0
+MayEnd begun = (tree : SyntaxTree) × (tree_of begun ≡ Some tree)
+
+-- after white space that was left out a semicolon begins a list, if the tree may end
+pub record Closes (begun : Begun) (front : List ℕ) (next : Begun) : Type 0 where
+  pub may : MayEnd begun
+  pub place : place_at next ≡ Semicolon
+  pub is : Spelled next (front ++ (59 ∷ []))
+
+-- and none follows if it may not
+pub closes_there : (begun : Begun) (front : List ℕ) → LeavesWhite (place_at begun) → EndsSo begun front
+    → MatchOption (grow begun 59) (Unit {0}) (Closes begun front)
+unfolding is_token_byte
+closes_there (in_type []) front leaves is = tt
+closes_there (in_type (t ∷ top)) front leaves is = tt
+closes_there (in_subtype top []) front leaves is = tt
+closes_there (in_subtype top (s ∷ sub)) front leaves is = record { may = (_, refl); place = refl; is = semicolon_next is }
+closes_there (in_list top sub list) front leaves is = at list.closed list.position leaves is
   where
-    nothing : (rest : List ℕ) → tight_from Closed rest ≡ [] → rest ≡ []
-    nothing [] e = refl
-    nothing (b ∷ rest) e = absurd (cc)
+    not_in_quotes : (awaiting : Bool) → ¬ (LeavesWhite (if awaiting then Paired else Quoted))
+    not_in_quotes true is = elim is [ ]
+    not_in_quotes false is = elim is [ ]
 
--- a semicolon follows, with white space around it
-goes_on_with : (out : List ℕ) → ((bytes : List ℕ) → tight_from Semicolon bytes ≡ out → Goes bytes) → Continues (59 ∷ out)
-goes_on_with out next = record {
-  plain = λ bytes e.
-      let there = plain_semicolon_back bytes out e in
-      subst Rest (sym there.split) (next there.rest there.left there.spaces [] there.white refl);
-  closed = λ bytes m white e.
-      let there = and_then (closed_back m bytes (59 ∷ out) white e) (λ rest left. any_back Closed (λ b. refl) rest 59 out left) in
-      subst Rest (sym (there.split ∙ append_assoc m (59 ∷ []) there.rest)) (next there.rest there.left m [] white refl);
-}
+    at : (closed : ClosedParameters) (position : ListState) → LeavesWhite (place_in_list position)
+        → EndsSo (in_list top sub (list_at closed position)) front
+        → MatchOption (grow (in_list top sub (list_at closed position)) 59) (Unit {0})
+        (Closes (in_list top sub (list_at closed position)) front)
+    at closed (in_value n name (v ∷ value)) leaves is = record { may = (_, refl); place = refl; is = semicolon_next is }
+    at closed (in_quotes n name content) leaves is = absurd (not_in_quotes (awaits_after false content) leaves)
+    at closed (after_quotes n name content m) leaves is = elim leaves [ ]
+    at closed position leaves is = tt
 
--- After a semicolon: white space and semicolons, and what follows them.
-separators_back : (bytes n out : List ℕ) → AreSpaces n → tight_from Semicolon bytes ≡ n ++ out
-    → ((b : ℕ) (rest : List ℕ) → b ∷ tight_from (place_after Semicolon b) rest ≡ out → Goes (b ∷ rest)) → Goes bytes
-separators_back [] n out white e next = goes_end
-separators_back (b ∷ bytes) n out white e next = ⊎_elim
-    (λ (second : (b == 59) ≡ true).
-    let same = eqb-true b 59 second in
-    subst (λ y. Goes (y ∷ bytes)) (sym same) (goes_semicolon bytes
-    (separators_back bytes n out white (subst (λ y. tight_from Semicolon (y ∷ bytes) ≡ n ++ out) same e) next)))
-    (λ (other : (b == 59) ≡ false).
-    go n white (said Semicolon b bytes (b ∷ []) _ (rw other refl) e) (λ n white e. separators_back bytes n out white e next))
-    (cases_Bool (b == 59))
+-- a byte that is left out changes nothing else
+byte_left_out : (begun : Begun) (front : List ℕ) (b : ℕ) → is_left_out (place_at begun) b ≡ true → IsBegun begun → Spelled begun front
+    → Reached (place_after (place_at begun) b) begun (front ++ (b ∷ []))
+byte_left_out begun front b out fine is = go begun out fine is
   where
-    go : (n : List ℕ) → AreSpaces n → b ∷ tight_from (place_after Semicolon b) bytes ≡ n ++ out
-        → ((n : List ℕ) → AreSpaces n → tight_from Semicolon bytes ≡ n ++ out → Goes bytes) → Goes (b ∷ bytes)
-    go [] white e rest = next b bytes e
-    go (c ∷ n) white e rest =
-        let parts = and_parts (is_space c) _ white in
-        let first : b ≡ c = cc in
-        let others : tight_from (place_after Semicolon b) bytes ≡ n ++ out = cc in
-        let space : is_space b ≡ true = ap is_space first ∙ parts.0 in
-        let there : place_after Semicolon b ≡ Semicolon = rw space refl in
-        goes_space b bytes space (rest n parts.1 (subst (λ p. tight_from p bytes ≡ n ++ out) there others))
+    leaves : (begun : Begun) → LeavesWhite (place_at begun) → is_space b ≡ true → IsBegun begun → Spelled begun front
+        → Reached (place_after (place_at begun) b) begun (front ++ (b ∷ []))
+    leaves begun place white fine is =
+        subst (λ p. Reached p begun (front ++ (b ∷ []))) (sym (left_white place b white).there)
+        (is_spaced begun (front ++ (b ∷ [])) place fine (white_after begun front b white (ended_so begun front fine is)))
 
--- Nothing follows them,
-blank_back : (bytes n : List ℕ) → AreSpaces n → tight_from Semicolon bytes ≡ n → Goes bytes
-blank_back bytes n white e = separators_back bytes n [] white (e ∙ sym (append-nil n)) (λ b rest nothing_follows. absurd (cc))
+    at : (top sub : List ℕ) (closed : ClosedParameters) (position : ListState) → is_left_out (place_in_list position) b ≡ true
+        → IsBegun (in_list top sub (list_at closed position)) → Spelled (in_list top sub (list_at closed position)) front
+        → Reached (place_after (place_in_list position) b) (in_list top sub (list_at closed position)) (front ++ (b ∷ []))
+    at top sub closed (in_spaces n) out fine is =
+        subst (λ x. Reached (place_after Semicolon x) (in_list top sub (list_at closed (in_spaces n))) (front ++ (x ∷ [])))
+        (sym (eqb-true b 59 out))
+        (is_spelled (in_list top sub (list_at closed (in_spaces n))) (front ++ (59 ∷ [])) fine
+        (semicolon_next (ended_spaces is)))
+    at top sub closed (in_name n name) out fine is = leaves _ after_token out fine is
+    at top sub closed (in_value n name []) out fine is = leaves _ after_equals out fine is
+    at top sub closed (in_value n name (v ∷ value)) out fine is = leaves _ after_token out fine is
+    at top sub closed state out fine is = absurd (grind arith)
 
--- or a name.
-name_back : (bytes n : List ℕ) (x : ℕ) (out : List ℕ) → AreSpaces n → IsPlainByte x → tight_from Semicolon bytes ≡ n ++ (x ∷ out)
-    → ((rest : List ℕ) → tight_from Plain rest ≡ out → Goes (x ∷ rest)) → Goes bytes
-name_back bytes n x out white is e named = separators_back bytes n (x ∷ out) white e (λ b rest goes.
-    let first : b ≡ x = cc in
-    let others : tight_from (place_after Semicolon b) rest ≡ out = cc in
-    let there : place_after Semicolon b ≡ Plain = ap (place_after Semicolon) first ∙ after_plain_byte of_name x is in
-    subst (λ y. Goes (y ∷ rest)) (sym first) (named rest (subst (λ p. tight_from p rest ≡ out) there others)))
+    go : (begun : Begun) → is_left_out (place_at begun) b ≡ true → IsBegun begun → Spelled begun front
+        → Reached (place_after (place_at begun) b) begun (front ++ (b ∷ []))
+    go (in_type []) out fine is =
+        subst (λ p. Reached p (in_type []) (front ++ (b ∷ []))) {x = Start} (rw out refl)
+        (is_spelled (in_type []) (front ++ (b ∷ [])) fine (more_before is b out))
+    go (in_type (t ∷ top)) out fine is = leaves _ after_token out fine is
+    go (in_subtype top sub) out fine is = leaves _ after_token out fine is
+    go (in_list top sub list) out fine is = at top sub list.closed list.position out fine is
 
--- a parameter, and what goes on after it
-parameter_back : (p : Parameter) → IsParameter p → (bytes n out : List ℕ) → AreSpaces n
-    → tight_from Semicolon bytes ≡ n ++ (text_of_parameter p ++ out) → Continues out → Goes bytes
-parameter_back (plain [] value) is bytes n out white e goes = absurd is.0
-parameter_back (plain (x ∷ name) value) is bytes n out white e goes =
-    let parts = and_parts (is_token_byte x) _ is.0 in
-    name_back bytes n x ((name ++ (61 ∷ value)) ++ out) white (token_is_plain x parts.0) e (λ rest left.
-    let there : After rest (name ++ (61 ∷ value)) Plain out =
-    and_then (token_back name rest (61 ∷ (value ++ out)) parts.1 (left ∙ append_assoc name (61 ∷ value) out))
-    (λ rest left. and_then (token_byte_back after_token rest 61 (value ++ out) refl refl left)
-    (λ rest left. value_back value rest out is.1 left)) in
-    subst Goes (ap (λ r. x ∷ r) (sym there.split))
-    (goes_parameter (with_token (x ∷ name) value is.0 is.1) there.rest (goes.plain there.rest there.left)))
-parameter_back (quoted [] content m) is bytes n out white e goes = absurd is.0
-parameter_back (quoted (x ∷ name) content m) is bytes n out white e goes =
-    let parts = and_parts (is_token_byte x) _ is.0 in
-    name_back bytes n x ((name ++ (61 ∷ 34 ∷ (content ++ (34 ∷ m)))) ++ out) white (token_is_plain x parts.0) e (λ rest left.
-    let there : After rest (name ++ (61 ∷ 34 ∷ (content ++ (34 ∷ [])))) Closed (m ++ out) =
-    and_then (token_back name rest (61 ∷ 34 ∷ (content ++ (34 ∷ (m ++ out)))) parts.1
-    (left ∙ (append_assoc name _ out ∙ ap (λ x. name ++ (61 ∷ 34 ∷ x)) (append_assoc content (34 ∷ m) out))))
-    (λ rest left. and_then (token_byte_back after_token rest 61 (34 ∷ (content ++ (34 ∷ (m ++ out)))) refl refl left)
-    (λ rest left. and_then (token_byte_back after_equals rest 34 (content ++ (34 ∷ (m ++ out))) refl refl left)
-    (λ rest left. content_back is.1 rest (m ++ out) left))) in
-    subst Goes (ap (λ r. x ∷ r) (sym there.split))
-    (goes_parameter (with_string (x ∷ name) content is.0 is.1) there.rest (goes.closed there.rest m is.2 there.left)))
+-- one byte more
+byte_more : {place : Place} {begun : Begun} {front : List ℕ} → Reached place begun front → (b : ℕ) (next : Begun)
+    → walk_from begun (added place b) ≡ Some next → Reached (place_after place b) next (front ++ (b ∷ []))
+byte_more (is_spelled begun front fine is) b next e = ⊎_elim
+    (λ (out : is_left_out (place_at begun) b ≡ true).
+    subst (λ s. Reached (place_after (place_at begun) b) s (front ++ (b ∷ []))) (same_Some begun next (rw out at e))
+    (byte_left_out begun front b out fine is))
+    (λ (kept : is_left_out (place_at begun) b ≡ false).
+    let itself : walk_from begun (b ∷ []) ≡ Some next =
+    ap (walk_from begun) (sym (settled_adds (place_at begun) (walk_is_settled begun) b kept)) ∙ e in
+    option_and_then_some (λ s. Some s) (grow begun b) next itself (λ mid grew same.
+    let goes = MatchOption-at_some (Unit {0}) (Goes begun b) next (grew ∙ same) (grows_to begun b) in
+    subst (λ p. Reached p next (front ++ (b ∷ []))) (sym goes.0.there)
+    (is_spelled next (front ++ (b ∷ [])) (walk_from-lengthens begun (b ∷ []) next fine itself).0 (goes.1 front fine is))))
+    (cases_Bool (is_left_out (place_at begun) b))
+byte_more (is_spaced begun front leaves fine is) b next e = ⊎_elim
+    (λ (white : is_space b ≡ true).
+    subst (λ p. Reached p next (front ++ (b ∷ []))) {x = Spaced} (rw white refl)
+    (subst (λ s. Reached Spaced s (front ++ (b ∷ []))) (same_Some begun next (rw white at e))
+    (is_spaced begun (front ++ (b ∷ [])) leaves fine (white_after begun front b white is))))
+    (λ (other : is_space b ≡ false). ⊎_elim
+    (λ (semicolon : (b == 59) ≡ true).
+    let same : b ≡ 59 = eqb-true b 59 semicolon in
+    let grew : walk_from begun (59 ∷ []) ≡ Some next = subst (λ x. walk_from begun (added Spaced x) ≡ Some next) same e in
+    option_and_then_some (λ s. Some s) (grow begun 59) next grew (λ mid grown last.
+    let closes = MatchOption-at_some (Unit {0}) (Closes begun front) next (grown ∙ last) (closes_there begun front leaves is) in
+    subst (λ x. Reached (place_after Spaced x) next (front ++ (x ∷ []))) (sym same)
+    (subst (λ p. Reached p next (front ++ (59 ∷ []))) closes.place
+    (is_spelled next (front ++ (59 ∷ [])) (walk_from-lengthens begun (59 ∷ []) next fine grew).0 closes.is))))
+    (λ (no : (b == 59) ≡ false).
+    option_and_then_some (λ s. walk_from s (b ∷ [])) (grow begun 32) next (rw (other, no) at e)
+    (λ mid grew last. absurd (none-some mid (sym (no_space_grows begun leaves) ∙ grew))))
+    (cases_Bool (b == 59)))
+    (cases_Bool (is_space b))
 
--- a list that comes out is there, with white space and semicolons beside it,
-list_back : (list : Parameters) → AreParameters list → (bytes : List ℕ) → tight_from Semicolon bytes ≡ text_of_list list → Goes bytes
-list_back (blank n) is bytes e = blank_back bytes n is e
-list_back (final n p) is bytes e = parameter_back p is.1 bytes n [] is.0 (e ∙ ap (λ x. n ++ x) (sym (append-nil _))) nothing_follows
-list_back (more n p list) is bytes e =
-    parameter_back p is.1 bytes n (59 ∷ text_of_list list) is.0 e (goes_on_with (text_of_list list) (list_back list is.2))
+-- and so for all bytes
+bytes_more : (bytes : List ℕ) {place : Place} {begun last : Begun} {front : List ℕ} → Reached place begun front
+    → walk_from begun (tight_from place bytes) ≡ Some last → Reached (place_from place bytes) last (front ++ bytes)
+bytes_more [] {place} {begun} {last} {front} at e =
+    subst (Reached place last) (sym (append-nil front)) (subst (λ s. Reached place s front) (same_Some begun last e) at)
+bytes_more (b ∷ bytes) {place} {begun} {last} {front} at e =
+    option_and_then_some (λ s. walk_from s (tight_from (place_after place b) bytes)) (walk_from begun (added place b)) last
+    (sym (walk_by-append grow begun (added place b) _) ∙ e)
+    (λ next grew goes.
+    subst (Reached (place_from (place_after place b) bytes) last) (append_assoc front (b ∷ []) bytes)
+    (bytes_more bytes (byte_more at b next grew) goes))
 
--- and so is what follows an essence
-tail_back : (tail : Tail) → IsTail tail → Continues (text_of_tail tail)
-tail_back no_list is = nothing_follows
-tail_back (listed list) is = goes_on_with (text_of_list list) (list_back list is)
+-- so they are up to the end of bytes of which a walked text comes out
+pub reached : (front : List ℕ) (begun : Begun) → walk (tight front) ≡ Some begun → Reached (place_from Start front) begun front
+reached front begun e = bytes_more front (is_spelled (in_type []) [] refl (record { before = []; white = refl; split = refl })) e
 
--- ---- the whole
-
--- so a value of which a syntax tree's text comes out is a media type as HTTP writes it
-tree_back : (strict : SyntaxTree) → IsWellFormed strict → (value : List ℕ) → tight value ≡ text_of strict
-    → (media : MediaType) × HttpReads value media
-tree_back strict is value e = go strict.top is.0 e
-  where
-    after : List ℕ
-    after = text_of_tail strict.tail
-
-    go : (top : List ℕ) → IsToken top → tight value ≡ top ++ (47 ∷ (strict.sub ++ after)) → (media : MediaType) × HttpReads value media
-    go [] token e = absurd token
-    go (x ∷ top) token e =
-        let parts = and_parts (is_token_byte x) _ token in
-        let here = start_back value x (top ++ (47 ∷ (strict.sub ++ after))) e in
-        let left = subst (λ p. tight_from p here.rest ≡ top ++ (47 ∷ (strict.sub ++ after)))
-        (after_plain_byte of_type x (token_is_plain x parts.0)) here.left in
-        let there : After here.rest (top ++ (47 ∷ strict.sub)) Plain after =
-        and_then (token_back top here.rest _ parts.1 left)
-        (λ rest left. and_then (token_byte_back after_token rest 47 (strict.sub ++ after) refl refl left)
-        (λ rest left. token_back strict.sub rest after (AreTokenBytes-from_token strict.sub is.1) left)) in
-        let end = (tail_back strict.tail is.2).plain there.rest there.left in (
-          record {
-            essence = lowered (x ∷ top) ++ (47 ∷ lowered strict.sub);
-            slash = length (x ∷ top);
-            plus = last_plus (length (x ∷ top) + 2) (drop 1 (lowered strict.sub));
-            pairs = end.pairs;
-            kept = [];
-          },
-          record {
-            before = here.spaces;
-            top = x ∷ top;
-            sub = strict.sub;
-            parameters = end.text;
-            after = end.after;
-            spelled = sym (here.split ∙ ap (λ r. here.spaces ++ (x ∷ r)) (there.split ∙ (append_assoc top (47 ∷ strict.sub) there.rest
-                ∙ ap (λ r. top ++ (47 ∷ (strict.sub ++ r))) end.split)));
-            white_before = here.white;
-            is_top = token;
-            is_sub = is.1;
-            are_parameters = end.is;
-            white_after = end.white;
-            essence = refl;
-            slash = refl;
-            plus = refl;
-          },
-        )
-
--- The white space before what is read may be any, and so may the kept text.
-pub respelled : {value other : List ℕ} {media : MediaType} (reads : HttpReads value media) (before kept : List ℕ) → AreSpaces before
-    → before ++ (reads.top ++ (47 ∷ (reads.sub ++ (reads.parameters ++ reads.after)))) ≡ other
-    → HttpReads other (record media { kept = kept })
-respelled reads before kept white spelled = record {
-  before = before;
-  top = reads.top;
-  sub = reads.sub;
-  parameters = reads.parameters;
-  after = reads.after;
-  spelled = spelled;
-  white_before = white;
-  is_top = reads.is_top;
-  is_sub = reads.is_sub;
-  are_parameters = reads.are_parameters;
-  white_after = reads.white_after;
-  essence = reads.essence;
-  slash = reads.slash;
-  plus = reads.plus;
-}
+-- after white space that was left out it is left out there
+pub leaves_at : {place : Place} {begun : Begun} {front : List ℕ} → Reached place begun front → place ≡ Spaced → LeavesWhite (place_at begun)
+leaves_at (is_spelled begun front fine is) same = absurd (subst IsSettled same (walk_is_settled begun))
+leaves_at (is_spaced begun front leaves fine is) same = leaves
 
 -- what is read is what HTTP writes, and the media type is the same
 pub read_is_http : (value : List ℕ) (media : MediaType) → Reads (tight value) media → HttpReads value media
 read_is_http value media reads =
-    let found = tree_back reads.tree reads.well_formed value (sym reads.spelled) in
+    let walked = walk-accepted (tight value) (media, reads) in
+    let found = MatchOption-at_some (Unit {0}) (λ tree. IsHttpMediaType value) walked.1 walked.2.1
+    (ended_at (reached value walked.0 walked.2.0)) in
     let again = http_is_read value found.0 found.1 in
-    subst (HttpReads value) (one_reading (tight value) (record (found.0) { kept = again.0 }) media again.1 reads)
+    subst (HttpReads value) (one_reading (tight value) _ media again.1 reads)
     (respelled found.1 found.1.before again.0 found.1.white_before found.1.spelled)

@@ -1,6 +1,6 @@
 -- Worked facts of the pages `HttpMediaType`, `HttpFaults` and `Tight`: a value that is read, values that aren't media types, their faults,
 -- and tightened values.
-use Rattle.mime_http.proofs.Common.{Bool, FaultIsSpare, HttpReads, InvalidToken, IsAccepted, IsContent-taken, IsHttpFault, IsHttpMediaType, IsHttpViable, List, MediaType, MissingSubtype, MissingValue, None, ReadsTight, Tightens, [], accepted-from_complete, another, ap, append_assoc, arith, codes, dead-from_walk, false, false≢true, final, first, in_subtype, is_quoted_byte, is_space, is_token_byte, length, list_all, listed, no_more, not, not_viable-at_dead, quoted, refl, rejected-from_walk, semicolon, semicolon_and, stopped-from_walk, subst, sym, tight, true, viable-from_walk, white, with_string, ℕ, ◌&&◌, ◌++◌, ◌==◌, ◌∙◌, ◌∷◌, ◌≡◌}
+use Rattle.mime_http.proofs.Common.{walk, bytes_eq, bytes_eq-Decides, true≢false, ◌∙◌, Bool, FaultIsSpare, HttpReads, InvalidToken, IsAccepted, IsContent-taken, IsHttpFault, IsHttpMediaType, IsHttpViable, List, MediaType, MissingSubtype, MissingValue, None, ReadsTight, Tightens, [], accepted-from_complete, another, ap, append_assoc, arith, codes, dead-from_walk, false, false≢true, final, first, in_subtype, is_quoted_byte, is_space, is_token_byte, length, list_all, listed, no_more, not, not_viable-at_dead, quoted, refl, rejected-from_walk, semicolon, semicolon_and, stopped-from_walk, subst, sym, tight, true, viable-from_walk, white, with_string, ℕ, ◌&&◌, ◌++◌, ◌==◌, ◌∷◌, ◌≡◌}
 use Rattle.std.proofs.Math.Bool.{and-false}
 use Rattle.mime_http.proofs.Tightened.{tight_is}
 use Rattle.mime_http.proofs.HttpFaults.{longest_at, same_last}
@@ -8,13 +8,15 @@ use Rattle.mime_http.proofs.HttpForth.{http_is_tight}
 use Rattle.mime_http.proofs.HttpLaws.{accepted_from_http, one_tight_reading, tight_is_http}
 use Rattle.mime_http.proofs.HttpViability.{http_from_accepted, viable_from_tight, tight_from_viable, viable_from_accepted, accepted_from_spaced}
 
--- ` text/HTML ;; charset="UTF-8" `, and what is read of it
+-- ` text/HTML ;; charset="UTF-8" `
 abbrev value : List ℕ
 value = codes " text/HTML ;; charset=\"UTF-8\" "
 
+-- its media type, with this kept text
 abbrev html_type : List ℕ → MediaType
 html_type kept = record { essence = codes "text/html"; slash = 4; plus = None; pairs = (codes "charset", codes "utf-8") ∷ []; kept = kept }
 
+-- it is read so
 read : HttpReads value (html_type [])
 unfolding is_token_byte is_quoted_byte
 read = record {
@@ -36,30 +38,15 @@ read = record {
   plus = refl;
 }
 
--- white space around the slash or the equals sign
-no_space_at_slash : ¬ (IsHttpMediaType (codes "a /b"))
-unfolding is_token_byte
-no_space_at_slash is = stopped-from_walk (tight (codes "a /b")) refl (accepted_from_http _ is)
+-- a value of which no beginning is walked is no media type
+never_walked : (value : List ℕ) → walk (tight value) ≡ None → ¬ (IsHttpMediaType value)
+never_walked value stops is = stopped-from_walk (tight value) stops (accepted_from_http value is)
 
--- no white space stands before an equals sign,
-no_space_before_equals : ¬ (IsHttpMediaType (codes "a/b; p =x"))
+-- no white space stands at the slash, nor before an equals sign or after it; no parameter is without a semicolon before it, or a value
+not_allowed : ¬ (IsHttpMediaType (codes "a /b")) × ¬ (IsHttpMediaType (codes "a/b; p =x")) × ¬ (IsHttpMediaType (codes "a/b; p= x"))
+    × ¬ (IsHttpMediaType (codes "a/b p=x")) × ¬ (IsHttpMediaType (codes "a/b;p= ;q=x"))
 unfolding is_token_byte
-no_space_before_equals is = stopped-from_walk (tight (codes "a/b; p =x")) refl (accepted_from_http _ is)
-
--- nor after one
-no_space_after_equals : ¬ (IsHttpMediaType (codes "a/b; p= x"))
-unfolding is_token_byte
-no_space_after_equals is = stopped-from_walk (tight (codes "a/b; p= x")) refl (accepted_from_http _ is)
-
--- a parameter with no semicolon before it, and with no value
-no_semicolon : ¬ (IsHttpMediaType (codes "a/b p=x"))
-unfolding is_token_byte
-no_semicolon is = stopped-from_walk (tight (codes "a/b p=x")) refl (accepted_from_http _ is)
-
--- a value isn't empty
-no_value : ¬ (IsHttpMediaType (codes "a/b;p= ;q=x"))
-unfolding is_token_byte
-no_value is = stopped-from_walk (tight (codes "a/b;p= ;q=x")) refl (accepted_from_http _ is)
+not_allowed = (never_walked _ refl, never_walked _ refl, never_walked _ refl, never_walked _ refl, never_walked _ refl)
 
 -- an open quoted string
 not_closed : ¬ (IsHttpMediaType (codes "a/b;p=\"x"))
@@ -129,7 +116,11 @@ kept_tight = (
   codes "text/HTML; charset=\"UTF-8\" ",
   tightened,
   record {
-    tree = record { top = codes "text"; sub = codes "HTML"; tail = listed (final (codes " ") (quoted (codes "charset") (codes "UTF-8") (codes " "))) };
+    tree = record {
+      top = codes "text";
+      sub = codes "HTML";
+      tail = listed (final (codes " ") (quoted (codes "charset") (codes "UTF-8") (codes " ")));
+    };
     well_formed = (refl, refl, (refl, (refl, IsContent-taken (codes "UTF-8") refl refl, refl)));
     spelled = refl;
     valued = refl;
@@ -140,40 +131,34 @@ kept_tight = (
 kept_whole : ¬ (ReadsTight value (html_type (codes "text/html")))
 kept_whole reads = omega (arith, ap (λ (media : MediaType). length media.kept) (one_tight_reading _ _ _ reads kept_tight))
 
--- white space at the end doesn't stay after a token,
-not_at_end : ¬ (Tightens 32 (codes "a/b;p=x ") (codes "a/b;p=x "))
-not_at_end is = omega (arith, ap length (tight_is is))
+-- no other text is left than what comes out
+no_other : (value text : List ℕ) → bytes_eq (tight value) text ≡ false → ¬ (Tightens 32 value text)
+no_other value text differs is = true≢false (sym ((bytes_eq-Decides (tight value) text).1 (tight_is is)) ∙ differs)
 
--- nor before a semicolon there,
-not_before_semicolon : ¬ (Tightens 32 (codes "a/b ;") (codes "a/b ;"))
-not_before_semicolon is = omega (arith, ap length (tight_is is))
-
--- but after one,
-white_after_semicolon : ¬ (Tightens 32 (codes "a/b; ;p=x") (codes "a/b;p=x"))
-white_after_semicolon is = omega (arith, ap length (tight_is is))
-
--- and so does a semicolon at the end, but no second one
-last_semicolon : ¬ (Tightens 32 (codes "a/b;") (codes "a/b"))
-last_semicolon is = omega (arith, ap length (tight_is is))
-
-not_another : ¬ (Tightens 32 (codes "a/b;;") (codes "a/b;;"))
-not_another is = omega (arith, ap length (tight_is is))
+-- white space stays neither at the end after a token nor before a semicolon there, but after one; and a semicolon does at the end, but no
+-- second one
+not_left : ¬ (Tightens 32 (codes "a/b;p=x ") (codes "a/b;p=x ")) × ¬ (Tightens 32 (codes "a/b ;") (codes "a/b ;"))
+    × ¬ (Tightens 32 (codes "a/b; ;p=x") (codes "a/b;p=x")) × ¬ (Tightens 32 (codes "a/b;") (codes "a/b"))
+    × ¬ (Tightens 32 (codes "a/b;;") (codes "a/b;;"))
+not_left = (no_other _ _ refl, no_other _ _ refl, no_other _ _ refl, no_other _ _ refl, no_other _ _ refl)
 
 -- white space within a type isn't left out
 not_within : (media : MediaType) → ¬ (ReadsTight (codes "te xt/html") media)
 unfolding is_token_byte
-not_within media reads = stopped-from_walk (tight (codes "te xt/html")) refl (accepted_from_http _ (media, tight_is_http _ media reads))
+not_within media reads = never_walked _ refl (media, tight_is_http _ media reads)
 
 -- ---- spare bytes
 
--- the library's fault of ` a` is the first byte, that of `a ;` the space before a semicolon, and that of `a/b;;` the second semicolon
+-- the library's fault of ` a` is the first byte,
 at_start : FaultIsSpare (codes " a")
 at_start = first 32 (codes "a") refl
 
+-- that of `a ;` the space before a semicolon,
 white_before_semicolon : FaultIsSpare (codes "a ;")
 unfolding is_token_byte
 white_before_semicolon = white (codes "a") [] [] 32 refl refl (dead-from_walk (codes "a") (codes ";") 32 _ refl refl)
 
+-- and that of `a/b;;` the second semicolon
 second_semicolon : FaultIsSpare (codes "a/b;;")
 unfolding is_token_byte
 second_semicolon = another (codes "a/b") [] 59 refl (dead-from_walk (codes "a/b;") [] 59 _ refl refl)
@@ -183,6 +168,7 @@ has_semicolon : (xs ys : List ℕ) → list_all (λ b. not (b == 59)) (xs ++ (59
 has_semicolon [] ys = refl
 has_semicolon (b ∷ xs) ys = ap (λ t. not (b == 59) && t) (has_semicolon xs ys) ∙ and-false (not (b == 59))
 
+-- `a b` has none
 not_spare : ¬ (FaultIsSpare (codes "a b"))
 not_spare is = go is refl
   where

@@ -1,9 +1,9 @@
 -- The fault of a value, from that of what is left of it.
-use Rattle.mime_http.proofs.Common.{Closed, EndsIn, Equals, HttpLacks, InvalidToken, IsAccepted, IsFault, IsHttpFault, IsHttpLongestPrefix, IsHttpViable, IsViable, Lacks, List, MissingEqual, MissingQuote, MissingSlash, MissingSubtype, MissingValue, Paired, ParseError, Place, Plain, Quoted, Reach, Semicolon, Some, Spaced, Start, [], added, ap, append-nil, append_assoc, arith, brought_back, completed_is_rejected, false≢true, inl, inr, is_left_out, length, length-append, limit_of, place_after, prefix_of_viable_is_viable, refl, same_Some, slice_get, slice_get-prefix, slice_get_within, subst, suc, sym, take, take-append-add, take-append_seam, take-length, tight, tight_from, true, viable-from_lacks, ℕ, ⊤, ◌++◌, ◌+◌, ◌-◌, ◌<◌, ◌∙◌, ◌∷◌, ◌≡◌, ◌≤◌, ◌⊎◌, cases_Bool, ⊎_elim, nil_from_length}
-use Rattle.mime_http.proofs.Places.{place_from, place_from-append}
-use Rattle.mime_http.proofs.PlacesAgain.{IsSettled, kept_adds, no_space}
-use Rattle.mime_http.proofs.HttpViability.{tight-append, settled_end, goes_on_as, viable_from_tight, tight_from_viable, accepted_from_spaced, viable_from_accepted, prefix_of_http_viable}
-use Rattle.mime_http.proofs.HowFar.{SettledAt, Stops, tight_one, Snoc, snoc, here, back, none, last}
+use Rattle.mime_http.proofs.Common.{EndsIn, Equals, HttpLacks, InvalidToken, IsAccepted, IsFault, IsHttpFault, IsHttpLongestPrefix, IsHttpMediaType, IsHttpViable, IsViable, Lacks, List, MatchOption, MissingEqual, MissingQuote, MissingSlash, MissingSubtype, MissingValue, ParseError, Place, Plain, Quoted, Reach, Some, Spaced, Start, [], added, and_from, and_parts, ap, append-nil, append_assoc, arith, brought_back, codes, completed_is_rejected, false, inl, inr, is_left_out, is_space, length, length-append, limit_of, nat_tests, nil_from_length, place_after, prefix_of_viable_is_viable, refl, same_Some, slice_get, slice_get-prefix, slice_get_within, subst, suc, sym, take, take-append-add, take-append_seam, take-length, tight, tight_from, true, viable-from_lacks, ℕ, ⊤, ◌++◌, ◌+◌, ◌-◌, ◌<◌, ◌∙◌, ◌∷◌, ◌≡◌, ◌≤◌, ◌⊎◌}
+use Rattle.mime.specs.Faults.{completion_of, last_byte_of}
+use Rattle.mime_http.proofs.Places.{IsSettled, comes_out, leaves_settled, place_from, place_from-append}
+use Rattle.mime_http.proofs.HttpViability.{accepted_from_spaced, goes_on_as, prefix_of_http_viable, settled_end, spaced_end, tight-append, tight_accepted, tight_from_viable, viable_from_accepted, viable_from_tight}
+use Rattle.mime_http.proofs.HowFar.{SettledAt, Snoc, Stops, back, here, last, none, snoc, tight_one}
 
 -- ---- the longest beginning that is viable
 
@@ -72,54 +72,76 @@ pub busy_after : (place : Place) → IsBusy (place_after place 47) × IsBusy (pl
 busy_after Equals = (tt, tt)
 busy_after place = (tt, tt)
 
--- a byte that leads there is the last that it adds
-pub record AddsItself (place : Place) (b : ℕ) : Type 0 where
-  pub before : List ℕ
-  pub adds : added place b ≡ before ++ (b ∷ [])
-
--- and no byte that is left out
-left_out_idle : (place : Place) (b : ℕ) → is_left_out place b ≡ true → ¬ (IsBusy (place_after place b))
-left_out_idle Quoted b out busy = false≢true out
-left_out_idle Paired b out busy = false≢true out
-left_out_idle Closed b out busy = false≢true out
-left_out_idle Semicolon b out busy = subst IsBusy {y = Semicolon} (rw (no_space b out, out) refl) busy
-left_out_idle Start b out busy = subst IsBusy {y = Start} (rw out refl) busy
-left_out_idle place b out busy = subst IsBusy {y = Spaced} (rw out refl) busy
-
--- so a byte that leads there adds itself last
-pub adds_itself : (place : Place) (b : ℕ) → IsBusy (place_after place b) → AddsItself place b
-adds_itself place b busy = ⊎_elim
-    (λ out. absurd (left_out_idle place b out busy))
-    (λ kept. record { before = brought_back place b; adds = kept_adds place b kept })
-    (cases_Bool (is_left_out place b))
+-- a byte that leads there comes out, after what comes back before it
+pub busy_adds : (place : Place) (b : ℕ) → IsBusy (place_after place b) → added place b ≡ brought_back place b ++ (b ∷ [])
+busy_adds place b busy = let kept : is_left_out place b ≡ false = grind (arith, nat_tests) in rw kept refl
 
 -- a value ends in a byte that leads there if what comes out of it does
 ends_in : (value : List ℕ) (b : ℕ) → ((place : Place) → IsBusy (place_after place b)) → IsSettled (place_from Start value)
-    → EndsIn (tight value) b → EndsIn value b
-ends_in value b busy at_rest (prefix, ends) = go (snoc value) at_rest ends
+    → IsViable (tight value) → EndsIn (tight value) b → EndsIn value b
+ends_in value b busy at_rest viable (prefix, ends) = go (snoc value) at_rest viable ends
   where
-    go : {value : List ℕ} → Snoc value → IsSettled (place_from Start value) → tight value ≡ prefix ++ (b ∷ []) → EndsIn value b
-    go none at_rest ends = absurd (omega (arith, ap length ends, length-append prefix (b ∷ [])))
-    go (last front c) at_rest ends =
+    go : {value : List ℕ} → Snoc value → IsSettled (place_from Start value) → IsViable (tight value) → tight value ≡ prefix ++ (b ∷ [])
+        → EndsIn value b
+    go none at_rest viable ends = absurd (omega (arith, ap length ends, length-append prefix (b ∷ [])))
+    go (last front c) at_rest viable ends =
         let there : place_after (place_from Start prefix) b ≡ place_after (place_from Start front) c =
-        sym (place_from-append Start prefix (b ∷ [])) ∙ (ap (place_from Start) (sym ends) ∙ (settled_end (front ++ (c ∷ [])) at_rest
+        sym (place_from-append Start prefix (b ∷ [])) ∙ (ap (place_from Start) (sym ends) ∙ (settled_end (front ++ (c ∷ [])) at_rest viable
         ∙ place_from-append Start front (c ∷ []))) in
-        let adds = adds_itself (place_from Start front) c (subst IsBusy there (busy (place_from Start prefix))) in
-        let text : (tight front ++ adds.before) ++ (c ∷ []) ≡ prefix ++ (b ∷ []) =
-        append_assoc (tight front) adds.before (c ∷ []) ∙ (ap (λ x. tight front ++ x) (sym adds.adds) ∙ (sym (tight_one front c) ∙ ends)) in
-        (front, ap (λ x. front ++ (x ∷ [])) (same_last (tight front ++ adds.before) prefix c b text))
+        let adds = busy_adds (place_from Start front) c (subst IsBusy there (busy (place_from Start prefix))) in
+        let text : (tight front ++ brought_back (place_from Start front) c) ++ (c ∷ []) ≡ prefix ++ (b ∷ []) =
+        append_assoc (tight front) _ (c ∷ []) ∙ (ap (λ x. tight front ++ x) (sym adds) ∙ (sym (tight_one front c) ∙ ends)) in
+        (front, ap (λ x. front ++ (x ∷ [])) (same_last _ prefix c b text))
+
+-- and the other way
+pub ends_too : (value : List ℕ) (b : ℕ) → ((place : Place) → IsBusy (place_after place b)) → EndsIn value b → EndsIn (tight value) b
+ends_too value b busy (front, ends) =
+    let place = place_from Start front in (
+      tight front ++ brought_back place b,
+      ap tight ends ∙ (tight_one front b ∙ (ap (λ x. tight front ++ x) (busy_adds place b (busy place))
+          ∙ sym (append_assoc (tight front) _ (b ∷ [])))),
+    )
+
+-- what completes a value comes out as it is, unless white space was left out before it
+record Completes (place : Place) : Type 0 where
+  slash : tight_from place (codes "x/x") ≡ codes "x/x"
+  text : tight_from place (codes "x") ≡ codes "x"
+  equal : tight_from place (codes "=x") ≡ codes "=x"
+  quote : tight_from place (codes "x\"") ≡ codes "x\""
+
+-- it does from each settled place
+completes : (place : Place) → IsSettled place → Completes place
+completes Spaced is = absurd is
+completes place is = record { slash = refl; text = refl; equal = refl; quote = refl }
+
+-- So what a value lacks that is settled may be said otherwise.
+pub lacks_too : {A B : List ℕ → Type 0} {C D : ℕ → Type 0} (place : Place) → IsSettled place
+    → ((text : List ℕ) → tight_from place text ≡ text → A text → B text)
+    → ((b : ℕ) → ((place : Place) → IsBusy (place_after place b)) → C b → D b) → (fault : ParseError)
+    → MatchOption (completion_of fault) ⊥ A × MatchOption (last_byte_of fault) ⊤ C
+    → MatchOption (completion_of fault) ⊥ B × MatchOption (last_byte_of fault) ⊤ D
+lacks_too place at_rest on_text on_byte MissingSlash is = (on_text _ (completes place at_rest).slash is.0, tt)
+lacks_too place at_rest on_text on_byte MissingSubtype is =
+    (on_text _ (completes place at_rest).text is.0, on_byte 47 (λ place. (busy_after place).0) is.1)
+lacks_too place at_rest on_text on_byte MissingEqual is = (on_text _ (completes place at_rest).equal is.0, tt)
+lacks_too place at_rest on_text on_byte MissingValue is =
+    (on_text _ (completes place at_rest).text is.0, on_byte 61 (λ place. (busy_after place).1) is.1)
+lacks_too place at_rest on_text on_byte MissingQuote is = (on_text _ (completes place at_rest).quote is.0, tt)
+lacks_too place at_rest on_text on_byte other is = absurd is.0
 
 -- what is missing from what is left is missing from the value, unless white space was left out at its end
 pub end_lacks : (value : List ℕ) (fault : ParseError) → IsSettled (place_from Start value) → Lacks (tight value) fault
     → HttpLacks value fault
-end_lacks value MissingSlash at_rest lacks = (goes_on_as value _ at_rest lacks.0, tt)
-end_lacks value MissingSubtype at_rest lacks =
-    (goes_on_as value _ at_rest lacks.0, ends_in value 47 (λ place. (busy_after place).0) at_rest lacks.1)
-end_lacks value MissingEqual at_rest lacks = (goes_on_as value _ at_rest lacks.0, tt)
-end_lacks value MissingValue at_rest lacks =
-    (goes_on_as value _ at_rest lacks.0, ends_in value 61 (λ place. (busy_after place).1) at_rest lacks.1)
-end_lacks value MissingQuote at_rest lacks = (goes_on_as value _ at_rest lacks.0, tt)
-end_lacks value other at_rest lacks = absurd lacks.0
+end_lacks value fault at_rest lacks =
+    lacks_too (place_from Start value) at_rest (λ text same is. goes_on_as value text at_rest is)
+    (λ b busy ends. ends_in value b busy at_rest (viable-from_lacks (tight value) fault lacks) ends) fault lacks
+
+-- and the other way
+pub lacks_tight : (value : List ℕ) (fault : ParseError) → IsSettled (place_from Start value) → HttpLacks value fault
+    → Lacks (tight value) fault
+lacks_tight value fault at_rest lacks =
+    lacks_too (place_from Start value) at_rest
+    (λ text same is. subst (λ x. IsAccepted (tight value ++ x)) same (tight_accepted value text is)) (ends_too value) fault lacks
 
 -- ---- the fault
 
@@ -136,17 +158,39 @@ fault_at_end value (InvalidToken pos byte) dead within or =
 fault_at_end value other lacks within (inl at_rest) = end_lacks value other at_rest lacks
 fault_at_end value other lacks within (inr is) = absurd (completed_is_rejected (tight value) other lacks is)
 
--- how far the value goes is viable, and dies with the next byte
-record Reached (value : List ℕ) (fault : ParseError) (reach : Reach) (front after : List ℕ) : Type 0 where
-  split : value ≡ front ++ after
-  viable : IsViable (tight front)
-  dies : (b : ℕ) (bytes : List ℕ) → after ≡ b ∷ bytes → IsHttpViable (front ++ (b ∷ [])) → ⊥
+-- bytes of which what comes out is viable, and that die with the next byte
+pub record Halts (front after : List ℕ) : Type 0 where
+  pub viable : IsViable (tight front)
+  pub dies : (b : ℕ) (bytes : List ℕ) → after ≡ b ∷ bytes → ¬ (IsHttpViable (front ++ (b ∷ [])))
+
+-- they are the longest prefix that is viable if no white space was left out at their end, or they may end,
+pub halts_here : {front after : List ℕ} → Halts front after → IsSettled (place_from Start front) ⊎ IsAccepted (tight front)
+    → IsHttpLongestPrefix (front ++ after) (length front)
+halts_here {front} {after} halts (inl at_rest) = longest_at front after (viable_from_tight front at_rest halts.viable) halts.dies
+halts_here {front} {after} halts (inr accepted) = longest_at front after (viable_from_accepted front accepted) halts.dies
+
+-- and else those before that white space are
+pub halts_before : {front after : List ℕ} {n : ℕ} → Halts front after → SettledAt front n → place_from Start front ≡ Spaced
+    → ¬ (IsAccepted (tight front)) → IsHttpLongestPrefix (front ++ after) n
+halts_before halts (here front at_rest) spaced_there rejected = absurd (subst IsSettled spaced_there at_rest)
+halts_before {after = after} halts (back front c white leaves all) spaced_there rejected =
+    let first = spaced_end front c [] leaves (and_from (is_space c) true (and_parts (is_space c) _ all).0 refl) in
+    let both = comes_out (spaced_end front c white leaves all) in
+    longest_before front c (white ++ after) (sym (append_assoc front (c ∷ white) after)) refl
+    (viable_from_tight front (leaves_settled leaves) (subst IsViable both halts.viable))
+    (λ begins. rejected (subst IsAccepted (comes_out first ∙ sym both) (accepted_from_spaced (front ++ (c ∷ [])) first.there begins)))
+
+-- so HTTP rejects them with more after them
+pub halts_rejects : {front after : List ℕ} → Halts front after → 0 < length after → ¬ (IsHttpMediaType (front ++ after))
+halts_rejects {after = []} halts some is = absurd (omega (arith, some))
+halts_rejects {front = front} {after = b ∷ bytes} halts some is =
+    halts.dies b bytes refl (prefix_of_http_viable (front ++ (b ∷ [])) bytes
+    ([], subst IsHttpMediaType (sym (append-nil _ ∙ append_assoc front (b ∷ []) bytes)) is))
 
 -- so it is where the fault of the tightened value is reached
-reached : (value : List ℕ) (fault : ParseError) (reach : Reach) → IsFault (tight value) fault
-    → (stop : Stops value (limit_of (tight value) fault) reach) → Reached value fault reach stop.front stop.after
-reached value fault reach is stop = record {
-  split = stop.split;
+stopped : (value : List ℕ) (fault : ParseError) (reach : Reach) → IsFault (tight value) fault
+    → (stop : Stops value (limit_of (tight value) fault) reach) → Halts stop.front stop.after
+stopped value fault reach is stop = record {
   viable =
       let rest = tight_from (place_from Start stop.front) stop.after in
       let text : take (limit_of (tight value) fault) (tight value) ≡ tight stop.front ++ take reach.left rest =
@@ -169,40 +213,34 @@ reached value fault reach is stop = record {
 pub fault_here : (value : List ℕ) (fault : ParseError) (reach : Reach) → IsFault (tight value) fault
     → (stop : Stops value (limit_of (tight value) fault) reach)
     → IsSettled (place_from Start stop.front) ⊎ IsAccepted (tight stop.front) → FaultAt value fault reach.at
-fault_here value fault reach is stop or =
-    let there = reached value fault reach is stop in
-    record {
-      prefix = subst (λ n. IsHttpLongestPrefix value n) (sym stop.so_far.at)
-          (subst (λ v. IsHttpLongestPrefix v (length stop.front)) (sym stop.split)
-          (longest_at stop.front stop.after (viable or there.viable) there.dies));
-      end = λ over.
-          let none : stop.after ≡ [] =
-          nil_from_length stop.after (omega (arith, over, stop.so_far.at, ap length stop.split, length-append stop.front stop.after)) in
-          let whole : value ≡ stop.front = stop.split ∙ (ap (λ x. stop.front ++ x) none ∙ append-nil stop.front) in
-          fault_at_end value fault is
-          (omega (arith, stop.so_far.out, ap (λ v. length (tight v)) whole))
-          (subst (λ v. IsSettled (place_from Start v) ⊎ IsAccepted (tight v)) (sym whole) or);
-    }
-  where
-    viable : IsSettled (place_from Start stop.front) ⊎ IsAccepted (tight stop.front) → IsViable (tight stop.front) → IsHttpViable stop.front
-    viable (inl at_rest) core = viable_from_tight stop.front at_rest core
-    viable (inr accepted) core = viable_from_accepted stop.front accepted
+fault_here value fault reach is stop or = record {
+  prefix = subst (IsHttpLongestPrefix value) (sym stop.so_far.at)
+      (subst (λ v. IsHttpLongestPrefix v (length stop.front)) (sym stop.split) (halts_here (stopped value fault reach is stop) or));
+  end = λ over.
+      let none : stop.after ≡ [] =
+      nil_from_length stop.after (omega (arith, over, stop.so_far.at, ap length stop.split, length-append stop.front stop.after)) in
+      let whole : value ≡ stop.front = stop.split ∙ (ap (λ x. stop.front ++ x) none ∙ append-nil stop.front) in
+      fault_at_end value fault is
+      (omega (arith, stop.so_far.out, ap (λ v. length (tight v)) whole))
+      (subst (λ v. IsSettled (place_from Start v) ⊎ IsAccepted (tight v)) (sym whole) or);
+}
 
 -- where it may neither end nor go on, the white space that was left out is
 pub fault_before : (value : List ℕ) (fault : ParseError) (reach : Reach) → IsFault (tight value) fault
     → (stop : Stops value (limit_of (tight value) fault) reach)
     → place_from Start stop.front ≡ Spaced → ¬ (IsAccepted (tight stop.front)) → FaultAt value fault reach.settled
-fault_before value fault reach is stop spaced_there rejected =
-    go stop.so_far.back_to spaced_there rejected (reached value fault reach is stop)
+fault_before value fault reach is stop spaced_there rejected = record {
+  prefix = subst (λ v. IsHttpLongestPrefix v reach.settled) (sym stop.split)
+      (halts_before (stopped value fault reach is stop) stop.so_far.back_to spaced_there rejected);
+  end = λ over. absurd (omega (
+    arith,
+    over,
+    ap length stop.split,
+    length-append stop.front stop.after,
+    settled_within stop.so_far.back_to spaced_there,
+  ));
+}
   where
-    go : {front after : List ℕ} {n : ℕ} → SettledAt front n → place_from Start front ≡ Spaced → ¬ (IsAccepted (tight front))
-        → Reached value fault reach front after → FaultAt value fault n
-    go (here front at_rest) spaced_there rejected there = absurd (subst IsSettled spaced_there at_rest)
-    go {after = after} (back front c white at_rest first one all) spaced_there rejected there =
-        let split : value ≡ front ++ (c ∷ (white ++ after)) = there.split ∙ append_assoc front (c ∷ white) after in
-        record {
-          prefix = longest_before front c (white ++ after) (sym split) refl
-              (viable_from_tight front at_rest (subst IsViable all there.viable))
-              (λ begins. rejected (subst IsAccepted (one ∙ sym all) (accepted_from_spaced (front ++ (c ∷ [])) first begins)));
-          end = λ over. absurd (omega (arith, over, ap length split, length-append front (c ∷ (white ++ after))));
-        }
+    settled_within : {front : List ℕ} {n : ℕ} → SettledAt front n → place_from Start front ≡ Spaced → n < length front
+    settled_within (here front at_rest) spaced_there = absurd (subst IsSettled spaced_there at_rest)
+    settled_within (back front c white leaves all) spaced_there = omega (arith, length-append front (c ∷ white))

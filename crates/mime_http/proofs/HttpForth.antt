@@ -1,11 +1,7 @@
 -- What HTTP writes is read: tightened, it is the text of a syntax tree with the same parts.
-use Rattle.mime_http.proofs.Common.{AreHttpParameters, AreParameters, AreSpaces, AreTokenBytes, HttpIsRead, HttpReads, IsHttpParameter, IsParameter, IsTail, IsToken, List, MediaType, Parameter, Parameters, Reads, SyntaxTree, Tail, Tightens, [], a_byte, a_semicolon, a_string, and_from, and_parts, ap, append-nil, append_assoc, at_end, before_token, blank, final, is_space, is_token_byte, list_all-append, listed, lowered_list, lowered_parameter, lowered_tail, more, no_list, no_more, pair_of, pairs_of_list, pairs_of_tail, plain, quoted, refl, semicolon, semicolon_and, subst, sym, text_of, text_of_list, text_of_parameter, text_of_tail, tight, true, value_of, with_string, with_token, ℕ, ◌++◌, ◌∙◌, ◌∷◌, ◌≡◌}
-use Rattle.mime_http.proofs.Places.{token_is_plain}
+use Rattle.mime_http.proofs.Common.{AreHttpParameters, AreParameters, AreSpaces, AreTokenBytes, HttpIsRead, HttpReads, IsHttpParameter, IsParameter, IsTail, IsToken, List, MediaType, Parameter, Parameters, Reads, SyntaxTree, Tail, Tightens, [], a_byte, a_semicolon, a_string, and_parts, ap, append-nil, append_assoc, at_end, before_token, blank, final, is_token_byte, listed, lowered_list, lowered_parameter, lowered_tail, more, no_list, no_more, pair_of, pairs_of_list, pairs_of_tail, plain, quoted, refl, semicolon, semicolon_and, subst, sym, text_of, text_of_list, text_of_parameter, text_of_tail, tight, true, value_of, with_string, with_token, ℕ, ◌++◌, ◌∷◌, ◌≡◌}
+use Rattle.mime_http.proofs.Places.{regrouping, spaces-append, token_is_plain}
 use Rattle.mime_http.proofs.Tightened.{IsOther, other_byte, tight_is}
-
--- white space after white space is white space
-pub spaces-append : (n m : List ℕ) → AreSpaces n → AreSpaces m → AreSpaces (n ++ m)
-spaces-append n m first second = list_all-append is_space n m ∙ and_from _ _ first second
 
 -- a token byte stays
 byte_left : (b : ℕ) → is_token_byte b ≡ true → (last : ℕ) → {rest text : List ℕ} → (IsOther b → Tightens b rest text)
@@ -14,13 +10,14 @@ byte_left b token last {rest} {text} after =
     let is = token_is_plain b token in
     a_byte last b rest text is.space is.semicolon is.quote (after (other_byte b is.space is.semicolon is.quote))
 
--- and so do more of them, and a token
+-- and so do more of them,
 bytes_left : (token : List ℕ) → AreTokenBytes token → {rest text : List ℕ} → ((last : ℕ) → IsOther last → Tightens last rest text)
     → (last : ℕ) → IsOther last → Tightens last (token ++ rest) (token ++ text)
 bytes_left [] all after last is = after last is
 bytes_left (b ∷ token) all after last is =
     let parts = and_parts (is_token_byte b) _ all in byte_left b parts.0 last (bytes_left token parts.1 after b)
 
+-- and a token
 token_left : (token : List ℕ) → IsToken token → {rest text : List ℕ} → ((last : ℕ) → IsOther last → Tightens last rest text) → (last : ℕ)
     → Tightens last (token ++ rest) (token ++ text)
 token_left [] is after last = absurd is
@@ -80,27 +77,23 @@ parameter_first p is no_list fine {bytes} left has = record {
 parameter_first p is (listed list) fine left has =
     record { list = more [] p list; is = (refl, is, fine); left = left; has = ap (λ ps. pair_of (lowered_parameter p) ∷ ps) has }
 
+-- bytes and what is left of them may be grouped otherwise
+regrouped : {last : ℕ} {bytes same text also : List ℕ} → bytes ≡ same → text ≡ also → Tightens last bytes text → Tightens last same also
+regrouped {last} {also = also} there left is = subst (λ x. Tightens last x also) there (subst (Tightens last _) left is)
+
 -- so a parameter as HTTP writes it is read, in quotes with the white space after it
 with_parameter : {text : List ℕ} {pair : List ℕ × List ℕ} → IsHttpParameter text pair → (bytes : List ℕ) {pairs : List (List ℕ × List ℕ)}
     → Tailed bytes pairs → Listed (text ++ bytes) (pair ∷ pairs)
 with_parameter (with_token name value named valued) bytes after =
-    let out = text_of_tail after.tail in
     parameter_first (plain name value) (named, valued) after.tail after.is
-    (subst (Tightens 59 ((name ++ (61 ∷ value)) ++ bytes)) (sym (append_assoc name (61 ∷ value) out))
-    (subst (λ x. Tightens 59 x (name ++ (61 ∷ (value ++ out)))) (sym (append_assoc name (61 ∷ value) bytes))
-    (token_left name named (λ last is. a_byte last 61 (value ++ bytes) (value ++ out) refl refl refl
-    (token_left value valued after.token 61)) 59)))
+    (regrouped (simp regrouping) (simp regrouping) (token_left name named
+    (λ last is. a_byte last 61 (value ++ bytes) (value ++ text_of_tail after.tail) refl refl refl
+    (token_left value valued after.token 61)) 59))
     after.has
 with_parameter (with_string name content named valued) bytes after =
-    let m = after.spaces in
-    let out = text_of_tail after.tail in
-    let text = (name ++ (61 ∷ 34 ∷ (content ++ (34 ∷ [])))) ++ bytes in
-    let grouped : text ≡ name ++ (61 ∷ 34 ∷ (content ++ (34 ∷ bytes))) =
-    append_assoc name _ bytes ∙ ap (λ x. name ++ (61 ∷ 34 ∷ x)) (append_assoc content (34 ∷ []) bytes) in
-    parameter_first (quoted name content m) (named, valued, after.white) after.tail after.is
-    (subst (Tightens 59 text) (ap (λ x. name ++ (61 ∷ 34 ∷ x)) (sym (append_assoc content (34 ∷ m) out)) ∙ sym (append_assoc name _ out))
-    (subst (λ x. Tightens 59 x (name ++ (61 ∷ 34 ∷ (content ++ (34 ∷ (m ++ out)))))) (sym grouped)
-    (token_left name named (λ last is. a_string last content bytes (m ++ out) valued after.string) 59)))
+    parameter_first (quoted name content after.spaces) (named, valued, after.white) after.tail after.is
+    (regrouped (simp regrouping) (simp regrouping) (token_left name named
+    (λ last is. a_string last content bytes (after.spaces ++ text_of_tail after.tail) valued after.string) 59))
     after.has
 
 -- ---- parameters and the white space after them
@@ -148,12 +141,10 @@ forth no_more after white = record {
   listed = record { list = blank after; is = white; left = at_end 59 after white; has = refl };
 }
 forth (semicolon b a rest pairs white_before white_after is) after white =
-    subst (λ bytes. Both bytes pairs) (sym (append_assoc b _ after ∙ ap (λ x. b ++ (59 ∷ x)) (append_assoc a rest after)))
+    subst (λ bytes. Both bytes pairs) (simp regrouping)
     (after_semicolon b (a ++ (rest ++ after)) white_before (indent a (rest ++ after) white_after (forth is after white).listed))
 forth (semicolon_and b a parameter rest pair pairs white_before white_after one is) after white =
-    subst (λ bytes. Both bytes (pair ∷ pairs))
-    (sym (append_assoc b _ after ∙ (ap (λ x. b ++ (59 ∷ x)) (append_assoc a _ after)
-    ∙ ap (λ x. b ++ (59 ∷ (a ++ x))) (append_assoc parameter rest after))))
+    subst (λ bytes. Both bytes (pair ∷ pairs)) (simp regrouping)
     (after_semicolon b (a ++ (parameter ++ (rest ++ after))) white_before
     (indent a _ white_after (with_parameter one (rest ++ after) (forth is after white).tailed)))
 

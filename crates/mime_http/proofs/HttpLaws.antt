@@ -2,7 +2,7 @@
 use Rattle.mime_http.proofs.Common.{ap, subst, sym, ℕ, List, MediaType, Reads, IsAccepted, one_reading, tight, IsHttpMediaType}
 use Rattle.mime_http.specs.Tight.{ReadsTight}
 use Rattle.mime_http.specs.HeaderLaws.{ReadIsHttp, OneTightReading, PlainIsHttp, OneHttpReading}
-use Rattle.mime_http.proofs.Places.{accepted_stays}
+use Rattle.mime_http.proofs.Walked.{accepted_stays}
 use Rattle.mime_http.proofs.Tightened.{tight_is}
 use Rattle.mime_http.proofs.HttpForth.{http_is_tight, http_is_read}
 use Rattle.mime_http.proofs.HttpBack.{read_is_http}
@@ -26,10 +26,11 @@ one_http_reading value first second one other =
 
 -- ---- a value is read tightened as what comes out of it is
 
--- a value tightened is what comes out of it, and of each media type that is read of that there is one
+-- what is read of a value tightened is read of what comes out of it,
 pub tight_reads : (value : List ℕ) {media : MediaType} → ReadsTight value media → Reads (tight value) media
 tight_reads value {media} reads = subst (λ text. Reads text media) (sym (tight_is reads.1)) reads.2
 
+-- and the other way
 pub reads_tight : (value : List ℕ) {media : MediaType} → Reads (tight value) media → ReadsTight value media
 reads_tight value {media} reads =
     let is = (http_is_tight value media (read_is_http value media reads)).1 in

@@ -1,10 +1,9 @@
 -- A value that is no media type has exactly one fault.
-use Rattle.mime_http.proofs.Common.{EndsIn, HttpLacks, InvalidToken, IsAccepted, IsFault, IsHttpFault, IsHttpLongestPrefix, IsHttpMediaType, IsHttpViable, Lacks, List, MissingEqual, MissingQuote, MissingSlash, MissingSubtype, MissingValue, NoMemory, OneHttpFault, ParseError, Place, Spaced, Start, [], accepted_or_rejected, ap, append_assoc, arith, cases_lt, codes, inl, inr, length, limit_of, one_fault, place_after, refl, same_Some, slice_get, slice_get-get_or, slice_get_within, subst, sym, take-length, tight, tight_from, ℕ, ⊎_elim, ◌++◌, ◌<◌, ◌∙◌, ◌∷◌, ◌≡◌}
+use Rattle.mime_http.proofs.Common.{HttpLacks, InvalidToken, IsAccepted, IsFault, IsHttpFault, IsHttpLongestPrefix, IsHttpMediaType, IsHttpViable, Lacks, List, NoMemory, OneHttpFault, ParseError, Start, accepted_or_rejected, ap, arith, cases_lt, inl, inr, length, limit_of, one_fault, same_Some, slice_get, slice_get-get_or, slice_get_within, subst, sym, take-length, tight, ℕ, ⊎_elim, ◌<◌, ◌∙◌, ◌≡◌}
 use Rattle.mime_http.proofs.Places.{place_from}
-use Rattle.mime_http.proofs.PlacesAgain.{IsSettled}
-use Rattle.mime_http.proofs.HttpViability.{http_from_accepted, tight_accepted, accepted_from_spaced}
-use Rattle.mime_http.proofs.HowFar.{spaced, settled, kind, stops, tight_one}
-use Rattle.mime_http.proofs.HttpFaults.{IsBusy, busy_after, adds_itself, FaultAt, fault_here, fault_before}
+use Rattle.mime_http.proofs.HttpViability.{accepted_from_spaced, http_from_accepted}
+use Rattle.mime_http.proofs.HowFar.{kind, settled, stops, spaced}
+use Rattle.mime_http.proofs.HttpFaults.{FaultAt, fault_before, fault_here, lacks_tight}
 
 -- ---- one at least
 
@@ -45,42 +44,6 @@ dead_lacks_not : {X : Type 0} (value : List ℕ) (pos byte : ℕ) → IsHttpFaul
 dead_lacks_not value pos byte dead viable =
     absurd (dead.prefix.longest (length value) (slice_get_within value pos byte dead.there) (omega arith)
     (subst IsHttpViable (sym (take-length value)) viable))
-
--- what completes a value comes out as it is, unless white space was left out before it
-record ComesOut (place : Place) : Type 0 where
-  slash : tight_from place (codes "x/x") ≡ codes "x/x"
-  text : tight_from place (codes "x") ≡ codes "x"
-  equal : tight_from place (codes "=x") ≡ codes "=x"
-  quote : tight_from place (codes "x\"") ≡ codes "x\""
-
--- it does from each settled place
-completion_comes_out : (place : Place) → IsSettled place → ComesOut place
-completion_comes_out Spaced is = absurd is
-completion_comes_out place is = record { slash = refl; text = refl; equal = refl; quote = refl }
-
--- a value that ends in a slash or an equals sign does so tightened
-ends_too : (value : List ℕ) (b : ℕ) → ((place : Place) → IsBusy (place_after place b)) → EndsIn value b → EndsIn (tight value) b
-ends_too value b busy (front, ends) =
-    let adds = adds_itself (place_from Start front) b (busy (place_from Start front)) in (
-      tight front ++ adds.before,
-      ap tight ends ∙ (tight_one front b ∙ (ap (λ x. tight front ++ x) adds.adds ∙ sym (append_assoc (tight front) adds.before (b ∷ [])))),
-    )
-
--- what a settled value lacks it lacks tightened,
-lacks_tight : (value : List ℕ) (fault : ParseError) → IsSettled (place_from Start value) → HttpLacks value fault → Lacks (tight value) fault
-lacks_tight value fault at_rest = go (completion_comes_out (place_from Start value) at_rest) fault
-  where
-    accepted : (more : List ℕ) → tight_from (place_from Start value) more ≡ more → IsHttpMediaType (value ++ more)
-        → IsAccepted (tight value ++ more)
-    accepted more same is = subst (λ x. IsAccepted (tight value ++ x)) same (tight_accepted value more is)
-
-    go : ComesOut (place_from Start value) → (fault : ParseError) → HttpLacks value fault → Lacks (tight value) fault
-    go out MissingSlash lacks = (accepted _ out.slash lacks.0, tt)
-    go out MissingSubtype lacks = (accepted _ out.text lacks.0, ends_too value 47 (λ place. (busy_after place).0) lacks.1)
-    go out MissingEqual lacks = (accepted _ out.equal lacks.0, tt)
-    go out MissingValue lacks = (accepted _ out.text lacks.0, ends_too value 61 (λ place. (busy_after place).1) lacks.1)
-    go out MissingQuote lacks = (accepted _ out.quote lacks.0, tt)
-    go out other lacks = absurd lacks.0
 
 -- what a value lacks makes it viable,
 viable_from_lacks : (value : List ℕ) (fault : ParseError) → HttpLacks value fault → IsHttpViable value

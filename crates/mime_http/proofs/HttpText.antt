@@ -1,9 +1,10 @@
--- Tightening leaves bytes in UTF-8 exactly if they are.
-use Rattle.mime_http.proofs.Common.{IsAscii-cons, IsAscii-nil, IsUtf8, IsUtf8-append, IsUtf8-encode, IsUtf8-from_ascii, IsUtf8-nil, List, Paired, Place, Plain, Quoted, Spaced, Start, [], added, and_parts, ap, append_assoc, arith, brought_back, cases_lt, cond_both, cons_from_encodes, encode_ascii, high_bytes, is_left_out, len_utf8_bounds, length, length-append, length-encode, list_all, nat_le, nat_lt, nat_tests, place_after, refl, subst, suc, sym, tight, tight_from, true, zero, ℕ, ⊎_elim, ⊤, ◌&&◌, ◌++◌, ◌<◌, ◌==◌, ◌↔◌, ◌∙◌, ◌∷◌, ◌≡◌, ◌≤◌}
-use lib.Utf8.{scalars, scalar, encodes, encode}
-use Rattle.mime_http.proofs.Places.{Leads, IsPlainByte, after_token, goes_on, plain_byte, one, so, walk_class}
-use Rattle.mime_http.proofs.PlacesAgain.{kept_adds, is_kept}
-use Rattle.mime_http.proofs.OutAgain.{After, to_place, token_byte_back, any_back, class_back}
+-- Tightening leaves bytes in UTF-8 exactly if they are: where it leaves some out, an ASCII byte or nothing stands before them.
+use Rattle.mime_http.proofs.Common.{Bool, IsAscii, IsAscii-cons, IsAscii-nil, IsCharBoundary-before_ascii, IsUtf8, IsUtf8-append, IsUtf8-from_ascii, IsUtf8-nil, IsUtf8-take, List, Place, Semicolon, Spaced, Start, [], added, and_from, and_parts, ap, append-nil, append_assoc, arith, brought_back, cases_Bool, cond_both, drop-append-add, false, false≢true, get_or, get_or_from_slice_get, if◌then◌else◌, is_left_out, length, length-append, nat_lt, nat_tests, place_after, refl, slice_get-prefix, subst, sym, take-append_seam, tight, tight_from, true, ℕ, ⊎_elim, ⊤, ◌&&◌, ◌++◌, ◌+◌, ◌<◌, ◌==◌, ◌↔◌, ◌∙◌, ◌∷◌, ◌≡◌}
+use Rattle.std.specs.Cmp.{both_ways}
+use Rattle.std.specs.Str.{is_utf8}
+use Rattle.std.proofs.lemmas.Str.{IsCharBoundary-after_ascii, IsUtf8-drop, IsUtf8-from_is_utf8, is_utf8-from_IsUtf8}
+use Rattle.std.proofs.Math.Bool.{and-true}
+use Rattle.mime_http.proofs.Places.{is_settled, settled_adds}
 
 -- ---- ASCII bytes
 
@@ -12,182 +13,141 @@ abbrev pub AreAscii : List ℕ → Type 0
 AreAscii [] = ⊤
 AreAscii (b ∷ bytes) = (b < 128) × AreAscii bytes
 
--- joined ASCII bytes are ASCII
-ascii-append : (xs ys : List ℕ) → AreAscii xs → AreAscii ys → AreAscii (xs ++ ys)
-ascii-append [] ys high_first second = second
-ascii-append (b ∷ xs) ys high_first second = (high_first.0, ascii-append xs ys high_first.1 second)
+-- such a text is in UTF-8
+pub ascii_is_utf8 : (bytes : List ℕ) → IsAscii bytes → IsUtf8 bytes
+ascii_is_utf8 = IsUtf8-from_ascii
 
--- ASCII bytes may be put before a text in UTF-8,
+-- an ASCII byte may be put before a text in UTF-8,
+pub put_one : (b : ℕ) (bytes : List ℕ) → b < 128 → IsUtf8 bytes → IsUtf8 (b ∷ bytes)
+put_one b bytes ascii is = IsUtf8-append (b ∷ []) bytes (IsUtf8-from_ascii (b ∷ []) (IsAscii-cons b [] ascii IsAscii-nil)) is
+
+-- and so may more of them
 pub put_ascii : (xs ys : List ℕ) → AreAscii xs → IsUtf8 ys → IsUtf8 (xs ++ ys)
 put_ascii [] ys all is = is
-put_ascii (b ∷ xs) ys all is =
-    IsUtf8-append (b ∷ []) (xs ++ ys) (IsUtf8-from_ascii (b ∷ []) (IsAscii-cons b [] all.0 IsAscii-nil)) (put_ascii xs ys all.1 is)
+put_ascii (b ∷ xs) ys all is = put_one b (xs ++ ys) all.0 (put_ascii xs ys all.1 is)
 
--- or left out before it
-pub drop_ascii : (xs ys : List ℕ) → AreAscii xs → IsUtf8 (xs ++ ys) → IsUtf8 ys
-drop_ascii [] ys all is = is
-drop_ascii (b ∷ xs) ys all is =
-    let cut = cons_from_encodes is.0 (xs ++ ys) b (is.1.1 ∙ ap (λ e. e ++ (xs ++ ys)) (sym (encode_ascii b all.0))) in
-    let parts = and_parts (scalar b) (scalars cut.0) (subst (λ cs. scalars cs ≡ true) cut.1 is.1.0) in
-    drop_ascii xs ys all.1 (cut.0, (parts.1, cut.2))
+-- a text in UTF-8 is so before and after one
+pub around : (run : List ℕ) (b : ℕ) (bytes : List ℕ) → b < 128 → IsUtf8 (run ++ (b ∷ bytes)) → IsUtf8 run × IsUtf8 bytes
+around run b bytes ascii is =
+    let whole : List ℕ = run ++ (b ∷ bytes) in
+    let within : length run < length whole = omega (arith, length-append run (b ∷ bytes)) in
+    let there = get_or_from_slice_get whole (length run) b 0 (slice_get-prefix run b bytes (length run) refl) in
+    let below : get_or whole (length run) 0 < 128 = omega (arith, there, ascii) in (
+      subst IsUtf8 (take-append_seam run (b ∷ bytes))
+          (IsUtf8-take whole (length run) is (IsCharBoundary-before_ascii whole (length run) within below)),
+      subst IsUtf8 (drop-append-add run (b ∷ bytes) 1)
+          (IsUtf8-drop whole (length run + 1) is (IsCharBoundary-after_ascii whole (length run) is within below)),
+    )
 
--- what an ASCII byte adds is ASCII
-brought_ascii : (place : Place) (b : ℕ) → AreAscii (brought_back place b)
-brought_ascii Spaced b = cond_both (b == 59) _ _ AreAscii (λ is. tt) (λ is. (omega arith, tt))
-brought_ascii place b = tt
-
--- and so is all that it adds
-added_ascii : (place : Place) (b : ℕ) → b < 128 → AreAscii (added place b)
-added_ascii place b is =
-    cond_both (is_left_out place b) _ _ AreAscii (λ out. tt)
-    (λ kept. ascii-append (brought_back place b) (b ∷ []) (brought_ascii place b) (is, tt))
-
--- ---- bytes past ASCII
-
--- a byte past ASCII has no role
-high : (b : ℕ) → 128 ≤ b → IsPlainByte b
-high b is = record {
-  space = grind (arith, nat_tests);
-  semicolon = grind (arith, nat_tests);
-  equals = grind (arith, nat_tests);
-  quote = grind (arith, nat_tests);
-  comma = grind (arith, nat_tests);
-  backslash = grind (arith, nat_tests);
-}
-
--- the places after one
-data Holds : Place → Type 0 where
-  outside : Holds Plain
-  within : Holds Quoted
-
--- what the first adds
-record First (place : Place) (b : ℕ) : Type 0 where
-  before : List ℕ
-  ascii : AreAscii before
-  adds : added place b ≡ before ++ (b ∷ [])
-  holds : Holds (place_after place b)
-
--- the place after it
-held : (place : Place) (b : ℕ) → IsPlainByte b → Holds (place_after place b)
-held Quoted b is = rw (is.backslash, is.quote) within
-held Paired b is = within
-held place b is = rw (is.space, is.semicolon, is.equals, is.quote) outside
-
--- it comes out after a space at most
-high_first : (place : Place) (b : ℕ) → IsPlainByte b → First place b
-high_first place b is = record {
-  before = brought_back place b;
-  ascii = brought_ascii place b;
-  adds = kept_adds place b (is_kept place b is.space is.semicolon);
-  holds = held place b is;
-}
-
--- each next comes out as it is, and leads back
-stays_there : {place : Place} → Holds place → (b : ℕ) → IsPlainByte b → Leads place (b ∷ []) (b ∷ []) place
-stays_there outside b is = plain_byte goes_on b is
-stays_there within b is = so (one Quoted b) refl (rw (is.backslash, is.quote) refl)
-
--- bytes of a character past ASCII
-abbrev AreHigh : List ℕ → Type 0
-AreHigh bytes = list_all (λ b. nat_le 128 b && nat_lt b 248) bytes ≡ true
-
--- each of them has no role
-high_of : (b : ℕ) → (nat_le 128 b && nat_lt b 248) ≡ true → IsPlainByte b
-high_of b is = high b (grind (arith, nat_tests))
-
--- they come out as they are,
-run : {place : Place} → Holds place → (hs rest : List ℕ) → AreHigh hs → tight_from place (hs ++ rest) ≡ hs ++ tight_from place rest
-run {place} holds hs rest all =
-    (walk_class (λ b. nat_le 128 b && nat_lt b 248) place (λ b is. stays_there holds b (high_of b is)) hs all).tightly rest
-
--- a byte that comes out there was there,
-one_back : {place : Place} → Holds place → (bytes : List ℕ) (b : ℕ) (out : List ℕ) → IsPlainByte b → tight_from place bytes ≡ b ∷ out
-    → After bytes (b ∷ []) (place_after place b) out
-one_back outside bytes b out is e = token_byte_back after_token bytes b out is.space is.semicolon e
-one_back within bytes b out is e = any_back Quoted (λ b. refl) bytes b out e
-
--- and so were all of them
-run_back : {place : Place} → Holds place → (hs bytes out : List ℕ) → AreHigh hs → tight_from place bytes ≡ hs ++ out
-    → After bytes hs place out
-run_back {place} holds hs bytes out = class_back (λ b. nat_le 128 b && nat_lt b 248) place
-    (λ b bytes out is e. to_place (stays_there holds b (high_of b is)).there (one_back holds bytes b out (high_of b is) e)) hs bytes out
-
--- ---- there and back
-
--- what comes out of characters is in UTF-8, from each place on
-utf8_tight : (cs : List ℕ) (place : Place) → scalars cs ≡ true → IsUtf8 (tight_from place (encodes cs))
-utf8_tight [] place are = IsUtf8-nil
-utf8_tight (c ∷ cs) place are = ⊎_elim
-    (λ ascii.
-    subst (λ e. IsUtf8 (tight_from place (e ++ encodes cs))) (sym (encode_ascii c ascii))
-    (put_ascii (added place c) _ (added_ascii place c ascii) (utf8_tight cs (place_after place c) parts.1)))
-    (λ above. go (λ p. utf8_tight cs p parts.1) (encode c) (high_bytes c parts.0 above) (IsUtf8-encode c parts.0))
-    (cases_lt c 128)
+-- so bytes are in UTF-8 exactly if those before it and those after it are
+halves : (run : List ℕ) (b : ℕ) (bytes : List ℕ) → nat_lt b 128 ≡ true → is_utf8 (run ++ (b ∷ bytes)) ≡ is_utf8 run && is_utf8 bytes
+halves run b bytes low = both_ways (is_utf8 (run ++ (b ∷ bytes))) (is_utf8 run && is_utf8 bytes)
+    (λ is.
+    let parts = around run b bytes ascii (IsUtf8-from_is_utf8 _ is) in
+    and_from _ _ (is_utf8-from_IsUtf8 run parts.0) (is_utf8-from_IsUtf8 bytes parts.1))
+    (λ is.
+    let parts = and_parts (is_utf8 run) (is_utf8 bytes) is in
+    is_utf8-from_IsUtf8 _ (IsUtf8-append run (b ∷ bytes) (IsUtf8-from_is_utf8 run parts.0)
+    (put_one b bytes ascii (IsUtf8-from_is_utf8 bytes parts.1))))
   where
-    parts : (scalar c ≡ true) × (scalars cs ≡ true)
-    parts = and_parts (scalar c) (scalars cs) are
+    ascii : b < 128
+    ascii = grind (arith, nat_tests)
 
-    go : ((p : Place) → IsUtf8 (tight_from p (encodes cs))) → (bytes : List ℕ) → AreHigh bytes → IsUtf8 bytes
-        → IsUtf8 (tight_from place (bytes ++ encodes cs))
-    go others [] all utf8 = others place
-    go others (b ∷ hs) all utf8 =
-        let tests = and_parts (nat_le 128 b && nat_lt b 248) _ all in
-        let begins = high_first place b (high_of b tests.0) in
-        let same : tight_from place (b ∷ (hs ++ encodes cs))
-        ≡ begins.before ++ ((b ∷ hs) ++ tight_from (place_after place b) (encodes cs)) =
-        ap (λ a. a ++ tight_from (place_after place b) (hs ++ encodes cs)) begins.adds
-        ∙ (append_assoc begins.before (b ∷ []) _ ∙ ap (λ x. begins.before ++ (b ∷ x)) (run begins.holds hs (encodes cs) tests.1)) in
-        subst IsUtf8 (sym same) (put_ascii begins.before _ begins.ascii (IsUtf8-append (b ∷ hs) _ utf8 (others (place_after place b))))
+-- ---- what comes out
 
--- and if what comes out is in UTF-8, the bytes are
-utf8_back : (fuel : ℕ) (bytes : List ℕ) (place : Place) → length bytes ≤ fuel → IsUtf8 (tight_from place bytes) → IsUtf8 bytes
-utf8_back fuel [] place fits is = IsUtf8-nil
-utf8_back zero (b ∷ bytes) place fits is = absurd (omega arith)
-utf8_back (suc fuel) (b ∷ bytes) place fits is = ⊎_elim
-    (λ ascii.
-    put_ascii (b ∷ []) bytes (ascii, tt)
-    (utf8_back fuel bytes (place_after place b) (omega arith) (drop_ascii (added place b) _ (added_ascii place b ascii) is)))
-    (λ above.
-    let begins = high_first place b (high b above) in
-    let same : tight_from place (b ∷ bytes) ≡ begins.before ++ (b ∷ tight_from (place_after place b) bytes) =
-    ap (λ a. a ++ tight_from (place_after place b) bytes) begins.adds ∙ append_assoc begins.before (b ∷ []) _ in
-    let left = drop_ascii begins.before (b ∷ tight_from (place_after place b) bytes) begins.ascii (subst IsUtf8 same is) in
-    by_chars (utf8_back fuel) above begins.holds left.0 left.1.0 left.1.1)
-    (cases_lt b 128)
-  where
-    by_chars : ((bytes : List ℕ) (place : Place) → length bytes ≤ fuel → IsUtf8 (tight_from place bytes) → IsUtf8 bytes)
-        → 128 ≤ b → Holds (place_after place b) → (cs : List ℕ) → scalars cs ≡ true
-        → encodes cs ≡ b ∷ tight_from (place_after place b) bytes → IsUtf8 (b ∷ bytes)
-    by_chars others above holds [] are e = absurd (cc)
-    by_chars others above holds (c ∷ cs) are e =
-        let parts = and_parts (scalar c) (scalars cs) are in
-        go (encode c) refl e (high_bytes c parts.0 (⊎_elim (λ ascii. absurd (low ascii e)) (λ above. above) (cases_lt c 128)))
-      where
-        low : c < 128 → encode c ++ encodes cs ≡ b ∷ tight_from (place_after place b) bytes → ⊥
-        low ascii e =
-            let both : c ∷ encodes cs ≡ b ∷ tight_from (place_after place b) bytes =
-            ap (λ x. x ++ encodes cs) (sym (encode_ascii c ascii)) ∙ e in
-            let same : c ≡ b = cc in
-            omega (arith, same, above)
+-- bytes that come after a run of others are in UTF-8, together or apart
+abbrev are_utf8 : Bool → List ℕ → List ℕ → Bool
+are_utf8 together run bytes = if together then is_utf8 (run ++ bytes) else is_utf8 run && is_utf8 bytes
 
-        go : (hs : List ℕ) → encode c ≡ hs → hs ++ encodes cs ≡ b ∷ tight_from (place_after place b) bytes → AreHigh hs → IsUtf8 (b ∷ bytes)
-        go [] is e all = absurd (omega (arith, ap length is, length-encode c, (len_utf8_bounds c).0))
-        go (h ∷ hs) is e all =
-            let parts = and_parts (scalar c) (scalars cs) are in
-            let tests = and_parts (nat_le 128 h && nat_lt h 248) _ all in
-            let same : h ≡ b = cc in
-            let left : tight_from (place_after place b) bytes ≡ hs ++ encodes cs = cc in
-            let there = run_back holds hs bytes (encodes cs) tests.1 left in
-            let utf8 : IsUtf8 there.rest =
-            others there.rest (place_after place b) (omega (arith, ap length there.split, length-append hs there.rest))
-            (cs, (parts.1, sym there.left)) in
-            let text : encode c ++ there.rest ≡ b ∷ bytes =
-            ap (λ x. x ++ there.rest) is ∙ (ap (λ x. x ∷ (hs ++ there.rest)) same ∙ ap (λ x. b ∷ x) (sym there.split)) in
-            subst IsUtf8 text (IsUtf8-append (encode c) there.rest (IsUtf8-encode c parts.0) utf8)
+-- no bytes are
+none_utf8 : is_utf8 [] ≡ true
+none_utf8 = is_utf8-from_IsUtf8 [] IsUtf8-nil
+
+-- before none they are so together,
+before_none : (together : Bool) (run : List ℕ) → is_utf8 (run ++ []) ≡ are_utf8 together run []
+before_none true run = refl
+before_none false run = ap is_utf8 (append-nil run) ∙ (sym (and-true (is_utf8 run)) ∙ ap (λ t. is_utf8 run && t) (sym none_utf8))
+
+-- and after none,
+after_none : (together : Bool) (run bytes : List ℕ) → (together ≡ true → run ≡ [])
+    → are_utf8 together run bytes ≡ is_utf8 run && is_utf8 bytes
+after_none false run bytes none = refl
+after_none true run bytes none = rw (none refl, none_utf8) refl
+
+-- and an ASCII byte parts them
+parts_them : (together : Bool) (run : List ℕ) (b : ℕ) (bytes : List ℕ) → nat_lt b 128 ≡ true
+    → are_utf8 together run (b ∷ bytes) ≡ is_utf8 run && is_utf8 bytes
+parts_them true run b bytes low = halves run b bytes low
+parts_them false run b bytes low = ap (λ t. is_utf8 run && t) (halves [] b bytes low ∙ rw none_utf8 refl)
+
+-- whether a byte may be left out for good at a place, before which no run has begun then
+abbrev has_none : Place → Bool
+has_none Start = true
+has_none Semicolon = true
+has_none place = false
+
+-- a byte that is left out is ASCII, and leads to a place after white space, or none has begun before or after it
+left_out_parts : (place : Place) (b : ℕ) → is_left_out place b ≡ true → (nat_lt b 128 ≡ true)
+    × (is_settled (place_after place b) ≡ true → has_none place ≡ true) × (has_none (place_after place b) ≡ true → has_none place ≡ true)
+left_out_parts place b out = (grind (arith, nat_tests), λ at_rest. grind (arith, nat_tests), λ none. grind (arith, nat_tests))
+
+-- a byte past ASCII isn't left out, and goes on a run
+high_goes_on : (place : Place) (b : ℕ) → nat_lt b 128 ≡ false
+    → (is_left_out place b ≡ false) × (is_settled (place_after place b) ≡ true) × (has_none (place_after place b) ≡ false)
+high_goes_on place b high = (grind (arith, nat_tests), grind (arith, nat_tests), grind (arith, nat_tests))
+
+-- what comes out of bytes from a place on, after a run
+abbrev Keeps : List ℕ → Type 0
+Keeps bytes = (place : Place) (run : List ℕ) → (has_none place ≡ true → run ≡ [])
+    → is_utf8 (run ++ tight_from place bytes) ≡ are_utf8 (is_settled place) run bytes
+
+-- so they are in UTF-8 after a byte that comes out exactly if the others are
+same_after : (place : Place) (run : List ℕ) (b : ℕ) (bytes : List ℕ) → Keeps bytes
+    → is_utf8 (run ++ (b ∷ tight_from (place_after place b) bytes)) ≡ is_utf8 (run ++ (b ∷ bytes))
+same_after place run b bytes keeps = ⊎_elim
+    (λ low.
+    let others = keeps (place_after place b) [] (λ none. refl) ∙ after_none (is_settled (place_after place b)) [] bytes (λ e. refl) in
+    halves run b _ low ∙ ap (λ t. is_utf8 run && t) (others ∙ rw none_utf8 refl) ∙ sym (halves run b bytes low))
+    (λ high.
+    let next = high_goes_on place b high in
+    ap is_utf8 (sym (append_assoc run (b ∷ []) _))
+    ∙ keeps (place_after place b) (run ++ (b ∷ [])) (λ none. absurd (false≢true (sym next.2 ∙ none)))
+    ∙ ap (λ t. are_utf8 t (run ++ (b ∷ [])) bytes) next.1 ∙ ap is_utf8 (append_assoc run (b ∷ []) bytes))
+    (cases_Bool (nat_lt b 128))
+
+-- also with what comes back before it
+kept_keeps : (place : Place) (run : List ℕ) (b : ℕ) (bytes : List ℕ) → is_left_out place b ≡ false → Keeps bytes
+    → is_utf8 (run ++ tight_from place (b ∷ bytes)) ≡ are_utf8 (is_settled place) run (b ∷ bytes)
+kept_keeps Spaced run b bytes kept keeps =
+    let rest = tight_from (place_after Spaced b) bytes in
+    let adds : added Spaced b ≡ brought_back Spaced b ++ (b ∷ []) = rw kept refl in
+    ap (λ a. is_utf8 (run ++ (a ++ rest))) adds ∙ (cond_both (b == 59) [] (32 ∷ [])
+    (λ back. is_utf8 (run ++ ((back ++ (b ∷ [])) ++ rest)) ≡ is_utf8 run && is_utf8 (b ∷ bytes))
+    (λ is.
+    let low : nat_lt b 128 ≡ true = grind (arith, nat_tests) in
+    same_after Spaced run b bytes keeps ∙ (halves run b bytes low ∙ sym (parts_them false run b bytes low)))
+    (λ is. halves run 32 _ refl ∙ ap (λ t. is_utf8 run && t) (same_after Spaced [] b bytes keeps)))
+kept_keeps place run b bytes kept keeps =
+    ap (λ a. is_utf8 (run ++ (a ++ tight_from (place_after place b) bytes))) (settled_adds place tt b kept)
+    ∙ same_after place run b bytes keeps
+
+-- so what comes out is in UTF-8 exactly if the bytes are
+keeps_utf8 : (bytes : List ℕ) → Keeps bytes
+keeps_utf8 [] place run fits = before_none (is_settled place) run
+keeps_utf8 (b ∷ bytes) place run fits = ⊎_elim
+    (λ (out : is_left_out place b ≡ true).
+    let parts = left_out_parts place b out in
+    let next = place_after place b in
+    rw out (keeps_utf8 bytes next run (λ none. fits (parts.2 none))
+    ∙ after_none (is_settled next) run bytes (λ at_rest. fits (parts.1 at_rest)))
+    ∙ sym (parts_them (is_settled place) run b bytes parts.0))
+    (λ kept. kept_keeps place run b bytes kept (keeps_utf8 bytes))
+    (cases_Bool (is_left_out place b))
 
 -- so a value is in UTF-8 exactly if it is so tightened
 pub tight_utf8 : (value : List ℕ) → IsUtf8 value ↔ IsUtf8 (tight value)
-tight_utf8 value = (
-  λ is. subst (λ v. IsUtf8 (tight v)) is.1.1 (utf8_tight is.0 Start is.1.0),
-  λ is. utf8_back (length value) value Start (omega arith) is,
-)
+tight_utf8 value =
+    let same : is_utf8 (tight value) ≡ is_utf8 value = keeps_utf8 value Start [] (λ none. refl) in (
+      λ is. IsUtf8-from_is_utf8 (tight value) (same ∙ is_utf8-from_IsUtf8 value is),
+      λ is. IsUtf8-from_is_utf8 value (sym same ∙ is_utf8-from_IsUtf8 (tight value) is),
+    )

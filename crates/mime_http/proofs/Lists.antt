@@ -7,8 +7,7 @@ use Rattle.mime_http.proofs.Adds.{sorted_both}
 use Rattle.mime_http.proofs.HttpBack.{read_is_http}
 use Rattle.mime_http.proofs.HttpForth.{http_is_read}
 use Rattle.mime_http.proofs.HttpLaws.{accepted_from_http, reads_tight, tight_reads}
-use Rattle.mime_http.proofs.Passes.{opens_none}
-use Rattle.mime_http.proofs.Cuts.{only_cut}
+use Rattle.mime_http.proofs.Cuts.{only_cut, opens_none}
 
 -- ---- what HTTP writes has no comma outside strings
 
@@ -52,31 +51,19 @@ content_in_string (quoted_pair b content is rest) = string_pair b content (conte
 -- so a parameter may stand before a piece,
 before_parameter : {text : List ℕ} {pair : List ℕ × List ℕ} {piece : List ℕ} → IsHttpParameter text pair → IsPiece piece
     → IsPiece (text ++ piece)
-before_parameter {piece = piece} (with_token name value named valued) is =
-    subst IsPiece (sym (append_assoc name (61 ∷ value) piece)) (before_token name named (before_value value valued is))
+before_parameter (with_token name value named valued) is = simp append_assoc (before_token name named (before_value value valued is))
 before_parameter {piece = piece} (with_string name content named valued) is =
-    subst IsPiece
-    (sym (append_assoc name (61 ∷ 34 ∷ (content ++ (34 ∷ []))) piece
-    ∙ ap (λ x. name ++ (61 ∷ 34 ∷ x)) (append_assoc content (34 ∷ []) piece)))
-    (before_token name named (piece_string content piece (content_in_string valued) is))
-
--- a semicolon with white space around it,
-before_semicolon : (white after : List ℕ) {piece : List ℕ} → AreSpaces white → AreSpaces after → IsPiece piece
-    → IsPiece (white ++ (59 ∷ (after ++ piece)))
-before_semicolon white after first second is = before_spaces white first (before 59 refl refl (before_spaces after second is))
+    simp append_assoc (before_token name named (piece_string content piece (content_in_string valued) is))
 
 -- and parameters
 before_parameters : {text : List ℕ} {pairs : List (List ℕ × List ℕ)} → AreHttpParameters text pairs → (piece : List ℕ) → IsPiece piece
     → IsPiece (text ++ piece)
 before_parameters no_more piece is = is
 before_parameters (semicolon white after rest pairs first second all) piece is =
-    subst IsPiece (sym (append_assoc white _ piece ∙ ap (λ x. white ++ (59 ∷ x)) (append_assoc after rest piece)))
-    (before_semicolon white after first second (before_parameters all piece is))
+    simp append_assoc (before_spaces white first (before 59 refl refl (before_spaces after second (before_parameters all piece is))))
 before_parameters (semicolon_and white after parameter rest pair pairs first second one all) piece is =
-    subst IsPiece
-    (sym (append_assoc white _ piece ∙ (ap (λ x. white ++ (59 ∷ x)) (append_assoc after _ piece)
-    ∙ ap (λ x. white ++ (59 ∷ (after ++ x))) (append_assoc parameter rest piece))))
-    (before_semicolon white after first second (before_parameter one (before_parameters all piece is)))
+    simp append_assoc (before_spaces white first (before 59 refl refl (before_spaces after second
+    (before_parameter one (before_parameters all piece is)))))
 
 -- white space is a piece,
 spaces_are_piece : (white : List ℕ) → AreSpaces white → IsPiece white
@@ -91,54 +78,46 @@ http_is_piece reads =
     (before_token reads.sub reads.is_sub (before_parameters reads.are_parameters reads.after
     (spaces_are_piece reads.after reads.white_after))))))
 
--- a piece begins one
-begins_itself : (text : List ℕ) → IsPiece text → BeginsPiece text
-begins_itself text is = ([], subst IsPiece (sym (append-nil text)) is)
-
 -- ---- forth
 
--- elements have no comma outside strings, so they are pieces
+-- an element has no comma outside strings, so it is a piece,
+first_element : {text : List ℕ} {texts : List (List ℕ)} {media : List MediaType} → AreElements (text ∷ texts) media
+    → IsPiece text × ((others : List MediaType) × AreElements texts others)
+first_element (nothing text _ _ white others) = (spaces_are_piece text white, (_, others))
+first_element (element _ _ _ _ utf8 reads others) = (http_is_piece reads, (_, others))
+
+-- and so are all
 elements_are_pieces : {lines texts : List (List ℕ)} {media : List MediaType} → AreBetweenCommas (λ text. ⊤) (λ text. ⊤) lines texts
     → AreElements texts media → AreBetweenCommas IsPiece BeginsPiece lines texts
-elements_are_pieces no_line no_element = no_line
-elements_are_pieces (line_end text lines texts any rest) (nothing _ _ _ white others) =
-    line_end text lines texts (begins_itself text (spaces_are_piece text white)) (elements_are_pieces rest others)
-elements_are_pieces (line_end text lines texts any rest) (element _ _ _ _ utf8 reads others) =
-    line_end text lines texts (begins_itself text (http_is_piece reads)) (elements_are_pieces rest others)
-elements_are_pieces (comma text line lines texts any rest) (nothing _ _ _ white others) =
-    comma text line lines texts (spaces_are_piece text white) (elements_are_pieces rest others)
-elements_are_pieces (comma text line lines texts any rest) (element _ _ _ _ utf8 reads others) =
-    comma text line lines texts (http_is_piece reads) (elements_are_pieces rest others)
+elements_are_pieces no_line are = no_line
+elements_are_pieces (line_end text lines texts any rest) are =
+    let first = first_element are in
+    line_end text lines texts ([], subst IsPiece (sym (append-nil text)) first.0) (elements_are_pieces rest first.1.1)
+elements_are_pieces (comma text line lines texts any rest) are =
+    let first = first_element are in comma text line lines texts first.0 (elements_are_pieces rest first.1.1)
 
--- what is read of elements: the ranges with what each prints
-record Elements (texts : List (List ℕ)) (media : List MediaType) : Type 0 where
-  ranges : List MediaType
-  same : AreSame ranges media
-  sorted : AreSorted texts ranges []
-
--- elements are sorted as ranges
-sorted_elements : {texts : List (List ℕ)} {media : List MediaType} → AreElements texts media → Elements texts media
-sorted_elements no_element = record { ranges = []; same = refl; sorted = no_text }
+-- elements are sorted as ranges, which may print another text
+sorted_elements : {texts : List (List ℕ)} {media : List MediaType} → AreElements texts media
+    → (ranges : List MediaType) × AreSame ranges media × AreSorted texts ranges []
+sorted_elements no_element = ([], refl, no_text)
 sorted_elements (nothing text texts media white rest) =
-    let more = sorted_elements rest in
-    record { ranges = more.ranges; same = more.same; sorted = blank text texts more.ranges [] white more.sorted }
+    let more = sorted_elements rest in (more.0, more.1, blank text texts more.0 [] white more.2)
 sorted_elements (element text range texts media utf8 reads rest) =
     let more = sorted_elements rest in
     let kept = http_is_read text range reads in
-    let range-kept : MediaType = record range { kept = kept.0 } in
-    record {
-      ranges = range-kept ∷ more.ranges;
-      same = ap (λ others. without_kept range ∷ others) more.same;
-      sorted = a_range text range-kept texts _ [] utf8 (read_is_http text range-kept kept.1) (reads_tight text kept.1) more.sorted;
-    }
+    let range-kept : MediaType = record range { kept = kept.0 } in (
+      range-kept ∷ more.0,
+      ap (λ others. without_kept range ∷ others) more.1,
+      a_range text range-kept texts _ [] utf8 (read_is_http text range-kept kept.1) (reads_tight text kept.1) more.2,
+    )
 
 -- a list as HTTP writes it is read as its elements
 pub http_lists_are_read : HttpListsAreRead
 http_lists_are_read lines media lists =
     let read = sorted_elements lists.elements in (
-      read.ranges,
-      read.same,
-      record { pieces = lists.texts; cut = elements_are_pieces lists.between lists.elements; sorted = read.sorted },
+      read.0,
+      read.1,
+      record { pieces = lists.texts; cut = elements_are_pieces lists.between lists.elements; sorted = read.2 },
     )
 
 -- ---- and back
@@ -147,7 +126,7 @@ http_lists_are_read lines media lists =
 of_any : {lines texts : List (List ℕ)} → AreBetweenCommas IsPiece BeginsPiece lines texts
     → AreBetweenCommas (λ text. ⊤) (λ text. ⊤) lines texts
 of_any no_line = no_line
-of_any (line_end text lines texts begins_itself rest) = line_end text lines texts tt (of_any rest)
+of_any (line_end text lines texts _ rest) = line_end text lines texts tt (of_any rest)
 of_any (comma text line lines texts is rest) = comma text line lines texts tt (of_any rest)
 
 -- texts of which none is bad are elements,

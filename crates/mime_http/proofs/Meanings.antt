@@ -1,5 +1,7 @@
 -- A media type covers itself, and what covers an offer is told by what both mean.
-use Rattle.mime_http.proofs.Common.{Bool, CoversItself, List, MeanTheSame, MeaningCounts, MediaType, None, Option, Rank, Some, [], and_from, ap, append_assoc, bytes_eq, bytes_eq-Decides, closeness, codes, demanded, false, has, if◌then◌else◌, is_some, length, list_all, list_any, map, meaning_of, named_parts, not, option_map, refl, sym, true, type_of, unescaped, weight_of, ℕ, ◌&&◌, ◌++◌, ◌||◌, ◌∙◌, ◌∷◌, ◌≡◌, length-map, list_all-map, list_any-append}
+use Rattle.mime_http.proofs.Common.{Bool, CoversItself, List, MeanTheSame, MeaningCounts, MediaType, None, Option, Rank, Some, [], and_from, ap, bytes_eq, bytes_eq-Decides, closeness, codes, demanded, false, has, if◌then◌else◌, is_some, length, list_all, list_any, map, meaning_of, named_parts, not, option_map, refl, sym, true, type_of, unescaped, weight_of, ℕ, ◌&&◌, ◌++◌, ◌||◌, ◌∙◌, ◌∷◌, ◌≡◌, length-map, list_all-map, list_all-from_AllPass, get_or}
+use Rattle.std.proofs.lemmas.List.Elements.{All-filter}
+use Rattle.std.proofs.lemmas.List.Folds.{list_any_at}
 
 -- a list of parameters
 abbrev Pairs : Type 0
@@ -7,49 +9,30 @@ Pairs = List (List ℕ × List ℕ)
 
 -- ---- a media type covers itself
 
--- a list with this item, for which a test is true
-any_there : {X : Type 0} (test : X → Bool) (before : List X) (x : X) (after : List X) → test x ≡ true
-    → list_any test (before ++ (x ∷ after)) ≡ true
-any_there test before x after is =
-    list_any-append test before (x ∷ after)
-    ∙ rw is (elim (list_any test before) as (λ b. (b || true) ≡ true) [ true ↦ refl | false ↦ refl ])
-
 -- bytes are equal to themselves
 same_bytes : (bytes : List ℕ) → bytes_eq bytes bytes ≡ true
 same_bytes bytes = (bytes_eq-Decides bytes bytes).1 refl
 
 -- the offer has each of its own parameters
-has_own : (offer : MediaType) (before rest : Pairs) → offer.pairs ≡ before ++ rest → list_all (has offer) (demanded rest) ≡ true
-has_own offer before [] is = refl
-has_own offer before (pair ∷ rest) is =
-    let here : has offer pair ≡ true =
-    ap (list_any _) is ∙ any_there _ before pair rest (and_from _ _ (same_bytes pair.0) (same_bytes (unescaped pair.1))) in
-    let others : list_all (has offer) (demanded rest) ≡ true =
-    has_own offer (before ++ (pair ∷ [])) rest (is ∙ sym (append_assoc before (pair ∷ []) rest)) in
-    elim (not (bytes_eq pair.0 (codes "q"))) as (λ b. list_all (has offer) (if b then pair ∷ demanded rest else demanded rest) ≡ true) [
-      | true ↦ and_from _ _ here others
-      | false ↦ others
-    ]
+has_own : (offer : MediaType) → list_all (has offer) (demanded offer.pairs) ≡ true
+has_own offer =
+    list_all-from_AllPass (has offer) (demanded offer.pairs)
+    (All-filter (λ pair. not (bytes_eq pair.0 (codes "q"))) (λ pair. has offer pair ≡ true) offer.pairs (λ k d within.
+    let pair = get_or offer.pairs k d in
+    list_any_at (λ own. bytes_eq own.0 pair.0 && bytes_eq (unescaped own.1) (unescaped pair.1)) offer.pairs k d within
+    (and_from _ _ (same_bytes pair.0) (same_bytes (unescaped pair.1)))))
 
--- it names its own essence
-names_some : (any all same : Bool) → same ≡ true
-    → is_some {T = ℕ} (if any then Some 0 else if all then Some 1 else if same then Some 2 else None) ≡ true
-names_some true all same is = refl
-names_some false true same is = refl
-names_some false false same is = rw is refl
+-- whether it is a range of all types or not, it names some of its own parts
+names_some : (any all : Bool) (rank : ℕ → Rank) → is_some (option_map rank (if any then Some 0 else if all then Some 1 else Some 2)) ≡ true
+names_some true all rank = refl
+names_some false true rank = refl
+names_some false false rank = refl
 
--- a media type names its own parts
-names_own : (media : MediaType) → is_some (named_parts media media) ≡ true
-names_own media = names_some _ (bytes_eq media.essence (type_of media ++ codes "/*")) _ (same_bytes media.essence)
-
--- a value is there as the one that it is made of
-some_mapped : {X Y : Type 0} (f : X → Y) (found : Option X) → is_some (option_map f found) ≡ is_some found
-some_mapped f None = refl
-some_mapped f (Some x) = refl
-
--- a media type covers itself, but for a weight
+-- so a media type covers itself, but for a weight
 pub covers_itself : CoversItself
-covers_itself media = rw (has_own media [] media.pairs refl) (some_mapped _ (named_parts media media) ∙ names_own media)
+covers_itself media =
+    rw (has_own media, same_bytes media.essence) (names_some _ (bytes_eq media.essence (type_of media ++ codes "/*"))
+    (λ named. (named, length (demanded media.pairs), weight_of media, 0)))
 
 -- ---- what covers an offer is told by what both mean
 
@@ -83,41 +66,27 @@ all_by_meaning offer pairs =
     ∙ (sym (list_all-map (has_meant (map meaning_of offer.pairs)) meaning_of (demanded pairs))
     ∙ ap (list_all (has_meant (map meaning_of offer.pairs))) (sym (demanded_meant pairs)))
 
--- how closely a range covers an offer, by what both mean
-abbrev Meant : Type 0
-Meant = List ℕ × List ℕ × Pairs
-
--- what a media type means
-abbrev meant_of : MediaType → Meant
-meant_of media = (media.essence, type_of media, map meaning_of media.pairs)
-
--- how close a range is to an offer, by what both mean
-abbrev closeness_of : Meant → Meant → ℕ → ℕ → Option Rank
-closeness_of offer range weight at =
-    if list_all (has_meant offer.2) (demanded range.2)
-    then option_map (λ named. (named, length (demanded range.2), weight, at)) (if bytes_eq range.0 (codes "*/*") then Some 0 else
-    if bytes_eq range.0 (offer.1 ++ codes "/*") then Some 1 else
-    if bytes_eq range.0 offer.0 then Some 2 else None)
+-- how closely a range covers an offer of this essence and type, by what the parameters of both mean
+abbrev closeness_of : List ℕ → List ℕ → Pairs → List ℕ → Pairs → ℕ → ℕ → Option Rank
+closeness_of essence top pairs range demanding weight at =
+    if list_all (has_meant pairs) (demanded demanding)
+    then option_map (λ named. (named, length (demanded demanding), weight, at)) (if bytes_eq range (codes "*/*") then Some 0 else
+    if bytes_eq range (top ++ codes "/*") then Some 1 else
+    if bytes_eq range essence then Some 2 else None)
     else None
 
 -- so it is by what they mean alone
-closeness_by_meaning : (offer range : MediaType) (at : ℕ)
-    → closeness offer (at, range) ≡ closeness_of (meant_of offer) (meant_of range) (weight_of range) at
+closeness_by_meaning : (offer range : MediaType) (at : ℕ) → closeness offer (at, range) ≡ closeness_of offer.essence (type_of offer)
+    (map meaning_of offer.pairs) range.essence (map meaning_of range.pairs) (weight_of range) at
 closeness_by_meaning offer range at =
-    ap (λ all. if all then option_map (λ named. (named, length (demanded range.pairs), weight_of range, at))
-    (named_parts range offer) else None)
-    (all_by_meaning offer range.pairs)
-    ∙ ap (λ count. if list_all (has_meant (map meaning_of offer.pairs)) (demanded (map meaning_of range.pairs))
-    then option_map (λ named. (named, count, weight_of range, at)) (named_parts range offer) else None)
-    (sym (ap length (demanded_meant range.pairs) ∙ length-map (demanded range.pairs) meaning_of))
+    let count : length (demanded range.pairs) ≡ length (demanded (map meaning_of range.pairs)) =
+    sym (ap length (demanded_meant range.pairs) ∙ length-map (demanded range.pairs) meaning_of) in
+    λ i. if all_by_meaning offer range.pairs i
+    then option_map (λ named. (named, count i, weight_of range, at)) (named_parts range offer) else None
 
--- media types that mean the same are alike
-meant_alike : (media other : MediaType) → MeanTheSame media other → meant_of media ≡ meant_of other
-meant_alike media other same = λ i. (same.essence i, same.top i, same.pairs i)
-
--- so a header says the same of them
+-- and a header says the same of media types that mean the same
 pub meaning_counts : MeaningCounts
 meaning_counts range other offer offered at same alike weighs =
     closeness_by_meaning offer range at
-    ∙ (λ i. closeness_of (meant_alike offer offered alike i) (meant_alike range other same i) (weighs i) at)
+    ∙ (λ i. closeness_of (alike.essence i) (alike.top i) (alike.pairs i) (same.essence i) (same.pairs i) (weighs i) at)
     ∙ sym (closeness_by_meaning offered other at)

@@ -1,5 +1,6 @@
 -- A weight that is read digit by digit is the number that its text begins with.
-use Rattle.mime_http.proofs.Common.{Bool, List, WeightIsNumber, [], ap, arith, cases_Bool, codes, drop, eqb-true, false, fold, if◌then◌else◌, is_ascii_digit, length, min, nat_tests, one_digit, one_dot, read_number, refl, replicate, slice_index, sym, take, take_while, take_while-cons, thousandths_of, three_digits, true, two_digits, worth, zero_dot, ℕ, ⊎_elim, ◌*◌, ◌++◌, ◌+◌, ◌-◌, ◌==◌, ◌∙◌, ◌∷◌, ◌≡◌, ◌≤◌}
+use Rattle.mime_http.proofs.Common.{Bool, List, WeightIsNumber, [], ap, arith, cases_Bool, codes, drop, eqb-true, false, fold, if◌then◌else◌, is_ascii_digit, length, min, nat_tests, one_digit, one_dot, read_number, refl, replicate, slice_index, suc, sym, take, take_while, take_while-cons, thousandths_of, three_digits, true, two_digits, worth, zero_dot, ℕ, ⊎_elim, ◌*◌, ◌++◌, ◌+◌, ◌-◌, ◌==◌, ◌∙◌, ◌∷◌, ◌≡◌, ◌≤◌, ◌/◌}
+use Rattle.std.proofs.Math.Nat.{mul-le-mul_left}
 use Rattle.mime_http.specs.RangesLaws.{zero, one}
 
 -- a number with one more digit
@@ -32,54 +33,33 @@ no_unit (b ∷ bytes) = elim (is_ascii_digit b) as (λ is. (if is then 0 * (b - 
 abbrev padded : ℕ → List ℕ → List ℕ
 padded count bytes = take count (digits bytes ++ codes "000")
 
--- a number with one digit more,
-one_digit_more : (n : ℕ) (bytes : List ℕ) → fold step n (padded 1 bytes) ≡ 10 * n + worth 1 bytes
-one_digit_more n [] = omega arith
-one_digit_more n (b ∷ bytes) =
+-- one digit more is read before those that are,
+digits_read : (count unit : ℕ) → ((n : ℕ) → fold step n (take (suc count) (codes "000")) ≡ 10 * unit * n)
+    → ((n : ℕ) (bytes : List ℕ) → fold step n (padded count bytes) ≡ unit * n + worth (unit / 10) bytes)
+    → (n : ℕ) (bytes : List ℕ) → fold step n (padded (suc count) bytes) ≡ 10 * unit * n + worth unit bytes
+digits_read count unit zeros rest n [] = omega (arith, zeros n)
+digits_read count unit zeros rest n (b ∷ bytes) =
     ⊎_elim
-    (λ is. rw (digits_more b bytes is, is) (omega (arith, no_unit bytes)))
-    (λ isnt. rw (digits_end b bytes isnt, isnt) (omega arith))
+    (λ is. rw (digits_more b bytes is, is) (omega (arith, rest (step n b) bytes)))
+    (λ isnt. rw (digits_end b bytes isnt, isnt) (omega (arith, zeros n)))
     (cases_Bool (is_ascii_digit b))
 
--- with two,
-two_digits_more : (n : ℕ) (bytes : List ℕ) → fold step n (padded 2 bytes) ≡ 100 * n + worth 10 bytes
-two_digits_more n [] = omega arith
-two_digits_more n (b ∷ bytes) =
-    ⊎_elim
-    (λ is. rw (digits_more b bytes is, is) (omega (arith, one_digit_more (step n b) bytes)))
-    (λ isnt. rw (digits_end b bytes isnt, isnt) (omega arith))
-    (cases_Bool (is_ascii_digit b))
-
--- and with three
+-- so a number with three digits more is read
 three_digits_more : (n : ℕ) (bytes : List ℕ) → fold step n (padded 3 bytes) ≡ 1000 * n + worth 100 bytes
-three_digits_more n [] = omega arith
-three_digits_more n (b ∷ bytes) =
+three_digits_more =
+    digits_read 2 100 (λ n. omega arith) (digits_read 1 10 (λ n. omega arith)
+    (digits_read 0 1 (λ n. omega arith) (λ n bytes. omega (arith, no_unit bytes))))
+
+-- digits are worth at most ten of the first one's unit
+worth_most : (unit : ℕ) (bytes : List ℕ) → worth unit bytes ≤ 10 * unit
+worth_most unit [] = omega arith
+worth_most unit (b ∷ bytes) =
     ⊎_elim
-    (λ is. rw (digits_more b bytes is, is) (omega (arith, two_digits_more (step n b) bytes)))
-    (λ isnt. rw (digits_end b bytes isnt, isnt) (omega arith))
+    (λ is.
+    let digit : unit * (b - 48) ≤ unit * 9 = mul-le-mul_left unit (grind (arith, nat_tests)) in
+    rw is (omega (arith, digit, worth_most (unit / 10) bytes)))
+    (λ isnt. rw isnt (omega arith))
     (cases_Bool (is_ascii_digit b))
-
--- a digit is worth at most nine of its unit
-digit_most : (b : ℕ) → is_ascii_digit b ≡ true → b - 48 ≤ 9
-digit_most b is = grind (arith, nat_tests)
-
--- a digit is worth 9 at most,
-one_most : (bytes : List ℕ) → worth 1 bytes ≤ 9
-one_most [] = omega arith
-one_most (b ∷ bytes) =
-    ⊎_elim (λ is. rw is (omega (arith, digit_most b is, no_unit bytes))) (λ isnt. rw isnt (omega arith)) (cases_Bool (is_ascii_digit b))
-
--- two are worth 99,
-two_most : (bytes : List ℕ) → worth 10 bytes ≤ 99
-two_most [] = omega arith
-two_most (b ∷ bytes) =
-    ⊎_elim (λ is. rw is (omega (arith, digit_most b is, one_most bytes))) (λ isnt. rw isnt (omega arith)) (cases_Bool (is_ascii_digit b))
-
--- and three 999
-three_most : (bytes : List ℕ) → worth 100 bytes ≤ 999
-three_most [] = omega arith
-three_most (b ∷ bytes) =
-    ⊎_elim (λ is. rw is (omega (arith, digit_most b is, two_most bytes))) (λ isnt. rw isnt (omega arith)) (cases_Bool (is_ascii_digit b))
 
 -- ---- from the first byte on
 
@@ -113,14 +93,6 @@ no_less n (b ∷ bytes) =
     ]))
     (cases_Bool (is_ascii_digit b))
 
--- at most 1000 is the least of it and 1000,
-least : (n : ℕ) → n ≤ 1000 → min 1000 n ≡ n
-least n most = omega (arith, most)
-
--- and from 1000 on that is 1000
-most : (n : ℕ) → 1000 ≤ n → min 1000 n ≡ 1000
-most n least = omega (arith, least)
-
 -- so the number of thousandths is read
 pub read_is : (text : List ℕ) → read_number text ≡ thousandths_of text
 read_is [] = refl
@@ -131,8 +103,7 @@ read_is (b ∷ bytes) =
     (λ zero. if zero then read_number bytes else if is_ascii_digit b then 1000 else if b == 46 then worth 100 bytes else 0) other
     ∙ ⊎_elim
     (λ is. ap (λ is. if is then 1000 else if b == 46 then worth 100 bytes else 0) is
-    ∙ sym (ap (min 1000) (number_goes_on 0 b bytes is) ∙ most (number_from (step 0 b) bytes)
-    (omega (arith, above b is other, no_less (step 0 b) bytes))))
+    ∙ (omega (arith, above b is other, no_less (step 0 b) bytes) ∙ sym (ap (min 1000) (number_goes_on 0 b bytes is))))
     (λ isnt. ap (λ is. if is then 1000 else if b == 46 then worth 100 bytes else 0) isnt
     ∙ (after_dot (b == 46) ∙ sym (ap (min 1000) (number_stops 0 b bytes isnt))))
     (cases_Bool (is_ascii_digit b)))
@@ -143,9 +114,7 @@ read_is (b ∷ bytes) =
 
     after_dot : (dot : Bool)
         → (if dot then worth 100 bytes else 0) ≡ min 1000 (fold step 0 (take 3 ((if dot then digits bytes else []) ++ codes "000")))
-    after_dot true =
-        let same : fold step 0 (padded 3 bytes) ≡ worth 100 bytes = omega (arith, three_digits_more 0 bytes) in
-        sym (ap (min 1000) same ∙ least (worth 100 bytes) (omega (arith, three_most bytes)))
+    after_dot true = omega (arith, three_digits_more 0 bytes, worth_most 100 bytes)
     after_dot false = refl
 
 -- ---- what RFC 9110 allows
@@ -159,16 +128,11 @@ pub weight_is_number : WeightIsNumber
 weight_is_number text thousandths zero = refl
 weight_is_number text thousandths zero_dot = refl
 weight_is_number text thousandths (one_digit a first) =
-    let text = codes "0." ++ ((48 + a) ∷ []) in
-    let read : read_number text ≡ 100 * a = rw (digit_of a first) (omega arith) in
-    sym (read_is text) ∙ read
+    sym (read_is (codes "0." ++ ((48 + a) ∷ []))) ∙ rw (digit_of a first) (omega arith)
 weight_is_number text thousandths (two_digits a b first second) =
-    let text = codes "0." ++ ((48 + a) ∷ (48 + b) ∷ []) in
-    let read : read_number text ≡ 100 * a + 10 * b = rw (digit_of a first, digit_of b second) (omega arith) in
-    sym (read_is text) ∙ read
+    sym (read_is (codes "0." ++ ((48 + a) ∷ (48 + b) ∷ []))) ∙ rw (digit_of a first, digit_of b second) (omega arith)
 weight_is_number text thousandths (three_digits a b c first second third) =
-    let text = codes "0." ++ ((48 + a) ∷ (48 + b) ∷ (48 + c) ∷ []) in
-    let read : read_number text ≡ 100 * a + 10 * b + c = rw (digit_of a first, digit_of b second, digit_of c third) (omega arith) in
-    sym (read_is text) ∙ read
+    sym (read_is (codes "0." ++ ((48 + a) ∷ (48 + b) ∷ (48 + c) ∷ [])))
+    ∙ rw (digit_of a first, digit_of b second, digit_of c third) (omega arith)
 weight_is_number text thousandths one = refl
 weight_is_number text thousandths (one_dot zeros few) = sym (read_is (codes "1." ++ replicate zeros 48))

@@ -1,7 +1,19 @@
 -- Writing the parameters of other names, item by item.
-use Rattle.mime_http.proofs.Common.{Bool, Item, List, NameIs, [], ap, append-nil, append_assoc, arith, bytes_eq, bytes_eq-Decides, false_from_ne_true, flat_map-append, items_of, length, length-append, lowered, not, others, refl, subst, suc, sym, text_of_pair, text_of_pairs, ℕ, ◌++◌, ◌+◌, ◌∙◌, ◌∷◌, ◌≡◌, ◌≤◌, false, true}
-use Rattle.mime_http.proofs.Demanded.{first, no_pair}
+use Rattle.mime_http.proofs.Common.{Bool, Item, List, NameIs, [], ap, append-nil, append_assoc, arith, bytes_eq, bytes_eq-Decides, false_from_ne_true, flat_map-append, item_of, items_of, get_or, drop, length, length-append, lowered, not, others, refl, subst, suc, sym, text_of_pair, text_of_pairs, ℕ, ◌++◌, ◌+◌, ◌∙◌, ◌∷◌, ◌≡◌, ◌≤◌, false, true}
 use Rattle.std.proofs.lemmas.List.Filters.{length-filter_both}
+
+-- the first item is that of the first pair,
+first_pair : (rest : List (List ℕ × List ℕ)) (item : Item) (next : List Item) → items_of rest ≡ item ∷ next
+    → (more : List (List ℕ × List ℕ)) × (rest ≡ (item.name, item.value) ∷ more) × (next ≡ items_of more) × (item.name_ignores_case ≡ true)
+first_pair [] item next is = absurd (omega (arith, ap length is))
+first_pair (pair ∷ more) item next is =
+    let seen : item_of pair ≡ item = ap (λ items. get_or items 0 item) is in
+    (more, (λ i. ((seen i).name, (seen i).value) ∷ more), sym (ap (drop 1) is), sym (ap (λ i. i.name_ignores_case) seen))
+
+-- and no item is left of no pair
+no_pair : (rest : List (List ℕ × List ℕ)) → items_of rest ≡ [] → rest ≡ []
+no_pair [] is = refl
+no_pair (pair ∷ more) is = absurd (omega (arith, ap length is))
 
 -- of the pairs whose items are left, those of other names are still to be written after this text, and to be counted
 pub record Left (name whole text : List ℕ) (total count : ℕ) (items : List Item) : Type 0 where
@@ -19,41 +31,41 @@ none_left {name} {text = text} left ended =
       omega (arith, ap length none, left.counted),
     )
 
--- the next is of this name
-pub named_skipped : {name whole text : List ℕ} {total count : ℕ} {items next : List Item} {item : Item}
-    → Left name whole text total count items
-    → items ≡ item ∷ next → NameIs item.name item.name_ignores_case name → Left name whole text total count next
-named_skipped {name} {text = text} {count = count} {next = next} {item = item} left is named =
-    let f = first left.rest item next (sym left.same ∙ is) in
-    let is_named = subst (λ (i : Item). NameIs i.name i.name_ignores_case name) (sym f.seen) named in
-    let test : bytes_eq (lowered f.pair.0) (lowered name) ≡ true = (bytes_eq-Decides _ _).1 is_named in
-    let same : others name left.rest ≡ others name f.more = ap (others name) f.here ∙ rw test refl in
-    record {
-      rest = f.more;
-      same = f.after;
-      written = ap (λ rest. text ++ text_of_pairs rest) (sym same) ∙ left.written;
-      counted = ap (λ rest. count + length rest) (sym same) ∙ left.counted;
-    }
+module _ {name whole text : List ℕ} {total count : ℕ} {items next : List Item} {item : Item}
+    (left : Left name whole text total count items) (is : items ≡ item ∷ next) where
+  -- the next is of this name
+  pub named_skipped : NameIs item.name item.name_ignores_case name → Left name whole text total count next
+  named_skipped named =
+      let f = first_pair left.rest item next (sym left.same ∙ is) in
+      let test : bytes_eq (lowered item.name) (lowered name) ≡ true =
+      (bytes_eq-Decides _ _).1 (subst (λ flag. NameIs item.name flag name) f.3 named) in
+      let same : others name left.rest ≡ others name f.0 = ap (others name) f.1 ∙ rw test refl in
+      record {
+        rest = f.0;
+        same = f.2;
+        written = ap (λ rest. text ++ text_of_pairs rest) (sym same) ∙ left.written;
+        counted = ap (λ rest. count + length rest) (sym same) ∙ left.counted;
+      }
 
--- the next is of another, and is written
-pub copied : {name whole text : List ℕ} {total count : ℕ} {items next : List Item} {item : Item} → Left name whole text total count items
-    → items ≡ item ∷ next → ¬ (NameIs item.name item.name_ignores_case name)
-    → (count + 1 ≤ total) × Left name whole (text ++ text_of_pair (item.name, item.value)) total (count + 1) next
-copied {name} {whole} {text} {total} {count} {next = next} {item = item} left is other =
-    let f = first left.rest item next (sym left.same ∙ is) in
-    let differ = subst (λ (i : Item). ¬ (NameIs i.name i.name_ignores_case name)) (sym f.seen) other in
-    let test : bytes_eq (lowered f.pair.0) (lowered name) ≡ false = false_from_ne_true _ (λ same. differ ((bytes_eq-Decides _ _).0 same)) in
-    let same : others name left.rest ≡ f.pair ∷ others name f.more = ap (others name) f.here ∙ rw test refl in
-    let one_more : count + suc (length (others name f.more)) ≡ total = ap (λ rest. count + length rest) (sym same) ∙ left.counted in (
-      omega (arith, one_more),
-      subst (λ (i : Item). Left name whole (text ++ text_of_pair (i.name, i.value)) total (count + 1) next) f.seen
-          (record {
-            rest = f.more;
-            same = f.after;
-            written = append_assoc text (text_of_pair f.pair) _ ∙ (ap (λ rest. text ++ text_of_pairs rest) (sym same) ∙ left.written);
-            counted = omega (arith, one_more);
-          }),
-    )
+  -- the next is of another, and is written
+  pub copied : ¬ (NameIs item.name item.name_ignores_case name)
+      → (count + 1 ≤ total) × Left name whole (text ++ text_of_pair (item.name, item.value)) total (count + 1) next
+  copied other =
+      let f = first_pair left.rest item next (sym left.same ∙ is) in
+      let pair : List ℕ × List ℕ = (item.name, item.value) in
+      let differ = subst (λ flag. ¬ (NameIs item.name flag name)) f.3 other in
+      let test : bytes_eq (lowered item.name) (lowered name) ≡ false =
+      false_from_ne_true _ (λ same. differ ((bytes_eq-Decides _ _).0 same)) in
+      let same : others name left.rest ≡ pair ∷ others name f.0 = ap (others name) f.1 ∙ rw test refl in
+      let one_more : count + suc (length (others name f.0)) ≡ total = ap (λ rest. count + length rest) (sym same) ∙ left.counted in (
+        omega (arith, one_more),
+        record {
+          rest = f.0;
+          same = f.2;
+          written = append_assoc text (text_of_pair pair) _ ∙ (ap (λ rest. text ++ text_of_pairs rest) (sym same) ∙ left.written);
+          counted = omega (arith, one_more);
+        },
+      )
 
 -- those of other names are no more than all
 pub others_within : (name : List ℕ) (pairs : List (List ℕ × List ℕ)) → length (others name pairs) ≤ length pairs

@@ -1,5 +1,15 @@
 -- What is read from a place on: an accepted text is written as it is.
-use Rattle.mime_http.proofs.Common.{AreParameters, AreSpaces, Closed, Equals, IsAccepted, IsContent, IsParameter, IsTail, IsToken, IsWellFormed, List, MediaType, Paired, Parameter, Parameters, Place, Plain, Quoted, Reads, Semicolon, Spaced, Start, SyntaxTree, Tail, [], added, and_parts, ap, append-nil, append_assoc, arith, blank, false, final, is_quoted_byte, is_quoted_text_byte, is_space, is_token_byte, listed, more, nat_tests, no_byte, no_list, place_after, plain, quoted, quoted_pair, refl, subst, sym, text_byte, text_of, text_of_list, text_of_parameter, text_of_tail, tight, tight_from, true, ℕ, ◌++◌, ◌==◌, ◌∙◌, ◌∷◌, ◌≡◌, Bool, list_all}
+use Rattle.mime_http.proofs.Common.{AreSpaces, Bool, Closed, Equals, IsContent, IsToken, List, Paired, Place, Plain, Quoted, Semicolon, Spaced, Start, [], added, and_from, and_parts, ap, append-nil, append_assoc, arith, false, is_left_out, is_quoted_byte, is_quoted_text_byte, is_space, is_token_byte, list_all, list_all-append, nat_tests, no_byte, place_after, quoted_pair, refl, semicolon, subst, sym, takes, text_byte, tight_from, true, ℕ, ⊤, ◌++◌, ◌==◌, ◌∙◌, ◌∷◌, ◌≡◌}
+
+-- how joined lists are grouped, for `simp`, which doesn't compute a list with a first byte
+pub regrouping-cons : (b : ℕ) (xs ys : List ℕ) → (b ∷ xs) ++ ys ≡ b ∷ (xs ++ ys)
+regrouping-cons b xs ys = refl
+
+pub ruleset regrouping = (append_assoc, append-nil, regrouping-cons)
+
+-- white space after white space is white space
+pub spaces-append : (n m : List ℕ) → AreSpaces n → AreSpaces m → AreSpaces (n ++ m)
+spaces-append n m first second = list_all-append is_space n m ∙ and_from _ _ first second
 
 -- the place after bytes
 abbrev pub place_from : Place → List ℕ → Place
@@ -36,9 +46,9 @@ both {p} {q} {r} {xs} {ys} {out} {add} first second = record {
 pub so : {p q r : Place} {xs out add : List ℕ} → Leads p xs out q → out ≡ add → q ≡ r → Leads p xs add r
 so {p} {q} {r} {xs} {out} {add} leads same there = subst (λ place. Leads p xs add place) there (subst (λ o. Leads p xs o q) same leads)
 
--- What is written as it is stays so if nothing follows.
-pub comes_out_whole : {p q : Place} {text : List ℕ} → Leads p text text q → tight_from p text ≡ text
-comes_out_whole {p} {text = text} leads = ap (tight_from p) (sym (append-nil text)) ∙ (leads.tightly [] ∙ append-nil text)
+-- what bytes are written as comes out of them if nothing follows
+pub comes_out : {p q : Place} {text out : List ℕ} → Leads p text out q → tight_from p text ≡ out
+comes_out {p} {text = text} {out = out} leads = ap (tight_from p) (sym (append-nil text)) ∙ (leads.tightly [] ∙ append-nil out)
 
 -- a byte with no role in a value, nor in a line
 pub record IsPlainByte (b : ℕ) : Type 0 where
@@ -115,19 +125,20 @@ pub data SkipsWhite : Place → Type 0 where
   at_start : SkipsWhite Start
   spaced : SkipsWhite Spaced
 
--- There bytes come out as without white space before them.
-pub white_skipped : {place : Place} → SkipsWhite place → (white rest : List ℕ) → AreSpaces white
-    → tight_from place (white ++ rest) ≡ tight_from place rest
-white_skipped skips [] rest all = refl
-white_skipped at_start (b ∷ white) rest all =
-    let parts = and_parts (is_space b) _ all in rw parts.0 (white_skipped at_start white rest parts.1)
-white_skipped spaced (b ∷ white) rest all =
-    let parts = and_parts (is_space b) _ all in rw parts.0 (white_skipped spaced white rest parts.1)
+-- there it is left out
+one_skipped : {place : Place} → SkipsWhite place → (b : ℕ) → is_space b ≡ true → Leads place (b ∷ []) [] place
+one_skipped at_start b white = so (one Start b) (rw white refl) (rw white refl)
+one_skipped spaced b white = so (one Spaced b) (rw white refl) (rw white refl)
+
+-- and so is more of it
+pub skipped_white : {place : Place} → SkipsWhite place → (white : List ℕ) → AreSpaces white → Leads place white [] place
+skipped_white {place} skips [] all = no_bytes place
+skipped_white skips (b ∷ white) all =
+    let parts = and_parts (is_space b) _ all in both (one_skipped skips b parts.0) (skipped_white skips white parts.1)
 
 -- White space alone leaves nothing.
 pub nothing_out : {place : Place} → SkipsWhite place → (white : List ℕ) → AreSpaces white → tight_from place white ≡ []
-nothing_out {place} skips [] all = refl
-nothing_out {place} skips white all = ap (tight_from place) (sym (append-nil white)) ∙ white_skipped skips white [] all
+nothing_out skips white all = comes_out (skipped_white skips white all)
 
 -- Places after which white space is left out, before a semicolon and at the end.
 pub data LeavesWhite : Place → Type 0 where
@@ -139,31 +150,13 @@ pub left_white : {place : Place} → LeavesWhite place → (b : ℕ) → is_spac
 left_white after_token b white = so (one Plain b) (rw white refl) (rw white refl)
 left_white after_equals b white = so (one Equals b) (rw white refl) (rw white refl)
 
--- another byte itself,
-pub other_written : {place : Place} → LeavesWhite place → (b : ℕ) → is_space b ≡ false → added place b ≡ b ∷ []
-other_written after_token b other = rw other refl
-other_written after_equals b other = rw other refl
+-- nor does more of it
+pub leaves_white : {place : Place} → LeavesWhite place → (b : ℕ) (white : List ℕ) → AreSpaces (b ∷ white)
+    → Leads place (b ∷ white) [] Spaced
+leaves_white leaves b white all =
+    let parts = and_parts (is_space b) _ all in both (left_white leaves b parts.0) (skipped_white spaced white parts.1)
 
--- a semicolon, too,
-pub semicolon_written : {place : Place} → LeavesWhite place → Leads place (59 ∷ []) (59 ∷ []) Semicolon
-semicolon_written after_token = one Plain 59
-semicolon_written after_equals = one Equals 59
-
--- also with white space before it,
-pub token_semicolon : {place : Place} → LeavesWhite place → (n w : List ℕ) → AreSpaces n
-    → tight_from place (n ++ (59 ∷ w)) ≡ 59 ∷ tight_from Semicolon w
-token_semicolon leaves [] w all = (semicolon_written leaves).tightly w
-token_semicolon leaves (b ∷ n) w all =
-    let parts = and_parts (is_space b) _ all in
-    (left_white leaves b parts.0).tightly (n ++ (59 ∷ w)) ∙ white_skipped spaced n (59 ∷ w) parts.1
-
--- and nothing is left of white space at the end
-pub token_end : {place : Place} → LeavesWhite place → (n : List ℕ) → AreSpaces n → tight_from place n ≡ []
-token_end leaves [] all = refl
-token_end leaves (b ∷ n) all =
-    let parts = and_parts (is_space b) _ all in (left_white leaves b parts.0).tightly n ∙ nothing_out spaced n parts.1
-
--- ---- accepted texts
+-- ---- quoted content
 
 -- a byte that stands in quotes as it is is neither a quote nor a backslash
 pub text_is_no_mark : (b : ℕ) → is_quoted_text_byte b ≡ true → ((b == 92) ≡ false) × ((b == 34) ≡ false)
@@ -178,78 +171,27 @@ quoted_content (text_byte b content is rest) =
     both (so (one Quoted b) refl (rw (tests.0, tests.1) refl)) (quoted_content rest)
 quoted_content (quoted_pair b content is rest) = both (one Quoted 92) (both (one Paired b) (quoted_content rest))
 
--- places after a parameter, and at the end of an accepted text
-data EndsParameter : Place → Type 0 where
-  in_token : EndsParameter Plain
-  in_quotes : EndsParameter Closed
+-- ---- settled places
 
--- and at the end of a text: after a value, or in a list
-data EndsText : Place → Type 0 where
-  in_value : {place : Place} → EndsParameter place → EndsText place
-  in_list : EndsText Semicolon
+-- a place after which no white space was left out
+abbrev pub IsSettled : Place → Type 0
+IsSettled Spaced = ⊥
+IsSettled place = ⊤
 
--- a semicolon after a parameter comes out
-semicolon : {place : Place} → EndsParameter place → Leads place (59 ∷ []) (59 ∷ []) Semicolon
-semicolon in_token = one Plain 59
-semicolon in_quotes = one Closed 59
+-- whether it is such
+abbrev pub is_settled : Place → Bool
+is_settled Spaced = false
+is_settled place = true
 
--- what is written as it is, from a place on, and ends in one of these
-record Walk (Ends : Place → Type 0) (from : Place) (text : List ℕ) : Type 0 where
-  to : Place
-  leads : Leads from text text to
-  ends : Ends to
+-- There a byte that isn't left out comes out as it is.
+pub settled_adds : (place : Place) → IsSettled place → (b : ℕ) → is_left_out place b ≡ false → added place b ≡ b ∷ []
+settled_adds Spaced settled b kept = absurd settled
+settled_adds Quoted settled b kept = refl
+settled_adds Paired settled b kept = refl
+settled_adds Closed settled b kept = refl
+settled_adds place settled b kept = rw kept refl
 
--- a parameter comes out as it is,
-parameter : (it : Parameter) → IsParameter it → Walk EndsParameter Semicolon (text_of_parameter it)
-parameter (plain name value) is =
-    record { to = Plain; leads = both (token of_name name is.0) (both (one Plain 61) (token of_value value is.1)); ends = in_token }
-parameter (quoted name content n) is = record {
-  to = Closed;
-  leads = both (token of_name name is.0) (both (one Plain 61) (both (one Equals 34)
-      (both (quoted_content is.1) (both (one Quoted 34) (walk_spaces after_value n is.2)))));
-  ends = in_quotes;
-}
-
--- and so does a list of them,
-list_walk : (list : Parameters) → AreParameters list → Walk EndsText Semicolon (text_of_list list)
-list_walk (blank n) is = record { to = Semicolon; leads = walk_spaces before_name n is; ends = in_list }
-list_walk (final n it) is =
-    let read = parameter it is.1 in
-    record { to = read.to; leads = both (walk_spaces before_name n is.0) read.leads; ends = in_value read.ends }
-list_walk (more n it list) is =
-    let read = parameter it is.1 in
-    let rest = list_walk list is.2 in
-    record {
-      to = rest.to;
-      leads = both (walk_spaces before_name n is.0) (both read.leads (both (semicolon read.ends) rest.leads));
-      ends = rest.ends;
-    }
-
--- what follows an essence,
-tail : (it : Tail) → IsTail it → Walk EndsText Plain (text_of_tail it)
-tail no_list is = record { to = Plain; leads = no_bytes Plain; ends = in_value in_token }
-tail (listed list) is =
-    let rest = list_walk list is in
-    record { to = rest.to; leads = both (one Plain 59) rest.leads; ends = rest.ends }
-
--- and a whole text
-tree : (it : SyntaxTree) → IsWellFormed it → Walk EndsText Start (text_of it)
-tree it is =
-    let rest = tail it.tail is.2 in
-    record {
-      to = rest.to;
-      leads = both (token of_type it.top is.0) (both (one Plain 47) (both (token goes_on it.sub is.1) rest.leads));
-      ends = rest.ends;
-    }
-
--- an accepted text is written as it is, and ends outside quotes
-walk_text : {text : List ℕ} {value : MediaType} → Reads text value → Walk EndsText Start text
-walk_text reads = subst (λ text. Walk EndsText Start text) reads.spelled (tree reads.tree reads.well_formed)
-
--- so tightening leaves an accepted text as it is
-pub accepted_stays : (text : List ℕ) → IsAccepted text → tight text ≡ text
-accepted_stays text is = comes_out_whole (walk_text is.1).leads
-
--- and what is read of a text is read of it tightened
-pub tight_too : (text : List ℕ) {media : MediaType} → Reads text media → Reads (tight text) media
-tight_too text {media} reads = subst (λ text. Reads text media) (sym (accepted_stays text (media, reads))) reads
+-- white space is left out after settled places
+pub leaves_settled : {place : Place} → LeavesWhite place → IsSettled place
+leaves_settled after_token = tt
+leaves_settled after_equals = tt

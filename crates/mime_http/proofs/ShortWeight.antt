@@ -1,55 +1,37 @@
 -- A media type whose kept text ends in a weight of one decimal, right after the essence, has no other parameter.
-use Rattle.mime_http.proofs.Common.{AreSpaces, Bool, HasBytesAt, IsToken, IsWellFormed, List, MediaType, None, Reads, Some, SyntaxTree, [], ap, append_assoc, arith, codes, demanded, drop, drop-append_seam, essence_of, final, first_value, get_or, has, if◌then◌else◌, is_ascii_digit, is_token_byte, length, length-append, length-lowered, list_all, listed, lowered_tree, one_reading, plain, read_number, refl, suc, sym, text_from_reads, text_of, text_of_tail, thousandths_of, true, value_of, ℕ, ◌&&◌, ◌*◌, ◌++◌, ◌+◌, ◌-◌, ◌∙◌, ◌∷◌, ◌≡◌}
-use Rattle.mime_http.proofs.Demanded.{found_of}
+use Rattle.mime_http.proofs.Common.{AreSpaces, HasBytesAt, IsWellFormed, List, MediaType, Reads, Some, SyntaxTree, [], ap, append_assoc, arith, drop, drop-append_seam, essence_of, final, get_or, has, is_ascii_digit, is_token_byte, length, length-append, length-lowered, listed, lowered_tree, one_reading, plain, read_number, refl, suc, sym, text_from_reads, text_of, text_of_tail, thousandths_of, true, value_of, ℕ, ◌*◌, ◌++◌, ◌+◌, ◌-◌, ◌∙◌, ◌∷◌, ◌≡◌}
+use Rattle.mime_http.proofs.Demanded.{found_in, found_of}
 use Rattle.mime_http.proofs.Numbers.{read_is}
 
--- the text up to the tail, which is as long as the essence
+-- the text up to the tail
 abbrev front_of : SyntaxTree → List ℕ
 front_of tree = tree.top ++ (47 ∷ tree.sub)
-
--- it is as long as the essence in lowercase
-front_length : (tree : SyntaxTree) → length (essence_of (lowered_tree tree)) ≡ length (front_of tree)
-front_length tree =
-    omega (
-      arith,
-      length-append (lowered_tree tree).top (47 ∷ (lowered_tree tree).sub),
-      length-append tree.top (47 ∷ tree.sub),
-      length-lowered tree.top,
-      length-lowered tree.sub,
-    )
 
 -- it and the tail are the whole text
 front_and_tail : (tree : SyntaxTree) → text_of tree ≡ front_of tree ++ text_of_tail tree.tail
 front_and_tail tree = sym (append_assoc tree.top (47 ∷ tree.sub) (text_of_tail tree.tail))
 
 module _ (kept : List ℕ) (media : MediaType) (reads : Reads kept media) where
-  -- the same of a media type that is read
-  length_of_front : length media.essence ≡ length (front_of reads.tree)
-  length_of_front = ap (λ value. length value.essence) (sym reads.valued) ∙ front_length reads.tree
-
+  -- the same of a text that is read,
   kept_is : kept ≡ front_of reads.tree ++ text_of_tail reads.tree.tail
   kept_is = sym reads.spelled ∙ front_and_tail reads.tree
 
-  -- what follows the essence is the tail
+  -- where the tail follows the essence
   after_is_tail : drop (length media.essence) kept ≡ text_of_tail reads.tree.tail
   after_is_tail =
-      ap (λ n. drop n kept) length_of_front ∙ (ap (drop (length (front_of reads.tree))) kept_is
-      ∙ drop-append_seam (front_of reads.tree) (text_of_tail reads.tree.tail))
-
--- the bytes of the weight are those of tokens
-digit_is_token : (d : ℕ) → is_ascii_digit d ≡ true → is_token_byte d ≡ true
-unfolding is_token_byte
-digit_is_token d is = rw is refl
-
--- the name `q` is a token,
-name_is_token : IsToken (113 ∷ [])
-unfolding is_token_byte
-name_is_token = refl
-
--- and so is `0.` and a digit
-zero_and_dot : (last : Bool) → last ≡ true → (is_token_byte 48 && (is_token_byte 46 && (last && true))) ≡ true
-unfolding is_token_byte
-zero_and_dot last is = rw is refl
+      let tree = reads.tree in
+      let low = lowered_tree tree in
+      let same : length media.essence ≡ length (essence_of low) = ap (λ value. length value.essence) (sym reads.valued) in
+      let long : length media.essence ≡ length (front_of tree) =
+      omega (
+        arith,
+        same,
+        length-append low.top (47 ∷ low.sub),
+        length-append tree.top (47 ∷ tree.sub),
+        length-lowered tree.top,
+        length-lowered tree.sub,
+      ) in
+      ap (λ n. drop n kept) long ∙ (ap (drop (length (front_of tree))) kept_is ∙ drop-append_seam (front_of tree) (text_of_tail tree.tail))
 
 -- the tree with this weight in place of the parameters, after these spaces
 abbrev with_weight : SyntaxTree → List ℕ → ℕ → SyntaxTree
@@ -58,8 +40,8 @@ with_weight tree n d = record { top = tree.top; sub = tree.sub; tail = listed (f
 -- which is well formed as well
 weight_is_well_formed : (tree : SyntaxTree) (n : List ℕ) (d : ℕ) → IsWellFormed tree → AreSpaces n → is_ascii_digit d ≡ true
     → IsWellFormed (with_weight tree n d)
-weight_is_well_formed tree n d fine spaces digit =
-    (fine.0, fine.1, (spaces, (name_is_token, zero_and_dot (is_token_byte d) (digit_is_token d digit))))
+unfolding is_token_byte
+weight_is_well_formed tree n d fine spaces digit = (fine.0, fine.1, (spaces, (refl, rw digit refl)))
 
 -- after which the weight is the only parameter, since a text is read in one way
 pub weight_alone : (media : MediaType) (rest n : List ℕ) (d : ℕ) → Reads media.kept media → rest ≡ drop (length media.essence) media.kept
@@ -78,28 +60,17 @@ weight_alone media rest n d reads after is spaces digit =
     } in
     ap (λ value. value.pairs) (one_reading media.kept media (value_of (with_weight reads.tree n d)) reads again)
 
--- a range demands nothing else, and weighs these tenths
-abbrev DemandsNothing : MediaType → MediaType → ℕ → Type 0
-DemandsNothing offer media d =
-    found_of 0 (Some (48 ∷ 46 ∷ d ∷ []))
-    ≡ (if list_all (has offer) (demanded media.pairs)
-    then found_of (length (demanded media.pairs)) (first_value (codes "q") media.pairs) else None)
-
--- a range of which the weight is the only parameter does
-demands_nothing : (offer media : MediaType) (d : ℕ) → media.pairs ≡ (113 ∷ [], 48 ∷ 46 ∷ d ∷ []) ∷ [] → DemandsNothing offer media d
-demands_nothing offer media d pairs = rw pairs refl
-
 -- bytes at a position and one more after them
 one_more_byte : (text bytes : List ℕ) (at end d : ℕ) → end ≡ at + length bytes → HasBytesAt text at bytes → get_or text end 0 ≡ d
     → HasBytesAt text at (bytes ++ (d ∷ []))
 one_more_byte text [] at end d is has last = (ap (λ i. get_or text i 0) (omega (arith, is)) ∙ last, tt)
 one_more_byte text (b ∷ bytes) at end d is has last = (has.0, one_more_byte text bytes (suc at) end d (omega (arith, is)) has.1 last)
 
--- so it is if the weight is written after this white space
+-- so a range demands nothing else, and weighs these tenths, if the weight is written after this white space
 pub weight_of_one_decimal : (n : List ℕ) (end : ℕ) (offer media : MediaType) (rest : List ℕ) → AreSpaces n → end ≡ 5 + length n
     → Reads media.kept media → rest ≡ drop (length media.essence) media.kept → length rest ≡ end + 1
     → HasBytesAt rest 0 (59 ∷ (n ++ (113 ∷ 61 ∷ 48 ∷ 46 ∷ []))) → is_ascii_digit (get_or rest end 0) ≡ true
-    → DemandsNothing offer media (get_or rest end 0)
+    → found_of 0 (Some (48 ∷ 46 ∷ get_or rest end 0 ∷ [])) ≡ found_in offer media.pairs
 weight_of_one_decimal n end offer media rest spaces at reads after long bytes digit =
     let d = get_or rest end 0 in
     let front = 59 ∷ (n ++ (113 ∷ 61 ∷ 48 ∷ 46 ∷ [])) in
@@ -107,8 +78,8 @@ weight_of_one_decimal n end offer media rest spaces at reads after long bytes di
     let whole : rest ≡ front ++ (d ∷ []) =
     text_from_reads rest _ (omega (arith, long, at, size, length-append front (d ∷ [])))
     (one_more_byte rest front 0 end d (omega (arith, at, size)) bytes refl) in
-    demands_nothing offer media d (weight_alone media rest n d reads after
-    (whole ∙ ap (λ text. 59 ∷ text) (append_assoc n (113 ∷ 61 ∷ 48 ∷ 46 ∷ []) (d ∷ []))) spaces digit)
+    rw (weight_alone media rest n d reads after
+    (whole ∙ ap (λ text. 59 ∷ text) (append_assoc n (113 ∷ 61 ∷ 48 ∷ 46 ∷ []) (d ∷ []))) spaces digit) refl
 
 -- a weight of one decimal in thousandths
 pub one_decimal : (d weight : ℕ) → is_ascii_digit d ≡ true → weight ≡ 100 * (d - 48) → weight ≡ thousandths_of (48 ∷ 46 ∷ d ∷ [])

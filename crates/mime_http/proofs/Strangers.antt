@@ -1,7 +1,7 @@
 -- A range that covers none of the offers only moves the ranges after it by one position, which changes no comparison.
 use Rattle.mime_http.proofs.Common.{AreInOrder, Bool, Contains, List, MediaType, None, Option, Rank, Some, StrangerChangesNothing, [], ap, arith, closeness, closest, cons_option, demanded, enumerate_from, false, filter_map, find, get_or, has, if◌then◌else◌, inl, inr, is_gt, is_le, length, length-append, list_all, map, merit, merit_at, named_parts, nat_cmp, nat_lt, nat_tests, option_map, ordering_then, position, position_from, position_from-zero, rank_cmp, refl, subst, suc, sym, true, unwrap_or, weight_of, zero, ℕ, ◌&&◌, ◌++◌, ◌+◌, ◌-◌, ◌<◌, ◌∙◌, ◌∷◌, ◌≡◌, ◌≤◌, ◌⊎◌, list_all-map}
-use Rattle.mime_http.proofs.Highest.{in_more}
-use Rattle.mime_http.proofs.Picked.{is_best}
+use Rattle.mime_http.proofs.Highest.{is_best}
+use Rattle.mime_http.proofs.Picked.{in_more}
 
 -- ---- positions after the range
 
@@ -12,14 +12,6 @@ shifted k at = if nat_lt at k then at else at + 1
 -- a rank with another last place
 abbrev moved : (ℕ → ℕ) → Rank → Rank
 moved g rank = (rank.0, rank.1, rank.2, g rank.3)
-
--- a position before the stranger stays,
-position_stays : (k at : ℕ) → at < k → shifted k at ≡ at
-position_stays k at before = let test : nat_lt at k ≡ true = grind (arith, nat_tests) in rw test refl
-
--- and one from it on is one more
-position_moves : (k at : ℕ) → k ≤ at → shifted k at ≡ at + 1
-position_moves k at after = let test : nat_lt at k ≡ false = grind (arith, nat_tests) in rw test refl
 
 -- shifted positions are in the same order,
 same_order : (k x y : ℕ) → nat_cmp (shifted k x) (shifted k y) ≡ nat_cmp x y
@@ -60,58 +52,51 @@ place_mapped f p at (x ∷ xs) = ap (λ rest. if p (f x) then Some at else rest)
 -- how closely a range covers an offer, once it stands elsewhere
 covers_so : (offer range : MediaType) (g : ℕ → ℕ) (at : ℕ)
     → closeness offer (g at, range) ≡ option_map (moved g) (closeness offer (at, range))
-covers_so offer range g at =
-    elim (list_all (has offer) (demanded range.pairs)) as (λ all. (if all
-    then option_map (λ named. (named, length (demanded range.pairs), weight_of range, g at)) (named_parts range offer) else None)
-    ≡ option_map (moved g) (if all
-    then option_map (λ named. (named, length (demanded range.pairs), weight_of range, at)) (named_parts range offer) else None)) [
-      | true ↦ both (named_parts range offer)
-      | false ↦ refl
-    ]
+covers_so offer range g at = by (list_all (has offer) (demanded range.pairs)) (named_parts range offer)
   where
-    both : (named : Option ℕ) → option_map (λ n. (n, length (demanded range.pairs), weight_of range, g at)) named
-        ≡ option_map (moved g) (option_map (λ n. (n, length (demanded range.pairs), weight_of range, at)) named)
-    both None = refl
-    both (Some n) = refl
+    by : (all : Bool) (found : Option ℕ)
+        → (if all then option_map (λ named. (named, length (demanded range.pairs), weight_of range, g at)) found else None)
+        ≡ option_map (moved g)
+        (if all then option_map (λ named. (named, length (demanded range.pairs), weight_of range, at)) found else None)
+    by true None = refl
+    by true (Some named) = refl
+    by false found = refl
 
 -- a range that covers nothing covers nothing at another position
 covers_none : (offer range : MediaType) (at : ℕ) → closeness offer (0, range) ≡ None → closeness offer (at, range) ≡ None
 covers_none offer range at none = covers_so offer range (λ _. at) 0 ∙ ap (option_map (moved (λ _. at))) none
-
--- a value before values
-onto_mapped : {X Y : Type 0} (f : X → Y) (first : Option X) (rest : List X)
-    → cons_option (option_map f first) (map f rest) ≡ map f (cons_option first rest)
-onto_mapped f None rest = refl
-onto_mapped f (Some x) rest = refl
 
 module _ (offer : MediaType) where
   -- the ranges that cover it, from a position on
   abbrev covering : ℕ → List MediaType → List Rank
   covering at ranges = filter_map (closeness offer) (enumerate_from at ranges)
 
-  -- ranges after it cover as closely, one position later,
+  -- a range before others covers as closely at another position,
+  before_moved : (g : ℕ → ℕ) (range : MediaType) (at to : ℕ) {found : List Rank} (rest : List Rank) → g at ≡ to → found ≡ map (moved g) rest
+      → cons_option (closeness offer (to, range)) found ≡ map (moved g) (cons_option (closeness offer (at, range)) rest)
+  before_moved g range at to rest there same =
+      (λ i. cons_option (((ap (λ n. closeness offer (n, range)) (sym there)) ∙ covers_so offer range g at) i) (same i))
+      ∙ onto_mapped (closeness offer (at, range))
+    where
+      onto_mapped : (first : Option Rank)
+          → cons_option (option_map (moved g) first) (map (moved g) rest) ≡ map (moved g) (cons_option first rest)
+      onto_mapped None = refl
+      onto_mapped (Some x) = refl
+
+  -- so ranges after it cover as closely, one position later,
   later : (k at : ℕ) (ranges : List MediaType) → k ≤ at → covering (at + 1) ranges ≡ map (moved (shifted k)) (covering at ranges)
   later k at [] after = refl
   later k at (range ∷ ranges) after =
-      let here : closeness offer (at + 1, range) ≡ option_map (moved (shifted k)) (closeness offer (at, range)) =
-      ap (λ n. closeness offer (n, range)) (sym (position_moves k at after)) ∙ covers_so offer range (shifted k) at in
-      ap (λ first. cons_option first (covering (at + 1 + 1) ranges)) here
-      ∙ (ap (cons_option (option_map (moved (shifted k)) (closeness offer (at, range)))) (later k (at + 1) ranges (omega (arith, after)))
-      ∙ onto_mapped (moved (shifted k)) (closeness offer (at, range)) (covering (at + 1) ranges))
+      before_moved (shifted k) range at (at + 1) _ (grind (arith, nat_tests)) (later k (at + 1) ranges (omega (arith, after)))
 
   module _ (range : MediaType) (none : closeness offer (0, range) ≡ None) (after : List MediaType) where
-    -- so all that cover are the same, with moved positions,
+    -- all that cover are the same, with moved positions,
     one_more : (k at : ℕ) (before : List MediaType) → k ≡ at + length before
         → covering at (before ++ (range ∷ after)) ≡ map (moved (shifted k)) (covering at (before ++ after))
     one_more k at [] long =
         ap (λ first. cons_option first (covering (at + 1) after)) (covers_none offer range at none) ∙ later k at after (omega (arith, long))
     one_more k at (first ∷ before) long =
-        let here : closeness offer (at, first) ≡ option_map (moved (shifted k)) (closeness offer (at, first)) =
-        ap (λ n. closeness offer (n, first)) (sym (position_stays k at (omega (arith, long)))) ∙ covers_so offer first (shifted k) at in
-        ap (λ found. cons_option found (covering (at + 1) (before ++ (range ∷ after)))) here
-        ∙ (ap (cons_option (option_map (moved (shifted k)) (closeness offer (at, first))))
-        (one_more k (at + 1) before (omega (arith, long)))
-        ∙ onto_mapped (moved (shifted k)) (closeness offer (at, first)) (covering (at + 1) (before ++ after)))
+        before_moved (shifted k) first at at _ (grind (arith, nat_tests, long)) (one_more k (at + 1) before (omega (arith, long)))
 
     -- and the closest is the same
     still_closest : (before : List MediaType)
@@ -134,46 +119,37 @@ raised k long early = if nat_lt (long - early) k then early + 1 else early
 same_earliness : (k long x y : ℕ) → nat_cmp (raised k long x) (raised k long y) ≡ nat_cmp x y
 same_earliness k long x y = grind (arith, nat_tests)
 
--- the earliness of a shifted position is raised,
-early_so : (k long at : ℕ) → k ≤ long → long + 1 - shifted k at ≡ raised k long (long - at)
-early_so k long at within = grind (arith, nat_tests)
-
--- and none stays none
-late_so : (k long : ℕ) → k ≤ long → raised k long 0 ≡ 0
-late_so k long within = grind (arith, nat_tests)
-
 module _ (before after : List MediaType) (range : MediaType) where
-  -- the ranges with it, and a rank among them
+  -- the ranges with it,
   abbrev with_it : List MediaType
   with_it = before ++ (range ∷ after)
 
-  abbrev raise : Rank → Rank
-  raise = moved (raised (length before) (length (before ++ after)))
+  -- its position,
+  abbrev place : ℕ
+  place = length before
 
-  -- the position lies within the ranges
-  within : length before ≤ length (before ++ after)
-  within = omega (arith, length-append before after)
+  -- how many there are without it,
+  abbrev count : ℕ
+  count = length (before ++ after)
+
+  -- and what it makes of a rank
+  abbrev raise : Rank → Rank
+  raise = moved (raised place count)
 
   -- an offer that no range covers ranks as before
   none_stays : raise (0, 0, 0, 0) ≡ (0, 0, 0, 0)
-  none_stays = λ i. (0, 0, 0, late_so (length before) (length (before ++ after)) within i)
-
-  -- there is one range more
-  longer : length with_it ≡ length (before ++ after) + 1
-  longer = omega (arith, length-append before after, length-append before (range ∷ after))
+  none_stays = let late : raised place count 0 ≡ 0 = grind (arith, nat_tests, length-append before after) in λ i. (0, 0, 0, late i)
 
   -- what is made of how closely the closest range covers an offer
   abbrev merit_by : ℕ → Option Rank → Rank
   merit_by long found = unwrap_or (option_map (λ close. (close.2, close.0, close.1, long - close.3)) found) (0, 0, 0, 0)
 
   -- what is made of the closest range
-  raised_by : (found : Option Rank)
-      → merit_by (length with_it) (option_map (moved (shifted (length before))) found) ≡ raise (merit_by (length (before ++ after)) found)
+  raised_by : (found : Option Rank) → merit_by (length with_it) (option_map (moved (shifted place)) found) ≡ raise (merit_by count found)
   raised_by None = sym none_stays
   raised_by (Some close) =
-      let early : length with_it - shifted (length before) close.3 ≡ raised (length before) (length (before ++ after))
-      (length (before ++ after) - close.3) =
-      ap (λ n. n - shifted (length before) close.3) longer ∙ early_so (length before) (length (before ++ after)) close.3 within in
+      let early : length with_it - shifted place close.3 ≡ raised place count (count - close.3) =
+      grind (arith, nat_tests, length-append before after, length-append before (range ∷ after)) in
       λ i. (close.2, close.0, close.1, early i)
 
   -- each offer ranks so,
@@ -193,8 +169,7 @@ module _ (before after : List MediaType) (range : MediaType) where
   -- the best is the same
   same_best : (all : List Rank) → position (is_best (map raise all)) (map raise all) ≡ position (is_best all) all
   same_best all =
-      let long = length (before ++ after) in
-      let same = same_top (raised (length before) long) (same_earliness (length before) long) all in
+      let same = same_top (raised place count) (same_earliness place count) all in
       position_from-zero (is_best (map raise all)) (map raise all)
       ∙ (place_mapped raise (is_best (map raise all)) 0 all
       ∙ ((λ i. position_from (λ (one : Rank). nat_lt 0 one.0 && same one i) 0 all) ∙ sym (position_from-zero (is_best all) all)))
@@ -210,21 +185,16 @@ module _ (before after : List MediaType) (range : MediaType) where
     place_so : (at : ℕ) → merit_at with_it offers at ≡ raise (merit_at (before ++ after) offers at)
     place_so at = ap (λ all. get_or all at (0, 0, 0, 0)) (merits_so offers none) ∙ at_mapped (map (merit (before ++ after)) offers) at
 
-    -- two offers compare as before,
-    same_place_order : (at other : ℕ) → rank_cmp (merit_at with_it offers at) (merit_at with_it offers other)
-        ≡ rank_cmp (merit_at (before ++ after) offers at) (merit_at (before ++ after) offers other)
-    same_place_order at other =
-        (λ i. rank_cmp (place_so at i) (place_so other i))
-        ∙ same_rank_order (raised (length before) (length (before ++ after))) (same_earliness (length before) (length (before ++ after)))
-        (merit_at (before ++ after) offers at) (merit_at (before ++ after) offers other)
-
     -- so the first comes first,
     still_before : (at other : ℕ)
         → (is_gt (rank_cmp (merit_at (before ++ after) offers at) (merit_at (before ++ after) offers other)) ≡ true)
         ⊎ ((merit_at (before ++ after) offers at ≡ merit_at (before ++ after) offers other) × (at < other))
         → (is_gt (rank_cmp (merit_at with_it offers at) (merit_at with_it offers other)) ≡ true)
         ⊎ ((merit_at with_it offers at ≡ merit_at with_it offers other) × (at < other))
-    still_before at other (inl above) = inl (ap is_gt (same_place_order at other) ∙ above)
+    still_before at other (inl above) =
+        inl ((λ i. is_gt (rank_cmp (place_so at i) (place_so other i)))
+        ∙ (ap is_gt (same_rank_order (raised place count) (same_earliness place count)
+        (merit_at (before ++ after) offers at) (merit_at (before ++ after) offers other)) ∙ above))
     still_before at other (inr level) = inr (place_so at ∙ (ap raise level.0 ∙ sym (place_so other)), level.1)
 
     -- and the order is the same

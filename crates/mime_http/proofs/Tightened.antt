@@ -1,6 +1,6 @@
 -- A value tightened, as the page `Tight` has it, is what comes out of it byte by byte.
-use Rattle.mime_http.proofs.Common.{AreSpaces, Closed, Equals, IsContent, List, Place, Plain, Quoted, Semicolon, Start, Tightens, a_byte, a_semicolon, a_string, ap, arith, at_end, before_token, cond_both, false, false≢true, if◌then◌else◌, is_space, length, length-append, nat_tests, refl, semicolon_left, subst, sym, tight, tight_from, true, white_left, ℕ, ◌++◌, ◌==◌, ◌||◌, ◌∙◌, ◌∷◌, ◌≡◌, ◌≤◌}
-use Rattle.mime_http.proofs.Places.{Leads, after_value, before_name, walk_spaces, quoted_content, comes_out_whole, at_start, white_skipped, nothing_out, LeavesWhite, after_token, after_equals, token_semicolon, token_end}
+use Rattle.mime_http.proofs.Common.{AreSpaces, Closed, Equals, IsContent, List, Place, Plain, Quoted, Semicolon, Spaced, Start, Tightens, [], a_byte, a_semicolon, a_string, ap, arith, at_end, before_token, cond_both, false, false≢true, if◌then◌else◌, is_space, nat_tests, refl, semicolon_left, subst, sym, tight, tight_from, true, white_left, ℕ, ◌++◌, ◌==◌, ◌||◌, ◌∙◌, ◌∷◌, ◌≡◌}
+use Rattle.mime_http.proofs.Places.{Leads, LeavesWhite, after_equals, after_token, after_value, at_start, before_name, comes_out, leaves_white, no_bytes, one, quoted_content, skipped_white, walk_spaces}
 
 -- ---- what is left of bytes comes out of them
 
@@ -17,22 +17,26 @@ data Last : ℕ → Place → Type 0 where
   list : Last 59 Semicolon
   other : {last : ℕ} {place : Place} → IsOther last → LeavesWhite place → Last last place
 
--- white space at the end comes out as it is left,
-end_out : {last : ℕ} {place : Place} → Last last place → (white : List ℕ) → AreSpaces white → tight_from place white ≡ white_left last white
-end_out nothing white all = nothing_out at_start white all
-end_out string white all = comes_out_whole (walk_spaces after_value white all)
-end_out list white all = comes_out_whole (walk_spaces before_name white all)
-end_out (other is leaves) white all = rw (is.quote, is.semicolon) (token_end leaves white all)
+-- what is left of white space comes out of it, and of a semicolon after it
+record Whitens (last : ℕ) (place : Place) (white : List ℕ) : Type 0 where
+  to : Place
+  leads : Leads place white (white_left last white) to
+  semicolon : Leads to (59 ∷ []) (semicolon_left last) Semicolon
 
--- and so does that before a semicolon, and the semicolon
-semicolon_out : {last : ℕ} {place : Place} → Last last place → (white rest : List ℕ) → AreSpaces white
-    → tight_from place (white ++ (59 ∷ rest)) ≡ white_left last white ++ (semicolon_left last ++ tight_from Semicolon rest)
-semicolon_out nothing white rest all = white_skipped at_start white (59 ∷ rest) all
-semicolon_out string white rest all =
-    let kept : Leads Closed white white Closed = walk_spaces after_value white all in kept.tightly (59 ∷ rest)
-semicolon_out list white rest all =
-    let kept : Leads Semicolon white white Semicolon = walk_spaces before_name white all in kept.tightly (59 ∷ rest)
-semicolon_out (other is leaves) white rest all = rw (is.quote, is.semicolon) (token_semicolon leaves white rest all)
+-- so it is at each of these places
+whitens : {last : ℕ} {place : Place} → Last last place → (white : List ℕ) → AreSpaces white → Whitens last place white
+whitens nothing white all = record { to = Start; leads = skipped_white at_start white all; semicolon = one Start 59 }
+whitens string white all = record { to = Closed; leads = walk_spaces after_value white all; semicolon = one Closed 59 }
+whitens list white all = record { to = Semicolon; leads = walk_spaces before_name white all; semicolon = one Semicolon 59 }
+whitens (other is leaves) (b ∷ white) all = record {
+  to = Spaced;
+  leads = rw (is.quote, is.semicolon) (leaves_white leaves b white all);
+  semicolon = rw is.semicolon (one Spaced 59);
+}
+whitens (other is after_token) [] all =
+    record { to = Plain; leads = rw (is.quote, is.semicolon) (no_bytes Plain); semicolon = rw is.semicolon (one Plain 59) }
+whitens (other is after_equals) [] all =
+    record { to = Equals; leads = rw (is.quote, is.semicolon) (no_bytes Equals); semicolon = rw is.semicolon (one Equals 59) }
 
 -- a quoted value comes out as it is,
 quoted_out : {content : List ℕ} → IsContent content → (rest : List ℕ)
@@ -40,6 +44,7 @@ quoted_out : {content : List ℕ} → IsContent content → (rest : List ℕ)
 quoted_out {content} is rest =
     let leads : Leads Quoted content content Quoted = quoted_content is in ap (λ x. 34 ∷ x) (leads.tightly (34 ∷ rest))
 
+-- also with the equals sign before it,
 string_out : {last : ℕ} {place : Place} → Last last place → {content : List ℕ} → IsContent content → (rest : List ℕ)
     → tight_from place (61 ∷ 34 ∷ (content ++ (34 ∷ rest))) ≡ 61 ∷ 34 ∷ (content ++ (34 ∷ tight_from Closed rest))
 string_out (other tests after_token) is rest = ap (λ x. 61 ∷ x) (quoted_out is rest)
@@ -63,10 +68,12 @@ byte_last b is = cond_both (b == 61) _ _ (Last b) (λ e. other is after_equals) 
 
 -- So what is left of bytes comes out of them.
 tight_out : {last : ℕ} {place : Place} → Last last place → {bytes text : List ℕ} → Tightens last bytes text → tight_from place bytes ≡ text
-tight_out at (at_end last white all) = end_out at white all
+tight_out at (at_end last white all) = comes_out (whitens at white all).leads
 tight_out at (a_semicolon last white rest text all is) =
-    semicolon_out at white rest all ∙ ap (λ x. white_left last white ++ (semicolon_left last ++ x)) (tight_out list is)
-tight_out nothing (before_token last white rest text may all is) = white_skipped at_start white rest all ∙ tight_out nothing is
+    let left = whitens at white all in
+    left.leads.tightly (59 ∷ rest)
+    ∙ ap (λ x. white_left last white ++ x) (left.semicolon.tightly rest ∙ ap (λ x. semicolon_left last ++ x) (tight_out list is))
+tight_out nothing (before_token last white rest text may all is) = (skipped_white at_start white all).tightly rest ∙ tight_out nothing is
 tight_out string (before_token last white rest text may all is) = absurd (false≢true may)
 tight_out list (before_token last white rest text may all is) =
     let kept : Leads Semicolon white white Semicolon = walk_spaces before_name white all in
@@ -82,32 +89,3 @@ tight_out at (a_byte last b rest text not_white not_semicolon not_quote is) =
 -- so a value is tightened to what comes out of it
 pub tight_is : {value text : List ℕ} → Tightens 32 value text → tight value ≡ text
 tight_is is = tight_out nothing is
-
--- ---- a value is no longer if it is tightened
-
--- what is left of white space is no longer than it
-white_no_longer : (last : ℕ) (white : List ℕ) → length (white_left last white) ≤ length white
-white_no_longer last white = cond_both (last == 34 || last == 59) _ _ (λ t. length t ≤ length white) (λ is. omega arith) (λ is. omega arith)
-
--- nor what is left of a semicolon
-semicolon_no_longer : (last : ℕ) → length (semicolon_left last) ≤ 1
-semicolon_no_longer last = cond_both (last == 59) _ _ (λ t. length t ≤ 1) (λ is. omega arith) (λ is. omega arith)
-
--- and so is all that is left
-pub no_longer : {last : ℕ} {bytes text : List ℕ} → Tightens last bytes text → length text ≤ length bytes
-no_longer (at_end last white all) = white_no_longer last white
-no_longer (a_semicolon last white rest text all is) =
-    omega (
-      arith,
-      white_no_longer last white,
-      semicolon_no_longer last,
-      no_longer is,
-      length-append (white_left last white) (semicolon_left last ++ text),
-      length-append (semicolon_left last) text,
-      length-append white (59 ∷ rest),
-    )
-no_longer (before_token last white rest text may all is) =
-    omega (arith, white_no_longer last white, no_longer is, length-append (white_left last white) text, length-append white rest)
-no_longer (a_string last content rest text quoted is) =
-    omega (arith, no_longer is, length-append content (34 ∷ rest), length-append content (34 ∷ text))
-no_longer (a_byte last b rest text not_white not_semicolon not_quote is) = omega (arith, no_longer is)

@@ -1,5 +1,5 @@
 -- What is written of parameters is read as them.
-use Rattle.mime_http.proofs.Common.{AllByRecursion, AreParameters, Bool, IsContent, IsParameter, IsSafe, IsSafePair, IsToken, IsToken-lowered, List, MediaType, Parameter, Parameters, Reads, SyntaxTree, [], ap, append-nil, append_assoc, arith, bytes_eq, cond, cond_both, drop, essence_is_read, false, final, is_token_byte, is_token_value, kept_text, last_plus, length-lowered, list_all-lowered, listed, lowered, lowered-lowered, lowered_list, lowered_parameter, lowered_tree, lowered_value, lowered_value-either, lowered_value-lowered, map, more, nat_tests, not, others, pair_of, pairs_of_list, pairs_of_tail, pairs_of_tail-lowered, plain, quoted, refl, subst, sym, text_of_list, text_of_pair, text_of_pairs, text_of_parameter, true, with_pair, with_pairs, ℕ, ◌++◌, ◌+◌, ◌∙◌, ◌∷◌, ◌≡◌}
+use Rattle.mime_http.proofs.Common.{AllByRecursion, AreParameters, IsContent, IsParameter, IsSafe, IsSafePair, IsToken, IsToken-lowered, List, MediaType, Parameter, Parameters, Reads, SyntaxTree, [], ap, append-nil, append_assoc, arith, bytes_eq, cond, cond_both, drop, essence_is_read, final, is_token_byte, is_token_value, kept_text, last_plus, length-lowered, list_all-lowered, listed, lowered, lowered-lowered, lowered_list, lowered_parameter, lowered_tree, lowered_value, lowered_value-either, lowered_value-lowered, map, more, nat_tests, not, others, pair_of, pairs_of_list, pairs_of_tail, pairs_of_tail-lowered, plain, quoted, refl, subst, sym, text_of_list, text_of_pair, text_of_pairs, text_of_parameter, true, with_pair, with_pairs, ℕ, ◌++◌, ◌+◌, ◌∙◌, ◌∷◌, ◌≡◌}
 use Rattle.mime.specs.Inner.KeptText.{lowered_pair, IsLowPair}
 
 -- ---- one parameter
@@ -11,12 +11,7 @@ parameter_of pair = cond (is_token_value pair.1) (plain pair.0 pair.1) (quoted p
 -- its text
 parameter_text : (pair : List ℕ × List ℕ) → 59 ∷ 32 ∷ text_of_parameter (parameter_of pair) ≡ text_of_pair pair
 unfolding parameter_of
-parameter_text (name, value) = ap (λ rest. 59 ∷ 32 ∷ rest) (by_test (is_token_value value))
-  where
-    by_test : (b : Bool) → text_of_parameter (cond b (plain name value) (quoted name value []))
-        ≡ name ++ (61 ∷ (cond b [] (34 ∷ []) ++ (value ++ cond b [] (34 ∷ []))))
-    by_test true = ap (λ rest. name ++ (61 ∷ rest)) (sym (append-nil value))
-    by_test false = refl
+parameter_text (name, value) = grind (arith, append-nil value)
 
 -- the test for a token holds for tokens alone
 pub token_from_test : (value : List ℕ) → is_token_value value ≡ true → IsToken value
@@ -41,18 +36,13 @@ unfolding parameter_of
 parameter-lowered (name, value) =
     let same : is_token_value (lowered_value name value) ≡ is_token_value value =
     lowered_value-either (λ v. is_token_value v ≡ is_token_value value) name value refl (test-lowered value) in
-    rw same (elim (is_token_value value) as (λ b. lowered_parameter (cond b (plain name value) (quoted name value []))
-    ≡ cond b (plain (lowered name) (lowered_value name value)) (quoted (lowered name) (lowered_value name value) [])) [
-      | true ↦ refl
-      | false ↦ refl
-    ])
+    grind (arith, same)
 
 -- and is read as itself
 parameter_pair : (pair : List ℕ × List ℕ) → pair_of (parameter_of pair) ≡ pair
 unfolding parameter_of
 parameter_pair (name, value) =
-    elim (is_token_value value) as (λ b. pair_of (cond b (plain name value) (quoted name value [])) ≡
-    (name, value)) [ true ↦ refl | false ↦ refl ]
+    grind arith
 
 -- ---- a list of one or more
 
@@ -66,9 +56,7 @@ list_text : (pair : List ℕ × List ℕ) (pairs : List (List ℕ × List ℕ))
     → 59 ∷ text_of_list (list_of pair pairs) ≡ text_of_pairs (pair ∷ pairs)
 unfolding list_of
 list_text pair [] = parameter_text pair ∙ sym (append-nil (text_of_pair pair))
-list_text pair (next ∷ pairs) =
-    ap (λ rest. 59 ∷ 32 ∷ (text_of_parameter (parameter_of pair) ++ rest)) (list_text next pairs)
-    ∙ ap (λ text. text ++ text_of_pairs (next ∷ pairs)) (parameter_text pair)
+list_text pair (next ∷ pairs) = λ i. parameter_text pair i ++ list_text next pairs i
 
 -- it is well-formed if they are safe,
 list_fine : (pair : List ℕ × List ℕ) (pairs : List (List ℕ × List ℕ)) → AllByRecursion IsSafePair (pair ∷ pairs)
@@ -155,8 +143,9 @@ all_others : (P : List ℕ × List ℕ → Type 0) (name : List ℕ) (pairs : Li
     → AllByRecursion P pairs → P pair → AllByRecursion P (others name pairs ++ (pair ∷ []))
 all_others P name [] pair all last = (last, tt)
 all_others P name (first ∷ pairs) pair all last =
+    let rest = all_others P name pairs pair all.1 last in
     cond_both (not (bytes_eq (lowered first.0) (lowered name))) _ _ (λ ps. AllByRecursion P (ps ++ (pair ∷ [])))
-    (λ other. (all.0, all_others P name pairs pair all.1 last)) (λ same. all_others P name pairs pair all.1 last)
+    (λ other. (all.0, rest)) (λ same. rest)
 
 -- a pair in lowercase stays so,
 low_pair : (pair : List ℕ × List ℕ) → IsLowPair (lowered_pair pair)
@@ -182,9 +171,7 @@ others_stay name pairs pair all = rw (lowered-lowered name) (go pairs all)
         → map lowered_pair (others name pairs ++ (pair ∷ [])) ≡ others name pairs ++ (lowered_pair pair ∷ [])
     go [] all = refl
     go (first ∷ pairs) all =
-        cond_both (not (bytes_eq (lowered first.0) (lowered name))) _ _
-        (λ ps. map lowered_pair (ps ++ (pair ∷ [])) ≡ ps ++ (lowered_pair pair ∷ []))
-        (λ other. cc (all.0, go pairs all.1)) (λ same. go pairs all.1)
+        grind (arith, all.0, go pairs all.1)
 
 -- an essence with the parameters of other names and this one after it is read as the value with this one in place of those of its name
 pub with_pair_is_read : (text : List ℕ) (value : MediaType) (name content : List ℕ) → Reads text value → IsSafe value → IsToken name

@@ -1,8 +1,8 @@
 -- Private: the places of a line, its cut as a function over them, and what is added to a header.
-use Rattle.std.specs.Prelude.{◌≡◌, ◌<◌, ◌≤◌, ◌||◌, ℕ, Bool, false, List, [], ◌∷◌, ◌++◌, slice_index, if◌then◌else◌, ◌==◌}
+use Rattle.std.specs.Prelude.{◌≡◌, ◌<◌, ◌≤◌, ◌||◌, ℕ, Bool, true, false, List, [], ◌∷◌, ◌++◌, length, slice_index, if◌then◌else◌, ◌==◌}
 use Rattle.mime.specs.Bytes.{comma_byte, equals_byte, quote_byte, backslash_byte}
 use Rattle.mime.specs.Values.{MediaType}
-use Rattle.mime_http.specs.HttpList.{AreBetweenCommas, AreSorted, IsPiece, BeginsPiece, Header}
+use Rattle.mime_http.specs.HttpList.{AreSorted, Header, trim_start}
 
 -- where in a line the next byte is: outside strings, right after an equals sign outside strings, in a string, and right after a
 -- backslash in a string
@@ -52,6 +52,13 @@ is_mark one other b = b == one || b == other
 abbrev pub AreUnmarked : ℕ → ℕ → List ℕ → ℕ → ℕ → Type 0
 AreUnmarked one other bytes from to = (k : ℕ) → from ≤ k → k < to → is_mark one other (slice_index bytes k) ≡ false
 
+-- the position, from one on, of the first mark, or the length
+pub record IsNextMark (one other : ℕ) (bytes : List ℕ) (from to : ℕ) : Type 0 where
+  pub least : from ≤ to
+  pub within : to ≤ length bytes
+  pub unmarked : AreUnmarked one other bytes from to
+  pub mark : to < length bytes → is_mark one other (slice_index bytes to) ≡ true
+
 -- a header holds what pieces are after what it held
 pub record Adds (pieces : List (List ℕ)) (old new : Header) : Type 0 where
   pub ranges : List MediaType
@@ -60,8 +67,6 @@ pub record Adds (pieces : List (List ℕ)) (old new : Header) : Type 0 where
   pub now_ranges : new.ranges ≡ old.ranges ++ ranges
   pub now_bad : new.bad ≡ old.bad ++ bad
 
--- and what lines are
-pub record AddsLines (lines : List (List ℕ)) (old new : Header) : Type 0 where
-  pub pieces : List (List ℕ)
-  pub cut : AreBetweenCommas IsPiece BeginsPiece lines pieces
-  pub added : Adds pieces old new
+-- and what an entry is, that is left of a piece without the white space before it
+abbrev pub AddsEntry : List ℕ → Header → Header → Type 0
+AddsEntry entry old new = (piece : List ℕ) → trim_start piece ≡ entry → Adds (piece ∷ []) old new

@@ -1,13 +1,13 @@
 //! An `Accept` header, read once, and what it says of a server's offers.
 
-ghost use Rattle.std.specs.Prelude.{◌≡◌, ◌≢◌, ◌<◌, true, ℕ, List, [], ◌∷◌, ◌++◌, map, length, IfSome, IsOk, IfOk, OnOk};
+ghost use Rattle.std.specs.Prelude.{◌≡◌, ◌≢◌, ◌<◌, true, [], ◌∷◌, ◌++◌, map, length, IfSome, IsOk, IfOk, OnOk};
 ghost use Rattle.std.specs.Str.{IsAscii};
 ghost use Rattle.std.specs.Vec.{vec_items};
 ghost use Rattle.mime.specs.Grammar.{AreSpaces};
 ghost use Rattle.mime.specs.Faults.{Explains};
-ghost use Rattle.mime_http.specs.HttpList.{trim_start, trim_end, AreBetweenCommas, AreSorted, IsPiece, BeginsPiece, IsHeader};
+ghost use Rattle.mime_http.specs.HttpList.{trim_end, AreSorted, IsHeader};
 ghost use Rattle.mime_http.specs.Ranges.{given_weight, best_offer, AreInOrder};
-ghost use Rattle.mime_http.specs.Walk.{Adds, AddsLines};
+ghost use Rattle.mime_http.specs.Walk.{cut, Adds, AddsEntry};
 
 use crate::list::{is_empty_piece, is_short_ascii, piece_end, trim_end, trim_start};
 use crate::offers::{best_of, merit, order_of};
@@ -57,9 +57,8 @@ impl Accept {
         fault: ParseError,
     ) -> Result<(), AllocError>
         requires some { entry.now ≢ [] }
-        requires trimmed { trim_start entry.now ≡ entry.now }
         requires fault { Explains entry.now fault }
-        ensures { OnOk result (Adds (entry.now ∷ []) self.old self.new) }
+        ensures { OnOk result (AddsEntry entry.now self.old self.new) }
     {
         if let ParseError::NoMemory = fault {
             return Err(AllocError);
@@ -90,8 +89,7 @@ impl Accept {
     fn add_entry(&mut self, alloc: Global, entry: &[u8], is_ascii: bool) -> Result<(), AllocError>
         requires ascii { is_ascii ≡ true → IsAscii entry.now }
         requires some { entry.now ≢ [] }
-        requires trimmed { trim_start entry.now ≡ entry.now }
-        ensures { OnOk result (Adds (entry.now ∷ []) self.old self.new) }
+        ensures { OnOk result (AddsEntry entry.now self.old self.new) }
     {
         let Ok(text) = text_of_piece(entry, is_ascii) else {
             return self.add_bad(alloc, entry);
@@ -119,9 +117,8 @@ impl Accept {
 
     /// Adds a line's pieces.
     fn add_line(&mut self, alloc: Global, line: &[u8]) -> Result<(), AllocError>
-        ensures added { OnOk result (AddsLines (line.now ∷ []) self.old self.new) }
-        ensures nothing { (pieces : List (List ℕ)) → AreBetweenCommas IsPiece BeginsPiece (line.now ∷ []) pieces → AreSorted pieces [] []
-            → IsOk result }
+        ensures added { OnOk result (Adds (cut line.now) self.old self.new) }
+        ensures nothing { AreSorted (cut line.now) [] [] → IsOk result }
     {
         let is_ascii = is_short_ascii(line);
         let mut from = 0;

@@ -7,11 +7,13 @@ ghost use Rattle.mime_http.specs.RangesLaws.{ClosestIsClosest, BestIsFirst, Cove
 
 /// A media type as HTTP writes it is read as it, tightened: `text/html ;; charset=utf-8` as `text/html; charset=utf-8`
 /// (RFC 9110, 8.3.1).
+#[tactic(auto, using(crate::proofs::HttpForth::http_is_tight))]
 pub fn http_is_read()
     ensures { HttpIsRead }
 {}
 
 /// What is read of a tightened value is what HTTP writes: not `a /b`, which stays `a /b` (RFC 9110, 8.3.1).
+#[tactic(auto, using(crate::proofs::HttpLaws::tight_is_http))]
 pub fn read_is_http()
     ensures { ReadIsHttp }
 {}
@@ -22,6 +24,7 @@ pub fn one_tight_reading()
 {}
 
 /// What the library `mime` reads is what HTTP writes: `a/b; p=x;`.
+#[tactic(auto, using(crate::proofs::HttpLaws::plain_is_http))]
 pub fn plain_is_http()
     ensures { PlainIsHttp }
 {}
@@ -34,11 +37,13 @@ pub fn one_http_reading()
 
 /// A value that is no media type has exactly one fault: that of `   a/b c` is its byte at position 7, counted from 0
 /// (RFC 9110, 8.3.1).
+#[tactic(auto, using(crate::proofs::HttpOneFault::one_http_fault))]
 pub fn one_http_fault()
     ensures { OneHttpFault }
 {}
 
 /// What the reader leaves of a value, going from place to place, is the value tightened.
+#[tactic(auto, using(crate::proofs::Tightened::tight_is))]
 pub fn left_is_tight()
     ensures { LeftIsTight }
 {}
@@ -49,21 +54,25 @@ pub fn tight_is_utf8()
 {}
 
 /// A value with a fault at a byte that might be left out isn't left as it is: ` a/b` and `a/b ;p=x`.
+#[tactic(auto, using(crate::proofs::Spare::spare_is_left_out))]
 pub fn spare_is_left_out()
     ensures { SpareIsLeftOut }
 {}
 
 /// Lines have exactly one cut into pieces: that of `a/b;p="x,y",c/d` has two.
+#[tactic(auto, using(crate::proofs::Cuts::one_cut))]
 pub fn one_cut()
     ensures { OneCut }
 {}
 
 /// Of lists as HTTP writes them the elements are read, and none is bad: `,a/b ,, c/d;q=0.5` has `a/b` and `c/d;q=0.5` (RFC 9110, 5.6.1.2).
+#[tactic(auto, using(crate::proofs::Lists::http_lists_are_read))]
 pub fn http_lists_are_read()
     ensures { HttpListsAreRead }
 {}
 
 /// Lines of which no entry is bad are lists as HTTP writes them.
+#[tactic(auto, using(crate::proofs::Lists::read_are_http_lists))]
 pub fn read_are_http_lists()
     ensures { ReadAreHttpLists }
 {}
@@ -74,37 +83,44 @@ pub fn one_header()
 {}
 
 /// A bad entry changes no other, wherever it stands, and no offer's weight: `c/d, a b` and `c/d` have the same ranges.
+#[tactic(auto, using(crate::proofs::Lists::bad_is_alone))]
 pub fn bad_is_alone()
     ensures { BadIsAlone }
 {}
 
 /// The closest range covers the offer, and no other that covers it is closer.
+#[tactic(auto, using(crate::proofs::Picked::closest_is_closest))]
 pub fn closest_is_closest()
     ensures { ClosestIsClosest }
 {}
 
 /// What is written for a value means the value; that of a `charset` means it in lowercase, as it is read (RFC 9110, 5.6.4).
+#[tactic(auto, using(crate::proofs::Contents::written_is_meant))]
 pub fn written_is_meant()
     ensures { WrittenIsMeant }
 {}
 
 /// The best offer is the first in the order of all that weigh more than 0.
+#[tactic(auto, using(crate::proofs::First::best_is_first))]
 pub fn best_is_first()
     ensures { BestIsFirst }
 {}
 
 /// Each media type covers itself: `a/b;p=1;p=2`, too.
+#[tactic(auto, using(crate::proofs::Meanings::covers_itself))]
 pub fn covers_itself()
     ensures { CoversItself }
 {}
 
 /// How closely a range covers an offer is a matter of what both mean: `a/b;p="\x"` covers `a/b;p=x` as closely as `a/b;p=x` does (RFC 9110,
 /// 5.6.4).
+#[tactic(auto, using(crate::proofs::Meanings::meaning_counts))]
 pub fn meaning_counts()
     ensures { MeaningCounts }
 {}
 
 /// A weight that RFC 9110 allows counts as its number, in thousandths: `0.25` as 250, and `1.` as 1000 (12.4.2).
+#[tactic(auto, using(crate::proofs::Numbers::weight_is_number))]
 pub fn weight_is_number()
     ensures { WeightIsNumber }
 {}

@@ -1,112 +1,26 @@
 //! The cut of a header's line at its commas outside strings, and pieces without the white space around them.
 
-ghost use Rattle.std.specs.Prelude.{◌≡◌, ◌<◌, ◌≤◌, ◌+◌, ◌-◌, ◌∷◌, ℕ, true, length, take, drop, map, slice_index};
-ghost use Rattle.std.specs.Simd.Lanes.{mask_l};
+ghost use Rattle.std.specs.Prelude.{◌≡◌, ◌<◌, ◌≤◌, ◌+◌, ◌-◌, ◌∷◌, ℕ, true, length, take, drop, slice_index};
 ghost use Rattle.std.specs.Str.{IsAscii};
 ghost use Rattle.mime.specs.Bytes.{comma_byte, equals_byte, quote_byte};
 ghost use Rattle.mime.specs.Grammar.{is_space};
 ghost use Rattle.mime_http.specs.HttpList.{trim_start, trim_end};
-ghost use Rattle.mime_http.specs.Walk.{Outside, Quoted, is_mark, AreUnmarked, cut_from, cut, cut_after};
+ghost use Rattle.mime_http.specs.Walk.{Outside, Quoted, AreUnmarked, IsNextMark, cut_from, cut, cut_after};
 
+use mime_search::{BLOCK, Class, content_end, first_stop};
 use std::simd::prelude::*;
-
-/// The number of bytes that are compared at once.
-const BLOCK: usize = 16;
-
-/// Whether a byte is one of two marks.
-fn is_mark(byte: u8, one: u8, other: u8) -> bool
-    ensures { result ≡ is_mark one other byte }
-{
-    byte == one || byte == other
-}
-
-/// The marks in a block that begins at a position, as a bit mask. The lowest bit is for its first byte.
-#[inline(always)]
-fn marks_in_block(text: &[u8], at: usize, one: u8, other: u8) -> u64
-    requires { at + BLOCK ≤ length text.now }
-    ensures { result ≡ mask_l (map (is_mark one other) (take BLOCK (drop at text.now))) }
-{
-    let bytes = u8x16::from_slice(&text[at..]);
-    let marks = bytes.simd_eq(u8x16::splat(one)) | bytes.simd_eq(u8x16::splat(other));
-    marks.to_bitmask()
-}
-
-/// How many bytes come before the first mark in a block that begins at a position, or all of the block.
-#[inline(always)]
-fn unmarked_in_block(text: &[u8], at: usize, one: u8, other: u8) -> usize
-    requires { at + BLOCK ≤ length text.now }
-    ensures within { result ≤ BLOCK }
-    ensures unmarked { AreUnmarked one other text.now at (at + result) }
-    ensures mark { result < BLOCK → is_mark one other (slice_index text.now (at + result)) ≡ true }
-{
-    let marks = marks_in_block(text, at, one, other);
-    if marks == 0 {
-        BLOCK
-    } else {
-        marks.trailing_zeros() as usize
-    }
-}
-
-/// How many bytes from a position in a text's last block on come before the first mark, or all of them.
-#[inline(always)]
-fn unmarked_at_end(text: &[u8], from: usize, one: u8, other: u8) -> usize
-    requires block { BLOCK ≤ length text.now }
-    requires end { length text.now < from + BLOCK }
-    requires within { from ≤ length text.now }
-    ensures within { from + result ≤ length text.now }
-    ensures unmarked { AreUnmarked one other text.now from (from + result) }
-    ensures mark { from + result < length text.now → is_mark one other (slice_index text.now (from + result)) ≡ true }
-{
-    let start = text.len() - BLOCK;
-    let marks = marks_in_block(text, start, one, other) >> (from - start);
-    if marks == 0 {
-        text.len() - from
-    } else {
-        marks.trailing_zeros() as usize
-    }
-}
-
-/// The position of the first of two marks from a position on, or the length. `by_blocks` is whether the last bytes are compared at once,
-/// too, which takes more code.
-#[inline(always)]
-fn next_mark(text: &[u8], from: usize, one: u8, other: u8, by_blocks: bool) -> usize
-    requires { from ≤ length text.now }
-    ensures least { from ≤ result }
-    ensures within { result ≤ length text.now }
-    ensures unmarked { AreUnmarked one other text.now from result }
-    ensures mark { result < length text.now → is_mark one other (slice_index text.now result) ≡ true }
-{
-    let mut at = from;
-    while text.len() - at >= BLOCK {
-        let unmarked = unmarked_in_block(text, at, one, other);
-        at += unmarked;
-        if unmarked < BLOCK {
-            return at;
-        }
-    }
-    if by_blocks && text.len() >= BLOCK {
-        return at + unmarked_at_end(text, at, one, other);
-    }
-    while at < text.len() && !is_mark(text[at], one, other) {
-        at += 1;
-    }
-    at
-}
 
 /// The position of the first comma or equals sign from a position on, or the length.
 #[inline(always)]
 fn next_outside(line: &[u8], from: usize) -> usize
     requires { from < length line.now }
-    ensures least { from ≤ result }
-    ensures within { result ≤ length line.now }
-    ensures unmarked { AreUnmarked comma_byte equals_byte line.now from result }
-    ensures mark { result < length line.now → is_mark comma_byte equals_byte (slice_index line.now result) ≡ true }
+    ensures { IsNextMark comma_byte equals_byte line.now from result }
 {
     // The short way for the sign before a string, and for signs in a row.
     if line[from] == b'=' {
         return from;
     }
-    next_mark(line, from, b',', b'=', false)
+    first_stop(line, from, &Class::of(b',', b'='))
 }
 
 /// The position after the closing quote of the string that `from` is in, or the length.
@@ -117,22 +31,8 @@ fn string_end(line: &[u8], from: usize) -> usize
     ensures within { result ≤ length line.now }
     ensures left { cut_from Outside (take result line.now) (drop result line.now) ≡ cut_from Quoted (take from line.now) (drop from line.now) }
 {
-    let mut at = from;
-    while at < line.len() {
-        if line[at] == b'"' {
-            return at + 1;
-        }
-        if line[at] != b'\\' {
-            at = next_mark(line, at + 1, b'"', b'\\', false);
-            continue;
-        }
-        if at + 1 == line.len() {
-            return at + 1;
-        }
-        // The byte that it pairs closes nothing.
-        at += 2;
-    }
-    at
+    let end = content_end(line, from);
+    if end < line.len() { end + 1 } else { end }
 }
 
 /// The length of a line's first piece, of which the first comma or quote is the quote at a position. It isn't inlined: few pieces have a
@@ -179,7 +79,7 @@ pub(crate) fn piece_end(line: &[u8], from: usize) -> usize
     ensures within { result ≤ length line.now }
     ensures piece { cut (drop from line.now) ≡ take (result - from) (drop from line.now) ∷ cut_after (drop result line.now) }
 {
-    let mark = next_mark(line, from, b',', b'"', true);
+    let mark = first_stop(line, from, &Class::of(b',', b'"'));
     if mark < line.len() && line[mark] == b'"' {
         return from + quoted_piece_len(&line[from..], mark - from);
     }
@@ -220,31 +120,34 @@ pub(crate) fn trim_start(piece: &[u8]) -> &[u8]
     trim_spaces(piece)
 }
 
+/// The number of bytes that are tested for ASCII at once.
+const ASCII_BLOCK: usize = 32;
+
 /// Whether a block that begins at a position is ASCII.
 #[inline(always)]
 fn is_ascii_block(text: &[u8], at: usize) -> bool
-    requires { at + BLOCK ≤ length text.now }
-    ensures { result ≡ true → (k : ℕ) → at ≤ k → k < at + BLOCK → slice_index text.now k < 128 }
+    requires { at + ASCII_BLOCK ≤ length text.now }
+    ensures { result ≡ true → (k : ℕ) → at ≤ k → k < at + ASCII_BLOCK → slice_index text.now k < 128 }
 {
-    let bytes = u8x16::from_slice(&text[at..]);
-    bytes.simd_gt(u8x16::splat(127)).to_bitmask() == 0
+    let bytes = u8x32::from_slice(&text[at..]);
+    bytes.simd_gt(u8x32::splat(127)).to_bitmask() == 0
 }
 
-/// Whether a line from 16 up to 256 bytes is ASCII. The pieces of another are looked at one by one instead.
+/// Whether a line from 32 up to 256 bytes is ASCII. The pieces of another are looked at one by one instead.
 #[inline(never)]
 pub(crate) fn is_short_ascii(line: &[u8]) -> bool
     ensures { result ≡ true → IsAscii line.now }
 {
-    if line.len() < BLOCK || line.len() > 256 {
+    if line.len() < ASCII_BLOCK || line.len() > 256 {
         return false;
     }
-    let last = line.len() - BLOCK;
+    let last = line.len() - ASCII_BLOCK;
     let mut at = 0;
     while at < last {
         if !is_ascii_block(line, at) {
             return false;
         }
-        at += BLOCK;
+        at += ASCII_BLOCK;
     }
     is_ascii_block(line, last)
 }

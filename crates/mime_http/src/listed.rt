@@ -56,7 +56,6 @@ impl Chosen {
         fault: ParseError,
     ) -> Result<(), AllocError>
         requires some { entry.now ≢ [] }
-        requires trimmed { trim_start entry.now ≡ entry.now }
         requires fault { Explains entry.now fault }
         requires few { self.old.count + self.old.bad < usize.MAX }
         ensures entry { OnOk result (ChoosesOn (map (λ range. range.media) ranges.now) entry.now self.old self.new) }
@@ -83,7 +82,6 @@ impl Chosen {
     ) -> Result<(), AllocError>
         requires ascii { is_ascii ≡ true → IsAscii entry.now }
         requires some { entry.now ≢ [] }
-        requires trimmed { trim_start entry.now ≡ entry.now }
         requires few { self.old.count + self.old.bad < usize.MAX }
         ensures entry { OnOk result (ChoosesOn (map (λ range. range.media) ranges.now) entry.now self.old self.new) }
         ensures few { OnOk result (self.new.count + self.new.bad ≡ self.old.count + self.old.bad + 1) }
@@ -110,7 +108,7 @@ impl Chosen {
     ) -> Result<(), AllocError>
         requires ascii { is_ascii ≡ true → IsAscii piece.now }
         requires few { self.old.count + self.old.bad + length piece.now ≤ usize.MAX }
-        ensures piece { OnOk result (ChoosesOn (map (λ range. range.media) ranges.now) piece.now self.old self.new) }
+        ensures piece { OnOk result (ChoosesOn (map (λ range. range.media) ranges.now) (trim_start piece.now) self.old self.new) }
         ensures few { OnOk result (self.new.count + self.new.bad ≤ self.old.count + self.old.bad + length piece.now) }
         ensures blank { AreSpaces piece.now → IsOk result }
     {

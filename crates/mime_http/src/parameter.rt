@@ -41,6 +41,7 @@ fn is_lowercase(text: &str) -> bool
 }
 
 /// Whether a parameter is kept as it is written: without a capital in what is kept in lowercase.
+#[tactic(auto, using(crate::proofs::Contents::kept_low))]
 fn is_kept_as_written(name: &str, value: &str) -> bool
     ensures { IsTrue result → (lowered name.now ≡ name.now) × (lowered_value name.now (escaped value.now) ≡ escaped value.now) }
 {
@@ -198,6 +199,7 @@ pub fn with_parameter(
 ///
 /// # Errors
 /// `AllocError` if memory runs out, which is never if the answer is `None`.
+#[tactic(auto, using(crate::proofs::Forms::token_written), unfolding(mime::specs::Bytes::is_token_byte))]
 pub fn with_charset(alloc: Global, mime: &Mime, charset: &str) -> Result<Option<Mime>, AllocError>
     ensures exact { IfOk result (λ answer. IsTrue (is_some answer) ↔ IsToken charset.now) }
     ensures none { ¬ (IsToken charset.now) → IsOk result }
@@ -215,6 +217,7 @@ pub fn with_charset(alloc: Global, mime: &Mime, charset: &str) -> Result<Option<
 ///
 /// # Errors
 /// `AllocError` if memory runs out, which is never if the answer is `None`.
+#[tactic(auto, using(crate::proofs::Forms::boundary_written), unfolding(mime::specs::Bytes::is_token_byte))]
 pub fn with_boundary(alloc: Global, mime: &Mime, boundary: &str) -> Result<Option<Mime>, AllocError>
     ensures exact { IfOk result (λ answer. IsTrue (is_some answer) ↔ IsBoundary boundary.now) }
     ensures none { ¬ (IsBoundary boundary.now) → IsOk result }

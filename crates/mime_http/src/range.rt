@@ -53,20 +53,28 @@ pub fn weight_of(range: &Mime) -> u16
     }
 }
 
-/// Whether an essence is `text/*`, for the type `text`. It isn't inlined: most lengths differ.
+/// Whether a range is `*/*`, whatever its parameters. It isn't inlined, so that a range whose length differs isn't looked at.
 #[inline(never)]
-fn is_all_of(essence: &str, type_: &str) -> bool
-    ensures { result ≡ bytes_eq essence.now (type_.now ++ codes "/*") }
+fn is_star(range: &Mime) -> bool
+    ensures { result ≡ bytes_eq range.now.media.essence (codes "*/*") }
 {
-    essence.strip_suffix("/*") == Some(type_)
+    range.essence_str() == "*/*"
 }
 
-/// Whether two essences are the same. It isn't inlined: most lengths differ.
+/// Whether a range is `text/*`, for the type `text`, whatever its parameters. It isn't inlined, as `is_star`.
 #[inline(never)]
-fn is_same(essence: &str, other: &str) -> bool
-    ensures { result ≡ bytes_eq essence.now other.now }
+fn is_all_of(range: &Mime, type_: &str) -> bool
+    ensures { result ≡ bytes_eq range.now.media.essence (type_.now ++ codes "/*") }
 {
-    essence == other
+    range.essence_str().strip_suffix("/*") == Some(type_)
+}
+
+/// Whether a range has this essence. It isn't inlined, as `is_star`.
+#[inline(never)]
+fn is_same(range: &Mime, essence: &str) -> bool
+    ensures { result ≡ bytes_eq range.now.media.essence essence.now }
+{
+    range.essence_str() == essence
 }
 
 /// How many parts of an offer's essence a range names: 0 for `*/*`, 1 for `text/*`, and 2 for `text/html`; `None` if it doesn't cover it.
@@ -79,11 +87,11 @@ pub(crate) fn named_parts(range: &Mime, essence: &str, type_: &str) -> Option<u8
 {
     // Most lengths differ, so that the range's text isn't looked at.
     let len = range.essence_str().len();
-    if len == 3 && range.essence_str() == "*/*" {
+    if len == 3 && is_star(range) {
         Some(0)
-    } else if len == type_.len() + 2 && is_all_of(range.essence_str(), type_) {
+    } else if len == type_.len() + 2 && is_all_of(range, type_) {
         Some(1)
-    } else if len == essence.len() && is_same(range.essence_str(), essence) {
+    } else if len == essence.len() && is_same(range, essence) {
         Some(2)
     } else {
         None

@@ -78,6 +78,7 @@ pub(crate) fn text_of(value: &[u8]) -> Result<&str, Utf8Error>
 
 /// The string of a piece of a line. The bytes of a line that is known to be ASCII aren't looked at again.
 #[inline(always)]
+#[tactic(auto, using(crate::proofs::HttpText::ascii_is_utf8))]
 pub(crate) fn text_of_piece(piece: &[u8], is_ascii: bool) -> Result<&str, Utf8Error>
     requires { is_ascii ≡ true → IsAscii piece.now }
     ensures cases { MatchResult result (λ text. (text.now ≡ piece.now) × IsUtf8 piece.now)

@@ -11,7 +11,8 @@ use Rattle.mime.specs.Inner.Scanning.{positions_of, before_list, Judges, ScansLi
 use Rattle.mime.specs.Inner.ComparedText.{StartsWithEssence, positions_before_list}
 use Rattle.mime.specs.declared.scan.Positions.{Positions}
 use Rattle.mime.specs.declared.scan.Verdict.{Verdict}
-use Rattle.mime.proofs.LowercaseLemmas.{lowered-lowered, length-lowered, lowered-drop, last_plus-lowered, IsToken-case}
+use Rattle.mime.proofs.LowercaseLemmas.{lowered-lowered, last_plus-lowered, IsToken-case}
+use Rattle.mime_search.proofs.IgnoringCase.{length-lowered, lowered-drop}
 use Rattle.mime.proofs.ValueLemmas.KeptText.{length-before_list}
 use Rattle.mime.proofs.CompareLemmas.OtherCase.{case_cut}
 use Rattle.mime.proofs.CompareLemmas.Parts.{essence-lowered, length-value_essence}

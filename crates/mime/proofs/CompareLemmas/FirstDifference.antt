@@ -13,7 +13,8 @@ use Rattle.mime.specs.Values.{MediaType, Reads, value_of, essence_of, lowered, l
 use Rattle.mime.specs.Comparison.{Same, TextIs}
 use Rattle.mime.specs.Difference.{reaches_value, DifferInValue}
 use Rattle.mime.proofs.ValueLemmas.KeptText.{text_of-essence}
-use Rattle.mime.proofs.LowercaseLemmas.{lowered-append, lowered-lowered, lowered-drop}
+use Rattle.mime.proofs.LowercaseLemmas.{lowered-append, lowered-lowered}
+use Rattle.mime_search.proofs.IgnoringCase.{lowered-drop}
 use Rattle.mime.proofs.CompareLemmas.OtherCase.{lowered-lowered_value}
 use Rattle.mime.proofs.CompareLemmas.Parts.{essence-lowered}
 

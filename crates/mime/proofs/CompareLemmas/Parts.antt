@@ -19,7 +19,8 @@ use Rattle.mime.specs.declared.scan.Positions.{Positions}
 use Rattle.mime.proofs.BytesLemmas.{list_all-parts, AreTokenBytes-from_token, are_other-token, semicolon_is_no_token}
 use Rattle.mime.proofs.ValueLemmas.Parts.{kept-essence, read-low_essence}
 use Rattle.mime.proofs.ValueLemmas.KeptText.{text_of-essence, take-essence, length-essence_of, slice_get-semicolon, kept_is_read, pairs_within-text_of}
-use Rattle.mime.proofs.LowercaseLemmas.{lowered-append, length-lowered, length-tail_lowered, pairs_of_tail-lowered, list_all-lowered}
+use Rattle.mime.proofs.LowercaseLemmas.{lowered-append, length-tail_lowered, pairs_of_tail-lowered, list_all-lowered}
+use Rattle.mime_search.proofs.IgnoringCase.{length-lowered}
 use Rattle.mime.proofs.GrammarLemmas.Readings.{one_reading}
 use Rattle.mime.proofs.CompareLemmas.OtherCase.{case_read, case_read-count, case_read-lone_charset}
 use Rattle.mime.specs.Comparison.{Same}

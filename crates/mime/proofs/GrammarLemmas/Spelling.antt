@@ -43,7 +43,7 @@ AreClosed [] = Unit {0}
 AreClosed (item ∷ closed) = AreSpaces item.0 × IsParameter item.1 × AreClosed closed
 
 -- the text after the last semicolon is well formed so far
-abbrev IsState : ListState → Type 0
+abbrev pub IsState : ListState → Type 0
 IsState (in_spaces n) = AreSpaces n
 IsState (in_name n name) = AreSpaces n × IsToken name
 IsState (in_value n name value) = AreSpaces n × IsToken name × AreTokenBytes value
@@ -62,7 +62,7 @@ pub record IsBegunTail (t s : List ℕ) (begun : BegunList) : Type 0 where
   pub list : IsBegunList begun
 
 -- a begun tree that is well formed so far
-abbrev IsBegun : Begun → Type 0
+abbrev pub IsBegun : Begun → Type 0
 IsBegun (in_type top) = AreTokenBytes top
 IsBegun (in_subtype top sub) = IsToken top × AreTokenBytes sub
 IsBegun (in_list top sub list) = IsBegunTail top sub list

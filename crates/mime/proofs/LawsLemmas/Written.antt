@@ -8,7 +8,8 @@ use Rattle.std.proofs.lemmas.Option.{slice_get_within, get_or_from_slice_get, no
 use Rattle.mime.specs.Bytes.{slash_byte, plus_byte, is_token_byte, is_quoted_byte, is_quoted_text_byte, quote_byte}
 use Rattle.mime.specs.Values.{MediaType, Reads, lowered, lowered_tree, type_of, subtype_of, suffix_of, lowered_value, lowered_tail, pair_of, pairs_of_list, pairs_of_tail}
 use Rattle.mime.specs.Laws.{without_parameters, suffix_text, EssenceIsRead, EssenceIsParts, SameEssence}
-use Rattle.mime.proofs.LowercaseLemmas.{length-lowered, lowered-lowered, IsToken-lowered, lowered_tree-lowered_tree, IsWellFormed-lowered_tree}
+use Rattle.mime.proofs.LowercaseLemmas.{lowered-lowered, IsToken-lowered, lowered_tree-lowered_tree, IsWellFormed-lowered_tree}
+use Rattle.mime_search.proofs.IgnoringCase.{length-lowered}
 use Rattle.mime.proofs.ValueLemmas.ListText.{ended, drop_past}
 use Rattle.mime.proofs.ValueLemmas.Parts.{slash_in, plus_in, subtype_end}
 use Rattle.mime.proofs.GrammarLemmas.Readings.{one_reading, walk-accepted}

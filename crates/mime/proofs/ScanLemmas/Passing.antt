@@ -1,10 +1,11 @@
 -- What a pass over a reader's bytes has given so far, one byte or one run more, and at its end.
-use Rattle.std.proofs.Common.{◌≡◌, ℕ, suc, get_or, ◌+◌, ◌<◌, Bool, true, false, eqb, List, [], ◌∷◌, ◌++◌, length, Option, Some, None, refl, sym, ap, ◌∙◌, subst, arith, append_assoc, append-nil, length-append, take, drop, ◌≤◌, length-drop}
-use Rattle.std.specs.Prelude.{IsTrue, IsFalse, not, MatchOption}
-use Rattle.std.specs.List.{list_all}
+use Rattle.std.proofs.Common.{◌≡◌, ℕ, zero, suc, get_or, ◌+◌, ◌-◌, ◌<◌, Bool, true, false, cond, eqb, List, [], ◌∷◌, ◌++◌, length, Option, Some, None, refl, sym, ap, ◌∙◌, subst, arith, append_assoc, append-nil, length-append, take, drop, ◌≤◌}
+use Rattle.std.specs.Prelude.{IsTrue, IsFalse, not, ◌&&◌, MatchOption}
+use Rattle.std.specs.List.{list_all, prefix_len}
 use Rattle.std.specs.Option.{option_eq, option_to_list}
 use Rattle.std.proofs.lemmas.Bool.{and_from, and_parts, eqb-true, true≢false, not-true, false_from_ne_true}
 use Rattle.std.proofs.lemmas.List.Folds.{list_all-append}
+use Rattle.std.proofs.lemmas.List.Sums.{prefix_len-le-length}
 use Rattle.std.proofs.Math.Seq.{drop-cons}
 use Rattle.std.proofs.lemmas.List.{take-append-drop, drop-drop, length-take-le}
 use Rattle.mime.specs.Bytes.{is_token_byte, is_quoted_byte, is_quoted_text_byte, plus_byte, backslash_byte}
@@ -59,26 +60,43 @@ stopped_by byte (Some b) test = ap Some (eqb-true b byte test)
 abbrev pub reader_at : List ℕ → ℕ → ℕ → Remaining
 reader_at text at before = record { left = drop at text; count = before + at }
 
--- bytes of the class are skipped
-pub passing_skip : (class : ℕ → Bool) (text : List ℕ) (at n before : ℕ) → at + n ≤ length text → list_all class (take n (drop at text)) ≡ true
-    → Passing class (reader_at text at before) (reader_at text (at + n) before)
-passing_skip class text at n before room all = record {
-  run = take n (drop at text);
-  of_class = all;
-  given = record {
-    bytes = sym (take-append-drop n (drop at text)) ∙ ap (λ t. take n (drop at text) ++ t) (drop-drop n at text);
-    counted = omega (arith, length-take-le n (drop at text) (omega (arith, length-drop at text, room)));
-  };
-}
+-- all that comes before the first byte that fails a test passes it
+passes_before : (p : ℕ → Bool) (xs : List ℕ) (n : ℕ) → n ≤ prefix_len p xs → list_all p (take n xs) ≡ true
+passes_before p xs zero within = refl
+passes_before p [] (suc n) within = refl
+passes_before p (x ∷ xs) (suc n) within = go (p x) refl within (passes_before p xs n)
+  where
+    go : (b : Bool) → p x ≡ b → suc n ≤ cond b (1 + prefix_len p xs) 0 → (n ≤ prefix_len p xs → list_all p (take n xs) ≡ true)
+        → (p x && list_all p (take n xs)) ≡ true
+    go true is within rest = and_from (p x) _ is (rest (omega (arith, within)))
+    go false is within rest = absurd (omega (arith, within))
+
+-- bytes of a class are skipped, up to where its run ends at most,
+pub passing_skip : (class : ℕ → Bool) (text : List ℕ) (at to before : ℕ) → at ≤ length text → at ≤ to
+    → to ≤ at + prefix_len class (drop at text) → Passing class (reader_at text at before) (reader_at text to before)
+passing_skip class text at to before within least most =
+    let bytes = drop at text in
+    let n = to - at in
+    let there : at + n ≡ to = omega (arith, least) in
+    let room : n ≤ length bytes = omega (arith, most, prefix_len-le-length class bytes) in
+    record {
+      run = take n bytes;
+      of_class = passes_before class bytes n (omega (arith, most));
+      given = record {
+        bytes = sym (take-append-drop n bytes) ∙ ap (λ t. take n bytes ++ t) (drop-drop n at text ∙ ap (λ m. drop m text) there);
+        counted = omega (arith, length-take-le n bytes room, there);
+      };
+    }
 
 -- and the byte after them is given
-pub reaches_skip : (class : ℕ → Bool) (text : List ℕ) (at n before : ℕ) → at + n < length text → list_all class (take n (drop at text)) ≡ true
-    → Reaches class (reader_at text at before) (reader_at text (at + n + 1) before) (Some (get_or text (at + n) 0))
-reaches_skip class text at n before room all =
-    let next : at + n + 1 ≡ suc (at + n) = omega arith in
-    reaches_next (passing_skip class text at n before (omega (arith, room)) all) (
+pub reaches_skip : (class : ℕ → Bool) (text : List ℕ) (at to before : ℕ) → to < length text → at ≤ to
+    → to ≤ at + prefix_len class (drop at text)
+    → Reaches class (reader_at text at before) (reader_at text (to + 1) before) (Some (get_or text to 0))
+reaches_skip class text at to before room least most =
+    let next : to + 1 ≡ suc to = omega arith in
+    reaches_next (passing_skip class text at to before (omega (arith, room, least)) least most) (
       record {
-        bytes = drop-cons text (at + n) 0 room ∙ ap (λ m. get_or text (at + n) 0 ∷ drop m text) (sym next);
+        bytes = drop-cons text to 0 room ∙ ap (λ m. get_or text to 0 ∷ drop m text) (sym next);
         counted = omega arith;
       },
       tt,
@@ -89,7 +107,7 @@ pub passing_none : (class : ℕ → Bool) (now : Remaining) → Passing class no
 passing_none class now = record { run = []; of_class = refl; given = record { bytes = refl; counted = omega arith } }
 
 -- a run of a class is one of a wider class
-pub reaches_wider : {class wider : ℕ → Bool} {old new : Remaining} {stop : Option ℕ} → ((b : ℕ) → class b ≡ true → wider b ≡ true)
+abbrev pub reaches_wider : {class wider : ℕ → Bool} {old new : Remaining} {stop : Option ℕ} → ((b : ℕ) → class b ≡ true → wider b ≡ true)
     → Reaches class old new stop → Reaches wider old new stop
 reaches_wider {class} {wider} within p = record {
   run = p.run;
@@ -98,56 +116,51 @@ reaches_wider {class} {wider} within p = record {
 }
 
 -- a run, and then another one
-pub passing_then : {class : ℕ → Bool} {old mid new : Remaining} → Passing class old mid → Passing class mid new → Passing class old new
-passing_then {class} p q = record {
+abbrev pub reaches_then : {class : ℕ → Bool} {old mid new : Remaining} {stop : Option ℕ} → Passing class old mid
+    → Reaches class mid new stop → Reaches class old new stop
+reaches_then {class} p q = record {
   run = p.run ++ q.run;
   of_class = list_all-append class p.run q.run ∙ and_from _ _ p.of_class q.of_class;
   given = given_then p.given q.given;
 }
+
+-- a run and a byte of the class that ended it
+abbrev reaches_whole : {class : ℕ → Bool} {old new : Remaining} {b : ℕ} → Reaches class old new (Some b) → class b ≡ true
+    → Passing class old new
+reaches_whole {class} {b = b} q fits = record {
+  run = q.run ++ b ∷ [];
+  of_class = list_all-append class q.run (b ∷ []) ∙ and_from _ _ q.of_class (and_from (class b) true fits refl);
+  given = given_whole q.given;
+}
+
+-- the longest run is a run,
+abbrev pub reached : {class : ℕ → Bool} {old new : Remaining} {stop : Option ℕ} → Passes class old new stop → Reaches class old new stop
+reached q = record { run = q.run; of_class = q.of_class; given = q.given }
+
+-- and a run whose end is known the longest
+abbrev passes_from : {class : ℕ → Bool} {old new : Remaining} {stop : Option ℕ} → Reaches class old new stop
+    → MatchOption stop (new.left ≡ []) (λ b. IsFalse (class b)) → Passes class old new stop
+passes_from q stopped = record { run = q.run; of_class = q.of_class; given = q.given; stopped = stopped }
 
 -- a run, and then the longest one
 pub passes_then : {class : ℕ → Bool} {old mid new : Remaining} {stop : Option ℕ} → Passing class old mid → Passes class mid new stop
     → Passes class old new stop
-passes_then {class} p q = record {
-  run = p.run ++ q.run;
-  of_class = list_all-append class p.run q.run ∙ and_from _ _ p.of_class q.of_class;
-  given = given_then p.given q.given;
-  stopped = q.stopped;
-}
+passes_then p q = passes_from (reaches_then p (reached q)) q.stopped
 
 -- a run, and then one that a byte of the class ends
-pub passing_with : {class within : ℕ → Bool} {old mid new : Remaining} {b : ℕ} → ((x : ℕ) → within x ≡ true → class x ≡ true)
+abbrev pub passing_with : {class within : ℕ → Bool} {old mid new : Remaining} {b : ℕ} → ((x : ℕ) → within x ≡ true → class x ≡ true)
     → Passing class old mid → Reaches within mid new (Some b) → class b ≡ true → Passing class old new
-passing_with {class} {b = b} wider p q fits =
-    let r = reaches_wider wider q in
-    record {
-      run = p.run ++ (r.run ++ b ∷ []);
-      of_class =
-          list_all-append class p.run (r.run ++ b ∷ [])
-          ∙ and_from _ _ p.of_class (list_all-append class r.run (b ∷ []) ∙ and_from _ _ r.of_class (and_from (class b) true fits refl));
-      given = given_then p.given (given_whole r.given);
-    }
+passing_with wider p q fits = reaches_then p (reaches_whole (reaches_wider wider q) fits)
 
 -- a run, and then the longest one, whose end is known
-pub passes_to : {class within : ℕ → Bool} {old mid new : Remaining} (stop : Option ℕ) → ((x : ℕ) → within x ≡ true → class x ≡ true)
+abbrev pub passes_to : {class within : ℕ → Bool} {old mid new : Remaining} (stop : Option ℕ) → ((x : ℕ) → within x ≡ true → class x ≡ true)
     → Passing class old mid → Reaches within mid new stop → MatchOption stop (new.left ≡ []) (λ b. IsFalse (class b)) → Passes class old new stop
-passes_to {class} stop wider p q stopped =
-    let r = reaches_wider wider q in
-    record {
-      run = p.run ++ r.run;
-      of_class = list_all-append class p.run r.run ∙ and_from _ _ p.of_class r.of_class;
-      given = given_then p.given r.given;
-      stopped = stopped;
-    }
+passes_to stop wider p q stopped = passes_from (reaches_then p (reaches_wider wider q)) stopped
 
 -- one byte more of the class
 abbrev pub passing_more : {class : ℕ → Bool} {old mid new : Remaining} {b : ℕ} → (p : Passing class old mid)
     → GivesFirst mid new (Some b) → class b ≡ true → Passing class old new
-passing_more {class} {b = b} p g fits = record {
-  run = p.run ++ b ∷ [];
-  of_class = list_all-append class p.run (b ∷ []) ∙ and_from _ _ p.of_class (and_from (class b) true fits refl);
-  given = given_then p.given (given_whole g.0);
-}
+passing_more p g fits = reaches_then p (reaches_whole (record { run = []; of_class = refl; given = g.0 }) fits)
 
 -- open content was given so far, which awaits a byte or not
 pub record Taking (awaiting : Bool) (old now : Remaining) : Type 0 where
@@ -256,15 +269,9 @@ is_token_plus = refl
 
 abbrev pub passing_plus : {old mid new : Remaining} {stop : Option ℕ} → Passing is_token_byte old mid
     → Passes is_token_except_plus mid new stop → option_eq eqb stop (Some plus_byte) ≡ true → Passing is_token_byte old new
-passing_plus {old} {mid} {new} {stop} p passes test = record {
-  run = p.run ++ (passes.run ++ (plus_byte ∷ []));
-  of_class =
-      list_all-append is_token_byte p.run (passes.run ++ (plus_byte ∷ []))
-      ∙ and_from _ _ p.of_class (list_all-append is_token_byte passes.run (plus_byte ∷ [])
-      ∙ and_from _ _ (token_run passes.run passes.of_class) (and_from (is_token_byte plus_byte) true is_token_plus refl));
-  given =
-      given_then p.given (given_whole (subst (λ s. Given mid new passes.run s) (stopped_by plus_byte stop test) passes.given));
-}
+passing_plus {old} {mid} {new} {stop} p passes test =
+    let given = subst (λ s. Given mid new passes.run s) (stopped_by plus_byte stop test) passes.given in
+    passing_with token_byte p (record { run = passes.run; of_class = passes.of_class; given = given }) is_token_plus
 
 -- the plus is the last one
 pub last_plus-stop : (at : ℕ) (xs ys : List ℕ) (position : ℕ) → at + (length xs + length ys) ≡ position
@@ -277,12 +284,7 @@ last_plus-stop at xs ys position is =
 pub subtype_at : {old mid new : Remaining} (stop plus : Option ℕ) (at : ℕ) → (p : Passing is_token_byte old mid) → last_plus at p.run ≡ plus
     → Passes is_token_except_plus mid new stop → option_eq eqb stop (Some plus_byte) ≡ false → PassesSubtype at old new (plus, stop)
 subtype_at {new = new} stop plus at p is passes other = record {
-  passes = record {
-    run = p.run ++ passes.run;
-    of_class = list_all-append is_token_byte p.run passes.run ∙ and_from _ _ p.of_class (token_run passes.run passes.of_class);
-    given = given_then p.given passes.given;
-    stopped = ends stop passes.stopped other;
-  };
+  passes = passes_to stop token_byte p (reached passes) (ends stop passes.stopped other);
   plus = sym (last_plus-run at p.run passes.run passes.of_class ∙ is);
 }
   where

@@ -10,7 +10,8 @@ use Rattle.mime.specs.Inner.Scanning.{HasPositions, positions_of, semicolon_of, 
 use Rattle.mime.specs.Inner.KeptText.{media_of, IsKept, with_pairs_lowered, kept_text_of, kept_positions}
 use Rattle.mime.specs.declared.scan.Positions.{Positions}
 use Rattle.mime.proofs.BytesLemmas.{slice_get-prefix}
-use Rattle.mime.proofs.LowercaseLemmas.{length-lowered, lowered-append, lowered_tree-lowered_tree, IsWellFormed-lowered_tree, positions_of-lowered_tree}
+use Rattle.mime.proofs.LowercaseLemmas.{lowered-append, lowered_tree-lowered_tree, IsWellFormed-lowered_tree, positions_of-lowered_tree}
+use Rattle.mime_search.proofs.IgnoringCase.{length-lowered}
 use Rattle.mime.proofs.ValueLemmas.Utf8.{IsLoweredInPart, lowercase, in_parts}
 use Rattle.mime.proofs.ValueLemmas.Pairs.{lowered_within-in_part}
 use Rattle.mime.proofs.ValueLemmas.ListText.{pairs_within-text_of_list, lowered_within-text_of_list}

@@ -1,13 +1,13 @@
 -- What a cut of a list is, and where its quoted content ends.
-use Rattle.std.proofs.Common.{⊎_elim, ◌≡◌, ◌≢◌, ℕ, zero, suc, ◌+◌, ◌<◌, ◌≤◌, Bool, true, false, List, [], ◌∷◌, ◌++◌, length, get_or, drop, refl, sym, ap, ◌∙◌, ne_eqb, arith, cond, ◌-◌, take, subst, append-nil, append_assoc, length-append, length-drop}
+use Rattle.std.proofs.Common.{⊎_elim, ◌≡◌, ◌≢◌, ℕ, zero, suc, ◌+◌, ◌<◌, ◌≤◌, Bool, true, false, List, [], ◌∷◌, ◌++◌, length, get_or, drop, refl, sym, ap, ◌∙◌, ne_eqb, arith, ◌-◌, take, subst, append-nil, append_assoc, length-append}
 use Rattle.std.specs.Prelude.{IsTrue, ◌==◌, ◌&&◌, not, Option, Some, codes}
-use Rattle.std.specs.List.{position_or_len, list_all}
+use Rattle.std.specs.List.{position_or_len}
 use Rattle.std.specs.Str.{IsUtf8, IsCharBoundary, bytes_eq}
 use Rattle.std.proofs.lemmas.Str.{IsCharBoundary-start, IsCharBoundary-after_ascii}
 use Rattle.std.proofs.lemmas.Bool.Decides.{nat_tests}
 use Rattle.std.proofs.lemmas.List.Sums.{prefix_len_passes, prefix_len-le-length}
-use Rattle.std.proofs.lemmas.List.{drop_more, take_at, drop_at, drop-drop, take-append-drop, take_rest, length-take-le}
-use Rattle.std.proofs.lemmas.Bool.{and_parts, cases_Bool, cond-true, cond-false, eqb-true, true≢false, cond_both}
+use Rattle.std.proofs.lemmas.List.{take_at, drop_at, drop-drop, take-append-drop}
+use Rattle.std.proofs.lemmas.Bool.{and_parts, cases_Bool, cond-false, eqb-true, true≢false, cond_both}
 use Rattle.mime.specs.Bytes.{quote_byte, backslash_byte, equals_byte}
 use Rattle.mime.specs.Grammar.{IsContent, is_space}
 use Rattle.mime.specs.Inner.Blocks.{first_position, before_byte, after_byte, IsSuffixOf}
@@ -21,26 +21,6 @@ use Rattle.mime.proofs.LowercaseLemmas.{lowered_value-either}
 use Rattle.mime.proofs.ValueLemmas.Utf8.{IsLoweredInPart, same, lowercase, in_parts, length-in_part}
 
 -- ---- the spaces with which a list begins
-
--- a run of spaces is passed
-spaces_run : (run after : List ℕ) → list_all is_space run ≡ true → leading_spaces (run ++ after) ≡ length run + leading_spaces after
-spaces_run [] after all = omega arith
-spaces_run (b ∷ run) after all =
-    let parts = and_parts (is_space b) (list_all is_space run) all in
-    cond-true (is_space b) _ _ parts.0 ∙ omega (arith, spaces_run run after parts.1)
-
--- a block of spaces is passed at once
-pub spaces_past : (list : List ℕ) (count whole : ℕ) → count + leading_spaces (drop count list) ≡ whole → 16 ≤ length list - count
-    → list_all is_space (take 16 (take (length list - count) (drop count list))) ≡ true
-    → count + 16 + leading_spaces (drop (count + 16) list) ≡ whole
-spaces_past list count whole so_far room blank =
-    let rest = drop count list in
-    let all : list_all is_space (take 16 rest) ≡ true = subst (λ t. list_all is_space (take 16 t) ≡ true) (take_rest list count) blank in
-    let size : length (take 16 rest) ≡ 16 = length-take-le 16 rest (omega (arith, room, length-drop count list)) in
-    let joined : leading_spaces rest ≡ 16 + leading_spaces (drop 16 rest) =
-    ap leading_spaces (sym (take-append-drop 16 rest)) ∙ spaces_run (take 16 rest) (drop 16 rest) all
-    ∙ ap (λ n. n + leading_spaces (drop 16 rest)) size in
-    omega (arith, so_far, joined, ap leading_spaces (drop-drop 16 count list))
 
 -- the list may be cut after them
 pub spaces_border : (list : List ℕ) → IsUtf8 list → IsCharBoundary list (leading_spaces list)
@@ -93,33 +73,6 @@ content_len-le text n e = omega (arith, e, len_from-le false text)
 -- at the content's end there is a quote
 pub get_or-content_len : (text : List ℕ) (n : ℕ) → n ≡ content_len text → n < length text → get_or text n 0 ≡ quote_byte
 get_or-content_len text n e within = rw e (quote_at_len false text (omega (arith, e, within)))
-
--- ---- the search for the end of content, position by position
-
--- what a position leaves to search for the end of quoted content
-len_from-at : (text : List ℕ) (position : ℕ) → position < length text → len_from false (drop position text)
-    ≡ cond (get_or text position 0 == quote_byte) 0 (suc (len_from (get_or text position 0 == backslash_byte) (drop (position + 1) text)))
-len_from-at text position within = ap (len_from false) (drop_more text position 0 within)
-
--- in that search a backslash is passed with the byte that it pairs
-pub search_past_pair : (text : List ℕ) (position whole : ℕ) → position + len_from false (drop position text) ≡ whole → position + 1 < length text
-    → get_or text position 0 ≡ backslash_byte → position + 2 + len_from false (drop (position + 2) text) ≡ whole
-search_past_pair text position whole e within backslash =
-    let at = rw backslash at (len_from-at text position (omega arith)) in
-    let next : position + 1 + 1 ≡ position + 2 = omega arith in
-    omega (arith, e, at, ap (len_from true) (drop_more text (position + 1) 0 within), ap (λ n. len_from false (drop n text)) next)
-
--- in that search three pairs are passed at once
-pub search_past_three : (text : List ℕ) (position whole : ℕ) → position + len_from false (drop position text) ≡ whole → position + 6 < length text
-    → get_or text position 0 ≡ backslash_byte → get_or text (position + 2) 0 ≡ backslash_byte → get_or text (position + 4) 0 ≡ backslash_byte
-    → position + 6 + len_from false (drop (position + 6) text) ≡ whole
-search_past_three text position whole e within first second third =
-    let two : position + 2 + 2 ≡ position + 4 = omega arith in
-    let three : position + 4 + 2 ≡ position + 6 = omega arith in
-    let after_one = search_past_pair text position whole e (omega (arith, within)) first in
-    let after_two = search_past_pair text (position + 2) whole after_one (omega (arith, within)) second in
-    let so_far : position + 4 + len_from false (drop (position + 4) text) ≡ whole = omega (arith, after_two, ap (λ n. len_from false (drop n text)) two) in
-    omega (arith, search_past_pair text (position + 4) whole so_far (omega (arith, within)) third, ap (λ n. len_from false (drop n text)) three)
 
 -- ---- the first quote
 

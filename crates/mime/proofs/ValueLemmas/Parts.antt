@@ -8,7 +8,8 @@ use Rattle.mime.specs.Bytes.{slash_byte, plus_byte}
 use Rattle.mime.specs.Values.{lowered, last_plus, MediaType, Reads, pairs_of_tail, lowered_tree, kept_text, essence_of}
 use Rattle.mime.specs.Laws.{HasNoPlusFrom, PlusIsLast}
 use Rattle.mime.proofs.BytesLemmas.{slice_get-after, slice_get-prefix, boundary_before, boundary_after}
-use Rattle.mime.proofs.LowercaseLemmas.{length-lowered, lowered-lowered, lowered-append, lowered-take, lowered-drop, lowered_value-lowered, low_pair-parts, length-tail_lowered, pairs_of_tail-lowered}
+use Rattle.mime.proofs.LowercaseLemmas.{lowered-lowered, lowered-append, lowered_value-lowered, low_pair-parts, length-tail_lowered, pairs_of_tail-lowered}
+use Rattle.mime_search.proofs.IgnoringCase.{length-lowered, lowered-take, lowered-drop}
 use Rattle.mime.proofs.ValueLemmas.KeptText.{media_of-kept}
 use Rattle.std.specs.List.{AllByRecursion}
 use Rattle.std.specs.Str.{IsCharBoundary, bytes_eq}

@@ -1,5 +1,5 @@
 -- The order of values, with the laws of `Before` and `Same`, and two iterators that std's `eq` compares.
-use Rattle.std.proofs.Common.{◌≡◌, ◌<◌, ◌⊎◌, inl, inr, ⊎_elim, Bool, true, false, IsTrue, ◌↔◌, List, [], ◌∷◌, refl, sym, ap, ◌∙◌, subst, true≢false, Option, None, Some}
+use Rattle.std.proofs.Common.{arith, length, slice_index, take, zero, suc, ℕ, ◌≡◌, ◌<◌, ◌⊎◌, inl, inr, ⊎_elim, Bool, true, false, IsTrue, ◌↔◌, List, [], ◌∷◌, refl, sym, ap, ◌∙◌, subst, true≢false, Option, None, Some}
 use Rattle.std.specs.declared.cmp.Ordering.{Ordering}
 use Rattle.std.specs.declared.cmp.Ordering.TheVariants.{Less, Equal, Greater}
 use Rattle.std.specs.Cmp.{IsTotalOrder, tied_itself, nat_cmp_is, nat_cmp_total, ranked}
@@ -17,6 +17,8 @@ use Rattle.std.specs.List.{AllZip}
 use Rattle.std.proofs.lemmas.Bool.{true≢false}
 use Rattle.std.proofs.lemmas.Bool.Decides.{same_from_decides}
 use Rattle.mime.proofs.BytesLemmas.{cons_parts}
+use Rattle.std.proofs.lemmas.List.{get_or-take}
+use Rattle.mime_search.specs.Differences.{DifferAt}
 
 -- an order finds one thing less than another exactly if that comes before, and finds them equal exactly if they are the same
 abbrev Finds : {X : Type 0} → (X → X → Ordering) → (X → X → Type 0) → Type 0
@@ -118,6 +120,45 @@ one_order x y = go (media_cmp x y) (tells_media x y)
     go Equal says =
         inr (inl (says, (λ before. Before-not_same x y before says), (λ before. Before-not_same y x before (sym says.0, sym says.1))))
     go Greater says = inr (inr (says, (λ same. Before-not_same y x says (sym same.0, sym same.1)), Before-not_both y x says))
+
+-- an order that isn't equal is decided
+decided : (order rest : Ordering) → ¬ (order ≡ Equal) → ordering_then order rest ≡ order
+decided Less rest some = refl
+decided Equal rest some = absurd (some refl)
+decided Greater rest some = refl
+
+-- texts are ordered by the bytes at which they first differ,
+pub ordered_by_difference : (xs ys : List ℕ) (k : ℕ) → k < length xs → k < length ys → DifferAt xs ys 0 k
+    → slice_cmp nat_cmp xs ys ≡ nat_cmp (slice_index xs k) (slice_index ys k)
+ordered_by_difference [] ys k within also differ = absurd (omega (arith, within))
+ordered_by_difference (x ∷ xs) [] k within also differ = absurd (omega (arith, also))
+ordered_by_difference (x ∷ xs) (y ∷ ys) zero within also differ =
+    decided (nat_cmp x y) (slice_cmp nat_cmp xs ys) (λ same. differ.differ ((exact nat_cmp_total nat_cmp-IsAntisymmetric x y).0 same))
+ordered_by_difference (x ∷ xs) (y ∷ ys) (suc k) within also differ =
+    rw ((exact nat_cmp_total nat_cmp-IsAntisymmetric x y).1 (differ.equal_before 0 (omega arith) (omega arith)))
+    (ordered_by_difference xs ys k (omega (arith, within)) (omega (arith, also)) (record {
+      least = omega arith;
+      equal_before = λ j least before. differ.equal_before (suc j) (omega arith) (omega (arith, before));
+      differ = differ.differ;
+    }))
+
+-- and so are beginnings that have those bytes
+pub differ_in_beginnings : (text other : List ℕ) (n m at : ℕ) → at < n → at < m → DifferAt text other 0 at
+    → DifferAt (take n text) (take m other) 0 at
+differ_in_beginnings text other n m at within also differ = record {
+  least = differ.least;
+  equal_before = λ k least before. get_or-take n text k 0 (omega (arith, within, before)) ∙ differ.equal_before k least before
+      ∙ sym (get_or-take m other k 0 (omega (arith, also, before)));
+  differ = λ same. differ.differ (sym (get_or-take n text at 0 within) ∙ same ∙ get_or-take m other at 0 also);
+}
+
+-- values whose essences differ are ordered by the bytes at which these first differ
+pub ordered_by_essence : (x y : MediaType) (at : ℕ) → at < length x.essence → at < length y.essence → DifferAt x.essence y.essence 0 at
+    → media_cmp x y ≡ nat_cmp (slice_index x.essence at) (slice_index y.essence at)
+ordered_by_essence x y at within also differ =
+    let essences = ordered_by_difference x.essence y.essence at within also differ in
+    decided (slice_cmp nat_cmp x.essence y.essence) _
+    (λ same. differ.differ ((exact nat_cmp_total nat_cmp-IsAntisymmetric _ _).0 (sym essences ∙ same))) ∙ essences
 
 module _ {A B : Type 0} (seen : A → B) (eq : A → A → Bool) (agrees : (x y : A) → IsTrue (eq x y) ↔ (seen x ≡ seen y)) (r : Bool) where
   abbrev Steps : List B → Option A → List B → Type 0

@@ -8,7 +8,8 @@ use Rattle.std.proofs.lemmas.List.{take_at, drop_at, take-append-drop}
 use Rattle.std.proofs.lemmas.Str.{IsUtf8-nil, IsUtf8-append, IsUtf8-encode, IsUtf8-from_ascii, encode_ascii}
 use Rattle.std.proofs.lemmas.Str.Ascii.{IsAscii-cons, IsAscii-nil}
 use Rattle.mime.specs.Values.{lowered}
-use Rattle.mime.proofs.LowercaseLemmas.{lowered-lowered, length-lowered, lowered-append, lowered-take, lowered-drop}
+use Rattle.mime.proofs.LowercaseLemmas.{lowered-lowered, lowered-append}
+use Rattle.mime_search.proofs.IgnoringCase.{length-lowered, lowered-take, lowered-drop}
 use Rattle.std.specs.Prelude.{◌&&◌, ◌||◌, nat_le, nat_lt}
 use Rattle.std.specs.List.{list_all}
 use Rattle.std.proofs.lemmas.Bool.{cond_both}

@@ -9,16 +9,16 @@ abbrev pub unless_zero : ℕ → Option ℕ
 unless_zero zero = None
 unless_zero (suc n) = Some (suc n)
 
--- the positions that the words say: without pairs the essence ends with the text
-abbrev pub positions_at : Places → Positions
-positions_at places = record {
+-- the positions that the words say, of a text whose essence ends at this position: without pairs it ends with the text
+abbrev pub positions_at : Places → ℕ → Positions
+positions_at places end = record {
   slash = places.slash;
   plus = unless_zero places.plus;
-  semicolon = kept_semicolon places.pair_count (Some places.essence_end);
+  semicolon = kept_semicolon places.pair_count (Some end);
   pair_count = places.pair_count;
 }
 
 -- a text as it is kept, with the words that say the positions of its parts
-pub record IsKeptAt (text : List ℕ) (places : Places) : Type 0 where
-  pub kept : IsKept text (positions_at places)
-  pub end : places.essence_end ≡ unwrap_or (positions_at places).semicolon (length text)
+pub record IsKeptAt (text : List ℕ) (places : Places) (end : ℕ) : Type 0 where
+  pub kept : IsKept text (positions_at places end)
+  pub ends : end ≡ unwrap_or (positions_at places end).semicolon (length text)

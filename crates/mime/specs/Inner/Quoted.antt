@@ -1,11 +1,7 @@
 -- Quoted content, byte by byte: which byte may come next, and where the content ends.
-use Rattle.std.specs.Prelude.{ℕ, zero, suc, ◌+◌, Bool, true, false, IsTrue, List, [], ◌∷◌, take, drop, if◌then◌else◌, ◌==◌, ◌&&◌, not}
-use Rattle.mime.specs.Bytes.{is_quoted_byte, quote_byte, backslash_byte}
-
--- whether a byte is awaited, one that can't close the value, after one more byte: one is after a backslash that doesn't end a
--- pair, and none is at the value's start (`false`)
-abbrev pub awaits_next : Bool → ℕ → Bool
-awaits_next awaiting b = not awaiting && b == backslash_byte
+use Rattle.std.specs.Prelude.{ℕ, ◌+◌, Bool, true, false, IsTrue, List, [], ◌∷◌, take, drop, ◌==◌, ◌&&◌, not}
+use Rattle.mime.specs.Bytes.{is_quoted_byte, quote_byte}
+pub use Rattle.mime_search.specs.Quoted.{awaits_next, len_from}
 
 -- whether the value takes a byte, an awaited one (`true`) or another
 abbrev pub takes : Bool → ℕ → Bool
@@ -31,11 +27,6 @@ abbrev pub continues : List ℕ → ℕ → Bool
 continues content b = takes (awaits_after false content) b
 
 -- the number of bytes before the closing quote, or of all bytes if there is none
-abbrev pub len_from : Bool → List ℕ → ℕ
-len_from awaiting [] = zero
-len_from awaiting (b ∷ bytes) =
-    if not awaiting && b == quote_byte then zero else suc (len_from (awaits_next awaiting b) bytes)
-
 abbrev pub content_len : List ℕ → ℕ
 content_len text = len_from false text
 

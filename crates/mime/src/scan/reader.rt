@@ -1,18 +1,15 @@
 //! A reader of a string's bytes that counts those it has returned or skipped.
 
-ghost use Rattle.std.specs.Prelude.{◌≡◌, ◌≢◌, ◌+◌, ◌-◌, ◌<◌, ◌≤◌, ◌^◌, [], ◌∷◌, length, drop, None, Some};
+ghost use Rattle.std.specs.Prelude.{◌≡◌, ◌≢◌, ◌+◌, ◌-◌, ◌<◌, ◌≤◌, ◌^◌, [], ◌∷◌, length, drop, not, None, Some};
 ghost use Rattle.std.specs.List.{prefix_len};
 ghost use Rattle.mime.specs.Bytes.{is_quoted_text_byte};
 ghost use Rattle.mime.specs.Inner.ByteClasses.{is_token_except_plus};
-ghost use Rattle.mime.specs.Inner.Members.{is_member};
 ghost use Rattle.mime.specs.Inner.Scanning.{GivesFirst, Passing, Reaches};
+ghost use Rattle.mime_search.specs.Classes.{is_stop};
 
-use crate::blocks::BLOCK;
 use crate::bytes::{is_token, is_token_except_plus};
-use crate::scan::runs::{
-    COMMON_TOKEN_BYTES, Class, QUOTED_TEXT, WINDOW, outside_at_start, outside_in_window,
-    run_by_blocks,
-};
+use crate::scan::runs::{COMMON_TOKEN_BYTES, QUOTED_TEXT, run_by_blocks};
+use mime_search::{BLOCK, Class, WINDOW, stops_at_start, stops_in_window};
 use std::marker::Model;
 
 /// The bytes of a string, of which the first are read.
@@ -39,7 +36,8 @@ const NEAR: usize = 24;
 #[inline(never)]
 fn end_of_run(text: &[u8], from: usize) -> usize
     requires { from ≤ length text.now }
-    ensures { result ≡ from + prefix_len is_token_except_plus (drop from text.now) }
+    ensures end { result ≡ from + prefix_len is_token_except_plus (drop from text.now) }
+    ensures within { result ≤ length text.now }
 {
     let mut at = from;
     while at < text.len() {
@@ -90,7 +88,7 @@ impl<'a> ByteReader<'a> {
         ensures count { result.count ≡ 0 }
     {
         let text = text.as_bytes();
-        let (known, stops) = outside_at_start(text, &COMMON_TOKEN_BYTES);
+        let (known, stops) = stops_at_start(text, &COMMON_TOKEN_BYTES);
         ByteReader {
             text,
             at: 0,
@@ -159,10 +157,10 @@ impl<'a> ByteReader<'a> {
         self.next()
     }
 
-    /// Skips bytes of a class, block by block.
+    /// Skips bytes at which a search doesn't stop, block by block.
     #[inline(always)]
     fn skip_blocks(&mut self, class: &Class)
-        ensures { Passing (is_member class.now) self.old self.new }
+        ensures { Passing (λ b. not (is_stop class.now b)) self.old self.new }
     {
         if self.text.len() - self.at >= BLOCK {
             self.at += run_by_blocks(&self.text[self.at..], class);
@@ -211,7 +209,7 @@ impl<'a> ByteReader<'a> {
     {
         if self.known == BLOCK && self.known < self.text.len() && self.may_go_on() {
             let window = &self.text[..self.text.len().min(WINDOW)];
-            self.stops = outside_in_window(window, self.stops, &COMMON_TOKEN_BYTES);
+            self.stops = stops_in_window(window, self.stops, &COMMON_TOKEN_BYTES);
             self.known = window.len();
         }
     }

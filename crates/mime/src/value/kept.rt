@@ -9,10 +9,10 @@ ghost use Rattle.mime.specs.Inner.Scanning.{HasPositions};
 ghost use Rattle.mime.specs.Inner.KeptText.{with_pairs_lowered, kept_positions, kept_text_of};
 
 use crate::blocks::{BLOCK, Suffix};
-use crate::ignoring_case::eq_ignore_ascii_case;
 use crate::name::constants::CHARSET;
 use crate::scan::Positions;
 use crate::value::pairs::cut;
+use mime_search::eq_ignore_ascii_case;
 use std::alloc::{AllocError, Global};
 
 /// Whether there is an ASCII capital among bytes.

@@ -3,21 +3,19 @@
 ghost use Rattle.std.specs.Iterator.{YieldsFirstBy, item_count, UpTo, at_most};
 ghost use Rattle.std.specs.Iterator.SizeHint.{IsWithinCount};
 ghost use Rattle.std.specs.Prelude.{◌≡◌, ◌<◌, ◌≤◌, ◌+◌, false, IsTrue, length, take, drop, slice_get, slice_index, IfSome, Some, option_map};
-ghost use Rattle.std.specs.List.{list_all};
 ghost use Rattle.std.specs.Str.{IsCharBoundary};
 ghost use Rattle.mime.specs.Inner.Blocks.{before_byte, after_byte, first_position};
 ghost use Rattle.mime.specs.Inner.Pairs.{cut_of, leading_spaces, without_spaces, cut_after_equals, pairs_after, pair_seen};
-ghost use Rattle.mime.specs.Bytes.{quote_byte, backslash_byte, semicolon_byte, equals_byte};
+ghost use Rattle.mime.specs.Bytes.{quote_byte, semicolon_byte, equals_byte};
 ghost use Rattle.mime.specs.Inner.ComparedText.{IsLoneCharset};
-ghost use Rattle.mime.specs.Grammar.{is_space};
-ghost use Rattle.mime.specs.Inner.Quoted.{content_len, len_from};
+ghost use Rattle.mime.specs.Inner.Quoted.{content_len};
 ghost use Rattle.mime.specs.Inner.KeptText.{AreLowPairs};
 ghost use Rattle.mime.specs.Items.{items_of, name_seen, IsLowIf, IsFirstAccepted};
 
-use crate::blocks::{BLOCK, Suffix};
-use crate::bytes::is_space;
+use crate::blocks::Suffix;
 use crate::name::constants::CHARSET;
 use crate::name::{Name, ParamKey};
+use mime_search::{Class, content_end, first_stop};
 use std::marker::Model;
 
 /// The first pair of a list, and the list after its semicolon.
@@ -31,52 +29,14 @@ pub(crate) struct Pair<'a> {
     pub(crate) rest: Suffix<'a>,
 }
 
-/// Skips the quoted-pairs in a row, a backslash and a byte each, of which the first is at this position. A backslash that
-/// ends the text counts as one.
-#[inline(always)]
-fn after_pairs(text: &[u8], from: usize) -> usize
-    requires within { from < length text.now }
-    requires first { slice_index text.now from ≡ backslash_byte }
-    ensures more { from < result }
-    ensures left { result + len_from false (drop result text.now) ≡ from + len_from false (drop from text.now) }
-{
-    // From here on, fewer than eight bytes are left.
-    let end = text.len().saturating_sub(7);
-    let mut last = from;
-    while last < end && text[last + 2] == b'\\' {
-        // Another pair follows, or three.
-        if text[last + 4] == b'\\' && text[last + 6] == b'\\' {
-            last += 6;
-        } else {
-            last += 2;
-        }
-    }
-    if last + 1 == text.len() {
-        return last + 1;
-    }
-    // The byte that it pairs closes nothing.
-    last + 2
-}
-
-/// The length in bytes of a quoted value's content, searched byte by byte, but for pairs in a row. It isn't inlined:
-/// few values have a backslash before their first quote.
+/// The length in bytes of a quoted value's content, of which the first quote isn't the end. It isn't inlined: few values have a
+/// backslash before their first quote.
 #[cold]
 #[inline(never)]
 fn content_len_past_pairs(text: &[u8]) -> usize
     ensures { result ≡ content_len text.now }
 {
-    let mut position = 0;
-    while position < text.len() {
-        if text[position] == b'"' {
-            return position;
-        }
-        if text[position] == b'\\' {
-            position = after_pairs(text, position);
-        } else {
-            position += 1;
-        }
-    }
-    position
+    content_end(text, 0)
 }
 
 /// The length in bytes of a quoted value's content, up to its first unpaired quote or the end. `quote` is the
@@ -93,39 +53,14 @@ fn content_len(text: &[u8], quote: usize) -> usize
     content_len_past_pairs(text)
 }
 
-/// Whether the first block of a byte string is spaces and tabs.
-#[inline(always)]
-fn is_blank(text: &[u8]) -> bool
-    requires { BLOCK ≤ length text.now }
-    ensures { result ≡ list_all is_space (take BLOCK text.now) }
-{
-    let mut blank = true;
-    let mut at = 0;
-    while at < BLOCK {
-        blank &= is_space(text[at]);
-        at += 1;
-    }
-    blank
-}
-
-/// The number of spaces and tabs with which a byte string begins, counted block by block, and then byte by byte. It
-/// isn't inlined: few lists begin with more than one.
+/// The number of spaces and tabs with which a byte string begins, counted by blocks. It isn't inlined: few
+/// lists begin with more than one.
 #[cold]
 #[inline(never)]
 fn count_spaces(bytes: &[u8]) -> usize
     ensures { result ≡ leading_spaces bytes.now }
 {
-    let mut count = 0;
-    while bytes.len() - count >= BLOCK && is_blank(&bytes[count..]) {
-        count += BLOCK;
-    }
-    while count < bytes.len() {
-        if !is_space(bytes[count]) {
-            return count;
-        }
-        count += 1;
-    }
-    count
+    first_stop(bytes, 0, &Class::of(b' ', b'\t').others())
 }
 
 /// The number of spaces and tabs with which the list begins.

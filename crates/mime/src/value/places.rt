@@ -1,20 +1,18 @@
 //! The positions of a kept text's parts, as a value has them.
 
-ghost use Rattle.std.specs.Prelude.{◌≡◌, ◌≢◌, Some, unwrap_or};
+ghost use Rattle.std.specs.Prelude.{◌≡◌, ◌≢◌, Some};
 ghost use Rattle.mime.specs.Inner.KeptText.{kept_semicolon};
 ghost use Rattle.mime.specs.Inner.KeptPlaces.{unless_zero, positions_at};
 
 use crate::scan::Positions;
 
-/// The positions of the parts of a text, in one word each.
+/// The positions of the parts of a text but for the end of its essence, and its number of parameters, in one word each.
 #[derive(Clone, Copy)]
 pub(crate) struct Places {
     pub(crate) slash: usize,
     /// The plus before the suffix, or 0, which says that there is none.
     pub(crate) plus: usize,
     pub(crate) pair_count: usize,
-    /// The end of the essence: the semicolon after it, or the text's length if there is no parameter.
-    pub(crate) essence_end: usize,
 }
 
 /// The position that a word says, if it says one.
@@ -26,18 +24,16 @@ fn position(word: usize) -> Option<usize>
 }
 
 impl Places {
-    /// The positions, a word each, in a text of `len` bytes.
+    /// The positions, a word each, of a text whose essence ends at `end`: at the semicolon after it, or with the text.
     #[inline(always)]
-    pub(crate) fn of(positions: Positions, len: usize) -> Places
+    pub(crate) fn of(positions: Positions, end: usize) -> Places
         requires plus { positions.plus ≢ Some 0 }
-        requires semicolon { kept_semicolon positions.pair_count (Some (unwrap_or positions.semicolon len)) ≡ positions.semicolon }
-        ensures at { positions_at result ≡ positions }
-        ensures end { result.essence_end ≡ unwrap_or positions.semicolon len }
+        requires semicolon { kept_semicolon positions.pair_count (Some end) ≡ positions.semicolon }
+        ensures { positions_at result end ≡ positions }
     {
         Places {
             slash: positions.slash,
             plus: positions.plus.unwrap_or(0),
-            essence_end: positions.semicolon.unwrap_or(len),
             pair_count: positions.pair_count,
         }
     }
@@ -45,20 +41,20 @@ impl Places {
     /// The position of the plus before the suffix.
     #[inline(always)]
     pub(crate) fn plus(&self) -> Option<usize>
-        ensures { result ≡ (positions_at self.now).plus }
+        ensures { result ≡ unless_zero self.now.plus }
     {
         position(self.plus)
     }
 
-    /// The position of the semicolon after the essence.
+    /// The position of the semicolon after the essence, which ends at `end`.
     #[inline(always)]
-    pub(crate) fn semicolon(&self) -> Option<usize>
-        ensures { result ≡ (positions_at self.now).semicolon }
+    pub(crate) fn semicolon(&self, end: usize) -> Option<usize>
+        ensures { result ≡ (positions_at self.now end).semicolon }
     {
         if self.pair_count == 0 {
             None
         } else {
-            Some(self.essence_end)
+            Some(end)
         }
     }
 }

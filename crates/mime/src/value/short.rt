@@ -1,6 +1,7 @@
 //! A short kept text, which lies in the value itself: making, cloning and dropping it asks for no memory.
 
-ghost use Rattle.std.specs.Prelude.{◌≡◌, ◌<◌, ◌≤◌, Some, IsUtf8, length, take, slice_get};
+ghost use Rattle.std.specs.Prelude.{◌≡◌, ◌<◌, ◌≤◌, IfSome, None, Some, IsUtf8, length, take, slice_get};
+ghost use Rattle.mime_search.specs.Differences.{DifferAt};
 ghost use Rattle.mime.specs.Bytes.{semicolon_byte};
 ghost use Rattle.mime.specs.Values.{lowered};
 ghost use Rattle.mime.specs.Inner.Scanning.{HasPositions};
@@ -8,6 +9,7 @@ ghost use Rattle.mime.specs.Inner.KeptText.{kept_text_of, with_pairs_lowered};
 
 use crate::scan::Positions;
 use crate::value::kept::{has_capital, lowercase_text};
+use mime_search::difference_from;
 use std::marker::Model;
 
 /// The number of bytes that a short text has at most.
@@ -89,6 +91,30 @@ impl ShortText {
         ShortText {
             len: self.len,
             bytes: self.bytes,
+        }
+    }
+
+    /// The first position at which two texts differ, or `None` if they are the same. Zeros count after the end of a text.
+    #[inline(always)]
+    pub(crate) fn first_difference(&self, other: &ShortText) -> Option<usize>
+        ensures same { result ≡ None → self.now ≡ other.now }
+        ensures differ { IfSome result (λ at. at < length self.now → at < length other.now → DifferAt self.now other.now 0 at) }
+    {
+        let (bytes, others) = (&self.bytes, &other.bytes);
+        if let Some(at) = difference_from(bytes, others, 0) {
+            return Some(at);
+        }
+        if let Some(at) = difference_from(bytes, others, 16) {
+            return Some(at);
+        }
+        // The last block begins within the one before it.
+        if let Some(at) = difference_from(bytes, others, SHORT - 16) {
+            return Some(at);
+        }
+        if self.len == other.len {
+            None
+        } else {
+            Some(SHORT)
         }
     }
 

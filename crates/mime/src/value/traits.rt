@@ -1,6 +1,6 @@
 //! Media types compared, hashed, cloned and printed.
 
-ghost use Rattle.std.specs.Prelude.{◌≡◌, ◌↔◌, IsTrue, Some, true, refl};
+ghost use Rattle.std.specs.Prelude.{◌≡◌, ◌↔◌, IfSome, IsTrue, Some, true, refl};
 ghost use Rattle.std.specs.Cmp.{partial_equiv_from_equiv, partial_order_from_total, on_equiv, on_total, eq_by_cmp_equiv};
 ghost use Rattle.std.specs.Fmt.{debug_str, styled_text};
 ghost use Rattle.std.specs.Cmp.Lexicographic.{slice_cmp};
@@ -38,6 +38,26 @@ fn order_pairs(first: &Mime, second: &Mime) -> Ordering
     let pairs = first.pairs();
     let others = second.pairs();
     pairs.cmp(others)
+}
+
+/// How two values compare, if both lie in their `Mime`, and are the same or differ in their essences first.
+#[inline(always)]
+fn order_short(first: &Mime, second: &Mime) -> Option<Ordering>
+    ensures { IfSome result (λ order. order ≡ media_cmp first.now.media second.now.media) }
+{
+    let (Text::Short(text), Text::Short(other)) = (&first.text, &second.text) else {
+        return None;
+    };
+    let Some(at) = text.first_difference(other) else {
+        // Equal texts are equal values.
+        return Some(Ordering::Equal);
+    };
+    let essence = first.essence_str().as_bytes();
+    let other_essence = second.essence_str().as_bytes();
+    if at < essence.len() && at < other_essence.len() {
+        return Some(essence[at].cmp(&other_essence[at]));
+    }
+    None
 }
 
 /// Two values are equal if their essences are the same and so are their parameters, in the same
@@ -100,6 +120,9 @@ impl Ord for Mime {
         ensures computed { result ≡ media_cmp self.now.media other.now.media }
         ensures order { IsOrderOf self.now.media other.now.media result }
     {
+        if let Some(order) = order_short(self, other) {
+            return order;
+        }
         let order = self.essence_str().cmp(other.essence_str());
         if order.is_ne() {
             return order;
@@ -140,8 +163,9 @@ impl Clone for Mime {
             Text::Short(text) => Text::Short(text.copy()),
         };
         Ok(Mime {
-            text,
             places: self.places,
+            text,
+            essence_end: self.essence_end,
         })
     }
 }

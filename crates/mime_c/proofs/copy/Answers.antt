@@ -16,7 +16,7 @@ returns-clause-writes c = record {
       ap (λ xs. drop (at + length bytes - at) xs) (ap (drop at) wrote.there ∙ drop_at prefix rest at (sym wrote.end))
       ∙ drop-drop (at + length bytes - at) (length prefix) old ∙ ap (λ n. drop n old) size in
       record {
-        there = cc (before, after, c.copy_from_slice.ensures.after, append_assoc prefix bytes (drop (length (prefix ++ bytes)) old));
+        there = cc (before, after, c.copy_bytes.ensures, append_assoc prefix bytes (drop (length (prefix ++ bytes)) old));
         end = omega (arith, wrote.end, size);
       };
 }

@@ -49,19 +49,6 @@ slash_is c =
       c.in-Some-eq47.ensures.given.counted,
     )
 
-pub position-slash-requires-clause-given : goal.position-slash-requires-clause-given
-position-slash-requires-clause-given c =
-    omega (
-      arith,
-      c.requires,
-      c.count-from.ensures.count,
-      c.in-Some-eq47.ensures.given.counted,
-    )
-
-pub position-slash-requires-clause-fits : goal.position-slash-requires-clause-fits
-position-slash-requires-clause-fits c =
-    omega (arith, given_sum c.in-Some-eq47.ensures.given, c.count-from.ensures.fits, c.count-from.ensures.count)
-
 pub returns-in_default : goal.returns-in_default
 returns-in_default c = λ start gives.
     let here = goal.at.returns-in_default c in
@@ -78,28 +65,6 @@ returns-then-not-is_token-2 c = λ start gives.
 next_sum : (c : After-position-slash)
     → c.token.new.reader.count + length c.token.new.reader.left ≡ c.args.reader.now.count + length c.args.reader.now.left
 next_sum c = given_sum c.in-Some-eq47.ensures.given
-
-pub subtype-plus-requires-clause-begun : goal.subtype-plus-requires-clause-begun
-subtype-plus-requires-clause-begun c =
-    omega (
-      arith,
-      c.requires,
-      c.count-from.ensures.count,
-      c.in-Some-eq47.ensures.given.counted,
-      c.in-Some-next.ensures.0.counted,
-    )
-
-pub subtype-plus-requires-clause-fits : goal.subtype-plus-requires-clause-fits
-subtype-plus-requires-clause-fits c =
-    let here = goal.at.subtype-plus-requires-clause-fits c in
-    omega (
-      arith,
-      c.requires,
-      next_sum here.After-position-slash,
-      given_sum c.in-Some-next.ensures.0,
-      c.count-from.ensures.fits,
-      c.count-from.ensures.count,
-    )
 
 -- the subtype
 subtyped : (c : After-subtype-plus) (start : Remaining) → GivesFirst start c.args.reader.now (Some c.args.first)
@@ -142,35 +107,6 @@ subtype_sum : (c : After-subtype-plus)
     → c.subtype-plus.new.reader.count + length c.subtype-plus.new.reader.left ≡ c.args.reader.now.count + length c.args.reader.now.left
 subtype_sum c =
     given_sum c.subtype-plus.ensures.passes.given ∙ given_sum c.in-Some-next.ensures.0 ∙ given_sum c.in-Some-eq47.ensures.given
-
-pub position-requires-clause-given : goal.position-requires-clause-given
-position-requires-clause-given c =
-    omega (
-      arith,
-      c.requires,
-      c.count-from.ensures.count,
-      c.in-Some-eq47.ensures.given.counted,
-      c.in-Some-next.ensures.0.counted,
-      c.subtype-plus.ensures.passes.given.counted,
-    )
-
-pub position-requires-clause-fits : goal.position-requires-clause-fits
-position-requires-clause-fits c =
-    let sum = subtype_sum (goal.at.position-requires-clause-fits c).After-subtype-plus in
-    omega (arith, sum, c.count-from.ensures.fits, c.count-from.ensures.count)
-
-pub parameters-requires : goal.parameters-requires
-parameters-requires c =
-    omega (
-      arith,
-      given_sum c.subtype-plus.ensures.passes.given,
-      given_sum c.in-Some-next.ensures.0,
-      given_sum c.in-Some-eq47.ensures.given,
-      c.subtype-plus.ensures.passes.given.counted,
-      c.in-Some-next.ensures.0.counted,
-      c.in-Some-eq47.ensures.given.counted,
-      c.count-from.ensures.fits,
-    )
 
 pub returns : goal.returns
 returns c = λ start gives.

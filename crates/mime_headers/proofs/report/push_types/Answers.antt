@@ -2,11 +2,10 @@
 use Rattle.std.proofs.Common.{◌≤◌, ap, arith, map, length, subst}
 use Rattle.std.specs.Vec.{vec_items}
 use Rattle.std.proofs.Math.ListN.{drop_of_length-le}
-use Rattle.mime_http.proofs.Highest.{first_left}
 use Rattle.mime_headers.specs.Head.{without_start}
 use Rattle.mime_headers.specs.Report.{ReportsType}
 use Rattle.mime_io.specs.Inner.{Adds}
-use Rattle.mime_headers.proofs.Rows.{reported-none, reported-next, reported-all}
+use Rattle.mime_headers.proofs.Rows.{first_left, reported-none, reported-next, reported-all}
 use Rattle.mime_headers.proofs.report.push_types.Goals as goal
 
 pub loop-value-init : goal.loop-value-init

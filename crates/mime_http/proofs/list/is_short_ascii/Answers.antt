@@ -10,12 +10,12 @@ loop-at-preserved c = λ k to.
 pub returns : goal.returns
 returns c = λ known k.
     let line = c.args.line.now in
-    let last = length line - 16 in
+    let last = length line - 32 in
     ⊎_elim
     (λ (before : k < last). c.loop-at.invariant k (omega (arith, before, c.loop-at-test.false)))
     (λ (from : last ≤ k).
     ⊎_elim
-    (λ (within : k < length line). c.is_ascii_block-2.ensures known k from (omega (arith, within, c.if-line-lt-BLOCK.false)))
+    (λ (within : k < length line). c.is_ascii_block-2.ensures known k from (omega (arith, within, c.if-line-lt-ASCII_BLOCK.false)))
     (λ past. subst (λ b. b < 128) (sym (get_or_past line k 0 past)) (omega arith))
     (cases_lt k (length line)))
     (cases_lt k last)

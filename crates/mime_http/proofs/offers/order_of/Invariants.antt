@@ -1,10 +1,8 @@
--- The offers so far, and those that are left, are all.
-use Rattle.mime_http.proofs.Common.{drop, map, merit, vec_items, ◌++◌, ◌≡◌}
-use Rattle.mime_http.proofs.Order.{entry_of, weighing}
+-- The offers so far that weigh something are ranked.
+use Rattle.mime_http.proofs.Common.{map, merit, vec_items}
+use Rattle.mime_http.proofs.Order.{Ranked}
 use Rattle.mime_http.proofs.offers.order_of.Given as goal
 
 abbrev pub invariant-loop-at : goal.invariant-loop-at
 invariant-loop-at l =
-    map entry_of (vec_items l.ranked) ++ weighing l.at (drop l.at
-    (map (merit (map (λ range. range.media) l.ranges)) (map (λ offer. offer.media) l.offers)))
-    ≡ weighing 0 (map (merit (map (λ range. range.media) l.ranges)) (map (λ offer. offer.media) l.offers))
+    Ranked (map (merit (map (λ range. range.media) l.ranges)) (map (λ offer. offer.media) l.offers)) l.at (vec_items l.ranked)

@@ -36,11 +36,12 @@ one_more : (media : MediaType) (name content : List ℕ)
 one_more media name content = rw (lowered-lowered name) (length-append (others name media.pairs) ((lowered name, content) ∷ []))
 
 -- what is written is read as the media type with the parameter
-is_read : (media : MediaType) (name value text : List ℕ) → {kept : List ℕ} → Reads kept media → IsSafe media → IsToken name
-    → AreHeaderBytes value → text ≡ media.essence ++ text_of_pairs (others name media.pairs ++ ((name, escaped value) ∷ []))
-    → Reads text (with_pair media (lowered name) (lowered_value name (escaped value)))
-is_read media name value text reads header named safe is =
-    subst (λ bytes. Reads bytes (with_pair media (lowered name) (lowered_value name (escaped value)))) (sym is)
+is_read : (media : MediaType) (name value text : List ℕ) (form : Form) → form ≡ form_of value
+    → text ≡ media.essence ++ (text_of_pairs (others name media.pairs) ++ text_in form name value) → {kept : List ℕ} → Reads kept media
+    → IsSafe media → IsToken name → AreHeaderBytes value → Reads text (with_pair media (lowered name) (lowered_value name (escaped value)))
+is_read media name value text form fits made reads header named safe =
+    subst (λ bytes. Reads bytes (with_pair media (lowered name) (lowered_value name (escaped value))))
+    (sym (is_written media name value text form fits made))
     (with_pair_is_read _ media name (escaped value) reads header named (content_of_escaped value safe))
 
 -- without a capital to be lowercased it is its own kept text
@@ -64,7 +65,8 @@ invariant_of-known c =
     let made = with_pair media (lowered name) content in
     let is = is_written media name value _ c.args.form c.requires.fits c.in_ok-text.ensures.text in
     let kept = c.as_str-kept.ensures.reads in
-    let read = is_read media name value _ kept (c.kept_is_safe.ensures _ _ kept) c.requires.named c.requires.safe is in
+    let read = is_read media name value _ c.args.form c.requires.fits c.in_ok-text.ensures.text kept (c.kept_is_safe.ensures _ _ kept)
+    c.requires.named c.requires.safe in
     let as_written = c.is_kept_as_written.ensures c.if-is_kept_as_written.true in
     record {
       pairs = made.pairs;
@@ -76,21 +78,14 @@ invariant_of-known c =
 
 pub returns-in-Ok : goal.returns-in-Ok
 returns-in-Ok c =
-    let media = c.args.mime.now.media in
-    let name = c.args.name.now in
-    let value = c.args.value.now in
-    let is = is_written media name value _ c.args.form c.requires.fits c.in_ok-text.ensures.text in
     let kept = c.as_str-kept.ensures.reads in
-    let read : Reads c.deref.result.now (with_pair media (lowered name) (lowered_value name (escaped value))) =
-    rw c.deref.ensures (is_read media name value _ kept (c.kept_is_safe.ensures _ _ kept) c.requires.named c.requires.safe is) in
-    c.one_reading.ensures _ _ _ c.in-Ok.ensures.read read
+    let read = is_read c.args.mime.now.media c.args.name.now c.args.value.now _ c.args.form c.requires.fits c.in_ok-text.ensures.text kept
+    (c.kept_is_safe.ensures _ _ kept) c.requires.named c.requires.safe in
+    c.one_reading.ensures _ _ _ c.in-Ok.ensures.read (rw c.deref.ensures read)
 
 pub returns-then-is_kept_as_written : goal.returns-then-is_kept_as_written
 returns-then-is_kept_as_written c =
-    let media = c.args.mime.now.media in
-    let name = c.args.name.now in
-    let value = c.args.value.now in
-    let is = is_written media name value _ c.args.form c.requires.fits c.in_ok-text.ensures.text in
     let kept = c.as_str-kept.ensures.reads in
-    let read = is_read media name value _ kept (c.kept_is_safe.ensures _ _ kept) c.requires.named c.requires.safe is in
+    let read = is_read c.args.mime.now.media c.args.name.now c.args.value.now _ c.args.form c.requires.fits c.in_ok-text.ensures.text kept
+    (c.kept_is_safe.ensures _ _ kept) c.requires.named c.requires.safe in
     IfOk-weaker _ _ _ (λ made reads. c.one_reading.ensures _ _ _ reads read) c.into_mime.ensures.read

@@ -1,5 +1,5 @@
 -- What is left of an essence is the type exactly if the essence is the type and the end.
-use Rattle.mime_http.proofs.Common.{Bor, List, MatchOption, None, Option, Some, ap, append_cancel_right, bytes_eq, bytes_eq-Decides, false_from_ne_true, option_eq, refl, same_from_decides, subst, sym, ℕ, ◌++◌, ◌∙◌, ◌≡◌}
+use Rattle.mime_http.proofs.Common.{Bor, List, MatchOption, None, Option, Some, ap, append_cancel_right, bytes_eq, bytes_eq-Decides, codes, false_from_ne_true, option_eq, refl, same_from_decides, subst, sym, ℕ, ◌++◌, ◌∙◌, ◌≡◌}
 use Rattle.std.specs.Str.Pattern.{FindsTextSuffix, StripsSuffix}
 use Rattle.mime_http.proofs.range.is_all_of.Goals as goal
 
@@ -18,4 +18,5 @@ is_whole text end other b (Some rest) same (n, found, is, long) =
     )
 
 pub returns : goal.returns
-returns c = c.eq.ensures ∙ is_whole _ _ _ _ _ refl c.strip_suffix.ensures.cases
+returns c =
+    c.eq.ensures ∙ is_whole _ _ _ _ _ refl c.strip_suffix.ensures.cases ∙ ap (λ text. bytes_eq text (c.args.type_.now ++ codes "/*")) c.essence_str.ensures

@@ -2,7 +2,7 @@
 use Rattle.mime_http.proofs.Common.{Begins, IsLoose, Spaced, ap, arith, begins_with_semicolon, drop, get_or, length, length-drop, subst, sym, take_rest, trim_start, ◌+◌, ◌-◌, ◌∙◌}
 use Rattle.mime_http.proofs.Trims.{trimmed-le}
 use Rattle.mime_http.proofs.Spare.{spare_white}
-use Rattle.mime_http.proofs.WhiteAtFault.{begins, later_space}
+use Rattle.mime_http.proofs.LeftOut.{begins, later_space}
 use Rattle.mime_http.proofs.tight.tightening_at_white.Goals as goal
 
 pub overflow_sub-next : goal.overflow_sub-next

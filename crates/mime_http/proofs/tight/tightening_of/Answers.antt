@@ -2,22 +2,20 @@
 use Rattle.mime_http.proofs.Common.{IfOk, InvalidToken, IsDeadAt, IsFault, IsLoose, IsTightening, List, ParseError, Stands, Start, ap, arith, get_or, get_or_from_slice_get, is_space, length, nat_tests, slice_get_within, subst, sym, ℕ, ◌-◌, ◌∙◌, ◌≡◌}
 use Rattle.mime_http.proofs.Trims.{trimmed-le}
 use Rattle.mime_http.proofs.Spare.{spare_start, spare_semicolon}
-use Rattle.mime_http.proofs.WhiteAtFault.{first_space}
-use Rattle.mime_http.proofs.SemicolonAtFault.{next_semicolon, first_semicolon, byte_that_stays, stands_at_end}
+use Rattle.mime_http.proofs.LeftOut.{first_space, next_semicolon}
+use Rattle.mime_http.proofs.AtFault.{first_semicolon, byte_that_stays, stands_at_end}
 use Rattle.mime_http.proofs.tight.tightening_of.Goals.{in_default-byte-via-in-59+else-ends_in_semicolon_or_space, in_default-byte-via-in_default-1}
 use Rattle.mime_http.proofs.tight.tightening_of.Goals as goal
 
--- A byte at fault, which stands at its position.
-record FaultAt (value : List ℕ) (fault : ParseError) (pos byte : ℕ) : Type 0 where
-  dead : IsDeadAt value pos byte
-  here : get_or value pos 0 ≡ byte
+-- what is at fault at a position
+dead_of : {value : List ℕ} {fault : ParseError} {pos byte : ℕ} → IsFault value fault → fault ≡ InvalidToken pos byte
+    → IsDeadAt value pos byte
+dead_of {value} is same = subst (IsFault value) same is
 
--- so it does
-fault_at : (value : List ℕ) (fault : ParseError) (pos byte : ℕ) → IsFault value fault → fault ≡ InvalidToken pos byte
-    → FaultAt value fault pos byte
-fault_at value fault pos byte at is =
-    let dead : IsDeadAt value pos byte = subst (IsFault value) is at in
-    record { dead = dead; here = get_or_from_slice_get value pos byte 0 dead.there }
+-- it stands there
+here_of : (value : List ℕ) (pos : ℕ) {fault : ParseError} {byte : ℕ} → IsFault value fault → fault ≡ InvalidToken pos byte
+    → get_or value pos 0 ≡ byte
+here_of value pos {byte = byte} is same = get_or_from_slice_get value pos byte 0 (dead_of is same).there
 
 pub returns-in_default-clause-left : goal.returns-in_default-clause-left
 returns-in_default-clause-left c = stands_at_end c.args.value.now c.args.fault c.in_default.not-InvalidToken c.requires.fault
@@ -34,30 +32,29 @@ pub returns-in-32-clause-left : goal.returns-in-32-clause-left
 returns-in-32-clause-left c = c.copied.ensures c.args.fault
 
 pub tightening_at_white-requires-clause-within : goal.tightening_at_white-requires-clause-within
-tightening_at_white-requires-clause-within c =
-    let at = fault_at c.args.value.now c.args.fault _ _ c.requires.fault c.in-InvalidToken.is in
-    slice_get_within c.args.value.now c.in-InvalidToken.pos c.in-InvalidToken.byte at.dead.there
+tightening_at_white-requires-clause-within c = slice_get_within _ _ _ (dead_of c.requires.fault c.in-InvalidToken.is).there
 
 pub tightening_at_white-requires-clause-fault : goal.tightening_at_white-requires-clause-fault
 tightening_at_white-requires-clause-fault c =
-    let at = fault_at c.args.value.now c.args.fault _ _ c.requires.fault c.in-InvalidToken.is in
-    subst (IsDeadAt c.args.value.now c.in-InvalidToken.pos) (sym at.here) at.dead
+    subst (IsDeadAt c.args.value.now c.in-InvalidToken.pos)
+    (sym (here_of c.args.value.now c.in-InvalidToken.pos c.requires.fault c.in-InvalidToken.is))
+    (dead_of c.requires.fault c.in-InvalidToken.is)
 
 pub tightening_at_white-requires-clause-white : goal.tightening_at_white-requires-clause-white
 tightening_at_white-requires-clause-white c =
-    let at = fault_at c.args.value.now c.args.fault _ _ c.requires.fault c.in-InvalidToken.is in
-    ap is_space at.here ∙ grind (arith, nat_tests, c.in-32.is)
+    ap is_space (here_of c.args.value.now c.in-InvalidToken.pos c.requires.fault c.in-InvalidToken.is)
+    ∙ grind (arith, nat_tests, c.in-32.is)
 
 pub returns-in-32-2-clause-left : goal.returns-in-32-2-clause-left
 returns-in-32-2-clause-left c =
-    let at = fault_at c.args.value.now c.args.fault _ _ c.requires.fault c.in-InvalidToken.is in
     subst (λ fault. IfOk c.tightening_at_white.result (IsTightening c.args.value.now fault))
-    (ap (InvalidToken c.in-InvalidToken.pos) at.here ∙ sym c.in-InvalidToken.is) c.tightening_at_white.ensures.left
+    (ap (InvalidToken c.in-InvalidToken.pos) (here_of c.args.value.now c.in-InvalidToken.pos c.requires.fault c.in-InvalidToken.is)
+    ∙ sym c.in-InvalidToken.is)
+    c.tightening_at_white.ensures.left
 
 pub copied-requires-in-59-clause-loose : goal.copied-requires-in-59-clause-loose
 copied-requires-in-59-clause-loose c =
-    let at = fault_at c.args.value.now c.args.fault _ _ c.requires.fault c.in-InvalidToken.is in
-    next_semicolon c.args.value.now c.in-InvalidToken.pos c.in-InvalidToken.byte at.dead c.in-59.is
+    next_semicolon _ _ _ (dead_of c.requires.fault c.in-InvalidToken.is) c.in-59.is
     (sym c.ends_in_semicolon_or_space.ensures ∙ c.if-ends_in_semicolon_or_space.true)
 
 pub returns-in-59-clause-left : goal.returns-in-59-clause-left
@@ -66,27 +63,21 @@ returns-in-59-clause-left c = c.copied-in-59.ensures c.args.fault
 pub returns-in_default-byte-clause-left : goal.returns-in_default-byte-clause-left
 returns-in_default-byte-clause-left c =
     let value = c.args.value.now in
-    let pos = c.in-InvalidToken.pos in
-    let byte = c.in-InvalidToken.byte in
-    let at = fault_at value c.args.fault pos byte c.requires.fault c.in-InvalidToken.is in
-    let stands : Stands value (InvalidToken pos byte) =
+    let dead = dead_of c.requires.fault c.in-InvalidToken.is in
+    let stands : Stands value (InvalidToken c.in-InvalidToken.pos c.in-InvalidToken.byte) =
     elim c.in_default-byte.branch [
       | in_default-byte-via-in-59+else-ends_in_semicolon_or_space w ↦
-          first_semicolon value pos byte at.dead w.in-59.is (sym w.ends_in_semicolon_or_space.ensures
-          ∙ w.if-ends_in_semicolon_or_space.false)
-      | in_default-byte-via-in_default-1 w ↦ byte_that_stays value pos byte at.dead (grind (arith, nat_tests, w))
+          first_semicolon _ _ _ dead w.in-59.is (sym w.ends_in_semicolon_or_space.ensures ∙ w.if-ends_in_semicolon_or_space.false)
+      | in_default-byte-via-in_default-1 w ↦ byte_that_stays _ _ _ dead (grind (arith, nat_tests, w))
     ] in
     subst (Stands value) (sym c.in-InvalidToken.is) stands
 
 pub returns-in-32-clause-memory : goal.returns-in-32-clause-memory
 returns-in-32-clause-memory c = λ isnt.
-    let value = c.args.value.now in
-    let at = fault_at value c.args.fault _ _ c.requires.fault c.in-InvalidToken.is in
-    absurd (isnt (spare_start value _ _ at.dead (grind (arith, nat_tests, c.in-32.is)) c.if-pos-eq0.true))
+    absurd (isnt (spare_start _ _ _ (dead_of c.requires.fault c.in-InvalidToken.is) (grind (arith, nat_tests, c.in-32.is))
+    c.if-pos-eq0.true))
 
 pub returns-in-59-clause-memory : goal.returns-in-59-clause-memory
 returns-in-59-clause-memory c = λ isnt.
-    let value = c.args.value.now in
-    let at = fault_at value c.args.fault _ _ c.requires.fault c.in-InvalidToken.is in
-    absurd (isnt (spare_semicolon value _ _ at.dead c.in-59.is
+    absurd (isnt (spare_semicolon _ _ _ (dead_of c.requires.fault c.in-InvalidToken.is) c.in-59.is
     (sym c.ends_in_semicolon_or_space.ensures ∙ c.if-ends_in_semicolon_or_space.true)))

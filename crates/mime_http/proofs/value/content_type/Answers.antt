@@ -3,7 +3,7 @@ use Rattle.mime_http.proofs.Common.{Explains, FaultIsSpare, HttpExplains, HttpRe
 use Rattle.mime_http.specs.declared.value.FieldError.{FieldError}
 use Rattle.mime_http.proofs.HttpBack.{read_is_http}
 use Rattle.mime_http.proofs.HttpLaws.{reads_tight}
-use Rattle.mime_http.proofs.Places.{tight_too}
+use Rattle.mime_http.proofs.Walked.{tight_too}
 use Rattle.mime_http.proofs.HttpLaws.{plain_is_http}
 use Rattle.mime_http.proofs.Rejections.{fault_explains}
 use Rattle.mime_http.proofs.value.content_type.Goals as goal

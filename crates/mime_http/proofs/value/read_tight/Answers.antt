@@ -1,7 +1,7 @@
 -- What tightening leaves is read as the value, and if it isn't, HTTP rejects the value.
-use Rattle.mime_http.proofs.Common.{Begins, Explains, IsAccepted, IsFault, IsTightening, rules, string_bytes, subst, sym, take, tight, ◌∙◌, ◌≡◌}
+use Rattle.mime_http.proofs.Common.{refl, Begins, Explains, IsAccepted, IsFault, IsTightening, rules, string_bytes, subst, sym, take, tight, ◌∙◌, ◌≡◌}
 use Rattle.mime_http.proofs.HttpViability.{http_from_accepted}
-use Rattle.mime_http.proofs.Rejections.{fault_explains, rejected_nothing, rejected_at_next, rejected_prefix, rejected_copy}
+use Rattle.mime_http.proofs.Rejections.{fault_explains, LeftRejected, rejected_so}
 use Rattle.mime_http.proofs.value.read_tight.Goals.{in_default-via-in-Prefix+else-next-value, in_default-via-in_default, in-Prefix, in-Copy}
 use Rattle.mime_http.proofs.value.read_tight.Goals as goal
 
@@ -10,9 +10,11 @@ returns-in_default-clause-read c =
     let value = c.args.value.now in
     let left = c.in_ok-left.left in
     let is : IsTightening value c.args.fault left = search rules in
+    let so = rejected_so value c.args.fault c.args.fault left is in
     elim c.in_default.branch [
-      | in_default-via-in-Prefix+else-next-value w ↦ rejected_at_next value c.args.fault left _ _ is w.in-Prefix.is w.if-next-value.false
-      | in_default-via-in_default w ↦ rejected_nothing value c.args.fault left is w.in_default.is
+      | in_default-via-in-Prefix+else-next-value w ↦ so (subst (LeftRejected value c.args.fault c.args.fault) (sym w.in-Prefix.is)
+          (λ last. absurd (w.if-next-value.false last)))
+      | in_default-via-in_default w ↦ so (subst (LeftRejected value c.args.fault c.args.fault) (sym w.in_default.is) refl)
     ]
 
 pub returns-in_default-fault-clause-read : goal.returns-in_default-fault-clause-read
@@ -26,16 +28,15 @@ returns-in_default-fault-clause-read c =
     λ accepted. c.in_default-fault.not-NoMemory (c.fault.ensures ∙ c.in-Err.ensures.accepted accepted) in
     let faulty = fault_explains text fault c.in_default-fault.not-NoMemory
     (subst (Explains text) (sym c.fault.ensures) c.in-Err.ensures.explained) in
-    elim c.match-left.branch [
+    rejected_so value c.args.fault fault left is (elim c.match-left.branch [
       | in-Prefix w ↦
           let here : text ≡ take w.in-Prefix.end value = search rules in
-          rejected_prefix value c.args.fault fault left _ _ is w.in-Prefix.is w.if-next-value.true
-          (subst (λ t. ¬ (IsAccepted t)) here rejected)
+          subst (LeftRejected value c.args.fault fault) (sym w.in-Prefix.is) (λ last. subst (λ t. ¬ (IsAccepted t)) here rejected)
       | in-Copy w ↦
           let here : text ≡ string_bytes w.in-Copy.copy = search rules in
-          rejected_copy value c.args.fault fault left w.in-Copy.copy is w.in-Copy.is (subst (λ t. ¬ (IsAccepted t)) here rejected)
-          (subst (λ t. IsFault t fault) here faulty)
-    ]
+          subst (LeftRejected value c.args.fault fault) (sym w.in-Copy.is)
+          (subst (λ t. ¬ (IsAccepted t)) here rejected, subst (λ t. IsFault t fault) here faulty)
+    ])
 
 pub returns-in-NoMemory-clause-memory : goal.returns-in-NoMemory-clause-memory
 returns-in-NoMemory-clause-memory c = λ rejected.

@@ -1,6 +1,6 @@
 -- The last block begins where the others end, or within them, where nothing changes.
 use Rattle.std.proofs.Common.{◌-◌, ◌%◌, ◌<◌, ◌≤◌, refl, ◌∙◌, arith}
-use Rattle.mime.proofs.ValueLemmas.ListText.{lowered_start-more}
+use Rattle.mime.proofs.ValueLemmas.LoweredTo.{lowered_start-more}
 use Rattle.mime.proofs.value.kept.lowercase_start.Goals as goal
 
 pub returns : goal.returns

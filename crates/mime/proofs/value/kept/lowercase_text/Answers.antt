@@ -4,7 +4,7 @@ use Rattle.std.proofs.lemmas.List.{take_rest}
 use borrow.Rule.Slice.PartMut.{put_mid}
 use Rattle.mime.specs.Inner.KeptText.{with_pairs_lowered}
 use Rattle.mime.proofs.BytesLemmas.{boundary_after}
-use Rattle.mime.proofs.ValueLemmas.ListText.{IsLoweredTo, lowered_to-none, lowered_to-more, lowered_to-all, lowered_to-sizes, low_within}
+use Rattle.mime.proofs.ValueLemmas.LoweredTo.{IsLoweredTo, lowered_to-none, lowered_to-more, lowered_to-all, lowered_to-sizes, low_within}
 use Rattle.mime.proofs.value.kept.lowercase_text.Goals as goal
 
 pub of-left-requires : goal.of-left-requires

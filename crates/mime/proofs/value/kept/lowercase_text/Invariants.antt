@@ -1,7 +1,7 @@
 -- The pairs so far are lowercased, and the list that is left ends the bytes.
 use Rattle.std.proofs.Common.{◌-◌}
 use Rattle.mime.specs.Inner.KeptText.{with_pairs_lowered}
-use Rattle.mime.proofs.ValueLemmas.ListText.{IsLoweredTo}
+use Rattle.mime.proofs.ValueLemmas.LoweredTo.{IsLoweredTo}
 use Rattle.mime.proofs.value.kept.lowercase_text.Given as goal
 
 abbrev pub invariant-loop : goal.invariant-loop

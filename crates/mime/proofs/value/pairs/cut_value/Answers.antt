@@ -1,5 +1,5 @@
 -- A quote is ASCII: the text may be cut after it, and the byte after the content is a quote too.
-use Rattle.std.proofs.Common.{subst, refl, sym, ◌≡◌, ◌<◌, ◌-◌, ◌∙◌, ap, ℕ, List, [], ◌∷◌, length, get_or, drop, arith}
+use Rattle.std.proofs.Common.{rules, subst, refl, sym, ◌≡◌, ◌<◌, ◌-◌, ◌∙◌, ap, ℕ, List, [], ◌∷◌, length, get_or, drop, arith}
 use Rattle.std.proofs.lemmas.Bool.Decides.{nat_tests}
 use Rattle.std.proofs.lemmas.Str.{IsCharBoundary-after_ascii}
 use Rattle.std.specs.Str.{IsCharBoundary}
@@ -27,21 +27,18 @@ cut_quoted : (list : ℕ) (name text : List ℕ) → get_or text 0 0 ≡ quote_b
 cut_quoted list name [] quote = absurd (omega (arith, quote))
 cut_quoted list name (b ∷ text) quote = rw quote refl
 
-pub returns-then-as_bytes-eq34-clause-value : goal.returns-then-as_bytes-eq34-clause-value
-returns-then-as_bytes-eq34-clause-value c =
+pub returns-then-as_bytes-eq34 : goal.returns-then-as_bytes-eq34
+returns-then-as_bytes-eq34 c =
     let length = c.content_len-length.ensures ∙ ap content_len (c.as_bytes-then-as_bytes-eq34.ensures.value ∙ c.text.ensures) in
     let quote : get_or c.args.end.now 0 0 ≡ quote_byte =
     ap (λ (t : List ℕ). get_or t 0 0) (sym (c.as_bytes.ensures.value ∙ c.text-text.ensures)) ∙ c.if-as_bytes-eq34.true in
     let cut = cut_quoted c.args.list c.args.name.now c.args.end.now quote in
-    rw (c.split_around-others.ensures.before, length, c.after-content.ensures, cut) refl
-
-pub returns-then-as_bytes-eq34-clause-rest : goal.returns-then-as_bytes-eq34-clause-rest
-returns-then-as_bytes-eq34-clause-rest c =
-    let length = c.content_len-length.ensures ∙ ap content_len (c.as_bytes-then-as_bytes-eq34.ensures.value ∙ c.text.ensures) in
-    let quote : get_or c.args.end.now 0 0 ≡ quote_byte =
-    ap (λ (t : List ℕ). get_or t 0 0) (sym (c.as_bytes.ensures.value ∙ c.text-text.ensures)) ∙ c.if-as_bytes-eq34.true in
-    let cut = cut_quoted c.args.list c.args.name.now c.args.end.now quote in
-    rw (c.after_semicolon.ensures, c.split_around-others.ensures.after, length, c.after-content.ensures, cut) refl
+    record {
+      name = rw cut refl;
+      value_start = rw (cut, ← c.after-content.ensures) (search rules);
+      value = rw (c.split_around-others.ensures.before, length, c.after-content.ensures, cut) refl;
+      rest = rw (c.after_semicolon.ensures, c.split_around-others.ensures.after, length, c.after-content.ensures, cut) refl;
+    }
 
 pub split_around-others-requires-clause-within : goal.split_around-others-requires-clause-within
 split_around-others-requires-clause-within c =

@@ -1,7 +1,7 @@
 -- A text without a capital is its kept text.
 use Rattle.std.proofs.Common.{length, take, ap, sym, ◌≡◌, ◌∙◌}
 use Rattle.mime.specs.Values.{lowered}
-use Rattle.mime.proofs.LowercaseLemmas.{lowered-take}
+use Rattle.mime_search.proofs.IgnoringCase.{lowered-take}
 use Rattle.mime.proofs.ValueLemmas.KeptText.{kept-in_part}
 use Rattle.mime.proofs.ValueLemmas.Utf8.{low-in_part}
 use Rattle.mime.proofs.value.short.lowercase_pairs.Goals as goal

@@ -1,12 +1,12 @@
 -- An entry is an offer, or it is bad.
 use Rattle.mime_http.proofs.Common.{Reads, subst}
 use Rattle.mime_http.proofs.Chosen.{chooses_offer, chooses_bad}
-use Rattle.mime_http.proofs.Places.{tight_too}
+use Rattle.mime_http.proofs.Walked.{tight_too}
 use Rattle.mime_http.proofs.listed.Chosen.take_entry.Goals as goal
 
 pub returns-in_default-clause-entry : goal.returns-in_default-clause-entry
 returns-in_default-clause-entry c =
-    chooses_bad _ c.args.entry.now c.requires.trimmed c.requires.some (λ both. c.in_default.ensures.cases.0 both.0)
+    chooses_bad _ c.args.entry.now c.requires.some (λ both. c.in_default.ensures.cases.0 both.0)
 
 pub returns-in-Ok-from_str-clause-entry : goal.returns-in-Ok-from_str-clause-entry
 returns-in-Ok-from_str-clause-entry c =

@@ -21,6 +21,6 @@ returns-in-None c =
     let isnt : ¬ (IsHttpMediaType entry) =
     read_entry entry _ None (sym c.ok.ensures.value ∙ c.in-None.is) c.in_ok-read_tight.ensures.read in
     record {
-      entry = chooses_bad _ entry c.requires.trimmed c.requires.some (λ both. isnt both.1);
+      entry = chooses_bad _ entry c.requires.some (λ both. isnt both.1);
       few = omega arith;
     }

@@ -4,10 +4,10 @@ use Rattle.std.proofs.lemmas.List.Folds.{concat-append}
 use Rattle.mime_http.proofs.value.FieldErrorDisplay.fmt.Goals as goal
 
 -- calls after calls
-joined : {W : Type 0} (took : W → List ℕ → W → Type 0) (w : W) (xs : List (List ℕ)) (v : W) (ys : List (List ℕ)) (u : W)
+more_calls : {W : Type 0} (took : W → List ℕ → W → Type 0) (w : W) (xs : List (List ℕ)) (v : W) (ys : List (List ℕ)) (u : W)
     → FoldsTo took w xs v → FoldsTo took v ys u → FoldsTo took w (xs ++ ys) u
-joined took w [] v ys u p q = subst (λ x. FoldsTo took x ys u) (sym p) q
-joined took w (x ∷ xs) v ys u p q = (p.0, p.1, joined took p.0 xs v ys u p.2 q)
+more_calls took w [] v ys u p q = subst (λ x. FoldsTo took x ys u) (sym p) q
+more_calls took w (x ∷ xs) v ys u p q = (p.0, p.1, more_calls took p.0 xs v ys u p.2 q)
 
 pub returns-in_ok-write_str-in-Invalid-clause-styled : goal.returns-in_ok-write_str-in-Invalid-clause-styled
 returns-in_ok-write_str-in-Invalid-clause-styled g c = λ flush ok.
@@ -16,7 +16,7 @@ returns-in_ok-write_str-in-Invalid-clause-styled g c = λ flush ok.
     record {
       wrote = record {
         parts = one.wrote.parts ++ two.wrote.parts;
-        calls = joined g.W.Write.write_str_gives _ one.wrote.parts _ two.wrote.parts _ one.wrote.calls two.wrote.calls;
+        calls = more_calls g.W.Write.write_str_gives _ one.wrote.parts _ two.wrote.parts _ one.wrote.calls two.wrote.calls;
         whole =
             concat-append one.wrote.parts two.wrote.parts ∙ ap (λ t. t ++ concat two.wrote.parts) one.wrote.whole
             ∙ ap (λ t. codes "mime parse error: " ++ t) two.wrote.whole ∙ ap field_error_text (sym c.in-Invalid.is);

@@ -1,36 +1,29 @@
--- What the mask shows is skipped: the bytes up to the first stop, which is given, or all that are known and then what is found block by block.
-use Rattle.std.proofs.Common.{◌≡◌, ◌-◌, ◌+◌, ◌/◌, ◌^◌, get_or, Some, subst, arith}
+-- What the mask shows is skipped: the bytes up to the first stop, which is given, or all that are known, and those found after them.
+use Rattle.std.proofs.Common.{◌+◌, ◌/◌, ◌^◌, not, get_or, Some, subst, arith}
 use lib.Count.{count_trailing_zeros}
-use Rattle.mime.specs.Inner.Members.{is_member}
+use Rattle.mime_search.specs.Classes.{is_stop}
 use Rattle.mime.specs.Inner.Scanning.{Passing, Reaches}
 use Rattle.mime.specs.declared.scan.runs.TheConstants.{COMMON_TOKEN_BYTES}
-use Rattle.mime.proofs.MembersLemmas.{known-none, known-few, known-some, are_token_bytes}
-use Rattle.mime.proofs.ScanLemmas.Passing.{reader_at, passing_skip, passing_then, reaches_skip, reaches_wider}
+use Rattle.mime.proofs.StopsLemmas.{are_token_bytes}
+use Rattle.mime_search.proofs.Masks.{known-none, known-few, known-some}
+use Rattle.mime.proofs.ScanLemmas.Passing.{reader_at, passing_skip, reaches_then, reaches_skip, reaches_wider}
 use Rattle.mime.proofs.scan.reader.ByteReader.known_stop.Goals as goal
 
 pub bounds-self-inside-stop : goal.bounds-self-inside-stop
 bounds-self-inside-stop c =
-    let inside = c.self.inside in
     let keeps = c.self.invariant in
     omega (
       arith,
       keeps.there,
-      known-few COMMON_TOKEN_BYTES inside.text.now inside.at inside.known inside.stops keeps.mask keeps.there keeps.few c.if-self.false
-          c.if-stops-eq0.false,
+      known-few (is_stop COMMON_TOKEN_BYTES) _ _ _ _ keeps.mask keeps.there keeps.few c.if-self.false c.if-stops-eq0.false,
     )
 
 pub invariant_of-self-2 : goal.invariant_of-self-2
 invariant_of-self-2 c =
-    let inside = c.self.inside in
     let keeps = c.self.invariant in
+    let near = known-few (is_stop COMMON_TOKEN_BYTES) _ _ _ _ keeps.mask keeps.there keeps.few c.if-self.false c.if-stops-eq0.false in
     record {
-      within =
-          omega (
-            arith,
-            keeps.there,
-            known-few COMMON_TOKEN_BYTES inside.text.now inside.at inside.known inside.stops keeps.mask keeps.there keeps.few c.if-self.false
-                c.if-stops-eq0.false,
-          );
+      within = omega (arith, keeps.there, near);
       fits = keeps.fits;
       few = keeps.few;
       there = keeps.there;
@@ -42,28 +35,23 @@ returns c =
     let inside = c.self.inside in
     let keeps = c.self.invariant in
     let text = inside.text.now in
-    let n = count_trailing_zeros 64 (inside.stops / 2 ^ inside.at) in
-    let few = known-few COMMON_TOKEN_BYTES text inside.at inside.known inside.stops keeps.mask keeps.there keeps.few c.if-self.false
-    c.if-stops-eq0.false in
-    let members = known-some COMMON_TOKEN_BYTES text inside.at inside.known inside.stops keeps.mask keeps.there keeps.few c.if-self.false
-    c.if-stops-eq0.false in
+    let stop = inside.at + count_trailing_zeros 64 (inside.stops / 2 ^ inside.at) in
+    let near = known-few (is_stop COMMON_TOKEN_BYTES) _ _ _ _ keeps.mask keeps.there keeps.few c.if-self.false c.if-stops-eq0.false in
+    let first = known-some (is_stop COMMON_TOKEN_BYTES) text _ _ _ keeps.mask keeps.there keeps.few c.if-self.false c.if-stops-eq0.false in
     reaches_wider are_token_bytes
-    (subst (λ old. Reaches (is_member COMMON_TOKEN_BYTES) old (reader_at text (inside.at + n + 1) inside.before) (Some (get_or text (inside.at + n) 0)))
-    c.self.view_is (reaches_skip (is_member COMMON_TOKEN_BYTES) text inside.at n inside.before (omega (arith, few, keeps.there)) members))
+    (subst
+    (λ old. Reaches (λ b. not (is_stop COMMON_TOKEN_BYTES b)) old (reader_at text (stop + 1) inside.before) (Some (get_or text stop 0)))
+    c.self.view_is
+    (reaches_skip _ text inside.at stop inside.before (omega (arith, near, keeps.there)) (omega arith) (omega (arith, first))))
 
 pub returns-then-stops-eq0 : goal.returns-then-stops-eq0
 returns-then-stops-eq0 c =
     let inside = c.self.inside in
     let keeps = c.self.invariant in
     let text = inside.text.now in
-    let size = inside.known - inside.at in
-    let whole : inside.at + size ≡ inside.known = omega (arith, c.if-self.false) in
-    let members = known-none COMMON_TOKEN_BYTES text inside.at inside.known inside.stops keeps.mask keeps.there keeps.few c.if-self.false
-    c.if-stops-eq0.true in
-    let skipped = passing_skip (is_member COMMON_TOKEN_BYTES) text inside.at size inside.before (omega (arith, whole, keeps.there)) members in
+    let all = known-none (is_stop COMMON_TOKEN_BYTES) text _ _ _ keeps.mask keeps.there keeps.few c.if-self.false c.if-stops-eq0.true in
     reaches_wider are_token_bytes
-    (passing_then
-    (subst (λ old. Passing (is_member COMMON_TOKEN_BYTES) old (reader_at text inside.known inside.before)) c.self.view_is
-    (subst (λ n. Passing (is_member COMMON_TOKEN_BYTES) (reader_at text inside.at inside.before) (reader_at text n inside.before)) whole
-    skipped))
+    (reaches_then
+    (subst (λ old. Passing (λ b. not (is_stop COMMON_TOKEN_BYTES b)) old (reader_at text inside.known inside.before)) c.self.view_is
+    (passing_skip _ text inside.at inside.known inside.before keeps.within (omega (arith, c.if-self.false)) all))
     c.skip_blocks.ensures)

@@ -1,5 +1,5 @@
--- The members of the class are bytes of quoted text.
-use Rattle.mime.proofs.MembersLemmas.{are_quoted_text}
+-- The bytes that are passed are bytes of quoted text.
+use Rattle.mime.proofs.StopsLemmas.{are_quoted_text}
 use Rattle.mime.proofs.ScanLemmas.Passing.{reaches_wider}
 use Rattle.mime.proofs.scan.reader.ByteReader.skip_quoted_text.Goals as goal
 

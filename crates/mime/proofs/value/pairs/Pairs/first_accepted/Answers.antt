@@ -11,31 +11,24 @@ use Rattle.mime.proofs.value.pairs.Pairs.first_accepted.Goals as goal
 pub loop-left-init : goal.loop-left-init
 loop-left-init g c = record { decides = λ found is. rw (sym c.self.view_is) is; low = rw c.self.view_is c.requires }
 
-pub returns-then-accepted-clause-low : goal.returns-then-accepted-clause-low
-returns-then-accepted-clause-low g c =
+pub returns-then-accepted : goal.returns-then-accepted
+returns-then-accepted g c =
     let list = c.loop-left.list in
     let cut = c.cut_name-rest in
     let name = cut_of-name list cut.result.0.now cut.ensures.name in
     let valued : c.cut_value.result.value.now ≡ (cut_of list).value =
     cut_of-part (λ (p : PairCut). p.value) list c.text.result.now cut.result.0.now cut.result.1 _ c.text.ensures cut.ensures.name
     cut.ensures.rest c.cut_value.ensures.value in
-    let flagged : c.eq.result ≡ bytes_eq (cut_of list).name (codes "charset") = c.eq.ensures ∙ ap (λ n. bytes_eq n (codes "charset")) name in
-    first_value-low c.loop-left.left list c.cut_value.result.value.now c.eq.result c.loop-left-test.true c.loop-left.invariant.low
-    valued flagged
-
-pub returns-then-accepted-clause-found : goal.returns-then-accepted-clause-found
-returns-then-accepted-clause-found g c =
-    let list = c.loop-left.list in
-    let cut = c.cut_name-rest in
-    let name = cut_of-name list cut.result.0.now cut.ensures.name in
-    let valued : c.cut_value.result.value.now ≡ (cut_of list).value =
-    cut_of-part (λ (p : PairCut). p.value) list c.text.result.now cut.result.0.now cut.result.1 _ c.text.ensures cut.ensures.name
-    cut.ensures.rest c.cut_value.ensures.value in
-    let flagged : c.eq.result ≡ bytes_eq (cut_of list).name (codes "charset") = c.eq.ensures ∙ ap (λ n. bytes_eq n (codes "charset")) name in
-    c.loop-left.invariant.decides _
-    (found-first (g.K.ParamKey.Accepts c.args.key.now) c.loop-left.left list c.cut_value.result.value.now c.eq.result c.loop-left-test.true
-    (subst (λ n. g.K.ParamKey.Accepts c.args.key.now n true) name (c.accepts-accepted.ensures.0 c.if-accepted.true))
-    valued flagged)
+    let flagged : c.eq.result ≡ bytes_eq (cut_of list).name (codes "charset") =
+    c.eq.ensures ∙ ap (λ n. bytes_eq n (codes "charset")) name in
+    record {
+      found = c.loop-left.invariant.decides _
+          (found-first (g.K.ParamKey.Accepts c.args.key.now) c.loop-left.left list c.cut_value.result.value.now c.eq.result c.loop-left-test.true
+          (subst (λ n. g.K.ParamKey.Accepts c.args.key.now n true) name (c.accepts-accepted.ensures.0 c.if-accepted.true))
+          valued flagged);
+      low = first_value-low c.loop-left.left list c.cut_value.result.value.now c.eq.result c.loop-left-test.true c.loop-left.invariant.low
+          valued flagged;
+    }
 
 pub returns-then-left-eq1-clause-found : goal.returns-then-left-eq1-clause-found
 returns-then-left-eq1-clause-found g c =

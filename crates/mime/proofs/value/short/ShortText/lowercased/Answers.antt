@@ -2,7 +2,7 @@
 use Rattle.std.proofs.Common.{ap, sym, ◌≡◌, ◌∙◌, subst, length, take}
 use Rattle.std.specs.Str.{IsUtf8}
 use Rattle.mime.specs.Values.{lowered}
-use Rattle.mime.proofs.LowercaseLemmas.{lowered-take}
+use Rattle.mime_search.proofs.IgnoringCase.{lowered-take}
 use Rattle.mime.proofs.ValueLemmas.Utf8.{IsUtf8-in_part, lowercase}
 use Rattle.mime.proofs.value.short.ShortText.lowercased.Goals as goal
 

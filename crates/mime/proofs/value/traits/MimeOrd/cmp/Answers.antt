@@ -5,6 +5,9 @@ use Rattle.std.specs.declared.cmp.Ordering.TheVariants.{Equal}
 use Rattle.mime.proofs.ValueLemmas.Traits.{tells_answer}
 use Rattle.mime.proofs.value.traits.MimeOrd.cmp.Goals as goal
 
+pub returns-in-Some-clause-order : goal.returns-in-Some-clause-order
+returns-in-Some-clause-order c = tells_answer c.args.self.now.media c.args.other.now.media c.in-Some.order (search rules)
+
 pub returns-then-is_ne-clause-computed : goal.returns-then-is_ne-clause-computed
 returns-then-is_ne-clause-computed c = search rules
 

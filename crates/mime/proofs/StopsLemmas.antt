@@ -1,0 +1,44 @@
+-- The bytes that a search for the end of a token, or of quoted text, passes.
+use Rattle.std.proofs.Common.{◌≡◌, ℕ, ◌<◌, Bool, true, false, not, refl, sym, ap, ◌∙◌, arith, inl, inr}
+use Rattle.std.specs.Prelude.{◌||◌, nat_lt}
+use Rattle.std.specs.List.{list_all, range_with_len}
+use Rattle.std.proofs.lemmas.Bool.{lt-ltb, cases_lt, not-true, true≢false}
+use Rattle.std.proofs.Math.Bool.{or-true}
+use Rattle.std.proofs.lemmas.Nat.{le_or_l}
+use Rattle.std.specs.Int.Bits.{bit_or}
+use Rattle.mime_search.proofs.IgnoringCase.{at_byte}
+use Rattle.mime.specs.Bytes.{is_token_byte, is_quoted_byte, is_quoted_text_byte}
+use Rattle.mime.specs.Inner.ByteClasses.{is_token_except_plus}
+use Rattle.mime.specs.declared.scan.runs.TheConstants.{COMMON_TOKEN_BYTES, QUOTED_TEXT}
+use Rattle.mime_search.specs.Classes.{is_outside_range, is_outside, is_stop}
+use Rattle.mime_search.specs.declared.class.Class.{Class}
+use Rattle.mime_search.specs.declared.class.Range.{Range}
+
+-- what is past all ranges is outside
+past_range : (range : Range) (b : ℕ) → range.1 < b → is_outside_range range b ≡ true
+past_range range b past = rw (lt-ltb range.1 b past) (or-true (nat_lt b range.0))
+
+-- a byte is inside the ranges only if a wider class has it: tried on all bytes
+in_ranges : (class : Class) (wider : ℕ → Bool) → class.folded.1 < 256 → class.second.1 < 256 → class.third.1 < 256
+    → list_all (λ b. is_outside class b || wider b) (range_with_len 0 256) ≡ true → (b : ℕ) → is_outside class b ≡ false → wider b ≡ true
+in_ranges class wider one two three all b inside =
+    elim (cases_lt b 256) [
+      | inl within ↦ ap (λ t. t || wider b) (sym inside) ∙ at_byte (λ x. is_outside class x || wider x) b within all
+      | inr past ↦
+          let folded = past_range class.folded (bit_or b class.fold) (omega (arith, one, past, le_or_l b class.fold)) in
+          let second = past_range class.second b (omega (arith, two, past)) in
+          let third = past_range class.third b (omega (arith, three, past)) in
+          let outside : is_outside class b ≡ true = rw (folded, second, third) refl in
+          absurd (true≢false (sym outside ∙ inside))
+    ]
+
+-- a search for the end of common token bytes passes only token bytes other than the plus
+pub are_token_bytes : (b : ℕ) → not (is_stop COMMON_TOKEN_BYTES b) ≡ true → is_token_except_plus b ≡ true
+unfolding is_token_byte
+are_token_bytes b go =
+    in_ranges COMMON_TOKEN_BYTES is_token_except_plus (omega arith) (omega arith) (omega arith) refl b (not-true _ go)
+
+-- and one for the end of quoted text only bytes of quoted text
+pub are_quoted_text : (b : ℕ) → not (is_stop QUOTED_TEXT b) ≡ true → is_quoted_text_byte b ≡ true
+unfolding is_quoted_byte
+are_quoted_text b go = in_ranges QUOTED_TEXT is_quoted_text_byte (omega arith) (omega arith) (omega arith) refl b (not-true _ go)

@@ -1,0 +1,6 @@
+pub mod IgnoringCase
+mod Lanes
+pub mod Masks
+mod Quotes
+pub mod Searches
+pub mod FirstDifference

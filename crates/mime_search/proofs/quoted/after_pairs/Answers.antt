@@ -1,0 +1,36 @@
+-- A pair that another follows was passed, or three, and at last the last of them.
+use Rattle.std.proofs.Common.{◌+◌, ◌≤◌, length, arith}
+use Rattle.mime_search.proofs.Quotes.{search_past_pair, search_past_three}
+use Rattle.mime_search.proofs.quoted.after_pairs.Goals as goal
+
+pub loop-last-preserved-then-text-last-eq92-3 : goal.loop-last-preserved-then-text-last-eq92-3
+loop-last-preserved-then-text-last-eq92-3 c =
+    let text = c.args.text.now in
+    let last = c.loop-last.last in
+    let before = c.loop-last.invariant in
+    let room : last + 8 ≤ length text = omega (arith, c.loop-last-test.true, c.saturating_sub-end.ensures) in
+    record {
+      least = omega (arith, before.least);
+      within = omega (arith, room);
+      pair = c.if-text-last-eq92-3.true;
+      left = search_past_three text last _ before.left (omega (arith, room)) before.pair c.if-text-last-eq92.true
+          c.if-text-last-eq92-2.true;
+    }
+
+pub loop-last-preserved : goal.loop-last-preserved
+loop-last-preserved c =
+    let text = c.args.text.now in
+    let last = c.loop-last.last in
+    let before = c.loop-last.invariant in
+    let room : last + 8 ≤ length text = omega (arith, c.loop-last-test.true, c.saturating_sub-end.ensures) in
+    record {
+      least = omega (arith, before.least);
+      within = omega (arith, room);
+      pair = c.if-text-last-eq92.true;
+      left = search_past_pair text last _ before.left (omega (arith, room)) before.pair;
+    }
+
+pub returns-clause-left : goal.returns-clause-left
+returns-clause-left c =
+    let before = c.loop-last.invariant in
+    search_past_pair c.args.text.now c.loop-last.last _ before.left (omega (arith, before.within, c.if-last-text.false)) before.pair

@@ -1,0 +1,4 @@
+-- private
+pub mod Classes
+pub mod Quoted
+pub mod Differences

@@ -1,0 +1,104 @@
+//! Classes of bytes, and which of 16 bytes are of one.
+
+ghost use Rattle.std.specs.Prelude.{◌≡◌, ◌<◌, ◌^◌, ◌==◌, ◌||◌, not, ℕ};
+ghost use Rattle.mime_search.specs.Classes.{is_stop, outside, stops};
+
+use std::simd::prelude::*;
+
+/// The number of bytes that are compared at once.
+pub const BLOCK: usize = 16;
+
+/// A range of bytes, from its first to its last.
+#[derive(Clone, Copy)]
+pub struct Range(pub u8, pub u8);
+
+/// The bytes at which a search stops: those in one of three ranges, or all others. The first range is of bytes whose bits of `fold`
+/// are set, as 32 is set in lowercase letters: so letters of either case are in one range.
+#[derive(Clone, Copy)]
+pub struct Class {
+    pub fold: u8,
+    pub folded: Range,
+    pub second: Range,
+    pub third: Range,
+    /// Whether a search stops in the ranges, or else outside.
+    pub inside: bool,
+}
+
+impl Class {
+    /// One of two bytes.
+    #[inline(always)]
+    pub fn of(one: u8, other: u8) -> Class
+        ensures { (b : ℕ) → is_stop result b ≡ (b == one || b == other) }
+    {
+        Class {
+            fold: 0,
+            folded: Range(one, one),
+            second: Range(other, other),
+            third: Range(other, other),
+            inside: true,
+        }
+    }
+
+    /// The bytes at which a search for these doesn't stop.
+    #[inline(always)]
+    pub fn others(&self) -> Class
+        ensures { (b : ℕ) → is_stop result b ≡ not (is_stop self.now b) }
+    {
+        let inside = !self.inside;
+        Class { inside, ..*self }
+    }
+
+    /// Whether a search stops at a byte.
+    #[inline(always)]
+    pub(crate) fn has(&self, byte: u8) -> bool
+        ensures { result ≡ is_stop self.now byte }
+    {
+        let Class {
+            fold,
+            folded,
+            second,
+            third,
+            inside,
+        } = *self;
+        let low = byte | fold;
+        let outside = (low < folded.0 || low > folded.1)
+            && (byte < second.0 || byte > second.1)
+            && (byte < third.0 || byte > third.1);
+        outside != inside
+    }
+}
+
+/// Which of 16 bytes are outside the ranges of a class, as a bit mask. The lowest bit is for the first byte. Comparisons alone are
+/// a few instructions on every processor; a look-up by shuffled bytes isn't on the oldest ones.
+#[inline(always)]
+fn outside_in_lanes(bytes: u8x16, class: &Class) -> u64
+    ensures mask { result ≡ outside class.now bytes }
+    ensures few { result < 2 ^ 16 }
+{
+    let Class {
+        fold,
+        folded,
+        second,
+        third,
+        ..
+    } = *class;
+    let low = bytes | u8x16::splat(fold);
+    let no_folded = low.simd_lt(u8x16::splat(folded.0)) | low.simd_gt(u8x16::splat(folded.1));
+    let no_second = bytes.simd_lt(u8x16::splat(second.0)) | bytes.simd_gt(u8x16::splat(second.1));
+    let no_third = bytes.simd_lt(u8x16::splat(third.0)) | bytes.simd_gt(u8x16::splat(third.1));
+    (no_folded & no_second & no_third).to_bitmask()
+}
+
+/// At which of 16 bytes a search stops, as a bit mask.
+#[inline(always)]
+pub(crate) fn stops_in_lanes(bytes: u8x16, class: &Class) -> u64
+    ensures mask { result ≡ stops class.now bytes }
+    ensures few { result < 2 ^ 16 }
+{
+    let outside = outside_in_lanes(bytes, class);
+    if class.inside {
+        0xFFFF - outside
+    } else {
+        outside
+    }
+}

@@ -1,0 +1,45 @@
+//! Copies of short strings without a call.
+
+ghost use Rattle.std.specs.Prelude.{◌≡◌, ◌+◌, ◌≤◌, length};
+
+use std::simd::Simd;
+
+/// Copies the first `N` bytes and the last `N`, which may overlap and are all together.
+#[inline(always)]
+fn copy_ends<const N: usize>(out: &mut [u8], bytes: &[u8])
+    requires same { length out.old ≡ length bytes.now }
+    requires room { N ≤ length bytes.now }
+    requires reach { length bytes.now ≤ N + N }
+    ensures { out.new ≡ bytes.now }
+{
+    let last = bytes.len() - N;
+    Simd::<u8, N>::from_slice(bytes).copy_to_slice(out);
+    Simd::<u8, N>::from_slice(&bytes[last..]).copy_to_slice(&mut out[last..]);
+}
+
+/// Copies a long string. It isn't inlined: few are.
+#[inline(never)]
+fn copy_long(out: &mut [u8], bytes: &[u8])
+    requires { length out.old ≡ length bytes.now }
+    ensures { out.new ≡ bytes.now }
+{
+    out.copy_from_slice(bytes);
+}
+
+/// Copies bytes as `copy_from_slice` does, in fewer instructions for short strings.
+#[inline(always)]
+pub fn copy_bytes(out: &mut [u8], bytes: &[u8])
+    requires { length out.old ≡ length bytes.now }
+    ensures { out.new ≡ bytes.now }
+{
+    match bytes.len() {
+        0 => {}
+        1 => out[0] = bytes[0],
+        2..=3 => copy_ends::<2>(out, bytes),
+        4..=7 => copy_ends::<4>(out, bytes),
+        8..=15 => copy_ends::<8>(out, bytes),
+        16..=31 => copy_ends::<16>(out, bytes),
+        32..=64 => copy_ends::<32>(out, bytes),
+        _ => copy_long(out, bytes),
+    }
+}

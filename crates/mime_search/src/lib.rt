@@ -1,0 +1,19 @@
+//! What the libraries do with the bytes of strings, a block at a time: they search the first byte of a class, the end of a quoted string's
+//! content, or where two strings differ ignoring ASCII case; and they copy short strings.
+#![tactic(auto)]
+
+mod class;
+mod copy;
+mod differing;
+mod ignoring_case;
+mod quoted;
+mod search;
+mod start;
+
+pub use crate::class::{BLOCK, Class, Range};
+pub use crate::copy::copy_bytes;
+pub use crate::differing::difference_from;
+pub use crate::ignoring_case::{eq_ignore_ascii_case, first_difference};
+pub use crate::quoted::content_end;
+pub use crate::search::{first_stop, first_stop_at_end, stops_in_block};
+pub use crate::start::{WINDOW, stops_at_start, stops_in_window};

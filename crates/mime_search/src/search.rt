@@ -1,0 +1,70 @@
+//! The first byte of a string at which a search stops.
+
+ghost use Rattle.std.specs.Prelude.{◌≡◌, ◌+◌, ◌<◌, ◌≤◌, ◌^◌, length, take, drop};
+ghost use Rattle.mime_search.specs.Classes.{stops, end_of_run};
+
+use crate::class::{BLOCK, Class, stops_in_lanes};
+use std::simd::prelude::*;
+
+/// At which bytes of the block that begins at a position a search stops, as a bit mask.
+#[inline(always)]
+pub fn stops_in_block(text: &[u8], at: usize, class: &Class) -> u64
+    requires { at + BLOCK ≤ length text.now }
+    ensures mask { result ≡ stops class.now (take BLOCK (drop at text.now)) }
+    ensures few { result < 2 ^ 16 }
+{
+    stops_in_lanes(u8x16::from_slice(&text[at..]), class)
+}
+
+/// The position, from one on, of the first byte at which a search stops, or the length. The text is searched byte by byte.
+#[inline(always)]
+fn first_stop_by_bytes(text: &[u8], from: usize, class: &Class) -> usize
+    requires { from ≤ length text.now }
+    ensures { result ≡ end_of_run class.now text.now from }
+{
+    let mut at = from;
+    while at < text.len() && !class.has(text[at]) {
+        at += 1;
+    }
+    at
+}
+
+/// The position, from one on after which less than a block is left, of the first byte at which a search stops, or the length. The
+/// text's last block is searched at once.
+#[inline(always)]
+pub fn first_stop_at_end(text: &[u8], from: usize, class: &Class) -> usize
+    requires block { BLOCK ≤ length text.now }
+    requires within { from ≤ length text.now }
+    requires end { length text.now < from + BLOCK }
+    ensures { result ≡ end_of_run class.now text.now from }
+{
+    let start = text.len() - BLOCK;
+    let stops = stops_in_block(text, start, class) >> (from - start);
+    if stops == 0 {
+        text.len()
+    } else {
+        from + stops.trailing_zeros() as usize
+    }
+}
+
+/// The position, from one on, of the first byte at which a search stops, or the length.
+#[tactic(auto, using(crate::proofs::Searches::run_within))]
+#[inline(always)]
+pub fn first_stop(text: &[u8], from: usize, class: &Class) -> usize
+    requires { from ≤ length text.now }
+    ensures end { result ≡ end_of_run class.now text.now from }
+    ensures within { result ≤ length text.now }
+{
+    let mut at = from;
+    while text.len() - at >= BLOCK {
+        let stops = stops_in_block(text, at, class);
+        if stops != 0 {
+            return at + stops.trailing_zeros() as usize;
+        }
+        at += BLOCK;
+    }
+    if text.len() < BLOCK {
+        return first_stop_by_bytes(text, at, class);
+    }
+    first_stop_at_end(text, at, class)
+}

@@ -1,0 +1,86 @@
+//! At which of its first bytes a search of a string stops, as a bit mask.
+
+ghost use Rattle.std.specs.Prelude.{◌≡◌, ◌+◌, ◌*◌, ◌/◌, ◌-◌, ◌<◌, ◌≤◌, ◌^◌, ◌++◌, length, take, drop};
+ghost use Rattle.mime_search.specs.Classes.{stops};
+
+use crate::class::{BLOCK, Class, stops_in_lanes};
+use crate::search::stops_in_block;
+use std::simd::prelude::*;
+
+/// How many bytes are searched together at the start of a string: a mask has a bit for each.
+pub const WINDOW: usize = 64;
+
+/// Half a block.
+const HALF: usize = 8;
+
+/// The mask of `size` bytes, from the masks of their first and of their last `part` bytes, which may overlap.
+#[inline(always)]
+fn joined(first: u64, last: u64, part: usize, size: usize) -> u64
+    requires part { part ≤ 32 }
+    requires reach { size ≤ part + part }
+    requires room { part ≤ size }
+    requires first { first < 2 ^ 32 }
+    requires last { last < 2 ^ 32 }
+    ensures { result ≡ first + last / 2 ^ (part + part - size) * 2 ^ part }
+{
+    first + ((last >> (part + part - size)) << part)
+}
+
+/// The first and the last bytes of a string, half a block of each. They may overlap.
+#[inline(always)]
+fn both_ends(text: &[u8]) -> u8x16
+    requires { HALF ≤ length text.now }
+    ensures { result ≡ take HALF text.now ++ drop (length text.now - HALF) text.now }
+{
+    let first = u8x8::from_slice(text);
+    let last = u8x8::from_slice(&text[text.len() - HALF..]);
+    first.shuffle(last, [0, 1, 2, 3, 4, 5, 6, 7, 8, 9, 10, 11, 12, 13, 14, 15])
+}
+
+/// At which bytes of a string a search stops. It has from half a block to a block.
+#[inline(always)]
+fn stops_in_halves(text: &[u8], class: &Class) -> u64
+    requires room { HALF ≤ length text.now }
+    requires reach { length text.now ≤ BLOCK }
+    ensures { result ≡ stops class.now text.now }
+{
+    let found = stops_in_lanes(both_ends(text), class);
+    joined(found % 256, found / 256, HALF, text.len())
+}
+
+/// At which bytes of a string a search stops. It has from one block to four, and `first` are those in the first one.
+#[inline(always)]
+pub fn stops_in_window(text: &[u8], first: u64, class: &Class) -> u64
+    requires room { BLOCK ≤ length text.now }
+    requires reach { length text.now ≤ WINDOW }
+    requires first { first ≡ stops class.now (take BLOCK text.now) }
+    requires few { first < 2 ^ 16 }
+    ensures { result ≡ stops class.now text.now }
+{
+    let size = text.len();
+    let last = stops_in_block(text, size - BLOCK, class);
+    if size <= BLOCK + BLOCK {
+        return joined(first, last, BLOCK, size);
+    }
+    let start = first + (stops_in_block(text, BLOCK, class) << BLOCK);
+    let end = stops_in_block(text, size - BLOCK - BLOCK, class) + (last << BLOCK);
+    joined(start, end, BLOCK + BLOCK, size)
+}
+
+/// The start of a string: how many bytes it has, and at which of them a search stops. That is the whole string, up to
+/// a block, or nothing if it is shorter than half a block.
+#[inline(always)]
+pub fn stops_at_start(text: &[u8], class: &Class) -> (usize, u64)
+    ensures few { result.0 ≤ BLOCK }
+    ensures within { result.0 ≤ length text.now }
+    ensures mask { result.1 ≡ stops class.now (take result.0 text.now) }
+{
+    let size = text.len();
+    if size < HALF {
+        (0, 0)
+    } else if size < BLOCK {
+        (size, stops_in_halves(text, class))
+    } else {
+        (BLOCK, stops_in_block(text, 0, class))
+    }
+}
