@@ -130,10 +130,10 @@ impl Mime {
             }
         };
         // Each way to a short text returns, so that it isn't moved where they would join.
-        if s.len() <= SHORT && positions.pair_count == 0 {
-            return Ok(Mime::of_short(s, positions, ShortText::essence(s, positions)));
-        }
         if s.len() <= SHORT {
+            if positions.pair_count == 0 {
+                return Ok(Mime::of_short(s, positions, ShortText::essence(s, positions)));
+            }
             return Ok(Mime::of_short(s, positions, ShortText::with_pairs(s, positions)));
         }
         Mime::of_accepted(alloc, s, positions)
