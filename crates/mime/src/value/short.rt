@@ -139,7 +139,12 @@ impl ShortText {
         requires { length text.now ≤ SHORT }
         ensures { result ≡ text.now }
     {
-        ShortText::of(&padded(text), text.len())
+        let mut bytes = [0; SHORT];
+        bytes[..text.len()].copy_from_slice(text.as_bytes());
+        ShortText {
+            len: text.len() as u32,
+            bytes,
+        }
     }
 
     /// A text in lowercase.
