@@ -14,7 +14,7 @@ use std::alloc::Global;
 const LIMIT: usize = 1_048_576;
 
 /// The most bytes that one read asks for.
-const BLOCK: usize = 8192;
+const AT_ONCE: usize = 8192;
 
 /// The number of bytes that are searched at once for a line feed.
 const STEP: usize = 8;
@@ -35,9 +35,9 @@ pub fn read_to_limit<S: Source>(alloc: Global, source: &mut S) -> Result<Vec<u8>
     ensures no_write { result ≢ Err RunError.Write }
 {
     let mut input = Vec::new(alloc);
-    let mut block = [0u8; BLOCK];
+    let mut block = [0u8; AT_ONCE];
     loop {
-        let room = (LIMIT + 1 - input.len()).min(BLOCK);
+        let room = (LIMIT + 1 - input.len()).min(AT_ONCE);
         let Ok(count) = source.read(&mut block[..room]) else {
             return Err(RunError::Read);
         };

@@ -16,7 +16,7 @@ use std::marker::Model;
 pub(crate) const SHORT: usize = 40;
 
 /// The number of bytes in which a short text is made: a multiple of 16, so that whole vectors are lowercased.
-const BLOCK: usize = 48;
+const PADDED: usize = 48;
 
 /// A text of at most `SHORT` bytes. Zeros follow it.
 #[derive(Drop)]
@@ -37,18 +37,18 @@ impl Model for ShortText {
 
 /// The bytes of a text, with zeros after it.
 #[inline(always)]
-fn padded(text: &str) -> [u8; BLOCK]
+fn padded(text: &str) -> [u8; PADDED]
     requires { length text.now ≤ SHORT }
     ensures { take (length text.now) result ≡ text.now }
 {
-    let mut bytes = [0; BLOCK];
+    let mut bytes = [0; PADDED];
     bytes[..text.len()].copy_from_slice(text.as_bytes());
     bytes
 }
 
 /// Lowercases what ignores case in a block that begins with a string with `count` pairs.
 #[inline(always)]
-fn lowercase_pairs(block: &mut [u8; BLOCK], text: &str, semicolon: usize, count: usize)
+fn lowercase_pairs(block: &mut [u8; PADDED], text: &str, semicolon: usize, count: usize)
     requires short { length text.now ≤ SHORT }
     requires same { take (length text.now) block.old ≡ text.now }
     requires parted { slice_get text.now semicolon ≡ Some semicolon_byte }
@@ -120,7 +120,7 @@ impl ShortText {
 
     /// The first `len` bytes as a text.
     #[inline(always)]
-    fn of(block: &[u8; BLOCK], len: usize) -> ShortText
+    fn of(block: &[u8; PADDED], len: usize) -> ShortText
         requires short { len ≤ SHORT }
         requires utf8 { IsUtf8 (take len block.now) }
         ensures { result ≡ take len block.now }
@@ -180,7 +180,7 @@ impl ShortText {
         ensures { result ≡ kept_text_of positions.pair_count positions.semicolon text.now }
     {
         // Lowercased where it is made, so that it isn't moved before it is kept.
-        let mut block = [0; BLOCK];
+        let mut block = [0; PADDED];
         block[..text.len()].copy_from_slice(text.as_bytes());
         lowercase_pairs(
             &mut block,
