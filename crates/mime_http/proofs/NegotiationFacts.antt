@@ -1,5 +1,5 @@
 -- Worked facts of the pages `HttpList` and `Weight`: what is true of a text, and what is false.
-use Rattle.mime_http.proofs.Common.{AreElements, AreHttpLists, AreSorted, Header, IsHeader, IsHttpMediaType, IsPiece, IsQvalue, IsToken, IsUtf8, IsUtf8-nil, List, MediaType, Reads, [], a_bad, a_range, ap, append-nil, arith, codes, comma, cut, element, flat_map, get_or, is_token_byte, length, line_end, no_line, no_list, no_text, refl, stopped-from_walk, subst, sym, thousandths_of, tight, trim_end, trim_start, true≢false, two_digits, value_of, ℕ, ◌++◌, ◌∙◌, ◌∷◌, ◌≡◌}
+use Rattle.mime_http.proofs.Common.{AreElements, AreHttpLists, AreSorted, Header, IsHeader, IsHttpMediaType, IsPiece, IsQvalue, IsToken, IsUtf8, IsUtf8-nil, List, MediaType, None, Reads, [], a_bad, a_range, ap, append-nil, arith, codes, comma, cut, element, flat_map, get_or, is_token_byte, length, line_end, no_line, no_list, no_text, refl, stopped-from_walk, subst, sym, thousandths_of, tight, trim_end, trim_start, true≢false, two_digits, value_of, ℕ, ◌++◌, ◌∙◌, ◌∷◌, ◌≡◌}
 use Rattle.mime_http.specs.ListLaws.{no_text as no_element, nothing as nothing_there}
 use Rattle.mime_http.proofs.Numbers.{weight_is_number}
 use Rattle.mime_http.proofs.Cuts.{cut_of_piece, are_cut}
@@ -7,7 +7,6 @@ use Rattle.mime_http.proofs.HttpLaws.{accepted_from_http}
 use Rattle.mime_http.proofs.HttpBack.{read_is_http}
 use Rattle.mime_http.proofs.HttpLaws.{reads_tight}
 use Rattle.mime_http.proofs.Lists.{one_header, http_lists_are_read, bad_is_alone}
-use Rattle.mime_http.proofs.RangesFacts.{of}
 use Rattle.mime_http.proofs.HttpText.{AreAscii, put_ascii}
 
 -- ---- weights (RFC 9110, 12.4.2)
@@ -58,7 +57,7 @@ trimmed = refl
 
 -- a media type of a type of one letter, and a subtype
 abbrev short : List ℕ → MediaType
-short essence = record (of essence 1 []) { kept = essence }
+short essence = record { essence = essence; slash = 1; plus = None; pairs = []; kept = essence }
 
 -- a text is read as this essence
 record IsShort (text essence : List ℕ) : Type 0 where
