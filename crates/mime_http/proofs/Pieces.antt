@@ -1,5 +1,5 @@
 -- A line's first piece: bytes without a mark go on with it, and a comma outside strings ends it.
-use Rattle.mime_http.proofs.Common.{AreUnmarked, At, Bool, List, Outside, [], after, after_outside, ap, append-nil, append_assoc, ap₂, arith, bit_or, cases_Bool, cases_lt, chunk, cond, cond_both, count_trailing_zeros, cut, cut_after, cut_from, drop, drop-drop, drop-map, drop_of_length-le, ends, eqb, eqb-true, false, get_or, get_or-drop, is_mark, leading_from_mask_l, length, length-chunk, length-drop, length-map, map, map-map, mask_l, mask_l-mod, nat_tests, ne_eqb, not, or_parts, prefix_len, refl, run_in_chunk_fails, run_in_chunk_le, run_in_chunk_stops, subst, suc, sym, take, take-add, take_all, take_more, top, trailing_mask_l, true, zero, ℕ, ⊎_elim, ◌%◌, ◌++◌, ◌+◌, ◌-◌, ◌/◌, ◌<◌, ◌==◌, ◌^◌, ◌||◌, ◌∙◌, ◌∷◌, ◌≡◌, ◌≤◌}
+use Rattle.mime_http.proofs.Common.{AreUnmarked, At, Bool, List, Outside, [], after, after_outside, ap, append-nil, append_assoc, ap₂, arith, cases_Bool, cases_lt, chunk, cond, cond_both, cut, cut_after, cut_from, drop, drop-drop, drop_of_length-le, ends, eqb-true, false, get_or, get_or-drop, is_mark, length, length-drop, ne_eqb, not, or_parts, prefix_len, refl, run_in_chunk_fails, run_in_chunk_le, run_in_chunk_stops, subst, suc, sym, take, take-add, take_all, take_more, true, zero, ℕ, ⊎_elim, ◌++◌, ◌+◌, ◌-◌, ◌<◌, ◌==◌, ◌∙◌, ◌∷◌, ◌≡◌, ◌≤◌}
 use Rattle.mime_search.specs.Classes.{is_stop, end_of_run}
 use Rattle.mime_search.specs.Quoted.{len_from}
 use Rattle.mime_search.specs.declared.class.Class.{Class}
