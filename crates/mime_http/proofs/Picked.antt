@@ -1,6 +1,6 @@
 -- The closest range is what a fold over the ranges keeps, and none is closer.
 use Rattle.mime_http.proofs.Common.{Bool, ClosestIsClosest, Contains, IsAtMost, List, MatchOption, MediaType, None, Option, Rank, Some, [], ap, arith, cases_Bool, closeness, closest, cons_option, enumerate_from, false, filter_map, find, fold, is_le, is_lt, list_all, list_all-from_AllPass, AllPass-from_list_all, All-contains, map, nat_tests, option_cmp, ord_max, rank_cmp, refl, subst, suc, sym, true, true≢false, zero, ℕ, ⊎_elim, ◌∙◌, ◌∷◌, ◌≡◌, Equal, cond_both}
-use Rattle.mime_http.proofs.Highest.{at_most, not_above_itself, one_rank, up_to}
+use Rattle.mime_http.proofs.Highest.{one_rank, up_to}
 use Rattle.mime_http.specs.Chosen.{NotAbove}
 use Rattle.std.proofs.lemmas.List.Elements.{All-nil, All-cons, All-head, All-tail}
 use Rattle.std.specs.List.{All}
@@ -41,7 +41,7 @@ of_two x y ranks {top} = cond_both (is_lt (rank_cmp y x)) _ _ (λ higher. IsTop 
 top_of : (rank : Rank) (ranks : List Rank) → IsTop (rank ∷ ranks) (fold (ord_max rank_cmp) rank ranks)
 top_of rank [] = record {
   among = (zero, omega arith, refl);
-  above = All-cons (NotAbove rank) rank [] (not_above_itself rank) (All-nil (NotAbove rank));
+  above = All-cons (NotAbove rank) rank [] (grind (arith, nat_tests)) (All-nil (NotAbove rank));
 }
 top_of rank (next ∷ ranks) = of_two rank next ranks (top_of (ord_max rank_cmp rank next) ranks)
 
@@ -152,6 +152,7 @@ closest_is_closest ranges offer = rw (found_top (filter_map (closeness offer) it
         let top = fold (ord_max rank_cmp) rank ranks in
         let highest = top_of rank ranks in (
           of_filtered (closeness offer) items _ (subst (λ all. Contains all top) (sym is) highest.among),
-          λ item other there covers. at_most other top (All-contains (NotAbove top) (rank ∷ ranks) other highest.above
-              (subst (λ all. Contains all other) is (in_filtered _ items item other there covers))),
+          λ item other there covers.
+              let low = All-contains (NotAbove top) (rank ∷ ranks) other highest.above
+              (subst (λ all. Contains all other) is (in_filtered _ items item other there covers)) in grind (arith, nat_tests, low),
         )
