@@ -51,17 +51,13 @@ found_after : (offer : MediaType) (count : ℕ) (weight : Option (List ℕ)) (pa
 found_after offer count weight [] =
     let same : count ≡ count + 0 = omega arith in
     λ i. found_of (same i) (sym (first_weight weight [] None).0 i)
-found_after offer count weight (pair ∷ pairs) = ⊎_elim
-    (λ weighs. rw weighs (found_after offer count (option_or weight (Some pair.1)) pairs
-    ∙ ap (λ w. if list_all (has offer) (demanded pairs) then found_of (count + length (demanded pairs)) w else None)
-    (first_weight weight pair.1 (first_value (codes "q") pairs)).1))
-    (λ other. rw other (⊎_elim
-    (λ there. rw there (found_after offer (count + 1) weight pairs
-    ∙ ap (λ n. if list_all (has offer) (demanded pairs) then found_of n (option_or weight (first_value (codes "q") pairs)) else None)
-    (omega arith)))
-    (λ missing. rw missing refl)
-    (cases_Bool (has offer pair))))
-    (cases_Bool (bytes_eq pair.0 (codes "q")))
+found_after offer count weight (pair ∷ pairs) =
+    grind (
+      arith,
+      found_after offer count (option_or weight (Some pair.1)) pairs,
+      found_after offer (count + 1) weight pairs,
+      (first_weight weight pair.1 (first_value (codes "q") pairs)).1,
+    )
 
 -- from the first on
 pub found_of_all : (offer : MediaType) (pairs : List (List ℕ × List ℕ)) → found_from offer 0 None (items_of pairs) ≡ found_in offer pairs

@@ -1,5 +1,5 @@
 -- A media type covers itself, and what covers an offer is told by what both mean.
-use Rattle.mime_http.proofs.Common.{Bool, CoversItself, List, MeaningCounts, MediaType, None, Option, Rank, Some, [], and_from, ap, bytes_eq, bytes_eq-Decides, closeness, codes, demanded, false, has, if◌then◌else◌, is_some, length, list_all, list_any, map, meaning_of, named_parts, not, option_map, refl, sym, true, type_of, unescaped, weight_of, ℕ, ◌&&◌, ◌++◌, ◌||◌, ◌∙◌, ◌∷◌, ◌≡◌, length-map, list_all-map, list_all-from_AllPass, get_or}
+use Rattle.mime_http.proofs.Common.{arith, Bool, CoversItself, List, MeaningCounts, MediaType, None, Option, Rank, Some, [], and_from, ap, bytes_eq, bytes_eq-Decides, closeness, codes, demanded, false, has, if◌then◌else◌, is_some, length, list_all, list_any, map, meaning_of, named_parts, not, option_map, refl, sym, true, type_of, unescaped, weight_of, ℕ, ◌&&◌, ◌++◌, ◌||◌, ◌∙◌, ◌∷◌, ◌≡◌, length-map, list_all-map, list_all-from_AllPass, get_or}
 use Rattle.std.proofs.lemmas.List.Elements.{All-filter}
 use Rattle.std.proofs.lemmas.List.Folds.{list_any_at}
 
@@ -22,17 +22,9 @@ has_own offer =
     list_any_at (λ own. bytes_eq own.0 pair.0 && bytes_eq (unescaped own.1) (unescaped pair.1)) offer.pairs k d within
     (and_from _ _ (same_bytes pair.0) (same_bytes (unescaped pair.1)))))
 
--- whether it is a range of all types or not, it names some of its own parts
-names_some : (any all : Bool) (rank : ℕ → Rank) → is_some (option_map rank (if any then Some 0 else if all then Some 1 else Some 2)) ≡ true
-names_some true all rank = refl
-names_some false true rank = refl
-names_some false false rank = refl
-
 -- so a media type covers itself, but for a weight
 pub covers_itself : CoversItself
-covers_itself media =
-    rw (has_own media, same_bytes media.essence) (names_some _ (bytes_eq media.essence (type_of media ++ codes "/*"))
-    (λ named. (named, length (demanded media.pairs), weight_of media, 0)))
+covers_itself media = rw (has_own media, same_bytes media.essence) (grind (arith))
 
 -- ---- what covers an offer is told by what both mean
 
@@ -51,12 +43,7 @@ has_by_meaning (own ∷ pairs) pair =
 -- as many are demanded,
 demanded_meant : (pairs : Pairs) → demanded (map meaning_of pairs) ≡ map meaning_of (demanded pairs)
 demanded_meant [] = refl
-demanded_meant (pair ∷ pairs) =
-    elim (not (bytes_eq pair.0 (codes "q"))) as (λ b. (if b then meaning_of pair ∷ demanded (map meaning_of pairs)
-    else demanded (map meaning_of pairs)) ≡ map meaning_of (if b then pair ∷ demanded pairs else demanded pairs)) [
-      | true ↦ ap (λ rest. meaning_of pair ∷ rest) (demanded_meant pairs)
-      | false ↦ demanded_meant pairs
-    ]
+demanded_meant (pair ∷ pairs) = grind (arith, demanded_meant pairs)
 
 -- and all that are demanded are there if it has what they mean
 all_by_meaning : (offer : MediaType) (pairs : Pairs)

@@ -89,9 +89,7 @@ kept_of_two : (x y : Option Rank) (ranks : List Rank)
 kept_of_two None None ranks = refl
 kept_of_two None (Some y) ranks = refl
 kept_of_two (Some x) None ranks = refl
-kept_of_two (Some x) (Some y) ranks = cond_both (is_lt (rank_cmp y x)) (Some x) (Some y)
-    (λ higher. top_if_any (cons_option higher ranks) ≡ Some (fold (ord_max rank_cmp) (ord_max rank_cmp x y) ranks))
-    (λ less. rw less refl) (λ more. rw more refl)
+kept_of_two (Some x) (Some y) ranks = grind (arith)
 
 -- a fold keeps the highest of those that are there
 kept_is_top : {X : Type 0} (f : X → Option Rank) (first : Option Rank) (xs : List X)
