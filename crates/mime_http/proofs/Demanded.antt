@@ -21,22 +21,6 @@ found_from offer count weight (item ∷ items) =
     if bytes_eq item.name (codes "q") then found_from offer count (option_or weight (Some item.value)) items else
     if has offer (item.name, item.value) then found_from offer (count + 1) weight items else None
 
-module _ (offer : MediaType) (count : ℕ) (weight : Option (List ℕ)) {items next : List Item} {item : Item} (is : items ≡ item ∷ next) where
-  -- of weights the first counts,
-  pub weight_passed : bytes_eq item.name (codes "q") ≡ true
-      → found_from offer count weight items ≡ found_from offer count (option_or weight (Some item.value)) next
-  weight_passed weighs = rw is (rw weighs refl)
-
-  -- another parameter is counted if the offer has it,
-  pub one_counted : bytes_eq item.name (codes "q") ≡ false → has offer (item.name, item.value) ≡ true
-      → found_from offer count weight items ≡ found_from offer (count + 1) weight next
-  one_counted other there = rw is (rw (other, there) refl)
-
-  -- and else nothing is found
-  pub one_missing : bytes_eq item.name (codes "q") ≡ false → has offer (item.name, item.value) ≡ false
-      → found_from offer count weight items ≡ None
-  one_missing other missing = rw is (rw (other, missing) refl)
-
 -- of two weights and more the first counts
 first_weight : (weight : Option (List ℕ)) (value : List ℕ) (more : Option (List ℕ))
     → (option_or weight None ≡ weight) × (option_or (option_or weight (Some value)) more ≡ option_or weight (Some value))
