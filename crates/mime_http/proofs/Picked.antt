@@ -86,10 +86,7 @@ found_top (rank ∷ ranks) =
 -- the higher of two that may be there, before others
 kept_of_two : (x y : Option Rank) (ranks : List Rank)
     → top_if_any (cons_option (ord_max (option_cmp rank_cmp) x y) ranks) ≡ top_if_any (cons_option x (cons_option y ranks))
-kept_of_two None None ranks = refl
-kept_of_two None (Some y) ranks = refl
-kept_of_two (Some x) None ranks = refl
-kept_of_two (Some x) (Some y) ranks = grind (arith)
+kept_of_two x y ranks = grind (arith)
 
 -- a fold keeps the highest of those that are there
 kept_is_top : {X : Type 0} (f : X → Option Rank) (first : Option Rank) (xs : List X)

@@ -12,15 +12,7 @@ moved g rank = (rank.0, rank.1, rank.2, g rank.3)
 -- how closely a range covers an offer, once it stands elsewhere
 covers_so : (offer range : MediaType) (g : ℕ → ℕ) (at : ℕ)
     → closeness offer (g at, range) ≡ option_map (moved g) (closeness offer (at, range))
-covers_so offer range g at = by (list_all (has offer) (demanded range.pairs)) (named_parts range offer)
-  where
-    by : (all : Bool) (found : Option ℕ)
-        → (if all then option_map (λ named. (named, length (demanded range.pairs), weight_of range, g at)) found else None)
-        ≡ option_map (moved g)
-        (if all then option_map (λ named. (named, length (demanded range.pairs), weight_of range, at)) found else None)
-    by true None = refl
-    by true (Some named) = refl
-    by false found = refl
+covers_so offer range g at = grind (arith)
 
 module _ (g : ℕ → ℕ) (same : (x y : ℕ) → nat_cmp (g x) (g y) ≡ nat_cmp x y) where
   -- if moved places are in the same order, then so are ranks,
@@ -30,13 +22,9 @@ module _ (g : ℕ → ℕ) (same : (x y : ℕ) → nat_cmp (g x) (g y) ≡ nat_c
   -- the higher of two is the same,
   same_higher : (x y : Option Rank) → ord_max (option_cmp rank_cmp) (option_map (moved g) x) (option_map (moved g) y)
       ≡ option_map (moved g) (ord_max (option_cmp rank_cmp) x y)
-  same_higher None None = refl
-  same_higher None (Some y) = refl
+  same_higher None y = grind (arith)
   same_higher (Some x) None = refl
-  same_higher (Some x) (Some y) =
-      rw (same_order y x) (cond_both (is_lt (rank_cmp y x)) (Some x) (Some y) (λ higher.
-      (if is_lt (rank_cmp y x) then Some (moved g x) else Some (moved g y)) ≡ option_map (moved g) higher)
-      (λ less. rw less refl) (λ more. rw more refl))
+  same_higher (Some x) (Some y) = grind (arith, same_order y x)
 
   -- and so is the place of the best
   same_best : (all : List Rank) → position (is_best (map (moved g) all)) (map (moved g) all) ≡ position (is_best all) all
@@ -97,11 +85,7 @@ module _ (offer : MediaType) (k : ℕ) where
       ≡ option_map (moved (shifted k)) (kept offer first at (before ++ after))
   one_more range after none at first [] long =
       ap (λ first. kept offer first (at + 1) after) (ap (ord_max (option_cmp rank_cmp) _)
-      (covers_so offer range (λ _. at) 0 ∙ ap (option_map (moved (λ _. at))) none) ∙ no_higher _) ∙ later at first after (omega (arith, long))
-    where
-      no_higher : (first : Option Rank) → ord_max (option_cmp rank_cmp) first None ≡ first
-      no_higher None = refl
-      no_higher (Some rank) = refl
+      (covers_so offer range (λ _. at) 0 ∙ ap (option_map (moved (λ _. at))) none) ∙ grind (arith)) ∙ later at first after (omega (arith, long))
   one_more range after none at first (other ∷ before) long =
       ap (λ first. kept offer first (at + 1) (before ++ (range ∷ after))) (next other at at first (grind (arith, nat_tests, long)))
       ∙ one_more range after none (at + 1) _ before (omega (arith, long))
@@ -133,10 +117,7 @@ module _ (before after : List MediaType) (range : MediaType) where
   raised_by : (found : Option Rank)
       → merit_by (length with_it) (option_map (moved (shifted (length before))) found) ≡ moved raised (merit_by count found)
   raised_by None = sym none_stays
-  raised_by (Some close) =
-      let early : length with_it - shifted (length before) close.3 ≡ raised (count - close.3) =
-      grind (arith, nat_tests, length-append before after, length-append before (range ∷ after)) in
-      λ i. (close.2, close.0, close.1, early i)
+  raised_by (Some close) = grind (arith, nat_tests, length-append before after, length-append before (range ∷ after))
 
   -- each offer ranks so,
   merit_so : (offer : MediaType) → closeness offer (0, range) ≡ None → merit with_it offer ≡ moved raised (merit (before ++ after) offer)
