@@ -46,9 +46,7 @@ module _ (g : ℕ → ℕ) (same : (x y : ℕ) → nat_cmp (g x) (g y) ≡ nat_c
 
     -- and comes before the same others
     same_turn : (at other : ℕ) → ComesBefore all at other → ComesBefore (map (moved g) all) at other
-    same_turn at other (inl above) =
-        inl ((λ i. is_gt (rank_cmp (rank_so at i) (rank_so other i))) ∙ (ap is_gt (same_order (rank_at all at) (rank_at all other)) ∙ above))
-    same_turn at other (inr level) = inr (rank_so at ∙ (ap (moved g) level.0 ∙ sym (rank_so other)), level.1)
+    same_turn at other before = grind (arith, rank_so at, rank_so other, same_order (rank_at all at) (rank_at all other), before)
 
 -- ---- the closest range
 
@@ -66,9 +64,12 @@ module _ (offer : MediaType) (k : ℕ) where
       → ord_max (option_cmp rank_cmp) (option_map (moved (shifted k)) first) (closeness offer (to, range))
       ≡ option_map (moved (shifted k)) (ord_max (option_cmp rank_cmp) first (closeness offer (at, range)))
   next range at to first there =
-      ap (ord_max (option_cmp rank_cmp) (option_map (moved (shifted k)) first))
-      (ap (λ n. closeness offer (n, range)) (sym there) ∙ covers_so offer range (shifted k) at)
-      ∙ same_higher (shifted k) (λ x y. grind (arith, nat_tests)) first (closeness offer (at, range))
+      grind (
+        arith,
+        there,
+        covers_so offer range (shifted k) at,
+        same_higher (shifted k) (λ x y. grind (arith, nat_tests)) first (closeness offer (at, range)),
+      )
 
   -- so the closest is the same with ranges one position later,
   later : (at : ℕ) (first : Option Rank) (ranges : List MediaType) → k ≤ at
@@ -107,25 +108,15 @@ module _ (before after : List MediaType) (range : MediaType) where
 
   -- an offer that no range covers ranks as before
   none_stays : moved raised lowest ≡ lowest
-  none_stays = let late : raised 0 ≡ 0 = grind (arith, nat_tests, length-append before after) in λ i. (0, 0, 0, late i)
-
-  -- what is made of how closely the closest range covers an offer
-  abbrev merit_by : ℕ → Option Rank → Rank
-  merit_by long found = unwrap_or (option_map (λ close. (close.2, close.0, close.1, long - close.3)) found) lowest
-
-  -- what is made of the closest range
-  raised_by : (found : Option Rank)
-      → merit_by (length with_it) (option_map (moved (shifted (length before))) found) ≡ moved raised (merit_by count found)
-  raised_by None = sym none_stays
-  raised_by (Some close) = grind (arith, nat_tests, length-append before after, length-append before (range ∷ after))
+  none_stays = grind (arith, nat_tests, length-append before after)
 
   -- each offer ranks so,
   merit_so : (offer : MediaType) → closeness offer (0, range) ≡ None → merit with_it offer ≡ moved raised (merit (before ++ after) offer)
   merit_so offer none =
-      let old = before ++ after in
-      ap (merit_by (length with_it)) (sym (closest_is_kept with_it offer)
+      let kept = sym (closest_is_kept with_it offer)
       ∙ (one_more offer (length before) range after none 0 None before (omega arith)
-      ∙ ap (option_map (moved (shifted (length before)))) (closest_is_kept old offer))) ∙ raised_by (closest old offer)
+      ∙ ap (option_map (moved (shifted (length before)))) (closest_is_kept (before ++ after) offer)) in
+      rw kept (grind (arith, nat_tests, length-append before after, length-append before (range ∷ after)))
 
   -- and so do all
   merits_so : (offers : List MediaType) → ((offer : MediaType) → Contains offers offer → closeness offer (0, range) ≡ None)
