@@ -1,9 +1,11 @@
 -- The closest range is what a fold over the ranges keeps, and none is closer.
-use Rattle.mime_http.proofs.Common.{Bool, ClosestIsClosest, Contains, IsAtMost, List, MatchOption, MediaType, None, Option, Rank, Some, [], ap, arith, cases_Bool, closeness, closest, cons_option, enumerate_from, false, filter_map, find, fold, is_le, is_lt, list_all, list_all-from_AllPass, AllPass-from_list_all, All-contains, map, nat_tests, option_cmp, ord_max, rank_cmp, refl, subst, suc, sym, true, true≢false, zero, ℕ, ⊎_elim, ◌∙◌, ◌∷◌, ◌≡◌, Equal, cond_both}
+use Rattle.mime_http.proofs.Common.{Bool, ClosestIsClosest, Contains, IsAtMost, List, MatchOption, MediaType, None, Option, Rank, Some, [], ap, arith, cases_Bool, closeness, closest, cons_option, enumerate_from, false, filter_map, find, fold, is_le, is_lt, list_all, list_all-from_AllPass, AllPass-from_list_all, All-contains, map, nat_tests, option_cmp, option_map, slice_get-get_or, Contains-get_or, unwrap_or, cases_lt, length, get_or, ◌<◌, ord_max, rank_cmp, refl, subst, suc, sym, true, true≢false, zero, ℕ, ⊎_elim, ◌∙◌, ◌∷◌, ◌≡◌, Equal, cond_both}
 use Rattle.mime_http.proofs.Highest.{one_rank, up_to}
 use Rattle.mime_http.specs.Chosen.{NotAbove}
 use Rattle.std.proofs.lemmas.List.Elements.{All-nil, All-cons, All-head, All-tail}
-use Rattle.std.specs.List.{All}
+use Rattle.std.specs.List.{All, position_or_len}
+use Rattle.std.proofs.lemmas.List.Folds.{find_at}
+use Rattle.std.proofs.lemmas.List.Sums.{fails_before_first, passes_at_first}
 
 -- ---- the highest of ranks
 
@@ -18,24 +20,19 @@ in_more y xs x (k, within, is) = (suc k, omega (arith, within), is)
 
 -- the higher of the first two in place of both leaves the highest the same
 of_two : (x y : Rank) (ranks : List Rank) {top : Rank} → IsTop (ord_max rank_cmp x y ∷ ranks) top → IsTop (x ∷ y ∷ ranks) top
-of_two x y ranks {top} = cond_both (is_lt (rank_cmp y x)) _ _ (λ higher. IsTop (higher ∷ ranks) top → IsTop (x ∷ y ∷ ranks) top)
-    (λ less is.
-    let low = All-head (NotAbove top) x ranks is.above in
+of_two x y ranks {top} is =
+    let higher = ord_max rank_cmp x y in
+    let low = All-head (NotAbove top) higher ranks is.above in
     record {
-      among = beside is.among;
-      above = All-cons (NotAbove top) x (y ∷ ranks) low
-          (All-cons (NotAbove top) y ranks (up_to y x top (grind (arith, nat_tests, less)) low) (All-tail (NotAbove top) x ranks is.above));
-    })
-    (λ more is.
-    let low = All-head (NotAbove top) y ranks is.above in
-    record {
-      among = in_more x (y ∷ ranks) top is.among;
-      above = All-cons (NotAbove top) x (y ∷ ranks) (up_to x y top (grind (arith, nat_tests, more)) low) is.above;
-    })
+      among = there is.among;
+      above = All-cons (NotAbove top) x (y ∷ ranks) (up_to x higher top (grind (arith, nat_tests)) low)
+          (All-cons (NotAbove top) y ranks (up_to y higher top (grind (arith, nat_tests)) low) (All-tail (NotAbove top) higher ranks is.above));
+    }
   where
-    beside : Contains (x ∷ ranks) top → Contains (x ∷ y ∷ ranks) top
-    beside (zero, within, is) = (zero, omega arith, is)
-    beside (suc k, within, is) = (suc (suc k), omega (arith, within), is)
+    there : Contains (ord_max rank_cmp x y ∷ ranks) top → Contains (x ∷ y ∷ ranks) top
+    there (zero, within, is) = cond_both (is_lt (rank_cmp y x)) x y (λ higher. higher ≡ top → Contains (x ∷ y ∷ ranks) top)
+        (λ less same. (0, omega arith, same)) (λ more same. (1, omega arith, same)) is
+    there (suc k, within, is) = (suc (suc k), omega (arith, within), is)
 
 -- so a fold finds the highest,
 top_of : (rank : Rank) (ranks : List Rank) → IsTop (rank ∷ ranks) (fold (ord_max rank_cmp) rank ranks)
@@ -53,16 +50,11 @@ top_if_any (rank ∷ ranks) = Some (fold (ord_max rank_cmp) rank ranks)
 -- what is found, if no other passes
 find_one : {X : Type 0} (p : X → Bool) (xs : List X) (x : X) → Contains xs x → p x ≡ true → ((y : X) → Contains xs y → p y ≡ true → y ≡ x)
     → find p xs ≡ Some x
-find_one p [] x (k, within, is) passes one = absurd (omega (arith, within))
-find_one p (y ∷ xs) x there passes one =
-    ⊎_elim
-    (λ here. rw here (ap Some (one y (zero, omega arith, refl) here)))
-    (λ other. rw other (find_one p xs x (further there other) passes (λ z among. one z (in_more y xs z among))))
-    (cases_Bool (p y))
-  where
-    further : Contains (y ∷ xs) x → p y ≡ false → Contains xs x
-    further (zero, within, is) other = absurd (true≢false (sym passes ∙ (ap p (sym is) ∙ other)))
-    further (suc k, within, is) other = (k, omega (arith, within), is)
+find_one p xs x (k, among, is) passes one =
+    let at = position_or_len p xs in
+    let within : at < length xs = ⊎_elim (λ before. before) (λ past. absurd (true≢false (sym passes ∙ (ap p (sym is)
+    ∙ fails_before_first p xs k x (omega (arith, among, past)))))) (cases_lt at (length xs)) in
+    find_at p xs ∙ (slice_get-get_or xs at x within ∙ ap Some (one _ (Contains-get_or xs at x within) (passes_at_first p xs x within)))
 
 -- it is the one that none is above
 found_top : (all : List Rank) → find (λ one. list_all (λ other. is_le (rank_cmp other one)) all) all ≡ top_if_any all
@@ -95,17 +87,13 @@ kept_is_top f None [] = refl
 kept_is_top f (Some rank) [] = refl
 kept_is_top f first (x ∷ xs) = kept_is_top f (ord_max (option_cmp rank_cmp) first (f x)) xs ∙ kept_of_two first (f x) (filter_map f xs)
 
--- what a list contains, the list of its results contains,
-in_filtered : {X Y : Type 0} (f : X → Option Y) (xs : List X) (x : X) (y : Y) → Contains xs x → f x ≡ Some y → Contains (filter_map f xs) y
-in_filtered f [] x y (k, within, is) some = absurd (omega (arith, within))
-in_filtered f (z ∷ xs) x y (zero, within, is) some = rw (ap f is ∙ some) (zero, omega arith, refl)
-in_filtered {Y = Y} f (z ∷ xs) x y (suc k, within, is) some = onto (f z) (in_filtered f xs x y (k, omega (arith, within), is) some)
-  where
-    onto : (first : Option Y) → Contains (filter_map f xs) y → Contains (cons_option first (filter_map f xs)) y
-    onto None there = there
-    onto (Some w) there = in_more w (filter_map f xs) y there
+-- what holds of the results of a list holds of each result,
+all_filtered : {X Y : Type 0} (f : X → Option Y) (p : Y → Bool) (xs : List X)
+    → list_all p (filter_map f xs) ≡ list_all (λ x. unwrap_or (option_map p (f x)) true) xs
+all_filtered f p [] = refl
+all_filtered f p (x ∷ xs) = grind (arith, all_filtered f p xs)
 
--- and the other way
+-- and each is a result of what the list contains
 of_filtered : {X Y : Type 0} (f : X → Option Y) (xs : List X) (y : Y) → Contains (filter_map f xs) y
     → (x : X) × Contains xs x × (f x ≡ Some y)
 of_filtered f [] y (k, within, is) = absurd (omega (arith, within))
@@ -132,22 +120,22 @@ closest_is_closest ranges offer = rw (found_top (filter_map (closeness offer) it
     items : List (ℕ × MediaType)
     items = enumerate_from 0 ranges
 
-    none : (found : Option Rank) → ((rank : Rank) → found ≡ Some rank → ⊥) → found ≡ None
-    none None isnt = refl
-    none (Some rank) isnt = absurd (isnt rank refl)
+    each : (p : Rank → Bool) → list_all p (filter_map (closeness offer) items) ≡ true → (item : ℕ × MediaType) → Contains items item
+        → unwrap_or (option_map p (closeness offer item)) true ≡ true
+    each p all item = All-contains (λ item. unwrap_or (option_map p (closeness offer item)) true ≡ true) items item
+        (AllPass-from_list_all _ items (sym (all_filtered (closeness offer) p items) ∙ all))
 
     by : (all : List Rank) → filter_map (closeness offer) items ≡ all → MatchOption (top_if_any all)
         ((item : ℕ × MediaType) → Contains items item → closeness offer item ≡ None)
         (λ close. ((item : ℕ × MediaType) × Contains items item × (closeness offer item ≡ Some close))
         × ((item : ℕ × MediaType) (other : Rank) → Contains items item → closeness offer item ≡ Some other → IsAtMost other close))
-    by [] is = λ item there. none (closeness offer item) (λ rank some.
-        let among = subst (λ all. Contains all rank) is (in_filtered _ items item rank there some) in
-        absurd (omega (arith, among.1)))
+    by [] is = λ item there. let no = each (λ _. false) (ap (list_all (λ _. false)) is) item there in grind (arith, no)
     by (rank ∷ ranks) is =
         let top = fold (ord_max rank_cmp) rank ranks in
         let highest = top_of rank ranks in (
           of_filtered (closeness offer) items _ (subst (λ all. Contains all top) (sym is) highest.among),
           λ item other there covers.
-              let low = All-contains (NotAbove top) (rank ∷ ranks) other highest.above
-              (subst (λ all. Contains all other) is (in_filtered _ items item other there covers)) in grind (arith, nat_tests, low),
+              let low = each (λ other. is_le (rank_cmp other top)) (ap (list_all (λ other. is_le (rank_cmp other top))) is
+              ∙ list_all-from_AllPass (λ other. is_le (rank_cmp other top)) (rank ∷ ranks) highest.above) item there in
+              grind (arith, nat_tests, low, covers),
         )
