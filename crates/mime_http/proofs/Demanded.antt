@@ -1,5 +1,5 @@
 -- Counting the parameters that a range demands, and finding its weight, item by item.
-use Rattle.mime_http.proofs.Common.{Item, List, MediaType, None, Option, Some, [], ap, arith, bytes_eq, cases_Bool, codes, demanded, false, first_value, has, if◌then◌else◌, items_of, length, list_all, option_map, option_or, refl, sym, thousandths_of, true, unwrap_or, ℕ, ⊎_elim, ◌+◌, ◌∙◌, ◌∷◌, ◌≡◌}
+use Rattle.mime_http.proofs.Common.{Item, List, MediaType, None, Option, Some, [], ap, arith, bytes_eq, codes, demanded, first_value, has, if◌then◌else◌, items_of, length, list_all, option_map, option_or, refl, sym, thousandths_of, unwrap_or, ℕ, ◌+◌, ◌∙◌, ◌∷◌, ◌≡◌}
 
 -- a count of parameters, and a weight
 abbrev pub Found : Type 0

@@ -1,5 +1,5 @@
 -- The offers that weigh more than 0, sorted, are in order.
-use Rattle.mime_http.proofs.Common.{All-contains, AllPairs, AreInOrder, Contains, Equal, Greater, IsDistinct, IsTotalOrder, Less, List, MatchOrdering, MediaType, Ordering, Rank, Reverse, [], ap, arith, back_total, eq-eqb, false, flip_args, get_or, get_or-map, inl, inr, is_gt, is_lt, length, length-map, map, map-append, merit, nat_cmp, nat_cmp_total, nat_tests, ne_eqb, on, on_total, ordering_then, rank_cmp, ranked, refl, subst, suc, sym, then_cmp, then_total, true, true≢false, zero, ℕ, ⊎_elim, ◌++◌, ◌+◌, ◌<◌, ◌==◌, ◌∙◌, ◌∷◌, ◌≡◌, ◌≢◌, ◌≤◌, ◌⊎◌, Bool}
+use Rattle.mime_http.proofs.Common.{All-contains, AllPairs, AreInOrder, Contains, IsDistinct, IsTotalOrder, List, MediaType, Ordering, Rank, Reverse, [], ap, arith, back_total, false, flip_args, get_or, cases_Bool, inl, inr, is_gt, is_lt, length, length-map, lowest, map, map-append, merit, nat_cmp, nat_cmp_total, nat_tests, ne_eqb, on, on_total, ordering_then, rank_cmp, subst, suc, sym, then_cmp, then_total, true, zero, ℕ, ⊎_elim, ◌++◌, ◌+◌, ◌<◌, ◌==◌, ◌∙◌, ◌∷◌, ◌≡◌, ◌≤◌, ◌⊎◌, Bool}
 use Rattle.std.specs.List.{All}
 use Rattle.std.specs.List.Sorted.{IsPermutation, IsSorted}
 use Rattle.std.proofs.lemmas.Bool.{cases_lt}
@@ -7,6 +7,7 @@ use Rattle.std.proofs.lemmas.List.Elements.{All-map, All-nil, All-push, All-weak
 use Rattle.std.proofs.lemmas.List.Quantifiers.{all_pairs_push}
 use Rattle.std.proofs.lemmas.List.Sorted.{ranks_by, sorted_far, All-permutation, IsPermutation-map, Contains-permutation}
 use Rattle.std.proofs.lemmas.Map.Keys.{IsDistinct-IsPermutation, IsDistinct-from_apart, apart_from_distinct}
+use Rattle.std.proofs.Math.ListN.{get_or-map}
 use Rattle.mime_http.proofs.Highest.{one_rank}
 
 -- the rank of an offer
@@ -89,13 +90,11 @@ offers_total =
     (on_total (λ rank. rank.2) nat_cmp_total)) (on_total (λ rank. rank.3) nat_cmp_total)))) (on_total (λ offer. offer.1) nat_cmp_total)
 
 -- one that isn't after another is higher, or as high and offered earlier
-first_by : (x y : Rank) (i j : ℕ) (a b : Ordering) → rank_cmp x y ≡ a → MatchOrdering b (j < i) (j ≡ i) (i < j)
-    → is_lt (ordering_then a b) ≡ false → i ≢ j → (is_gt (rank_cmp x y) ≡ true) ⊎ ((x ≡ y) × (i < j))
-first_by x y i j Greater b is far low differ = inl (ap is_gt is)
-first_by x y i j Less b is far low differ = absurd (true≢false low)
-first_by x y i j Equal Less is far low differ = absurd (true≢false low)
-first_by x y i j Equal Equal is far low differ = absurd (differ (sym far))
-first_by x y i j Equal Greater is far low differ = inr (one_rank x y is, far)
+first_by : (x y : Rank) (i j : ℕ) → is_lt (ordering_then (rank_cmp x y) (nat_cmp j i)) ≡ false → (i == j) ≡ false
+    → (is_gt (rank_cmp x y) ≡ true) ⊎ ((x ≡ y) × (i < j))
+first_by x y i j low differ =
+    ⊎_elim inl (λ no. inr (one_rank x y (grind (arith, nat_tests, low, no)), grind (arith, nat_tests, low, no, differ)))
+    (cases_Bool (is_gt (rank_cmp x y)))
 
 -- whether two offers have one position
 abbrev same_place : Reverse Rank × ℕ → Reverse Rank × ℕ → Bool
@@ -126,8 +125,7 @@ module _ {ranks : List Rank} {at : ℕ} {found : List (Reverse Rank × ℕ)} (wa
       (omega (arith, before)) within in
       let low : is_lt (ordering_then (rank_cmp (rank_at ranks x.1) (rank_at ranks y.1)) (nat_cmp y.1 x.1)) ≡ false =
       (λ i. is_lt (ordering_then (rank_cmp (sym first i) (sym second i)) (nat_cmp y.1 x.1))) ∙ far in
-      first_by (rank_at ranks x.1) (rank_at ranks y.1) x.1 y.1 _ _ refl (ranked y.1 x.1 _ refl) low
-      (λ same. true≢false (sym (eq-eqb _ _ same) ∙ apart))
+      first_by (rank_at ranks x.1) (rank_at ranks y.1) x.1 y.1 low apart
 
   -- each weighs something,
   they_weigh : (i : ℕ) → Contains (map (λ offer. offer.1) sorted) i → 0 < (rank_at ranks i).0
@@ -144,21 +142,16 @@ module _ {ranks : List Rank} {at : ℕ} {found : List (Reverse Rank × ℕ)} (wa
       (IsPermutation-map (λ offer. offer.1) found sorted moved)
       (was.all i (omega (arith, weighs_within ranks i weighs, past)) weighs)
 
--- an offer, if there is one
-some_default : (sorted : List (Reverse Rank × ℕ)) (j : ℕ) → j < length (map (λ offer. offer.1) sorted) → Reverse Rank × ℕ
-some_default [] j within = absurd (omega (arith, within))
-some_default (offer ∷ sorted) j within = offer
-
 -- so what is sorted is in order
 pub are_in_order : (ranges offers : List MediaType) (at : ℕ) (found sorted : List (Reverse Rank × ℕ)) → length offers ≤ at
     → Ranked (map (merit ranges) offers) at found → IsPermutation found sorted → IsSorted offer_cmp sorted
     → AreInOrder ranges offers (map (λ offer. offer.1) sorted)
 are_in_order ranges offers at found sorted past was moved up = record {
   best_first = λ i j e before within.
-      let d = some_default sorted j within in
-      let long : j < length sorted = omega (arith, within, length-map sorted (λ offer. offer.1)) in
-      rw (get_or-map (λ offer. offer.1) sorted i d e (omega (arith, before, long)), get_or-map (λ offer. offer.1) sorted j d e long)
-      (in_turn was sorted moved up d i j before long);
+      let d : Reverse Rank × ℕ = (record { 0 = lowest }, e) in
+      let first = get_or-map (λ offer. offer.1) sorted i d in
+      let second = get_or-map (λ offer. offer.1) sorted j d in
+      rw (first, second) (in_turn was sorted moved up d i j before (omega (arith, within, length-map sorted (λ offer. offer.1))));
   all = λ i. (
     they_weigh was sorted moved i,
     each_is_there was sorted moved (omega (arith, past, length-map offers (merit ranges))) i,

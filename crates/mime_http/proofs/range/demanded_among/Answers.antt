@@ -1,6 +1,6 @@
 -- Each item is of a weight, or counted, or missing.
-use Rattle.mime_http.proofs.Common.{Bor, List, None, Option, Some, [], ap, arith, bytes_eq, codes, false, has, item_of, item_seen, items_of, length, length-map, option_map, option_or, refl, rules, sym, thousandths_of, true, unwrap_or, ℕ, ◌∙◌, ◌∷◌, ◌≡◌}
-use Rattle.mime_http.proofs.Demanded.{found_from, found_of, found_of_all}
+use Rattle.mime_http.proofs.Common.{None, [], ap, arith, bytes_eq, codes, false, has, item_of, item_seen, items_of, length, length-map, rules, sym, true, ◌∙◌, ◌∷◌, ◌≡◌}
+use Rattle.mime_http.proofs.Demanded.{found_from, found_of_all}
 use Rattle.mime_http.proofs.range.demanded_among.Goals as goal
 
 pub loop-name-init : goal.loop-name-init
