@@ -48,7 +48,7 @@ none_ranked ranks = record {
 module _ {ranks : List Rank} {at : ℕ} {found : List (Reverse Rank × ℕ)} (was : Ranked ranks at found) where
   -- those before it are before the next position
   still : All (HasRank ranks (at + 1)) found
-  still = All-weaker (HasRank ranks at) (HasRank ranks (at + 1)) (λ offer is. (is.0, is.1, omega (arith, is.2))) found was.are
+  still = λ k d within. let is = was.are k d within in (is.0, is.1, omega (arith, is.2))
 
   -- an offer that weighs something is one more,
   pub one_ranked : (offer : Reverse Rank × ℕ) → offer.1 ≡ at → offer.0.0 ≡ rank_at ranks at → 0 < offer.0.0.0
@@ -106,13 +106,7 @@ module _ {ranks : List Rank} {at : ℕ} {found : List (Reverse Rank × ℕ)} (wa
   stand : All (HasRank ranks at) sorted
   stand = All-permutation (HasRank ranks at) found sorted moved was.are
 
-  -- and different positions,
-  distinct : IsDistinct same_place sorted
-  distinct =
-      IsDistinct-IsPermutation same_place (λ x y. grind (arith, nat_tests)) found sorted moved (IsDistinct-from_apart same_place found
-      (λ i j d before within. ne_eqb _ _ (λ same. absurd (omega (arith, same, was.apart i j d before within)))))
-
-  -- so each comes before those after it,
+  -- and are at different positions, so each comes before those after it
   in_turn : IsSorted offer_cmp sorted → (d : Reverse Rank × ℕ) (i j : ℕ) → i < j → j < length sorted
       → ComesBefore ranks (get_or sorted i d).1 (get_or sorted j d).1
   in_turn up d i j before within =
@@ -120,27 +114,15 @@ module _ {ranks : List Rank} {at : ℕ} {found : List (Reverse Rank × ℕ)} (wa
       let y = get_or sorted j d in
       let first = (stand i d (omega (arith, before, within))).0 in
       let second = (stand j d within).0 in
-      let apart = apart_from_distinct same_place sorted i j d distinct before within in
+      let distinct : IsDistinct same_place sorted =
+      IsDistinct-IsPermutation same_place (λ x y. grind (arith, nat_tests)) found sorted moved (IsDistinct-from_apart same_place found
+      (λ i j d before within. ne_eqb _ _ (λ same. absurd (omega (arith, same, was.apart i j d before within))))) in
       let far = sorted_far (λ a b. is_lt (offer_cmp a b)) (ranks_by offers_total (λ offer. offer)) sorted up i j d
       (omega (arith, before)) within in
       let low : is_lt (ordering_then (rank_cmp (rank_at ranks x.1) (rank_at ranks y.1)) (nat_cmp y.1 x.1)) ≡ false =
       (λ i. is_lt (ordering_then (rank_cmp (sym first i) (sym second i)) (nat_cmp y.1 x.1))) ∙ far in
-      first_by (rank_at ranks x.1) (rank_at ranks y.1) x.1 y.1 low apart
-
-  -- each weighs something,
-  they_weigh : (i : ℕ) → Contains (map (λ offer. offer.1) sorted) i → 0 < (rank_at ranks i).0
-  they_weigh i =
-      All-contains (λ n. 0 < (rank_at ranks n).0) (map (λ offer. offer.1) sorted) i
-      (All-map (λ n. 0 < (rank_at ranks n).0) (λ offer. offer.1) sorted
-      (All-weaker (HasRank ranks at) (λ offer. 0 < (rank_at ranks offer.1).0)
-      (λ offer is. subst (λ (rank : Rank). 0 < rank.0) is.0 is.1) sorted stand))
-
-  -- and each that does is there
-  each_is_there : length ranks ≤ at → (i : ℕ) → 0 < (rank_at ranks i).0 → Contains (map (λ offer. offer.1) sorted) i
-  each_is_there past i weighs =
-      Contains-permutation (map (λ offer. offer.1) found) (map (λ offer. offer.1) sorted) i
-      (IsPermutation-map (λ offer. offer.1) found sorted moved)
-      (was.all i (omega (arith, weighs_within ranks i weighs, past)) weighs)
+      first_by (rank_at ranks x.1) (rank_at ranks y.1) x.1 y.1 low
+      (apart_from_distinct same_place sorted i j d distinct before within)
 
 -- so what is sorted is in order
 pub are_in_order : (ranges offers : List MediaType) (at : ℕ) (found sorted : List (Reverse Rank × ℕ)) → length offers ≤ at
@@ -152,8 +134,12 @@ are_in_order ranges offers at found sorted past was moved up = record {
       let first = get_or-map (λ offer. offer.1) sorted i d in
       let second = get_or-map (λ offer. offer.1) sorted j d in
       rw (first, second) (in_turn was sorted moved up d i j before (omega (arith, within, length-map sorted (λ offer. offer.1))));
-  all = λ i. (
-    they_weigh was sorted moved i,
-    each_is_there was sorted moved (omega (arith, past, length-map offers (merit ranges))) i,
-  );
+  all = λ i.
+      let ranks = map (merit ranges) offers in
+      let place = λ (offer : Reverse Rank × ℕ). offer.1 in (
+        All-contains (λ n. 0 < (rank_at ranks n).0) (map place sorted) i (All-map (λ n. 0 < (rank_at ranks n).0) place sorted (λ k d within.
+            let is = stand was sorted moved k d within in subst (λ (rank : Rank). 0 < rank.0) is.0 is.1)),
+        λ weighs. Contains-permutation (map place found) (map place sorted) i (IsPermutation-map place found sorted moved)
+            (was.all i (omega (arith, weighs_within ranks i weighs, past, length-map offers (merit ranges))) weighs),
+      );
 }
