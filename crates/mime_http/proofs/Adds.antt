@@ -95,8 +95,7 @@ pub is_header : (lines : List (List ℕ)) (header : Header)
 is_header lines header added = record {
   pieces = flat_map cut (lines_or_any lines);
   cut = are_cut (lines_or_any lines);
-  sorted = subst (AreSorted (flat_map cut (lines_or_any lines)) header.ranges) (sym added.now_bad)
-      (subst (λ ranges. AreSorted (flat_map cut (lines_or_any lines)) ranges added.bad) (sym added.now_ranges) added.sorted);
+  sorted = rw (added.now_ranges, added.now_bad) added.sorted;
 }
 
 -- if nothing is read of texts, nothing is read of those in the middle,
@@ -118,11 +117,7 @@ pub record SoFar (Holds : List (List ℕ) → Type 0) (all rest : List (List ℕ
   pub whole : before ++ rest ≡ all
   pub holds : Holds before
 
--- before the first piece,
-pub none_so_far : {Holds : List (List ℕ) → Type 0} (all : List (List ℕ)) → Holds [] → SoFar Holds all all
-none_so_far all holds = record { before = []; whole = refl; holds = holds }
-
--- after some more pieces,
+-- so it is after some more pieces,
 pub some_more : {Holds Now : List (List ℕ) → Type 0} {all rest : List (List ℕ)} (more : List (List ℕ)) → SoFar Holds all (more ++ rest)
     → ((before : List (List ℕ)) → Holds before → Now (before ++ more)) → SoFar Now all rest
 some_more {rest = rest} more so_far goes_on = record {
