@@ -1,5 +1,5 @@
 -- Lines are cut in one way, and each line is.
-use Rattle.mime_http.proofs.Common.{AreBetweenCommas, At, BeginsPiece, IsInString, IsPiece, List, OneCut, Outside, [], after, after_outside, ap, append-nil, append_assoc, comma, cond_both, cut, cut_from, ends, eqb-true, false, flat_map, line_end, no_line, opens_string, piece_byte, piece_end, piece_string, refl, string_byte, string_end, string_pair, subst, sym, true, true≢false, ℕ, ⊤, ◌++◌, ◌==◌, ◌∙◌, ◌∷◌, ◌≡◌}
+use Rattle.mime_http.proofs.Common.{AreBetweenCommas, At, BeginsPiece, IsInString, IsPiece, List, OneCut, Outside, [], after, after_outside, ap, append-nil, append_assoc, arith, nat_tests, comma, cond_both, cut, cut_from, ends, eqb-true, false, flat_map, line_end, no_line, opens_string, piece_byte, piece_end, piece_string, refl, string_byte, string_end, string_pair, subst, sym, true, true≢false, ℕ, ⊤, ◌++◌, ◌==◌, ◌∙◌, ◌∷◌, ◌≡◌}
 use Rattle.mime_http.specs.Walk.{Equals, Quoted, Paired}
 
 -- ---- what is a piece from a place on
@@ -17,9 +17,7 @@ IsWhole place (b ∷ bytes) = (ends place b ≡ false) × IsWhole (after place b
 
 -- only a comma outside strings ends a piece,
 comma_at : (place : At) (b : ℕ) → ends place b ≡ true → (b ≡ 44) × IsOutside place
-comma_at Outside b is = (eqb-true b 44 is, tt)
-comma_at Equals b is = (eqb-true b 44 is, tt)
-comma_at place b is = absurd (true≢false (sym is))
+comma_at place b is = grind (arith, nat_tests, is)
 
 -- and there it does
 comma_ends : (place : At) → IsOutside place → ends place 44 ≡ true
@@ -38,7 +36,7 @@ opens_none b (c ∷ bytes) other = rw other refl
 equals_alike : (b : ℕ) (bytes : List ℕ) → (b == 61) ≡ true → opens_string (b ∷ bytes) ≡ false → IsWhole Outside bytes → IsWhole Equals bytes
 equals_alike b [] is opens whole = tt
 equals_alike b (c ∷ bytes) is opens whole =
-    let other : (c == 34) ≡ false = rw is at opens in (whole.0, rw other whole.1)
+    grind (arith, nat_tests, is, opens, whole)
 
 -- a string passes to the piece after it,
 string_passes : {content : List ℕ} (piece : List ℕ) → IsInString content → IsWhole Outside piece → IsWhole Quoted (content ++ (34 ∷ piece))

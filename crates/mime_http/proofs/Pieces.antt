@@ -28,14 +28,13 @@ byte_at place next line at within goes_on =
 pub outside_byte : (line : List ℕ) (at : ℕ) → at < length line → (get_or line at 0 == 44) ≡ false
     → (get_or line at 0 == 61 && get_or line (at + 1) 0 == 34) ≡ false → cut_on Outside line (at + 1) ≡ cut_on Outside line at
 outside_byte line at within on opens =
-    byte_at Outside Outside line at within (λ piece bytes next. by (get_or line at 0) piece bytes on (subst (λ c. (get_or line at 0 == 61 && c == 34) ≡ false) (sym next) opens))
+    byte_at Outside Outside line at within (λ piece bytes next. by piece bytes
+    (subst (λ c. (get_or line at 0 == 61 && c == 34) ≡ false) (sym next) opens))
   where
-    by : (b : ℕ) (piece bytes : List ℕ) → (b == 44) ≡ false → (b == 61 && get_or bytes 0 0 == 34) ≡ false
-        → cut_from Outside (piece ++ (b ∷ [])) bytes ≡ cut_from Outside piece (b ∷ bytes)
-    by b piece [] on opens = rw on refl
-    by b piece (c ∷ bytes) on opens =
-        rw on (cond_both (b == 61) _ _ (λ place. cut_from Outside (piece ++ (b ∷ [])) (c ∷ bytes) ≡ cut_from place (piece ++ (b ∷ [])) (c ∷ bytes))
-        (λ is. let other : (c == 34) ≡ false = rw is at opens in rw other refl) (λ other. refl))
+    by : (piece bytes : List ℕ) → (get_or line at 0 == 61 && get_or bytes 0 0 == 34) ≡ false
+        → cut_from Outside (piece ++ (get_or line at 0 ∷ [])) bytes ≡ cut_from Outside piece (get_or line at 0 ∷ bytes)
+    by piece [] opens = rw on refl
+    by piece (c ∷ bytes) opens = grind (arith, nat_tests, on, opens)
 
 -- and more of them
 outside_bytes : (line : List ℕ) (from n to : ℕ) → to ≡ from + n → to ≤ length line
@@ -90,20 +89,14 @@ string_left : (paired : Bool) (piece bytes : List ℕ)
     → cut_from Outside (piece ++ take (len_from paired bytes + 1) bytes) (drop (len_from paired bytes + 1) bytes)
     ≡ cut_from (cond paired Paired Quoted) piece bytes
 string_left paired piece [] = ap (λ p. p ∷ []) (append-nil piece)
-string_left paired piece (b ∷ bytes) = ⊎_elim (λ closes. rw closes (closed paired closes)) (λ on.
+string_left paired piece (b ∷ bytes) =
     let n = len_from (awaits_next paired b) bytes in
     let next : suc n + 1 ≡ suc (n + 1) = omega arith in
-    rw on (rw next (ap (λ p. cut_from Outside p (drop (n + 1) bytes)) (sym (append_assoc piece (b ∷ []) (take (n + 1) bytes)))
-    ∙ (string_left (awaits_next paired b) (piece ++ (b ∷ [])) bytes ∙ onward paired on)))) (cases_Bool (not paired && b == 34))
-  where
-    closed : (paired : Bool) → (not paired && b == 34) ≡ true → cut_from Outside (piece ++ (b ∷ [])) bytes ≡ cut_from (cond paired Paired Quoted) piece (b ∷ bytes)
-    closed true closes = absurd (true≢false (sym closes))
-    closed false closes = let other : (b == 92) ≡ false = ap (λ x. x == 92) (eqb-true b 34 closes) in rw (closes, other) refl
-
-    onward : (paired : Bool) → (not paired && b == 34) ≡ false
-        → cut_from (cond (awaits_next paired b) Paired Quoted) (piece ++ (b ∷ [])) bytes ≡ cut_from (cond paired Paired Quoted) piece (b ∷ bytes)
-    onward true on = refl
-    onward false on = rw on refl
+    ⊎_elim (λ (closes : (not paired && b == 34) ≡ true). rw closes (grind (arith, nat_tests, closes)))
+    (λ (on : (not paired && b == 34) ≡ false). rw on
+    (rw next (ap (λ p. cut_from Outside p (drop (n + 1) bytes)) (sym (append_assoc piece (b ∷ []) (take (n + 1) bytes)))
+    ∙ (string_left (awaits_next paired b) (piece ++ (b ∷ [])) bytes ∙ grind (arith, nat_tests, on)))))
+    (cases_Bool (not paired && b == 34))
 
 -- so it does at a position past the content
 pub string_closed : (line : List ℕ) (from end : ℕ) → end ≡ from + len_from false (drop from line)
