@@ -19,12 +19,6 @@ IsWhole place (b ∷ bytes) = (ends place b ≡ false) × IsWhole (after place b
 comma_at : (place : At) (b : ℕ) → ends place b ≡ true → (b ≡ 44) × IsOutside place
 comma_at place b is = grind (arith, nat_tests, is)
 
--- and there it does
-comma_ends : (place : At) → IsOutside place → ends place 44 ≡ true
-comma_ends Outside is = refl
-comma_ends Equals is = refl
-comma_ends place is = absurd is
-
 -- another byte than an equals sign opens no string
 pub opens_none : (b : ℕ) (bytes : List ℕ) → (b == 61) ≡ false → opens_string (b ∷ bytes) ≡ false
 opens_none b [] other = refl
@@ -47,11 +41,8 @@ string_passes piece (string_pair b content inside) whole = (refl, (refl, string_
 -- and a piece to its end
 piece_passes : {piece : List ℕ} → IsPiece piece → IsWhole Outside piece
 piece_passes piece_end = tt
-piece_passes (piece_byte b piece no_comma opens rest) = (
-  no_comma,
-  cond_both (b == 61) _ _ (λ place. IsWhole place piece) (λ is. equals_alike b piece is opens (piece_passes rest))
-      (λ other. piece_passes rest),
-)
+piece_passes (piece_byte b piece no_comma opens rest) =
+    (no_comma, grind (arith, nat_tests, λ (is : (b == 61) ≡ true). equals_alike b piece is opens (piece_passes rest), piece_passes rest))
 piece_passes (piece_string content piece inside rest) = (refl, (refl, string_passes piece inside (piece_passes rest)))
 
 -- ---- what passes is a piece
@@ -125,7 +116,7 @@ only_cut (line_end text lines texts begins rest) =
     ap (λ ps. text ∷ ps) (only_cut rest) ∙ ap (λ c. c ++ flat_map cut lines) (sym (cut_of_piece begins))
 only_cut (comma text line lines texts is rest) =
     ap (λ ps. text ∷ ps) (only_cut rest) ∙ ap (λ c. c ++ flat_map cut lines) (sym (first_piece text [] (44 ∷ line) Outside []
-    (subst (IsWhole Outside) (sym (append-nil text)) (piece_passes is)) (λ place piece whole. rw (comma_ends place whole) refl)))
+    (subst (IsWhole Outside) (sym (append-nil text)) (piece_passes is)) (λ place piece whole. grind (arith, nat_tests, whole))))
 
 -- ---- each line has a cut
 
