@@ -15,22 +15,12 @@ abbrev IsWhole : At → List ℕ → Type 0
 IsWhole place [] = IsOutside place
 IsWhole place (b ∷ bytes) = (ends place b ≡ false) × IsWhole (after place b) bytes
 
--- only a comma outside strings ends a piece,
-comma_at : (place : At) (b : ℕ) → ends place b ≡ true → (b ≡ 44) × IsOutside place
-comma_at place b is = grind (arith, nat_tests, is)
-
 -- another byte than an equals sign opens no string
 pub opens_none : (b : ℕ) (bytes : List ℕ) → (b == 61) ≡ false → opens_string (b ∷ bytes) ≡ false
 opens_none b [] other = refl
 opens_none b (c ∷ bytes) other = rw other refl
 
 -- ---- a piece passes
-
--- right after an equals sign that opens no string, all is as elsewhere outside strings
-equals_alike : (b : ℕ) (bytes : List ℕ) → (b == 61) ≡ true → opens_string (b ∷ bytes) ≡ false → IsWhole Outside bytes → IsWhole Equals bytes
-equals_alike b [] is opens whole = tt
-equals_alike b (c ∷ bytes) is opens whole =
-    grind (arith, nat_tests, is, opens, whole)
 
 -- a string passes to the piece after it,
 string_passes : {content : List ℕ} (piece : List ℕ) → IsInString content → IsWhole Outside piece → IsWhole Quoted (content ++ (34 ∷ piece))
@@ -41,8 +31,8 @@ string_passes piece (string_pair b content inside) whole = (refl, (refl, string_
 -- and a piece to its end
 piece_passes : {piece : List ℕ} → IsPiece piece → IsWhole Outside piece
 piece_passes piece_end = tt
-piece_passes (piece_byte b piece no_comma opens rest) =
-    (no_comma, grind (arith, nat_tests, λ (is : (b == 61) ≡ true). equals_alike b piece is opens (piece_passes rest), piece_passes rest))
+piece_passes (piece_byte b [] no_comma opens rest) = (no_comma, grind (arith, nat_tests))
+piece_passes (piece_byte b (c ∷ piece) no_comma opens rest) = (no_comma, grind (arith, nat_tests, opens, piece_passes rest))
 piece_passes (piece_string content piece inside rest) = (refl, (refl, string_passes piece inside (piece_passes rest)))
 
 -- ---- what passes is a piece
@@ -137,14 +127,13 @@ is_cut [] place piece so_far {lines = lines} {pieces = pieces} rest =
     (line_end piece lines pieces (end.0, so_far end.0 end.1) rest)
 is_cut (b ∷ bytes) place piece so_far {lines = lines} {pieces = pieces} rest =
     cond_both (ends place b) _ _ (λ found. AreBetweenCommas IsPiece BeginsPiece ((piece ++ (b ∷ bytes)) ∷ lines) (found ++ pieces))
-    (λ end.
-    let there = comma_at place b end in
+    (λ (end : ends place b ≡ true).
+    let there : (b ≡ 44) × IsOutside place = grind (arith, nat_tests, end) in
     subst (λ c. AreBetweenCommas IsPiece BeginsPiece ((piece ++ (c ∷ bytes)) ∷ lines) (piece ∷ (cut bytes ++ pieces))) (sym there.0)
     (comma piece bytes lines (cut bytes ++ pieces) (subst IsPiece (append-nil piece) (so_far [] there.1))
     (is_cut bytes Outside [] (is_piece Outside) rest)))
     (λ on.
-    subst (λ text. AreBetweenCommas IsPiece BeginsPiece (text ∷ lines) (cut_from (after place b) (piece ++ (b ∷ [])) bytes ++ pieces))
-    (append_assoc piece (b ∷ []) bytes)
+    rw (sym (append_assoc piece (b ∷ []) bytes))
     (is_cut bytes (after place b) (piece ++ (b ∷ []))
     (λ more whole. subst IsPiece (sym (append_assoc piece (b ∷ []) more)) (so_far (b ∷ more) (on, whole))) rest))
 
