@@ -24,13 +24,6 @@ one_rank x y same =
     let fourth : x.3 ≡ y.3 = grind (arith, nat_tests) in
     λ i. (first i, second i, third i, fourth i)
 
--- `>` of two ranks is by their order
-pub gt_of_ranks : (a b c d : Ordering)
-    → is_some_and is_gt (partial_ordering_then (partial_ordering_then (partial_ordering_then (Some a) (Some b)) (Some c)) (Some d))
-    ≡ is_gt (ordering_then (ordering_then (ordering_then a b) c) d)
-gt_of_ranks Equal Equal Equal d = refl
-gt_of_ranks a b c d = refl
-
 -- a rank that isn't above another is below what is above that,
 above_both : (x y z : Rank) → is_gt (rank_cmp x y) ≡ true → NotAbove y z → is_gt (rank_cmp x z) ≡ true
 above_both x y z above low = grind (arith, nat_tests)

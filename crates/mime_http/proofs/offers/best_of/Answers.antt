@@ -1,14 +1,9 @@
 -- The next merit is above the highest so far, or it isn't.
-use Rattle.mime_http.proofs.Common.{IfSome, List, MediaType, None, Option, Rank, Some, ap, arith, is_gt, length, length-map, length-take-le, lowest, map, merit, nat_cmp, rank_cmp, subst, sym, take, take_all, take_more, ℕ, ◌+◌, ◌++◌, ◌<◌, ◌∙◌, ◌∷◌, ◌≡◌, ◌≤◌, []}
+use Rattle.mime_http.proofs.Common.{IfSome, List, MediaType, None, Option, Rank, Some, ap, arith, is_gt, length, length-map, length-take-le, lowest, map, merit, nat_tests, rank_cmp, subst, sym, take, take_all, take_more, ℕ, ◌+◌, ◌++◌, ◌<◌, ◌∙◌, ◌∷◌, ◌≡◌, ◌≤◌, []}
 use Rattle.mime_http.specs.Chosen.{IsHighest}
-use Rattle.mime_http.proofs.Highest.{value_at, highest_raised, highest_stays, gt_of_ranks, best_is_found, none_is_found}
+use Rattle.mime_http.proofs.Highest.{value_at, highest_raised, highest_stays, best_is_found, none_is_found}
 use Rattle.mime_http.proofs.offers.best_of.Goals.{then-gt, else-gt}
 use Rattle.mime_http.proofs.offers.best_of.Goals as goal
-
--- a position that is below one bound is below a higher one
-below : (best : Option ℕ) (most more : ℕ) → most ≤ more → IfSome best (λ b. b < most) → IfSome best (λ b. b < more)
-below None most more fits is = is
-below (Some b) most more fits is = omega (arith, fits, is)
 
 pub loop-at-preserved : goal.loop-at-preserved
 loop-at-preserved c =
@@ -26,8 +21,7 @@ loop-at-preserved c =
     take_more all at lowest within ∙ ap (λ rank. take at all ++ (rank ∷ [])) (sym rank) in
     let count : length (take at all) ≡ at =
     length-take-le at all (omega (arith, within)) in
-    let above : is_gt (rank_cmp found most) ≡ c.gt.result =
-    sym (c.gt.ensures ∙ gt_of_ranks (nat_cmp found.0 most.0) (nat_cmp found.1 most.1) (nat_cmp found.2 most.2) (nat_cmp found.3 most.3)) in
+    let above : is_gt (rank_cmp found most) ≡ c.gt.result = grind (arith, nat_tests, c.gt.ensures) in
     let was = c.loop-at.invariant in
     elim c.if-gt.branch [
       | then-gt w ↦ rw (w.most-is, w.best-is, taken) (record {
@@ -37,7 +31,7 @@ loop-at-preserved c =
       })
       | else-gt w ↦ rw (w.most-is, w.best-is, taken) (record {
         first = highest_stays found was.first (above ∙ w.if-gt.false);
-        within = below c.loop-at.best at (at + 1) (omega arith) was.within;
+        within = grind (arith, was.within);
       })
     ]
 

@@ -10,8 +10,7 @@ returns-in_ok-push-in-Some c =
     let media = c.in-Some.range.media in
     let reads : Reads (tight entry) media =
     read_entry entry _ (Some c.in-Some.range) (sym c.ok.ensures.value ∙ c.in-Some.is) c.in_ok-read_tight.ensures.read in
-    let new : vec_items c.push.new.self ≡ vec_items c.self.inside.ranges ++ (c.in-Some.range ∷ []) = search rules in
-    add_range entry media c.utf8.entry reads (grind (arith, common_steps, new, c.self.view_is)) (grind (arith, common_steps, c.self.view_is))
+    add_range entry media c.utf8.entry reads (grind (arith, common_steps)) (grind (arith, common_steps))
 
 pub returns-in_ok-add_bad-in-None : goal.returns-in_ok-add_bad-in-None
 returns-in_ok-add_bad-in-None c =
