@@ -1,5 +1,5 @@
 -- The highest of ranks and its first place, and which of all is the best.
-use Rattle.mime_http.proofs.Common.{AllPass-from_list_all, Bool, Equal, List, None, Option, Ordering, Rank, Some, [], and_from, ap, arith, false, false_from_ne_true, get_or, get_or-map, is_gt, is_le, is_some_and, length, length-append, length-map, list_all, list_all-from_AllPass, lowest, map, nat_lt, nat_tests, ordering_then, and_parts, partial_ordering_then, position, if◌then◌else◌, rank_cmp, refl, subst, sym, true, ℕ, ◌&&◌, ◌++◌, ◌<◌, ◌∙◌, ◌∷◌, ◌≡◌, ◌≤◌}
+use Rattle.mime_http.proofs.Common.{AllPass-from_list_all, Bool, cases_Bool, ⊎_elim, Equal, List, None, Option, Ordering, Rank, Some, [], and_from, ap, arith, false, false_from_ne_true, get_or, get_or-map, is_gt, is_le, is_some_and, length, length-append, length-map, list_all, list_all-from_AllPass, lowest, map, nat_lt, nat_tests, ordering_then, and_parts, partial_ordering_then, position, if◌then◌else◌, rank_cmp, refl, subst, sym, true, ℕ, ◌&&◌, ◌++◌, ◌<◌, ◌∙◌, ◌∷◌, ◌≡◌, ◌≤◌}
 use Rattle.mime_http.specs.Chosen.{IsFirstPlace, IsHighest, NotAbove}
 use Rattle.std.proofs.Math.Seq.{get_or-append_seam}
 use Rattle.std.proofs.lemmas.List.{get_or_append_left}
@@ -17,12 +17,7 @@ value_at f g xs i x d within is =
 
 -- of ranks that compare as equal each part is equal
 pub one_rank : (x y : Rank) → rank_cmp x y ≡ Equal → x ≡ y
-one_rank x y same =
-    let first : x.0 ≡ y.0 = grind (arith, nat_tests) in
-    let second : x.1 ≡ y.1 = grind (arith, nat_tests) in
-    let third : x.2 ≡ y.2 = grind (arith, nat_tests) in
-    let fourth : x.3 ≡ y.3 = grind (arith, nat_tests) in
-    λ i. (first i, second i, third i, fourth i)
+one_rank x y same = grind (arith, nat_tests)
 
 -- a rank that isn't above another is below what is above that,
 above_both : (x y z : Rank) → is_gt (rank_cmp x y) ≡ true → NotAbove y z → is_gt (rank_cmp x z) ≡ true
@@ -31,8 +26,8 @@ above_both x y z above low = grind (arith, nat_tests)
 -- and not above what that isn't above
 pub up_to : (x y z : Rank) → NotAbove y x → NotAbove z y → NotAbove z x
 up_to x y z low high =
-    let below : is_gt (rank_cmp x z) ≡ false =
-    false_from_ne_true _ (λ above. absurd (grind (arith, nat_tests, above_both x z y above high, low))) in grind (arith, nat_tests, below)
+    ⊎_elim (λ (above : is_gt (rank_cmp x z) ≡ true). absurd (grind (arith, nat_tests, above_both x z y above high, low)))
+    (λ (below : is_gt (rank_cmp x z) ≡ false). grind (arith, nat_tests, below)) (cases_Bool (is_gt (rank_cmp x z)))
 
 -- ---- with one rank more
 

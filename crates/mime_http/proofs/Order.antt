@@ -1,5 +1,5 @@
 -- The offers that weigh more than 0, sorted, are in order.
-use Rattle.mime_http.proofs.Common.{All-contains, AllPairs, AreInOrder, Contains, IsDistinct, IsTotalOrder, List, MediaType, Ordering, Rank, Reverse, [], ap, arith, back_total, false, flip_args, get_or, cases_Bool, inl, inr, is_gt, is_lt, length, length-map, lowest, map, map-append, merit, nat_cmp, nat_cmp_total, nat_tests, ne_eqb, on, on_total, ordering_then, rank_cmp, subst, suc, sym, then_cmp, then_total, true, zero, ℕ, ⊎_elim, ◌++◌, ◌+◌, ◌<◌, ◌==◌, ◌∙◌, ◌∷◌, ◌≡◌, ◌≤◌, ◌⊎◌, Bool}
+use Rattle.mime_http.proofs.Common.{All-contains, AllPairs, AreInOrder, Contains, IsDistinct, IsTotalOrder, List, MediaType, Ordering, Rank, Reverse, [], ap, arith, back_total, false, flip_args, get_or, get_or_past, cases_Bool, inl, inr, is_gt, is_lt, length, length-map, lowest, map, map-append, merit, nat_cmp, nat_cmp_total, nat_tests, ne_eqb, on, on_total, ordering_then, rank_cmp, subst, suc, sym, then_cmp, then_total, true, zero, ℕ, ⊎_elim, ◌++◌, ◌+◌, ◌<◌, ◌==◌, ◌∙◌, ◌∷◌, ◌≡◌, ◌≤◌, ◌⊎◌, Bool}
 use Rattle.std.specs.List.{All}
 use Rattle.std.specs.List.Sorted.{IsPermutation, IsSorted}
 use Rattle.std.proofs.lemmas.Bool.{cases_lt}
@@ -21,9 +21,8 @@ ComesBefore ranks at other =
 
 -- what weighs something is an offer's
 pub weighs_within : (ranks : List Rank) (at : ℕ) → 0 < (rank_at ranks at).0 → at < length ranks
-weighs_within [] at weighs = absurd (omega (arith, weighs))
-weighs_within (rank ∷ ranks) zero weighs = omega arith
-weighs_within (rank ∷ ranks) (suc at) weighs = omega (arith, weighs_within ranks at weighs)
+weighs_within ranks at weighs = ⊎_elim (λ within. within)
+    (λ past. absurd (omega (arith, weighs, ap (λ (rank : Rank). rank.0) (get_or_past ranks at lowest past)))) (cases_lt at (length ranks))
 
 -- ---- offers with their ranks
 

@@ -57,9 +57,8 @@ module _ {name whole text : List ℕ} {total count : ℕ} {items next : List Ite
 
 -- those of other names are no more than all
 pub others_within : (name : List ℕ) (pairs : List (List ℕ × List ℕ)) → length (others name pairs) ≤ length pairs
-others_within name pairs =
-    let other : List ℕ × List ℕ → Bool = λ pair. not (bytes_eq (lowered pair.0) (lowered name)) in
-    omega (arith, length-filter_both other (λ pair. not (other pair)) (λ pair. refl) pairs)
+others_within name [] = omega arith
+others_within name (pair ∷ pairs) = grind (arith, others_within name pairs)
 
 -- each parameter is written with a byte at least
 pub pairs_within_text : (pairs : List (List ℕ × List ℕ)) → length pairs ≤ length (text_of_pairs pairs)

@@ -13,7 +13,6 @@ returns-clause-offer c = λ before was.
     let Now = λ (chosen : Chosen). IsChosen (map (λ range. range.media) c.args.ranges.now)
     (record before { ranges = before.ranges ++ (media ∷ []) }) (record chosen { count = chosen.count + 1 }) in
     elim c.if-gt.branch [
-      | then-gt w ↦ subst Now (sym w.self-is) (subst (λ rank. Now (record c.args.self.now { most = rank; best = c.args.self.now.count }))
-          (sym c.merit-rank.ensures) (chosen_above media was (ranked ∙ w.if-gt.true)))
+      | then-gt w ↦ subst Now (sym w.self-is) (rw c.merit-rank.ensures (chosen_above media was (ranked ∙ w.if-gt.true)))
       | else-gt w ↦ subst Now (sym w.self-is) (chosen_now media was (highest_stays _ was.highest (ranked ∙ w.if-gt.false)))
     ]
