@@ -37,8 +37,7 @@ has_by_meaning : (pairs : Pairs) (pair : List ℕ × List ℕ)
     → list_any (λ own. bytes_eq own.0 pair.0 && bytes_eq (meaning_of own).1 (meaning_of pair).1) pairs
     ≡ has_meant (map meaning_of pairs) (meaning_of pair)
 has_by_meaning [] pair = refl
-has_by_meaning (own ∷ pairs) pair =
-    ap (λ rest. (bytes_eq own.0 pair.0 && bytes_eq (meaning_of own).1 (meaning_of pair).1) || rest) (has_by_meaning pairs pair)
+has_by_meaning (own ∷ pairs) pair = grind (arith, has_by_meaning pairs pair)
 
 -- as many are demanded,
 demanded_meant : (pairs : Pairs) → demanded (map meaning_of pairs) ≡ map meaning_of (demanded pairs)
