@@ -52,27 +52,16 @@ all_by_meaning offer pairs =
     ∙ (sym (list_all-map (has_meant (map meaning_of offer.pairs)) meaning_of (demanded pairs))
     ∙ ap (list_all (has_meant (map meaning_of offer.pairs))) (sym (demanded_meant pairs)))
 
--- how closely a range covers an offer of this essence and type, by what the parameters of both mean
-abbrev closeness_of : List ℕ → List ℕ → Pairs → List ℕ → Pairs → ℕ → ℕ → Option Rank
-closeness_of essence top pairs range demanding weight at =
-    if list_all (has_meant pairs) (demanded demanding)
-    then option_map (λ named. (named, length (demanded demanding), weight, at)) (if bytes_eq range (codes "*/*") then Some 0 else
-    if bytes_eq range (top ++ codes "/*") then Some 1 else
-    if bytes_eq range essence then Some 2 else None)
-    else None
+-- and as many are demanded
+count_by_meaning : (pairs : Pairs) → length (demanded pairs) ≡ length (demanded (map meaning_of pairs))
+count_by_meaning pairs = sym (ap length (demanded_meant pairs) ∙ length-map (demanded pairs) meaning_of)
 
--- so it is by what they mean alone
-closeness_by_meaning : (offer range : MediaType) (at : ℕ) → closeness offer (at, range) ≡ closeness_of offer.essence (type_of offer)
-    (map meaning_of offer.pairs) range.essence (map meaning_of range.pairs) (weight_of range) at
-closeness_by_meaning offer range at =
-    let count : length (demanded range.pairs) ≡ length (demanded (map meaning_of range.pairs)) =
-    sym (ap length (demanded_meant range.pairs) ∙ length-map (demanded range.pairs) meaning_of) in
-    λ i. if all_by_meaning offer range.pairs i
-    then option_map (λ named. (named, count i, weight_of range, at)) (named_parts range offer) else None
-
--- and a header says the same of media types that mean the same
+-- so a header says the same of media types that mean the same
 pub meaning_counts : MeaningCounts
 meaning_counts range other offer offered at same alike weighs =
-    closeness_by_meaning offer range at
-    ∙ (λ i. closeness_of (alike.essence i) (alike.top i) (alike.pairs i) (same.essence i) (same.pairs i) (weighs i) at)
-    ∙ sym (closeness_by_meaning offered other at)
+    let all : list_all (has offer) (demanded range.pairs) ≡ list_all (has offered) (demanded other.pairs) =
+    all_by_meaning offer range.pairs ∙ ((λ i. list_all (has_meant (alike.pairs i)) (demanded (same.pairs i)))
+    ∙ sym (all_by_meaning offered other.pairs)) in
+    let count : length (demanded range.pairs) ≡ length (demanded other.pairs) =
+    count_by_meaning range.pairs ∙ (ap (λ pairs. length (demanded pairs)) same.pairs ∙ sym (count_by_meaning other.pairs)) in
+    grind (arith, all, count, weighs, same.essence, alike.essence, alike.top)
