@@ -32,35 +32,26 @@ loop-from-init c = record {
 
 pub loop-from-preserved-then-is_empty_piece : goal.loop-from-preserved-then-is_empty_piece
 loop-from-preserved-then-is_empty_piece c =
-    let ranges = map (λ range. range.media) c.ranges-ranges.result.now in
-    let chosen = c.loop-from.chosen in
     let empty = c.if-is_empty_piece.ensures refl in
     record {
       within = omega (arith, empty.0);
       taken = past_empty c.args.list.now c.loop-from.from c.loop-from.invariant.taken empty.0 empty.1
-          (λ before taken. next_chosen [] taken (chooses_nothing ranges chosen));
+          (λ before taken. next_chosen [] taken (chooses_nothing _ c.loop-from.chosen));
       few = omega (arith, c.loop-from.invariant.few);
     }
 
 pub loop-from-preserved : goal.loop-from-preserved
 loop-from-preserved c =
     let list = c.args.list.now in
-    let ranges = map (λ range. range.media) c.ranges-ranges.result.now in
     let from = c.loop-from.from in
     let end = c.piece_end-end.result in
     let more : end < length list = omega (arith, c.piece_end-end.ensures.within, c.if-end-list.false) in
+    let size = length-take (end - from) (drop from list) in
     record {
       within = omega (arith, more);
       taken = past_piece list from c.loop-from.invariant.taken end c.piece_end-end.ensures.piece more
           (λ before taken. next_chosen _ taken c.in_ok-take_piece.ensures.piece);
-      few =
-          omega (
-            arith,
-            c.loop-from.invariant.few,
-            c.in_ok-take_piece.ensures.few,
-            c.piece_end-end.ensures.least,
-            length-take (end - from) (drop from list),
-          );
+      few = omega (arith, size, c.loop-from.invariant.few, c.in_ok-take_piece.ensures.few, c.piece_end-end.ensures.least);
     }
 
 pub returns-in_err-take_piece-clause-nothing : goal.returns-in_err-take_piece-clause-nothing
