@@ -1,5 +1,5 @@
 -- A media type covers itself, and what covers an offer is told by what both mean.
-use Rattle.mime_http.proofs.Common.{arith, Bool, CoversItself, List, MeaningCounts, MediaType, None, Option, Rank, Some, [], and_from, ap, bytes_eq, bytes_eq-Decides, closeness, codes, demanded, false, has, if◌then◌else◌, is_some, length, list_all, list_any, map, meaning_of, named_parts, not, option_map, refl, sym, true, type_of, unescaped, weight_of, ℕ, ◌&&◌, ◌++◌, ◌||◌, ◌∙◌, ◌∷◌, ◌≡◌, length-map, list_all-map, list_all-from_AllPass, get_or}
+use Rattle.mime_http.proofs.Common.{arith, Bool, CoversItself, List, MeaningCounts, MediaType, [], and_from, ap, bytes_eq, bytes_eq-Decides, codes, demanded, has, length, list_all, list_any, map, meaning_of, not, refl, sym, true, unescaped, ℕ, ◌&&◌, ◌∙◌, ◌∷◌, ◌≡◌, length-map, list_all-map, list_all-from_AllPass, get_or}
 use Rattle.std.proofs.lemmas.List.Elements.{All-filter}
 use Rattle.std.proofs.lemmas.List.Folds.{list_any_at}
 

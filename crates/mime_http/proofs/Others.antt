@@ -1,6 +1,5 @@
 -- Writing the parameters of other names, item by item.
-use Rattle.mime_http.proofs.Common.{Bool, Item, List, NameIs, [], ap, append-nil, append_assoc, arith, bytes_eq, bytes_eq-Decides, false_from_ne_true, flat_map-append, item_of, items_of, get_or, drop, length, length-append, length-map, nil_from_length, lowered, not, others, refl, subst, suc, sym, text_of_pair, text_of_pairs, ℕ, ◌++◌, ◌+◌, ◌∙◌, ◌∷◌, ◌≡◌, ◌≤◌, false, true}
-use Rattle.std.proofs.lemmas.List.Filters.{length-filter_both}
+use Rattle.mime_http.proofs.Common.{Item, List, NameIs, [], ap, append-nil, append_assoc, arith, bytes_eq, bytes_eq-Decides, false_from_ne_true, flat_map-append, item_of, items_of, get_or, drop, length, length-append, length-map, nil_from_length, lowered, others, refl, subst, suc, sym, text_of_pair, text_of_pairs, ℕ, ◌++◌, ◌+◌, ◌∙◌, ◌∷◌, ◌≡◌, ◌≤◌, false, true}
 
 -- the first item is that of the first pair,
 first_pair : (rest : List (List ℕ × List ℕ)) (item : Item) (next : List Item) → items_of rest ≡ item ∷ next

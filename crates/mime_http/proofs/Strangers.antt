@@ -1,5 +1,5 @@
 -- A range that covers none of the offers only moves the ranges after it by one position, which changes no comparison.
-use Rattle.mime_http.proofs.Common.{AllPairs, Bool, Contains, List, MediaType, None, Option, Rank, Some, StrangerChangesNothing, [], ap, arith, closeness, closest, cond_both, demanded, enumerate_from, false, fold, get_or, has, if◌then◌else◌, inl, inr, is_gt, is_le, is_lt, length, length-append, list_all, list_all-map, lowest, map, merit, named_parts, nat_cmp, nat_lt, nat_tests, option_cmp, option_map, ord_max, ordering_then, position, position_from, position_from-zero, rank_cmp, refl, subst, sym, true, unwrap_or, weight_of, zero, ℕ, ◌++◌, ◌+◌, ◌-◌, ◌<◌, ◌↔◌, ◌∙◌, ◌∷◌, ◌≡◌, ◌≤◌}
+use Rattle.mime_http.proofs.Common.{AllPairs, Contains, List, MediaType, None, Option, Rank, Some, StrangerChangesNothing, [], ap, arith, closeness, enumerate_from, fold, get_or, if◌then◌else◌, is_le, length, length-append, list_all, list_all-map, lowest, map, merit, nat_cmp, nat_lt, nat_tests, option_cmp, option_map, ord_max, ordering_then, position, position_from, position_from-zero, rank_cmp, refl, subst, sym, zero, ℕ, ◌++◌, ◌+◌, ◌-◌, ◌<◌, ◌↔◌, ◌∙◌, ◌∷◌, ◌≡◌, ◌≤◌}
 use Rattle.std.proofs.Math.ListN.{get_or-map}
 use Rattle.mime_http.proofs.Highest.{is_best}
 use Rattle.mime_http.proofs.Order.{ComesBefore, rank_at}
@@ -64,12 +64,8 @@ module _ (offer : MediaType) (k : ℕ) where
       → ord_max (option_cmp rank_cmp) (option_map (moved (shifted k)) first) (closeness offer (to, range))
       ≡ option_map (moved (shifted k)) (ord_max (option_cmp rank_cmp) first (closeness offer (at, range)))
   next range at to first there =
-      grind (
-        arith,
-        there,
-        covers_so offer range (shifted k) at,
-        same_higher (shifted k) (λ x y. grind (arith, nat_tests)) first (closeness offer (at, range)),
-      )
+      let higher = same_higher (shifted k) (λ x y. grind (arith, nat_tests)) first (closeness offer (at, range)) in
+      grind (arith, there, covers_so offer range (shifted k) at, higher)
 
   -- so the closest is the same with ranges one position later,
   later : (at : ℕ) (first : Option Rank) (ranges : List MediaType) → k ≤ at

@@ -1,5 +1,5 @@
 -- A look-up by a name finds the first value under it.
-use Rattle.mime_http.proofs.Common.{arith, IsFirstAccepted, List, None, Option, Some, [], ap, bytes_eq, bytes_eq-Decides, cases_Bool, first_value, items_of, name_seen, name_text, option_map, sym, true, true≢false, ℕ, ⊎_elim, ◌∙◌, ◌∷◌, ◌≡◌}
+use Rattle.mime_http.proofs.Common.{arith, IsFirstAccepted, List, Option, [], bytes_eq, bytes_eq-Decides, cases_Bool, first_value, items_of, name_seen, name_text, option_map, sym, true, true≢false, ℕ, ⊎_elim, ◌∙◌, ◌∷◌, ◌≡◌}
 use Rattle.mime.specs.declared.name.Name.{Name}
 use Rattle.mime_http.proofs.range.first_value.Goals as goal
 

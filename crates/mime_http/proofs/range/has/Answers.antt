@@ -1,5 +1,5 @@
 -- The parameters are the offer's pairs.
-use Rattle.mime_http.proofs.Common.{arith, Bool, List, [], ap, bytes_eq, items_of, list_any, refl, rules, unescaped, ℕ, ◌&&◌, ◌||◌, ◌∙◌, ◌∷◌, ◌≡◌}
+use Rattle.mime_http.proofs.Common.{arith, Bool, List, [], ap, bytes_eq, items_of, list_any, refl, rules, unescaped, ℕ, ◌&&◌, ◌∙◌, ◌∷◌, ◌≡◌}
 use Rattle.mime_http.proofs.range.has.Goals as goal
 
 -- a test of items is one of pairs

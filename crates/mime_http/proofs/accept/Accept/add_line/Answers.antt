@@ -1,5 +1,5 @@
 -- The first piece from here on is added, and those after its comma are left.
-use Rattle.mime_http.proofs.Common.{Adds, [], arith, cut, length, refl, sym, true≢false, ◌<◌}
+use Rattle.mime_http.proofs.Common.{Adds, [], arith, length, refl, sym, true≢false, ◌<◌}
 use Rattle.mime_http.proofs.Adds.{all_passed, add_nothing, adds_both, adds_none, blank_there, past_empty, past_last, past_piece}
 use Rattle.mime_http.proofs.accept.Accept.add_line.Goals as goal
 

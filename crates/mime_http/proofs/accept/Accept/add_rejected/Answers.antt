@@ -1,7 +1,6 @@
 -- The entry's media type or itself was pushed.
-use Rattle.mime_http.proofs.Common.{Header, IsHttpMediaType, None, map, Reads, Some, [], arith, common_steps, rules, sym, tight, trim_end, vec_items, ◌++◌, ◌∙◌, ◌∷◌, ◌≡◌}
+use Rattle.mime_http.proofs.Common.{IsHttpMediaType, None, Reads, Some, arith, common_steps, sym, tight, ◌∙◌}
 use Rattle.mime_http.proofs.Adds.{read_entry, add_range, add_bad}
-use Rattle.std.proofs.lemmas.List.{map_push}
 use Rattle.mime_http.proofs.accept.Accept.add_rejected.Goals as goal
 
 pub returns-in_ok-push-in-Some : goal.returns-in_ok-push-in-Some

@@ -1,5 +1,5 @@
 -- The first piece from here on is taken, and those after its comma are left; at the end the best of all is chosen.
-use Rattle.mime_http.proofs.Common.{Adds, AreSorted, Chosen, ChoosesOn, Option, Rank, Some, position, Header, IsHeader, List, MediaType, [], ap, append-nil, arith, best_offer, cut, cut_after, drop, length, length-take, map, refl, subst, sym, take, trim_start, true≢false, ℕ, ◌-◌, ◌<◌, ◌∙◌, ◌∷◌, ◌≡◌, ◌≤◌}
+use Rattle.mime_http.proofs.Common.{Adds, AreSorted, Chosen, ChoosesOn, Option, Rank, Some, position, Header, IsHeader, List, MediaType, [], ap, append-nil, arith, best_offer, cut, cut_after, drop, length, length-take, refl, subst, sym, take, trim_start, true≢false, ℕ, ◌-◌, ◌<◌, ◌∙◌, ◌∷◌, ◌≡◌, ◌≤◌}
 use Rattle.mime_http.proofs.Adds.{all_passed, SoFar, blank_there, is_header, past_empty, past_last, past_piece}
 use Rattle.mime_http.proofs.Chosen.{Chooses, chooses_nothing, next_chosen, nothing_chosen}
 use Rattle.mime_http.proofs.Highest.{best_is_found, is_best, none_is_found}
