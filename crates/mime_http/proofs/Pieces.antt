@@ -52,17 +52,16 @@ pub outside_run : (line : List ℕ) (from to : ℕ) → from ≤ to → to ≤ l
     → cut_on Outside line to ≡ cut_on Outside line from
 outside_run line from to least within unmarked =
     outside_bytes line from (to - from) to (omega (arith, least)) within (λ k first last.
-    let parts = or_parts (get_or line k 0 == 44) _ (unmarked k first last) in (parts.0, rw parts.1 refl))
+    let no = unmarked k first last in (grind (arith, nat_tests, no), grind (arith, nat_tests, no)))
 
 -- and than a comma and a quote, if no quote is next
 pub outside_at : (line : List ℕ) (n : ℕ) → n ≤ length line → AreUnmarked 44 34 line 0 n → (get_or line n 0 == 34) ≡ false
     → cut_on Outside line n ≡ cut line
 outside_at line n within unmarked other =
     outside_bytes line 0 n n (omega arith) within (λ k first last.
-    let no_quote : (get_or line (k + 1) 0 == 34) ≡ false =
-    ⊎_elim (λ less. (or_parts (get_or line (k + 1) 0 == 44) _ (unmarked (k + 1) (omega arith) less)).1)
-    (λ past. subst (λ i. (get_or line i 0 == 34) ≡ false) (omega (arith, past, last)) other) (cases_lt (k + 1) n) in
-    ((or_parts _ (get_or line k 0 == 34) (unmarked k first last)).0, grind (arith, nat_tests, no_quote)))
+    let no = unmarked k first last in
+    let next = λ (less : k + 1 < n). unmarked (k + 1) (omega arith) less in
+    (grind (arith, nat_tests, no), grind (arith, nat_tests, last, other, next)))
 
 -- a comma outside strings ends the piece, and so does the line's end
 pub ends_outside : (line : List ℕ) (at : ℕ) → (at < length line → get_or line at 0 ≡ 44) → cut_on Outside line at ≡ cut line
@@ -129,11 +128,11 @@ next_mark class one other are line from to within is =
       least = omega (arith, there);
       within = omega (arith, there, within, long, prefix_len-le-length (λ b. not (is_mark one other b)) rest);
       unmarked = λ k first last.
-          let back : from + (k - from) ≡ k = omega (arith, first) in
-          subst (λ i. is_mark one other (get_or line i 0) ≡ false) back (subst (λ b. is_mark one other b ≡ false) (get_or-drop from line (k - from) 0)
-          (fails_before_first (is_mark one other) rest (k - from) 0 (omega (arith, there, first, last))));
-      mark = λ more. subst (λ i. is_mark one other (get_or line i 0) ≡ true) (sym there) (subst (λ b. is_mark one other b ≡ true)
-          (get_or-drop from line _ 0) (passes_at_first (is_mark one other) rest 0 (omega (arith, there, more, long))));
+          let back : k ≡ from + (k - from) = omega (arith, first) in
+          rw (back, sym (get_or-drop from line (k - from) 0))
+          (fails_before_first (is_mark one other) rest (k - from) 0 (omega (arith, there, first, last)));
+      mark = λ more. rw (there, sym (get_or-drop from line (position_or_len (is_mark one other) rest) 0))
+          (passes_at_first (is_mark one other) rest 0 (omega (arith, there, more, long)));
     }
 
 -- ---- a piece that begins further on
@@ -141,8 +140,8 @@ next_mark class one other are line from to within is =
 -- bytes without a mark from a position on,
 pub unmarked_from : (line : List ℕ) (from to : ℕ) → from ≤ to → AreUnmarked 44 34 line from to
     → AreUnmarked 44 34 (drop from line) 0 (to - from)
-unmarked_from line from to least plain = λ k first last.
-    subst (λ b. is_mark 44 34 b ≡ false) (sym (get_or-drop from line k 0)) (plain (from + k) (omega arith) (omega (arith, last, least)))
+unmarked_from line from to least plain =
+    λ k first last. rw (get_or-drop from line k 0) (plain (from + k) (omega arith) (omega (arith, last, least)))
 
 -- up to a comma or the end, are the first piece from there on,
 pub piece_from : (line : List ℕ) (from to : ℕ) → from ≤ to → to ≤ length line → AreUnmarked 44 34 line from to
@@ -154,8 +153,7 @@ piece_from line from to least within plain comma =
     let size = length-drop from line in
     let ended : n < length rest → get_or rest n 0 ≡ 44 =
     λ more. get_or-drop from line n 0 ∙ (ap (λ i. get_or line i 0) there ∙ comma (omega (arith, more, size, least))) in
-    let no_quote = ⊎_elim (λ more. ap (λ b. b == 34) (ended more)) (λ past. ap (λ b. b == 34) (get_or_past rest n 0 past))
-    (cases_lt n (length rest)) in
+    let no_quote : (get_or rest n 0 == 34) ≡ false = grind (arith, nat_tests, ended, get_or_past rest n 0) in
     ends_outside rest n ended (outside_at rest n (omega (arith, size, within, least)) (unmarked_from line from to least plain) no_quote)
     ∙ ap (λ left. take n rest ∷ cut_after left) (drop-drop n from line ∙ ap (λ i. drop i line) there)
 
@@ -165,16 +163,3 @@ pub piece_of_len : (line : List ℕ) (from n : ℕ) → cut (drop from line) ≡
 piece_of_len line from n is =
     let long : n ≡ from + n - from = omega arith in
     is ∙ ap₂ (λ m left. take m (drop from line) ∷ cut_after left) long (drop-drop n from line)
-
--- After the comma that ends it the next one begins.
-pub pieces_after : (line : List ℕ) (end : ℕ) → end < length line → cut_after (drop end line) ≡ cut (drop (end + 1) line)
-pieces_after line end more = ap cut_after (drop_more line end 0 more)
-
--- and after the line's end none
-pub no_piece_after : (line : List ℕ) (end : ℕ) → length line ≤ end → cut_after (drop end line) ≡ []
-no_piece_after line end past = ap cut_after (drop_of_length-le line past)
-
--- An empty piece comes before a comma.
-pub empty_piece : (line : List ℕ) (from : ℕ) → from < length line → get_or line from 0 ≡ 44
-    → cut (drop from line) ≡ [] ∷ cut (drop (from + 1) line)
-empty_piece line from within comma = ap cut (drop_more line from 0 within ∙ ap (λ b. b ∷ drop (from + 1) line) comma)
