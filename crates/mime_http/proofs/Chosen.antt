@@ -10,7 +10,7 @@ module _ {ranges : List MediaType} {before : Header} {old : Chosen} (media : Med
       → IsChosen ranges (record before { ranges = before.ranges ++ (media ∷ []) })
       (record { most = most; best = best; count = old.count + 1; bad = old.bad })
   chosen_now {most} {best} is = record {
-    highest = subst (λ ranks. IsHighest ranks most (Some best)) (sym (map-append (merit ranges) before.ranges (media ∷ []))) is;
+    highest = rw (map-append (merit ranges) before.ranges (media ∷ [])) is;
     count = omega (arith, was.count, length-append before.ranges (media ∷ []));
     bad = was.bad;
   }

@@ -41,8 +41,7 @@ module _ {ranks : List Rank} {most : Rank} {best : Option ℕ} (x : Rank) (was :
   still_first {at} is = record {
     within = omega (arith, is.within, length-append ranks (x ∷ []));
     there = get_or_append_left ranks (x ∷ []) lowest at is.within ∙ is.there;
-    before = λ j less. subst (λ rank. is_gt (rank_cmp most rank) ≡ true)
-        (sym (get_or_append_left ranks (x ∷ []) lowest j (omega (arith, less, is.within)))) (is.before j less);
+    before = λ j less. rw (get_or_append_left ranks (x ∷ []) lowest j (omega (arith, less, is.within))) (is.before j less);
   }
 
   -- a rank above the highest is the highest, and last,
@@ -56,8 +55,7 @@ module _ {ranks : List Rank} {most : Rank} {best : Option ℕ} (x : Rank) (was :
       record {
         within = omega (arith, length-append ranks (x ∷ []));
         there = get_or-append_seam ranks x [] lowest;
-        before = λ j less. subst (λ rank. is_gt (rank_cmp x rank) ≡ true) (sym (get_or_append_left ranks (x ∷ []) lowest j less))
-            (above_both x most _ higher (was.above j lowest less));
+        before = λ j less. rw (get_or_append_left ranks (x ∷ []) lowest j less) (above_both x most _ higher (was.above j lowest less));
       },
     );
   }
