@@ -17,16 +17,12 @@ loop-at-preserved c =
     ∙ value_at merit_of (λ offer. offer.media) c.args.offers.now at _ lowest c.loop-at-test.true c.index-offers-at.is in
     let within : at < length all =
     omega (arith, c.loop-at-test.true, length-map offers merit_of, length-map c.args.offers.now (λ offer. offer.media)) in
-    let taken : take (at + 1) all ≡ take at all ++ (found ∷ []) =
-    take_more all at lowest within ∙ ap (λ rank. take at all ++ (rank ∷ [])) (sym rank) in
-    let count : length (take at all) ≡ at =
-    length-take-le at all (omega (arith, within)) in
+    let taken : take (at + 1) all ≡ take at all ++ (found ∷ []) = rw rank (take_more all at lowest within) in
     let above : is_gt (rank_cmp found most) ≡ c.gt.result = grind (arith, nat_tests, c.gt.ensures) in
     let was = c.loop-at.invariant in
     elim c.if-gt.branch [
       | then-gt w ↦ rw (w.most-is, w.best-is, taken) (record {
-        first = subst (λ n. IsHighest (take at all ++ (found ∷ [])) found (Some n)) count
-            (highest_raised found was.first (above ∙ w.if-gt.true));
+        first = rw (length-take-le at all (omega (arith, within))) at (highest_raised found was.first (above ∙ w.if-gt.true));
         within = omega arith;
       })
       | else-gt w ↦ rw (w.most-is, w.best-is, taken) (record {
