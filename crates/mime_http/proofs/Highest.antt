@@ -31,10 +31,6 @@ up_to x y z low high =
 
 -- ---- with one rank more
 
--- of no rank the lowest is the highest
-pub nothing_yet : IsHighest [] lowest None
-nothing_yet = record { above = All-nil _; first = λ some. absurd (omega (arith, some)) }
-
 module _ {ranks : List Rank} {most : Rank} {best : Option ℕ} (x : Rank) (was : IsHighest ranks most best) where
   -- a first place stays the first
   still_first : {at : ℕ} → IsFirstPlace ranks most at → IsFirstPlace (ranks ++ (x ∷ [])) most at
