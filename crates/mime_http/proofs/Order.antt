@@ -36,14 +36,6 @@ pub record Ranked (ranks : List Rank) (at : ℕ) (found : List (Reverse Rank × 
   pub all : (i : ℕ) → i < at → 0 < (rank_at ranks i).0 → Contains (map (λ offer. offer.1) found) i
   pub apart : AllPairs (λ x y. x.1 < y.1) found
 
--- before the first offer
-pub none_ranked : (ranks : List Rank) → Ranked ranks 0 []
-none_ranked ranks = record {
-  are = All-nil (HasRank ranks 0);
-  all = λ i below. absurd (omega (arith, below));
-  apart = λ i j d before within. absurd (omega (arith, within));
-}
-
 module _ {ranks : List Rank} {at : ℕ} {found : List (Reverse Rank × ℕ)} (was : Ranked ranks at found) where
   -- those before it are before the next position
   still : All (HasRank ranks (at + 1)) found

@@ -2,7 +2,7 @@
 use Rattle.mime_http.proofs.Common.{Bool, ClosestIsClosest, Contains, IsAtMost, List, MatchOption, MediaType, None, Option, Rank, Some, [], ap, arith, closeness, closest, cons_option, enumerate_from, false, filter_map, find, fold, is_le, is_lt, list_all, list_all-from_AllPass, AllPass-from_list_all, All-contains, map, nat_tests, option_cmp, option_map, slice_get-get_or, Contains-get_or, unwrap_or, cases_lt, length, ◌<◌, ord_max, rank_cmp, refl, subst, suc, sym, true, true≢false, zero, ℕ, ⊎_elim, ◌∙◌, ◌∷◌, ◌≡◌, Equal, cond_both}
 use Rattle.mime_http.proofs.Highest.{one_rank, up_to}
 use Rattle.mime_http.specs.Chosen.{NotAbove}
-use Rattle.std.proofs.lemmas.List.Elements.{All-nil, All-cons, All-head, All-tail}
+use Rattle.std.proofs.lemmas.List.Elements.{All-nil, All-cons, All-head, All-tail, Contains-append_right}
 use Rattle.std.specs.List.{All, position_or_len}
 use Rattle.std.proofs.lemmas.List.Folds.{find_at}
 use Rattle.std.proofs.lemmas.List.Sums.{fails_before_first, passes_at_first}
@@ -13,10 +13,6 @@ use Rattle.std.proofs.lemmas.List.Sums.{fails_before_first, passes_at_first}
 record IsTop (all : List Rank) (top : Rank) : Type 0 where
   among : Contains all top
   above : All (NotAbove top) all
-
--- a longer list contains what a list contains
-pub in_more : {X : Type 0} (y : X) (xs : List X) (x : X) → Contains xs x → Contains (y ∷ xs) x
-in_more y xs x (k, within, is) = (suc k, omega (arith, within), is)
 
 -- the higher of the first two in place of both leaves the highest the same
 of_two : (x y : Rank) (ranks : List Rank) {top : Rank} → IsTop (ord_max rank_cmp x y ∷ ranks) top → IsTop (x ∷ y ∷ ranks) top
@@ -98,7 +94,7 @@ of_filtered : {X Y : Type 0} (f : X → Option Y) (xs : List X) (y : Y) → Cont
     → (x : X) × Contains xs x × (f x ≡ Some y)
 of_filtered f [] y (k, within, is) = absurd (omega (arith, within))
 of_filtered {X} {Y} f (z ∷ xs) y there =
-    by (λ rest. let found = of_filtered f xs y rest in (found.0, in_more z xs found.0 found.1, found.2)) (f z) refl there
+    by (λ rest. let found = of_filtered f xs y rest in (found.0, Contains-append_right (z ∷ []) xs found.0 found.1, found.2)) (f z) refl there
   where
     by : (Contains (filter_map f xs) y → (x : X) × Contains (z ∷ xs) x × (f x ≡ Some y)) → (first : Option Y) → f z ≡ first
         → Contains (cons_option first (filter_map f xs)) y → (x : X) × Contains (z ∷ xs) x × (f x ≡ Some y)
