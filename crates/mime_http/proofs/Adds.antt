@@ -12,13 +12,6 @@ use Rattle.mime_http.proofs.Trims.{blank_from_trimmed, tight_trimmed, trimmed_fr
 
 -- ---- a piece
 
--- An entry's media type was read of it, tightened, or it has none.
-pub read_entry : (entry : List ℕ) (answer : Result OwnedMedia Rejected) (o : Option OwnedMedia) → result_ok answer ≡ o
-    → MatchResult answer (λ mime. Reads (tight entry) mime.media) (IsRejected entry)
-    → MatchOption o (¬ (IsHttpMediaType entry)) (λ mime. Reads (tight entry) mime.media)
-read_entry entry (Ok mime) o is reads = rw (sym is) reads
-read_entry entry (Err rejected) o is isnt = rw (sym is) isnt.is
-
 -- white space alone adds nothing,
 pub add_nothing : (piece : List ℕ) (header : Header) → trim_start piece ≡ [] → Adds (piece ∷ []) header header
 add_nothing piece header none = record {
