@@ -1,5 +1,5 @@
 -- Before a comma that is the first mark, or to the end.
-use Rattle.mime_http.proofs.Common.{arith, get_or, length, length-drop, nat_tests, take_rest, ◌<◌, ◌≡◌}
+use Rattle.mime_http.proofs.Common.{common_steps, arith, get_or, length, length-drop, nat_tests, take_rest, ◌<◌, ◌≡◌}
 use Rattle.mime_http.proofs.Pieces.{next_mark, unmarked_from, piece_from, piece_of_len}
 use Rattle.mime_http.proofs.list.piece_end.Goals.{else-mark-line-via-then-mark-line+else-line-mark-eq34, else-mark-line-via-else-mark-line}
 use Rattle.mime_http.proofs.list.piece_end.Goals as goal
@@ -24,9 +24,5 @@ returns-clause-piece c =
     let line = c.args.line.now in
     let to = c.first_stop-mark.result in
     let mark = next_mark _ 44 34 c.of.ensures line c.args.from to c.requires c.first_stop-mark.ensures.end in
-    let comma : to < length line → get_or line to 0 ≡ 44 = λ within.
-    elim c.else-mark-line.branch [
-      | else-mark-line-via-then-mark-line+else-line-mark-eq34 w ↦ grind (arith, nat_tests, mark.mark within, w.if-line-mark-eq34.false)
-      | else-mark-line-via-else-mark-line w ↦ absurd (omega (arith, w.if-mark-line.false, within))
-    ] in
+    let comma : to < length line → get_or line to 0 ≡ 44 = grind (arith, common_steps, mark.mark) in
     piece_from line c.args.from to mark.least mark.within mark.unmarked comma
