@@ -12,15 +12,12 @@ returns-then-is_boundary c =
     (copied ∙ sym same, subst IsBoundary (sym same) is)
 
 pub returns-then-bytes : goal.returns-then-bytes
-returns-then-bytes c =
+returns-then-bytes c = λ is.
+    let value = c.args.value.now in
     elim c.then-bytes.branch [
-      | then-bytes-via-then-bytes w ↦ (λ is.
-          absurd (omega (arith, is.most, length-unescaped c.args.value.now, w.if-bytes.true)))
-      | then-bytes-via-else-bytes+then-not-contains w ↦ (λ is.
-          let value = c.args.value.now in
+      | then-bytes-via-then-bytes w ↦ absurd (omega (arith, is.most, length-unescaped value, w.if-bytes.true))
+      | then-bytes-via-else-bytes+then-not-contains w ↦
           let finds = contains_char 92 value w.contains.result w.contains.ensures.cases (omega arith) in
-          let none : (i : ℕ) → i < length value → get_or value i 0 ≢ 92 =
-          λ i below there. false≢true (sym w.if-not-contains.true ∙ finds.1 i below there) in
           let not_one : ¬ (IsBoundary value) = search rules in
-          not_one (subst IsBoundary (unescaped_same value none) is))
+          not_one (subst IsBoundary (unescaped_same value (λ i below there. absurd (grind (arith, w.if-not-contains.true, finds.1 i below there)))) is)
     ]
