@@ -1,5 +1,5 @@
 -- Each item is of a weight, or counted, or missing.
-use Rattle.mime_http.proofs.Common.{None, [], ap, arith, bytes_eq, codes, false, has, item_of, item_seen, items_of, length, length-map, rules, sym, true, ◌∙◌, ◌∷◌, ◌≡◌}
+use Rattle.mime_http.proofs.Common.{common_steps, None, [], ap, arith, bytes_eq, codes, false, has, item_of, item_seen, items_of, length, length-map, rules, sym, true, ◌∙◌, ◌∷◌, ◌≡◌}
 use Rattle.mime_http.proofs.Demanded.{found_from, found_of_all}
 use Rattle.mime_http.proofs.range.demanded_among.Goals as goal
 
@@ -16,17 +16,14 @@ pub returns-else-has : goal.returns-else-has
 returns-else-has c =
     let first : c.loop-name.name-iterator ≡ item_seen (c.in-Some.name, c.in-Some.value) ∷ c.next.new.self = search rules in
     let left = sym (ap (found_from c.args.offer.now.media c.loop-name.count _) first) ∙ c.loop-name.invariant.found in
-    let other : bytes_eq c.in-Some.name.text.now (codes "q") ≡ false = search rules in
-    let missing : has c.args.offer.now.media (c.in-Some.name.text.now, c.in-Some.value.text.now) ≡ false = search rules in
-    grind (arith, left, other, missing)
+    grind (arith, common_steps, left)
 
 pub loop-name-preserved-then-eq : goal.loop-name-preserved-then-eq
 loop-name-preserved-then-eq c =
     let first : c.loop-name.name-iterator ≡ item_seen (c.in-Some.name, c.in-Some.value) ∷ c.next.new.self = search rules in
     let left = sym (ap (found_from c.args.offer.now.media c.loop-name.count _) first) ∙ c.loop-name.invariant.found in
-    let weight : bytes_eq c.in-Some.name.text.now (codes "q") ≡ true = search rules in
     record {
-      found = grind (arith, left, weight, c.or-weight.ensures);
+      found = grind (arith, common_steps, left);
       room = omega (arith, ap length first, c.loop-name.invariant.room);
     }
 
@@ -34,10 +31,8 @@ pub loop-name-preserved : goal.loop-name-preserved
 loop-name-preserved c =
     let first : c.loop-name.name-iterator ≡ item_seen (c.in-Some.name, c.in-Some.value) ∷ c.next.new.self = search rules in
     let left = sym (ap (found_from c.args.offer.now.media c.loop-name.count _) first) ∙ c.loop-name.invariant.found in
-    let other : bytes_eq c.in-Some.name.text.now (codes "q") ≡ false = search rules in
-    let there : has c.args.offer.now.media (c.in-Some.name.text.now, c.in-Some.value.text.now) ≡ true = search rules in
     record {
-      found = grind (arith, left, other, there);
+      found = grind (arith, common_steps, left);
       room = omega (arith, ap length first, c.loop-name.invariant.room);
     }
 
