@@ -1,9 +1,7 @@
 -- What is added to a header, piece by piece and line by line.
-use Rattle.mime_http.proofs.Common.{Adds, AreSorted, AreSpaces, Err, Header, IsHeader, IsHttpMediaType, IsRejected, IsUtf8, List, MatchOption, MatchResult, MediaType, Ok, Option, OwnedMedia, Reads, Result, [], a_bad, a_range, ap, append-nil, append_assoc, cut, cut_after, drop, drop_of_length-le, flat_map, get_or, length, lines_or_any, no_text, subst, sym, take, tight, trim_end, trim_start, ℕ, ◌++◌, ◌+◌, ◌-◌, ◌<◌, ◌∙◌, ◌∷◌, ◌≡◌, ◌≤◌}
-use Rattle.std.specs.Result.{result_ok}
+use Rattle.mime_http.proofs.Common.{Adds, AreSorted, AreSpaces, Header, IsHeader, IsHttpMediaType, IsUtf8, List, MediaType, Reads, [], a_bad, a_range, ap, append-nil, append_assoc, cut, cut_after, drop, drop_of_length-le, flat_map, get_or, length, lines_or_any, no_text, subst, sym, take, tight, trim_end, trim_start, ℕ, ◌++◌, ◌+◌, ◌-◌, ◌<◌, ◌∙◌, ◌∷◌, ◌≡◌, ◌≤◌}
 use Rattle.mime_http.specs.HttpList.{blank}
 use Rattle.mime_http.specs.Walk.{AddsEntry}
-use Rattle.mime_http.specs.declared.fault.Rejected.{Rejected}
 use Rattle.mime_http.proofs.HttpBack.{read_is_http}
 use Rattle.mime_http.proofs.HttpLaws.{accepted_from_http, reads_tight}
 use Rattle.mime_http.proofs.Cuts.{are_cut}

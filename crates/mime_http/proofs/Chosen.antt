@@ -1,5 +1,5 @@
 -- The next offer ranks above all before it, or it doesn't.
-use Rattle.mime_http.proofs.Common.{Adds, lowest, ChoosesOn, Chosen, Header, IsChosen, IsHttpMediaType, IsUtf8, List, MediaType, Rank, Reads, Some, [], arith, is_gt, length, length-append, length-map, map, map-append, merit, rank_cmp, refl, subst, sym, tight, trim_end, trim_start, true, ℕ, ◌++◌, ◌+◌, ◌∷◌, ◌≡◌}
+use Rattle.mime_http.proofs.Common.{Adds, lowest, ChoosesOn, Chosen, Header, IsChosen, IsHttpMediaType, IsUtf8, List, MediaType, Rank, Reads, Some, [], arith, length-append, map, map-append, merit, refl, tight, trim_end, trim_start, ℕ, ◌++◌, ◌+◌, ◌∷◌, ◌≡◌}
 use Rattle.mime_http.specs.Chosen.{IsHighest}
 use Rattle.mime_http.proofs.Adds.{add_nothing, add_range, add_bad, adds_both, adds_none}
 use Rattle.std.proofs.lemmas.List.Elements.{All-nil}

@@ -1,5 +1,5 @@
 -- A line's first piece: bytes without a mark go on with it, and a comma outside strings ends it.
-use Rattle.mime_http.proofs.Common.{AreUnmarked, At, Bool, List, Outside, [], ap, append-nil, append_assoc, ap₂, arith, cases_Bool, cases_lt, cond, cut, cut_after, cut_from, drop, drop-drop, drop_of_length-le, eq-eqb, false, get_or, get_or-drop, get_or_past, is_mark, length, length-drop, nat_tests, not, or_parts, prefix_len, prefix_len-le-length, refl, subst, suc, sym, take, take-add, take_all, take_more, true, zero, ℕ, ⊎_elim, ◌&&◌, ◌++◌, ◌+◌, ◌-◌, ◌<◌, ◌==◌, ◌∙◌, ◌∷◌, ◌≡◌, ◌≤◌}
+use Rattle.mime_http.proofs.Common.{AreUnmarked, At, Bool, List, Outside, [], ap, append-nil, append_assoc, ap₂, arith, cases_Bool, cond, cut, cut_after, cut_from, drop, drop-drop, drop_of_length-le, eq-eqb, false, get_or, get_or-drop, get_or_past, is_mark, length, length-drop, nat_tests, not, prefix_len, prefix_len-le-length, refl, subst, suc, sym, take, take-add, take_all, take_more, true, zero, ℕ, ⊎_elim, ◌&&◌, ◌++◌, ◌+◌, ◌-◌, ◌<◌, ◌==◌, ◌∙◌, ◌∷◌, ◌≡◌, ◌≤◌}
 use Rattle.mime_search.specs.Classes.{is_stop, end_of_run}
 use Rattle.mime_search.specs.Quoted.{awaits_next, len_from}
 use Rattle.mime_search.specs.declared.class.Class.{Class}

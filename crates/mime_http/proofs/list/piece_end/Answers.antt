@@ -1,5 +1,5 @@
 -- Before a comma that is the first mark, or to the end.
-use Rattle.mime_http.proofs.Common.{common_steps, arith, get_or, length, length-drop, nat_tests, take_rest, ◌<◌, ◌≡◌}
+use Rattle.mime_http.proofs.Common.{common_steps, arith, get_or, length, length-drop, take_rest, ◌<◌, ◌≡◌}
 use Rattle.mime_http.proofs.Pieces.{next_mark, unmarked_from, piece_from, piece_of_len}
 use Rattle.mime_http.proofs.list.piece_end.Goals.{else-mark-line-via-then-mark-line+else-line-mark-eq34, else-mark-line-via-else-mark-line}
 use Rattle.mime_http.proofs.list.piece_end.Goals as goal

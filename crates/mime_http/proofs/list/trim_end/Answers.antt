@@ -1,5 +1,5 @@
 -- White space at the end is left out, and any other byte stays.
-use Rattle.mime_http.proofs.Common.{arith, common_steps, sym, ◌∙◌, ◌≡◌}
+use Rattle.mime_http.proofs.Common.{arith, common_steps, sym, ◌∙◌}
 use Rattle.mime_http.proofs.Trims.{end_at_space, end_at_other}
 use Rattle.mime_http.proofs.list.trim_end.Goals as goal
 

@@ -1,5 +1,5 @@
 -- A boundary means itself; what is too long means none, and what has no backslash means itself.
-use Rattle.mime_http.proofs.Common.{IsBoundary, arith, contains_char, false≢true, get_or, length, rules, subst, sym, vec_items, ℕ, ◌<◌, ◌∙◌, ◌≡◌, ◌≢◌}
+use Rattle.mime_http.proofs.Common.{IsBoundary, arith, contains_char, rules, subst, sym, vec_items, ◌∙◌, ◌≡◌}
 use Rattle.mime_http.proofs.Contents.{boundary_means_itself, length-unescaped, unescaped_same}
 use Rattle.mime_http.proofs.multipart.meant_boundary.Goals.{then-bytes-via-then-bytes, then-bytes-via-else-bytes+then-not-contains}
 use Rattle.mime_http.proofs.multipart.meant_boundary.Goals as goal

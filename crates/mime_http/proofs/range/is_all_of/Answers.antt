@@ -1,5 +1,5 @@
 -- What is left of an essence is the type exactly if the essence is the type and the end.
-use Rattle.mime_http.proofs.Common.{arith, Bor, List, MatchOption, None, Option, Some, ap, append_cancel_right, bytes_eq, bytes_eq-Decides, codes, false_from_ne_true, option_eq, refl, same_from_decides, subst, sym, ℕ, ◌++◌, ◌∙◌, ◌≡◌}
+use Rattle.mime_http.proofs.Common.{arith, Bor, List, MatchOption, None, Option, Some, ap, append_cancel_right, bytes_eq, bytes_eq-Decides, codes, option_eq, refl, ℕ, ◌++◌, ◌∙◌, ◌≡◌}
 use Rattle.std.specs.Str.Pattern.{FindsTextSuffix, StripsSuffix}
 use Rattle.mime_http.proofs.range.is_all_of.Goals as goal
 

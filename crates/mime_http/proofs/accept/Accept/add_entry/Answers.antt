@@ -1,6 +1,5 @@
 -- An entry's media type or itself was pushed.
-use Rattle.mime_http.proofs.Common.{arith, common_steps, Err, Header, IsUtf8, List, Ok, OnOk, Reads, Result, [], subst, trim_end, ℕ, ◌++◌, ◌∷◌, ◌≡◌}
-use Rattle.mime_http.specs.Walk.{AddsEntry}
+use Rattle.mime_http.proofs.Common.{arith, common_steps, Reads}
 use Rattle.mime_http.proofs.Adds.{add_range, add_bad}
 use Rattle.mime_http.proofs.Walked.{tight_too}
 use Rattle.mime_http.proofs.accept.Accept.add_entry.Goals as goal
@@ -15,6 +14,6 @@ pub returns-in_ok-add_range-in-Ok-from_str : goal.returns-in_ok-add_range-in-Ok-
 returns-in_ok-add_range-in-Ok-from_str c =
     let entry = c.args.entry.now in
     let media = c.in-Ok-from_str.range.media in
-    let read = subst (λ text. Reads text media) c.in-Ok.ensures.cases.0 c.in-Ok-from_str.ensures.read in
+    let read : Reads entry media = grind (arith, common_steps) in
     add_range entry media c.in-Ok.ensures.cases.1 (tight_too entry read) c.in_ok-add_range-in-Ok-from_str.ensures.ranges
     c.in_ok-add_range-in-Ok-from_str.ensures.bad

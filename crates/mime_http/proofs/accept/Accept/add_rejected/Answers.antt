@@ -1,5 +1,5 @@
 -- The entry's media type or itself was pushed.
-use Rattle.mime_http.proofs.Common.{IsHttpMediaType, None, Reads, Some, arith, common_steps, sym, tight, ◌∙◌}
+use Rattle.mime_http.proofs.Common.{IsHttpMediaType, Reads, arith, common_steps, tight}
 use Rattle.mime_http.proofs.Adds.{add_range, add_bad}
 use Rattle.mime_http.proofs.accept.Accept.add_rejected.Goals as goal
 
