@@ -78,21 +78,18 @@ http_is_piece reads =
 
 -- ---- forth
 
--- an element has no comma outside strings, so it is a piece,
-first_element : {text : List ℕ} {texts : List (List ℕ)} {media : List MediaType} → AreElements (text ∷ texts) media
-    → IsPiece text × ((others : List MediaType) × AreElements texts others)
-first_element (nothing text _ _ white others) = (spaces_are_piece text white, (_, others))
-first_element (element _ _ _ _ utf8 reads others) = (http_is_piece reads, (_, others))
-
--- and so are all
+-- an element has no comma outside strings, so it is a piece
 elements_are_pieces : {lines texts : List (List ℕ)} {media : List MediaType} → AreBetweenCommas (λ text. ⊤) (λ text. ⊤) lines texts
     → AreElements texts media → AreBetweenCommas IsPiece BeginsPiece lines texts
 elements_are_pieces no_line are = no_line
-elements_are_pieces (line_end text lines texts any rest) are =
-    let first = first_element are in
-    line_end text lines texts ([], subst IsPiece (sym (append-nil text)) first.0) (elements_are_pieces rest first.1.1)
-elements_are_pieces (comma text line lines texts any rest) are =
-    let first = first_element are in comma text line lines texts first.0 (elements_are_pieces rest first.1.1)
+elements_are_pieces (line_end text lines texts any rest) (nothing _ _ _ white others) =
+    line_end text lines texts ([], before_spaces text white piece_end) (elements_are_pieces rest others)
+elements_are_pieces (line_end text lines texts any rest) (element _ _ _ _ utf8 reads others) =
+    line_end text lines texts ([], subst IsPiece (sym (append-nil text)) (http_is_piece reads)) (elements_are_pieces rest others)
+elements_are_pieces (comma text line lines texts any rest) (nothing _ _ _ white others) =
+    comma text line lines texts (spaces_are_piece text white) (elements_are_pieces rest others)
+elements_are_pieces (comma text line lines texts any rest) (element _ _ _ _ utf8 reads others) =
+    comma text line lines texts (http_is_piece reads) (elements_are_pieces rest others)
 
 -- elements are sorted as ranges, which may print another text
 sorted_elements : {texts : List (List ℕ)} {media : List MediaType} → AreElements texts media

@@ -106,9 +106,7 @@ module _ {ranks : List Rank} {at : ℕ} {found : List (Reverse Rank × ℕ)} (wa
       (λ i j d before within. ne_eqb _ _ (λ same. absurd (omega (arith, same, was.apart i j d before within))))) in
       let far = sorted_far (λ a b. is_lt (offer_cmp a b)) (ranks_by offers_total (λ offer. offer)) sorted up i j d
       (omega (arith, before)) within in
-      let low : is_lt (ordering_then (rank_cmp (rank_at ranks x.1) (rank_at ranks y.1)) (nat_cmp y.1 x.1)) ≡ false =
-      (λ i. is_lt (ordering_then (rank_cmp (sym first i) (sym second i)) (nat_cmp y.1 x.1))) ∙ far in
-      first_by (rank_at ranks x.1) (rank_at ranks y.1) x.1 y.1 low
+      first_by (rank_at ranks x.1) (rank_at ranks y.1) x.1 y.1 (rw (first, second) at far)
       (apart_from_distinct same_place sorted i j d distinct before within)
 
 -- so what is sorted is in order

@@ -181,11 +181,7 @@ is_settled place = true
 
 -- There a byte that isn't left out comes out as it is.
 pub settled_adds : (place : Place) → IsSettled place → (b : ℕ) → is_left_out place b ≡ false → added place b ≡ b ∷ []
-settled_adds Spaced settled b kept = absurd settled
-settled_adds Quoted settled b kept = refl
-settled_adds Paired settled b kept = refl
-settled_adds Closed settled b kept = refl
-settled_adds place settled b kept = rw kept refl
+settled_adds place settled b kept = grind (arith, kept, settled)
 
 -- white space is left out after settled places
 pub leaves_settled : {place : Place} → LeavesWhite place → IsSettled place
