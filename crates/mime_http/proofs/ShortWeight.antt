@@ -50,25 +50,12 @@ weight_alone media rest n d reads after is spaces digit =
     } in
     ap (λ value. value.pairs) (one_reading media.kept media (value_of (with_weight reads.tree n d)) reads again)
 
--- bytes at a position and one more after them
-one_more_byte : (text bytes : List ℕ) (at end d : ℕ) → end ≡ at + length bytes → HasBytesAt text at bytes → get_or text end 0 ≡ d
-    → HasBytesAt text at (bytes ++ (d ∷ []))
-one_more_byte text [] at end d is has last = (ap (λ i. get_or text i 0) (omega (arith, is)) ∙ last, tt)
-one_more_byte text (b ∷ bytes) at end d is has last = (has.0, one_more_byte text bytes (suc at) end d (omega (arith, is)) has.1 last)
-
 -- so a range demands nothing else, and weighs these tenths, if the weight is written after this white space
-pub weight_of_one_decimal : (n : List ℕ) (end weight : ℕ) (offer media : MediaType) (rest : List ℕ) → AreSpaces n → end ≡ 5 + length n
-    → Reads media.kept media → rest ≡ drop (length media.essence) media.kept → length rest ≡ end + 1
-    → HasBytesAt rest 0 (59 ∷ (n ++ (113 ∷ 61 ∷ 48 ∷ 46 ∷ []))) → is_ascii_digit (get_or rest end 0) ≡ true
-    → weight ≡ 100 * (get_or rest end 0 - 48) → Some (0, weight) ≡ found_in offer media.pairs
-weight_of_one_decimal n end weight offer media rest spaces at reads after long bytes digit tenths =
-    let d = get_or rest end 0 in
-    let front = 59 ∷ (n ++ (113 ∷ 61 ∷ 48 ∷ 46 ∷ [])) in
-    let size = length-append n (113 ∷ 61 ∷ 48 ∷ 46 ∷ []) in
-    let whole : rest ≡ front ++ (d ∷ []) =
-    text_from_reads rest _ (omega (arith, long, at, size, length-append front (d ∷ [])))
-    (one_more_byte rest front 0 end d (omega (arith, at, size)) bytes refl) in
+pub weight_of_one_decimal : (n : List ℕ) (d weight : ℕ) (offer media : MediaType) (rest : List ℕ) → AreSpaces n → Reads media.kept media
+    → rest ≡ drop (length media.essence) media.kept → length rest ≡ 6 + length n
+    → HasBytesAt rest 0 (59 ∷ (n ++ (113 ∷ 61 ∷ 48 ∷ 46 ∷ d ∷ []))) → is_ascii_digit d ≡ true → weight ≡ 100 * (d - 48)
+    → Some (0, weight) ≡ found_in offer media.pairs
+weight_of_one_decimal n d weight offer media rest spaces reads after long bytes digit tenths =
+    let whole = text_from_reads rest _ (omega (arith, long, length-append n (113 ∷ 61 ∷ 48 ∷ 46 ∷ d ∷ []))) bytes in
     let read : weight ≡ read_number (48 ∷ 46 ∷ d ∷ []) = rw digit (omega (arith, tenths)) in
-    rw (weight_alone media rest n d reads after
-    (whole ∙ ap (λ text. 59 ∷ text) (append_assoc n (113 ∷ 61 ∷ 48 ∷ 46 ∷ []) (d ∷ []))) spaces digit)
-    (ap (λ weight. Some (0, weight)) (read ∙ read_is (48 ∷ 46 ∷ d ∷ [])))
+    rw (weight_alone media rest n d reads after whole spaces digit) (ap (λ weight. Some (0, weight)) (read ∙ read_is (48 ∷ 46 ∷ d ∷ [])))
