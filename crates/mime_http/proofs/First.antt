@@ -21,21 +21,11 @@ best_is_first ranges offers (best ∷ others) are =
     let ranks = map (merit ranges) offers in
     let top = rank_at ranks best in
     let weighs : 0 < top.0 = (are.all best).0 (0, omega arith, refl) in
+    let within = weighs_within ranks best weighs in
     let stands : (at : ℕ) → (best ≡ at) ⊎ ComesBefore ranks best at = λ at.
     ⊎_elim (λ some. first_or_before ranks best others are.best_first at ((are.all at).1 some))
     (λ none. inr (inl (grind (arith, nat_tests, none, weighs)))) (cases_lt 0 (rank_at ranks at).0) in
     sym (best_is_found {all = ranks} {most = top} {best = Some best} (record {
-      above = λ at d inside. subst (NotAbove top) (get_or_default ranks at lowest d inside)
-          (⊎_elim (λ same. subst (λ n. NotAbove top (rank_at ranks n)) same (grind (arith, nat_tests))) (λ before. grind (arith, nat_tests, before))
-          (stands at));
-      first = λ _. (
-        best,
-        refl,
-        record {
-          within = weighs_within ranks best weighs;
-          there = refl;
-          before = λ at less. ⊎_elim (λ same. absurd (omega (arith, same, less)))
-              (⊎_elim (λ above. above) (λ level. absurd (omega (arith, level.1, less)))) (stands at);
-        },
-      );
+      above = λ at d inside. rw (get_or_default ranks at d lowest inside) (grind (arith, nat_tests, stands at));
+      first = λ _. (best, refl, record { within = within; there = refl; before = λ at less. grind (arith, less, stands at) });
     }) weighs)
