@@ -42,19 +42,17 @@ module _ {ranks : List Rank} {most : Rank} {best : Option ℕ} (x : Rank) (was :
 
   -- a rank above the highest is the highest, and last,
   pub highest_raised : is_gt (rank_cmp x most) ≡ true → IsHighest (ranks ++ (x ∷ [])) x (Some (length ranks))
-  highest_raised higher = record {
-    above = All-push (NotAbove x) ranks x (All-weaker (NotAbove most) (NotAbove x)
-        (λ rank low. grind (arith, nat_tests, above_both x most rank higher low)) ranks was.above) (grind (arith, nat_tests));
-    first = λ some. (
-      length ranks,
-      refl,
-      record {
+  highest_raised higher =
+      let last : IsFirstPlace (ranks ++ (x ∷ [])) x (length ranks) = record {
         within = omega (arith, length-append ranks (x ∷ []));
         there = get_or-append_seam ranks x [] lowest;
         before = λ j less. rw (get_or_append_left ranks (x ∷ []) lowest j less) (above_both x most _ higher (was.above j lowest less));
-      },
-    );
-  }
+      } in
+      record {
+        above = All-push (NotAbove x) ranks x
+            (λ k d within. grind (arith, nat_tests, above_both x most _ higher (was.above k d within))) (grind (arith, nat_tests));
+        first = λ some. (length ranks, refl, last);
+      }
 
   -- and beside another the highest stays
   pub highest_stays : is_gt (rank_cmp x most) ≡ false → IsHighest (ranks ++ (x ∷ [])) most best
