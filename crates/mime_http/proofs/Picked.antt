@@ -1,5 +1,5 @@
 -- The closest range is what a fold over the ranges keeps, and none is closer.
-use Rattle.mime_http.proofs.Common.{Bool, ClosestIsClosest, Contains, IsAtMost, List, MatchOption, MediaType, None, Option, Rank, Some, [], ap, arith, closeness, closest, cons_option, enumerate_from, false, filter_map, find, fold, is_le, is_lt, list_all, list_all-from_AllPass, AllPass-from_list_all, All-contains, map, nat_tests, option_cmp, option_map, slice_get-get_or, Contains-get_or, unwrap_or, cases_lt, length, ◌<◌, ord_max, rank_cmp, refl, subst, suc, sym, true, true≢false, zero, ℕ, ⊎_elim, ◌∙◌, ◌∷◌, ◌≡◌, Equal, cond_both}
+use Rattle.mime_http.proofs.Common.{and_parts, and_from, Bool, ClosestIsClosest, Contains, IsAtMost, List, MatchOption, MediaType, None, Option, Rank, Some, [], ap, arith, closeness, closest, cons_option, enumerate_from, false, filter_map, find, fold, is_le, is_lt, list_all, list_all-from_AllPass, AllPass-from_list_all, All-contains, map, nat_tests, option_cmp, option_map, slice_get-get_or, Contains-get_or, unwrap_or, cases_lt, length, ◌<◌, ord_max, rank_cmp, refl, subst, suc, sym, true, true≢false, zero, ℕ, ⊎_elim, ◌∙◌, ◌∷◌, ◌≡◌, Equal, cond_both}
 use Rattle.mime_http.proofs.Highest.{one_rank, up_to}
 use Rattle.mime_http.specs.Chosen.{NotAbove}
 use Rattle.std.proofs.lemmas.List.Elements.{All-nil, All-cons, All-head, All-tail, Contains-append_right}
@@ -9,21 +9,23 @@ use Rattle.std.proofs.lemmas.List.Sums.{fails_before_first, passes_at_first}
 
 -- ---- the highest of ranks
 
+-- whether no other rank is above one
+abbrev is_top : List Rank → Rank → Bool
+is_top all one = list_all (λ other. is_le (rank_cmp other one)) all
+
 -- a rank is one of all, and none is above it
 record IsTop (all : List Rank) (top : Rank) : Type 0 where
   among : Contains all top
-  above : All (NotAbove top) all
+  above : is_top all top ≡ true
 
 -- the higher of the first two in place of both leaves the highest the same
 of_two : (x y : Rank) (ranks : List Rank) {top : Rank} → IsTop (ord_max rank_cmp x y ∷ ranks) top → IsTop (x ∷ y ∷ ranks) top
 of_two x y ranks {top} is =
     let higher = ord_max rank_cmp x y in
-    let low = All-head (NotAbove top) higher ranks is.above in
-    record {
-      among = there is.among;
-      above = All-cons (NotAbove top) x (y ∷ ranks) (up_to x higher top (grind (arith, nat_tests)) low)
-          (All-cons (NotAbove top) y ranks (up_to y higher top (grind (arith, nat_tests)) low) (All-tail (NotAbove top) higher ranks is.above));
-    }
+    let parts = and_parts (is_le (rank_cmp higher top)) _ is.above in
+    let first = up_to x higher top (grind (arith, nat_tests)) parts.0 in
+    let second = up_to y higher top (grind (arith, nat_tests)) parts.0 in
+    record { among = there is.among; above = and_from _ _ first (and_from _ _ second parts.1) }
   where
     there : Contains (ord_max rank_cmp x y ∷ ranks) top → Contains (x ∷ y ∷ ranks) top
     there (zero, within, is) = cond_both (is_lt (rank_cmp y x)) x y (λ higher. higher ≡ top → Contains (x ∷ y ∷ ranks) top)
@@ -32,10 +34,7 @@ of_two x y ranks {top} is =
 
 -- so a fold finds the highest,
 top_of : (rank : Rank) (ranks : List Rank) → IsTop (rank ∷ ranks) (fold (ord_max rank_cmp) rank ranks)
-top_of rank [] = record {
-  among = (zero, omega arith, refl);
-  above = All-cons (NotAbove rank) rank [] (grind (arith, nat_tests)) (All-nil (NotAbove rank));
-}
+top_of rank [] = record { among = (zero, omega arith, refl); above = grind (arith, nat_tests) }
 top_of rank (next ∷ ranks) = of_two rank next ranks (top_of (ord_max rank_cmp rank next) ranks)
 
 -- if there is one
@@ -52,22 +51,21 @@ find_one p xs x (k, among, is) passes one =
     ∙ fails_before_first p xs k x (omega (arith, among, past)))))) (cases_lt at (length xs)) in
     find_at p xs ∙ (slice_get-get_or xs at x within ∙ ap Some (one _ (Contains-get_or xs at x within) (passes_at_first p xs x within)))
 
--- it is the one that none is above
-found_top : (all : List Rank) → find (λ one. list_all (λ other. is_le (rank_cmp other one)) all) all ≡ top_if_any all
+-- what all pass, each passes
+passed : {X : Type 0} (p : X → Bool) (xs : List X) (x : X) → list_all p xs ≡ true → Contains xs x → p x ≡ true
+passed p xs x all = All-contains (λ x. p x ≡ true) xs x (AllPass-from_list_all p xs all)
+
+-- the highest is the one that none is above
+found_top : (all : List Rank) → find (is_top all) all ≡ top_if_any all
 found_top [] = refl
 found_top (rank ∷ ranks) =
     let all = rank ∷ ranks in
     let top = fold (ord_max rank_cmp) rank ranks in
     let is = top_of rank ranks in
-    find_one (λ one. list_all (λ other. is_le (rank_cmp other one)) all) all top is.among
-    (list_all-from_AllPass (λ other. is_le (rank_cmp other top)) all is.above)
-    (λ other there passes.
-    let low = All-contains (NotAbove top) all other is.above there in
-    let high = All-contains (NotAbove other) all top (AllPass-from_list_all (λ rank. is_le (rank_cmp rank other)) all passes) is.among in
-    one_rank other top (same other top low high))
-  where
-    same : (x y : Rank) → NotAbove y x → NotAbove x y → rank_cmp x y ≡ Equal
-    same x y low high = grind (arith, nat_tests)
+    find_one (is_top all) all top is.among is.above (λ other there passes.
+    let low = passed (λ rank. is_le (rank_cmp rank top)) all other is.above there in
+    let high = passed (λ rank. is_le (rank_cmp rank other)) all top passes is.among in
+    one_rank other top (grind (arith, nat_tests, low, high)))
 
 -- ---- of ranks that are there
 
@@ -118,8 +116,8 @@ closest_is_closest ranges offer = rw (found_top (filter_map (closeness offer) it
 
     each : (p : Rank → Bool) → list_all p (filter_map (closeness offer) items) ≡ true → (item : ℕ × MediaType) → Contains items item
         → unwrap_or (option_map p (closeness offer item)) true ≡ true
-    each p all item = All-contains (λ item. unwrap_or (option_map p (closeness offer item)) true ≡ true) items item
-        (AllPass-from_list_all _ items (sym (all_filtered (closeness offer) p items) ∙ all))
+    each p all item = passed (λ item. unwrap_or (option_map p (closeness offer item)) true) items item
+        (sym (all_filtered (closeness offer) p items) ∙ all)
 
     by : (all : List Rank) → filter_map (closeness offer) items ≡ all → MatchOption (top_if_any all)
         ((item : ℕ × MediaType) → Contains items item → closeness offer item ≡ None)
@@ -131,7 +129,6 @@ closest_is_closest ranges offer = rw (found_top (filter_map (closeness offer) it
         let highest = top_of rank ranks in (
           of_filtered (closeness offer) items _ (subst (λ all. Contains all top) (sym is) highest.among),
           λ item other there covers.
-              let low = each (λ other. is_le (rank_cmp other top)) (ap (list_all (λ other. is_le (rank_cmp other top))) is
-              ∙ list_all-from_AllPass (λ other. is_le (rank_cmp other top)) (rank ∷ ranks) highest.above) item there in
+              let low = each (λ other. is_le (rank_cmp other top)) (ap (λ all. is_top all top) is ∙ highest.above) item there in
               grind (arith, nat_tests, low, covers),
         )
