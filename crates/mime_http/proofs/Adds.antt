@@ -1,25 +1,14 @@
 -- What is added to a header, piece by piece and line by line.
-use Rattle.mime_http.proofs.Common.{Adds, AreSorted, AreSpaces, Err, Header, IsHeader, IsHttpMediaType, IsRejected, IsUtf8, List, MatchOption, MatchResult, MediaType, Ok, Option, OwnedMedia, Reads, Result, [], a_bad, a_range, ap, append-nil, append_assoc, cut, cut_after, drop, flat_map, get_or, length, lines_or_any, no_text, refl, subst, sym, take, tight, trim_end, trim_start, ℕ, ◌++◌, ◌+◌, ◌-◌, ◌<◌, ◌∙◌, ◌∷◌, ◌≡◌, ◌≤◌}
-use Rattle.std.specs.Result.{result_ok}
+use Rattle.mime_http.proofs.Common.{Adds, AreSorted, AreSpaces, Header, IsHeader, IsHttpMediaType, IsUtf8, List, MediaType, Reads, [], a_bad, a_range, ap, append-nil, append_assoc, cut, cut_after, drop, drop_of_length-le, flat_map, get_or, length, lines_or_any, no_text, subst, sym, take, tight, trim_end, trim_start, ℕ, ◌++◌, ◌+◌, ◌-◌, ◌<◌, ◌∙◌, ◌∷◌, ◌≡◌, ◌≤◌}
 use Rattle.mime_http.specs.HttpList.{blank}
 use Rattle.mime_http.specs.Walk.{AddsEntry}
-use Rattle.mime_http.specs.declared.fault.Rejected.{Rejected}
 use Rattle.mime_http.proofs.HttpBack.{read_is_http}
 use Rattle.mime_http.proofs.HttpLaws.{accepted_from_http, reads_tight}
 use Rattle.mime_http.proofs.Cuts.{are_cut}
-use Rattle.mime_http.proofs.Pieces.{empty_piece, pieces_after, no_piece_after}
+use Rattle.std.proofs.lemmas.List.{drop_more}
 use Rattle.mime_http.proofs.Trims.{blank_from_trimmed, tight_trimmed, trimmed_from_blank, utf8_before, utf8_trimmed}
 
 -- ---- a piece
-
--- An entry's media type was read of it, tightened, or it has none.
-pub read_entry : (entry : List ℕ) (answer : Result OwnedMedia Rejected) (o : Option OwnedMedia) → result_ok answer ≡ o
-    → MatchResult answer (λ mime. Reads (tight entry) mime.media) (IsRejected entry)
-    → MatchOption o (¬ (IsHttpMediaType entry)) (λ mime. Reads (tight entry) mime.media)
-read_entry entry (Ok mime) o is reads =
-    subst (λ o. MatchOption o (¬ (IsHttpMediaType entry)) (λ mime. Reads (tight entry) mime.media)) is reads
-read_entry entry (Err rejected) o is isnt =
-    subst (λ o. MatchOption o (¬ (IsHttpMediaType entry)) (λ mime. Reads (tight entry) mime.media)) is isnt.is
 
 -- white space alone adds nothing,
 pub add_nothing : (piece : List ℕ) (header : Header) → trim_start piece ≡ [] → Adds (piece ∷ []) header header
@@ -97,8 +86,7 @@ pub is_header : (lines : List (List ℕ)) (header : Header)
 is_header lines header added = record {
   pieces = flat_map cut (lines_or_any lines);
   cut = are_cut (lines_or_any lines);
-  sorted = subst (AreSorted (flat_map cut (lines_or_any lines)) header.ranges) (sym added.now_bad)
-      (subst (λ ranges. AreSorted (flat_map cut (lines_or_any lines)) ranges added.bad) (sym added.now_ranges) added.sorted);
+  sorted = rw (added.now_ranges, added.now_bad) added.sorted;
 }
 
 -- if nothing is read of texts, nothing is read of those in the middle,
@@ -120,11 +108,7 @@ pub record SoFar (Holds : List (List ℕ) → Type 0) (all rest : List (List ℕ
   pub whole : before ++ rest ≡ all
   pub holds : Holds before
 
--- before the first piece,
-pub none_so_far : {Holds : List (List ℕ) → Type 0} (all : List (List ℕ)) → Holds [] → SoFar Holds all all
-none_so_far all holds = record { before = []; whole = refl; holds = holds }
-
--- after some more pieces,
+-- so it is after some more pieces,
 pub some_more : {Holds Now : List (List ℕ) → Type 0} {all rest : List (List ℕ)} (more : List (List ℕ)) → SoFar Holds all (more ++ rest)
     → ((before : List (List ℕ)) → Holds before → Now (before ++ more)) → SoFar Now all rest
 some_more {rest = rest} more so_far goes_on = record {
@@ -141,7 +125,7 @@ module _ {Holds : List (List ℕ) → Type 0} (line : List ℕ) (from : ℕ) (so
   -- so it is after an empty piece of a line,
   pub past_empty : {Now : List (List ℕ) → Type 0} → from < length line → get_or line from 0 ≡ 44
       → ((before : List (List ℕ)) → Holds before → Now (before ++ ([] ∷ []))) → SoFar Now (cut line) (cut (drop (from + 1) line))
-  past_empty within comma = some_more ([] ∷ []) (subst (SoFar Holds (cut line)) (empty_piece line from within comma) so_far)
+  past_empty within comma = some_more ([] ∷ []) (subst (SoFar Holds (cut line)) (ap cut (drop_more line from 0 within ∙ ap (λ b. b ∷ drop (from + 1) line) comma)) so_far)
 
   module _ (end : ℕ) (is : cut (drop from line) ≡ take (end - from) (drop from line) ∷ cut_after (drop end line)) where
     -- something holds with the piece that ends at a position, if something else held before it
@@ -154,11 +138,11 @@ module _ {Holds : List (List ℕ) → Type 0} (line : List ℕ) (from : ℕ) (so
 
     -- after its comma,
     pub past_piece : {Now : List (List ℕ) → Type 0} → end < length line → GoesOn Now → SoFar Now (cut line) (cut (drop (end + 1) line))
-    past_piece {Now} more goes_on = subst (SoFar Now (cut line)) (pieces_after line end more) (passed goes_on)
+    past_piece {Now} more goes_on = subst (SoFar Now (cut line)) (ap cut_after (drop_more line end 0 more)) (passed goes_on)
 
     -- and at the line's end
     pub past_last : {Now : List (List ℕ) → Type 0} → length line ≤ end → GoesOn Now → SoFar Now (cut line) []
-    past_last {Now} past goes_on = subst (SoFar Now (cut line)) (no_piece_after line end past) (passed goes_on)
+    past_last {Now} past goes_on = subst (SoFar Now (cut line)) (ap cut_after (drop_of_length-le line past)) (passed goes_on)
 
     -- the piece is white space if nothing is read of the line
     pub blank_there : AreSorted (cut line) [] [] → AreSpaces (take (end - from) (drop from line))

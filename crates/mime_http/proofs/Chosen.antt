@@ -1,8 +1,8 @@
 -- The next offer ranks above all before it, or it doesn't.
-use Rattle.mime_http.proofs.Common.{Adds, lowest, ChoosesOn, Chosen, Header, IsChosen, IsHttpMediaType, IsUtf8, List, MediaType, Rank, Reads, Some, [], arith, false, is_gt, length, length-append, length-map, map, map-append, merit, rank_cmp, refl, subst, sym, tight, trim_end, trim_start, true, ℕ, ◌++◌, ◌+◌, ◌∷◌, ◌≡◌}
+use Rattle.mime_http.proofs.Common.{Adds, lowest, ChoosesOn, Chosen, Header, IsChosen, IsHttpMediaType, IsUtf8, List, MediaType, Rank, Reads, Some, [], arith, length-append, map, map-append, merit, refl, tight, trim_end, trim_start, ℕ, ◌++◌, ◌+◌, ◌∷◌, ◌≡◌}
 use Rattle.mime_http.specs.Chosen.{IsHighest}
 use Rattle.mime_http.proofs.Adds.{add_nothing, add_range, add_bad, adds_both, adds_none}
-use Rattle.mime_http.proofs.Highest.{nothing_yet, highest_raised}
+use Rattle.std.proofs.lemmas.List.Elements.{All-nil}
 
 module _ {ranges : List MediaType} {before : Header} {old : Chosen} (media : MediaType) (was : IsChosen ranges before old) where
   -- what is chosen with one offer more is the highest,
@@ -10,20 +10,10 @@ module _ {ranges : List MediaType} {before : Header} {old : Chosen} (media : Med
       → IsChosen ranges (record before { ranges = before.ranges ++ (media ∷ []) })
       (record { most = most; best = best; count = old.count + 1; bad = old.bad })
   chosen_now {most} {best} is = record {
-    highest = subst (λ ranks. IsHighest ranks most (Some best)) (sym (map-append (merit ranges) before.ranges (media ∷ []))) is;
+    highest = rw (map-append (merit ranges) before.ranges (media ∷ [])) is;
     count = omega (arith, was.count, length-append before.ranges (media ∷ []));
     bad = was.bad;
   }
-
-  -- which is an offer that ranks above all before it
-  pub chosen_above : is_gt (rank_cmp (merit ranges media) old.most) ≡ true
-      → IsChosen ranges (record before { ranges = before.ranges ++ (media ∷ []) })
-      (record { most = merit ranges media; best = old.count; count = old.count + 1; bad = old.bad })
-  chosen_above above =
-      let ranks = map (merit ranges) before.ranges in
-      let rank = merit ranges media in
-      let size : length ranks ≡ old.count = omega (arith, was.count, length-map before.ranges (merit ranges)) in
-      chosen_now (subst (λ at. IsHighest (ranks ++ (rank ∷ [])) rank (Some at)) size (highest_raised rank was.highest above))
 
 -- ---- a piece of the list
 
@@ -59,7 +49,7 @@ pub nothing_chosen : {ranges : List MediaType} → Chooses ranges (record { most
 nothing_chosen = (
   record { ranges = []; bad = [] },
   adds_none (record { ranges = []; bad = [] }),
-  record { highest = record { above = nothing_yet.above; first = λ some. absurd (omega (arith, some)) }; count = refl; bad = refl },
+  record { highest = record { above = All-nil _; first = λ some. absurd (omega (arith, some)) }; count = refl; bad = refl },
 )
 
 -- and of one more what the piece makes of it

@@ -1,5 +1,5 @@
 -- Lines are cut in one way, and each line is.
-use Rattle.mime_http.proofs.Common.{AreBetweenCommas, At, BeginsPiece, IsInString, IsPiece, List, OneCut, Outside, [], after, after_outside, ap, append-nil, append_assoc, comma, cond_both, cut, cut_from, ends, eqb-true, false, flat_map, line_end, no_line, opens_string, piece_byte, piece_end, piece_string, refl, string_byte, string_end, string_pair, subst, sym, true, true≢false, ℕ, ⊤, ◌++◌, ◌==◌, ◌∙◌, ◌∷◌, ◌≡◌}
+use Rattle.mime_http.proofs.Common.{AreBetweenCommas, At, BeginsPiece, IsInString, IsPiece, List, OneCut, Outside, [], after, after_outside, ap, append-nil, append_assoc, arith, nat_tests, comma, cond_both, cut, cut_from, ends, eqb-true, false, flat_map, line_end, no_line, opens_string, piece_byte, piece_end, piece_string, refl, string_byte, string_end, string_pair, subst, sym, true, ℕ, ⊤, ◌++◌, ◌==◌, ◌∙◌, ◌∷◌, ◌≡◌}
 use Rattle.mime_http.specs.Walk.{Equals, Quoted, Paired}
 
 -- ---- what is a piece from a place on
@@ -15,30 +15,12 @@ abbrev IsWhole : At → List ℕ → Type 0
 IsWhole place [] = IsOutside place
 IsWhole place (b ∷ bytes) = (ends place b ≡ false) × IsWhole (after place b) bytes
 
--- only a comma outside strings ends a piece,
-comma_at : (place : At) (b : ℕ) → ends place b ≡ true → (b ≡ 44) × IsOutside place
-comma_at Outside b is = (eqb-true b 44 is, tt)
-comma_at Equals b is = (eqb-true b 44 is, tt)
-comma_at place b is = absurd (true≢false (sym is))
-
--- and there it does
-comma_ends : (place : At) → IsOutside place → ends place 44 ≡ true
-comma_ends Outside is = refl
-comma_ends Equals is = refl
-comma_ends place is = absurd is
-
 -- another byte than an equals sign opens no string
 pub opens_none : (b : ℕ) (bytes : List ℕ) → (b == 61) ≡ false → opens_string (b ∷ bytes) ≡ false
 opens_none b [] other = refl
 opens_none b (c ∷ bytes) other = rw other refl
 
 -- ---- a piece passes
-
--- right after an equals sign that opens no string, all is as elsewhere outside strings
-equals_alike : (b : ℕ) (bytes : List ℕ) → (b == 61) ≡ true → opens_string (b ∷ bytes) ≡ false → IsWhole Outside bytes → IsWhole Equals bytes
-equals_alike b [] is opens whole = tt
-equals_alike b (c ∷ bytes) is opens whole =
-    let other : (c == 34) ≡ false = rw is at opens in (whole.0, rw other whole.1)
 
 -- a string passes to the piece after it,
 string_passes : {content : List ℕ} (piece : List ℕ) → IsInString content → IsWhole Outside piece → IsWhole Quoted (content ++ (34 ∷ piece))
@@ -49,63 +31,53 @@ string_passes piece (string_pair b content inside) whole = (refl, (refl, string_
 -- and a piece to its end
 piece_passes : {piece : List ℕ} → IsPiece piece → IsWhole Outside piece
 piece_passes piece_end = tt
-piece_passes (piece_byte b piece no_comma opens rest) = (
-  no_comma,
-  cond_both (b == 61) _ _ (λ place. IsWhole place piece) (λ is. equals_alike b piece is opens (piece_passes rest))
-      (λ other. piece_passes rest),
-)
+piece_passes (piece_byte b [] no_comma opens rest) = (no_comma, grind (arith, nat_tests))
+piece_passes (piece_byte b (c ∷ piece) no_comma opens rest) = (no_comma, grind (arith, nat_tests, opens, piece_passes rest))
 piece_passes (piece_string content piece inside rest) = (refl, (refl, string_passes piece inside (piece_passes rest)))
 
 -- ---- what passes is a piece
 
--- what leads from outside strings to a place
-abbrev lead : At → List ℕ
-lead Outside = []
-lead Equals = 61 ∷ []
-lead Quoted = 61 ∷ 34 ∷ []
-lead Paired = 61 ∷ 34 ∷ 92 ∷ []
-
--- a piece that opens a string has its content, a quote and a piece after it
-record Opened (bytes : List ℕ) : Type 0 where
-  content : List ℕ
-  piece : List ℕ
-  inside : IsInString content
-  rest : IsPiece piece
-  is : content ++ (34 ∷ piece) ≡ bytes
+-- what follows an opening quote: content, a quote, and a piece
+data Opened : List ℕ → Type 0 where
+  opened : (content piece : List ℕ) → IsInString content → IsPiece piece → Opened (content ++ (34 ∷ piece))
 
 -- the content may have more before it
-opened : {bytes : List ℕ} → IsPiece (61 ∷ 34 ∷ bytes) → Opened bytes
-opened (piece_byte _ _ _ opens rest) = absurd (true≢false opens)
-opened (piece_string content piece inside rest) = record { content = content; piece = piece; inside = inside; rest = rest; is = refl }
+more_before : (front : List ℕ) → ((content : List ℕ) → IsInString content → IsInString (front ++ content)) → {bytes : List ℕ} → Opened bytes
+    → Opened (front ++ bytes)
+more_before front onto (opened content piece inside rest) =
+    subst Opened (append_assoc front content (34 ∷ piece)) (opened (front ++ content) piece (onto content inside) rest)
+
+-- what bytes are from a place on, with those that lead there from outside strings or from an opening quote
+abbrev Continues : At → List ℕ → Type 0
+Continues Outside bytes = IsPiece bytes
+Continues Equals bytes = IsPiece (61 ∷ bytes)
+Continues Quoted bytes = Opened bytes
+Continues Paired bytes = Opened (92 ∷ bytes)
 
 -- a byte outside strings may stand before a piece,
-byte_before : (b : ℕ) (bytes : List ℕ) → (b == 44) ≡ false → IsPiece (lead (after_outside b) ++ bytes) → IsPiece (b ∷ bytes)
-byte_before b bytes on = cond_both (b == 61) _ _ (λ place. IsPiece (lead place ++ bytes) → IsPiece (b ∷ bytes))
+byte_before : (b : ℕ) (bytes : List ℕ) → (b == 44) ≡ false → Continues (after_outside b) bytes → IsPiece (b ∷ bytes)
+byte_before b bytes on = cond_both (b == 61) _ _ (λ place. Continues place bytes → IsPiece (b ∷ bytes))
     (λ equals. subst (λ c. IsPiece (c ∷ bytes)) (sym (eqb-true b 61 equals)))
     (λ other. piece_byte b bytes on (opens_none b bytes other))
 
 -- and so may the byte at each place
-further : (place : At) (b : ℕ) (bytes : List ℕ) → ends place b ≡ false → IsPiece (lead (after place b) ++ bytes)
-    → IsPiece (lead place ++ (b ∷ bytes))
+further : (place : At) (b : ℕ) (bytes : List ℕ) → ends place b ≡ false → Continues (after place b) bytes → Continues place (b ∷ bytes)
 further Outside b bytes on = byte_before b bytes on
-further Equals b bytes on = cond_both (b == 34) _ _ (λ place. IsPiece (lead place ++ bytes) → IsPiece (61 ∷ b ∷ bytes))
-    (λ quote. subst (λ c. IsPiece (61 ∷ c ∷ bytes)) (sym (eqb-true b 34 quote)))
+further Equals b bytes on = cond_both (b == 34) _ _ (λ place. Continues place bytes → IsPiece (61 ∷ b ∷ bytes))
+    (λ quote inside. subst (λ c. IsPiece (61 ∷ c ∷ bytes)) (sym (eqb-true b 34 quote)) (string inside))
     (λ other is. piece_byte 61 (b ∷ bytes) refl other (byte_before b bytes on is))
-further Quoted b bytes on = cond_both (b == 92) _ _ (λ place. IsPiece (lead place ++ bytes) → IsPiece (61 ∷ 34 ∷ b ∷ bytes))
-    (λ backslash. subst (λ c. IsPiece (61 ∷ 34 ∷ c ∷ bytes)) (sym (eqb-true b 92 backslash)))
-    (λ single. cond_both (b == 34) _ _ (λ place. IsPiece (lead place ++ bytes) → IsPiece (61 ∷ 34 ∷ b ∷ bytes))
-    (λ quote is. subst (λ c. IsPiece (61 ∷ 34 ∷ c ∷ bytes)) (sym (eqb-true b 34 quote)) (piece_string [] bytes string_end is))
-    (λ other is.
-    let all = opened is in
-    subst (λ rest. IsPiece (61 ∷ 34 ∷ b ∷ rest)) all.is
-    (piece_string (b ∷ all.content) all.piece (string_byte b all.content other single all.inside) all.rest)))
-further Paired b bytes on = λ is.
-    let all = opened is in
-    subst (λ rest. IsPiece (61 ∷ 34 ∷ 92 ∷ b ∷ rest)) all.is
-    (piece_string (92 ∷ b ∷ all.content) all.piece (string_pair b all.content all.inside) all.rest)
+  where
+    string : {bytes : List ℕ} → Opened bytes → IsPiece (61 ∷ 34 ∷ bytes)
+    string (opened content piece inside rest) = piece_string content piece inside rest
+further Quoted b bytes on = cond_both (b == 92) _ _ (λ place. Continues place bytes → Opened (b ∷ bytes))
+    (λ backslash. subst (λ c. Opened (c ∷ bytes)) (sym (eqb-true b 92 backslash)))
+    (λ single. cond_both (b == 34) _ _ (λ place. Continues place bytes → Opened (b ∷ bytes))
+    (λ quote is. subst (λ c. Opened (c ∷ bytes)) (sym (eqb-true b 34 quote)) (opened [] bytes string_end is))
+    (λ other. more_before (b ∷ []) (λ content. string_byte b content other single)))
+further Paired b bytes on = more_before (92 ∷ b ∷ []) (string_pair b)
 
 -- so what passes is a piece
-is_piece : (place : At) (bytes : List ℕ) → IsWhole place bytes → IsPiece (lead place ++ bytes)
+is_piece : (place : At) (bytes : List ℕ) → IsWhole place bytes → Continues place bytes
 is_piece Outside [] whole = piece_end
 is_piece Equals [] whole = piece_byte 61 [] refl refl piece_end
 is_piece place [] whole = absurd whole
@@ -113,24 +85,19 @@ is_piece place (b ∷ bytes) whole = further place b bytes whole.0 (is_piece (af
 
 -- ---- the only cut
 
--- what begins a piece at a line's end is the last one,
-last_piece : (bytes more : List ℕ) (place : At) (piece : List ℕ) → IsWhole place (bytes ++ more)
-    → cut_from place piece bytes ≡ (piece ++ bytes) ∷ []
-last_piece [] more place piece whole = ap (λ p. p ∷ []) (sym (append-nil piece))
-last_piece (b ∷ bytes) more place piece whole =
-    rw whole.0 (last_piece bytes more (after place b) (piece ++ (b ∷ [])) whole.1 ∙ ap (λ p. p ∷ []) (append_assoc piece (b ∷ []) bytes))
-
--- and a piece before a comma comes before the others
-next_piece : (bytes line : List ℕ) (place : At) (piece : List ℕ) → IsWhole place bytes
-    → cut_from place piece (bytes ++ (44 ∷ line)) ≡ (piece ++ bytes) ∷ cut line
-next_piece [] line place piece whole = rw (comma_ends place whole) (ap (λ p. p ∷ cut line) (sym (append-nil piece)))
-next_piece (b ∷ bytes) line place piece whole =
-    rw whole.0 (next_piece bytes line (after place b) (piece ++ (b ∷ [])) whole.1
-    ∙ ap (λ p. p ∷ cut line) (append_assoc piece (b ∷ []) bytes))
+-- what passes with something after it is the first piece of a cut, if something else would end one there
+first_piece : (bytes more rest : List ℕ) (place : At) (piece : List ℕ) {pieces : List (List ℕ)} → IsWhole place (bytes ++ more)
+    → ((place : At) (piece : List ℕ) → IsWhole place more → cut_from place piece rest ≡ piece ∷ pieces)
+    → cut_from place piece (bytes ++ rest) ≡ (piece ++ bytes) ∷ pieces
+first_piece [] more rest place piece {pieces} whole ends = ends place piece whole ∙ ap (λ p. p ∷ pieces) (sym (append-nil piece))
+first_piece (b ∷ bytes) more rest place piece {pieces} whole ends =
+    rw whole.0 (first_piece bytes more rest (after place b) (piece ++ (b ∷ [])) whole.1 ends
+    ∙ ap (λ p. p ∷ pieces) (append_assoc piece (b ∷ []) bytes))
 
 -- a text that begins a piece is cut into itself
 pub cut_of_piece : {text : List ℕ} → BeginsPiece text → cut text ≡ text ∷ []
-cut_of_piece {text} begins = last_piece text begins.0 Outside [] (piece_passes begins.1)
+cut_of_piece {text} begins =
+    ap cut (sym (append-nil text)) ∙ first_piece text begins.0 [] Outside [] (piece_passes begins.1) (λ place piece whole. refl)
 
 -- the pieces between commas are those of the cut
 pub only_cut : {lines pieces : List (List ℕ)} → AreBetweenCommas IsPiece BeginsPiece lines pieces → pieces ≡ flat_map cut lines
@@ -138,7 +105,8 @@ only_cut no_line = refl
 only_cut (line_end text lines texts begins rest) =
     ap (λ ps. text ∷ ps) (only_cut rest) ∙ ap (λ c. c ++ flat_map cut lines) (sym (cut_of_piece begins))
 only_cut (comma text line lines texts is rest) =
-    ap (λ ps. text ∷ ps) (only_cut rest) ∙ ap (λ c. c ++ flat_map cut lines) (sym (next_piece text line Outside [] (piece_passes is)))
+    ap (λ ps. text ∷ ps) (only_cut rest) ∙ ap (λ c. c ++ flat_map cut lines) (sym (first_piece text [] (44 ∷ line) Outside []
+    (subst (IsWhole Outside) (sym (append-nil text)) (piece_passes is)) (λ place piece whole. grind (arith, nat_tests, whole))))
 
 -- ---- each line has a cut
 
@@ -159,14 +127,13 @@ is_cut [] place piece so_far {lines = lines} {pieces = pieces} rest =
     (line_end piece lines pieces (end.0, so_far end.0 end.1) rest)
 is_cut (b ∷ bytes) place piece so_far {lines = lines} {pieces = pieces} rest =
     cond_both (ends place b) _ _ (λ found. AreBetweenCommas IsPiece BeginsPiece ((piece ++ (b ∷ bytes)) ∷ lines) (found ++ pieces))
-    (λ end.
-    let there = comma_at place b end in
+    (λ (end : ends place b ≡ true).
+    let there : (b ≡ 44) × IsOutside place = grind (arith, nat_tests, end) in
     subst (λ c. AreBetweenCommas IsPiece BeginsPiece ((piece ++ (c ∷ bytes)) ∷ lines) (piece ∷ (cut bytes ++ pieces))) (sym there.0)
     (comma piece bytes lines (cut bytes ++ pieces) (subst IsPiece (append-nil piece) (so_far [] there.1))
     (is_cut bytes Outside [] (is_piece Outside) rest)))
     (λ on.
-    subst (λ text. AreBetweenCommas IsPiece BeginsPiece (text ∷ lines) (cut_from (after place b) (piece ++ (b ∷ [])) bytes ++ pieces))
-    (append_assoc piece (b ∷ []) bytes)
+    rw (sym (append_assoc piece (b ∷ []) bytes))
     (is_cut bytes (after place b) (piece ++ (b ∷ []))
     (λ more whole. subst IsPiece (sym (append_assoc piece (b ∷ []) more)) (so_far (b ∷ more) (on, whole))) rest))
 

@@ -1,5 +1,5 @@
 -- Counting the parameters that a range demands, and finding its weight, item by item.
-use Rattle.mime_http.proofs.Common.{Item, List, MediaType, None, Option, Some, [], ap, arith, bytes_eq, cases_Bool, codes, demanded, false, first_value, has, if◌then◌else◌, items_of, length, list_all, option_map, option_or, refl, sym, thousandths_of, true, unwrap_or, ℕ, ⊎_elim, ◌+◌, ◌∙◌, ◌∷◌, ◌≡◌}
+use Rattle.mime_http.proofs.Common.{Item, List, MediaType, None, Option, Some, [], arith, bytes_eq, codes, demanded, first_value, has, if◌then◌else◌, items_of, length, list_all, option_map, option_or, thousandths_of, unwrap_or, ℕ, ◌+◌, ◌∷◌, ◌≡◌}
 
 -- a count of parameters, and a weight
 abbrev pub Found : Type 0
@@ -21,50 +21,16 @@ found_from offer count weight (item ∷ items) =
     if bytes_eq item.name (codes "q") then found_from offer count (option_or weight (Some item.value)) items else
     if has offer (item.name, item.value) then found_from offer (count + 1) weight items else None
 
-module _ (offer : MediaType) (count : ℕ) (weight : Option (List ℕ)) {items next : List Item} {item : Item} (is : items ≡ item ∷ next) where
-  -- of weights the first counts,
-  pub weight_passed : bytes_eq item.name (codes "q") ≡ true
-      → found_from offer count weight items ≡ found_from offer count (option_or weight (Some item.value)) next
-  weight_passed weighs = rw is (rw weighs refl)
-
-  -- another parameter is counted if the offer has it,
-  pub one_counted : bytes_eq item.name (codes "q") ≡ false → has offer (item.name, item.value) ≡ true
-      → found_from offer count weight items ≡ found_from offer (count + 1) weight next
-  one_counted other there = rw is (rw (other, there) refl)
-
-  -- and else nothing is found
-  pub one_missing : bytes_eq item.name (codes "q") ≡ false → has offer (item.name, item.value) ≡ false
-      → found_from offer count weight items ≡ None
-  one_missing other missing = rw is (rw (other, missing) refl)
-
--- of two weights and more the first counts
-first_weight : (weight : Option (List ℕ)) (value : List ℕ) (more : Option (List ℕ))
-    → (option_or weight None ≡ weight) × (option_or (option_or weight (Some value)) more ≡ option_or weight (Some value))
-first_weight None value more = (refl, refl)
-first_weight (Some w) value more = (refl, refl)
-
--- so the items of a range's pairs decide what is found
+-- the items of a range's pairs decide what is found
 found_after : (offer : MediaType) (count : ℕ) (weight : Option (List ℕ)) (pairs : List (List ℕ × List ℕ))
     → found_from offer count weight (items_of pairs)
     ≡ (if list_all (has offer) (demanded pairs)
     then found_of (count + length (demanded pairs)) (option_or weight (first_value (codes "q") pairs)) else None)
-found_after offer count weight [] =
-    let same : count ≡ count + 0 = omega arith in
-    λ i. found_of (same i) (sym (first_weight weight [] None).0 i)
-found_after offer count weight (pair ∷ pairs) = ⊎_elim
-    (λ weighs. rw weighs (found_after offer count (option_or weight (Some pair.1)) pairs
-    ∙ ap (λ w. if list_all (has offer) (demanded pairs) then found_of (count + length (demanded pairs)) w else None)
-    (first_weight weight pair.1 (first_value (codes "q") pairs)).1))
-    (λ other. rw other (⊎_elim
-    (λ there. rw there (found_after offer (count + 1) weight pairs
-    ∙ ap (λ n. if list_all (has offer) (demanded pairs) then found_of n (option_or weight (first_value (codes "q") pairs)) else None)
-    (omega arith)))
-    (λ missing. rw missing refl)
-    (cases_Bool (has offer pair))))
-    (cases_Bool (bytes_eq pair.0 (codes "q")))
+found_after offer count weight [] = grind (arith)
+found_after offer count weight (pair ∷ pairs) =
+    let weighs = found_after offer count (option_or weight (Some pair.1)) pairs in
+    grind (arith, weighs, found_after offer (count + 1) weight pairs)
 
 -- from the first on
 pub found_of_all : (offer : MediaType) (pairs : List (List ℕ × List ℕ)) → found_from offer 0 None (items_of pairs) ≡ found_in offer pairs
-found_of_all offer pairs =
-    found_after offer 0 None pairs
-    ∙ ap (λ n. if list_all (has offer) (demanded pairs) then found_of n (first_value (codes "q") pairs) else None) (omega arith)
+found_of_all offer pairs = grind (arith, found_after offer 0 None pairs)

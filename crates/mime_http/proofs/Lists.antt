@@ -1,5 +1,5 @@
 -- Lists as HTTP writes them are read as their elements, and what is read with nothing bad are such lists.
-use Rattle.mime_http.proofs.Common.{AreBetweenCommas, AreElements, AreHttpParameters, AreSame, AreSorted, AreSpaces, BadIsAlone, BeginsPiece, HttpListsAreRead, HttpReads, IsAccepted, IsContent, IsHttpMediaType, IsHttpParameter, IsInString, IsPiece, IsToken, List, MediaType, OneHeader, ReadAreHttpLists, [], a_bad, a_range, and_parts, ap, append-nil, append_assoc, arith, comma, element, false, is_space, is_token_byte, line_end, nat_tests, no_byte, no_line, no_more, no_text, nothing, one_reading, piece_byte, piece_end, piece_string, quoted_pair, refl, semicolon, semicolon_and, string_byte, string_end, string_pair, subst, sym, text_byte, tight, trim_end, trim_start, true, with_string, with_token, without_kept, ℕ, ⊤, ◌++◌, ◌==◌, ◌∙◌, ◌∷◌, ◌≡◌, AreTokenBytes-from_token, Bool, IsFalse, list_all}
+use Rattle.mime_http.proofs.Common.{AreBetweenCommas, AreElements, AreHttpParameters, AreSame, AreSorted, AreSpaces, BadIsAlone, BeginsPiece, HttpListsAreRead, HttpReads, IsAccepted, IsContent, IsHttpMediaType, IsHttpParameter, IsInString, IsPiece, IsToken, List, MediaType, OneHeader, ReadAreHttpLists, [], a_bad, a_range, and_parts, ap, append-nil, append_assoc, arith, comma, element, false, in_type, is_space, is_token_byte, line_end, nat_tests, no_byte, no_line, no_more, no_text, nothing, one_reading, piece_byte, piece_end, piece_string, quoted_pair, refl, rejected-from_walk, semicolon, semicolon_and, string_byte, string_end, string_pair, subst, sym, text_byte, tight, trim_end, trim_start, true, with_string, with_token, without_kept, ℕ, ⊤, ◌++◌, ◌==◌, ◌∙◌, ◌∷◌, ◌≡◌, AreTokenBytes-from_token, Bool, IsFalse, list_all}
 use Rattle.mime_http.specs.HttpList.{blank}
 use Rattle.mime_http.specs.ListLaws.{no_text as no_element}
 use Rattle.mime_http.proofs.Places.{token_is_plain, text_is_no_mark, at_start, nothing_out}
@@ -20,9 +20,7 @@ before_class : (class : ℕ → Bool) → ((b : ℕ) → class b ≡ true → Is
     → list_all class bytes ≡ true → IsPiece piece → IsPiece (bytes ++ piece)
 before_class class other [] all is = is
 before_class class other (b ∷ bytes) all is =
-    let parts = and_parts (class b) _ all in
-    let marks = other b parts.0 in
-    before b marks.0 marks.1 (before_class class other bytes parts.1 is)
+    let parts = and_parts (class b) _ all in before b (other b parts.0).0 (other b parts.0).1 (before_class class other bytes parts.1 is)
 
 -- a token,
 before_token : (bytes : List ℕ) {piece : List ℕ} → IsToken bytes → IsPiece piece → IsPiece (bytes ++ piece)
@@ -45,7 +43,7 @@ before_value (b ∷ value) token is =
 content_in_string : {content : List ℕ} → IsContent content → IsInString content
 content_in_string no_byte = string_end
 content_in_string (text_byte b content is rest) =
-    let marks = text_is_no_mark b is in string_byte b content marks.1 marks.0 (content_in_string rest)
+    string_byte b content (text_is_no_mark b is).1 (text_is_no_mark b is).0 (content_in_string rest)
 content_in_string (quoted_pair b content is rest) = string_pair b content (content_in_string rest)
 
 -- so a parameter may stand before a piece,
@@ -80,21 +78,18 @@ http_is_piece reads =
 
 -- ---- forth
 
--- an element has no comma outside strings, so it is a piece,
-first_element : {text : List ℕ} {texts : List (List ℕ)} {media : List MediaType} → AreElements (text ∷ texts) media
-    → IsPiece text × ((others : List MediaType) × AreElements texts others)
-first_element (nothing text _ _ white others) = (spaces_are_piece text white, (_, others))
-first_element (element _ _ _ _ utf8 reads others) = (http_is_piece reads, (_, others))
-
--- and so are all
+-- an element has no comma outside strings, so it is a piece
 elements_are_pieces : {lines texts : List (List ℕ)} {media : List MediaType} → AreBetweenCommas (λ text. ⊤) (λ text. ⊤) lines texts
     → AreElements texts media → AreBetweenCommas IsPiece BeginsPiece lines texts
 elements_are_pieces no_line are = no_line
-elements_are_pieces (line_end text lines texts any rest) are =
-    let first = first_element are in
-    line_end text lines texts ([], subst IsPiece (sym (append-nil text)) first.0) (elements_are_pieces rest first.1.1)
-elements_are_pieces (comma text line lines texts any rest) are =
-    let first = first_element are in comma text line lines texts first.0 (elements_are_pieces rest first.1.1)
+elements_are_pieces (line_end text lines texts any rest) (nothing _ _ _ white others) =
+    line_end text lines texts ([], before_spaces text white piece_end) (elements_are_pieces rest others)
+elements_are_pieces (line_end text lines texts any rest) (element _ _ _ _ utf8 reads others) =
+    line_end text lines texts ([], subst IsPiece (sym (append-nil text)) (http_is_piece reads)) (elements_are_pieces rest others)
+elements_are_pieces (comma text line lines texts any rest) (nothing _ _ _ white others) =
+    comma text line lines texts (spaces_are_piece text white) (elements_are_pieces rest others)
+elements_are_pieces (comma text line lines texts any rest) (element _ _ _ _ utf8 reads others) =
+    comma text line lines texts (http_is_piece reads) (elements_are_pieces rest others)
 
 -- elements are sorted as ranges, which may print another text
 sorted_elements : {texts : List (List ℕ)} {media : List MediaType} → AreElements texts media
@@ -145,17 +140,10 @@ read_are_http_lists lines header is none = record {
 
 -- ---- pieces are sorted in one way
 
--- no bytes are no media type,
-nothing_is_no_value : ¬ (IsAccepted [])
-nothing_is_no_value is = go is.1.tree.top _ is.1.well_formed.0 is.1.spelled
-  where
-    go : (top rest : List ℕ) → IsToken top → top ++ rest ≡ [] → ⊥
-    go [] rest token e = absurd token
-    go (b ∷ top) rest token e = absurd (cc)
-
--- and so is white space, as HTTP writes it
+-- white space is no media type, as HTTP writes it, since nothing is left of it
 http_is_not_blank : {piece : List ℕ} → AreSpaces piece → ¬ (IsHttpMediaType piece)
-http_is_not_blank {piece} white is = nothing_is_no_value (subst IsAccepted (nothing_out at_start piece white) (accepted_from_http piece is))
+http_is_not_blank {piece} white is =
+    rejected-from_walk [] (in_type []) refl refl (subst IsAccepted (nothing_out at_start piece white) (accepted_from_http piece is))
 
 -- texts are sorted in one way
 one_sorting : {texts : List (List ℕ)} {ranges others : List MediaType} {bad poor : List (List ℕ)} → AreSorted texts ranges bad

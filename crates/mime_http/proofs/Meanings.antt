@@ -1,5 +1,5 @@
 -- A media type covers itself, and what covers an offer is told by what both mean.
-use Rattle.mime_http.proofs.Common.{Bool, CoversItself, List, MeanTheSame, MeaningCounts, MediaType, None, Option, Rank, Some, [], and_from, ap, bytes_eq, bytes_eq-Decides, closeness, codes, demanded, false, has, if◌then◌else◌, is_some, length, list_all, list_any, map, meaning_of, named_parts, not, option_map, refl, sym, true, type_of, unescaped, weight_of, ℕ, ◌&&◌, ◌++◌, ◌||◌, ◌∙◌, ◌∷◌, ◌≡◌, length-map, list_all-map, list_all-from_AllPass, get_or}
+use Rattle.mime_http.proofs.Common.{arith, Bool, CoversItself, List, MeaningCounts, MediaType, [], and_from, ap, bytes_eq, bytes_eq-Decides, codes, demanded, has, length, list_all, list_any, map, meaning_of, not, refl, sym, true, unescaped, ℕ, ◌&&◌, ◌∙◌, ◌∷◌, ◌≡◌, length-map, list_all-map, list_all-from_AllPass, get_or}
 use Rattle.std.proofs.lemmas.List.Elements.{All-filter}
 use Rattle.std.proofs.lemmas.List.Folds.{list_any_at}
 
@@ -22,17 +22,9 @@ has_own offer =
     list_any_at (λ own. bytes_eq own.0 pair.0 && bytes_eq (unescaped own.1) (unescaped pair.1)) offer.pairs k d within
     (and_from _ _ (same_bytes pair.0) (same_bytes (unescaped pair.1)))))
 
--- whether it is a range of all types or not, it names some of its own parts
-names_some : (any all : Bool) (rank : ℕ → Rank) → is_some (option_map rank (if any then Some 0 else if all then Some 1 else Some 2)) ≡ true
-names_some true all rank = refl
-names_some false true rank = refl
-names_some false false rank = refl
-
 -- so a media type covers itself, but for a weight
 pub covers_itself : CoversItself
-covers_itself media =
-    rw (has_own media, same_bytes media.essence) (names_some _ (bytes_eq media.essence (type_of media ++ codes "/*"))
-    (λ named. (named, length (demanded media.pairs), weight_of media, 0)))
+covers_itself media = rw (has_own media, same_bytes media.essence) (grind (arith))
 
 -- ---- what covers an offer is told by what both mean
 
@@ -45,18 +37,12 @@ has_by_meaning : (pairs : Pairs) (pair : List ℕ × List ℕ)
     → list_any (λ own. bytes_eq own.0 pair.0 && bytes_eq (meaning_of own).1 (meaning_of pair).1) pairs
     ≡ has_meant (map meaning_of pairs) (meaning_of pair)
 has_by_meaning [] pair = refl
-has_by_meaning (own ∷ pairs) pair =
-    ap (λ rest. (bytes_eq own.0 pair.0 && bytes_eq (meaning_of own).1 (meaning_of pair).1) || rest) (has_by_meaning pairs pair)
+has_by_meaning (own ∷ pairs) pair = grind (arith, has_by_meaning pairs pair)
 
 -- as many are demanded,
 demanded_meant : (pairs : Pairs) → demanded (map meaning_of pairs) ≡ map meaning_of (demanded pairs)
 demanded_meant [] = refl
-demanded_meant (pair ∷ pairs) =
-    elim (not (bytes_eq pair.0 (codes "q"))) as (λ b. (if b then meaning_of pair ∷ demanded (map meaning_of pairs)
-    else demanded (map meaning_of pairs)) ≡ map meaning_of (if b then pair ∷ demanded pairs else demanded pairs)) [
-      | true ↦ ap (λ rest. meaning_of pair ∷ rest) (demanded_meant pairs)
-      | false ↦ demanded_meant pairs
-    ]
+demanded_meant (pair ∷ pairs) = grind (arith, demanded_meant pairs)
 
 -- and all that are demanded are there if it has what they mean
 all_by_meaning : (offer : MediaType) (pairs : Pairs)
@@ -66,27 +52,16 @@ all_by_meaning offer pairs =
     ∙ (sym (list_all-map (has_meant (map meaning_of offer.pairs)) meaning_of (demanded pairs))
     ∙ ap (list_all (has_meant (map meaning_of offer.pairs))) (sym (demanded_meant pairs)))
 
--- how closely a range covers an offer of this essence and type, by what the parameters of both mean
-abbrev closeness_of : List ℕ → List ℕ → Pairs → List ℕ → Pairs → ℕ → ℕ → Option Rank
-closeness_of essence top pairs range demanding weight at =
-    if list_all (has_meant pairs) (demanded demanding)
-    then option_map (λ named. (named, length (demanded demanding), weight, at)) (if bytes_eq range (codes "*/*") then Some 0 else
-    if bytes_eq range (top ++ codes "/*") then Some 1 else
-    if bytes_eq range essence then Some 2 else None)
-    else None
+-- and as many are demanded
+count_by_meaning : (pairs : Pairs) → length (demanded pairs) ≡ length (demanded (map meaning_of pairs))
+count_by_meaning pairs = sym (ap length (demanded_meant pairs) ∙ length-map (demanded pairs) meaning_of)
 
--- so it is by what they mean alone
-closeness_by_meaning : (offer range : MediaType) (at : ℕ) → closeness offer (at, range) ≡ closeness_of offer.essence (type_of offer)
-    (map meaning_of offer.pairs) range.essence (map meaning_of range.pairs) (weight_of range) at
-closeness_by_meaning offer range at =
-    let count : length (demanded range.pairs) ≡ length (demanded (map meaning_of range.pairs)) =
-    sym (ap length (demanded_meant range.pairs) ∙ length-map (demanded range.pairs) meaning_of) in
-    λ i. if all_by_meaning offer range.pairs i
-    then option_map (λ named. (named, count i, weight_of range, at)) (named_parts range offer) else None
-
--- and a header says the same of media types that mean the same
+-- so a header says the same of media types that mean the same
 pub meaning_counts : MeaningCounts
 meaning_counts range other offer offered at same alike weighs =
-    closeness_by_meaning offer range at
-    ∙ (λ i. closeness_of (alike.essence i) (alike.top i) (alike.pairs i) (same.essence i) (same.pairs i) (weighs i) at)
-    ∙ sym (closeness_by_meaning offered other at)
+    let all : list_all (has offer) (demanded range.pairs) ≡ list_all (has offered) (demanded other.pairs) =
+    all_by_meaning offer range.pairs ∙ ((λ i. list_all (has_meant (alike.pairs i)) (demanded (same.pairs i)))
+    ∙ sym (all_by_meaning offered other.pairs)) in
+    let count : length (demanded range.pairs) ≡ length (demanded other.pairs) =
+    count_by_meaning range.pairs ∙ (ap (λ pairs. length (demanded pairs)) same.pairs ∙ sym (count_by_meaning other.pairs)) in
+    grind (arith, all, count, weighs, same.essence, alike.essence, alike.top)

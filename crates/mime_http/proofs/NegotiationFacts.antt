@@ -1,14 +1,12 @@
 -- Worked facts of the pages `HttpList` and `Weight`: what is true of a text, and what is false.
-use Rattle.mime_http.proofs.Common.{AreElements, AreHttpLists, AreSorted, Header, IsHeader, IsHttpMediaType, IsPiece, IsQvalue, IsToken, IsUtf8, IsUtf8-nil, List, MediaType, Reads, [], a_bad, a_range, ap, append-nil, arith, codes, comma, cut, element, flat_map, get_or, is_token_byte, length, line_end, no_line, no_list, no_text, refl, stopped-from_walk, subst, sym, thousandths_of, tight, trim_end, trim_start, true≢false, two_digits, value_of, ℕ, ◌++◌, ◌∙◌, ◌∷◌, ◌≡◌}
-use Rattle.mime_http.specs.ListLaws.{no_text as no_element, nothing as nothing_there}
+use Rattle.mime_http.proofs.Common.{AreHttpLists, AreSorted, Header, IsHeader, IsHttpMediaType, IsPiece, IsQvalue, IsToken, IsUtf8, IsUtf8-nil, List, MediaType, None, Reads, [], a_range, ap, append-nil, arith, codes, cut, get_or, is_token_byte, length, map, no_list, no_text, refl, stopped-from_walk, subst, sym, thousandths_of, tight, trim_end, trim_start, true≢false, two_digits, value_of, ℕ, ◌++◌, ◌∷◌, ◌≡◌}
+use Rattle.mime_http.specs.HttpList.{blank}
+use Rattle.mime_http.proofs.HttpText.{AreAscii, put_ascii}
 use Rattle.mime_http.proofs.Numbers.{weight_is_number}
 use Rattle.mime_http.proofs.Cuts.{cut_of_piece, are_cut}
-use Rattle.mime_http.proofs.HttpLaws.{accepted_from_http}
+use Rattle.mime_http.proofs.HttpLaws.{accepted_from_http, reads_tight}
 use Rattle.mime_http.proofs.HttpBack.{read_is_http}
-use Rattle.mime_http.proofs.HttpLaws.{reads_tight}
-use Rattle.mime_http.proofs.Lists.{one_header, http_lists_are_read, bad_is_alone}
-use Rattle.mime_http.proofs.RangesFacts.{of}
-use Rattle.mime_http.proofs.HttpText.{AreAscii, put_ascii}
+use Rattle.mime_http.proofs.Lists.{one_header, http_lists_are_read, read_are_http_lists, bad_is_alone}
 
 -- ---- weights (RFC 9110, 12.4.2)
 
@@ -58,93 +56,63 @@ trimmed = refl
 
 -- a media type of a type of one letter, and a subtype
 abbrev short : List ℕ → MediaType
-short essence = record (of essence 1 []) { kept = essence }
+short essence = record { essence = essence; slash = 1; plus = None; pairs = []; kept = essence }
 
--- a text is read as this essence
-record IsShort (text essence : List ℕ) : Type 0 where
-  utf8 : IsUtf8 text
-  reads : Reads (tight text) (short essence)
+-- what is a type and a subtype, tightened, is a range before others,
+as_range : (text top sub : List ℕ) {texts bad : List (List ℕ)} {ranges : List MediaType} → AreAscii text → IsToken top → IsToken sub
+    → tight text ≡ top ++ (47 ∷ (sub ++ [])) → value_of (record { top = top; sub = sub; tail = no_list }) ≡ short (top ++ (47 ∷ sub))
+    → AreSorted texts ranges bad → AreSorted (text ∷ texts) (short (top ++ (47 ∷ sub)) ∷ ranges) bad
+as_range text top sub ascii is_top is_sub same is rest =
+    let utf8 = subst IsUtf8 (append-nil text) (put_ascii text [] ascii IsUtf8-nil) in
+    let reads : Reads (tight text) (short (top ++ (47 ∷ sub))) = record {
+      tree = record { top = top; sub = sub; tail = no_list };
+      well_formed = (is_top, is_sub, tt);
+      spelled = sym same;
+      valued = is;
+    } in
+    a_range text (short (top ++ (47 ∷ sub))) _ _ _ utf8 (read_is_http text _ reads) (reads_tight text reads) rest
 
--- so is what is a type and a subtype, tightened
-is_short : (text top sub : List ℕ) → AreAscii text → IsToken top → IsToken sub → tight text ≡ top ++ (47 ∷ sub)
-    → value_of (record { top = top; sub = sub; tail = no_list }) ≡ short (top ++ (47 ∷ sub)) → IsShort text (top ++ (47 ∷ sub))
-is_short text top sub ascii is_top is_sub same is = record {
-  utf8 = subst IsUtf8 (append-nil text) (put_ascii text [] ascii IsUtf8-nil);
-  reads = record {
-    tree = record { top = top; sub = sub; tail = no_list };
-    well_formed = (is_top, is_sub, tt);
-    spelled = ap (λ rest. top ++ (47 ∷ rest)) (append-nil sub) ∙ sym same;
-    valued = is;
-  };
-}
-
--- `a/b` with a space after it
-a_b : IsShort (codes "a/b ") (codes "a/b")
+-- as is `a/b` with a space after it,
+a_b : {texts bad : List (List ℕ)} {ranges : List MediaType} → AreSorted texts ranges bad
+    → AreSorted (codes "a/b " ∷ texts) (short (codes "a/b") ∷ ranges) bad
 unfolding is_token_byte
-a_b = is_short (codes "a/b ") (codes "a") (codes "b") (omega arith, (omega arith, (omega arith, (omega arith, tt)))) refl refl refl refl
+a_b = as_range (codes "a/b ") (codes "a") (codes "b") (omega arith, (omega arith, (omega arith, (omega arith, tt)))) refl refl refl refl
 
 -- and `c/d`
-c_d : IsShort (codes "c/d") (codes "c/d")
+c_d : {texts bad : List (List ℕ)} {ranges : List MediaType} → AreSorted texts ranges bad
+    → AreSorted (codes "c/d" ∷ texts) (short (codes "c/d") ∷ ranges) bad
 unfolding is_token_byte
-c_d = is_short (codes "c/d") (codes "c") (codes "d") (omega arith, (omega arith, (omega arith, tt))) refl refl refl refl
-
--- such a text is an element,
-as_element : {text essence : List ℕ} {texts : List (List ℕ)} {media : List MediaType} → IsShort text essence → AreElements texts media
-    → AreElements (text ∷ texts) (short essence ∷ media)
-as_element {text} {essence} is rest = element text (short essence) _ _ is.utf8 (read_is_http text (short essence) is.reads) rest
-
--- and a range before others
-as_range : {text essence : List ℕ} {texts bad : List (List ℕ)} {ranges : List MediaType} → IsShort text essence → AreSorted texts ranges bad
-    → AreSorted (text ∷ texts) (short essence ∷ ranges) bad
-as_range {text} {essence} is rest =
-    a_range text (short essence) _ _ _ is.utf8 (read_is_http text (short essence) is.reads) (reads_tight text is.reads) rest
+c_d = as_range (codes "c/d") (codes "c") (codes "d") (omega arith, (omega arith, (omega arith, tt))) refl refl refl refl
 
 -- empty elements are no elements
 two_elements : AreHttpLists (codes ",a/b , ,c/d" ∷ []) (short (codes "a/b") ∷ short (codes "c/d") ∷ [])
-two_elements = record {
-  texts = [] ∷ codes "a/b " ∷ codes " " ∷ codes "c/d" ∷ [];
-  between = comma [] _ [] _ tt (comma (codes "a/b ") _ [] _ tt (comma (codes " ") _ [] _ tt (line_end (codes "c/d") [] [] tt no_line)));
-  elements = nothing_there [] _ _ refl (as_element a_b (nothing_there (codes " ") _ _ refl (as_element c_d no_element)));
-}
+two_elements =
+    read_are_http_lists (codes ",a/b , ,c/d" ∷ []) (record { ranges = short (codes "a/b") ∷ short (codes "c/d") ∷ []; bad = [] })
+    (record { pieces = _; cut = are_cut _; sorted = blank [] _ _ _ refl (a_b (blank (codes " ") _ _ _ refl (c_d no_text))) }) refl
 
 -- a text with a space within is no media type
 not_media_type : ¬ (IsHttpMediaType (codes " a b"))
 unfolding is_token_byte
 not_media_type is = stopped-from_walk (tight (codes " a b")) refl (accepted_from_http _ is)
 
--- an entry that is none is bad as a whole,
-bad_entry : IsHeader (codes "c/d, a b" ∷ []) (record { ranges = short (codes "c/d") ∷ []; bad = codes "a b" ∷ [] })
-bad_entry = record {
-  pieces = flat_map cut (codes "c/d, a b" ∷ []);
-  cut = are_cut (codes "c/d, a b" ∷ []);
-  sorted = as_range c_d (a_bad (codes " a b") _ _ _ (λ blank. true≢false (sym blank)) (λ is. not_media_type is.1) no_text);
-}
-
--- and a line that has one is no list
-not_a_list : (media : List MediaType) → ¬ (AreHttpLists (codes "c/d, a b" ∷ []) media)
-not_a_list media is =
-    let read = http_lists_are_read (codes "c/d, a b" ∷ []) media is in
-    let same = ap (λ (header : Header). header.bad) (one_header (codes "c/d, a b" ∷ []) _ _ bad_entry read.2) in
-    absurd (omega (arith, ap length same))
-
--- a range prints its text
-abbrev first_kept : List MediaType → List ℕ
-first_kept [] = []
-first_kept (range ∷ ranges) = range.kept
-
--- and no other
-other_text :
-    ¬ (IsHeader (codes "c/d, a b" ∷ [])
-    (record { ranges = record (short (codes "c/d")) { kept = codes "C/d" } ∷ []; bad = codes "a b" ∷ [] }))
-other_text is =
-    let same = ap (λ (header : Header). get_or (first_kept header.ranges) 0 0) (one_header (codes "c/d, a b" ∷ []) _ _ bad_entry is) in
-    absurd (omega (arith, same))
-
--- a bad entry between two others: the lines `c/d, a b` and `a/b ` have the ranges of `c/d` and `a/b `
+-- so an entry that is one is bad as a whole, also between two others
 bad_between :
     IsHeader (codes "c/d, a b" ∷ codes "a/b " ∷ [])
     (record { ranges = short (codes "c/d") ∷ short (codes "a/b") ∷ []; bad = codes "a b" ∷ [] })
 bad_between =
     (bad_is_alone (codes "c/d, a b" ∷ codes "a/b " ∷ []) (codes "c/d" ∷ codes "a/b " ∷ []) (codes "c/d" ∷ []) (codes "a/b " ∷ [])
-    (codes " a b") _ _ [] [] (as_range c_d no_text) (as_range a_b no_text) (λ blank. true≢false (sym blank)) (λ is. not_media_type is.1)
-    (are_cut (codes "c/d, a b" ∷ codes "a/b " ∷ [])) (are_cut (codes "c/d" ∷ codes "a/b " ∷ []))).0
+    (codes " a b") _ _ [] [] (c_d no_text) (a_b no_text) (λ blank. true≢false (sym blank)) (λ is. not_media_type is.1) (are_cut _) (are_cut _)).0
+
+-- a line that has one is no list,
+not_a_list : (media : List MediaType) → ¬ (AreHttpLists (codes "c/d, a b" ∷ codes "a/b " ∷ []) media)
+not_a_list media is =
+    let read = http_lists_are_read (codes "c/d, a b" ∷ codes "a/b " ∷ []) media is in
+    absurd (omega (arith, ap (λ (header : Header). length header.bad) (one_header _ _ _ bad_between read.2)))
+
+-- and a range prints no other text than its own
+other_text :
+    ¬ (IsHeader (codes "c/d, a b" ∷ codes "a/b " ∷ [])
+    (record { ranges = record (short (codes "c/d")) { kept = codes "C/d" } ∷ short (codes "a/b") ∷ []; bad = codes "a b" ∷ [] }))
+other_text is =
+    let kept = λ (header : Header). get_or (get_or (map (λ (range : MediaType). range.kept) header.ranges) 0 []) 0 0 in
+    absurd (omega (arith, ap kept (one_header _ _ _ bad_between is)))

@@ -1,5 +1,5 @@
 -- A weight that is read digit by digit is the number that its text begins with.
-use Rattle.mime_http.proofs.Common.{Bool, List, WeightIsNumber, [], ap, arith, cases_Bool, codes, drop, eqb-true, false, fold, if◌then◌else◌, is_ascii_digit, length, min, nat_tests, one_digit, one_dot, read_number, refl, replicate, slice_index, suc, sym, take, take_while, take_while-cons, thousandths_of, three_digits, true, two_digits, worth, zero_dot, ℕ, ⊎_elim, ◌*◌, ◌++◌, ◌+◌, ◌-◌, ◌==◌, ◌∙◌, ◌∷◌, ◌≡◌, ◌≤◌, ◌/◌}
+use Rattle.mime_http.proofs.Common.{List, WeightIsNumber, [], arith, cases_Bool, codes, drop, false, fold, if◌then◌else◌, is_ascii_digit, length, nat_tests, one_digit, one_dot, read_number, refl, replicate, slice_index, suc, sym, take, take_while, take_while-cons, thousandths_of, three_digits, true, two_digits, worth, zero_dot, ℕ, ⊎_elim, ◌*◌, ◌++◌, ◌+◌, ◌-◌, ◌==◌, ◌∙◌, ◌∷◌, ◌≡◌, ◌≤◌, ◌/◌}
 use Rattle.std.proofs.Math.Nat.{mul-le-mul_left}
 use Rattle.mime_http.specs.RangesLaws.{zero, one}
 
@@ -11,23 +11,12 @@ step n digit = 10 * n + (digit - 48)
 abbrev digits : List ℕ → List ℕ
 digits bytes = take_while is_ascii_digit bytes
 
--- a digit is one of them,
-digits_more : (b : ℕ) (bytes : List ℕ) → is_ascii_digit b ≡ true → digits (b ∷ bytes) ≡ b ∷ digits bytes
-digits_more b bytes is = take_while-cons is_ascii_digit b bytes ∙ rw is refl
-
--- and they end before another byte
-digits_end : (b : ℕ) (bytes : List ℕ) → is_ascii_digit b ≡ false → digits (b ∷ bytes) ≡ []
-digits_end b bytes is = take_while-cons is_ascii_digit b bytes ∙ rw is refl
-
 -- ---- three digits after a dot
 
 -- digits without a unit are worth nothing
 no_unit : (bytes : List ℕ) → worth 0 bytes ≡ 0
 no_unit [] = refl
-no_unit (b ∷ bytes) = elim (is_ascii_digit b) as (λ is. (if is then 0 * (b - 48) + worth 0 bytes else 0) ≡ 0) [
-  | true ↦ omega (arith, no_unit bytes)
-  | false ↦ refl
-]
+no_unit (b ∷ bytes) = grind (arith, nat_tests, no_unit bytes)
 
 -- the first digits, with zeros if there are fewer
 abbrev padded : ℕ → List ℕ → List ℕ
@@ -39,10 +28,7 @@ digits_read : (count unit : ℕ) → ((n : ℕ) → fold step n (take (suc count
     → (n : ℕ) (bytes : List ℕ) → fold step n (padded (suc count) bytes) ≡ 10 * unit * n + worth unit bytes
 digits_read count unit zeros rest n [] = omega (arith, zeros n)
 digits_read count unit zeros rest n (b ∷ bytes) =
-    ⊎_elim
-    (λ is. rw (digits_more b bytes is, is) (omega (arith, rest (step n b) bytes)))
-    (λ isnt. rw (digits_end b bytes isnt, isnt) (omega (arith, zeros n)))
-    (cases_Bool (is_ascii_digit b))
+    rw (take_while-cons is_ascii_digit b bytes) (grind (arith, nat_tests, rest (step n b) bytes, zeros n))
 
 -- so a number with three digits more is read
 three_digits_more : (n : ℕ) (bytes : List ℕ) → fold step n (padded 3 bytes) ≡ 1000 * n + worth 100 bytes
@@ -53,13 +39,7 @@ three_digits_more =
 -- digits are worth at most ten of the first one's unit
 worth_most : (unit : ℕ) (bytes : List ℕ) → worth unit bytes ≤ 10 * unit
 worth_most unit [] = omega arith
-worth_most unit (b ∷ bytes) =
-    ⊎_elim
-    (λ is.
-    let digit : unit * (b - 48) ≤ unit * 9 = mul-le-mul_left unit (grind (arith, nat_tests)) in
-    rw is (omega (arith, digit, worth_most (unit / 10) bytes)))
-    (λ isnt. rw isnt (omega arith))
-    (cases_Bool (is_ascii_digit b))
+worth_most unit (b ∷ bytes) = grind (arith, nat_tests, λ (digit : b - 48 ≤ 9). mul-le-mul_left unit digit, worth_most (unit / 10) bytes)
 
 -- ---- from the first byte on
 
@@ -71,68 +51,35 @@ decimals bytes = if slice_index bytes 0 == 46 then digits (drop 1 bytes) else []
 abbrev number_from : ℕ → List ℕ → ℕ
 number_from n bytes = fold step n (digits bytes ++ take 3 (decimals (drop (length (digits bytes)) bytes) ++ codes "000"))
 
--- a number goes on with a digit,
-number_goes_on : (n b : ℕ) (bytes : List ℕ) → is_ascii_digit b ≡ true → number_from n (b ∷ bytes) ≡ number_from (step n b) bytes
-number_goes_on n b bytes is = rw (digits_more b bytes is) refl
-
--- and else with its decimals
-number_stops : (n b : ℕ) (bytes : List ℕ) → is_ascii_digit b ≡ false
-    → number_from n (b ∷ bytes) ≡ fold step n (take 3 (decimals (b ∷ bytes) ++ codes "000"))
-number_stops n b bytes isnt = rw (digits_end b bytes isnt) refl
+-- a number goes on with a digit, and else with its decimals
+number_goes_on : (n b : ℕ) (bytes : List ℕ) → number_from n (b ∷ bytes)
+    ≡ (if is_ascii_digit b then number_from (step n b) bytes else fold step n (take 3 (decimals (b ∷ bytes) ++ codes "000")))
+number_goes_on n b bytes =
+    rw (take_while-cons is_ascii_digit b bytes) (⊎_elim (λ (is : is_ascii_digit b ≡ true). rw is refl)
+    (λ (isnt : is_ascii_digit b ≡ false). rw isnt refl) (cases_Bool (is_ascii_digit b)))
 
 -- what stands after a dot makes it no less
 no_less : (n : ℕ) (bytes : List ℕ) → 1000 * n ≤ number_from n bytes
 no_less n [] = omega arith
-no_less n (b ∷ bytes) =
-    ⊎_elim
-    (λ is. rw (number_goes_on n b bytes is) (omega (arith, no_less (step n b) bytes)))
-    (λ isnt. rw (number_stops n b bytes isnt) (elim (b == 46) as (λ dot. 1000 * n ≤ fold step n
-    (take 3 ((if dot then digits bytes else []) ++ codes "000"))) [
-      | true ↦ omega (arith, three_digits_more n bytes)
-      | false ↦ omega arith
-    ]))
-    (cases_Bool (is_ascii_digit b))
+no_less n (b ∷ bytes) = rw (number_goes_on n b bytes) (grind (arith, nat_tests, no_less (step n b) bytes, three_digits_more n bytes))
 
 -- so the number of thousandths is read
 pub read_is : (text : List ℕ) → read_number text ≡ thousandths_of text
 read_is [] = refl
 read_is (b ∷ bytes) =
-    ⊎_elim
-    (λ is. rw (eqb-true b 48 is) (read_is bytes ∙ ap (min 1000) (sym (number_goes_on 0 48 bytes refl))))
-    (λ other. ap
-    (λ zero. if zero then read_number bytes else if is_ascii_digit b then 1000 else if b == 46 then worth 100 bytes else 0) other
-    ∙ ⊎_elim
-    (λ is. ap (λ is. if is then 1000 else if b == 46 then worth 100 bytes else 0) is
-    ∙ (omega (arith, above b is other, no_less (step 0 b) bytes) ∙ sym (ap (min 1000) (number_goes_on 0 b bytes is))))
-    (λ isnt. ap (λ is. if is then 1000 else if b == 46 then worth 100 bytes else 0) isnt
-    ∙ (after_dot (b == 46) ∙ sym (ap (min 1000) (number_stops 0 b bytes isnt))))
-    (cases_Bool (is_ascii_digit b)))
-    (cases_Bool (b == 48))
-  where
-    above : (b : ℕ) → is_ascii_digit b ≡ true → (b == 48) ≡ false → 1 ≤ b - 48
-    above b is other = grind (arith, nat_tests)
-
-    after_dot : (dot : Bool)
-        → (if dot then worth 100 bytes else 0) ≡ min 1000 (fold step 0 (take 3 ((if dot then digits bytes else []) ++ codes "000")))
-    after_dot true = omega (arith, three_digits_more 0 bytes, worth_most 100 bytes)
-    after_dot false = refl
+    rw (number_goes_on 0 b bytes)
+    (grind (arith, nat_tests, read_is bytes, no_less (step 0 b) bytes, three_digits_more 0 bytes, worth_most 100 bytes))
 
 -- ---- what RFC 9110 allows
-
--- a number below 10 has a digit
-digit_of : (a : ℕ) → a ≤ 9 → is_ascii_digit (48 + a) ≡ true
-digit_of a most = grind (arith, nat_tests)
 
 -- a weight is the number that it begins with
 pub weight_is_number : WeightIsNumber
 weight_is_number text thousandths zero = refl
 weight_is_number text thousandths zero_dot = refl
-weight_is_number text thousandths (one_digit a first) =
-    sym (read_is (codes "0." ++ ((48 + a) ∷ []))) ∙ rw (digit_of a first) (omega arith)
+weight_is_number text thousandths (one_digit a first) = sym (read_is (codes "0." ++ ((48 + a) ∷ []))) ∙ grind (arith, nat_tests)
 weight_is_number text thousandths (two_digits a b first second) =
-    sym (read_is (codes "0." ++ ((48 + a) ∷ (48 + b) ∷ []))) ∙ rw (digit_of a first, digit_of b second) (omega arith)
+    sym (read_is (codes "0." ++ ((48 + a) ∷ (48 + b) ∷ []))) ∙ grind (arith, nat_tests)
 weight_is_number text thousandths (three_digits a b c first second third) =
-    sym (read_is (codes "0." ++ ((48 + a) ∷ (48 + b) ∷ (48 + c) ∷ [])))
-    ∙ rw (digit_of a first, digit_of b second, digit_of c third) (omega arith)
+    sym (read_is (codes "0." ++ ((48 + a) ∷ (48 + b) ∷ (48 + c) ∷ []))) ∙ grind (arith, nat_tests)
 weight_is_number text thousandths one = refl
 weight_is_number text thousandths (one_dot zeros few) = sym (read_is (codes "1." ++ replicate zeros 48))

@@ -1,12 +1,13 @@
 -- The offers that weigh more than 0, sorted, are in order.
-use Rattle.mime_http.proofs.Common.{All-contains, AllPairs, AreInOrder, Contains, Equal, Greater, IsDistinct, IsTotalOrder, Less, List, MatchOrdering, MediaType, Ordering, Rank, Reverse, [], ap, arith, back_total, eq-eqb, false, flip_args, get_or, get_or-map, inl, inr, is_gt, is_lt, length, length-map, map, map-append, merit, nat_cmp, nat_cmp_total, nat_tests, ne_eqb, on, on_total, ordering_then, rank_cmp, ranked, refl, subst, suc, sym, then_cmp, then_total, true, true≢false, zero, ℕ, ⊎_elim, ◌++◌, ◌+◌, ◌<◌, ◌==◌, ◌∙◌, ◌∷◌, ◌≡◌, ◌≢◌, ◌≤◌, ◌⊎◌, Bool}
+use Rattle.mime_http.proofs.Common.{All-contains, AllPairs, AreInOrder, Contains, IsDistinct, IsTotalOrder, List, MediaType, Ordering, Rank, Reverse, [], ap, arith, back_total, false, flip_args, get_or, get_or_past, cases_Bool, inl, inr, is_gt, is_lt, length, length-map, lowest, map, map-append, merit, nat_cmp, nat_cmp_total, nat_tests, ne_eqb, on, on_total, ordering_then, rank_cmp, subst, sym, then_cmp, then_total, true, ℕ, ⊎_elim, ◌++◌, ◌+◌, ◌<◌, ◌==◌, ◌∙◌, ◌∷◌, ◌≡◌, ◌≤◌, ◌⊎◌, Bool}
 use Rattle.std.specs.List.{All}
 use Rattle.std.specs.List.Sorted.{IsPermutation, IsSorted}
 use Rattle.std.proofs.lemmas.Bool.{cases_lt}
-use Rattle.std.proofs.lemmas.List.Elements.{All-map, All-nil, All-push, All-weaker, Contains-append_left, Contains-append_right}
+use Rattle.std.proofs.lemmas.List.Elements.{All-map, All-push, Contains-append_left, Contains-append_right}
 use Rattle.std.proofs.lemmas.List.Quantifiers.{all_pairs_push}
 use Rattle.std.proofs.lemmas.List.Sorted.{ranks_by, sorted_far, All-permutation, IsPermutation-map, Contains-permutation}
 use Rattle.std.proofs.lemmas.Map.Keys.{IsDistinct-IsPermutation, IsDistinct-from_apart, apart_from_distinct}
+use Rattle.std.proofs.Math.ListN.{get_or-map}
 use Rattle.mime_http.proofs.Highest.{one_rank}
 
 -- the rank of an offer
@@ -20,9 +21,8 @@ ComesBefore ranks at other =
 
 -- what weighs something is an offer's
 pub weighs_within : (ranks : List Rank) (at : ℕ) → 0 < (rank_at ranks at).0 → at < length ranks
-weighs_within [] at weighs = absurd (omega (arith, weighs))
-weighs_within (rank ∷ ranks) zero weighs = omega arith
-weighs_within (rank ∷ ranks) (suc at) weighs = omega (arith, weighs_within ranks at weighs)
+weighs_within ranks at weighs = ⊎_elim (λ within. within)
+    (λ past. absurd (omega (arith, weighs, ap (λ (rank : Rank). rank.0) (get_or_past ranks at lowest past)))) (cases_lt at (length ranks))
 
 -- ---- offers with their ranks
 
@@ -36,18 +36,10 @@ pub record Ranked (ranks : List Rank) (at : ℕ) (found : List (Reverse Rank × 
   pub all : (i : ℕ) → i < at → 0 < (rank_at ranks i).0 → Contains (map (λ offer. offer.1) found) i
   pub apart : AllPairs (λ x y. x.1 < y.1) found
 
--- before the first offer
-pub none_ranked : (ranks : List Rank) → Ranked ranks 0 []
-none_ranked ranks = record {
-  are = All-nil (HasRank ranks 0);
-  all = λ i below. absurd (omega (arith, below));
-  apart = λ i j d before within. absurd (omega (arith, within));
-}
-
 module _ {ranks : List Rank} {at : ℕ} {found : List (Reverse Rank × ℕ)} (was : Ranked ranks at found) where
   -- those before it are before the next position
   still : All (HasRank ranks (at + 1)) found
-  still = All-weaker (HasRank ranks at) (HasRank ranks (at + 1)) (λ offer is. (is.0, is.1, omega (arith, is.2))) found was.are
+  still = λ k d within. let is = was.are k d within in (is.0, is.1, omega (arith, is.2))
 
   -- an offer that weighs something is one more,
   pub one_ranked : (offer : Reverse Rank × ℕ) → offer.1 ≡ at → offer.0.0 ≡ rank_at ranks at → 0 < offer.0.0.0
@@ -56,8 +48,7 @@ module _ {ranks : List Rank} {at : ℕ} {found : List (Reverse Rank × ℕ)} (wa
     are = All-push (HasRank ranks (at + 1)) found offer still (rank ∙ ap (rank_at ranks) (sym there), weighs, omega (arith, there));
     all = λ i below some.
         let places = map (λ offer. offer.1) found in
-        subst (λ all. Contains all i) (sym (map-append (λ offer. offer.1) found (offer ∷ [])))
-        (⊎_elim (λ less. Contains-append_left places (offer.1 ∷ []) i (was.all i less some))
+        rw (map-append (λ offer. offer.1) found (offer ∷ [])) (⊎_elim (λ less. Contains-append_left places (offer.1 ∷ []) i (was.all i less some))
         (λ least. Contains-append_right places (offer.1 ∷ []) i (0, omega arith, omega (arith, there, below, least)))
         (cases_lt i at));
     apart = all_pairs_push (λ x y. x.1 < y.1) found offer was.apart (λ k d within. omega (arith, there, (was.are k d within).2));
@@ -68,10 +59,7 @@ module _ {ranks : List Rank} {at : ℕ} {found : List (Reverse Rank × ℕ)} (wa
   none_more light = record {
     are = still;
     all = λ i below some. ⊎_elim (λ less. was.all i less some)
-        (λ least.
-        let same : i ≡ at = omega (arith, below, least) in
-        absurd (omega (arith, some, light, ap (λ n. (rank_at ranks n).0) same)))
-        (cases_lt i at);
+        (λ least. absurd (grind (arith, some, light, below, least))) (cases_lt i at);
     apart = was.apart;
   }
 
@@ -89,13 +77,11 @@ offers_total =
     (on_total (λ rank. rank.2) nat_cmp_total)) (on_total (λ rank. rank.3) nat_cmp_total)))) (on_total (λ offer. offer.1) nat_cmp_total)
 
 -- one that isn't after another is higher, or as high and offered earlier
-first_by : (x y : Rank) (i j : ℕ) (a b : Ordering) → rank_cmp x y ≡ a → MatchOrdering b (j < i) (j ≡ i) (i < j)
-    → is_lt (ordering_then a b) ≡ false → i ≢ j → (is_gt (rank_cmp x y) ≡ true) ⊎ ((x ≡ y) × (i < j))
-first_by x y i j Greater b is far low differ = inl (ap is_gt is)
-first_by x y i j Less b is far low differ = absurd (true≢false low)
-first_by x y i j Equal Less is far low differ = absurd (true≢false low)
-first_by x y i j Equal Equal is far low differ = absurd (differ (sym far))
-first_by x y i j Equal Greater is far low differ = inr (one_rank x y is, far)
+first_by : (x y : Rank) (i j : ℕ) → is_lt (ordering_then (rank_cmp x y) (nat_cmp j i)) ≡ false → (i == j) ≡ false
+    → (is_gt (rank_cmp x y) ≡ true) ⊎ ((x ≡ y) × (i < j))
+first_by x y i j low differ =
+    ⊎_elim inl (λ no. inr (one_rank x y (grind (arith, nat_tests, low, no)), grind (arith, nat_tests, low, no, differ)))
+    (cases_Bool (is_gt (rank_cmp x y)))
 
 -- whether two offers have one position
 abbrev same_place : Reverse Rank × ℕ → Reverse Rank × ℕ → Bool
@@ -107,13 +93,7 @@ module _ {ranks : List Rank} {at : ℕ} {found : List (Reverse Rank × ℕ)} (wa
   stand : All (HasRank ranks at) sorted
   stand = All-permutation (HasRank ranks at) found sorted moved was.are
 
-  -- and different positions,
-  distinct : IsDistinct same_place sorted
-  distinct =
-      IsDistinct-IsPermutation same_place (λ x y. grind (arith, nat_tests)) found sorted moved (IsDistinct-from_apart same_place found
-      (λ i j d before within. ne_eqb _ _ (λ same. absurd (omega (arith, same, was.apart i j d before within)))))
-
-  -- so each comes before those after it,
+  -- and are at different positions, so each comes before those after it
   in_turn : IsSorted offer_cmp sorted → (d : Reverse Rank × ℕ) (i j : ℕ) → i < j → j < length sorted
       → ComesBefore ranks (get_or sorted i d).1 (get_or sorted j d).1
   in_turn up d i j before within =
@@ -121,33 +101,13 @@ module _ {ranks : List Rank} {at : ℕ} {found : List (Reverse Rank × ℕ)} (wa
       let y = get_or sorted j d in
       let first = (stand i d (omega (arith, before, within))).0 in
       let second = (stand j d within).0 in
-      let apart = apart_from_distinct same_place sorted i j d distinct before within in
+      let distinct : IsDistinct same_place sorted =
+      IsDistinct-IsPermutation same_place (λ x y. grind (arith, nat_tests)) found sorted moved (IsDistinct-from_apart same_place found
+      (λ i j d before within. ne_eqb _ _ (λ same. absurd (omega (arith, same, was.apart i j d before within))))) in
       let far = sorted_far (λ a b. is_lt (offer_cmp a b)) (ranks_by offers_total (λ offer. offer)) sorted up i j d
       (omega (arith, before)) within in
-      let low : is_lt (ordering_then (rank_cmp (rank_at ranks x.1) (rank_at ranks y.1)) (nat_cmp y.1 x.1)) ≡ false =
-      (λ i. is_lt (ordering_then (rank_cmp (sym first i) (sym second i)) (nat_cmp y.1 x.1))) ∙ far in
-      first_by (rank_at ranks x.1) (rank_at ranks y.1) x.1 y.1 _ _ refl (ranked y.1 x.1 _ refl) low
-      (λ same. true≢false (sym (eq-eqb _ _ same) ∙ apart))
-
-  -- each weighs something,
-  they_weigh : (i : ℕ) → Contains (map (λ offer. offer.1) sorted) i → 0 < (rank_at ranks i).0
-  they_weigh i =
-      All-contains (λ n. 0 < (rank_at ranks n).0) (map (λ offer. offer.1) sorted) i
-      (All-map (λ n. 0 < (rank_at ranks n).0) (λ offer. offer.1) sorted
-      (All-weaker (HasRank ranks at) (λ offer. 0 < (rank_at ranks offer.1).0)
-      (λ offer is. subst (λ (rank : Rank). 0 < rank.0) is.0 is.1) sorted stand))
-
-  -- and each that does is there
-  each_is_there : length ranks ≤ at → (i : ℕ) → 0 < (rank_at ranks i).0 → Contains (map (λ offer. offer.1) sorted) i
-  each_is_there past i weighs =
-      Contains-permutation (map (λ offer. offer.1) found) (map (λ offer. offer.1) sorted) i
-      (IsPermutation-map (λ offer. offer.1) found sorted moved)
-      (was.all i (omega (arith, weighs_within ranks i weighs, past)) weighs)
-
--- an offer, if there is one
-some_default : (sorted : List (Reverse Rank × ℕ)) (j : ℕ) → j < length (map (λ offer. offer.1) sorted) → Reverse Rank × ℕ
-some_default [] j within = absurd (omega (arith, within))
-some_default (offer ∷ sorted) j within = offer
+      first_by (rank_at ranks x.1) (rank_at ranks y.1) x.1 y.1 (rw (first, second) at far)
+      (apart_from_distinct same_place sorted i j d distinct before within)
 
 -- so what is sorted is in order
 pub are_in_order : (ranges offers : List MediaType) (at : ℕ) (found sorted : List (Reverse Rank × ℕ)) → length offers ≤ at
@@ -155,12 +115,16 @@ pub are_in_order : (ranges offers : List MediaType) (at : ℕ) (found sorted : L
     → AreInOrder ranges offers (map (λ offer. offer.1) sorted)
 are_in_order ranges offers at found sorted past was moved up = record {
   best_first = λ i j e before within.
-      let d = some_default sorted j within in
-      let long : j < length sorted = omega (arith, within, length-map sorted (λ offer. offer.1)) in
-      rw (get_or-map (λ offer. offer.1) sorted i d e (omega (arith, before, long)), get_or-map (λ offer. offer.1) sorted j d e long)
-      (in_turn was sorted moved up d i j before long);
-  all = λ i. (
-    they_weigh was sorted moved i,
-    each_is_there was sorted moved (omega (arith, past, length-map offers (merit ranges))) i,
-  );
+      let d : Reverse Rank × ℕ = (record { 0 = lowest }, e) in
+      let first = get_or-map (λ offer. offer.1) sorted i d in
+      let second = get_or-map (λ offer. offer.1) sorted j d in
+      rw (first, second) (in_turn was sorted moved up d i j before (omega (arith, within, length-map sorted (λ offer. offer.1))));
+  all = λ i.
+      let ranks = map (merit ranges) offers in
+      let place = λ (offer : Reverse Rank × ℕ). offer.1 in (
+        All-contains (λ n. 0 < (rank_at ranks n).0) (map place sorted) i (All-map (λ n. 0 < (rank_at ranks n).0) place sorted (λ k d within.
+            let is = stand was sorted moved k d within in subst (λ (rank : Rank). 0 < rank.0) is.0 is.1)),
+        λ weighs. Contains-permutation (map place found) (map place sorted) i (IsPermutation-map place found sorted moved)
+            (was.all i (omega (arith, weighs_within ranks i weighs, past, length-map offers (merit ranges))) weighs),
+      );
 }

@@ -1,6 +1,5 @@
 -- Writing the parameters of other names, item by item.
-use Rattle.mime_http.proofs.Common.{Bool, Item, List, NameIs, [], ap, append-nil, append_assoc, arith, bytes_eq, bytes_eq-Decides, false_from_ne_true, flat_map-append, item_of, items_of, get_or, drop, length, length-append, lowered, not, others, refl, subst, suc, sym, text_of_pair, text_of_pairs, ℕ, ◌++◌, ◌+◌, ◌∙◌, ◌∷◌, ◌≡◌, ◌≤◌, false, true}
-use Rattle.std.proofs.lemmas.List.Filters.{length-filter_both}
+use Rattle.mime_http.proofs.Common.{Item, List, NameIs, [], ap, append-nil, append_assoc, arith, bytes_eq, bytes_eq-Decides, false_from_ne_true, flat_map-append, item_of, items_of, get_or, drop, length, length-append, length-map, nil_from_length, lowered, others, refl, subst, suc, sym, text_of_pair, text_of_pairs, ℕ, ◌++◌, ◌+◌, ◌∙◌, ◌∷◌, ◌≡◌, ◌≤◌, false, true}
 
 -- the first item is that of the first pair,
 first_pair : (rest : List (List ℕ × List ℕ)) (item : Item) (next : List Item) → items_of rest ≡ item ∷ next
@@ -9,11 +8,6 @@ first_pair [] item next is = absurd (omega (arith, ap length is))
 first_pair (pair ∷ more) item next is =
     let seen : item_of pair ≡ item = ap (λ items. get_or items 0 item) is in
     (more, (λ i. ((seen i).name, (seen i).value) ∷ more), sym (ap (drop 1) is), sym (ap (λ i. i.name_ignores_case) seen))
-
--- and no item is left of no pair
-no_pair : (rest : List (List ℕ × List ℕ)) → items_of rest ≡ [] → rest ≡ []
-no_pair [] is = refl
-no_pair (pair ∷ more) is = absurd (omega (arith, ap length is))
 
 -- of the pairs whose items are left, those of other names are still to be written after this text, and to be counted
 pub record Left (name whole text : List ℕ) (total count : ℕ) (items : List Item) : Type 0 where
@@ -26,9 +20,9 @@ pub record Left (name whole text : List ℕ) (total count : ℕ) (items : List I
 pub none_left : {name whole text : List ℕ} {total count : ℕ} {items : List Item} → Left name whole text total count items → items ≡ []
     → (text ≡ whole) × (count ≡ total)
 none_left {name} {text = text} left ended =
-    let none : others name left.rest ≡ [] = ap (others name) (no_pair left.rest (sym left.same ∙ ended)) in (
-      sym (append-nil text) ∙ (ap (λ rest. text ++ text_of_pairs rest) (sym none) ∙ left.written),
-      omega (arith, ap length none, left.counted),
+    let none : left.rest ≡ [] = nil_from_length _ (omega (arith, ap length left.same, ap length ended, length-map left.rest item_of)) in (
+      sym (append-nil text) ∙ (rw none at left.written),
+      omega (arith, ap (λ rest. length (others name rest)) none, left.counted),
     )
 
 module _ {name whole text : List ℕ} {total count : ℕ} {items next : List Item} {item : Item}
@@ -39,13 +33,7 @@ module _ {name whole text : List ℕ} {total count : ℕ} {items next : List Ite
       let f = first_pair left.rest item next (sym left.same ∙ is) in
       let test : bytes_eq (lowered item.name) (lowered name) ≡ true =
       (bytes_eq-Decides _ _).1 (subst (λ flag. NameIs item.name flag name) f.3 named) in
-      let same : others name left.rest ≡ others name f.0 = ap (others name) f.1 ∙ rw test refl in
-      record {
-        rest = f.0;
-        same = f.2;
-        written = ap (λ rest. text ++ text_of_pairs rest) (sym same) ∙ left.written;
-        counted = ap (λ rest. count + length rest) (sym same) ∙ left.counted;
-      }
+      record { rest = f.0; same = f.2; written = rw (f.1, test) at left.written; counted = rw (f.1, test) at left.counted }
 
   -- the next is of another, and is written
   pub copied : ¬ (NameIs item.name item.name_ignores_case name)
@@ -56,22 +44,20 @@ module _ {name whole text : List ℕ} {total count : ℕ} {items next : List Ite
       let differ = subst (λ flag. ¬ (NameIs item.name flag name)) f.3 other in
       let test : bytes_eq (lowered item.name) (lowered name) ≡ false =
       false_from_ne_true _ (λ same. differ ((bytes_eq-Decides _ _).0 same)) in
-      let same : others name left.rest ≡ pair ∷ others name f.0 = ap (others name) f.1 ∙ rw test refl in
-      let one_more : count + suc (length (others name f.0)) ≡ total = ap (λ rest. count + length rest) (sym same) ∙ left.counted in (
-        omega (arith, one_more),
+      let counted : count + suc (length (others name f.0)) ≡ total = rw (f.1, test) at left.counted in (
+        omega (arith, counted),
         record {
           rest = f.0;
           same = f.2;
-          written = append_assoc text (text_of_pair pair) _ ∙ (ap (λ rest. text ++ text_of_pairs rest) (sym same) ∙ left.written);
-          counted = omega (arith, one_more);
+          written = append_assoc text (text_of_pair pair) _ ∙ (rw (f.1, test) at left.written);
+          counted = omega (arith, counted);
         },
       )
 
 -- those of other names are no more than all
 pub others_within : (name : List ℕ) (pairs : List (List ℕ × List ℕ)) → length (others name pairs) ≤ length pairs
-others_within name pairs =
-    let other : List ℕ × List ℕ → Bool = λ pair. not (bytes_eq (lowered pair.0) (lowered name)) in
-    omega (arith, length-filter_both other (λ pair. not (other pair)) (λ pair. refl) pairs)
+others_within name [] = omega arith
+others_within name (pair ∷ pairs) = grind (arith, others_within name pairs)
 
 -- each parameter is written with a byte at least
 pub pairs_within_text : (pairs : List (List ℕ × List ℕ)) → length pairs ≤ length (text_of_pairs pairs)
@@ -83,5 +69,4 @@ pub and_last : (essence : List ℕ) (pairs : List (List ℕ × List ℕ)) (pair 
     → (essence ++ text_of_pairs pairs) ++ text_of_pair pair ≡ essence ++ text_of_pairs (pairs ++ (pair ∷ []))
 and_last essence pairs pair =
     append_assoc essence (text_of_pairs pairs) (text_of_pair pair)
-    ∙ ap (λ rest. essence ++ rest)
-    (ap (λ last. text_of_pairs pairs ++ last) (sym (append-nil (text_of_pair pair))) ∙ sym (flat_map-append text_of_pair pairs (pair ∷ [])))
+    ∙ rw (flat_map-append text_of_pair pairs (pair ∷ []), append-nil (text_of_pair pair)) refl

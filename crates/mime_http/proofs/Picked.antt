@@ -1,48 +1,40 @@
 -- The closest range is what a fold over the ranges keeps, and none is closer.
-use Rattle.mime_http.proofs.Common.{Bool, ClosestIsClosest, Contains, IsAtMost, List, MatchOption, MediaType, None, Option, Rank, Some, [], ap, arith, cases_Bool, closeness, closest, cons_option, enumerate_from, false, filter_map, find, fold, is_le, is_lt, list_all, list_all-from_AllPass, AllPass-from_list_all, All-contains, map, nat_tests, option_cmp, ord_max, rank_cmp, refl, subst, suc, sym, true, true≢false, zero, ℕ, ⊎_elim, ◌∙◌, ◌∷◌, ◌≡◌, Equal, cond_both}
-use Rattle.mime_http.proofs.Highest.{at_most, not_above_itself, one_rank, up_to}
+use Rattle.mime_http.proofs.Common.{and_parts, and_from, Bool, ClosestIsClosest, Contains, IsAtMost, List, MatchOption, MediaType, None, Option, Rank, Some, [], ap, arith, closeness, closest, cons_option, enumerate_from, false, filter_map, find, fold, is_le, is_lt, list_all, list_all-from_AllPass, AllPass-from_list_all, All-contains, map, nat_tests, option_cmp, option_map, slice_get-get_or, Contains-get_or, unwrap_or, cases_lt, length, ◌<◌, ord_max, rank_cmp, refl, subst, suc, sym, true, true≢false, zero, ℕ, ⊎_elim, ◌∙◌, ◌∷◌, ◌≡◌, Equal, cond_both}
+use Rattle.mime_http.proofs.Highest.{one_rank, up_to}
 use Rattle.mime_http.specs.Chosen.{NotAbove}
-use Rattle.std.proofs.lemmas.List.Elements.{All-nil, All-cons, All-head, All-tail}
-use Rattle.std.specs.List.{All}
+use Rattle.std.proofs.lemmas.List.Elements.{All-nil, All-cons, All-head, All-tail, Contains-append_right}
+use Rattle.std.specs.List.{All, position_or_len}
+use Rattle.std.proofs.lemmas.List.Folds.{find_at}
+use Rattle.std.proofs.lemmas.List.Sums.{fails_before_first, passes_at_first}
 
 -- ---- the highest of ranks
+
+-- whether no other rank is above one
+abbrev is_top : List Rank → Rank → Bool
+is_top all one = list_all (λ other. is_le (rank_cmp other one)) all
 
 -- a rank is one of all, and none is above it
 record IsTop (all : List Rank) (top : Rank) : Type 0 where
   among : Contains all top
-  above : All (NotAbove top) all
-
--- a longer list contains what a list contains
-pub in_more : {X : Type 0} (y : X) (xs : List X) (x : X) → Contains xs x → Contains (y ∷ xs) x
-in_more y xs x (k, within, is) = (suc k, omega (arith, within), is)
+  above : is_top all top ≡ true
 
 -- the higher of the first two in place of both leaves the highest the same
 of_two : (x y : Rank) (ranks : List Rank) {top : Rank} → IsTop (ord_max rank_cmp x y ∷ ranks) top → IsTop (x ∷ y ∷ ranks) top
-of_two x y ranks {top} = cond_both (is_lt (rank_cmp y x)) _ _ (λ higher. IsTop (higher ∷ ranks) top → IsTop (x ∷ y ∷ ranks) top)
-    (λ less is.
-    let low = All-head (NotAbove top) x ranks is.above in
-    record {
-      among = beside is.among;
-      above = All-cons (NotAbove top) x (y ∷ ranks) low
-          (All-cons (NotAbove top) y ranks (up_to y x top (grind (arith, nat_tests, less)) low) (All-tail (NotAbove top) x ranks is.above));
-    })
-    (λ more is.
-    let low = All-head (NotAbove top) y ranks is.above in
-    record {
-      among = in_more x (y ∷ ranks) top is.among;
-      above = All-cons (NotAbove top) x (y ∷ ranks) (up_to x y top (grind (arith, nat_tests, more)) low) is.above;
-    })
+of_two x y ranks {top} is =
+    let higher = ord_max rank_cmp x y in
+    let parts = and_parts (is_le (rank_cmp higher top)) _ is.above in
+    let first = up_to x higher top (grind (arith, nat_tests)) parts.0 in
+    let second = up_to y higher top (grind (arith, nat_tests)) parts.0 in
+    record { among = there is.among; above = and_from _ _ first (and_from _ _ second parts.1) }
   where
-    beside : Contains (x ∷ ranks) top → Contains (x ∷ y ∷ ranks) top
-    beside (zero, within, is) = (zero, omega arith, is)
-    beside (suc k, within, is) = (suc (suc k), omega (arith, within), is)
+    there : Contains (ord_max rank_cmp x y ∷ ranks) top → Contains (x ∷ y ∷ ranks) top
+    there (zero, within, is) = cond_both (is_lt (rank_cmp y x)) x y (λ higher. higher ≡ top → Contains (x ∷ y ∷ ranks) top)
+        (λ less same. (0, omega arith, same)) (λ more same. (1, omega arith, same)) is
+    there (suc k, within, is) = (suc (suc k), omega (arith, within), is)
 
 -- so a fold finds the highest,
 top_of : (rank : Rank) (ranks : List Rank) → IsTop (rank ∷ ranks) (fold (ord_max rank_cmp) rank ranks)
-top_of rank [] = record {
-  among = (zero, omega arith, refl);
-  above = All-cons (NotAbove rank) rank [] (not_above_itself rank) (All-nil (NotAbove rank));
-}
+top_of rank [] = record { among = (zero, omega arith, refl); above = grind (arith, nat_tests) }
 top_of rank (next ∷ ranks) = of_two rank next ranks (top_of (ord_max rank_cmp rank next) ranks)
 
 -- if there is one
@@ -53,45 +45,34 @@ top_if_any (rank ∷ ranks) = Some (fold (ord_max rank_cmp) rank ranks)
 -- what is found, if no other passes
 find_one : {X : Type 0} (p : X → Bool) (xs : List X) (x : X) → Contains xs x → p x ≡ true → ((y : X) → Contains xs y → p y ≡ true → y ≡ x)
     → find p xs ≡ Some x
-find_one p [] x (k, within, is) passes one = absurd (omega (arith, within))
-find_one p (y ∷ xs) x there passes one =
-    ⊎_elim
-    (λ here. rw here (ap Some (one y (zero, omega arith, refl) here)))
-    (λ other. rw other (find_one p xs x (further there other) passes (λ z among. one z (in_more y xs z among))))
-    (cases_Bool (p y))
-  where
-    further : Contains (y ∷ xs) x → p y ≡ false → Contains xs x
-    further (zero, within, is) other = absurd (true≢false (sym passes ∙ (ap p (sym is) ∙ other)))
-    further (suc k, within, is) other = (k, omega (arith, within), is)
+find_one p xs x (k, among, is) passes one =
+    let at = position_or_len p xs in
+    let within : at < length xs = ⊎_elim (λ before. before) (λ past. absurd (true≢false (sym passes ∙ (ap p (sym is)
+    ∙ fails_before_first p xs k x (omega (arith, among, past)))))) (cases_lt at (length xs)) in
+    find_at p xs ∙ (slice_get-get_or xs at x within ∙ ap Some (one _ (Contains-get_or xs at x within) (passes_at_first p xs x within)))
 
--- it is the one that none is above
-found_top : (all : List Rank) → find (λ one. list_all (λ other. is_le (rank_cmp other one)) all) all ≡ top_if_any all
+-- what all pass, each passes
+passed : {X : Type 0} (p : X → Bool) (xs : List X) (x : X) → list_all p xs ≡ true → Contains xs x → p x ≡ true
+passed p xs x all = All-contains (λ x. p x ≡ true) xs x (AllPass-from_list_all p xs all)
+
+-- the highest is the one that none is above
+found_top : (all : List Rank) → find (is_top all) all ≡ top_if_any all
 found_top [] = refl
 found_top (rank ∷ ranks) =
     let all = rank ∷ ranks in
     let top = fold (ord_max rank_cmp) rank ranks in
     let is = top_of rank ranks in
-    find_one (λ one. list_all (λ other. is_le (rank_cmp other one)) all) all top is.among
-    (list_all-from_AllPass (λ other. is_le (rank_cmp other top)) all is.above)
-    (λ other there passes.
-    let low = All-contains (NotAbove top) all other is.above there in
-    let high = All-contains (NotAbove other) all top (AllPass-from_list_all (λ rank. is_le (rank_cmp rank other)) all passes) is.among in
-    one_rank other top (same other top low high))
-  where
-    same : (x y : Rank) → NotAbove y x → NotAbove x y → rank_cmp x y ≡ Equal
-    same x y low high = grind (arith, nat_tests)
+    find_one (is_top all) all top is.among is.above (λ other there passes.
+    let low = passed (λ rank. is_le (rank_cmp rank top)) all other is.above there in
+    let high = passed (λ rank. is_le (rank_cmp rank other)) all top passes is.among in
+    one_rank other top (grind (arith, nat_tests, low, high)))
 
 -- ---- of ranks that are there
 
 -- the higher of two that may be there, before others
 kept_of_two : (x y : Option Rank) (ranks : List Rank)
     → top_if_any (cons_option (ord_max (option_cmp rank_cmp) x y) ranks) ≡ top_if_any (cons_option x (cons_option y ranks))
-kept_of_two None None ranks = refl
-kept_of_two None (Some y) ranks = refl
-kept_of_two (Some x) None ranks = refl
-kept_of_two (Some x) (Some y) ranks = cond_both (is_lt (rank_cmp y x)) (Some x) (Some y)
-    (λ higher. top_if_any (cons_option higher ranks) ≡ Some (fold (ord_max rank_cmp) (ord_max rank_cmp x y) ranks))
-    (λ less. rw less refl) (λ more. rw more refl)
+kept_of_two x y ranks = grind (arith)
 
 -- a fold keeps the highest of those that are there
 kept_is_top : {X : Type 0} (f : X → Option Rank) (first : Option Rank) (xs : List X)
@@ -100,22 +81,18 @@ kept_is_top f None [] = refl
 kept_is_top f (Some rank) [] = refl
 kept_is_top f first (x ∷ xs) = kept_is_top f (ord_max (option_cmp rank_cmp) first (f x)) xs ∙ kept_of_two first (f x) (filter_map f xs)
 
--- what a list contains, the list of its results contains,
-in_filtered : {X Y : Type 0} (f : X → Option Y) (xs : List X) (x : X) (y : Y) → Contains xs x → f x ≡ Some y → Contains (filter_map f xs) y
-in_filtered f [] x y (k, within, is) some = absurd (omega (arith, within))
-in_filtered f (z ∷ xs) x y (zero, within, is) some = rw (ap f is ∙ some) (zero, omega arith, refl)
-in_filtered {Y = Y} f (z ∷ xs) x y (suc k, within, is) some = onto (f z) (in_filtered f xs x y (k, omega (arith, within), is) some)
-  where
-    onto : (first : Option Y) → Contains (filter_map f xs) y → Contains (cons_option first (filter_map f xs)) y
-    onto None there = there
-    onto (Some w) there = in_more w (filter_map f xs) y there
+-- what holds of the results of a list holds of each result,
+all_filtered : {X Y : Type 0} (f : X → Option Y) (p : Y → Bool) (xs : List X)
+    → list_all p (filter_map f xs) ≡ list_all (λ x. unwrap_or (option_map p (f x)) true) xs
+all_filtered f p [] = refl
+all_filtered f p (x ∷ xs) = grind (arith, all_filtered f p xs)
 
--- and the other way
+-- and each is a result of what the list contains
 of_filtered : {X Y : Type 0} (f : X → Option Y) (xs : List X) (y : Y) → Contains (filter_map f xs) y
     → (x : X) × Contains xs x × (f x ≡ Some y)
 of_filtered f [] y (k, within, is) = absurd (omega (arith, within))
 of_filtered {X} {Y} f (z ∷ xs) y there =
-    by (λ rest. let found = of_filtered f xs y rest in (found.0, in_more z xs found.0 found.1, found.2)) (f z) refl there
+    by (λ rest. let found = of_filtered f xs y rest in (found.0, Contains-append_right (z ∷ []) xs found.0 found.1, found.2)) (f z) refl there
   where
     by : (Contains (filter_map f xs) y → (x : X) × Contains (z ∷ xs) x × (f x ≡ Some y)) → (first : Option Y) → f z ≡ first
         → Contains (cons_option first (filter_map f xs)) y → (x : X) × Contains (z ∷ xs) x × (f x ≡ Some y)
@@ -137,21 +114,21 @@ closest_is_closest ranges offer = rw (found_top (filter_map (closeness offer) it
     items : List (ℕ × MediaType)
     items = enumerate_from 0 ranges
 
-    none : (found : Option Rank) → ((rank : Rank) → found ≡ Some rank → ⊥) → found ≡ None
-    none None isnt = refl
-    none (Some rank) isnt = absurd (isnt rank refl)
+    each : (p : Rank → Bool) → list_all p (filter_map (closeness offer) items) ≡ true → (item : ℕ × MediaType) → Contains items item
+        → unwrap_or (option_map p (closeness offer item)) true ≡ true
+    each p all item = passed (λ item. unwrap_or (option_map p (closeness offer item)) true) items item
+        (sym (all_filtered (closeness offer) p items) ∙ all)
 
     by : (all : List Rank) → filter_map (closeness offer) items ≡ all → MatchOption (top_if_any all)
         ((item : ℕ × MediaType) → Contains items item → closeness offer item ≡ None)
         (λ close. ((item : ℕ × MediaType) × Contains items item × (closeness offer item ≡ Some close))
         × ((item : ℕ × MediaType) (other : Rank) → Contains items item → closeness offer item ≡ Some other → IsAtMost other close))
-    by [] is = λ item there. none (closeness offer item) (λ rank some.
-        let among = subst (λ all. Contains all rank) is (in_filtered _ items item rank there some) in
-        absurd (omega (arith, among.1)))
+    by [] is = λ item there. let no = each (λ _. false) (ap (list_all (λ _. false)) is) item there in grind (arith, no)
     by (rank ∷ ranks) is =
         let top = fold (ord_max rank_cmp) rank ranks in
         let highest = top_of rank ranks in (
           of_filtered (closeness offer) items _ (subst (λ all. Contains all top) (sym is) highest.among),
-          λ item other there covers. at_most other top (All-contains (NotAbove top) (rank ∷ ranks) other highest.above
-              (subst (λ all. Contains all other) is (in_filtered _ items item other there covers))),
+          λ item other there covers.
+              let low = each (λ other. is_le (rank_cmp other top)) (ap (λ all. is_top all top) is ∙ highest.above) item there in
+              grind (arith, nat_tests, low, covers),
         )

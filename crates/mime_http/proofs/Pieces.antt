@@ -1,131 +1,101 @@
 -- A line's first piece: bytes without a mark go on with it, and a comma outside strings ends it.
-use Rattle.mime_http.proofs.Common.{AreUnmarked, At, Bool, List, Outside, [], after, after_outside, ap, append-nil, append_assoc, ap₂, arith, bit_or, cases_Bool, cases_lt, chunk, cond, cond_both, count_trailing_zeros, cut, cut_after, cut_from, drop, drop-drop, drop-map, drop_of_length-le, ends, eqb, eqb-true, false, get_or, get_or-drop, is_mark, leading_from_mask_l, length, length-chunk, length-drop, length-map, map, map-map, mask_l, mask_l-mod, nat_tests, ne_eqb, not, or_parts, prefix_len, refl, run_in_chunk_fails, run_in_chunk_le, run_in_chunk_stops, subst, suc, sym, take, take-add, take_all, take_more, top, trailing_mask_l, true, zero, ℕ, ⊎_elim, ◌%◌, ◌++◌, ◌+◌, ◌-◌, ◌/◌, ◌<◌, ◌==◌, ◌^◌, ◌||◌, ◌∙◌, ◌∷◌, ◌≡◌, ◌≤◌}
+use Rattle.mime_http.proofs.Common.{AreUnmarked, At, Bool, List, Outside, [], ap, append-nil, append_assoc, ap₂, arith, cases_Bool, cond, cut, cut_after, cut_from, drop, drop-drop, drop_of_length-le, eq-eqb, false, get_or, get_or-drop, get_or_past, is_mark, length, length-drop, nat_tests, not, prefix_len, prefix_len-le-length, refl, subst, suc, sym, take, take-add, take_all, take_more, true, zero, ℕ, ⊎_elim, ◌&&◌, ◌++◌, ◌+◌, ◌-◌, ◌<◌, ◌==◌, ◌∙◌, ◌∷◌, ◌≡◌, ◌≤◌}
 use Rattle.mime_search.specs.Classes.{is_stop, end_of_run}
-use Rattle.mime_search.specs.Quoted.{len_from}
+use Rattle.mime_search.specs.Quoted.{awaits_next, len_from}
 use Rattle.mime_search.specs.declared.class.Class.{Class}
 use Rattle.mime_http.specs.Walk.{Equals, Quoted, Paired, IsNextMark}
-use Rattle.mime_http.proofs.Cuts.{IsOutside}
+use Rattle.std.specs.List.{position_or_len}
+use Rattle.std.proofs.lemmas.List.Sums.{fails_before_first, passes_at_first}
 use Rattle.std.proofs.lemmas.List.{drop_more}
 
 -- the cut of a line, of which the bytes before a position lead to this place
 abbrev pub cut_on : At → List ℕ → ℕ → List (List ℕ)
 cut_on place line at = cut_from place (take at line) (drop at line)
 
--- ---- a byte further
+-- ---- outside strings
 
--- a byte that doesn't end a piece belongs to it,
-cut_step : (place next : At) (line : List ℕ) (at b : ℕ) → at < length line → get_or line at 0 ≡ b → ends place b ≡ false
-    → after place b ≡ next → cut_on next line (at + 1) ≡ cut_on place line at
-cut_step place next line at b within here on there =
-    let left : drop at line ≡ b ∷ drop (at + 1) line = drop_more line at 0 within ∙ ap (λ c. c ∷ drop (at + 1) line) here in
-    let taken : take at line ++ (b ∷ []) ≡ take (at + 1) line =
-    ap (λ c. take at line ++ (c ∷ [])) (sym here) ∙ sym (take_more line at 0 within) in
-    sym (ap (cut_from place (take at line)) left ∙ rw on (λ i. cut_from (there i) (taken i) (drop (at + 1) line)))
+-- a byte goes on with a line's cut if it does so in any line with the same next byte,
+byte_at : (place next : At) (line : List ℕ) (at : ℕ) → at < length line
+    → ((piece bytes : List ℕ) → get_or bytes 0 0 ≡ get_or line (at + 1) 0
+    → cut_from next (piece ++ (get_or line at 0 ∷ [])) bytes ≡ cut_from place piece (get_or line at 0 ∷ bytes))
+    → cut_on next line (at + 1) ≡ cut_on place line at
+byte_at place next line at within goes_on =
+    ap (λ taken. cut_from next taken (drop (at + 1) line)) (take_more line at 0 within)
+    ∙ (goes_on (take at line) (drop (at + 1) line) (get_or-drop (at + 1) line 0 0 ∙ ap (λ i. get_or line i 0) (omega arith))
+    ∙ sym (ap (cut_from place (take at line)) (drop_more line at 0 within)))
 
--- and a comma ends it,
-cut_ends : (place : At) (line : List ℕ) (at : ℕ) → at < length line → ends place (get_or line at 0) ≡ true
-    → cut_on place line at ≡ take at line ∷ cut_after (drop at line)
-cut_ends place line at within end =
-    let left = drop_more line at 0 within in
-    ap (cut_from place (take at line)) left ∙ (rw end (ap (λ x. take at line ∷ cut_after x) (sym left)))
+-- so does one outside strings that is no comma and opens no string,
+pub outside_byte : (line : List ℕ) (at : ℕ) → at < length line → (get_or line at 0 == 44) ≡ false
+    → (get_or line at 0 == 61 && get_or line (at + 1) 0 == 34) ≡ false → cut_on Outside line (at + 1) ≡ cut_on Outside line at
+outside_byte line at within on opens =
+    byte_at Outside Outside line at within (λ piece bytes next. by piece bytes
+    (subst (λ c. (get_or line at 0 == 61 && c == 34) ≡ false) (sym next) opens))
+  where
+    by : (piece bytes : List ℕ) → (get_or line at 0 == 61 && get_or bytes 0 0 == 34) ≡ false
+        → cut_from Outside (piece ++ (get_or line at 0 ∷ [])) bytes ≡ cut_from Outside piece (get_or line at 0 ∷ bytes)
+    by piece [] opens = rw on refl
+    by piece (c ∷ bytes) opens = grind (arith, nat_tests, on, opens)
 
--- as the line's end does
-cut_at_end : (place : At) (line : List ℕ) (at : ℕ) → length line ≤ at → cut_on place line at ≡ take at line ∷ cut_after (drop at line)
-cut_at_end place line at past =
-    let empty : drop at line ≡ [] = drop_of_length-le line past in
-    ap (cut_from place (take at line)) empty ∙ ap (λ x. take at line ∷ cut_after x) (sym empty)
+-- and more of them
+outside_bytes : (line : List ℕ) (from n to : ℕ) → to ≡ from + n → to ≤ length line
+    → ((k : ℕ) → from ≤ k → k < to
+    → ((get_or line k 0 == 44) ≡ false) × ((get_or line k 0 == 61 && get_or line (k + 1) 0 == 34) ≡ false))
+    → cut_on Outside line to ≡ cut_on Outside line from
+outside_bytes line from zero to is within plain = ap (cut_on Outside line) (omega (arith, is))
+outside_bytes line from (suc n) to is within plain =
+    let here = plain (from + n) (omega arith) (omega (arith, is)) in
+    ap (cut_on Outside line) (omega (arith, is)) ∙ (outside_byte line (from + n) (omega (arith, is, within)) here.0 here.1
+    ∙ outside_bytes line from n (from + n) refl (omega (arith, is, within)) (λ k least most. plain k least (omega (arith, is, most))))
 
--- where no quote follows, the places outside strings are alike
-alike : (place : At) → IsOutside place → (line : List ℕ) (at : ℕ) → (at < length line → (get_or line at 0 == 34) ≡ false)
-    → cut_on place line at ≡ cut_on Outside line at
-alike Outside is line at other = refl
-alike Equals is line at other = ⊎_elim
-    (λ (within : at < length line).
-    let left = drop_more line at 0 within in
-    ap (cut_from Equals (take at line)) left ∙ (rw (other within) refl ∙ sym (ap (cut_from Outside (take at line)) left)))
-    (λ past. cut_at_end Equals line at past ∙ sym (cut_at_end Outside line at past))
-    (cases_lt at (length line))
-alike place is line at other = absurd is
+-- such are bytes other than a comma and an equals sign,
+pub outside_run : (line : List ℕ) (from to : ℕ) → from ≤ to → to ≤ length line → AreUnmarked 44 61 line from to
+    → cut_on Outside line to ≡ cut_on Outside line from
+outside_run line from to least within unmarked =
+    outside_bytes line from (to - from) to (omega (arith, least)) within (λ k first last.
+    let no = unmarked k first last in (grind (arith, nat_tests, no), grind (arith, nat_tests, no)))
+
+-- and than a comma and a quote, if no quote is next
+pub outside_at : (line : List ℕ) (n : ℕ) → n ≤ length line → AreUnmarked 44 34 line 0 n → (get_or line n 0 == 34) ≡ false
+    → cut_on Outside line n ≡ cut line
+outside_at line n within unmarked other =
+    outside_bytes line 0 n n (omega arith) within (λ k first last.
+    let no = unmarked k first last in
+    let next = λ (less : k + 1 < n). unmarked (k + 1) (omega arith) less in
+    (grind (arith, nat_tests, no), grind (arith, nat_tests, last, other, next)))
 
 -- a comma outside strings ends the piece, and so does the line's end
 pub ends_outside : (line : List ℕ) (at : ℕ) → (at < length line → get_or line at 0 ≡ 44) → cut_on Outside line at ≡ cut line
     → cut line ≡ take at line ∷ cut_after (drop at line)
 ends_outside line at comma left =
-    sym left ∙ ⊎_elim
-    (λ (more : at < length line). cut_ends Outside line at more (ap (ends Outside) (comma more)))
-    (λ past. cut_at_end Outside line at past)
-    (cases_lt at (length line))
+    sym left ∙ by (drop at line) (λ more. get_or-drop at line 0 0 ∙ (ap (λ i. get_or line i 0) (omega arith)
+    ∙ comma (omega (arith, more, length-drop at line))))
+  where
+    by : (rest : List ℕ) → (0 < length rest → get_or rest 0 0 ≡ 44) → cut_from Outside (take at line) rest ≡ take at line ∷ cut_after rest
+    by [] comma = refl
+    by (b ∷ rest) comma = let end : (b == 44) ≡ true = eq-eqb b 44 (comma (omega arith)) in rw end refl
 
--- ---- bytes without a mark
+-- ---- strings
 
--- a byte outside strings leads to a place outside strings
-outside_after : (b : ℕ) → IsOutside (after_outside b)
-outside_after b = cond_both (b == 61) _ _ IsOutside (λ is. tt) (λ other. tt)
+-- after an equals sign and a quote the cut goes on in a string,
+pub string_opens : (line : List ℕ) (at : ℕ) → at + 1 < length line → get_or line at 0 ≡ 61 → get_or line (at + 1) 0 ≡ 34
+    → cut_on Quoted line (at + 1 + 1) ≡ cut_on Outside line at
+string_opens line at within equals quote =
+    byte_at Equals Quoted line (at + 1) within (λ piece bytes next. rw quote refl)
+    ∙ byte_at Outside Equals line at (omega (arith, within)) (λ piece bytes next. rw equals refl)
 
--- after bytes that are no comma and no quote the cut goes on outside strings, if no quote is next,
-pub outside_at : (line : List ℕ) (n : ℕ) → n ≤ length line → AreUnmarked 44 34 line 0 n
-    → (n < length line → (get_or line n 0 == 34) ≡ false) → cut_on Outside line n ≡ cut line
-outside_at line zero within unmarked other = refl
-outside_at line (suc n) within unmarked other =
-    let b = get_or line n 0 in
-    let plain = or_parts (b == 44) (b == 34) (unmarked n (omega arith) (omega arith)) in
-    let next : n + 1 ≡ suc n = omega arith in
-    subst (λ at. cut_on Outside line at ≡ cut line) next
-    (sym (alike (after_outside b) (outside_after b) line (n + 1)
-    (λ more. ap (λ at. get_or line at 0 == 34) next ∙ other (omega (arith, more))))
-    ∙ (cut_step Outside (after_outside b) line n b (omega (arith, within)) refl plain.0 refl
-    ∙ outside_at line n (omega (arith, within)) (λ k from to. unmarked k from (omega (arith, to))) (λ more. plain.1)))
-
--- as at a byte that is no mark
-pub outside_before : (line : List ℕ) (n : ℕ) → n < length line → AreUnmarked 44 34 line 0 (n + 1) → cut_on Outside line n ≡ cut line
-outside_before line n within unmarked =
-    outside_at line n (omega (arith, within)) (λ k from to. unmarked k from (omega (arith, to)))
-    (λ more. (or_parts (get_or line n 0 == 44) (get_or line n 0 == 34) (unmarked n (omega arith) (omega arith))).1)
-
--- ---- from mark to mark
-
--- bytes at which a place stays, and that end no piece, change nothing of the cut
-stays : (place : At) (one other : ℕ)
-    (plain : (b : ℕ) → is_mark one other b ≡ false → (ends place b ≡ false) × (after place b ≡ place)) (line : List ℕ) (from n to : ℕ)
-    → to ≡ from + n → to ≤ length line → AreUnmarked one other line from to → cut_on place line to ≡ cut_on place line from
-stays place one other plain line from zero to is within unmarked = ap (cut_on place line) (omega (arith, is))
-stays place one other plain line from (suc n) to is within unmarked =
-    let at = from + n in
-    let here = plain (get_or line at 0) (unmarked at (omega arith) (omega (arith, is))) in
-    ap (cut_on place line) (omega (arith, is)) ∙ (cut_step place place line at _ (omega (arith, is, within)) refl here.0 here.1
-    ∙ stays place one other plain line from n at refl (omega (arith, is, within))
-    (λ k least most. unmarked k least (omega (arith, is, most))))
-
--- outside strings any byte but a comma and an equals sign is such,
-pub outside_run : (line : List ℕ) (from to : ℕ) → from ≤ to → to ≤ length line → AreUnmarked 44 61 line from to
-    → cut_on Outside line to ≡ cut_on Outside line from
-outside_run line from to least =
-    stays Outside 44 61 (λ b plain. let parts = or_parts (b == 44) (b == 61) plain in (parts.0, rw parts.1 refl)) line from (to - from) to
-    (omega (arith, least))
-
--- a byte more of a string
-string_more : (piece bytes : List ℕ) (b n : ℕ) (pieces : List (List ℕ))
-    → cut_from Outside ((piece ++ (b ∷ [])) ++ take (n + 1) bytes) (drop (n + 1) bytes) ≡ pieces
-    → cut_from Outside (piece ++ take (suc n + 1) (b ∷ bytes)) (drop (suc n + 1) (b ∷ bytes)) ≡ pieces
-string_more piece bytes b n pieces is =
-    let next : suc n + 1 ≡ suc (n + 1) = omega arith in
-    rw next (ap (λ p. cut_from Outside p (drop (n + 1) bytes)) (sym (append_assoc piece (b ∷ []) (take (n + 1) bytes))) ∙ is)
-
--- in a string the cut goes on after the quote that closes it, outside strings, or at the end
+-- and after the quote that closes it, or at the end, it goes on outside strings
 string_left : (paired : Bool) (piece bytes : List ℕ)
     → cut_from Outside (piece ++ take (len_from paired bytes + 1) bytes) (drop (len_from paired bytes + 1) bytes)
     ≡ cut_from (cond paired Paired Quoted) piece bytes
-string_left true piece [] = ap (λ p. p ∷ []) (append-nil piece)
-string_left false piece [] = ap (λ p. p ∷ []) (append-nil piece)
-string_left true piece (b ∷ bytes) = string_more piece bytes b _ _ (string_left false (piece ++ (b ∷ [])) bytes)
-string_left false piece (b ∷ bytes) = ⊎_elim
-    (λ (quote : (b == 34) ≡ true).
-    let other : (b == 92) ≡ false = ap (λ x. x == 92) (eqb-true b 34 quote) in rw (quote, other) refl)
-    (λ (plain : (b == 34) ≡ false). ⊎_elim
-    (λ (pairs : (b == 92) ≡ true). rw (plain, pairs) (string_more piece bytes b _ _ (string_left true (piece ++ (b ∷ [])) bytes)))
-    (λ (other : (b == 92) ≡ false). rw (plain, other) (string_more piece bytes b _ _ (string_left false (piece ++ (b ∷ [])) bytes)))
-    (cases_Bool (b == 92)))
-    (cases_Bool (b == 34))
+string_left paired piece [] = ap (λ p. p ∷ []) (append-nil piece)
+string_left paired piece (b ∷ bytes) =
+    let n = len_from (awaits_next paired b) bytes in
+    let next : suc n + 1 ≡ suc (n + 1) = omega arith in
+    ⊎_elim (λ (closes : (not paired && b == 34) ≡ true). rw closes (grind (arith, nat_tests, closes)))
+    (λ (on : (not paired && b == 34) ≡ false). rw on
+    (rw next (ap (λ p. cut_from Outside p (drop (n + 1) bytes)) (sym (append_assoc piece (b ∷ []) (take (n + 1) bytes)))
+    ∙ (string_left (awaits_next paired b) (piece ++ (b ∷ [])) bytes ∙ grind (arith, nat_tests, on)))))
+    (cases_Bool (not paired && b == 34))
 
 -- so it does at a position past the content
 pub string_closed : (line : List ℕ) (from end : ℕ) → end ≡ from + len_from false (drop from line)
@@ -145,40 +115,24 @@ string_open line from end is past =
     (drop_of_length-le line past ∙ sym (drop_of_length-le line (omega (arith, past))))
     ∙ string_closed line from end is
 
--- after an equals sign the cut is as before it if no quote follows,
-pub equals_alone : (line : List ℕ) (at : ℕ) → at < length line → get_or line at 0 ≡ 61
-    → (at + 1 < length line → ¬ (get_or line (at + 1) 0 ≡ 34)) → cut_on Outside line (at + 1) ≡ cut_on Outside line at
-equals_alone line at within equals other =
-    sym (alike Equals tt line (at + 1) (λ more. ne_eqb _ 34 (other more))) ∙ cut_step Outside Equals line at 61 within equals refl refl
-
--- and else a string opens
-pub string_opens : (line : List ℕ) (at : ℕ) → at + 1 < length line → get_or line at 0 ≡ 61 → get_or line (at + 1) 0 ≡ 34
-    → cut_on Quoted line (at + 1 + 1) ≡ cut_on Outside line at
-string_opens line at within equals quote =
-    cut_step Equals Quoted line (at + 1) 34 within quote refl refl
-    ∙ cut_step Outside Equals line at 61 (omega (arith, within)) equals refl refl
-
 -- ---- the next mark
 
 -- a search that stops at two marks finds the next one
 pub next_mark : (class : Class) (one other : ℕ) → ((b : ℕ) → is_stop class b ≡ is_mark one other b) → (line : List ℕ) (from to : ℕ)
     → from ≤ length line → to ≡ end_of_run class line from → IsNextMark one other line from to
 next_mark class one other are line from to within is =
-    let there : to ≡ from + prefix_len (λ b. not (is_mark one other b)) (drop from line) =
-    is ∙ (λ i. from + prefix_len (λ b. not (are b i)) (drop from line)) in
-    let n = length line - from in
-    let all : chunk from n line ≡ drop from line = take_all n (drop from line) (omega (arith, length-drop from line)) in
-    let room : from + n ≤ length line = omega (arith, within) in
-    let back : from + (to - from) ≡ to = omega (arith, there) in
-    let counted : to - from ≡ prefix_len (λ b. not (is_mark one other b)) (chunk from n line) =
-    omega (arith, there, ap (prefix_len (λ b. not (is_mark one other b))) all) in
+    let rest = drop from line in
+    let there : to ≡ from + position_or_len (is_mark one other) rest = is ∙ (λ i. from + prefix_len (λ b. not (are b i)) rest) in
+    let long = length-drop from line in
     record {
       least = omega (arith, there);
-      within = omega (arith, back, within, run_in_chunk_le (is_mark one other) line from n (to - from) 0 room counted);
+      within = omega (arith, there, within, long, prefix_len-le-length (λ b. not (is_mark one other b)) rest);
       unmarked = λ k first last.
-          run_in_chunk_fails (is_mark one other) line from n (to - from) 0 room counted k first (omega (arith, last, back));
-      mark = λ more. subst (λ i. is_mark one other (get_or line i 0) ≡ true) back
-          (run_in_chunk_stops (is_mark one other) line from n (to - from) 0 room counted (omega (arith, more, back)));
+          let back : k ≡ from + (k - from) = omega (arith, first) in
+          rw (back, sym (get_or-drop from line (k - from) 0))
+          (fails_before_first (is_mark one other) rest (k - from) 0 (omega (arith, there, first, last)));
+      mark = λ more. rw (there, sym (get_or-drop from line (position_or_len (is_mark one other) rest) 0))
+          (passes_at_first (is_mark one other) rest 0 (omega (arith, there, more, long)));
     }
 
 -- ---- a piece that begins further on
@@ -186,8 +140,8 @@ next_mark class one other are line from to within is =
 -- bytes without a mark from a position on,
 pub unmarked_from : (line : List ℕ) (from to : ℕ) → from ≤ to → AreUnmarked 44 34 line from to
     → AreUnmarked 44 34 (drop from line) 0 (to - from)
-unmarked_from line from to least plain = λ k first last.
-    subst (λ b. is_mark 44 34 b ≡ false) (sym (get_or-drop from line k 0)) (plain (from + k) (omega arith) (omega (arith, last, least)))
+unmarked_from line from to least plain =
+    λ k first last. rw (get_or-drop from line k 0) (plain (from + k) (omega arith) (omega (arith, last, least)))
 
 -- up to a comma or the end, are the first piece from there on,
 pub piece_from : (line : List ℕ) (from to : ℕ) → from ≤ to → to ≤ length line → AreUnmarked 44 34 line from to
@@ -199,8 +153,8 @@ piece_from line from to least within plain comma =
     let size = length-drop from line in
     let ended : n < length rest → get_or rest n 0 ≡ 44 =
     λ more. get_or-drop from line n 0 ∙ (ap (λ i. get_or line i 0) there ∙ comma (omega (arith, more, size, least))) in
-    ends_outside rest n ended (outside_at rest n (omega (arith, size, within, least)) (unmarked_from line from to least plain)
-    (λ more. ap (λ b. b == 34) (ended more)))
+    let no_quote : (get_or rest n 0 == 34) ≡ false = grind (arith, nat_tests, ended, get_or_past rest n 0) in
+    ends_outside rest n ended (outside_at rest n (omega (arith, size, within, least)) (unmarked_from line from to least plain) no_quote)
     ∙ ap (λ left. take n rest ∷ cut_after left) (drop-drop n from line ∙ ap (λ i. drop i line) there)
 
 -- and any first piece ends as many bytes after that position
@@ -209,16 +163,3 @@ pub piece_of_len : (line : List ℕ) (from n : ℕ) → cut (drop from line) ≡
 piece_of_len line from n is =
     let long : n ≡ from + n - from = omega arith in
     is ∙ ap₂ (λ m left. take m (drop from line) ∷ cut_after left) long (drop-drop n from line)
-
--- After the comma that ends it the next one begins.
-pub pieces_after : (line : List ℕ) (end : ℕ) → end < length line → cut_after (drop end line) ≡ cut (drop (end + 1) line)
-pieces_after line end more = ap cut_after (drop_more line end 0 more)
-
--- and after the line's end none
-pub no_piece_after : (line : List ℕ) (end : ℕ) → length line ≤ end → cut_after (drop end line) ≡ []
-no_piece_after line end past = ap cut_after (drop_of_length-le line past)
-
--- An empty piece comes before a comma.
-pub empty_piece : (line : List ℕ) (from : ℕ) → from < length line → get_or line from 0 ≡ 44
-    → cut (drop from line) ≡ [] ∷ cut (drop (from + 1) line)
-empty_piece line from within comma = ap cut (drop_more line from 0 within ∙ ap (λ b. b ∷ drop (from + 1) line) comma)

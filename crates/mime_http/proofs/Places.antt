@@ -105,14 +105,10 @@ pub data KeepsSpace : Place → Type 0 where
   after_value : KeepsSpace Closed
   before_name : KeepsSpace Semicolon
 
--- white space is no semicolon
-space_is_no_semicolon : (b : ℕ) → is_space b ≡ true → (b == 59) ≡ false
-space_is_no_semicolon b is = grind (arith, nat_tests)
-
 -- White space that stays leads to the same place.
 pub space : {place : Place} → KeepsSpace place → (b : ℕ) → is_space b ≡ true → Leads place (b ∷ []) (b ∷ []) place
 space after_value b is = so (one Closed b) refl (rw is refl)
-space before_name b is = so (one Semicolon b) (rw (space_is_no_semicolon b is) refl) (rw is refl)
+space before_name b is = so (one Semicolon b) (grind (arith, nat_tests, is)) (rw is refl)
 
 -- white space that stays comes out as it is
 pub walk_spaces : {place : Place} → KeepsSpace place → (bytes : List ℕ) → AreSpaces bytes → Leads place bytes bytes place
@@ -185,11 +181,7 @@ is_settled place = true
 
 -- There a byte that isn't left out comes out as it is.
 pub settled_adds : (place : Place) → IsSettled place → (b : ℕ) → is_left_out place b ≡ false → added place b ≡ b ∷ []
-settled_adds Spaced settled b kept = absurd settled
-settled_adds Quoted settled b kept = refl
-settled_adds Paired settled b kept = refl
-settled_adds Closed settled b kept = refl
-settled_adds place settled b kept = rw kept refl
+settled_adds place settled b kept = grind (arith, kept, settled)
 
 -- white space is left out after settled places
 pub leaves_settled : {place : Place} → LeavesWhite place → IsSettled place

@@ -1,5 +1,5 @@
 -- Why HTTP rejects a value, from what tightening leaves of it.
-use Rattle.mime_http.proofs.Common.{IsHttpFault, cases_lt, ⊎_elim, Begins, Explains, IsAccepted, IsFault, IsHttpMediaType, IsRejected, IsTightening, List, NoMemory, ParseError, Reads, arith, length, refl, string_bytes, subst, sym, take, ℕ, ◌≡◌, ◌≤◌}
+use Rattle.mime_http.proofs.Common.{IsHttpFault, Begins, Explains, IsAccepted, IsFault, IsHttpMediaType, IsRejected, IsTightening, List, NoMemory, ParseError, Reads, arith, length, refl, string_bytes, subst, sym, take, ℕ, ◌<◌, ◌≡◌, ◌≤◌}
 use Rattle.mime_http.specs.declared.tight.Tightening.{Tightening}
 use Rattle.mime_http.specs.declared.tight.Tightening.TheVariants.{Nothing, Prefix, Copy}
 use Rattle.mime_http.proofs.HttpBack.{read_is_http}
@@ -21,12 +21,9 @@ pub rejected_so : (value : List ℕ) (fault other : ParseError) (left : Tighteni
     → LeftRejected value fault other left → IsRejected value (record { left = left; fault = other })
 rejected_so value fault other Nothing is same = record { is = is.rejected; left = subst (IsHttpFault value) (sym same) is.is }
 rejected_so value fault other (Prefix end next) is rejected = record {
-  is = λ http. ⊎_elim
-      (λ below. is.rejected below http)
-      (λ past.
-      let last : next ≡ length value = omega (arith, past, is.next_within) in
-      rejected last (subst IsAccepted (is.alone last) (accepted_from_http value http)))
-      (cases_lt next (length value));
+  is = λ http.
+      let accepted = λ (last : next ≡ length value). rejected last (subst IsAccepted (is.alone last) (accepted_from_http value http)) in
+      absurd (grind (arith, is.next_within, accepted, λ (below : next < length value). is.rejected below http));
   left = is;
 }
 rejected_so value fault other (Copy copy) is (rejected, faulty) = record {

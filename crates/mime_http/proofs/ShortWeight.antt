@@ -1,20 +1,13 @@
 -- A media type whose kept text ends in a weight of one decimal, right after the essence, has no other parameter.
-use Rattle.mime_http.proofs.Common.{AreSpaces, HasBytesAt, IsWellFormed, List, MediaType, Reads, Some, SyntaxTree, [], ap, append_assoc, arith, drop, drop-append_seam, essence_of, final, get_or, has, is_ascii_digit, is_token_byte, length, length-append, length-lowered, listed, lowered_tree, one_reading, plain, read_number, refl, suc, sym, text_from_reads, text_of, text_of_tail, thousandths_of, true, value_of, ℕ, ◌*◌, ◌++◌, ◌+◌, ◌-◌, ◌∙◌, ◌∷◌, ◌≡◌}
-use Rattle.mime_http.proofs.Demanded.{found_in, found_of}
+use Rattle.mime_http.proofs.Common.{AreSpaces, HasBytesAt, List, MediaType, Reads, Some, SyntaxTree, [], ap, append_assoc, arith, drop, drop-append_seam, essence_of, final, get_or, has, is_ascii_digit, is_token_byte, length, length-append, length-lowered, listed, lowered_tree, one_reading, plain, read_number, refl, suc, sym, text_from_reads, text_of, text_of_tail, true, value_of, ℕ, ◌*◌, ◌++◌, ◌+◌, ◌-◌, ◌∙◌, ◌∷◌, ◌≡◌}
+use Rattle.mime.proofs.ValueLemmas.KeptText.{text_of-essence}
+use Rattle.mime_http.proofs.Demanded.{found_in}
 use Rattle.mime_http.proofs.Numbers.{read_is}
 
--- the text up to the tail
-abbrev front_of : SyntaxTree → List ℕ
-front_of tree = tree.top ++ (47 ∷ tree.sub)
-
--- it and the tail are the whole text
-front_and_tail : (tree : SyntaxTree) → text_of tree ≡ front_of tree ++ text_of_tail tree.tail
-front_and_tail tree = sym (append_assoc tree.top (47 ∷ tree.sub) (text_of_tail tree.tail))
-
 module _ (kept : List ℕ) (media : MediaType) (reads : Reads kept media) where
-  -- the same of a text that is read,
-  kept_is : kept ≡ front_of reads.tree ++ text_of_tail reads.tree.tail
-  kept_is = sym reads.spelled ∙ front_and_tail reads.tree
+  -- a text that is read is its essence and the tail,
+  kept_is : kept ≡ essence_of reads.tree ++ text_of_tail reads.tree.tail
+  kept_is = sym reads.spelled ∙ text_of-essence reads.tree
 
   -- where the tail follows the essence
   after_is_tail : drop (length media.essence) kept ≡ text_of_tail reads.tree.tail
@@ -22,67 +15,40 @@ module _ (kept : List ℕ) (media : MediaType) (reads : Reads kept media) where
       let tree = reads.tree in
       let low = lowered_tree tree in
       let same : length media.essence ≡ length (essence_of low) = ap (λ value. length value.essence) (sym reads.valued) in
-      let long : length media.essence ≡ length (front_of tree) =
-      omega (
-        arith,
-        same,
-        length-append low.top (47 ∷ low.sub),
-        length-append tree.top (47 ∷ tree.sub),
-        length-lowered tree.top,
-        length-lowered tree.sub,
-      ) in
-      ap (λ n. drop n kept) long ∙ (ap (drop (length (front_of tree))) kept_is ∙ drop-append_seam (front_of tree) (text_of_tail tree.tail))
+      let size : length low.top + length low.sub ≡ length tree.top + length tree.sub =
+      omega (arith, length-lowered tree.top, length-lowered tree.sub) in
+      let long : length media.essence ≡ length (essence_of tree) =
+      omega (arith, same, size, length-append low.top (47 ∷ low.sub), length-append tree.top (47 ∷ tree.sub)) in
+      ap (λ n. drop n kept) long ∙ (ap (drop (length (essence_of tree))) kept_is ∙ drop-append_seam (essence_of tree) (text_of_tail tree.tail))
 
 -- the tree with this weight in place of the parameters, after these spaces
 abbrev with_weight : SyntaxTree → List ℕ → ℕ → SyntaxTree
 with_weight tree n d = record { top = tree.top; sub = tree.sub; tail = listed (final n (plain (113 ∷ []) (48 ∷ 46 ∷ d ∷ []))) }
 
--- which is well formed as well
-weight_is_well_formed : (tree : SyntaxTree) (n : List ℕ) (d : ℕ) → IsWellFormed tree → AreSpaces n → is_ascii_digit d ≡ true
-    → IsWellFormed (with_weight tree n d)
-unfolding is_token_byte
-weight_is_well_formed tree n d fine spaces digit = (fine.0, fine.1, (spaces, (refl, rw digit refl)))
-
--- after which the weight is the only parameter, since a text is read in one way
+-- which is well formed as well, so the weight is the only parameter, since a text is read in one way
 pub weight_alone : (media : MediaType) (rest n : List ℕ) (d : ℕ) → Reads media.kept media → rest ≡ drop (length media.essence) media.kept
     → rest ≡ 59 ∷ (n ++ (113 ∷ 61 ∷ 48 ∷ 46 ∷ d ∷ [])) → AreSpaces n → is_ascii_digit d ≡ true
     → media.pairs ≡ (113 ∷ [], 48 ∷ 46 ∷ d ∷ []) ∷ []
+unfolding is_token_byte
 weight_alone media rest n d reads after is spaces digit =
     let tail : text_of_tail reads.tree.tail ≡ 59 ∷ (n ++ (113 ∷ 61 ∷ 48 ∷ 46 ∷ d ∷ [])) =
     sym (after_is_tail media.kept media reads) ∙ (sym after ∙ is) in
     let spelled : text_of (with_weight reads.tree n d) ≡ media.kept =
-    front_and_tail (with_weight reads.tree n d) ∙ (ap (λ t. front_of reads.tree ++ t) (sym tail) ∙ sym (kept_is media.kept media reads)) in
+    text_of-essence (with_weight reads.tree n d) ∙ (ap (λ t. essence_of reads.tree ++ t) (sym tail) ∙ sym (kept_is media.kept media reads)) in
     let again : Reads media.kept (value_of (with_weight reads.tree n d)) = record {
       tree = with_weight reads.tree n d;
-      well_formed = weight_is_well_formed reads.tree n d reads.well_formed spaces digit;
+      well_formed = (reads.well_formed.0, reads.well_formed.1, (spaces, (refl, rw digit refl)));
       spelled = spelled;
       valued = refl;
     } in
     ap (λ value. value.pairs) (one_reading media.kept media (value_of (with_weight reads.tree n d)) reads again)
 
--- bytes at a position and one more after them
-one_more_byte : (text bytes : List ℕ) (at end d : ℕ) → end ≡ at + length bytes → HasBytesAt text at bytes → get_or text end 0 ≡ d
-    → HasBytesAt text at (bytes ++ (d ∷ []))
-one_more_byte text [] at end d is has last = (ap (λ i. get_or text i 0) (omega (arith, is)) ∙ last, tt)
-one_more_byte text (b ∷ bytes) at end d is has last = (has.0, one_more_byte text bytes (suc at) end d (omega (arith, is)) has.1 last)
-
 -- so a range demands nothing else, and weighs these tenths, if the weight is written after this white space
-pub weight_of_one_decimal : (n : List ℕ) (end : ℕ) (offer media : MediaType) (rest : List ℕ) → AreSpaces n → end ≡ 5 + length n
-    → Reads media.kept media → rest ≡ drop (length media.essence) media.kept → length rest ≡ end + 1
-    → HasBytesAt rest 0 (59 ∷ (n ++ (113 ∷ 61 ∷ 48 ∷ 46 ∷ []))) → is_ascii_digit (get_or rest end 0) ≡ true
-    → found_of 0 (Some (48 ∷ 46 ∷ get_or rest end 0 ∷ [])) ≡ found_in offer media.pairs
-weight_of_one_decimal n end offer media rest spaces at reads after long bytes digit =
-    let d = get_or rest end 0 in
-    let front = 59 ∷ (n ++ (113 ∷ 61 ∷ 48 ∷ 46 ∷ [])) in
-    let size = length-append n (113 ∷ 61 ∷ 48 ∷ 46 ∷ []) in
-    let whole : rest ≡ front ++ (d ∷ []) =
-    text_from_reads rest _ (omega (arith, long, at, size, length-append front (d ∷ [])))
-    (one_more_byte rest front 0 end d (omega (arith, at, size)) bytes refl) in
-    rw (weight_alone media rest n d reads after
-    (whole ∙ ap (λ text. 59 ∷ text) (append_assoc n (113 ∷ 61 ∷ 48 ∷ 46 ∷ []) (d ∷ []))) spaces digit) refl
-
--- a weight of one decimal in thousandths
-pub one_decimal : (d weight : ℕ) → is_ascii_digit d ≡ true → weight ≡ 100 * (d - 48) → weight ≡ thousandths_of (48 ∷ 46 ∷ d ∷ [])
-one_decimal d weight digit is =
-    let read : weight ≡ read_number (48 ∷ 46 ∷ d ∷ []) = rw digit (omega (arith, is)) in
-    read ∙ read_is (48 ∷ 46 ∷ d ∷ [])
+pub weight_of_one_decimal : (n : List ℕ) (d weight : ℕ) (offer media : MediaType) (rest : List ℕ) → AreSpaces n → Reads media.kept media
+    → rest ≡ drop (length media.essence) media.kept → length rest ≡ 6 + length n
+    → HasBytesAt rest 0 (59 ∷ (n ++ (113 ∷ 61 ∷ 48 ∷ 46 ∷ d ∷ []))) → is_ascii_digit d ≡ true → weight ≡ 100 * (d - 48)
+    → Some (0, weight) ≡ found_in offer media.pairs
+weight_of_one_decimal n d weight offer media rest spaces reads after long bytes digit tenths =
+    let whole = text_from_reads rest _ (omega (arith, long, length-append n (113 ∷ 61 ∷ 48 ∷ 46 ∷ d ∷ []))) bytes in
+    let read : weight ≡ read_number (48 ∷ 46 ∷ d ∷ []) = rw digit (omega (arith, tenths)) in
+    rw (weight_alone media rest n d reads after whole spaces digit) (ap (λ weight. Some (0, weight)) (read ∙ read_is (48 ∷ 46 ∷ d ∷ [])))

@@ -1,7 +1,7 @@
 -- The bytes before the quote lead outside strings, each search goes on there, and a string is left at its end.
-use Rattle.mime_http.proofs.Common.{Outside, ap, arith, cut_from, drop, get_or, length, nat_tests, take, ◌-◌, ◌<◌, ◌∙◌, ◌≡◌}
-use Rattle.mime_http.proofs.Pieces.{outside_before, outside_run, equals_alone, string_opens, ends_outside}
-use Rattle.mime_http.proofs.list.quoted_piece_len.Goals.{then-quote-gt0, else-quote-gt0, then-at-line-via-then-at-line, then-at-line-via-else-at-line+then-line-at-eq44, else-at-line-2-via-then-at-line-2+else-line-at-eq34, else-at-line-2-via-else-at-line-2}
+use Rattle.mime_http.proofs.Common.{arith, common_steps, false, get_or, get_or_past, length, nat_tests, refl, ◌+◌, ◌-◌, ◌<◌, ◌==◌, ◌&&◌, ◌∙◌, ◌≡◌}
+use Rattle.mime_http.proofs.Pieces.{outside_at, outside_run, outside_byte, string_opens, ends_outside}
+use Rattle.mime_http.proofs.list.quoted_piece_len.Goals.{then-quote-gt0, else-quote-gt0}
 use Rattle.mime_http.proofs.list.quoted_piece_len.Goals as goal
 
 pub loop-at-init : goal.loop-at-init
@@ -9,38 +9,29 @@ loop-at-init c =
     let line = c.args.line.now in
     let quote = c.args.quote in
     elim c.if-quote-gt0.branch [
-      | then-quote-gt0 w ↦ record {
-        within = omega (arith, w.at-is, c.requires.within);
-        left = ap (λ n. cut_from Outside (take n line) (drop n line)) w.at-is
-            ∙ outside_before line (quote - 1) (omega (arith, w.if-quote-gt0.true, c.requires.within))
-            (λ k from to. c.requires.unmarked k from (omega (arith, to, w.if-quote-gt0.true)));
-      }
+      | then-quote-gt0 w ↦ rw w.at-is (record {
+        within = omega (arith, c.requires.within);
+        left = outside_at line (quote - 1) (omega (arith, w.if-quote-gt0.true, c.requires.within))
+            (λ k from to. c.requires.unmarked k from (omega (arith, to)))
+            (grind (arith, nat_tests, c.requires.unmarked (quote - 1) (omega arith) (omega (arith, w.if-quote-gt0.true))));
+      })
       | else-quote-gt0 w ↦
           let first : c.if-quote-gt0.at ≡ 0 = omega (arith, w.at-is, w.if-quote-gt0.false) in
-          record {
-            within = omega (arith, w.at-is, c.requires.within);
-            left = ap (λ n. cut_from Outside (take n line) (drop n line)) first;
-          }
+          rw first (record { within = omega arith; left = refl })
     ]
 
 pub returns-then-at-line-clause-piece : goal.returns-then-at-line-clause-piece
 returns-then-at-line-clause-piece c =
     let line = c.args.line.now in
     let next = c.next_outside-at in
-    let comma : next.result < length line → get_or line next.result 0 ≡ 44 = λ within.
-    elim c.then-at-line.branch [
-      | then-at-line-via-then-at-line w ↦ absurd (omega (arith, w.if-at-line.true, within))
-      | then-at-line-via-else-at-line+then-line-at-eq44 w ↦ w.if-line-at-eq44.true
-    ] in
-    ends_outside line next.result comma
+    ends_outside line next.result (grind (arith, common_steps))
     (outside_run line c.loop-at.at next.result next.ensures.least next.ensures.within next.ensures.unmarked ∙ c.loop-at.invariant.left)
 
 pub loop-at-preserved-then-line-at-eq34 : goal.loop-at-preserved-then-line-at-eq34
 loop-at-preserved-then-line-at-eq34 c =
     let line = c.args.line.now in
     let next = c.next_outside-at in
-    let within : next.result < length line = omega (arith, c.if-at-line.false, next.ensures.within) in
-    let equals : get_or line next.result 0 ≡ 61 = grind (arith, nat_tests, next.ensures.mark within, c.if-line-at-eq44.false) in
+    let equals : get_or line next.result 0 ≡ 61 = grind (arith, common_steps, next.ensures.mark) in
     record {
       within = c.string_end-at.ensures.within;
       left = c.string_end-at.ensures.left ∙ (string_opens line next.result c.if-at-line-2.true equals c.if-line-at-eq34.true
@@ -53,15 +44,11 @@ loop-at-preserved c =
     let line = c.args.line.now in
     let next = c.next_outside-at in
     let within : next.result < length line = omega (arith, c.if-at-line.false, next.ensures.within) in
-    let equals : get_or line next.result 0 ≡ 61 = grind (arith, nat_tests, next.ensures.mark within, c.if-line-at-eq44.false) in
-    let so_far = outside_run line c.loop-at.at next.result next.ensures.least next.ensures.within next.ensures.unmarked
-    ∙ c.loop-at.invariant.left in
+    let comma : (get_or line next.result 0 == 44) ≡ false = grind (arith, common_steps) in
+    let no_string : (get_or line next.result 0 == 61 && get_or line (next.result + 1) 0 == 34) ≡ false =
+    grind (arith, common_steps, get_or_past line (next.result + 1) 0) in
     record {
       within = omega (arith, within);
-      left = elim c.else-at-line-2.branch [
-        | else-at-line-2-via-then-at-line-2+else-line-at-eq34 w ↦ equals_alone line next.result within equals
-            (λ _. w.if-line-at-eq34.false) ∙ so_far
-        | else-at-line-2-via-else-at-line-2 w ↦ equals_alone line next.result within equals
-            (λ more. absurd (omega (arith, more, w.if-at-line-2.false))) ∙ so_far
-      ];
+      left = outside_byte line next.result within comma no_string ∙ (outside_run line c.loop-at.at next.result
+          next.ensures.least next.ensures.within next.ensures.unmarked ∙ c.loop-at.invariant.left);
     }

@@ -1,7 +1,6 @@
 -- White space at the end is left out, and any other byte stays.
-use Rattle.mime_http.proofs.Common.{ap, arith, sym, take, trim_end, ◌∙◌, ◌≡◌}
+use Rattle.mime_http.proofs.Common.{arith, common_steps, sym, ◌∙◌}
 use Rattle.mime_http.proofs.Trims.{end_at_space, end_at_other}
-use Rattle.mime_http.proofs.list.trim_end.Goals.{then-loop-end-test+else-is_space, else-loop-end-test}
 use Rattle.mime_http.proofs.list.trim_end.Goals as goal
 
 pub loop-end-preserved : goal.loop-end-preserved
@@ -15,11 +14,4 @@ pub returns : goal.returns
 returns c =
     let piece = c.args.piece.now in
     let end = c.loop-end.end in
-    elim c.loop-end-test.branch [
-      | then-loop-end-test+else-is_space w ↦
-          end_at_other piece end w.loop-end-test.true c.loop-end.invariant.0 (sym w.is_space.ensures ∙ w.if-is_space.false)
-          ∙ c.loop-end.invariant.1
-      | else-loop-end-test w ↦
-          let none : end ≡ 0 = omega (arith, w.loop-end-test.false) in
-          ap (λ n. take n piece) none ∙ (ap (λ n. trim_end (take n piece)) (sym none) ∙ c.loop-end.invariant.1)
-    ]
+    grind (arith, common_steps, end_at_other piece end, c.loop-end.invariant)

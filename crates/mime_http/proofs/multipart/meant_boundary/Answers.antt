@@ -1,5 +1,5 @@
 -- A boundary means itself; what is too long means none, and what has no backslash means itself.
-use Rattle.mime_http.proofs.Common.{IsBoundary, arith, contains_char, false≢true, get_or, length, rules, subst, sym, vec_items, ℕ, ◌<◌, ◌∙◌, ◌≡◌, ◌≢◌}
+use Rattle.mime_http.proofs.Common.{IsBoundary, arith, contains_char, rules, subst, sym, vec_items, ◌∙◌, ◌≡◌}
 use Rattle.mime_http.proofs.Contents.{boundary_means_itself, length-unescaped, unescaped_same}
 use Rattle.mime_http.proofs.multipart.meant_boundary.Goals.{then-bytes-via-then-bytes, then-bytes-via-else-bytes+then-not-contains}
 use Rattle.mime_http.proofs.multipart.meant_boundary.Goals as goal
@@ -12,15 +12,12 @@ returns-then-is_boundary c =
     (copied ∙ sym same, subst IsBoundary (sym same) is)
 
 pub returns-then-bytes : goal.returns-then-bytes
-returns-then-bytes c =
+returns-then-bytes c = λ is.
+    let value = c.args.value.now in
     elim c.then-bytes.branch [
-      | then-bytes-via-then-bytes w ↦ (λ is.
-          absurd (omega (arith, is.most, length-unescaped c.args.value.now, w.if-bytes.true)))
-      | then-bytes-via-else-bytes+then-not-contains w ↦ (λ is.
-          let value = c.args.value.now in
+      | then-bytes-via-then-bytes w ↦ absurd (omega (arith, is.most, length-unescaped value, w.if-bytes.true))
+      | then-bytes-via-else-bytes+then-not-contains w ↦
           let finds = contains_char 92 value w.contains.result w.contains.ensures.cases (omega arith) in
-          let none : (i : ℕ) → i < length value → get_or value i 0 ≢ 92 =
-          λ i below there. false≢true (sym w.if-not-contains.true ∙ finds.1 i below there) in
           let not_one : ¬ (IsBoundary value) = search rules in
-          not_one (subst IsBoundary (unescaped_same value none) is))
+          not_one (subst IsBoundary (unescaped_same value (λ i below there. absurd (grind (arith, w.if-not-contains.true, finds.1 i below there)))) is)
     ]

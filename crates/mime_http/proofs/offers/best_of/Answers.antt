@@ -1,14 +1,9 @@
 -- The next merit is above the highest so far, or it isn't.
-use Rattle.mime_http.proofs.Common.{IfSome, List, MediaType, None, Option, Rank, Some, ap, arith, is_gt, length, length-map, length-take-le, lowest, map, merit, nat_cmp, rank_cmp, subst, sym, take, take_all, take_more, ℕ, ◌+◌, ◌++◌, ◌<◌, ◌∙◌, ◌∷◌, ◌≡◌, ◌≤◌, []}
+use Rattle.mime_http.proofs.Common.{List, MediaType, Option, Rank, arith, is_gt, length, length-map, length-take-le, lowest, map, merit, nat_tests, rank_cmp, subst, take, take_all, take_more, ℕ, ◌+◌, ◌++◌, ◌<◌, ◌∙◌, ◌∷◌, ◌≡◌, ◌≤◌, []}
 use Rattle.mime_http.specs.Chosen.{IsHighest}
-use Rattle.mime_http.proofs.Highest.{value_at, highest_raised, highest_stays, gt_of_ranks, best_is_found, none_is_found}
+use Rattle.mime_http.proofs.Highest.{value_at, highest_raised, highest_stays, best_is_found, none_is_found}
 use Rattle.mime_http.proofs.offers.best_of.Goals.{then-gt, else-gt}
 use Rattle.mime_http.proofs.offers.best_of.Goals as goal
-
--- a position that is below one bound is below a higher one
-below : (best : Option ℕ) (most more : ℕ) → most ≤ more → IfSome best (λ b. b < most) → IfSome best (λ b. b < more)
-below None most more fits is = is
-below (Some b) most more fits is = omega (arith, fits, is)
 
 pub loop-at-preserved : goal.loop-at-preserved
 loop-at-preserved c =
@@ -22,22 +17,17 @@ loop-at-preserved c =
     ∙ value_at merit_of (λ offer. offer.media) c.args.offers.now at _ lowest c.loop-at-test.true c.index-offers-at.is in
     let within : at < length all =
     omega (arith, c.loop-at-test.true, length-map offers merit_of, length-map c.args.offers.now (λ offer. offer.media)) in
-    let taken : take (at + 1) all ≡ take at all ++ (found ∷ []) =
-    take_more all at lowest within ∙ ap (λ rank. take at all ++ (rank ∷ [])) (sym rank) in
-    let count : length (take at all) ≡ at =
-    length-take-le at all (omega (arith, within)) in
-    let above : is_gt (rank_cmp found most) ≡ c.gt.result =
-    sym (c.gt.ensures ∙ gt_of_ranks (nat_cmp found.0 most.0) (nat_cmp found.1 most.1) (nat_cmp found.2 most.2) (nat_cmp found.3 most.3)) in
+    let taken : take (at + 1) all ≡ take at all ++ (found ∷ []) = rw rank (take_more all at lowest within) in
+    let above : is_gt (rank_cmp found most) ≡ c.gt.result = grind (arith, nat_tests, c.gt.ensures) in
     let was = c.loop-at.invariant in
     elim c.if-gt.branch [
       | then-gt w ↦ rw (w.most-is, w.best-is, taken) (record {
-        first = subst (λ n. IsHighest (take at all ++ (found ∷ [])) found (Some n)) count
-            (highest_raised found was.first (above ∙ w.if-gt.true));
+        first = rw (length-take-le at all (omega (arith, within))) at (highest_raised found was.first (above ∙ w.if-gt.true));
         within = omega arith;
       })
       | else-gt w ↦ rw (w.most-is, w.best-is, taken) (record {
         first = highest_stays found was.first (above ∙ w.if-gt.false);
-        within = below c.loop-at.best at (at + 1) (omega arith) was.within;
+        within = grind (arith, was.within);
       })
     ]
 

@@ -1,5 +1,5 @@
 -- The next range is the first of those that are left.
-use Rattle.mime_http.proofs.Common.{ap, arith, closeness, drop, enumerate_from, fold, get_or-map, length-map, map, option_cmp, ord_max, rank_cmp, sym, ◌+◌, ◌∙◌, ◌∷◌, ◌≡◌}
+use Rattle.mime_http.proofs.Common.{ap, arith, drop, get_or-map, length-map, map, sym, ◌+◌, ◌∙◌, ◌∷◌, ◌≡◌}
 use Rattle.std.proofs.lemmas.List.{drop_more}
 use Rattle.mime_http.proofs.Picked.{closest_is_kept}
 use Rattle.mime_http.proofs.offers.closest_of.Goals as goal
@@ -9,17 +9,13 @@ loop-at-init c = rw c.none-closest.ensures (closest_is_kept (map (λ range. rang
 
 pub loop-at-preserved : goal.loop-at-preserved
 loop-at-preserved c =
-    let higher = ord_max (option_cmp rank_cmp) in
-    let close = closeness c.args.offer.now.media in
     let at = c.loop-at.at in
     let given = c.args.ranges.now in
-    let ranges = map (λ range. range.media) given in
     let media = c.index-ranges-at.result.media in
+    let ranges = map (λ range. range.media) given in
     let next : drop at ranges ≡ media ∷ drop (at + 1) ranges =
     drop_more ranges at media (omega (arith, c.loop-at-test.true, length-map given (λ range. range.media)))
     ∙ ap (λ first. first ∷ drop (at + 1) ranges)
     (get_or-map (λ range. range.media) given at c.index-ranges-at.result media c.loop-at-test.true
     ∙ ap (λ range. range.media) (sym c.index-ranges-at.is)) in
-    ap (λ found. fold higher found (map close (enumerate_from (at + 1) (drop (at + 1) ranges))))
-    (c.look_at.ensures ∙ ap (λ media. higher c.loop-at.closest (closeness media (at, c.index-ranges-at.result.media))) c.of-parts.ensures)
-    ∙ (sym (ap (λ ranges. fold higher c.loop-at.closest (map close (enumerate_from at ranges))) next) ∙ c.loop-at.invariant)
+    rw (c.look_at.ensures, c.of-parts.ensures) (rw next at c.loop-at.invariant)

@@ -1,5 +1,5 @@
 -- What is left of an essence is the type exactly if the essence is the type and the end.
-use Rattle.mime_http.proofs.Common.{Bor, List, MatchOption, None, Option, Some, ap, append_cancel_right, bytes_eq, bytes_eq-Decides, codes, false_from_ne_true, option_eq, refl, same_from_decides, subst, sym, ℕ, ◌++◌, ◌∙◌, ◌≡◌}
+use Rattle.mime_http.proofs.Common.{arith, Bor, List, MatchOption, None, Option, Some, ap, append_cancel_right, bytes_eq, bytes_eq-Decides, codes, option_eq, refl, ℕ, ◌++◌, ◌∙◌, ◌≡◌}
 use Rattle.std.specs.Str.Pattern.{FindsTextSuffix, StripsSuffix}
 use Rattle.mime_http.proofs.range.is_all_of.Goals as goal
 
@@ -7,15 +7,10 @@ use Rattle.mime_http.proofs.range.is_all_of.Goals as goal
 is_whole : (text end other : List ℕ) (other-borrowed : Bor (List ℕ)) (rest : Option (Bor (List ℕ))) → other-borrowed.now ≡ other
     → MatchOption rest (FindsTextSuffix end text None) (λ x. StripsSuffix (FindsTextSuffix end) text x.now)
     → option_eq (λ a b. bytes_eq a.now b.now) rest (Some other-borrowed) ≡ bytes_eq text (other ++ end)
-is_whole text end other b None same none = sym (false_from_ne_true _ (λ is. none other ((bytes_eq-Decides text (other ++ end)).0 is)))
+is_whole text end other b None same none =
+    grind (arith, same, bytes_eq-Decides text (other ++ end), λ (is : text ≡ other ++ end). none other is)
 is_whole text end other b (Some rest) same (n, found, is, long) =
-    let whole : text ≡ rest.now ++ end = subst (λ r. text ≡ r ++ end) (sym is) found.1 in
-    let test = bytes_eq-Decides text (other ++ end) in
-    let part = bytes_eq-Decides rest.now b.now in
-    same_from_decides _ _ part (
-      (λ yes. append_cancel_right _ _ end (sym whole ∙ test.0 yes) ∙ sym same),
-      (λ alike. test.1 (whole ∙ ap (λ r. r ++ end) (alike ∙ same))),
-    )
+    grind (arith, same, is, found, bytes_eq-Decides text (other ++ end), bytes_eq-Decides rest.now b.now, append_cancel_right rest.now b.now end)
 
 pub returns : goal.returns
 returns c =

@@ -1,10 +1,10 @@
 -- The first piece from here on is added, and those after its comma are left.
-use Rattle.mime_http.proofs.Common.{Adds, [], arith, cut, length, refl, sym, true≢false, ◌<◌}
-use Rattle.mime_http.proofs.Adds.{all_passed, add_nothing, adds_both, adds_none, blank_there, none_so_far, past_empty, past_last, past_piece}
+use Rattle.mime_http.proofs.Common.{Adds, [], arith, length, refl, sym, true≢false, ◌<◌}
+use Rattle.mime_http.proofs.Adds.{all_passed, add_nothing, adds_both, adds_none, blank_there, past_empty, past_last, past_piece}
 use Rattle.mime_http.proofs.accept.Accept.add_line.Goals as goal
 
 pub loop-from-init : goal.loop-from-init
-loop-from-init c = record { within = omega arith; added = none_so_far (cut c.args.line.now) (adds_none c.args.self.now) }
+loop-from-init c = record { within = omega arith; added = record { before = []; whole = refl; holds = adds_none c.args.self.now } }
 
 pub loop-from-preserved-then-is_empty_piece : goal.loop-from-preserved-then-is_empty_piece
 loop-from-preserved-then-is_empty_piece c =

@@ -1,25 +1,15 @@
 -- The entry's media type or itself was pushed.
-use Rattle.mime_http.proofs.Common.{Header, IsHttpMediaType, None, map, Reads, Some, [], ap, rules, sym, tight, trim_end, vec_items, ◌++◌, ◌∙◌, ◌∷◌, ◌≡◌}
-use Rattle.mime_http.proofs.Adds.{read_entry, add_range, add_bad}
-use Rattle.std.proofs.lemmas.List.{map_push}
+use Rattle.mime_http.proofs.Common.{IsHttpMediaType, Reads, arith, common_steps, tight}
+use Rattle.mime_http.proofs.Adds.{add_range, add_bad}
 use Rattle.mime_http.proofs.accept.Accept.add_rejected.Goals as goal
 
 pub returns-in_ok-push-in-Some : goal.returns-in_ok-push-in-Some
 returns-in_ok-push-in-Some c =
-    let entry = c.args.entry.now in
-    let media = c.in-Some.range.media in
-    let reads : Reads (tight entry) media =
-    read_entry entry _ (Some c.in-Some.range) (sym c.ok.ensures.value ∙ c.in-Some.is) c.in_ok-read_tight.ensures.read in
-    let new : vec_items c.push.new.self ≡ vec_items c.self.inside.ranges ++ (c.in-Some.range ∷ []) = search rules in
-    add_range entry media c.utf8.entry reads
-    (ap (map (λ range. range.media)) new ∙ map_push (λ range. range.media) (vec_items c.self.inside.ranges) c.in-Some.range
-    ∙ ap (λ (h : Header). h.ranges ++ (media ∷ [])) c.self.view_is)
-    (ap (λ (h : Header). h.bad) c.self.view_is)
+    let reads : Reads (tight c.args.entry.now) c.in-Some.range.media = grind (arith, common_steps) in
+    add_range _ c.in-Some.range.media c.utf8.entry reads (grind (arith, common_steps)) (grind (arith, common_steps))
 
 pub returns-in_ok-add_bad-in-None : goal.returns-in_ok-add_bad-in-None
 returns-in_ok-add_bad-in-None c =
-    let entry = c.args.entry.now in
-    let isnt : ¬ (IsHttpMediaType entry) =
-    read_entry entry _ None (sym c.ok.ensures.value ∙ c.in-None.is) c.in_ok-read_tight.ensures.read in
-    add_bad entry c.requires.some (λ both. isnt both.1) c.in_ok-add_bad-in-None.ensures.ranges
-    (c.in_ok-add_bad-in-None.ensures.bad ∙ ap (λ e. c.args.self.now.bad ++ (trim_end e ∷ [])) c.as_bytes.ensures.value)
+    let isnt : ¬ (IsHttpMediaType c.args.entry.now) = grind (arith, common_steps) in
+    add_bad _ c.requires.some (λ both. isnt both.1) c.in_ok-add_bad-in-None.ensures.ranges
+    (rw c.as_bytes.ensures.value at c.in_ok-add_bad-in-None.ensures.bad)
