@@ -1,6 +1,6 @@
 -- Worked facts of the pages `HttpMediaType`, `HttpFaults` and `Tight`: a value that is read, values that aren't media types, their faults,
 -- and tightened values.
-use Rattle.mime_http.proofs.Common.{walk, bytes_eq, bytes_eq-Decides, true≢false, ◌∙◌, Bool, FaultIsSpare, HttpReads, InvalidToken, IsAccepted, IsContent-taken, IsHttpFault, IsHttpMediaType, IsHttpViable, List, MediaType, MissingSubtype, MissingValue, None, ReadsTight, Tightens, [], accepted-from_complete, another, ap, append_assoc, arith, codes, dead-from_walk, false, false≢true, final, first, in_subtype, is_quoted_byte, is_space, is_token_byte, length, list_all, listed, no_more, not, not_viable-at_dead, quoted, refl, rejected-from_walk, semicolon, semicolon_and, stopped-from_walk, subst, sym, tight, true, viable-from_walk, white, with_string, ℕ, ◌&&◌, ◌++◌, ◌==◌, ◌∷◌, ◌≡◌}
+use Rattle.mime_http.proofs.Common.{Bool, FaultIsSpare, HttpReads, InvalidToken, IsAccepted, IsContent-taken, IsHttpFault, IsHttpMediaType, IsHttpViable, List, MediaType, MissingSubtype, MissingValue, None, ReadsTight, Tightens, [], accepted-from_complete, another, ap, append_assoc, arith, bytes_eq, bytes_eq-Decides, codes, dead-from_walk, false, false≢true, final, first, in_subtype, is_quoted_byte, is_space, is_token_byte, length, list_all, listed, no_more, not, not_viable-at_dead, quoted, refl, rejected-from_walk, semicolon, semicolon_and, stopped-from_walk, subst, sym, tight, true, true≢false, viable-from_walk, walk, white, with_string, ℕ, ◌&&◌, ◌++◌, ◌==◌, ◌∙◌, ◌∷◌, ◌≡◌}
 use Rattle.std.proofs.Math.Bool.{and-false}
 use Rattle.mime_http.proofs.Tightened.{tight_is}
 use Rattle.mime_http.proofs.HttpFaults.{longest_at, same_last}
@@ -68,10 +68,9 @@ space_may_follow = viable_from_accepted (codes "   a/b ") accepted
 at_c : IsHttpFault (codes "   a/b c") (InvalidToken 7 99)
 unfolding is_token_byte
 at_c = record {
-  prefix = longest_at (codes "   a/b ") (codes "c") space_may_follow (λ b bytes e viable.
-      let first : 99 ≡ b = cc in
+  prefix = longest_at (codes "   a/b ") (codes "c") space_may_follow (λ viable.
       not_viable-at_dead (codes "a/b c") 3 32 (dead-from_walk (codes "a/b") (codes "c") 32 _ refl refl)
-      (tight_from_viable (codes "   a/b c") (subst (λ x. IsHttpViable (codes "   a/b " ++ (x ∷ []))) (sym first) viable)));
+      (tight_from_viable (codes "   a/b c") viable));
   there = refl;
 }
 
@@ -83,11 +82,8 @@ not_at_space fault = fault.prefix.longest 7 (omega arith) (omega arith) space_ma
 at_space : IsHttpFault (codes "text ") (InvalidToken 4 32)
 unfolding is_token_byte
 at_space = record {
-  prefix = longest_at (codes "text") (codes " ") (viable_from_tight (codes "text") tt (viable-from_walk (codes "text") _ refl))
-      (λ b bytes e viable.
-      let first : 32 ≡ b = cc in
-      rejected-from_walk (codes "text") _ refl refl
-      (accepted_from_spaced (codes "text ") refl (subst (λ x. IsHttpViable (codes "text" ++ (x ∷ []))) (sym first) viable)));
+  prefix = longest_at (codes "text") (codes " ") (viable_from_tight (codes "text") tt (viable-from_walk (codes "text") _ refl)) (λ viable.
+      rejected-from_walk (codes "text") _ refl refl (accepted_from_spaced (codes "text ") refl viable));
   there = refl;
 }
 

@@ -1,8 +1,8 @@
 -- Where tightening copies a value, the library finds a byte at fault that might be left out; and where it does, one is left out.
-use Rattle.mime_http.proofs.Common.{AreSpaces, FaultIsSpare, InvalidToken, IsDeadAt, IsFault, List, Place, Semicolon, Start, [], added, ap, append-nil, append_assoc, append_cancel_left, arith, begins_with_semicolon, cases_Bool, drop, ends_in_semicolon_or_space, eqb-true, false, false≢true, is_left_out, is_space, length, length-append, nat_tests, nil_from_length, place_after, refl, subst, sym, take, tight, tight_from, trim_start, true, ℕ, ⊎_elim, ◌++◌, ◌+◌, ◌∙◌, ◌∷◌, ◌≡◌}
-use Rattle.mime_http.proofs.Places.{IsSettled, left_white, settled_adds, skipped_white, spaced}
+use Rattle.mime_http.proofs.Common.{AreSpaces, FaultIsSpare, InvalidToken, IsDeadAt, IsFault, List, Place, Semicolon, Start, [], ap, append_assoc, append_cancel_left, arith, begins_with_semicolon, cases_Bool, drop, ends_in_semicolon_or_space, eqb-true, false, false≢true, is_left_out, is_space, length, length-append, nat_tests, nil_from_length, place_after, refl, subst, sym, take, tight, tight_from, trim_start, true, ℕ, ⊎_elim, ◌++◌, ◌+◌, ◌∙◌, ◌∷◌, ◌≡◌}
+use Rattle.mime_http.proofs.Places.{IsSettled, settled_adds, skipped_white, spaced}
 use Rattle.mime_http.proofs.LeftOut.{drops, leaves_there}
-use Rattle.mime_http.proofs.AtFault.{at_fault, at_rest, bare, fault_in_front}
+use Rattle.mime_http.proofs.AtFault.{at_fault, bare, fault_in_front}
 use Rattle.mime_http.proofs.HowFar.{Snoc, last, none, snoc}
 use Rattle.mime_http.proofs.HttpFaults.{last_of}
 use Rattle.mime_http.proofs.Trims.{split_white}
@@ -33,12 +33,12 @@ spare_white value pos b dead is begins =
         (subst (λ r. IsFault (front ++ (b ∷ r)) (InvalidToken (length front) b)) whole fault))
 
 -- and a semicolon at fault after another or white space
-pub spare_semicolon : (value : List ℕ) (pos b : ℕ) → IsDeadAt value pos b → b ≡ 59 → ends_in_semicolon_or_space (take pos value) ≡ true
+pub spare_semicolon : (value : List ℕ) (pos : ℕ) → IsDeadAt value pos 59 → ends_in_semicolon_or_space (take pos value) ≡ true
     → FaultIsSpare value
-spare_semicolon value pos b dead is ends =
-    at_fault value pos 59 (subst (IsDeadAt value pos) is dead)
+spare_semicolon value pos dead ends =
+    at_fault value pos 59 dead
     (λ v n front rest. ends_in_semicolon_or_space front ≡ true → IsFault v (InvalidToken n 59) → FaultIsSpare v)
-    (λ front rest fault. go rest (snoc front)) ends (subst (IsDeadAt value pos) is dead)
+    (λ front rest fault. go rest (snoc front)) ends dead
   where
     go : (rest : List ℕ) {before : List ℕ} → Snoc before → ends_in_semicolon_or_space before ≡ true
         → IsFault (before ++ (59 ∷ rest)) (InvalidToken (length before) 59) → FaultIsSpare (before ++ (59 ∷ rest))
@@ -77,8 +77,7 @@ spare_is_left_out _ (first b rest is) = first_left_out b rest is
 spare_is_left_out _ (white [] spaces rest b is all fault) = first_left_out b (spaces ++ (59 ∷ rest)) is
 spare_is_left_out _ (white (c ∷ front) spaces rest b is all dead) = λ same.
     let fault = fault_in_front (c ∷ front) b (spaces ++ (59 ∷ rest)) dead in
-    let out = left_white (leaves_there fault is (omega arith)) b is in
-    let tightly = drops fault (sym (append-nil _) ∙ out.tightly []) out.there (spaces ++ (59 ∷ rest)) in
+    let tightly = drops fault (leaves_there fault is (omega arith)) (spaces ++ (59 ∷ rest)) in
     let left : 59 ∷ tight_from Semicolon rest ≡ b ∷ (spaces ++ (59 ∷ rest)) =
     sym ((skipped_white spaced spaces all).tightly (59 ∷ rest)) ∙ append_cancel_left (c ∷ front) _ _ (sym tightly ∙ same) in
     let semicolon : b ≡ 59 = cc in
@@ -89,7 +88,5 @@ spare_is_left_out _ (another front rest b is dead) = λ same.
     (subst (λ n. IsDeadAt ((front ++ (b ∷ [])) ++ (59 ∷ rest)) n 59) (sym (length-append front (b ∷ [])))
     (subst (λ v. IsDeadAt v (length front + 1) 59) (sym whole) dead)) in
     let there = last_of front b in
-    let place = bare fault (rw there is) in
-    let tightly = drops fault (ap (λ p. added p 59) place) (ap (λ p. place_after p 59) place) rest in
     begins_not {place = Semicolon} tt (λ c second. ap (place_after Semicolon) (eqb-true c 59 second)) rest rest 59 refl
-    (append_cancel_left (front ++ (b ∷ [])) _ _ (sym tightly ∙ (ap tight whole ∙ (same ∙ sym whole))))
+    (append_cancel_left (front ++ (b ∷ [])) _ _ (sym (drops fault (bare fault (rw there is)) rest) ∙ (ap tight whole ∙ (same ∙ sym whole))))

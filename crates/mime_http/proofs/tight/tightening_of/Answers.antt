@@ -54,7 +54,7 @@ returns-in-32-2-clause-left c =
 
 pub copied-requires-in-59-clause-loose : goal.copied-requires-in-59-clause-loose
 copied-requires-in-59-clause-loose c =
-    next_semicolon _ _ _ (dead_of c.requires.fault c.in-InvalidToken.is) c.in-59.is
+    next_semicolon _ _ (rw c.in-59.is at (dead_of c.requires.fault c.in-InvalidToken.is))
     (sym c.ends_in_semicolon_or_space.ensures ∙ c.if-ends_in_semicolon_or_space.true)
 
 pub returns-in-59-clause-left : goal.returns-in-59-clause-left
@@ -67,7 +67,7 @@ returns-in_default-byte-clause-left c =
     let stands : Stands value (InvalidToken c.in-InvalidToken.pos c.in-InvalidToken.byte) =
     elim c.in_default-byte.branch [
       | in_default-byte-via-in-59+else-ends_in_semicolon_or_space w ↦
-          first_semicolon _ _ _ dead w.in-59.is (sym w.ends_in_semicolon_or_space.ensures ∙ w.if-ends_in_semicolon_or_space.false)
+          rw w.in-59.is (first_semicolon _ _ (rw w.in-59.is at dead) (sym w.ends_in_semicolon_or_space.ensures ∙ w.if-ends_in_semicolon_or_space.false))
       | in_default-byte-via-in_default-1 w ↦ byte_that_stays _ _ _ dead (grind (arith, nat_tests, w))
     ] in
     subst (Stands value) (sym c.in-InvalidToken.is) stands
@@ -79,5 +79,5 @@ returns-in-32-clause-memory c = λ isnt.
 
 pub returns-in-59-clause-memory : goal.returns-in-59-clause-memory
 returns-in-59-clause-memory c = λ isnt.
-    absurd (isnt (spare_semicolon _ _ _ (dead_of c.requires.fault c.in-InvalidToken.is) c.in-59.is
+    absurd (isnt (spare_semicolon _ _ (rw c.in-59.is at (dead_of c.requires.fault c.in-InvalidToken.is))
     (sym c.ends_in_semicolon_or_space.ensures ∙ c.if-ends_in_semicolon_or_space.true)))
