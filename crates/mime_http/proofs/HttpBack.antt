@@ -2,7 +2,7 @@
 use Rattle.mime_http.proofs.Common.{Begun, Bool, ClosedParameters, HttpReads, IsBegun, IsHttpMediaType, List, ListState, MatchOption, MatchOption-at_some, MediaType, None, Paired, Place, Quoted, Reads, Semicolon, Some, Spaced, Start, SyntaxTree, [], added, after_quotes, and_from, ap, append-nil, append_assoc, arith, awaits_after, by_option, cases_Bool, cond_both, eqb-true, false, grow, if◌then◌else◌, in_list, in_name, in_quotes, in_spaces, in_subtype, in_type, in_value, is_left_out, is_space, is_token_byte, list_at, none-some, one_reading, option_and_then_some, place_after, refl, same_Some, subst, sym, tight, tight_from, tree_of, true, walk, walk-accepted, walk_by-append, walk_from, walk_from-lengthens, ℕ, ⊎_elim, ◌++◌, ◌==◌, ◌∙◌, ◌∷◌, ◌≡◌}
 use Rattle.mime_http.proofs.Places.{IsSettled, LeavesWhite, after_equals, after_token, left_white, place_from, settled_adds}
 use Rattle.mime_http.proofs.HttpForth.{http_is_read}
-use Rattle.mime_http.proofs.Spelled.{EndsSo, Spelled, ended_so, ended_spaces, more_before, respelled, semicolon_next, spaced_after}
+use Rattle.mime_http.proofs.Spelled.{EndsSo, Spelled, ended_so, ended_spaces, headed, more_before, rewritten, semicolon_next, spaced_after}
 use Rattle.mime_http.proofs.Walked.{Goes, grows_to, place_at, place_in_list}
 
 -- ---- the places at begun trees
@@ -164,7 +164,7 @@ bytes_more (b ∷ bytes) {place} {begun} {last} {front} at e =
 
 -- so they are up to the end of bytes of which a walked text comes out
 pub reached : (front : List ℕ) (begun : Begun) → walk (tight front) ≡ Some begun → Reached (place_from Start front) begun front
-reached front begun e = bytes_more front (is_spelled (in_type []) [] refl (record { before = []; white = refl; split = refl })) e
+reached front begun e = bytes_more front (is_spelled (in_type []) [] refl (headed [] refl)) e
 
 -- after white space that was left out it is left out there
 pub leaves_at : {place : Place} {begun : Begun} {front : List ℕ} → Reached place begun front → place ≡ Spaced → LeavesWhite (place_at begun)
@@ -179,4 +179,4 @@ read_is_http value media reads =
     (ended_at (reached value walked.0 walked.2.0)) in
     let again = http_is_read value found.0 found.1 in
     subst (HttpReads value) (one_reading (tight value) _ media again.1 reads)
-    (respelled found.1 found.1.before again.0 found.1.white_before found.1.spelled)
+    (rewritten found.1 found.1.parameters found.1.after _ again.0 found.1.are_parameters found.1.white_after found.1.spelled)
