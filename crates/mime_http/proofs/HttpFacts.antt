@@ -2,6 +2,7 @@
 -- and tightened values.
 use Rattle.mime_http.proofs.Common.{Bool, FaultIsSpare, HttpReads, InvalidToken, IsAccepted, IsContent-taken, IsHttpFault, IsHttpMediaType, IsHttpViable, List, MediaType, MissingSubtype, MissingValue, None, ReadsTight, Tightens, [], accepted-from_complete, another, ap, append_assoc, arith, bytes_eq, bytes_eq-Decides, codes, dead-from_walk, false, false≢true, final, first, in_subtype, is_quoted_byte, is_space, is_token_byte, length, list_all, listed, no_more, not, not_viable-at_dead, quoted, refl, rejected-from_walk, semicolon, semicolon_and, stopped-from_walk, subst, sym, tight, true, true≢false, viable-from_walk, walk, white, with_string, ℕ, ◌&&◌, ◌++◌, ◌==◌, ◌∙◌, ◌∷◌, ◌≡◌}
 use Rattle.std.proofs.Math.Bool.{and-false}
+use Rattle.mime_http.proofs.Spelled.{reads_of}
 use Rattle.mime_http.proofs.Tightened.{tight_is}
 use Rattle.mime_http.proofs.HttpFaults.{longest_at, same_last}
 use Rattle.mime_http.proofs.HttpForth.{http_is_tight}
@@ -19,24 +20,9 @@ html_type kept = record { essence = codes "text/html"; slash = 4; plus = None; p
 -- it is read so
 read : HttpReads value (html_type [])
 unfolding is_token_byte is_quoted_byte
-read = record {
-  before = codes " ";
-  top = codes "text";
-  sub = codes "HTML";
-  parameters = codes " ;; charset=\"UTF-8\"";
-  after = codes " ";
-  spelled = refl;
-  white_before = refl;
-  is_top = refl;
-  is_sub = refl;
-  are_parameters = semicolon (codes " ") [] _ _ refl refl
-      (semicolon_and [] (codes " ") (codes "charset=\"UTF-8\"") [] _ [] refl refl
-      (with_string (codes "charset") (codes "UTF-8") refl (IsContent-taken (codes "UTF-8") refl refl)) no_more);
-  white_after = refl;
-  essence = refl;
-  slash = refl;
-  plus = refl;
-}
+read = reads_of (codes " ") (codes "text") (codes "HTML") (codes " ;; charset=\"UTF-8\"") (codes " ") _ [] refl refl refl
+    (semicolon (codes " ") [] _ _ refl refl (semicolon_and [] (codes " ") (codes "charset=\"UTF-8\"") [] _ [] refl refl
+    (with_string (codes "charset") (codes "UTF-8") refl (IsContent-taken (codes "UTF-8") refl refl)) no_more)) refl
 
 -- a value of which no beginning is walked is no media type
 never_walked : (value : List ℕ) → walk (tight value) ≡ None → ¬ (IsHttpMediaType value)

@@ -1,7 +1,7 @@
 -- What the library walks comes out as it is, byte by byte, and HTTP writes it so.
 use Rattle.mime_http.proofs.Common.{Begun, BegunList, Bool, Closed, ClosedParameters, Equals, IsAccepted, IsBegun, IsFalse, IsTrue, List, ListState, MatchOption, MatchOption-at_some, MediaType, None, Option, Paired, Place, Plain, Quoted, Reads, Semicolon, Some, Start, [], after_quotes, and_parts, ap, append_assoc, arith, awaits_after, awaits_after-append, awaits_next, by_class, cond_both, continues, false, false≢true, grow, grow_list, grow_state, if◌then◌else◌, in_list, in_name, in_quotes, in_spaces, in_subtype, in_type, in_value, is_quoted_byte, is_space, is_token_byte, list_at, nat_tests, option_and_then_some, option_map, refl, same_Some, subst, sym, takes, tight, true, walk-accepted, walk_from, ℕ, ◌++◌, ◌==◌, ◌∷◌, ◌≡◌}
 use Rattle.mime_http.proofs.Places.{Leads, after_value, before_name, both, comes_out, goes_on, regrouping, no_bytes, of_name, of_type, of_value, one, plain_byte, so, space, token_is_plain}
-use Rattle.mime_http.proofs.Spelled.{Headed, Spelled, ended_so, in_list_more, more_before, headed_more, semicolon_next}
+use Rattle.mime_http.proofs.Spelled.{InList, Spelled, ended_so, in_list_more, more_before, headed_more, semicolon_next}
 
 -- ---- the place at the end of what the library walks
 
@@ -43,50 +43,47 @@ unfolding is_quoted_byte
 closes true not_taken = absurd (false≢true (sym not_taken))
 closes false not_taken = one Quoted 34
 
+-- the same of a byte in a list
+abbrev GoesIn : (top sub : List ℕ) (closed : ClosedParameters) → ListState → ℕ → BegunList → Type 0
+GoesIn top sub closed state b next = Goes (in_list top sub (list_at closed state)) b (in_list top sub next)
+
+-- the begun text grows by it
+longer : {text next front : List ℕ} → InList text front → (b : ℕ) → text ++ (b ∷ []) ≡ next → InList next (front ++ (b ∷ []))
+longer here b same = in_list_more here b (λ rest h. headed_more h b same)
+
 -- in a list each byte that goes on does
-grown_list : (top sub : List ℕ) (closed : ClosedParameters) (state : ListState) (b : ℕ) → MatchOption (grow_state closed state b) (Unit {0})
-    (λ next. Goes (in_list top sub (list_at closed state)) b (in_list top sub next))
+grown_list : (top sub : List ℕ) (closed : ClosedParameters) (state : ListState) (b : ℕ)
+    → MatchOption (grow_state closed state b) (Unit {0}) (GoesIn top sub closed state b)
 grown_list top sub closed (in_spaces n) b =
-    let begun = in_list top sub (list_at closed (in_spaces n)) in
-    let P = λ (o : Option BegunList). MatchOption o (Unit {0}) (λ next. Goes begun b (in_list top sub next)) in
+    let P = λ (o : Option BegunList). MatchOption o (Unit {0}) (GoesIn top sub closed (in_spaces n) b) in
     cond_both (is_space b) _ _ P
     (λ white. (space before_name b white, λ front fine here. in_list_more here b (λ rest h. more_before h b white)))
     (λ other. cond_both (is_token_byte b) _ _ P
-    (λ yes. (plain_byte of_name b (token_is_plain b yes), λ front fine here. in_list_more here b (λ rest h. headed_more h b refl)))
-    (λ no. tt))
-grown_list top sub closed (in_name n name) b =
-    by_class (λ b next. Goes (in_list top sub (list_at closed (in_name n name))) b (in_list top sub next)) is_token_byte 61 b _ _
-    (λ yes. (plain_byte goes_on b (token_is_plain b yes), λ front fine here. in_list_more here b (λ rest h. headed_more h b refl)))
-    (λ no. (one Plain 61, λ front fine here. in_list_more here 61 (λ rest h. headed_more h 61 refl)))
-grown_list top sub closed (in_value n name []) b =
-    let more = λ (b : ℕ) (rest : List ℕ) (h : Headed (name ++ (61 ∷ [])) rest). headed_more h b (append_assoc name (61 ∷ []) (b ∷ [])) in
-    by_class (λ b next. Goes (in_list top sub (list_at closed (in_value n name []))) b (in_list top sub next)) is_token_byte 34 b _ _
-    (λ yes. (plain_byte of_value b (token_is_plain b yes), λ front fine here. in_list_more here b (more b)))
-    (λ no. (one Equals 34, λ front fine here. in_list_more here 34 (more 34)))
+    (λ yes. (plain_byte of_name b (token_is_plain b yes), λ front fine here. longer here b refl)) (λ no. tt))
+grown_list top sub closed (in_name n name) b = by_class (GoesIn top sub closed (in_name n name)) is_token_byte 61 b _ _
+    (λ yes. (plain_byte goes_on b (token_is_plain b yes), λ front fine here. longer here b refl))
+    (λ no. (one Plain 61, λ front fine here. longer here 61 refl))
+grown_list top sub closed (in_value n name []) b = by_class (GoesIn top sub closed (in_value n name [])) is_token_byte 34 b _ _
+    (λ yes. (plain_byte of_value b (token_is_plain b yes), λ front fine here. longer here b (append_assoc name (61 ∷ []) (b ∷ []))))
+    (λ no. (one Equals 34, λ front fine here. longer here 34 (append_assoc name (61 ∷ []) (34 ∷ []))))
 grown_list top sub closed (in_value n name (v ∷ value)) b =
-    let begun = in_list top sub (list_at closed (in_value n name (v ∷ value))) in
-    by_class (λ b next. Goes begun b (in_list top sub next)) is_token_byte 59 b _ _
-    (λ yes. (
-      plain_byte goes_on b (token_is_plain b yes),
-      λ front fine here. in_list_more here b (λ rest h. headed_more h b (append_assoc name (61 ∷ v ∷ value) (b ∷ []))),
-    ))
-    (λ no. (one Plain 59, λ front fine here. semicolon_next (ended_so begun front fine here)))
+    let state = in_value n name (v ∷ value) in
+    by_class (GoesIn top sub closed state) is_token_byte 59 b _ _
+    (λ yes. (plain_byte goes_on b (token_is_plain b yes), λ front fine here. longer here b (append_assoc name _ (b ∷ []))))
+    (λ no. (one Plain 59, λ front fine here. semicolon_next (ended_so (in_list top sub (list_at closed state)) front fine here)))
 grown_list top sub closed (in_quotes n name content) b =
-    let begun = in_list top sub (list_at closed (in_quotes n name content)) in
-    let text = name ++ (61 ∷ 34 ∷ content) in
-    let more = λ (b : ℕ) (rest : List ℕ) (h : Headed text rest). headed_more h b (append_assoc name (61 ∷ 34 ∷ content) (b ∷ [])) in
-    by_class (λ b next. Goes begun b (in_list top sub next)) (continues content) 34 b _ _
+    by_class (GoesIn top sub closed (in_quotes n name content)) (continues content) 34 b _ _
     (λ yes. (
       so (taken (awaits_after false content) b yes) refl
           (ap (λ (t : Bool). if t then Paired else Quoted) (sym (awaits_after-append false content (b ∷ [])))),
-      λ front fine here. in_list_more here b (more b),
+      λ front fine here. longer here b (append_assoc name (61 ∷ 34 ∷ content) (b ∷ [])),
     ))
-    (λ no. (closes (awaits_after false content) no, λ front fine here. in_list_more here 34 (more 34)))
+    (λ no. (closes (awaits_after false content) no, λ front fine here. longer here 34 (append_assoc name _ (34 ∷ []))))
 grown_list top sub closed (after_quotes n name content m) b =
-    let begun = in_list top sub (list_at closed (after_quotes n name content m)) in
-    by_class (λ b next. Goes begun b (in_list top sub next)) is_space 59 b _ _
-    (λ white. (space after_value b white, λ front fine here. in_list_more here b (λ rest h. headed_more h b (simp regrouping))))
-    (λ no. (one Closed 59, λ front fine here. semicolon_next (ended_so begun front fine here)))
+    let state = after_quotes n name content m in
+    by_class (GoesIn top sub closed state) is_space 59 b _ _
+    (λ white. (space after_value b white, λ front fine here. longer here b (simp regrouping)))
+    (λ no. (one Closed 59, λ front fine here. semicolon_next (ended_so (in_list top sub (list_at closed state)) front fine here)))
 
 -- what holds of a part holds of the whole that it makes
 mapped : {X Y : Type 0} (f : X → Y) (P : Y → Type 0) (o : Option X) → MatchOption o (Unit {0}) (λ x. P (f x))
