@@ -1,21 +1,15 @@
 -- What the library reads as it stands is what HTTP writes, and stays as it is.
-use Rattle.mime_http.proofs.Common.{Explains, FaultIsSpare, HttpExplains, HttpReads, IfErr, IfOk, IsAccepted, IsAscii-cons, IsAscii-nil, IsHttpMediaType, IsUtf8, IsUtf8-from_ascii, OwnedMedia, Reads, ReadsTight, [], arith, rules, subst, sym, tight, true≢false, ◌∙◌, ◌∷◌, ◌≡◌, ◌≢◌, IfOk-weaker}
+use Rattle.mime_http.proofs.Common.{Explains, FaultIsSpare, HttpExplains, HttpReads, IfErr, IfOk, IfOk-weaker, IsAccepted, IsHttpMediaType, IsUtf8, IsUtf8-nil, OwnedMedia, Reads, ReadsTight, [], arith, rules, subst, sym, tight, true≢false, ◌∙◌, ◌∷◌, ◌≡◌, ◌≢◌}
 use Rattle.mime_http.specs.declared.value.FieldError.{FieldError}
+use Rattle.mime_http.proofs.HttpText.{put_ascii}
 use Rattle.mime_http.proofs.HttpBack.{read_is_http}
-use Rattle.mime_http.proofs.HttpLaws.{reads_tight}
 use Rattle.mime_http.proofs.Walked.{tight_too}
-use Rattle.mime_http.proofs.HttpLaws.{plain_is_http}
+use Rattle.mime_http.proofs.HttpLaws.{plain_is_http, reads_tight}
 use Rattle.mime_http.proofs.Rejections.{fault_explains}
 use Rattle.mime_http.proofs.value.content_type.Goals as goal
 
--- `*/*` is in UTF-8
-star : IsUtf8 (42 ∷ 47 ∷ 42 ∷ [])
-star =
-    IsUtf8-from_ascii (42 ∷ 47 ∷ 42 ∷ []) (IsAscii-cons 42 (47 ∷ 42 ∷ []) (omega arith) (IsAscii-cons 47 (42 ∷ []) (omega arith)
-    (IsAscii-cons 42 [] (omega arith) IsAscii-nil)))
-
 pub returns-in-Err-clause-star : goal.returns-in-Err-clause-star
-returns-in-Err-clause-star c = λ is. absurd (c.in-Err.ensures.cases.0 (subst IsUtf8 (sym is) star))
+returns-in-Err-clause-star c = λ is. absurd (c.in-Err.ensures.cases.0 (subst IsUtf8 (sym is) (put_ascii (42 ∷ 47 ∷ 42 ∷ []) [] (omega arith) IsUtf8-nil)))
 
 pub returns-in-Ok-from_str-clause-http : goal.returns-in-Ok-from_str-clause-http
 returns-in-Ok-from_str-clause-http c =
