@@ -1,10 +1,9 @@
 -- A byte at fault, and the bytes before it: where they end, and when the fault stands.
-use Rattle.mime_http.proofs.Common.{Begun, Bool, Closed, ClosedParameters, InvalidToken, IsAccepted, IsDeadAt, IsFault, IsViable, Lacks, List, ListState, None, Paired, ParseError, Place, Quoted, Semicolon, Some, Spaced, Stands, Start, [], ap, arith, by_option, completed_is_rejected, drop, ends_in_semicolon_or_space, false, false≢true, get_or, get_or_from_slice_get, grow, grow_list, grow_state, in_list, in_type, in_value, inl, is_left_out, is_quoted_byte, is_semicolon_or_space, is_space, length, length-take-le, nat_tests, none-some, not, option_and_then, option_map, place_after, refl, slice_get-prefix, slice_get_within, spelled-from_walk, subst, sym, take, take-append-drop, take-append_seam, takes, tight, true, true≢false, viable-from_lacks, viable-from_walk, walk, walk-from_viable, walk_by-append_some, walk_from, ℕ, ⊤, ◌++◌, ◌+◌, ◌==◌, ◌||◌, ◌∙◌, ◌∷◌, ◌≡◌, ◌≢◌}
+use Rattle.mime_http.proofs.Common.{Begun, Bool, Closed, ClosedParameters, InvalidToken, IsAccepted, IsDeadAt, IsFault, IsViable, Lacks, List, ListState, None, Paired, ParseError, Place, Quoted, Semicolon, Some, Spaced, Stands, Start, [], ap, arith, by_option, completed_is_rejected, drop, drop_more, ends_in_semicolon_or_space, false, false≢true, get_or, get_or_from_slice_get, grow, grow_list, grow_state, in_list, in_type, in_value, inl, is_left_out, is_quoted_byte, is_semicolon_or_space, is_space, length, length-take-le, nat_tests, none-some, not, option_and_then, option_map, place_after, refl, slice_get-prefix, slice_get_within, spelled-from_walk, subst, sym, take, take-append-drop, take-append_seam, take_more, takes, tight, true, true≢false, viable-from_lacks, viable-from_walk, walk, walk-from_viable, walk_by-append_some, walk_from, ℕ, ⊤, ◌++◌, ◌+◌, ◌==◌, ◌||◌, ◌∙◌, ◌∷◌, ◌≡◌, ◌≢◌}
 use Rattle.mime_http.proofs.Places.{IsSettled, Leads, comes_out, one, place_from, place_from-append, settled_adds}
 use Rattle.mime_http.proofs.Walked.{place_at, place_in_list, walked}
 use Rattle.mime_http.proofs.HttpBack.{walk_is_settled}
 use Rattle.mime_http.proofs.HttpLaws.{accepted_from_http}
-use Rattle.std.proofs.lemmas.List.{drop_more, take_more}
 use Rattle.mime_http.proofs.HttpViability.{tight_from_viable}
 use Rattle.mime_http.proofs.HowFar.{Snoc, last, none, snoc, tight_one}
 use Rattle.mime_http.proofs.HttpFaults.{Halts, end_lacks, halts_here, halts_rejects, last_of}

@@ -5,8 +5,6 @@ use Rattle.mime_http.proofs.Common.{AreHeaderBytes, AreTokenBytes-from_token, Bo
 abbrev pub is_special : ℕ → Bool
 is_special b = b == 34 || b == 92
 
--- ---- bytes that need no backslash
-
 -- bytes that stand in quotes as they are need none,
 pub plain_text : (bytes : List ℕ) → list_all is_quoted_text_byte bytes ≡ true → escaped bytes ≡ bytes
 plain_text [] all = refl
@@ -73,8 +71,6 @@ pub unescaped_end : (front value : List ℕ) (start at : ℕ) → start ≡ leng
 unescaped_end front value start at long within none =
     rw (long, drop-append-add front value at, take-append-add front value at, append_assoc front (take at value) _)
     (ap (λ rest. front ++ rest) (sym (unescaped_before value at within none)))
-
--- ---- how long a meaning is
 
 -- two bytes stand for each at most, and a backslash at the end for none
 pub length-unescaped : (bytes : List ℕ) → length bytes ≤ 2 * length (unescaped bytes) + 1

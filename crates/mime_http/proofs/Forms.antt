@@ -1,11 +1,8 @@
 -- The kinds of a value's bytes, and the form in which it is written.
-use Rattle.mime_http.proofs.Common.{AreTokenBytes-from_token, Bool, Escaped, IsBoundary, List, Token, [], and_from, and_parts, ap, append_assoc, arith, bit_and, cases_Bool, drop, drop-cons, escaped, false, false≢true, form_of, get_or, if◌then◌else◌, is_plain, is_quoted_byte, is_quoted_text_byte, is_token_byte, is_token_value, kind_from, kind_of, length, list_all, list_all-append, list_all-wider, nat_tests, prefix_len, prefix_len-le-length, prefix_len_stops, refl, suc, sym, take, take_more, text_in, text_of_pair, true, ℕ, ⊎_elim, ◌++◌, ◌+◌, ◌<◌, ◌∙◌, ◌∷◌, ◌≡◌, ◌≢◌, ◌≤◌}
-use Rattle.std.specs.Cmp.{both_ways}
+use Rattle.mime_http.proofs.Common.{AreTokenBytes-from_token, Bool, Escaped, IsBoundary, List, Token, [], and_from, and_parts, ap, append_assoc, arith, bit_and, both_ways, cases_Bool, drop, drop-cons, escaped, false, false≢true, form_of, get_or, if◌then◌else◌, is_plain, is_quoted_byte, is_quoted_text_byte, is_token_byte, is_token_value, kind_from, kind_of, length, list_all, list_all-append, list_all-wider, nat_tests, prefix_len, prefix_len-le-length, prefix_len_stops, refl, suc, sym, take, take_more, text_in, text_of_pair, true, ℕ, ⊎_elim, ◌++◌, ◌+◌, ◌<◌, ◌∙◌, ◌∷◌, ◌≡◌, ◌≢◌, ◌≤◌}
 use Rattle.mime_http.specs.declared.quoted.Form.TheVariants.{Quoted}
 use Rattle.mime_http.proofs.Written.{token_from_test}
 use Rattle.mime_http.proofs.Contents.{boundary_text, is_special, plain_text, safe_text, token_byte_text, token_text}
-
--- ---- bits
 
 -- the kind of joined bytes
 pub kind_of-append : (xs ys : List ℕ) → kind_of (xs ++ ys) ≡ bit_and (kind_of xs) (kind_of ys)
@@ -33,8 +30,6 @@ block_seen seen block rest is = record {
   split = append_assoc seen.bytes block rest ∙ ap (λ left. seen.bytes ++ left) (sym is) ∙ seen.split;
   is = ap (λ kind. bit_and kind (kind_of block)) seen.is ∙ sym (kind_of-append seen.bytes block);
 }
-
--- ---- bytes before the first quote or backslash
 
 -- a byte that needs no backslash is plain
 pub plain_from_kind : (b : ℕ) → kind_of (b ∷ []) ≢ 1 → is_plain b ≡ true
@@ -85,8 +80,6 @@ next_end [] end some is = absurd (omega (arith, some))
 next_end (b ∷ bytes) end some is =
     (omega (arith, is, prefix_len-le-length is_plain bytes), λ within. grind (arith, prefix_len_stops is_plain bytes 0))
 
--- ---- tokens
-
 -- if the bits don't say that a backslash or quotes are needed, neither is
 token_from_bits : (t q e : Bool) → (t ≡ true → q ≡ true) → (q ≡ true → e ≡ true) → kind_from t q e ≢ 0 → kind_from t q e ≢ 1
     → kind_from t q e ≢ 3 → (t ≡ true) × (e ≡ true)
@@ -116,16 +109,12 @@ tokens_from_escaped (b ∷ value) all = ⊎_elim
     let parts = and_parts (is_token_byte b) (list_all is_token_byte (escaped value)) (rw plain at all) in
     and_from (is_token_byte b) (list_all is_token_byte value) parts.0 (tokens_from_escaped value parts.1)) (cases_Bool (is_special b))
 
--- a value that is a token once escaped is one
-token_from_escaped : (value : List ℕ) → is_token_value (escaped value) ≡ true → is_token_value value ≡ true
-token_from_escaped [] token = token
-token_from_escaped (b ∷ value) token =
-    tokens_from_escaped (b ∷ value) (AreTokenBytes-from_token (escaped (b ∷ value)) (token_from_test (escaped (b ∷ value)) token))
-
--- escaped it is a token exactly if it is one
+-- escaped a value is a token exactly if it is one
 same_test : (value : List ℕ) → is_token_value (escaped value) ≡ is_token_value value
-same_test value = both_ways _ _ (token_from_escaped value)
-    (λ token. ap is_token_value (plain_text value (token_text value (token_from_test value token))) ∙ token)
+same_test [] = refl
+same_test (b ∷ value) = both_ways _ _
+    (λ token. tokens_from_escaped (b ∷ value) (AreTokenBytes-from_token (escaped (b ∷ value)) (token_from_test (escaped (b ∷ value)) token)))
+    (λ token. ap is_token_value (plain_text (b ∷ value) (token_text (b ∷ value) token)) ∙ token)
 
 -- a value is written in its form
 pub form_text : (name value : List ℕ) → text_in (form_of value) name value ≡ text_of_pair (name, escaped value)
@@ -136,8 +125,7 @@ form_text name value =
 -- a boundary is in a form without backslashes
 pub boundary_form : (bytes : List ℕ) → IsBoundary bytes → form_of bytes ≡ (if is_token_value bytes then Token else Quoted)
 boundary_form bytes is =
-    ap (λ plain. if is_token_value bytes then Token else (if plain then Quoted else Escaped))
-    (boundary_text bytes is)
+    ap (λ plain. if is_token_value bytes then Token else (if plain then Quoted else Escaped)) (boundary_text bytes is)
 
 -- how a token and a boundary are written
 pub ruleset token_written = (safe_text, plain_text, token_text, token_from_test)

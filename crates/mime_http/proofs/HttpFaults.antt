@@ -1,7 +1,5 @@
 -- The fault of a value, from that of what is left of it.
-use Rattle.mime_http.proofs.Common.{EndsIn, HttpLacks, InvalidToken, IsAccepted, IsCharBoundary, IsFault, IsHttpFault, IsHttpLongestPrefix, IsHttpMediaType, IsHttpViable, IsViable, Lacks, List, MatchOption, MissingEqual, MissingQuote, MissingSlash, MissingSubtype, MissingValue, ParseError, Place, Reach, Some, Spaced, Start, [], added, ap, append-nil, append_assoc, arith, brought_back, completed_is_rejected, false, get_or, inl, inr, is_left_out, length, length-append, limit_of, nat_tests, nil_from_length, place_after, prefix_of_viable_is_viable, reach_from, refl, start, same_Some, slice_get, slice_get-prefix, slice_get_within, subst, suc, sym, take, take-append-add, take-append_seam, take-length, tight, tight_from, true, viable-from_lacks, ℕ, ⊎_elim, ⊤, ◌++◌, ◌+◌, ◌-◌, ◌<◌, ◌==◌, ◌||◌, ◌∙◌, ◌∷◌, ◌≡◌, ◌≤◌, ◌⊎◌}
-use Rattle.mime.specs.Faults.{IsLongestPrefix, completion_of, last_byte_of}
-use Rattle.std.proofs.Math.Seq.{get_or-append_right}
+use Rattle.mime_http.proofs.Common.{EndsIn, HttpLacks, InvalidToken, IsAccepted, IsCharBoundary, IsFault, IsHttpFault, IsHttpLongestPrefix, IsHttpMediaType, IsHttpViable, IsLongestPrefix, IsViable, Lacks, List, MatchOption, MissingEqual, MissingQuote, MissingSlash, MissingSubtype, MissingValue, ParseError, Place, Reach, Some, Spaced, Start, [], added, ap, append-nil, append_assoc, arith, brought_back, completed_is_rejected, completion_of, false, get_or, get_or-append_right, inl, inr, is_left_out, last_byte_of, length, length-append, limit_of, nat_tests, nil_from_length, place_after, prefix_of_viable_is_viable, reach_from, refl, same_Some, slice_get, slice_get-prefix, slice_get_within, start, subst, suc, sym, take, take-append-add, take-append_seam, take-length, tight, tight_from, true, viable-from_lacks, ℕ, ⊎_elim, ⊤, ◌++◌, ◌+◌, ◌-◌, ◌<◌, ◌==◌, ◌||◌, ◌∙◌, ◌∷◌, ◌≡◌, ◌≤◌, ◌⊎◌}
 use Rattle.mime_http.proofs.Places.{IsSettled, comes_out, place_from, place_from-append}
 use Rattle.mime_http.proofs.HttpViability.{accepted_from_spaced, goes_on_as, prefix_of_http_viable, settled_end, spaced_end, tight-append, tight_accepted, tight_from_viable, viable_from_accepted, viable_from_tight}
 use Rattle.mime_http.proofs.HowFar.{Goes, goes, SettledAt, Snoc, Stops, back, here, last, none, settled_within, snoc, stop, tight_one}

@@ -1,7 +1,5 @@
 -- A byte at fault that is left out, and what is left of a value then.
-use Rattle.mime_http.proofs.Common.{AreSpaces, Begins, IsAccepted, IsCharBoundary-before_ascii, IsDeadAt, IsLoose, IsViable, List, Place, Semicolon, Spaced, Start, [], ap, append-nil, append_assoc, arith, begins_with_semicolon, cond_both, drop, ends_in_semicolon_or_space, false, get_or, inr, is_quoted_byte, is_space, length, length-append, nat_tests, nil_from_length, place_after, refl, slice_get-get_or, subst, sym, take, take-append_seam, tight, tight_from, trim_start, true, ℕ, ◌++◌, ◌+◌, ◌-◌, ◌<◌, ◌∙◌, ◌∷◌, ◌≡◌}
-use Rattle.std.proofs.Math.Seq.{get_or-append_seam}
-use Rattle.std.proofs.lemmas.List.{drop_at}
+use Rattle.mime_http.proofs.Common.{AreSpaces, Begins, IsAccepted, IsCharBoundary-before_ascii, IsDeadAt, IsLoose, IsViable, List, Place, Semicolon, Spaced, Start, [], ap, append-nil, append_assoc, arith, begins_with_semicolon, cond_both, drop, drop_at, ends_in_semicolon_or_space, false, get_or, get_or-append_seam, inr, is_quoted_byte, is_space, length, length-append, nat_tests, nil_from_length, place_after, refl, slice_get-get_or, subst, sym, take, take-append_seam, tight, tight_from, trim_start, true, ℕ, ◌++◌, ◌+◌, ◌-◌, ◌<◌, ◌∙◌, ◌∷◌, ◌≡◌}
 use Rattle.mime_http.proofs.Places.{Leads, comes_out, one, place_from, skipped_white, so, spaced}
 use Rattle.mime_http.proofs.Trims.{below_128, split_white, tight_trimmed}
 use Rattle.mime_http.proofs.HttpViability.{spaced_end, spaced_stops, tight-append}

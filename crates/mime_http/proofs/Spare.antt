@@ -1,13 +1,11 @@
 -- Where tightening copies a value, the library finds a byte at fault that might be left out; and where it does, one is left out.
-use Rattle.mime_http.proofs.Common.{AreSpaces, FaultIsSpare, InvalidToken, IsDeadAt, IsFault, List, Place, Semicolon, Start, [], ap, append_assoc, append_cancel_left, arith, begins_with_semicolon, cases_Bool, drop, ends_in_semicolon_or_space, eqb-true, false, false≢true, is_left_out, is_space, length, length-append, nat_tests, nil_from_length, place_after, refl, subst, sym, take, tight, tight_from, trim_start, true, ℕ, ⊎_elim, ◌++◌, ◌+◌, ◌∙◌, ◌∷◌, ◌≡◌}
+use Rattle.mime_http.proofs.Common.{AreSpaces, FaultIsSpare, InvalidToken, IsDeadAt, IsFault, List, Place, Semicolon, SpareIsLeftOut, Start, [], another, ap, append_assoc, append_cancel_left, arith, begins_with_semicolon, cases_Bool, drop, ends_in_semicolon_or_space, eqb-true, false, false≢true, first, is_left_out, is_space, length, length-append, nat_tests, nil_from_length, place_after, refl, subst, sym, take, tight, tight_from, trim_start, true, white, ℕ, ⊎_elim, ◌++◌, ◌+◌, ◌∙◌, ◌∷◌, ◌≡◌}
 use Rattle.mime_http.proofs.Places.{IsSettled, settled_adds, skipped_white, spaced}
 use Rattle.mime_http.proofs.LeftOut.{drops, leaves_there}
 use Rattle.mime_http.proofs.AtFault.{at_fault, bare, fault_in_front}
 use Rattle.mime_http.proofs.HowFar.{Snoc, last, none, snoc}
 use Rattle.mime_http.proofs.HttpFaults.{last_of}
 use Rattle.mime_http.proofs.Trims.{split_white}
-use Rattle.mime_http.specs.Tight.{first, white, another, FaultIsSpare}
-use Rattle.mime_http.specs.HeaderLaws.{SpareIsLeftOut}
 
 -- white space at fault at the start,
 pub spare_start : (value : List ℕ) (pos b : ℕ) → IsDeadAt value pos b → is_space b ≡ true → pos ≡ 0 → FaultIsSpare value
@@ -49,8 +47,6 @@ spare_semicolon value pos dead ends =
         subst FaultIsSpare (sym whole) (another front rest c (rw there at ends)
         (subst (λ n. IsFault (front ++ (c ∷ 59 ∷ rest)) (InvalidToken n 59)) (length-append front (c ∷ []))
         (subst (λ v. IsFault v (InvalidToken (length (front ++ (c ∷ []))) 59)) whole fault)))
-
--- ---- a byte that is left out doesn't come out
 
 -- Where it is left out time and again, nothing begins with it.
 begins_not : {place : Place} → IsSettled place → ((c : ℕ) → is_left_out place c ≡ true → place_after place c ≡ place)

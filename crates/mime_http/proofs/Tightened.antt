@@ -2,8 +2,6 @@
 use Rattle.mime_http.proofs.Common.{AreSpaces, Closed, Equals, IsContent, List, Place, Plain, Quoted, Semicolon, Spaced, Start, Tightens, [], a_byte, a_semicolon, a_string, ap, arith, at_end, before_token, cond_both, false, false≢true, if◌then◌else◌, is_space, nat_tests, refl, semicolon_left, subst, sym, tight, tight_from, true, white_left, ℕ, ◌++◌, ◌==◌, ◌||◌, ◌∙◌, ◌∷◌, ◌≡◌}
 use Rattle.mime_http.proofs.Places.{Leads, LeavesWhite, after_equals, after_token, after_value, at_start, before_name, comes_out, leaves_white, no_bytes, one, quoted_content, skipped_white, walk_spaces}
 
--- ---- what is left of bytes comes out of them
-
 -- a byte with no role of its own
 pub record IsOther (b : ℕ) : Type 0 where
   pub quote : (b == 34) ≡ false

@@ -2,8 +2,6 @@
 use Rattle.mime_http.proofs.Common.{AllByRecursion, AreParameters, Bool, IsContent, IsParameter, IsSafe, IsSafePair, IsToken, IsToken-lowered, List, MediaType, Parameter, Parameters, Reads, [], ap, append-nil, append_assoc, arith, bytes_eq, cond_both, essence_is_read, false, final, is_token_byte, is_token_value, length-lowered, list_all-lowered, listed, lowered, lowered-lowered, lowered_list, lowered_parameter, lowered_value, lowered_value-either, lowered_value-lowered, map, more, nat_tests, not, others, pair_of, pairs_of_list, pairs_of_tail, pairs_of_tail-lowered, plain, quoted, refl, subst, sym, text_of_list, text_of_pair, text_of_pairs, text_of_parameter, true, with_pair, with_pairs, ℕ, ◌++◌, ◌∙◌, ◌∷◌, ◌≡◌}
 use Rattle.mime.specs.Inner.KeptText.{lowered_pair}
 
--- ---- what is written of pairs
-
 -- the test for a token holds for tokens alone
 pub token_from_test : (value : List ℕ) → is_token_value value ≡ true → IsToken value
 token_from_test [] is = absurd cc
@@ -95,8 +93,6 @@ written_is_read text value (pair ∷ pairs) reads safe =
       valued = rw (list.has, lowered-lowered reads.tree.top, lowered-lowered reads.tree.sub, length-lowered reads.tree.top, list.low)
           (simp append_assoc);
     })
-
--- ---- the parameters of a value, which stay
 
 -- what holds of all pairs holds of those of other names, and of one more
 all_others : (P : List ℕ × List ℕ → Type 0) (name : List ℕ) (pairs : List (List ℕ × List ℕ)) (pair : List ℕ × List ℕ)

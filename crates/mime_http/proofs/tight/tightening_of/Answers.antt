@@ -1,5 +1,5 @@
 -- The byte at fault is left out, or the fault stands.
-use Rattle.mime_http.proofs.Common.{IfOk, InvalidToken, IsDeadAt, IsFault, IsLoose, IsTightening, List, ParseError, Stands, Start, ap, arith, get_or, get_or_from_slice_get, is_space, length, nat_tests, slice_get_within, subst, sym, ℕ, ◌-◌, ◌∙◌, ◌≡◌}
+use Rattle.mime_http.proofs.Common.{InvalidToken, IsDeadAt, IsFault, List, ParseError, Stands, ap, arith, get_or, get_or_from_slice_get, is_space, length, nat_tests, slice_get_within, subst, sym, ℕ, ◌∙◌, ◌≡◌}
 use Rattle.mime_http.proofs.Trims.{trimmed-le}
 use Rattle.mime_http.proofs.Spare.{spare_start, spare_semicolon}
 use Rattle.mime_http.proofs.LeftOut.{first_space, next_semicolon}
@@ -24,9 +24,7 @@ pub overflow_sub-from : goal.overflow_sub-from
 overflow_sub-from c = omega (arith, ap length c.trim_start.ensures, trimmed-le c.args.value.now)
 
 pub copied-requires-clause-loose : goal.copied-requires-clause-loose
-copied-requires-clause-loose c =
-    let value = c.args.value.now in
-    subst (λ rest. IsLoose value 0 (length value - length rest) Start) (sym c.trim_start.ensures) (first_space value)
+copied-requires-clause-loose c = rw c.trim_start.ensures (first_space c.args.value.now)
 
 pub returns-in-32-clause-left : goal.returns-in-32-clause-left
 returns-in-32-clause-left c = c.copied.ensures c.args.fault
@@ -36,8 +34,7 @@ tightening_at_white-requires-clause-within c = slice_get_within _ _ _ (dead_of c
 
 pub tightening_at_white-requires-clause-fault : goal.tightening_at_white-requires-clause-fault
 tightening_at_white-requires-clause-fault c =
-    subst (IsDeadAt c.args.value.now c.in-InvalidToken.pos)
-    (sym (here_of c.args.value.now c.in-InvalidToken.pos c.requires.fault c.in-InvalidToken.is))
+    rw (here_of c.args.value.now c.in-InvalidToken.pos c.requires.fault c.in-InvalidToken.is)
     (dead_of c.requires.fault c.in-InvalidToken.is)
 
 pub tightening_at_white-requires-clause-white : goal.tightening_at_white-requires-clause-white
@@ -47,10 +44,8 @@ tightening_at_white-requires-clause-white c =
 
 pub returns-in-32-2-clause-left : goal.returns-in-32-2-clause-left
 returns-in-32-2-clause-left c =
-    subst (λ fault. IfOk c.tightening_at_white.result (IsTightening c.args.value.now fault))
-    (ap (InvalidToken c.in-InvalidToken.pos) (here_of c.args.value.now c.in-InvalidToken.pos c.requires.fault c.in-InvalidToken.is)
-    ∙ sym c.in-InvalidToken.is)
-    c.tightening_at_white.ensures.left
+    rw (here_of c.args.value.now c.in-InvalidToken.pos c.requires.fault c.in-InvalidToken.is, ← c.in-InvalidToken.is)
+    at c.tightening_at_white.ensures.left
 
 pub copied-requires-in-59-clause-loose : goal.copied-requires-in-59-clause-loose
 copied-requires-in-59-clause-loose c =
