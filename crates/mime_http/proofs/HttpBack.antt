@@ -1,9 +1,8 @@
 -- What is read is what HTTP writes: where what comes out of bytes is walked, they are what HTTP writes so far.
-use Rattle.mime_http.proofs.Common.{Begun, Bool, ClosedParameters, HttpReads, IsBegun, IsHttpMediaType, List, ListState, MatchOption, MatchOption-at_some, MediaType, None, Paired, Place, Quoted, Reads, Semicolon, Some, Spaced, Start, SyntaxTree, [], added, after_quotes, and_from, ap, append-nil, append_assoc, arith, awaits_after, by_option, cases_Bool, cond_both, eqb-true, false, grow, if◌then◌else◌, in_list, in_name, in_quotes, in_spaces, in_subtype, in_type, in_value, is_left_out, is_space, is_token_byte, list_at, none-some, one_reading, option_and_then_some, place_after, refl, same_Some, subst, sym, tight, tight_from, tree_of, true, walk, walk-accepted, walk_by-append, walk_from, walk_from-lengthens, ℕ, ⊎_elim, ◌++◌, ◌==◌, ◌∙◌, ◌∷◌, ◌≡◌}
+use Rattle.mime_http.proofs.Common.{Begun, Bool, ClosedParameters, HttpReads, IsBegun, List, ListState, MatchOption, MatchOption-at_some, MediaType, None, Paired, Place, Quoted, Reads, Semicolon, Some, Spaced, Start, [], added, after_quotes, and_from, ap, append-nil, append_assoc, arith, awaits_after, by_option, cases_Bool, cond_both, eqb-true, false, grow, if◌then◌else◌, in_list, in_name, in_quotes, in_spaces, in_subtype, in_type, in_value, is_left_out, is_space, is_token_byte, list_at, none-some, one_reading, option_and_then_some, place_after, refl, same_Some, subst, sym, tight, tight_from, true, walk, walk-accepted, walk_by-append, walk_from, walk_from-lengthens, ℕ, ⊎_elim, ◌++◌, ◌==◌, ◌∙◌, ◌∷◌, ◌≡◌}
 use Rattle.mime_http.proofs.Places.{IsSettled, LeavesWhite, after_equals, after_token, left_white, place_from, settled_adds}
 use Rattle.mime_http.proofs.HttpForth.{http_is_read}
-use Rattle.mime_http.proofs.Spelled.{EndsSo, Spelled, ended_so, ended_spaces, headed, more_before, rewritten, semicolon_next, spaced_after}
-use Rattle.mime_http.proofs.Walked.{Goes, grows_to, place_at, place_in_list}
+use Rattle.mime_http.proofs.Walked.{EndsSo, Goes, MayEnd, Spelled, ended_so, ended_spaces, grows_to, headed, more_before, place_at, place_in_list, rewritten, semicolon_next, spaced_after}
 
 -- ---- the places at begun trees
 
@@ -41,17 +40,8 @@ ended_at (is_spelled begun front fine is) = ended_so begun front fine is
 ended_at (is_spaced begun front leaves fine is) = is
 
 -- white space after them leaves them so
-white_after : (begun : Begun) (front : List ℕ) (b : ℕ) → is_space b ≡ true → EndsSo begun front
-    → EndsSo begun (front ++ (b ∷ []))
-white_after begun front b white is = elim (tree_of begun) as (λ o. MatchOption o (Unit {0}) (λ tree. IsHttpMediaType front)
-    → MatchOption o (Unit {0}) (λ tree. IsHttpMediaType (front ++ (b ∷ [])))) [
-      | None ↦ λ is. tt
-      | Some tree ↦ λ is. spaced_after is (b ∷ []) (and_from (is_space b) true white refl)
-    ] is
-
--- the tree may end
-abbrev pub MayEnd : Begun → Type 0
-MayEnd begun = (tree : SyntaxTree) × (tree_of begun ≡ Some tree)
+white_after : (begun : Begun) (front : List ℕ) (b : ℕ) → is_space b ≡ true → EndsSo begun front → EndsSo begun (front ++ (b ∷ []))
+white_after begun front b white is = λ may. spaced_after (is may) (b ∷ []) (and_from (is_space b) true white refl)
 
 -- after white space that was left out a semicolon begins a list, if the tree may end
 pub record Closes (begun : Begun) (front : List ℕ) (next : Begun) : Type 0 where
@@ -66,7 +56,7 @@ unfolding is_token_byte
 closes_there (in_type []) front leaves is = tt
 closes_there (in_type (t ∷ top)) front leaves is = tt
 closes_there (in_subtype top []) front leaves is = tt
-closes_there (in_subtype top (s ∷ sub)) front leaves is = record { may = (_, refl); place = refl; is = semicolon_next is }
+closes_there (in_subtype top (s ∷ sub)) front leaves is = record { may = (_, refl); place = refl; is = semicolon_next (is (_, refl)) }
 closes_there (in_list top sub list) front leaves is = at list.closed list.position leaves is
   where
     not_in_quotes : (awaiting : Bool) → ¬ (LeavesWhite (if awaiting then Paired else Quoted))
@@ -77,7 +67,7 @@ closes_there (in_list top sub list) front leaves is = at list.closed list.positi
         → EndsSo (in_list top sub (list_at closed position)) front
         → MatchOption (grow (in_list top sub (list_at closed position)) 59) (Unit {0})
         (Closes (in_list top sub (list_at closed position)) front)
-    at closed (in_value n name (v ∷ value)) leaves is = record { may = (_, refl); place = refl; is = semicolon_next is }
+    at closed (in_value n name (v ∷ value)) leaves is = record { may = (_, refl); place = refl; is = semicolon_next (is (_, refl)) }
     at closed (in_quotes n name content) leaves is = absurd (not_in_quotes (awaits_after false content) leaves)
     at closed (after_quotes n name content m) leaves is = elim leaves [ ]
     at closed position leaves is = tt
@@ -175,8 +165,7 @@ leaves_at (is_spaced begun front leaves fine is) same = leaves
 pub read_is_http : (value : List ℕ) (media : MediaType) → Reads (tight value) media → HttpReads value media
 read_is_http value media reads =
     let walked = walk-accepted (tight value) (media, reads) in
-    let found = MatchOption-at_some (Unit {0}) (λ tree. IsHttpMediaType value) walked.1 walked.2.1
-    (ended_at (reached value walked.0 walked.2.0)) in
+    let found = ended_at (reached value walked.0 walked.2.0) (walked.1, walked.2.1) in
     let again = http_is_read value found.0 found.1 in
     subst (HttpReads value) (one_reading (tight value) _ media again.1 reads)
     (rewritten found.1 found.1.parameters found.1.after _ again.0 found.1.are_parameters found.1.white_after found.1.spelled)

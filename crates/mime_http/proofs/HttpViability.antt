@@ -1,9 +1,8 @@
 -- Which beginnings of a value may still become a media type as HTTP writes it: by the library's walk over what is left of them.
 use Rattle.mime_http.proofs.Common.{AreSpaces, Begun, IsAccepted, IsHttpMediaType, IsHttpViable, IsViable, List, MatchOption-at_some, Place, Semicolon, Some, Spaced, Start, [], accepted-from_complete, added, ap, append-nil, append_assoc, cases_Bool, eqb-true, false, grow, in_type, is_space, none-some, option_and_then_some, place_after, refl, same_Some, subst, sym, tight, tight_from, true, walk, walk-accepted, walk-from_viable, walk_by-append, walk_from, ℕ, ⊎_elim, ◌++◌, ◌==◌, ◌∙◌, ◌∷◌, ◌≡◌}
 use Rattle.mime_http.proofs.Places.{IsSettled, Leads, LeavesWhite, both, comes_out, place_from, skipped_white, so, spaced}
-use Rattle.mime_http.proofs.Spelled.{EndsSo}
-use Rattle.mime_http.proofs.Walked.{place_at, walked}
-use Rattle.mime_http.proofs.HttpBack.{Closes, MayEnd, Reached, closes_there, ended_at, is_spaced, is_spelled, leaves_at, no_space_grows, reached, read_is_http}
+use Rattle.mime_http.proofs.Walked.{EndsSo, MayEnd, place_at, walked}
+use Rattle.mime_http.proofs.HttpBack.{Closes, Reached, closes_there, ended_at, is_spaced, is_spelled, leaves_at, no_space_grows, reached, read_is_http}
 use Rattle.mime_http.proofs.HttpLaws.{accepted_from_http}
 
 -- If the library walks what comes out after white space that was left out, the text may end before it: only a semicolon or the end follow.
@@ -19,9 +18,7 @@ ends_there begun front leaves is (b ∷ bytes) last e may = ⊎_elim
     (λ next grew rest.
     let closes = MatchOption-at_some (Unit {0}) (Closes begun front) next grew (closes_there begun front leaves is) in closes.may))
     (λ (no : (b == 59) ≡ false).
-    let put_back : added Spaced b ≡ 32 ∷ b ∷ [] = rw (other, no) refl in
-    option_and_then_some (λ next. walk_from next (b ∷ tight_from (place_after Spaced b) bytes)) (grow begun 32) last
-    (ap (λ a. walk_from begun (a ++ tight_from (place_after Spaced b) bytes)) (sym put_back) ∙ e)
+    option_and_then_some _ (grow begun 32) last (rw (other, no) at e)
     (λ next grew rest. absurd (none-some next (sym (no_space_grows begun leaves) ∙ grew))))
     (cases_Bool (b == 59)))
     (cases_Bool (is_space b))

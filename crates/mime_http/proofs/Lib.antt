@@ -32,7 +32,6 @@ pub mod RangesFacts
 pub mod Rejections
 pub mod ShortWeight
 pub mod Spare
-pub mod Spelled
 pub mod Strangers
 pub mod Tightened
 pub mod Trims
