@@ -37,4 +37,3 @@ pub mod Tightened
 pub mod Trims
 pub mod Walked
 pub mod Written
-pub mod WrittenFacts

@@ -1,5 +1,5 @@
 -- A value tightened, as the page `Tight` has it, is what comes out of it byte by byte.
-use Rattle.mime_http.proofs.Common.{AreSpaces, Closed, Equals, IsContent, List, Place, Plain, Quoted, Semicolon, Spaced, Start, Tightens, [], a_byte, a_semicolon, a_string, ap, arith, at_end, before_token, cond_both, false, false≢true, if◌then◌else◌, is_space, nat_tests, refl, semicolon_left, subst, sym, tight, tight_from, true, white_left, ℕ, ◌++◌, ◌==◌, ◌||◌, ◌∙◌, ◌∷◌, ◌≡◌}
+use Rattle.mime_http.proofs.Common.{AreSpaces, Closed, Equals, IsContent, List, Place, Plain, Semicolon, Spaced, Start, Tightens, [], a_byte, a_semicolon, a_string, ap, arith, at_end, before_token, cond_both, false, false≢true, if◌then◌else◌, is_space, nat_tests, refl, semicolon_left, subst, sym, tight, tight_from, true, white_left, ℕ, ◌++◌, ◌==◌, ◌||◌, ◌∙◌, ◌∷◌, ◌≡◌}
 use Rattle.mime_http.proofs.Places.{Leads, LeavesWhite, after_equals, after_token, after_value, at_start, before_name, comes_out, leaves_white, no_bytes, one, quoted_content, skipped_white, walk_spaces}
 
 -- a byte with no role of its own
@@ -36,18 +36,12 @@ whitens (other is after_token) [] all =
 whitens (other is after_equals) [] all =
     record { to = Equals; leads = rw (is.quote, is.semicolon) (no_bytes Equals); semicolon = rw is.semicolon (one Equals 59) }
 
--- a quoted value comes out as it is,
-quoted_out : {content : List ℕ} → IsContent content → (rest : List ℕ)
-    → tight_from Equals (34 ∷ (content ++ (34 ∷ rest))) ≡ 34 ∷ (content ++ (34 ∷ tight_from Closed rest))
-quoted_out {content} is rest =
-    let leads : Leads Quoted content content Quoted = quoted_content is in ap (λ x. 34 ∷ x) (leads.tightly (34 ∷ rest))
-
--- also with the equals sign before it,
+-- a quoted value comes out as it is, with the equals sign before it,
 string_out : {last : ℕ} {place : Place} → Last last place → {content : List ℕ} → IsContent content → (rest : List ℕ)
     → tight_from place (61 ∷ 34 ∷ (content ++ (34 ∷ rest))) ≡ 61 ∷ 34 ∷ (content ++ (34 ∷ tight_from Closed rest))
-string_out (other tests after_token) is rest = ap (λ x. 61 ∷ x) (quoted_out is rest)
-string_out (other tests after_equals) is rest = ap (λ x. 61 ∷ x) (quoted_out is rest)
-string_out at is rest = ap (λ x. 61 ∷ x) (quoted_out is rest)
+string_out (other tests after_token) is rest = ap (λ x. 61 ∷ 34 ∷ x) ((quoted_content is).tightly (34 ∷ rest))
+string_out (other tests after_equals) is rest = ap (λ x. 61 ∷ 34 ∷ x) ((quoted_content is).tightly (34 ∷ rest))
+string_out at is rest = ap (λ x. 61 ∷ 34 ∷ x) ((quoted_content is).tightly (34 ∷ rest))
 
 -- and so does another byte,
 byte_out : {last : ℕ} {place : Place} → Last last place → (b : ℕ) → is_space b ≡ false → (b == 59) ≡ false → (b == 34) ≡ false
