@@ -80,16 +80,14 @@ byte_left_out begun front b out fine is = go begun out fine is
     leaves : (begun : Begun) → LeavesWhite (place_at begun) → is_space b ≡ true → IsBegun begun → Spelled begun front
         → Reached (place_after (place_at begun) b) begun (front ++ (b ∷ []))
     leaves begun place white fine is =
-        subst (λ p. Reached p begun (front ++ (b ∷ []))) (sym (left_white place b white).there)
+        rw (left_white place b white).there
         (is_spaced begun (front ++ (b ∷ [])) place fine (white_after begun front b white (ended_so begun front fine is)))
 
     at : (top sub : List ℕ) (closed : ClosedParameters) (position : ListState) → is_left_out (place_in_list position) b ≡ true
         → IsBegun (in_list top sub (list_at closed position)) → Spelled (in_list top sub (list_at closed position)) front
         → Reached (place_after (place_in_list position) b) (in_list top sub (list_at closed position)) (front ++ (b ∷ []))
     at top sub closed (in_spaces n) out fine is =
-        subst (λ x. Reached (place_after Semicolon x) (in_list top sub (list_at closed (in_spaces n))) (front ++ (x ∷ [])))
-        (sym (eqb-true b 59 out))
-        (is_spelled (in_list top sub (list_at closed (in_spaces n))) (front ++ (59 ∷ [])) fine
+        rw (eqb-true b 59 out) (is_spelled (in_list top sub (list_at closed (in_spaces n))) (front ++ (59 ∷ [])) fine
         (semicolon_next (ended_spaces is)))
     at top sub closed (in_name n name) out fine is = leaves _ after_token out fine is
     at top sub closed (in_value n name []) out fine is = leaves _ after_equals out fine is
@@ -98,9 +96,7 @@ byte_left_out begun front b out fine is = go begun out fine is
 
     go : (begun : Begun) → is_left_out (place_at begun) b ≡ true → IsBegun begun → Spelled begun front
         → Reached (place_after (place_at begun) b) begun (front ++ (b ∷ []))
-    go (in_type []) out fine is =
-        subst (λ p. Reached p (in_type []) (front ++ (b ∷ []))) {x = Start} (rw out refl)
-        (is_spelled (in_type []) (front ++ (b ∷ [])) fine (more_before is b out))
+    go (in_type []) out fine is = rw out (is_spelled (in_type []) (front ++ (b ∷ [])) fine (more_before is b out))
     go (in_type (t ∷ top)) out fine is = leaves _ after_token out fine is
     go (in_subtype top sub) out fine is = leaves _ after_token out fine is
     go (in_list top sub list) out fine is = at top sub list.closed list.position out fine is
@@ -122,17 +118,15 @@ byte_more (is_spelled begun front fine is) b next e = ⊎_elim
     (cases_Bool (is_left_out (place_at begun) b))
 byte_more (is_spaced begun front leaves fine is) b next e = ⊎_elim
     (λ (white : is_space b ≡ true).
-    subst (λ p. Reached p next (front ++ (b ∷ []))) {x = Spaced} (rw white refl)
-    (subst (λ s. Reached Spaced s (front ++ (b ∷ []))) (same_Some begun next (rw white at e))
-    (is_spaced begun (front ++ (b ∷ [])) leaves fine (white_after begun front b white is))))
+    rw (white, ← same_Some begun next (rw white at e))
+    (is_spaced begun (front ++ (b ∷ [])) leaves fine (white_after begun front b white is)))
     (λ (other : is_space b ≡ false). ⊎_elim
     (λ (semicolon : (b == 59) ≡ true).
     let same : b ≡ 59 = eqb-true b 59 semicolon in
     let grew : walk_from begun (59 ∷ []) ≡ Some next = subst (λ x. walk_from begun (added Spaced x) ≡ Some next) same e in
     option_and_then_some (λ s. Some s) (grow begun 59) next grew (λ mid grown last.
     let closes = MatchOption-at_some (Unit {0}) (Closes begun front) next (grown ∙ last) (closes_there begun front leaves is) in
-    subst (λ x. Reached (place_after Spaced x) next (front ++ (x ∷ []))) (sym same)
-    (subst (λ p. Reached p next (front ++ (59 ∷ []))) closes.place
+    rw same (subst (λ p. Reached p next (front ++ (59 ∷ []))) closes.place
     (is_spelled next (front ++ (59 ∷ [])) (walk_from-lengthens begun (59 ∷ []) next fine grew).0 closes.is))))
     (λ (no : (b == 59) ≡ false).
     option_and_then_some (λ s. walk_from s (b ∷ [])) (grow begun 32) next (rw (other, no) at e)
@@ -143,14 +137,13 @@ byte_more (is_spaced begun front leaves fine is) b next e = ⊎_elim
 -- and so for all bytes
 bytes_more : (bytes : List ℕ) {place : Place} {begun last : Begun} {front : List ℕ} → Reached place begun front
     → walk_from begun (tight_from place bytes) ≡ Some last → Reached (place_from place bytes) last (front ++ bytes)
-bytes_more [] {place} {begun} {last} {front} at e =
-    subst (Reached place last) (sym (append-nil front)) (subst (λ s. Reached place s front) (same_Some begun last e) at)
-bytes_more (b ∷ bytes) {place} {begun} {last} {front} at e =
+bytes_more [] {place} {begun} {last} {front} is e = rw (append-nil front, ← same_Some begun last e) is
+bytes_more (b ∷ bytes) {place} {begun} {last} {front} is e =
     option_and_then_some (λ s. walk_from s (tight_from (place_after place b) bytes)) (walk_from begun (added place b)) last
     (sym (walk_by-append grow begun (added place b) _) ∙ e)
     (λ next grew goes.
     subst (Reached (place_from (place_after place b) bytes) last) (append_assoc front (b ∷ []) bytes)
-    (bytes_more bytes (byte_more at b next grew) goes))
+    (bytes_more bytes (byte_more is b next grew) goes))
 
 -- so they are up to the end of bytes of which a walked text comes out
 pub reached : (front : List ℕ) (begun : Begun) → walk (tight front) ≡ Some begun → Reached (place_from Start front) begun front

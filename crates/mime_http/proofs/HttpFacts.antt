@@ -113,8 +113,8 @@ kept_whole : ¬ (ReadsTight value (html_type (codes "text/html")))
 kept_whole reads = omega (arith, ap (λ (media : MediaType). length media.kept) (one_tight_reading _ _ _ reads kept_tight))
 
 -- bytes that aren't equal differ
-differ : (first second : List ℕ) → bytes_eq first second ≡ false → first ≢ second
-differ first second is same = true≢false (sym ((bytes_eq-Decides first second).1 same) ∙ is)
+differ : (text other : List ℕ) → bytes_eq text other ≡ false → text ≢ other
+differ text other is same = true≢false (sym ((bytes_eq-Decides text other).1 same) ∙ is)
 
 -- no other text is left than what comes out
 no_other : (value text : List ℕ) → bytes_eq (tight value) text ≡ false → ¬ (Tightens 32 value text)

@@ -45,22 +45,19 @@ record Tailed (bytes : List ℕ) (pairs : List (List ℕ × List ℕ)) : Type 0 
 
 -- white space before a list stays
 indent : (n bytes : List ℕ) {pairs : List (List ℕ × List ℕ)} → AreSpaces n → Listed bytes pairs → Listed (n ++ bytes) pairs
-indent n bytes white from = record {
-  list = there.0;
-  is = there.1;
-  left = subst (Tightens 59 (n ++ bytes)) (sym there.2) (before_token 59 n bytes (text_of_list from.list) refl white from.left);
-  has = there.3 ∙ from.has;
-}
+indent n bytes white from =
+    let there = indented from.list from.is in record {
+      list = there.0;
+      is = there.1;
+      left = rw there.2 (before_token 59 n bytes (text_of_list from.list) refl white from.left);
+      has = there.3 ∙ from.has;
+    }
   where
     indented : (list : Parameters) → AreParameters list → (other : Parameters) × AreParameters other
         × (text_of_list other ≡ n ++ text_of_list list) × (pairs_of_list (lowered_list other) ≡ pairs_of_list (lowered_list list))
     indented (blank m) is = (blank (n ++ m), spaces-append n m white is, refl, refl)
     indented (final m p) is = (final (n ++ m) p, (spaces-append n m white is.0, is.1), append_assoc n m _, refl)
     indented (more m p rest) is = (more (n ++ m) p rest, (spaces-append n m white is.0, is.1, is.2), append_assoc n m _, refl)
-
-    there : (other : Parameters) × AreParameters other × (text_of_list other ≡ n ++ text_of_list from.list)
-        × (pairs_of_list (lowered_list other) ≡ pairs_of_list (lowered_list from.list))
-    there = indented from.list from.is
 
 -- a parameter, and what is after it, are a list
 parameter_first : (p : Parameter) → IsParameter p → (tail : Tail) → IsTail tail → {bytes : List ℕ} {pairs : List (List ℕ × List ℕ)}

@@ -73,11 +73,9 @@ begins_so : (front white left : List ℕ) (b : ℕ) → Fault front b → is_spa
 begins_so front white left b fault is out all stops = record {
   within = within;
   next_within = omega (arith, length-append before left);
-  boundary = IsCharBoundary-before_ascii value (length front) within (omega (
-    arith,
-    below_128 b is,
-    ap (λ v. get_or v (length front) 0) (append_assoc front (b ∷ white) left) ∙ get_or-append_seam front b (white ++ left) 0,
-  ));
+  boundary =
+      let there = ap (λ v. get_or v (length front) 0) (append_assoc front (b ∷ white) left) ∙ get_or-append_seam front b _ 0 in
+      IsCharBoundary-before_ascii value (length front) within (omega (arith, below_128 b is, there));
   alone = λ past.
       let none : left ≡ [] = nil_from_length left (omega (arith, past, length-append before left)) in
       ap (λ x. tight (before ++ x)) none ∙ ap tight (append-nil before) ∙ alone ∙ sym cut;
