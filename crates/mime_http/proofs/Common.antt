@@ -71,6 +71,6 @@ pub use Rattle.mime_http.specs.declared.quoted.Form.{Form}
 pub use Rattle.mime_http.specs.declared.quoted.Form.TheVariants.{Escaped, Token}
 pub use Rattle.mime_http.specs.declared.tight.Place.{Place}
 pub use Rattle.mime_http.specs.declared.tight.Place.TheVariants.{Closed, Equals, Paired, Plain, Quoted, Semicolon, Spaced, Start}
-pub use Rattle.mime.proofs.GrammarLemmas.Viability.{by_option}
+pub use Rattle.mime.proofs.GrammarLemmas.Viability.{by_option, whole_prefix-from_walk}
 pub use Rattle.std.proofs.lemmas.Result.{IfOk-weaker, on_ok_weaker}
 pub use Rattle.std.proofs.Math.Bool.{and-false, and-true}

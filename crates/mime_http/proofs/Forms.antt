@@ -112,14 +112,16 @@ tokens_from_escaped (b ∷ value) all = ⊎_elim
 -- escaped a value is a token exactly if it is one
 same_test : (value : List ℕ) → is_token_value (escaped value) ≡ is_token_value value
 same_test [] = refl
-same_test (b ∷ value) = both_ways _ _
-    (λ token. tokens_from_escaped (b ∷ value) (AreTokenBytes-from_token (escaped (b ∷ value)) (token_from_test (escaped (b ∷ value)) token)))
+same_test (b ∷ value) =
+    let text = escaped (b ∷ value) in
+    both_ways _ _ (λ token. tokens_from_escaped (b ∷ value) (AreTokenBytes-from_token text (token_from_test text token)))
     (λ token. ap is_token_value (plain_text (b ∷ value) (token_text (b ∷ value) token)) ∙ token)
 
 -- a value is written in its form
 pub form_text : (name value : List ℕ) → text_in (form_of value) name value ≡ text_of_pair (name, escaped value)
 form_text name value =
-    let token : is_token_value value ≡ true → escaped value ≡ value = λ is. plain_text value (token_text value (token_from_test value is)) in
+    let token : is_token_value value ≡ true → escaped value ≡ value =
+    λ is. plain_text value (token_text value (token_from_test value is)) in
     grind (arith, same_test value, plain_text value)
 
 -- a boundary is in a form without backslashes

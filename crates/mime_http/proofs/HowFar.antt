@@ -15,7 +15,8 @@ pub data SettledAt : List ℕ → ℕ → Type 0 where
       → AreSpaces white → SettledAt (front ++ (c ∷ white)) n
 
 -- it is within them, and no white space was left out if it is their end
-pub settled_within : {front : List ℕ} {n : ℕ} → SettledAt front n → (n ≤ length front) × (length front ≤ n → IsSettled (place_from Start front))
+pub settled_within : {front : List ℕ} {n : ℕ} → SettledAt front n
+    → (n ≤ length front) × (length front ≤ n → IsSettled (place_from Start front))
 settled_within (here front at_rest) = (omega arith, λ past. at_rest)
 settled_within (back front n c white is out all) =
     let within = (settled_within is).0 in

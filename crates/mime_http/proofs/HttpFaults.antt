@@ -1,5 +1,5 @@
 -- The fault of a value, from that of what is left of it.
-use Rattle.mime_http.proofs.Common.{EndsIn, HttpLacks, InvalidToken, IsAccepted, IsCharBoundary, IsFault, IsHttpFault, IsHttpLongestPrefix, IsHttpMediaType, IsHttpViable, IsLongestPrefix, IsViable, Lacks, List, MatchOption, MissingEqual, MissingQuote, MissingSlash, MissingSubtype, MissingValue, ParseError, Place, Reach, Some, Spaced, Start, [], added, ap, append-nil, append_assoc, arith, brought_back, completed_is_rejected, completion_of, false, get_or, get_or-append_right, inl, inr, is_left_out, last_byte_of, length, length-append, limit_of, nat_tests, nil_from_length, place_after, prefix_of_viable_is_viable, reach_from, refl, same_Some, slice_get, slice_get-prefix, slice_get_within, start, subst, suc, sym, take, take-append-add, take-append_seam, take-length, tight, tight_from, true, viable-from_lacks, ℕ, ⊎_elim, ⊤, ◌++◌, ◌+◌, ◌-◌, ◌<◌, ◌==◌, ◌||◌, ◌∙◌, ◌∷◌, ◌≡◌, ◌≤◌, ◌⊎◌}
+use Rattle.mime_http.proofs.Common.{EndsIn, HttpLacks, InvalidToken, IsAccepted, IsCharBoundary, IsFault, IsHttpFault, IsHttpLongestPrefix, IsHttpMediaType, IsHttpViable, IsLongestPrefix, IsViable, Lacks, List, MatchOption, MissingEqual, MissingQuote, MissingSlash, MissingSubtype, MissingValue, ParseError, Place, Reach, Some, Spaced, Start, [], added, ap, append-nil, append_assoc, arith, brought_back, completed_is_rejected, completion_of, false, get_or, get_or-append_right, inl, inr, is_left_out, last_byte_of, length, length-append, limit_of, nat_tests, nil_from_length, place_after, prefix_of_viable_is_viable, reach_from, refl, same_Some, slice_get, slice_get-prefix, slice_get_within, start, subst, suc, sym, take, take-append-add, take-append_seam, tight, tight_from, true, viable-from_lacks, walk-from_viable, whole_prefix-from_walk, ℕ, ⊎_elim, ⊤, ◌++◌, ◌+◌, ◌-◌, ◌<◌, ◌==◌, ◌||◌, ◌∙◌, ◌∷◌, ◌≡◌, ◌≤◌, ◌⊎◌}
 use Rattle.mime_http.proofs.Places.{IsSettled, comes_out, place_from, place_from-append}
 use Rattle.mime_http.proofs.HttpViability.{accepted_from_spaced, goes_on_as, prefix_of_http_viable, settled_end, spaced_end, tight-append, tight_accepted, tight_from_viable, viable_from_accepted, viable_from_tight}
 use Rattle.mime_http.proofs.HowFar.{Goes, goes, SettledAt, Snoc, Stops, back, here, last, none, settled_within, snoc, stop, tight_one}
@@ -9,14 +9,8 @@ fault_parts : (text : List ℕ) (fault : ParseError) → IsFault text fault
     → IsLongestPrefix text (limit_of text fault) × (length text ≤ limit_of text fault → Lacks text fault)
 fault_parts text (InvalidToken pos byte) dead =
     (dead.prefix, λ past. absurd (omega (arith, past, slice_get_within text pos byte dead.there)))
-fault_parts text other lacks = (
-  record {
-    within = omega arith;
-    viable = subst IsViable (sym (take-length text)) (viable-from_lacks text other lacks);
-    longest = λ n above within viable. omega (arith, above, within);
-  },
-  λ past. lacks,
-)
+fault_parts text other lacks =
+    let walks = walk-from_viable text (viable-from_lacks text other lacks) in (whole_prefix-from_walk text walks.0 walks.1, λ past. lacks)
 
 -- bytes die with the next, if there is one
 abbrev pub Dies : List ℕ → List ℕ → Type 0

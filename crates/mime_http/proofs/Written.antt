@@ -117,7 +117,8 @@ others_stay name pairs pair = rw (lowered-lowered name) (go pairs)
         ≡ others name (map lowered_pair pairs) ++ (lowered_pair pair ∷ [])
     go [] = refl
     go (first ∷ pairs) =
-        cond_both (not (bytes_eq (lowered (lowered first.0)) (lowered name))) _ _ (λ ps. map lowered_pair (ps ++ (pair ∷ [])) ≡ ps ++ (lowered_pair pair ∷ []))
+        cond_both (not (bytes_eq (lowered (lowered first.0)) (lowered name))) _ _
+        (λ ps. map lowered_pair (ps ++ (pair ∷ [])) ≡ ps ++ (lowered_pair pair ∷ []))
         (λ other. λ i. low_pair first i ∷ go pairs i) (λ same. go pairs)
 
 -- an essence with the parameters of other names and this one after it is read as the value with this one in place of those of its name

@@ -62,7 +62,8 @@ returns-in_default-byte-clause-left c =
     let stands : Stands value (InvalidToken c.in-InvalidToken.pos c.in-InvalidToken.byte) =
     elim c.in_default-byte.branch [
       | in_default-byte-via-in-59+else-ends_in_semicolon_or_space w ↦
-          rw w.in-59.is (first_semicolon _ _ (rw w.in-59.is at dead) (sym w.ends_in_semicolon_or_space.ensures ∙ w.if-ends_in_semicolon_or_space.false))
+          rw w.in-59.is (first_semicolon _ _ (rw w.in-59.is at dead)
+          (sym w.ends_in_semicolon_or_space.ensures ∙ w.if-ends_in_semicolon_or_space.false))
       | in_default-byte-via-in_default-1 w ↦ byte_that_stays _ _ _ dead (grind (arith, nat_tests, w))
     ] in
     subst (Stands value) (sym c.in-InvalidToken.is) stands

@@ -9,7 +9,8 @@ use Rattle.mime_http.proofs.Rejections.{fault_explains}
 use Rattle.mime_http.proofs.value.content_type.Goals as goal
 
 pub returns-in-Err-clause-star : goal.returns-in-Err-clause-star
-returns-in-Err-clause-star c = λ is. absurd (c.in-Err.ensures.cases.0 (subst IsUtf8 (sym is) (put_ascii (42 ∷ 47 ∷ 42 ∷ []) [] (omega arith) IsUtf8-nil)))
+returns-in-Err-clause-star c = λ is.
+    absurd (c.in-Err.ensures.cases.0 (subst IsUtf8 (sym is) (put_ascii (42 ∷ 47 ∷ 42 ∷ []) [] (omega arith) IsUtf8-nil)))
 
 pub returns-in-Ok-from_str-clause-http : goal.returns-in-Ok-from_str-clause-http
 returns-in-Ok-from_str-clause-http c =
