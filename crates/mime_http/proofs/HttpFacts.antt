@@ -5,7 +5,7 @@ use Rattle.mime_http.proofs.Walked.{reads_of}
 use Rattle.mime_http.proofs.Tightened.{tight_is}
 use Rattle.mime_http.proofs.HttpFaults.{longest_at, same_last}
 use Rattle.mime_http.proofs.HttpForth.{http_is_tight}
-use Rattle.mime_http.proofs.HttpLaws.{accepted_from_http, one_tight_reading, tight_is_http}
+use Rattle.mime_http.proofs.HttpLaws.{accepted_from_http, one_tight_reading, reads_tight, tight_is_http}
 use Rattle.mime_http.proofs.HttpViability.{http_from_accepted, viable_from_tight, tight_from_viable, viable_from_accepted, accepted_from_spaced}
 
 -- ` text/HTML ;; charset="UTF-8" `
@@ -93,20 +93,16 @@ tightened = let is = (http_is_tight _ _ read).1 in subst (Tightens 32 value) (sy
 -- so it is printed in lowercase,
 kept_tight : ReadsTight value (html_type (codes "text/html; charset=\"utf-8\" "))
 unfolding is_token_byte is_quoted_byte
-kept_tight = (
-  codes "text/HTML; charset=\"UTF-8\" ",
-  tightened,
-  record {
-    tree = record {
-      top = codes "text";
-      sub = codes "HTML";
-      tail = listed (final (codes " ") (quoted (codes "charset") (codes "UTF-8") (codes " ")));
-    };
-    well_formed = (refl, refl, (refl, (refl, IsContent-taken (codes "UTF-8") refl refl, refl)));
-    spelled = refl;
-    valued = refl;
-  },
-)
+kept_tight = reads_tight value (record {
+  tree = record {
+    top = codes "text";
+    sub = codes "HTML";
+    tail = listed (final (codes " ") (quoted (codes "charset") (codes "UTF-8") (codes " ")));
+  };
+  well_formed = (refl, refl, (refl, (refl, IsContent-taken (codes "UTF-8") refl refl, refl)));
+  spelled = refl;
+  valued = refl;
+})
 
 -- and not without its parameter
 kept_whole : ¬ (ReadsTight value (html_type (codes "text/html")))

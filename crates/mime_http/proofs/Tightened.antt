@@ -54,10 +54,6 @@ byte_out at b not_white not_semicolon not_quote rest = rw (not_white, not_semico
 pub other_byte : (b : ℕ) → is_space b ≡ false → (b == 59) ≡ false → (b == 34) ≡ false → IsOther b
 other_byte b not_white not_semicolon not_quote = record { quote = not_quote; semicolon = not_semicolon; space = grind (arith, nat_tests) }
 
--- and leads to one of two places
-byte_last : (b : ℕ) → IsOther b → Last b (if b == 61 then Equals else Plain)
-byte_last b is = cond_both (b == 61) _ _ (Last b) (λ e. other is after_equals) (λ e. other is after_token)
-
 -- So what is left of bytes comes out of them.
 tight_out : {last : ℕ} {place : Place} → Last last place → {bytes text : List ℕ} → Tightens last bytes text → tight_from place bytes ≡ text
 tight_out at (at_end last white all) = comes_out (whitens at white all).leads
@@ -75,8 +71,9 @@ tight_out (other tests leaves) (before_token last white rest text may all is) =
 tight_out at (a_string last content rest text quoted is) =
     string_out at quoted rest ∙ ap (λ x. 61 ∷ 34 ∷ (content ++ (34 ∷ x))) (tight_out string is)
 tight_out at (a_byte last b rest text not_white not_semicolon not_quote is) =
-    byte_out at b not_white not_semicolon not_quote rest
-    ∙ ap (λ x. b ∷ x) (tight_out (byte_last b (other_byte b not_white not_semicolon not_quote)) is)
+    let plain = other_byte b not_white not_semicolon not_quote in
+    byte_out at b not_white not_semicolon not_quote rest ∙ ap (λ x. b ∷ x)
+    (tight_out (cond_both (b == 61) _ _ (Last b) (λ e. other plain after_equals) (λ e. other plain after_token)) is)
 
 -- so a value is tightened to what comes out of it
 pub tight_is : {value text : List ℕ} → Tightens 32 value text → tight value ≡ text
