@@ -72,15 +72,12 @@ goes_from (b ∷ bytes) front limit reach is =
     there = place_from-append Start front (b ∷ []) ∙ ap (λ place. place_after place b) is.place
 
     longer_by : length (tight (front ++ (b ∷ []))) ≡ length (tight front) + length (added reach.place b)
-    longer_by =
-        ap length (tight_one front b ∙ ap (λ place. tight front ++ added place b) is.place)
-        ∙ length-append (tight front) (added reach.place b)
+    longer_by = rw (tight_one front b, is.place) (length-append (tight front) (added reach.place b))
 
     settle : (next : Place) → place_after reach.place b ≡ next
         → SettledAt (front ++ (b ∷ [])) (settled_at next reach.settled (reach.at + 1))
     settle Spaced e =
-        back front reach.settled b [] is.back_to
-        (subst (λ place. Leads place (b ∷ []) [] Spaced) (sym is.place) (so (one reach.place b) (left_out reach.place b e) e)) refl
+        back front reach.settled b [] is.back_to (rw is.place (so (one reach.place b) (left_out reach.place b e) e)) refl
     settle next e = subst (SettledAt (front ++ (b ∷ []))) (sym count) (here (front ++ (b ∷ [])) (subst IsSettled (sym (there ∙ e)) tt))
 
 -- so it is known of the whole value how far it goes

@@ -111,15 +111,10 @@ accepted_from_spaced front white viable =
 pub spaced_stops : (front : List ℕ) (c : ℕ) → place_from Start front ≡ Spaced → is_space c ≡ false → (c == 59) ≡ false
     → ¬ (IsHttpViable (front ++ (c ∷ [])))
 spaced_stops front c white other isnt viable =
-    let found = walk-from_viable (tight (front ++ (c ∷ []))) (tight_from_viable (front ++ (c ∷ [])) viable) in
-    let adds : tight_from (place_from Start front) (c ∷ []) ≡ 32 ∷ c ∷ [] =
-    ap (λ place. tight_from place (c ∷ [])) white ∙ rw (other, isnt) refl in
-    option_and_then_some (λ begun. walk_from begun (32 ∷ c ∷ [])) (walk (tight front)) found.0
-    (sym (walk_by-append grow (in_type []) (tight front) (32 ∷ c ∷ [])) ∙ ap (λ x. walk (tight front ++ x)) (sym adds)
-    ∙ ap walk (sym (tight-append Start front (c ∷ []))) ∙ found.1)
-    (λ begun walks goes.
-    option_and_then_some (λ next. walk_from next (c ∷ [])) (grow begun 32) found.0 goes (λ next grew rest.
-    none-some next (sym (no_space_grows begun (leaves_at (reached front begun walks) white)) ∙ grew)))
+    let both = parted (tight front) _ (tight_accepted front (c ∷ viable.0) (subst IsHttpMediaType (append_assoc front (c ∷ []) _) viable.1)) in
+    let goes = subst (λ place. walk_from both.begun (tight_from place (c ∷ viable.0)) ≡ Some both.last) white both.goes in
+    option_and_then_some _ (grow both.begun 32) both.last (rw (other, isnt) at goes) (λ next grew rest.
+    none-some next (sym (no_space_grows both.begun (leaves_at (reached front both.begun both.reached) white)) ∙ grew))
 
 -- a value of which an accepted text comes out is viable
 pub viable_from_accepted : (front : List ℕ) → IsAccepted (tight front) → IsHttpViable front
