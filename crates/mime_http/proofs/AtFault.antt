@@ -156,6 +156,5 @@ stands_at_end value fault other lacks =
     let same : tight value ≡ value = comes_out walks in
     record {
       rejected = λ is. completed_is_rejected value fault lacks (subst IsAccepted same (accepted_from_http value is));
-      is = end_lacks value fault (subst IsSettled (sym walks.there) (walk_is_settled walk.0))
-          (subst (λ text. Lacks text fault) (sym same) lacks);
+      is = end_lacks value fault (rw walks.there (walk_is_settled walk.0)) (subst (λ text. Lacks text fault) (sym same) lacks);
     }

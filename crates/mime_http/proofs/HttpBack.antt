@@ -106,15 +106,13 @@ byte_more : {place : Place} {begun : Begun} {front : List ℕ} → Reached place
     → walk_from begun (added place b) ≡ Some next → Reached (place_after place b) next (front ++ (b ∷ []))
 byte_more (is_spelled begun front fine is) b next e = ⊎_elim
     (λ (out : is_left_out (place_at begun) b ≡ true).
-    subst (λ s. Reached (place_after (place_at begun) b) s (front ++ (b ∷ []))) (same_Some begun next (rw out at e))
-    (byte_left_out begun front b out fine is))
+    rw (← same_Some begun next (rw out at e)) (byte_left_out begun front b out fine is))
     (λ (kept : is_left_out (place_at begun) b ≡ false).
     let itself : walk_from begun (b ∷ []) ≡ Some next =
     ap (walk_from begun) (sym (settled_adds (place_at begun) (walk_is_settled begun) b kept)) ∙ e in
     option_and_then_some (λ s. Some s) (grow begun b) next itself (λ mid grew same.
     let goes = MatchOption-at_some (Unit {0}) (Goes begun b) next (grew ∙ same) (grows_to begun b) in
-    subst (λ p. Reached p next (front ++ (b ∷ []))) (sym goes.0.there)
-    (is_spelled next (front ++ (b ∷ [])) (walk_from-lengthens begun (b ∷ []) next fine itself).0 (goes.1 front fine is))))
+    rw goes.0.there (is_spelled next (front ++ (b ∷ [])) (walk_from-lengthens begun (b ∷ []) next fine itself).0 (goes.1 front fine is))))
     (cases_Bool (is_left_out (place_at begun) b))
 byte_more (is_spaced begun front leaves fine is) b next e = ⊎_elim
     (λ (white : is_space b ≡ true).

@@ -27,8 +27,7 @@ spare_white value pos b dead is begins =
     go front rest spaces all (c ∷ left) split begins fault =
         let same : c ≡ 59 = grind (arith, nat_tests) in
         let whole : rest ≡ spaces ++ (59 ∷ left) = split ∙ ap (λ x. spaces ++ (x ∷ left)) same in
-        subst (λ r. FaultIsSpare (front ++ (b ∷ r))) (sym whole) (white front spaces left b is all
-        (subst (λ r. IsFault (front ++ (b ∷ r)) (InvalidToken (length front) b)) whole fault))
+        rw whole (white front spaces left b is all (rw whole at fault))
 
 -- and a semicolon at fault after another or white space
 pub spare_semicolon : (value : List ℕ) (pos : ℕ) → IsDeadAt value pos 59 → ends_in_semicolon_or_space (take pos value) ≡ true
@@ -44,9 +43,7 @@ spare_semicolon value pos dead ends =
     go rest (last front c) ends fault =
         let there = last_of front c in
         let whole = append_assoc front (c ∷ []) (59 ∷ rest) in
-        subst FaultIsSpare (sym whole) (another front rest c (rw there at ends)
-        (subst (λ n. IsFault (front ++ (c ∷ 59 ∷ rest)) (InvalidToken n 59)) (length-append front (c ∷ []))
-        (subst (λ v. IsFault v (InvalidToken (length (front ++ (c ∷ []))) 59)) whole fault)))
+        rw whole (another front rest c (rw there at ends) (rw (whole, length-append front (c ∷ [])) at fault))
 
 -- Where it is left out time and again, nothing begins with it.
 begins_not : {place : Place} → IsSettled place → ((c : ℕ) → is_left_out place c ≡ true → place_after place c ≡ place)
@@ -80,9 +77,7 @@ spare_is_left_out _ (white (c ∷ front) spaces rest b is all dead) = λ same.
     false≢true (ap is_space (sym semicolon) ∙ is)
 spare_is_left_out _ (another front rest b is dead) = λ same.
     let whole = append_assoc front (b ∷ []) (59 ∷ rest) in
-    let fault = fault_in_front (front ++ (b ∷ [])) 59 rest
-    (subst (λ n. IsDeadAt ((front ++ (b ∷ [])) ++ (59 ∷ rest)) n 59) (sym (length-append front (b ∷ [])))
-    (subst (λ v. IsDeadAt v (length front + 1) 59) (sym whole) dead)) in
+    let fault = fault_in_front (front ++ (b ∷ [])) 59 rest (rw (whole, length-append front (b ∷ [])) dead) in
     let there = last_of front b in
     begins_not {place = Semicolon} tt (λ c second. ap (place_after Semicolon) (eqb-true c 59 second)) rest rest 59 refl
     (append_cancel_left (front ++ (b ∷ [])) _ _ (sym (drops fault (bare fault (rw there is)) rest) ∙ (ap tight whole ∙ (same ∙ sym whole))))

@@ -27,8 +27,7 @@ is_read : (media : MediaType) (name value text : List ℕ) (form : Form) → for
     → text ≡ media.essence ++ (text_of_pairs (others name media.pairs) ++ text_in form name value) → {kept : List ℕ} → Reads kept media
     → IsSafe media → IsToken name → AreHeaderBytes value → Reads text (with_pair media (lowered name) (lowered_value name (escaped value)))
 is_read media name value text form fits made reads header named safe =
-    subst (λ bytes. Reads bytes (with_pair media (lowered name) (lowered_value name (escaped value))))
-    (sym (is_written media name value text form fits made))
+    rw (is_written media name value text form fits made)
     (with_pair_is_read _ media name (escaped value) reads header named (content_of_escaped value safe))
 
 pub overflow_add-count : goal.overflow_add-count
