@@ -18,7 +18,6 @@ pub mod HttpLaws
 pub mod HttpOneFault
 pub mod HttpText
 pub mod HttpViability
-pub mod LeftOut
 pub mod Lists
 pub mod Meanings
 pub mod NegotiationFacts

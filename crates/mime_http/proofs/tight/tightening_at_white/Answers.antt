@@ -1,8 +1,7 @@
 -- White space is followed by a semicolon, by the end, or by what HTTP doesn't allow there.
 use Rattle.mime_http.proofs.Common.{ap, arith, begins_with_semicolon, drop, get_or, length, length-drop, sym, take_rest, trim_start, ◌+◌, ◌∙◌}
 use Rattle.mime_http.proofs.Trims.{trimmed-le}
-use Rattle.mime_http.proofs.Spare.{spare_white}
-use Rattle.mime_http.proofs.LeftOut.{begins, later_space}
+use Rattle.mime_http.proofs.Spare.{begins, later_space, spare_white}
 use Rattle.mime_http.proofs.tight.tightening_at_white.Goals as goal
 
 pub overflow_sub-next : goal.overflow_sub-next

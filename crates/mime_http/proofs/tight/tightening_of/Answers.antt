@@ -1,8 +1,7 @@
 -- The byte at fault is left out, or the fault stands.
 use Rattle.mime_http.proofs.Common.{InvalidToken, IsDeadAt, IsFault, List, ParseError, Stands, ap, arith, get_or, get_or_from_slice_get, is_space, length, nat_tests, slice_get_within, subst, sym, ℕ, ◌∙◌, ◌≡◌}
 use Rattle.mime_http.proofs.Trims.{trimmed-le}
-use Rattle.mime_http.proofs.Spare.{spare_start, spare_semicolon}
-use Rattle.mime_http.proofs.LeftOut.{first_space, next_semicolon}
+use Rattle.mime_http.proofs.Spare.{first_space, next_semicolon, spare_semicolon, spare_start}
 use Rattle.mime_http.proofs.AtFault.{first_semicolon, byte_that_stays, stands_at_end}
 use Rattle.mime_http.proofs.tight.tightening_of.Goals.{in_default-byte-via-in-59+else-ends_in_semicolon_or_space, in_default-byte-via-in_default-1}
 use Rattle.mime_http.proofs.tight.tightening_of.Goals as goal
