@@ -5,7 +5,7 @@ use Rattle.mime_http.proofs.Common.{AreHeaderBytes, AreTokenBytes-from_token, Bo
 abbrev pub is_special : ℕ → Bool
 is_special b = b == 34 || b == 92
 
--- bytes that stand in quotes as they are need none,
+-- bytes that stand in quotes as they are need no backslash,
 pub plain_text : (bytes : List ℕ) → list_all is_quoted_text_byte bytes ≡ true → escaped bytes ≡ bytes
 plain_text [] all = refl
 plain_text (b ∷ bytes) all =
@@ -13,20 +13,20 @@ plain_text (b ∷ bytes) all =
     let plain : is_special b ≡ false = grind (arith, nat_tests, (and_parts (is_quoted_byte b) _ parts.0).1) in
     rw plain (ap (λ rest. b ∷ rest) (plain_text bytes parts.1))
 
--- and may stand in a header,
+-- and may stand in a header
 pub safe_text : (bytes : List ℕ) → list_all is_quoted_text_byte bytes ≡ true → AreHeaderBytes bytes
 safe_text = list_all-wider is_quoted_text_byte is_quoted_byte (λ b text. (and_parts (is_quoted_byte b) _ text).0)
 
--- as a token byte does,
+-- a token byte is one of them,
 pub token_byte_text : (b : ℕ) → is_token_byte b ≡ true → is_quoted_text_byte b ≡ true
 unfolding is_token_byte is_quoted_byte
 token_byte_text b is = grind (arith, nat_tests)
 
--- a token
+-- so a token's bytes are,
 pub token_text : (bytes : List ℕ) → IsToken bytes → list_all is_quoted_text_byte bytes ≡ true
 token_text bytes token = list_all-wider is_token_byte is_quoted_text_byte token_byte_text bytes (AreTokenBytes-from_token bytes token)
 
--- and a boundary
+-- and a boundary's
 pub boundary_text : (bytes : List ℕ) → IsBoundary bytes → list_all is_quoted_text_byte bytes ≡ true
 unfolding is_quoted_byte
 boundary_text bytes is = list_all-wider is_bchar is_quoted_text_byte (λ b is. grind (arith, nat_tests)) bytes is.all

@@ -31,7 +31,7 @@ block_seen seen block rest is = record {
   is = ap (λ kind. bit_and kind (kind_of block)) seen.is ∙ sym (kind_of-append seen.bytes block);
 }
 
--- a byte that needs no backslash is plain
+-- a byte whose kind says that it needs no backslash is plain
 pub plain_from_kind : (b : ℕ) → kind_of (b ∷ []) ≢ 1 → is_plain b ≡ true
 unfolding is_token_byte is_quoted_byte
 plain_from_kind b other = grind (arith, nat_tests)
