@@ -1,60 +1,35 @@
 -- The content of quoted strings: what is written for a value, and what needs no backslash.
-use Rattle.mime_http.proofs.Common.{AreHeaderBytes, AreTokenBytes-from_token, Bool, IsBoundary, IsContent, IsToken, List, WrittenIsMeant, [], and_parts, ap, append-nil, append_assoc, arith, cases_Bool, cond, drop, drop-append-add, drop-length, eqb-true, escaped, false, false_from_ne_true, get_or, if◌then◌else◌, is_bchar, is_charset, is_quoted_byte, is_quoted_text_byte, is_token_byte, length, list_all, lowered, lowered_value, lowered_value-either, nat_tests, no_byte, not, quoted_pair, refl, suc, sym, take, take-append-add, take-length, text_byte, to_ascii_lowercase, true, unescaped, zero, ℕ, ⊎_elim, ◌&&◌, ◌*◌, ◌++◌, ◌+◌, ◌<◌, ◌==◌, ◌||◌, ◌∙◌, ◌∷◌, ◌≡◌, ◌≢◌, ◌≤◌, list_all-wider}
+use Rattle.mime_http.proofs.Common.{AreHeaderBytes, AreTokenBytes-from_token, Bool, IsBoundary, IsContent, IsToken, List, WrittenIsMeant, [], and_parts, ap, append-nil, append_assoc, arith, cases_Bool, cond, drop, drop-append-add, drop-length, eqb-true, escaped, false, false_from_ne_true, get_or, if◌then◌else◌, is_bchar, is_charset, is_quoted_byte, is_quoted_text_byte, is_token_byte, length, list_all, list_all-wider, lowered, lowered_value, lowered_value-either, nat_tests, no_byte, not, quoted_pair, refl, suc, sym, take, take-append-add, take-length, text_byte, to_ascii_lowercase, true, unescaped, zero, ℕ, ⊎_elim, ◌&&◌, ◌*◌, ◌++◌, ◌+◌, ◌<◌, ◌==◌, ◌||◌, ◌∙◌, ◌∷◌, ◌≡◌, ◌≢◌, ◌≤◌}
 
 -- whether a byte is written after a backslash
 abbrev pub is_special : ℕ → Bool
 is_special b = b == 34 || b == 92
 
--- ---- bytes that need no backslash
+-- bytes that stand in quotes as they are need no backslash,
+pub plain_text : (bytes : List ℕ) → list_all is_quoted_text_byte bytes ≡ true → escaped bytes ≡ bytes
+plain_text [] all = refl
+plain_text (b ∷ bytes) all =
+    let parts = and_parts (is_quoted_text_byte b) (list_all is_quoted_text_byte bytes) all in
+    let plain : is_special b ≡ false = grind (arith, nat_tests, (and_parts (is_quoted_byte b) _ parts.0).1) in
+    rw plain (ap (λ rest. b ∷ rest) (plain_text bytes parts.1))
 
--- bytes of a class without quotes and backslashes need no backslashes,
-pub plain_class : (p : ℕ → Bool) → ((b : ℕ) → p b ≡ true → is_special b ≡ false) → (bytes : List ℕ) → list_all p bytes ≡ true
-    → escaped bytes ≡ bytes
-plain_class p fits [] all = refl
-plain_class p fits (b ∷ bytes) all =
-    let parts = and_parts (p b) (list_all p bytes) all in
-    rw (fits b parts.0) (ap (λ rest. b ∷ rest) (plain_class p fits bytes parts.1))
+-- and may stand in a header
+pub safe_text : (bytes : List ℕ) → list_all is_quoted_text_byte bytes ≡ true → AreHeaderBytes bytes
+safe_text = list_all-wider is_quoted_text_byte is_quoted_byte (λ b text. (and_parts (is_quoted_byte b) _ text).0)
 
--- a token byte is no quote and no backslash,
-pub token_plain : (b : ℕ) → is_token_byte b ≡ true → is_special b ≡ false
-unfolding is_token_byte
-token_plain b is = grind (arith, nat_tests)
-
--- and may stand in a quoted string,
-pub token_safe : (b : ℕ) → is_token_byte b ≡ true → is_quoted_byte b ≡ true
+-- a token byte is one of them,
+pub token_byte_text : (b : ℕ) → is_token_byte b ≡ true → is_quoted_text_byte b ≡ true
 unfolding is_token_byte is_quoted_byte
-token_safe b is = grind (arith, nat_tests)
+token_byte_text b is = grind (arith, nat_tests)
 
--- and so may a byte of a boundary
-bchar_safe : (b : ℕ) → is_bchar b ≡ true → is_quoted_byte b ≡ true
+-- so a token's bytes are,
+pub token_text : (bytes : List ℕ) → IsToken bytes → list_all is_quoted_text_byte bytes ≡ true
+token_text bytes token = list_all-wider is_token_byte is_quoted_text_byte token_byte_text bytes (AreTokenBytes-from_token bytes token)
+
+-- and a boundary's
+pub boundary_text : (bytes : List ℕ) → IsBoundary bytes → list_all is_quoted_text_byte bytes ≡ true
 unfolding is_quoted_byte
-bchar_safe b is = grind (arith, nat_tests)
-
--- a byte that stands in quotes as it is needs no backslash,
-pub text_plain : (b : ℕ) → is_quoted_text_byte b ≡ true → is_special b ≡ false
-text_plain b is = grind (arith, nat_tests, (and_parts (is_quoted_byte b) _ is).1)
-
--- and that of a boundary is such
-pub bchar_text : (b : ℕ) → is_bchar b ≡ true → is_quoted_text_byte b ≡ true
-bchar_text b is =
-    let plain : is_special b ≡ false = grind (arith, nat_tests) in
-    rw (bchar_safe b is, plain) refl
-
--- so a token needs none,
-pub token_needs_none : (bytes : List ℕ) → IsToken bytes → escaped bytes ≡ bytes
-token_needs_none bytes token = plain_class is_token_byte token_plain bytes (AreTokenBytes-from_token bytes token)
-
--- and may stand in a header,
-pub token_is_safe : (bytes : List ℕ) → IsToken bytes → AreHeaderBytes bytes
-token_is_safe bytes token = list_all-wider is_token_byte is_quoted_byte token_safe bytes (AreTokenBytes-from_token bytes token)
-
--- and so does a boundary,
-pub boundary_is_plain : (bytes : List ℕ) → IsBoundary bytes → escaped bytes ≡ bytes
-boundary_is_plain bytes is = plain_class is_bchar (λ b is. grind (arith, nat_tests)) bytes is.all
-
--- which may stand there, too
-pub boundary_is_safe : (bytes : List ℕ) → IsBoundary bytes → AreHeaderBytes bytes
-boundary_is_safe bytes is = list_all-wider is_bchar is_quoted_byte bchar_safe bytes is.all
+boundary_text bytes is = list_all-wider is_bchar is_quoted_text_byte (λ b is. grind (arith, nat_tests)) bytes is.all
 
 -- ---- bytes before the first backslash
 
@@ -87,22 +62,15 @@ unescaped_before (b ∷ bytes) (suc at) within none =
 -- without a backslash all do
 pub unescaped_same : (bytes : List ℕ) → ((i : ℕ) → i < length bytes → get_or bytes i 0 ≢ 92) → unescaped bytes ≡ bytes
 unescaped_same bytes none =
-    unescaped_before bytes (length bytes) (omega arith) none
-    ∙ ap (λ rest. take (length bytes) bytes ++ unescaped rest) (drop-length bytes) ∙ append-nil (take (length bytes) bytes)
-    ∙ take-length bytes
+    rw (unescaped_before bytes (length bytes) (omega arith) none, drop-length bytes, take-length bytes) (append-nil bytes)
 
 -- so do those at the end of a buffer
 pub unescaped_end : (front value : List ℕ) (start at : ℕ) → start ≡ length front → at ≤ length value
     → ((i : ℕ) → i < at → get_or value i 0 ≢ 92)
     → take (start + at) (front ++ value) ++ unescaped (drop (start + at) (front ++ value)) ≡ front ++ unescaped value
 unescaped_end front value start at long within none =
-    ap (λ n. take (n + at) (front ++ value) ++ unescaped (drop (n + at) (front ++ value))) long
-    ∙ ap (λ rest. take (length front + at) (front ++ value) ++ unescaped rest) (drop-append-add front value at)
-    ∙ ap (λ part. part ++ unescaped (drop at value)) (take-append-add front value at)
-    ∙ append_assoc front (take at value) (unescaped (drop at value))
-    ∙ ap (λ rest. front ++ rest) (sym (unescaped_before value at within none))
-
--- ---- how long a meaning is
+    rw (long, drop-append-add front value at, take-append-add front value at, append_assoc front (take at value) _)
+    (ap (λ rest. front ++ rest) (sym (unescaped_before value at within none)))
 
 -- two bytes stand for each at most, and a backslash at the end for none
 pub length-unescaped : (bytes : List ℕ) → length bytes ≤ 2 * length (unescaped bytes) + 1
@@ -128,7 +96,7 @@ meant (b ∷ value) = grind (arith, meant value, plain_first b (escaped value))
 
 -- so a boundary means itself
 pub boundary_means_itself : (bytes : List ℕ) → IsBoundary bytes → unescaped bytes ≡ bytes
-boundary_means_itself bytes is = ap unescaped (sym (boundary_is_plain bytes is)) ∙ meant bytes
+boundary_means_itself bytes is = ap unescaped (sym (plain_text bytes (boundary_text bytes is))) ∙ meant bytes
 
 -- lowercasing it is writing the value in lowercase
 lowered_escaped : (value : List ℕ) → lowered (escaped value) ≡ escaped (lowered value)

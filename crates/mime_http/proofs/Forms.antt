@@ -1,23 +1,13 @@
 -- The kinds of a value's bytes, and the form in which it is written.
-use Rattle.mime_http.proofs.Common.{AreTokenBytes-from_token, Bool, Escaped, IsBoundary, List, Token, [], and_from, and_parts, ap, append_assoc, arith, bit_and, cases_Bool, drop, drop-cons, escaped, false, false≢true, form_of, get_or, if◌then◌else◌, is_bchar, is_plain, is_quoted_byte, is_quoted_text_byte, is_token_byte, is_token_value, kind_from, kind_of, length, list_all, list_all-append, list_all-wider, nat_tests, prefix_len, prefix_len-le-length, prefix_len_stops, refl, suc, sym, take, take_more, text_in, text_of_pair, true, ℕ, ⊎_elim, ◌&&◌, ◌++◌, ◌+◌, ◌<◌, ◌∙◌, ◌∷◌, ◌≡◌, ◌≢◌, ◌≤◌}
-use Rattle.std.specs.Cmp.{both_ways}
+use Rattle.mime_http.proofs.Common.{AreTokenBytes-from_token, Bool, Escaped, IsBoundary, List, Token, [], and_from, and_parts, ap, append_assoc, arith, bit_and, both_ways, cases_Bool, drop, drop-cons, escaped, false, false≢true, form_of, get_or, if◌then◌else◌, is_plain, is_quoted_byte, is_quoted_text_byte, is_token_byte, is_token_value, kind_from, kind_of, length, list_all, list_all-append, list_all-wider, nat_tests, prefix_len, prefix_len-le-length, prefix_len_stops, refl, suc, sym, take, take_more, text_in, text_of_pair, true, ℕ, ⊎_elim, ◌++◌, ◌+◌, ◌<◌, ◌∙◌, ◌∷◌, ◌≡◌, ◌≢◌, ◌≤◌}
 use Rattle.mime_http.specs.declared.quoted.Form.TheVariants.{Quoted}
 use Rattle.mime_http.proofs.Written.{token_from_test}
-use Rattle.mime_http.proofs.Contents.{boundary_is_plain, boundary_is_safe, token_is_safe, is_special, token_plain, token_safe, token_needs_none, plain_class, text_plain, bchar_text}
-
--- ---- bits
-
--- the bits of two kinds
-and_kinds : (t q e t2 q2 e2 : Bool) → bit_and (kind_from t q e) (kind_from t2 q2 e2) ≡ kind_from (t && t2) (q && q2) (e && e2)
-and_kinds t q e t2 q2 e2 = grind arith
+use Rattle.mime_http.proofs.Contents.{boundary_text, is_special, plain_text, safe_text, token_byte_text, token_text}
 
 -- the kind of joined bytes
 pub kind_of-append : (xs ys : List ℕ) → kind_of (xs ++ ys) ≡ bit_and (kind_of xs) (kind_of ys)
 kind_of-append xs ys =
-    (λ i. kind_from (list_all-append is_token_byte xs ys i) (list_all-append is_quoted_text_byte xs ys i)
-    (list_all-append is_quoted_byte xs ys i))
-    ∙ sym (and_kinds (list_all is_token_byte xs) (list_all is_quoted_text_byte xs) (list_all is_quoted_byte xs)
-    (list_all is_token_byte ys) (list_all is_quoted_text_byte ys) (list_all is_quoted_byte ys))
+    grind (arith, list_all-append is_token_byte xs ys, list_all-append is_quoted_text_byte xs ys, list_all-append is_quoted_byte xs ys)
 
 -- the kind of the bytes so far and one more
 pub kind_of_more : (xs : List ℕ) (i : ℕ) → i < length xs
@@ -41,16 +31,10 @@ block_seen seen block rest is = record {
   is = ap (λ kind. bit_and kind (kind_of block)) seen.is ∙ sym (kind_of-append seen.bytes block);
 }
 
--- ---- bytes before the first quote or backslash
-
--- a quote and a backslash have a kind of their own
-special_kind : (b : ℕ) → is_plain b ≡ false → kind_of (b ∷ []) ≡ 1
-unfolding is_token_byte is_quoted_byte
-special_kind b special = grind (arith, nat_tests)
-
--- a byte that needs no backslash is plain
+-- a byte whose kind says that it needs no backslash is plain
 pub plain_from_kind : (b : ℕ) → kind_of (b ∷ []) ≢ 1 → is_plain b ≡ true
-plain_from_kind b other = ⊎_elim (λ plain. plain) (λ special. absurd (other (special_kind b special))) (cases_Bool (is_plain b))
+unfolding is_token_byte is_quoted_byte
+plain_from_kind b other = grind (arith, nat_tests)
 
 -- one more
 pub plain_more : (bytes : List ℕ) (n : ℕ) → n < length bytes → is_plain (get_or bytes n 0) ≡ true
@@ -65,12 +49,9 @@ pub run_written : (bytes : List ℕ)
     → take (prefix_len is_plain bytes) bytes ++ escaped (drop (prefix_len is_plain bytes) bytes) ≡ escaped bytes
 run_written [] = refl
 run_written (b ∷ bytes) =
-    ⊎_elim (λ special. rw special (rw special refl))
-    (λ plain.
-    let longer : prefix_len is_plain (b ∷ bytes) ≡ suc (prefix_len is_plain bytes) = rw plain (omega arith) in
-    let same : escaped (b ∷ bytes) ≡ b ∷ escaped bytes = rw plain refl in
-    ap (λ n. take n (b ∷ bytes) ++ escaped (drop n (b ∷ bytes))) longer ∙ ap (λ rest. b ∷ rest) (run_written bytes) ∙ sym same)
-    (cases_Bool (is_special b))
+    let longer : 1 + prefix_len is_plain bytes ≡ suc (prefix_len is_plain bytes) = omega arith in
+    ⊎_elim (λ (special : is_special b ≡ true). rw (special, special))
+    (λ (plain : is_special b ≡ false). rw (plain, longer) (ap (λ rest. b ∷ rest) (run_written bytes))) (cases_Bool (is_special b))
 
 -- a backslash is written before a byte that needs it, and both before the next run
 byte_written : (bytes : List ℕ) (end : ℕ) → 0 < length bytes → is_plain (get_or bytes 0 0) ≡ false
@@ -99,8 +80,6 @@ next_end [] end some is = absurd (omega (arith, some))
 next_end (b ∷ bytes) end some is =
     (omega (arith, is, prefix_len-le-length is_plain bytes), λ within. grind (arith, prefix_len_stops is_plain bytes 0))
 
--- ---- tokens
-
 -- if the bits don't say that a backslash or quotes are needed, neither is
 token_from_bits : (t q e : Bool) → (t ≡ true → q ≡ true) → (q ≡ true → e ≡ true) → kind_from t q e ≢ 0 → kind_from t q e ≢ 1
     → kind_from t q e ≢ 3 → (t ≡ true) × (e ≡ true)
@@ -112,8 +91,7 @@ pub token_from_kind : (value : List ℕ) → 0 < length value → kind_of value 
 token_from_kind [] some = absurd (omega (arith, some))
 token_from_kind (b ∷ bytes) some =
     token_from_bits (list_all is_token_byte (b ∷ bytes)) (list_all is_quoted_text_byte (b ∷ bytes)) (list_all is_quoted_byte (b ∷ bytes))
-    (list_all-wider is_token_byte is_quoted_text_byte (λ b token. rw (token_safe b token, token_plain b token) refl) (b ∷ bytes))
-    (list_all-wider is_quoted_text_byte is_quoted_byte (λ b text. (and_parts (is_quoted_byte b) _ text).0) (b ∷ bytes))
+    (list_all-wider is_token_byte is_quoted_text_byte token_byte_text (b ∷ bytes)) (safe_text (b ∷ bytes))
 
 -- ---- what is written in a form
 
@@ -125,38 +103,33 @@ kept_text name bytes = grind arith
 tokens_from_escaped : (value : List ℕ) → list_all is_token_byte (escaped value) ≡ true → list_all is_token_byte value ≡ true
 unfolding is_token_byte
 tokens_from_escaped [] all = refl
-tokens_from_escaped (b ∷ value) all =
-    ⊎_elim (λ special. absurd (false≢true (rw special at all)))
+tokens_from_escaped (b ∷ value) all = ⊎_elim
+    (λ special. absurd (false≢true (rw special at all)))
     (λ plain.
     let parts = and_parts (is_token_byte b) (list_all is_token_byte (escaped value)) (rw plain at all) in
-    and_from (is_token_byte b) (list_all is_token_byte value) parts.0 (tokens_from_escaped value parts.1))
-    (cases_Bool (is_special b))
+    and_from (is_token_byte b) (list_all is_token_byte value) parts.0 (tokens_from_escaped value parts.1)) (cases_Bool (is_special b))
 
--- a value that is a token once escaped is one
-token_from_escaped : (value : List ℕ) → is_token_value (escaped value) ≡ true → is_token_value value ≡ true
-token_from_escaped [] token = token
-token_from_escaped (b ∷ value) token =
-    tokens_from_escaped (b ∷ value) (AreTokenBytes-from_token (escaped (b ∷ value)) (token_from_test (escaped (b ∷ value)) token))
-
--- escaped it is a token exactly if it is one
+-- escaped a value is a token exactly if it is one
 same_test : (value : List ℕ) → is_token_value (escaped value) ≡ is_token_value value
-same_test value = both_ways _ _ (token_from_escaped value)
-    (λ token. ap is_token_value (token_needs_none value (token_from_test value token)) ∙ token)
+same_test [] = refl
+same_test (b ∷ value) =
+    let text = escaped (b ∷ value) in
+    both_ways _ _ (λ token. tokens_from_escaped (b ∷ value) (AreTokenBytes-from_token text (token_from_test text token)))
+    (λ token. ap is_token_value (plain_text (b ∷ value) (token_text (b ∷ value) token)) ∙ token)
 
 -- a value is written in its form
 pub form_text : (name value : List ℕ) → text_in (form_of value) name value ≡ text_of_pair (name, escaped value)
 form_text name value =
-    let plain : list_all is_quoted_text_byte value ≡ true → escaped value ≡ value = plain_class is_quoted_text_byte text_plain value in
-    let token : is_token_value value ≡ true → escaped value ≡ value = λ is. token_needs_none value (token_from_test value is) in
-    grind (arith, same_test value)
+    let token : is_token_value value ≡ true → escaped value ≡ value =
+    λ is. plain_text value (token_text value (token_from_test value is)) in
+    grind (arith, same_test value, plain_text value)
 
 -- a boundary is in a form without backslashes
 pub boundary_form : (bytes : List ℕ) → IsBoundary bytes → form_of bytes ≡ (if is_token_value bytes then Token else Quoted)
 boundary_form bytes is =
-    ap (λ plain. if is_token_value bytes then Token else (if plain then Quoted else Escaped))
-    (list_all-wider is_bchar is_quoted_text_byte bchar_text bytes is.all)
+    ap (λ plain. if is_token_value bytes then Token else (if plain then Quoted else Escaped)) (boundary_text bytes is)
 
 -- how a token and a boundary are written
-pub ruleset token_written = (token_is_safe, token_needs_none, token_from_test)
+pub ruleset token_written = (safe_text, plain_text, token_text, token_from_test)
 
-pub ruleset boundary_written = (boundary_is_safe, boundary_is_plain, boundary_form)
+pub ruleset boundary_written = (safe_text, plain_text, boundary_text, boundary_form)

@@ -1,11 +1,11 @@
 -- Worked facts of the pages `HttpMediaType`, `HttpFaults` and `Tight`: a value that is read, values that aren't media types, their faults,
--- and tightened values.
-use Rattle.mime_http.proofs.Common.{walk, bytes_eq, bytes_eq-Decides, true≢false, ◌∙◌, Bool, FaultIsSpare, HttpReads, InvalidToken, IsAccepted, IsContent-taken, IsHttpFault, IsHttpMediaType, IsHttpViable, List, MediaType, MissingSubtype, MissingValue, None, ReadsTight, Tightens, [], accepted-from_complete, another, ap, append_assoc, arith, codes, dead-from_walk, false, false≢true, final, first, in_subtype, is_quoted_byte, is_space, is_token_byte, length, list_all, listed, no_more, not, not_viable-at_dead, quoted, refl, rejected-from_walk, semicolon, semicolon_and, stopped-from_walk, subst, sym, tight, true, viable-from_walk, white, with_string, ℕ, ◌&&◌, ◌++◌, ◌==◌, ◌∷◌, ◌≡◌}
-use Rattle.std.proofs.Math.Bool.{and-false}
+-- and tightened values; and of `Unescaped`, `Written` and `Boundary`.
+use Rattle.mime_http.proofs.Common.{Bool, FaultIsSpare, HttpReads, InvalidToken, IsAccepted, IsBoundary, IsBoundaryOf, IsContent-taken, IsHttpFault, IsHttpMediaType, IsHttpViable, List, MediaType, MissingSubtype, MissingValue, None, ReadsTight, Tightens, [], accepted-from_complete, and-false, another, ap, append_assoc, arith, bytes_eq, bytes_eq-Decides, codes, dead-from_walk, escaped, false, false≢true, final, first, in_subtype, is_quoted_byte, is_space, is_token_byte, is_token_value, length, list_all, listed, no_more, not, not_viable-at_dead, others, quoted, refl, rejected-from_walk, same_Some, semicolon, semicolon_and, stopped-from_walk, subst, sym, text_of_pair, text_of_pairs, tight, true, true≢false, unescaped, viable-from_walk, walk, white, with_pair, with_pairs, with_string, ℕ, ◌&&◌, ◌++◌, ◌==◌, ◌∙◌, ◌∷◌, ◌≡◌, ◌≢◌}
+use Rattle.mime_http.proofs.Walked.{reads_of}
 use Rattle.mime_http.proofs.Tightened.{tight_is}
 use Rattle.mime_http.proofs.HttpFaults.{longest_at, same_last}
 use Rattle.mime_http.proofs.HttpForth.{http_is_tight}
-use Rattle.mime_http.proofs.HttpLaws.{accepted_from_http, one_tight_reading, tight_is_http}
+use Rattle.mime_http.proofs.HttpLaws.{accepted_from_http, one_tight_reading, reads_tight, tight_is_http}
 use Rattle.mime_http.proofs.HttpViability.{http_from_accepted, viable_from_tight, tight_from_viable, viable_from_accepted, accepted_from_spaced}
 
 -- ` text/HTML ;; charset="UTF-8" `
@@ -19,24 +19,9 @@ html_type kept = record { essence = codes "text/html"; slash = 4; plus = None; p
 -- it is read so
 read : HttpReads value (html_type [])
 unfolding is_token_byte is_quoted_byte
-read = record {
-  before = codes " ";
-  top = codes "text";
-  sub = codes "HTML";
-  parameters = codes " ;; charset=\"UTF-8\"";
-  after = codes " ";
-  spelled = refl;
-  white_before = refl;
-  is_top = refl;
-  is_sub = refl;
-  are_parameters = semicolon (codes " ") [] _ _ refl refl
-      (semicolon_and [] (codes " ") (codes "charset=\"UTF-8\"") [] _ [] refl refl
-      (with_string (codes "charset") (codes "UTF-8") refl (IsContent-taken (codes "UTF-8") refl refl)) no_more);
-  white_after = refl;
-  essence = refl;
-  slash = refl;
-  plus = refl;
-}
+read = reads_of (codes " ") (codes "text") (codes "HTML") (codes " ;; charset=\"UTF-8\"") (codes " ") _ [] refl refl refl
+    (semicolon (codes " ") [] _ _ refl refl (semicolon_and [] (codes " ") (codes "charset=\"UTF-8\"") [] _ [] refl refl
+    (with_string (codes "charset") (codes "UTF-8") refl (IsContent-taken (codes "UTF-8") refl refl)) no_more)) refl
 
 -- a value of which no beginning is walked is no media type
 never_walked : (value : List ℕ) → walk (tight value) ≡ None → ¬ (IsHttpMediaType value)
@@ -68,10 +53,9 @@ space_may_follow = viable_from_accepted (codes "   a/b ") accepted
 at_c : IsHttpFault (codes "   a/b c") (InvalidToken 7 99)
 unfolding is_token_byte
 at_c = record {
-  prefix = longest_at (codes "   a/b ") (codes "c") space_may_follow (λ b bytes e viable.
-      let first : 99 ≡ b = cc in
+  prefix = longest_at (codes "   a/b ") (codes "c") space_may_follow (λ viable.
       not_viable-at_dead (codes "a/b c") 3 32 (dead-from_walk (codes "a/b") (codes "c") 32 _ refl refl)
-      (tight_from_viable (codes "   a/b c") (subst (λ x. IsHttpViable (codes "   a/b " ++ (x ∷ []))) (sym first) viable)));
+      (tight_from_viable (codes "   a/b c") viable));
   there = refl;
 }
 
@@ -83,11 +67,8 @@ not_at_space fault = fault.prefix.longest 7 (omega arith) (omega arith) space_ma
 at_space : IsHttpFault (codes "text ") (InvalidToken 4 32)
 unfolding is_token_byte
 at_space = record {
-  prefix = longest_at (codes "text") (codes " ") (viable_from_tight (codes "text") tt (viable-from_walk (codes "text") _ refl))
-      (λ b bytes e viable.
-      let first : 32 ≡ b = cc in
-      rejected-from_walk (codes "text") _ refl refl
-      (accepted_from_spaced (codes "text ") refl (subst (λ x. IsHttpViable (codes "text" ++ (x ∷ []))) (sym first) viable)));
+  prefix = longest_at (codes "text") (codes " ") (viable_from_tight (codes "text") tt (viable-from_walk (codes "text") _ refl)) (λ viable.
+      rejected-from_walk (codes "text") _ refl refl (accepted_from_spaced (codes "text ") refl viable));
   there = refl;
 }
 
@@ -112,28 +93,28 @@ tightened = let is = (http_is_tight _ _ read).1 in subst (Tightens 32 value) (sy
 -- so it is printed in lowercase,
 kept_tight : ReadsTight value (html_type (codes "text/html; charset=\"utf-8\" "))
 unfolding is_token_byte is_quoted_byte
-kept_tight = (
-  codes "text/HTML; charset=\"UTF-8\" ",
-  tightened,
-  record {
-    tree = record {
-      top = codes "text";
-      sub = codes "HTML";
-      tail = listed (final (codes " ") (quoted (codes "charset") (codes "UTF-8") (codes " ")));
-    };
-    well_formed = (refl, refl, (refl, (refl, IsContent-taken (codes "UTF-8") refl refl, refl)));
-    spelled = refl;
-    valued = refl;
-  },
-)
+kept_tight = reads_tight value (record {
+  tree = record {
+    top = codes "text";
+    sub = codes "HTML";
+    tail = listed (final (codes " ") (quoted (codes "charset") (codes "UTF-8") (codes " ")));
+  };
+  well_formed = (refl, refl, (refl, (refl, IsContent-taken (codes "UTF-8") refl refl, refl)));
+  spelled = refl;
+  valued = refl;
+})
 
 -- and not without its parameter
 kept_whole : ¬ (ReadsTight value (html_type (codes "text/html")))
 kept_whole reads = omega (arith, ap (λ (media : MediaType). length media.kept) (one_tight_reading _ _ _ reads kept_tight))
 
+-- bytes that aren't equal differ
+differ : (text other : List ℕ) → bytes_eq text other ≡ false → text ≢ other
+differ text other is same = true≢false (sym ((bytes_eq-Decides text other).1 same) ∙ is)
+
 -- no other text is left than what comes out
 no_other : (value text : List ℕ) → bytes_eq (tight value) text ≡ false → ¬ (Tightens 32 value text)
-no_other value text differs is = true≢false (sym ((bytes_eq-Decides (tight value) text).1 (tight_is is)) ∙ differs)
+no_other value text differs is = differ (tight value) text differs (tight_is is)
 
 -- white space stays neither at the end after a token nor before a semicolon there, but after one; and a semicolon does at the end, but no
 -- second one
@@ -181,3 +162,75 @@ not_spare is = go is refl
         false≢true (sym (has_semicolon (front ++ (b ∷ spaces)) rest) ∙ ap free (append_assoc front (b ∷ spaces) (59 ∷ rest) ∙ e))
     go (another front rest b space fault) e =
         false≢true (sym (has_semicolon (front ++ (b ∷ [])) rest) ∙ ap free (append_assoc front (b ∷ []) (59 ∷ rest) ∙ e))
+
+-- ---- quoted content
+
+-- `a\"b\\` means `a"b\`, and not itself
+unescapes : (unescaped (codes "a\\\"b\\\\") ≡ codes "a\"b\\") × (unescaped (codes "\\\"") ≢ codes "\\\"")
+unescapes = (refl, differ _ _ refl)
+
+-- what is written for `a"b\` is `a\"b\\`; what is written for a quote isn't a quote
+escapes : (escaped (codes "a\"b\\") ≡ codes "a\\\"b\\\\") × (escaped (codes "\"") ≢ codes "\"")
+escapes = (refl, differ _ _ refl)
+
+-- ---- parameters
+
+-- `utf-8` is a token; `a b` and nothing aren't
+tokens : (is_token_value (codes "utf-8") ≡ true) × (is_token_value (codes "a b") ≡ false) × (is_token_value [] ≡ false)
+unfolding is_token_byte
+tokens = (refl, refl, refl)
+
+-- a token is written as it is, and any other value in quotes, with the backslashes that it has
+written : (text_of_pair (codes "charset", codes "utf-8") ≡ codes "; charset=utf-8")
+    × (text_of_pair (codes "charset", codes "utf-8") ≢ codes "; charset=\"utf-8\"")
+    × (text_of_pair (codes "p", codes "a\\\"b") ≡ codes "; p=\"a\\\"b\"") × (text_of_pair (codes "p", []) ≡ codes "; p=\"\"")
+unfolding is_token_byte
+written = (refl, differ _ _ refl, refl, refl)
+
+-- `text/html; charset=utf-8; p=1; q="a b"; p=2`
+page : MediaType
+page = with_pairs (record { essence = codes "text/html"; slash = 4; plus = None; pairs = []; kept = [] })
+    ((codes "charset", codes "utf-8") ∷ (codes "p", codes "1") ∷ (codes "q", codes "a b") ∷ (codes "p", codes "2") ∷ [])
+
+-- the page is written with all its pairs, and no pair as nothing
+all_written : (page.kept ≡ codes "text/html; charset=utf-8; p=1; q=\"a b\"; p=2") × (text_of_pairs [] ≡ [])
+unfolding is_token_byte page
+all_written = (refl, refl)
+
+-- both values of `p` go, whatever the name's case, and the others stay in their order
+put : (others (codes "P") page.pairs ≡ (codes "charset", codes "utf-8") ∷ (codes "q", codes "a b") ∷ [])
+    × ((with_pair page (codes "p") (codes "3")).kept ≡ codes "text/html; charset=utf-8; q=\"a b\"; p=3")
+    × ((with_pair page (codes "p") (codes "3")).kept ≢ codes "text/html; charset=utf-8; p=3; q=\"a b\"")
+    × ((with_pair page (codes "p") (codes "3")).slash ≡ 4)
+unfolding is_token_byte page
+put = (refl, refl, differ _ _ refl, refl)
+
+-- ---- boundaries
+
+-- `a b` is one; nothing, a space at the end, a semicolon and 71 bytes aren't
+boundaries : IsBoundary (codes "a b") × ¬ (IsBoundary []) × ¬ (IsBoundary (codes "a ")) × ¬ (IsBoundary (codes "a;b"))
+    × ¬ (IsBoundary (codes "12345678901234567890123456789012345678901234567890123456789012345678901"))
+boundaries = (
+  record { most = omega arith; all = refl; end = λ is. absurd (omega (arith, is)) },
+  (λ is. is.end),
+  (λ is. is.end refl),
+  (λ is. true≢false (sym is.all)),
+  λ is. absurd (omega (arith, is.most)),
+)
+
+-- that of `multipart/mixed; boundary="a b"; boundary=c` is `a b`, and not `c`; a `text/plain` has none
+parts : MediaType
+parts = with_pairs (record { essence = codes "multipart/mixed"; slash = 9; plus = None; pairs = []; kept = [] })
+    ((codes "boundary", codes "a b") ∷ (codes "boundary", codes "c") ∷ [])
+
+-- the boundary of the parts is `a b`, and no other
+boundary_of : IsBoundaryOf parts (codes "a b") × ¬ (IsBoundaryOf parts (codes "c"))
+    × ¬ (IsBoundaryOf (record parts { essence = codes "text/plain"; slash = 4 }) (codes "a b"))
+    × ¬ (IsBoundaryOf (record parts { pairs = (codes "boundary", codes "a ") ∷ [] }) (codes "a "))
+unfolding parts
+boundary_of = (
+  record { multipart = refl; found = refl; is = boundaries.0 },
+  (λ is. differ (codes "a b") (codes "c") refl (same_Some _ _ is.found)),
+  (λ is. differ (codes "text") (codes "multipart") refl is.multipart),
+  λ is. boundaries.2 is.is,
+)

@@ -1,5 +1,5 @@
 -- What HTTP writes is read: tightened, it is the text of a syntax tree with the same parts.
-use Rattle.mime_http.proofs.Common.{AreHttpParameters, AreParameters, AreSpaces, AreTokenBytes, HttpIsRead, HttpReads, IsHttpParameter, IsParameter, IsTail, IsToken, List, MediaType, Parameter, Parameters, Reads, SyntaxTree, Tail, Tightens, [], a_byte, a_semicolon, a_string, and_parts, ap, append-nil, append_assoc, at_end, before_token, blank, final, is_token_byte, listed, lowered_list, lowered_parameter, lowered_tail, more, no_list, no_more, pair_of, pairs_of_list, pairs_of_tail, plain, quoted, refl, semicolon, semicolon_and, subst, sym, text_of, text_of_list, text_of_parameter, text_of_tail, tight, true, value_of, with_string, with_token, ℕ, ◌++◌, ◌∷◌, ◌≡◌}
+use Rattle.mime_http.proofs.Common.{AreHttpParameters, AreParameters, AreSpaces, AreTokenBytes, HttpIsRead, HttpReads, IsHttpParameter, IsParameter, IsTail, IsToken, List, MediaType, Parameter, Parameters, Reads, SyntaxTree, Tail, Tightens, [], a_byte, a_semicolon, a_string, and_parts, ap, append-nil, append_assoc, at_end, before_token, blank, final, is_token_byte, listed, lowered_list, lowered_parameter, lowered_tail, more, no_list, no_more, pair_of, pairs_of_list, pairs_of_tail, plain, quoted, refl, semicolon, semicolon_and, subst, sym, text_of, text_of_list, text_of_parameter, text_of_tail, tight, true, value_of, with_string, with_token, ℕ, ◌++◌, ◌∙◌, ◌∷◌, ◌≡◌}
 use Rattle.mime_http.proofs.Places.{regrouping, spaces-append, token_is_plain}
 use Rattle.mime_http.proofs.Tightened.{IsOther, other_byte, tight_is}
 
@@ -45,24 +45,19 @@ record Tailed (bytes : List ℕ) (pairs : List (List ℕ × List ℕ)) : Type 0 
 
 -- white space before a list stays
 indent : (n bytes : List ℕ) {pairs : List (List ℕ × List ℕ)} → AreSpaces n → Listed bytes pairs → Listed (n ++ bytes) pairs
-indent n bytes {pairs} white from = go from.list from.is from.left from.has
+indent n bytes white from =
+    let there = indented from.list from.is in record {
+      list = there.0;
+      is = there.1;
+      left = rw there.2 (before_token 59 n bytes (text_of_list from.list) refl white from.left);
+      has = there.3 ∙ from.has;
+    }
   where
-    go : (list : Parameters) → AreParameters list → Tightens 59 bytes (text_of_list list) → pairs_of_list (lowered_list list) ≡ pairs
-        → Listed (n ++ bytes) pairs
-    go (blank m) is left has =
-        record { list = blank (n ++ m); is = spaces-append n m white is; left = before_token 59 n bytes m refl white left; has = has }
-    go (final m p) is left has = record {
-      list = final (n ++ m) p;
-      is = (spaces-append n m white is.0, is.1);
-      left = subst (Tightens 59 (n ++ bytes)) (sym (append_assoc n m _)) (before_token 59 n bytes _ refl white left);
-      has = has;
-    }
-    go (more m p rest) is left has = record {
-      list = more (n ++ m) p rest;
-      is = (spaces-append n m white is.0, is.1, is.2);
-      left = subst (Tightens 59 (n ++ bytes)) (sym (append_assoc n m _)) (before_token 59 n bytes _ refl white left);
-      has = has;
-    }
+    indented : (list : Parameters) → AreParameters list → (other : Parameters) × AreParameters other
+        × (text_of_list other ≡ n ++ text_of_list list) × (pairs_of_list (lowered_list other) ≡ pairs_of_list (lowered_list list))
+    indented (blank m) is = (blank (n ++ m), spaces-append n m white is, refl, refl)
+    indented (final m p) is = (final (n ++ m) p, (spaces-append n m white is.0, is.1), append_assoc n m _, refl)
+    indented (more m p rest) is = (more (n ++ m) p rest, (spaces-append n m white is.0, is.1, is.2), append_assoc n m _, refl)
 
 -- a parameter, and what is after it, are a list
 parameter_first : (p : Parameter) → IsParameter p → (tail : Tail) → IsTail tail → {bytes : List ℕ} {pairs : List (List ℕ × List ℕ)}
@@ -77,24 +72,17 @@ parameter_first p is no_list fine {bytes} left has = record {
 parameter_first p is (listed list) fine left has =
     record { list = more [] p list; is = (refl, is, fine); left = left; has = ap (λ ps. pair_of (lowered_parameter p) ∷ ps) has }
 
--- bytes and what is left of them may be grouped otherwise
-regrouped : {last : ℕ} {bytes same text also : List ℕ} → bytes ≡ same → text ≡ also → Tightens last bytes text → Tightens last same also
-regrouped {last} {also = also} there left is = subst (λ x. Tightens last x also) there (subst (Tightens last _) left is)
-
 -- so a parameter as HTTP writes it is read, in quotes with the white space after it
 with_parameter : {text : List ℕ} {pair : List ℕ × List ℕ} → IsHttpParameter text pair → (bytes : List ℕ) {pairs : List (List ℕ × List ℕ)}
     → Tailed bytes pairs → Listed (text ++ bytes) (pair ∷ pairs)
 with_parameter (with_token name value named valued) bytes after =
     parameter_first (plain name value) (named, valued) after.tail after.is
-    (regrouped (simp regrouping) (simp regrouping) (token_left name named
-    (λ last is. a_byte last 61 (value ++ bytes) (value ++ text_of_tail after.tail) refl refl refl
-    (token_left value valued after.token 61)) 59))
-    after.has
+    (simp regrouping (token_left name named (λ last is. a_byte last 61 (value ++ bytes)
+    (value ++ text_of_tail after.tail) refl refl refl (token_left value valued after.token 61)) 59)) after.has
 with_parameter (with_string name content named valued) bytes after =
     parameter_first (quoted name content after.spaces) (named, valued, after.white) after.tail after.is
-    (regrouped (simp regrouping) (simp regrouping) (token_left name named
-    (λ last is. a_string last content bytes (after.spaces ++ text_of_tail after.tail) valued after.string) 59))
-    after.has
+    (simp regrouping (token_left name named (λ last is. a_string last content bytes
+    (after.spaces ++ text_of_tail after.tail) valued after.string) 59)) after.has
 
 -- ---- parameters and the white space after them
 
@@ -155,13 +143,7 @@ http_is_tight value media reads =
     let top = reads.top in
     let sub = reads.sub in
     let strict : SyntaxTree = record { top = top; sub = sub; tail = from.tail } in
-    let same : value_of strict ≡ record media { kept = (value_of strict).kept } = λ i. record {
-      essence = sym reads.essence i;
-      slash = sym reads.slash i;
-      plus = sym reads.plus i;
-      pairs = from.has i;
-      kept = (value_of strict).kept;
-    } in
+    let same : value_of strict ≡ record media { kept = (value_of strict).kept } = simp (reads.essence, reads.slash, reads.plus, from.has) in
     let left : Tightens 32 value (text_of strict) =
     subst (λ v. Tightens 32 v (text_of strict)) reads.spelled
     (before_token 32 reads.before _ (text_of strict) refl reads.white_before

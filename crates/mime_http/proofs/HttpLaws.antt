@@ -1,7 +1,5 @@
 -- The laws of a header's value.
-use Rattle.mime_http.proofs.Common.{ap, subst, sym, ℕ, List, MediaType, Reads, IsAccepted, one_reading, tight, IsHttpMediaType}
-use Rattle.mime_http.specs.Tight.{ReadsTight}
-use Rattle.mime_http.specs.HeaderLaws.{ReadIsHttp, OneTightReading, PlainIsHttp, OneHttpReading}
+use Rattle.mime_http.proofs.Common.{IsAccepted, IsHttpMediaType, List, MediaType, OneTightReading, PlainIsHttp, ReadIsHttp, Reads, ReadsTight, one_reading, subst, sym, tight, ℕ}
 use Rattle.mime_http.proofs.Walked.{accepted_stays}
 use Rattle.mime_http.proofs.Tightened.{tight_is}
 use Rattle.mime_http.proofs.HttpForth.{http_is_tight, http_is_read}
@@ -15,16 +13,6 @@ accepted_from_http value is = (_, (http_is_read value is.0 is.1).1)
 pub plain_is_http : PlainIsHttp
 plain_is_http value media reads =
     read_is_http value media (subst (λ text. Reads text media) (sym (accepted_stays value (media, reads))) reads)
-
--- of a media type as HTTP writes it one essence and one list of pairs are read
-pub one_http_reading : OneHttpReading
-one_http_reading value first second one other =
-    let read = http_is_read value first one in
-    let again = http_is_read value second other in
-    let same = one_reading (tight value) _ _ read.1 again.1 in
-    (ap (λ (m : MediaType). m.essence) same, ap (λ (m : MediaType). m.pairs) same)
-
--- ---- a value is read tightened as what comes out of it is
 
 -- what is read of a value tightened is read of what comes out of it,
 pub tight_reads : (value : List ℕ) {media : MediaType} → ReadsTight value media → Reads (tight value) media

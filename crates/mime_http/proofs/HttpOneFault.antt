@@ -1,36 +1,25 @@
 -- A value that is no media type has exactly one fault.
-use Rattle.mime_http.proofs.Common.{HttpLacks, InvalidToken, IsAccepted, IsFault, IsHttpFault, IsHttpLongestPrefix, IsHttpMediaType, IsHttpViable, Lacks, List, NoMemory, OneHttpFault, ParseError, Start, accepted_or_rejected, ap, arith, cases_lt, inl, inr, length, limit_of, one_fault, same_Some, slice_get, slice_get-get_or, slice_get_within, subst, sym, take-length, tight, ℕ, ⊎_elim, ◌<◌, ◌∙◌, ◌≡◌}
+use Rattle.mime_http.proofs.Common.{HttpLacks, InvalidToken, IsAccepted, IsHttpFault, IsHttpLongestPrefix, IsHttpMediaType, IsHttpViable, Lacks, List, NoMemory, OneHttpFault, ParseError, Start, accepted_or_rejected, ap, arith, cases_lt, inr, length, limit_of, one_fault, reach_from, refl, same_Some, slice_get, slice_get-get_or, slice_get_within, start, subst, sym, take, take-length, tight, ℕ, ⊎_elim, ◌-◌, ◌<◌, ◌∙◌, ◌≡◌}
 use Rattle.mime_http.proofs.Places.{place_from}
 use Rattle.mime_http.proofs.HttpViability.{accepted_from_spaced, http_from_accepted}
-use Rattle.mime_http.proofs.HowFar.{kind, settled, stops, spaced}
-use Rattle.mime_http.proofs.HttpFaults.{FaultAt, fault_before, fault_here, lacks_tight}
-
--- ---- one at least
+use Rattle.mime_http.proofs.HowFar.{kind}
+use Rattle.mime_http.proofs.HttpFaults.{FaultAt, found, lacks_tight}
 
 -- the library rejects what is left of a value that HTTP rejects
 rejected_tight : (value : List ℕ) → ¬ (IsHttpMediaType value) → ¬ (IsAccepted (tight value))
 rejected_tight value isnt is = isnt (http_from_accepted value is)
 
--- from its fault one of the value is found, at a position,
-found_at : (value : List ℕ) (fault : ParseError) → IsFault (tight value) fault → (pos : ℕ) × FaultAt value fault pos
-found_at value fault is =
-    let stop = stops value (limit_of (tight value) fault) in
-    elim (kind (place_from Start stop.front)) [
-      | settled at_rest e ↦ (_, fault_here value fault _ is stop (inl at_rest))
-      | spaced e ↦ ⊎_elim (λ yes. (_, fault_here value fault _ is stop (inr yes))) (λ no. (_, fault_before value fault _ is stop e no))
-          (accepted_or_rejected (tight stop.front))
-    ]
-
--- so the value has one
-found : (value : List ℕ) → ¬ (IsHttpMediaType value) → (fault : ParseError) × IsHttpFault value fault
-found value isnt =
+-- from its fault one of the value is found
+one_at_least : (value : List ℕ) → ¬ (IsHttpMediaType value) → (fault : ParseError) × IsHttpFault value fault
+one_at_least value isnt =
     let one = one_fault (tight value) (rejected_tight value isnt) in
-    let there = found_at value one.0 one.1 in
+    let limit = limit_of (tight value) one.0 in
+    let known = found value (tight value) one.0 limit (reach_from (start limit) value) refl refl refl one.1 in
+    let there : (pos : ℕ) × FaultAt value one.0 pos =
+    ⊎_elim (λ yes. (_, known.here (inr yes))) (λ no. (_, known.before no)) (accepted_or_rejected (take (limit - _) (tight value))) in
     ⊎_elim
     (λ within. (InvalidToken there.0 _, record { prefix = there.1.prefix; there = slice_get-get_or value there.0 0 within }))
     (λ over. (one.0, there.1.end over)) (cases_lt there.0 (length value))
-
--- ---- one at most
 
 -- the longest prefix is one
 prefix_unique : (value : List ℕ) (m n : ℕ) → IsHttpLongestPrefix value m → IsHttpLongestPrefix value n → m ≡ n
@@ -53,10 +42,9 @@ viable_from_lacks value fault lacks = (_, lacks.0)
 
 -- so a rejected one is settled, and lacks the same tightened
 lacks_from_http : (value : List ℕ) (fault : ParseError) → ¬ (IsHttpMediaType value) → HttpLacks value fault → Lacks (tight value) fault
-lacks_from_http value fault isnt lacks = elim (kind (place_from Start value)) [
-  | settled at_rest e ↦ lacks_tight value fault at_rest lacks
-  | spaced e ↦ absurd (isnt (http_from_accepted value (accepted_from_spaced value e (viable_from_lacks value fault lacks))))
-]
+lacks_from_http value fault isnt lacks = ⊎_elim
+    (λ e. absurd (isnt (http_from_accepted value (accepted_from_spaced value e (viable_from_lacks value fault lacks)))))
+    (λ at_rest. lacks_tight value fault at_rest lacks) (kind (place_from Start value))
 
 -- two faults of a value are the same
 same_fault : (value : List ℕ) → ¬ (IsHttpMediaType value) → (first second : ParseError) → IsHttpFault value first → IsHttpFault value second
@@ -74,5 +62,5 @@ same_fault value isnt first second one two =
 -- a value that HTTP rejects has exactly one fault
 pub one_http_fault : OneHttpFault
 one_http_fault value isnt =
-    let one = found value isnt in
+    let one = one_at_least value isnt in
     (one.0, one.1, λ other is. same_fault value isnt other one.0 is one.1)

@@ -1,9 +1,5 @@
 -- Tightening leaves bytes in UTF-8 exactly if they are: where it leaves some out, an ASCII byte or nothing stands before them.
-use Rattle.mime_http.proofs.Common.{Bool, IsAscii, IsAscii-cons, IsAscii-nil, IsCharBoundary-before_ascii, IsUtf8, IsUtf8-append, IsUtf8-from_ascii, IsUtf8-nil, IsUtf8-take, List, Place, Semicolon, Spaced, Start, [], added, and_from, and_parts, ap, append-nil, append_assoc, arith, brought_back, cases_Bool, cond_both, drop-append-add, false, false≢true, get_or, get_or_from_slice_get, if◌then◌else◌, is_left_out, length, length-append, nat_lt, nat_tests, place_after, refl, slice_get-prefix, subst, sym, take-append_seam, tight, tight_from, true, ℕ, ⊎_elim, ⊤, ◌&&◌, ◌++◌, ◌+◌, ◌<◌, ◌==◌, ◌↔◌, ◌∙◌, ◌∷◌, ◌≡◌}
-use Rattle.std.specs.Cmp.{both_ways}
-use Rattle.std.specs.Str.{is_utf8}
-use Rattle.std.proofs.lemmas.Str.{IsCharBoundary-after_ascii, IsUtf8-drop, IsUtf8-from_is_utf8, is_utf8-from_IsUtf8}
-use Rattle.std.proofs.Math.Bool.{and-true}
+use Rattle.mime_http.proofs.Common.{Bool, IsAscii, IsAscii-cons, IsAscii-nil, IsCharBoundary-after_ascii, IsCharBoundary-before_ascii, IsUtf8, IsUtf8-append, IsUtf8-drop, IsUtf8-from_ascii, IsUtf8-from_is_utf8, IsUtf8-nil, IsUtf8-take, List, Place, Semicolon, Spaced, Start, [], added, and-true, and_from, and_parts, ap, append-nil, append_assoc, arith, both_ways, brought_back, cases_Bool, cond_both, drop-append-add, false, false≢true, get_or, get_or_from_slice_get, if◌then◌else◌, is_left_out, is_utf8, is_utf8-from_IsUtf8, length, length-append, nat_lt, nat_tests, place_after, refl, slice_get-prefix, subst, sym, take-append_seam, tight, tight_from, true, ℕ, ⊎_elim, ⊤, ◌&&◌, ◌++◌, ◌+◌, ◌<◌, ◌==◌, ◌↔◌, ◌∙◌, ◌∷◌, ◌≡◌}
 use Rattle.mime_http.proofs.Places.{is_settled, settled_adds}
 
 -- ---- ASCII bytes

@@ -1,9 +1,8 @@
 -- Which beginnings of a value may still become a media type as HTTP writes it: by the library's walk over what is left of them.
 use Rattle.mime_http.proofs.Common.{AreSpaces, Begun, IsAccepted, IsHttpMediaType, IsHttpViable, IsViable, List, MatchOption-at_some, Place, Semicolon, Some, Spaced, Start, [], accepted-from_complete, added, ap, append-nil, append_assoc, cases_Bool, eqb-true, false, grow, in_type, is_space, none-some, option_and_then_some, place_after, refl, same_Some, subst, sym, tight, tight_from, true, walk, walk-accepted, walk-from_viable, walk_by-append, walk_from, ℕ, ⊎_elim, ◌++◌, ◌==◌, ◌∙◌, ◌∷◌, ◌≡◌}
-use Rattle.mime_http.proofs.Places.{IsSettled, Leads, LeavesWhite, both, comes_out, leaves_white, place_from, so}
-use Rattle.mime_http.proofs.Spelled.{EndsSo}
-use Rattle.mime_http.proofs.Walked.{place_at, walked}
-use Rattle.mime_http.proofs.HttpBack.{Closes, MayEnd, Reached, closes_there, ended_at, is_spaced, is_spelled, leaves_at, no_space_grows, reached, read_is_http}
+use Rattle.mime_http.proofs.Places.{IsSettled, Leads, LeavesWhite, both, comes_out, place_from, skipped_white, so, spaced}
+use Rattle.mime_http.proofs.Walked.{EndsSo, MayEnd, place_at, walked}
+use Rattle.mime_http.proofs.HttpBack.{Closes, Reached, closes_there, ended_at, is_spaced, is_spelled, leaves_at, no_space_grows, reached, read_is_http}
 use Rattle.mime_http.proofs.HttpLaws.{accepted_from_http}
 
 -- If the library walks what comes out after white space that was left out, the text may end before it: only a semicolon or the end follow.
@@ -19,9 +18,7 @@ ends_there begun front leaves is (b ∷ bytes) last e may = ⊎_elim
     (λ next grew rest.
     let closes = MatchOption-at_some (Unit {0}) (Closes begun front) next grew (closes_there begun front leaves is) in closes.may))
     (λ (no : (b == 59) ≡ false).
-    let put_back : added Spaced b ≡ 32 ∷ b ∷ [] = rw (other, no) refl in
-    option_and_then_some (λ next. walk_from next (b ∷ tight_from (place_after Spaced b) bytes)) (grow begun 32) last
-    (ap (λ a. walk_from begun (a ++ tight_from (place_after Spaced b) bytes)) (sym put_back) ∙ e)
+    option_and_then_some _ (grow begun 32) last (rw (other, no) at e)
     (λ next grew rest. absurd (none-some next (sym (no_space_grows begun leaves) ∙ grew))))
     (cases_Bool (b == 59)))
     (cases_Bool (is_space b))
@@ -37,10 +34,10 @@ tight-append place (b ∷ xs) ys =
     ∙ sym (append_assoc (added place b) (tight_from (place_after place b) xs) _)
 
 -- after bytes with white space at their end that is left out
-pub spaced_end : (front : List ℕ) (c : ℕ) (white : List ℕ) → LeavesWhite (place_from Start front) → AreSpaces (c ∷ white)
+pub spaced_end : (front : List ℕ) (c : ℕ) (white : List ℕ) → Leads (place_from Start front) (c ∷ []) [] Spaced → AreSpaces white
     → Leads Start (front ++ (c ∷ white)) (tight front) Spaced
-spaced_end front c white leaves all =
-    so (both (record { there = refl; tightly = tight-append Start front }) (leaves_white leaves c white all))
+spaced_end front c white out all =
+    so (both (record { there = refl; tightly = tight-append Start front }) (both out (skipped_white spaced white all)))
     (append-nil (tight front)) refl
 
 -- what is of the grammar if it is accepted without its white space
@@ -103,26 +100,21 @@ tight_from_viable front viable = (_, tight_accepted front viable.0 viable.1)
 
 -- with some, it must be a media type itself
 pub accepted_from_spaced : (front : List ℕ) → place_from Start front ≡ Spaced → IsHttpViable front → IsAccepted (tight front)
-accepted_from_spaced front spaced viable =
+accepted_from_spaced front white viable =
     let both = parted (tight front) _ (tight_accepted front viable.0 viable.1) in
     let here = reached front both.begun both.reached in
-    let end = ends_there both.begun front (leaves_at here spaced) (ended_at here) viable.0 both.last
-    (subst (λ place. walk_from both.begun (tight_from place viable.0) ≡ Some both.last) spaced both.goes) both.may in
+    let end = ends_there both.begun front (leaves_at here white) (ended_at here) viable.0 both.last
+    (subst (λ place. walk_from both.begun (tight_from place viable.0) ≡ Some both.last) white both.goes) both.may in
     accepted-from_complete (tight front) both.begun end.0 both.reached end.1
 
 -- so only white space and a semicolon may follow
 pub spaced_stops : (front : List ℕ) (c : ℕ) → place_from Start front ≡ Spaced → is_space c ≡ false → (c == 59) ≡ false
     → ¬ (IsHttpViable (front ++ (c ∷ [])))
-spaced_stops front c spaced other isnt viable =
-    let found = walk-from_viable (tight (front ++ (c ∷ []))) (tight_from_viable (front ++ (c ∷ [])) viable) in
-    let adds : tight_from (place_from Start front) (c ∷ []) ≡ 32 ∷ c ∷ [] =
-    ap (λ place. tight_from place (c ∷ [])) spaced ∙ rw (other, isnt) refl in
-    option_and_then_some (λ begun. walk_from begun (32 ∷ c ∷ [])) (walk (tight front)) found.0
-    (sym (walk_by-append grow (in_type []) (tight front) (32 ∷ c ∷ [])) ∙ ap (λ x. walk (tight front ++ x)) (sym adds)
-    ∙ ap walk (sym (tight-append Start front (c ∷ []))) ∙ found.1)
-    (λ begun walks goes.
-    option_and_then_some (λ next. walk_from next (c ∷ [])) (grow begun 32) found.0 goes (λ next grew rest.
-    none-some next (sym (no_space_grows begun (leaves_at (reached front begun walks) spaced)) ∙ grew)))
+spaced_stops front c white other isnt viable =
+    let both = parted (tight front) _ (tight_accepted front (c ∷ viable.0) (subst IsHttpMediaType (append_assoc front (c ∷ []) _) viable.1)) in
+    let goes = subst (λ place. walk_from both.begun (tight_from place (c ∷ viable.0)) ≡ Some both.last) white both.goes in
+    option_and_then_some _ (grow both.begun 32) both.last (rw (other, isnt) at goes) (λ next grew rest.
+    none-some next (sym (no_space_grows both.begun (leaves_at (reached front both.begun both.reached) white)) ∙ grew))
 
 -- a value of which an accepted text comes out is viable
 pub viable_from_accepted : (front : List ℕ) → IsAccepted (tight front) → IsHttpViable front

@@ -18,7 +18,6 @@ pub mod HttpLaws
 pub mod HttpOneFault
 pub mod HttpText
 pub mod HttpViability
-pub mod LeftOut
 pub mod Lists
 pub mod Meanings
 pub mod NegotiationFacts
@@ -32,10 +31,8 @@ pub mod RangesFacts
 pub mod Rejections
 pub mod ShortWeight
 pub mod Spare
-pub mod Spelled
 pub mod Strangers
 pub mod Tightened
 pub mod Trims
 pub mod Walked
 pub mod Written
-pub mod WrittenFacts

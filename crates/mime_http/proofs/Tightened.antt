@@ -1,8 +1,6 @@
 -- A value tightened, as the page `Tight` has it, is what comes out of it byte by byte.
-use Rattle.mime_http.proofs.Common.{AreSpaces, Closed, Equals, IsContent, List, Place, Plain, Quoted, Semicolon, Spaced, Start, Tightens, [], a_byte, a_semicolon, a_string, ap, arith, at_end, before_token, cond_both, false, false≢true, if◌then◌else◌, is_space, nat_tests, refl, semicolon_left, subst, sym, tight, tight_from, true, white_left, ℕ, ◌++◌, ◌==◌, ◌||◌, ◌∙◌, ◌∷◌, ◌≡◌}
+use Rattle.mime_http.proofs.Common.{AreSpaces, Closed, Equals, IsContent, List, Place, Plain, Semicolon, Spaced, Start, Tightens, [], a_byte, a_semicolon, a_string, ap, arith, at_end, before_token, cond_both, false, false≢true, if◌then◌else◌, is_space, nat_tests, refl, semicolon_left, subst, sym, tight, tight_from, true, white_left, ℕ, ◌++◌, ◌==◌, ◌||◌, ◌∙◌, ◌∷◌, ◌≡◌}
 use Rattle.mime_http.proofs.Places.{Leads, LeavesWhite, after_equals, after_token, after_value, at_start, before_name, comes_out, leaves_white, no_bytes, one, quoted_content, skipped_white, walk_spaces}
-
--- ---- what is left of bytes comes out of them
 
 -- a byte with no role of its own
 pub record IsOther (b : ℕ) : Type 0 where
@@ -38,18 +36,12 @@ whitens (other is after_token) [] all =
 whitens (other is after_equals) [] all =
     record { to = Equals; leads = rw (is.quote, is.semicolon) (no_bytes Equals); semicolon = rw is.semicolon (one Equals 59) }
 
--- a quoted value comes out as it is,
-quoted_out : {content : List ℕ} → IsContent content → (rest : List ℕ)
-    → tight_from Equals (34 ∷ (content ++ (34 ∷ rest))) ≡ 34 ∷ (content ++ (34 ∷ tight_from Closed rest))
-quoted_out {content} is rest =
-    let leads : Leads Quoted content content Quoted = quoted_content is in ap (λ x. 34 ∷ x) (leads.tightly (34 ∷ rest))
-
--- also with the equals sign before it,
+-- a quoted value comes out as it is, with the equals sign before it,
 string_out : {last : ℕ} {place : Place} → Last last place → {content : List ℕ} → IsContent content → (rest : List ℕ)
     → tight_from place (61 ∷ 34 ∷ (content ++ (34 ∷ rest))) ≡ 61 ∷ 34 ∷ (content ++ (34 ∷ tight_from Closed rest))
-string_out (other tests after_token) is rest = ap (λ x. 61 ∷ x) (quoted_out is rest)
-string_out (other tests after_equals) is rest = ap (λ x. 61 ∷ x) (quoted_out is rest)
-string_out at is rest = ap (λ x. 61 ∷ x) (quoted_out is rest)
+string_out (other tests after_token) is rest = ap (λ x. 61 ∷ 34 ∷ x) ((quoted_content is).tightly (34 ∷ rest))
+string_out (other tests after_equals) is rest = ap (λ x. 61 ∷ 34 ∷ x) ((quoted_content is).tightly (34 ∷ rest))
+string_out at is rest = ap (λ x. 61 ∷ 34 ∷ x) ((quoted_content is).tightly (34 ∷ rest))
 
 -- and so does another byte,
 byte_out : {last : ℕ} {place : Place} → Last last place → (b : ℕ) → is_space b ≡ false → (b == 59) ≡ false → (b == 34) ≡ false
@@ -61,10 +53,6 @@ byte_out at b not_white not_semicolon not_quote rest = rw (not_white, not_semico
 -- which has no role of its own,
 pub other_byte : (b : ℕ) → is_space b ≡ false → (b == 59) ≡ false → (b == 34) ≡ false → IsOther b
 other_byte b not_white not_semicolon not_quote = record { quote = not_quote; semicolon = not_semicolon; space = grind (arith, nat_tests) }
-
--- and leads to one of two places
-byte_last : (b : ℕ) → IsOther b → Last b (if b == 61 then Equals else Plain)
-byte_last b is = cond_both (b == 61) _ _ (Last b) (λ e. other is after_equals) (λ e. other is after_token)
 
 -- So what is left of bytes comes out of them.
 tight_out : {last : ℕ} {place : Place} → Last last place → {bytes text : List ℕ} → Tightens last bytes text → tight_from place bytes ≡ text
@@ -83,8 +71,9 @@ tight_out (other tests leaves) (before_token last white rest text may all is) =
 tight_out at (a_string last content rest text quoted is) =
     string_out at quoted rest ∙ ap (λ x. 61 ∷ 34 ∷ (content ++ (34 ∷ x))) (tight_out string is)
 tight_out at (a_byte last b rest text not_white not_semicolon not_quote is) =
-    byte_out at b not_white not_semicolon not_quote rest
-    ∙ ap (λ x. b ∷ x) (tight_out (byte_last b (other_byte b not_white not_semicolon not_quote)) is)
+    let plain = other_byte b not_white not_semicolon not_quote in
+    byte_out at b not_white not_semicolon not_quote rest ∙ ap (λ x. b ∷ x)
+    (tight_out (cond_both (b == 61) _ _ (Last b) (λ e. other plain after_equals) (λ e. other plain after_token)) is)
 
 -- so a value is tightened to what comes out of it
 pub tight_is : {value text : List ℕ} → Tightens 32 value text → tight value ≡ text

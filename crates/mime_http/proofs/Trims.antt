@@ -1,9 +1,7 @@
 -- A piece without the white space around it.
-use Rattle.mime_http.proofs.Common.{AreSpaces, Bool, HttpReads, IsAscii, IsToken, IsUtf8, List, MediaType, [], and_from, and_parts, ap, append-nil, append_assoc, arith, cond_both, eq-eqb, false, get_or, if◌then◌else◌, is_space, is_token_byte, length, length-append, list_all, list_all-append, nat_tests, refl, subst, suc, sym, take, take-suc, take_more, tight, trim_end, trim_start, true, true≢false, ℕ, ◌&&◌, ◌++◌, ◌+◌, ◌-◌, ◌<◌, ◌==◌, ◌∙◌, ◌∷◌, ◌≡◌, ◌≤◌}
+use Rattle.mime_http.proofs.Common.{AreSpaces, Bool, IsAscii, IsUtf8, List, [], and_from, and_parts, ap, append-nil, arith, cond_both, eq-eqb, false, get_or, if◌then◌else◌, is_space, length, length-append, list_all-append, nat_tests, refl, subst, suc, sym, take, take_more, tight, trim_end, trim_start, true, true≢false, ℕ, ◌++◌, ◌-◌, ◌<◌, ◌==◌, ◌∙◌, ◌∷◌, ◌≡◌, ◌≤◌}
 use Rattle.mime_http.proofs.HttpText.{tight_utf8}
 use Rattle.mime_http.proofs.Places.{at_start, skipped_white}
-
--- ---- at the start
 
 -- Bytes are white space, and what is left without it.
 pub split_white : (bytes : List ℕ) → (white : List ℕ) × AreSpaces white × (bytes ≡ white ++ trim_start bytes)
@@ -50,39 +48,28 @@ utf8_before piece utf8 = (tight_utf8 piece).1 (subst IsUtf8 (sym (tight_trimmed 
 pub utf8_trimmed : (piece : List ℕ) → IsUtf8 piece → IsUtf8 (trim_start piece)
 utf8_trimmed piece utf8 = (tight_utf8 (trim_start piece)).1 (subst IsUtf8 (tight_trimmed piece) ((tight_utf8 piece).0 utf8))
 
--- ---- at the end
-
--- a byte at the end that is white space is left out
-trim_end-space : (bytes : List ℕ) (b : ℕ) → is_space b ≡ true → trim_end (bytes ++ (b ∷ [])) ≡ trim_end bytes
-trim_end-space [] b white = rw white refl
-trim_end-space (c ∷ bytes) b white = grind (arith, trim_end-space bytes b white, list_all-append is_space bytes (b ∷ []))
-
--- and else all bytes stay
-trim_end-other : (bytes : List ℕ) (b : ℕ) → is_space b ≡ false → trim_end (bytes ++ (b ∷ [])) ≡ bytes ++ (b ∷ [])
-trim_end-other [] b other = rw other refl
-trim_end-other (c ∷ bytes) b other = grind (arith, trim_end-other bytes b other, list_all-append is_space bytes (b ∷ []))
+-- a byte at the end is left out if it is white space, and else all bytes stay
+trim_end-last : (bytes : List ℕ) (b : ℕ) → trim_end (bytes ++ (b ∷ [])) ≡ (if is_space b then trim_end bytes else bytes ++ (b ∷ []))
+trim_end-last [] b = grind arith
+trim_end-last (c ∷ bytes) b = grind (arith, trim_end-last bytes b, list_all-append is_space bytes (b ∷ []))
 
 -- the same, counted to the end
-last_taken : (piece : List ℕ) (end : ℕ) → 0 < end → end ≤ length piece
-    → take (end - 1) piece ++ (get_or piece (end - 1) 0 ∷ []) ≡ take end piece
-last_taken piece end some within =
-    let back : end - 1 + 1 ≡ end = omega (arith, some) in
-    sym (take_more piece (end - 1) 0 (omega (arith, some, within))) ∙ ap (λ n. take n piece) back
+last_trimmed : (piece : List ℕ) (end : ℕ) → 0 < end → end ≤ length piece → trim_end (take end piece)
+    ≡ (if is_space (get_or piece (end - 1) 0) then trim_end (take (end - 1) piece) else take end piece)
+last_trimmed piece end some within =
+    let last : take (end - 1) piece ++ (get_or piece (end - 1) 0 ∷ []) ≡ take end piece =
+    sym (take_more piece (end - 1) 0 (omega (arith, some, within))) ∙ ap (λ n. take n piece) (omega (arith, some)) in
+    rw last at (trim_end-last (take (end - 1) piece) (get_or piece (end - 1) 0))
 
 -- so white space before an end may be taken from it,
 pub end_at_space : (piece : List ℕ) (end : ℕ) → 0 < end → end ≤ length piece → is_space (get_or piece (end - 1) 0) ≡ true
     → trim_end (take (end - 1) piece) ≡ trim_end (take end piece)
-end_at_space piece end some within white =
-    sym (trim_end-space (take (end - 1) piece) (get_or piece (end - 1) 0) white) ∙ ap trim_end (last_taken piece end some within)
+end_at_space piece end some within white = sym (rw white at (last_trimmed piece end some within))
 
 -- and at another byte nothing is left out
 pub end_at_other : (piece : List ℕ) (end : ℕ) → 0 < end → end ≤ length piece → is_space (get_or piece (end - 1) 0) ≡ false
     → take end piece ≡ trim_end (take end piece)
-end_at_other piece end some within other =
-    let last = last_taken piece end some within in
-    sym last ∙ (sym (trim_end-other (take (end - 1) piece) (get_or piece (end - 1) 0) other) ∙ ap trim_end last)
-
--- ---- in ASCII
+end_at_other piece end some within other = sym (rw other at (last_trimmed piece end some within))
 
 -- What is left of ASCII without the white space before it is ASCII.
 pub ascii_trimmed : (piece : List ℕ) → IsAscii piece → IsAscii (trim_start piece)

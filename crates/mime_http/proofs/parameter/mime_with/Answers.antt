@@ -1,5 +1,5 @@
 -- What is written is known to be read as the media type with the parameter.
-use Rattle.mime_http.proofs.Common.{AreHeaderBytes, Form, IsSafe, IsToken, List, MediaType, Reads, [], ap, append_assoc, ap₂, arith, escaped, form_of, length, length-append, lowered, lowered-lowered, lowered_value, others, string_bytes, subst, sym, text_in, text_of_pairs, with_pair, ℕ, ◌++◌, ◌+◌, ◌∙◌, ◌∷◌, ◌≡◌, ◌≤◌, IfOk-weaker}
+use Rattle.mime_http.proofs.Common.{AreHeaderBytes, Form, IfOk-weaker, IsSafe, IsToken, List, MediaType, Reads, [], ap, append_assoc, ap₂, arith, escaped, form_of, length, length-append, lowered, lowered-lowered, lowered_value, others, string_bytes, subst, sym, text_in, text_of_pairs, with_pair, ℕ, ◌++◌, ◌+◌, ◌∙◌, ◌∷◌, ◌≡◌, ◌≤◌}
 use Rattle.mime_http.proofs.Contents.{content_of_escaped}
 use Rattle.mime_http.proofs.Forms.{form_text}
 use Rattle.mime_http.proofs.Others.{and_last, pairs_within_text}
@@ -12,44 +12,23 @@ is_written : (media : MediaType) (name value text : List ℕ) (form : Form) → 
     → text ≡ media.essence ++ text_of_pairs (others name media.pairs ++ ((name, escaped value) ∷ []))
 is_written media name value text form fits made =
     let pairs = others name media.pairs in
-    made ∙ sym (append_assoc media.essence (text_of_pairs pairs) _)
-    ∙ ap (λ form. (media.essence ++ text_of_pairs pairs) ++ text_in form name value) fits
-    ∙ ap (λ last. (media.essence ++ text_of_pairs pairs) ++ last) (form_text name value)
-    ∙ and_last media.essence pairs (name, escaped value)
+    rw (made, fits, form_text name value)
+    (sym (append_assoc media.essence (text_of_pairs pairs) _) ∙ and_last media.essence pairs (name, escaped value))
 
 -- so it has as many bytes as parameters, at least
 fits_text : (essence text : List ℕ) (pairs : List (List ℕ × List ℕ)) (pair : List ℕ × List ℕ)
     → text ≡ essence ++ text_of_pairs (pairs ++ (pair ∷ [])) → length pairs + 1 ≤ length text
 fits_text essence text pairs pair is =
-    omega (
-      arith,
-      ap length is,
-      length-append essence (text_of_pairs (pairs ++ (pair ∷ []))),
-      pairs_within_text
-          (pairs ++ (pair ∷ [])),
-      length-append pairs (pair ∷ []),
-    )
-
--- there is one parameter more than those of other names
-one_more : (media : MediaType) (name content : List ℕ)
-    → length (with_pair media (lowered name) content).pairs ≡ length (others name media.pairs) + 1
-one_more media name content = rw (lowered-lowered name) (length-append (others name media.pairs) ((lowered name, content) ∷ []))
+    let all = pairs ++ (pair ∷ []) in
+    omega (arith, ap length is, length-append essence (text_of_pairs all), pairs_within_text all, length-append pairs (pair ∷ []))
 
 -- what is written is read as the media type with the parameter
 is_read : (media : MediaType) (name value text : List ℕ) (form : Form) → form ≡ form_of value
     → text ≡ media.essence ++ (text_of_pairs (others name media.pairs) ++ text_in form name value) → {kept : List ℕ} → Reads kept media
     → IsSafe media → IsToken name → AreHeaderBytes value → Reads text (with_pair media (lowered name) (lowered_value name (escaped value)))
 is_read media name value text form fits made reads header named safe =
-    subst (λ bytes. Reads bytes (with_pair media (lowered name) (lowered_value name (escaped value))))
-    (sym (is_written media name value text form fits made))
+    rw (is_written media name value text form fits made)
     (with_pair_is_read _ media name (escaped value) reads header named (content_of_escaped value safe))
-
--- without a capital to be lowercased it is its own kept text
-kept_is : (media : MediaType) (name value text : List ℕ) → lowered name ≡ name → lowered_value name (escaped value) ≡ escaped value
-    → text ≡ media.essence ++ text_of_pairs (others name media.pairs ++ ((name, escaped value) ∷ []))
-    → (with_pair media (lowered name) (lowered_value name (escaped value))).kept ≡ text
-kept_is media name value text low_name low_value is =
-    ap₂ (λ n content. media.essence ++ text_of_pairs (others n media.pairs ++ ((n, content) ∷ []))) low_name low_value ∙ sym is
 
 pub overflow_add-count : goal.overflow_add-count
 overflow_add-count c =
@@ -70,10 +49,12 @@ invariant_of-known c =
     let as_written = c.is_kept_as_written.ensures c.if-is_kept_as_written.true in
     record {
       pairs = made.pairs;
-      counted = one_more media name content ∙ ap (λ n. n + 1) (sym c.in_ok-text.ensures.count);
+      counted = rw (lowered-lowered name) (length-append (others name media.pairs) ((lowered name, content) ∷ [])
+          ∙ ap (λ n. n + 1) (sym c.in_ok-text.ensures.count));
       some = λ none. absurd (omega (arith, none));
       reads = subst (λ text. Reads (string_bytes c.in_ok-text.text) (record media { pairs = made.pairs; kept = text }))
-          (kept_is media name value _ as_written.0 as_written.1 is) read;
+          (ap₂ (λ n content. media.essence ++ text_of_pairs (others n media.pairs ++ ((n, content) ∷ []))) as_written.0 as_written.1
+          ∙ sym is) read;
     }
 
 pub returns-in-Ok : goal.returns-in-Ok

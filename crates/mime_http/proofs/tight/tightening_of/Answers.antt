@@ -1,8 +1,7 @@
 -- The byte at fault is left out, or the fault stands.
-use Rattle.mime_http.proofs.Common.{IfOk, InvalidToken, IsDeadAt, IsFault, IsLoose, IsTightening, List, ParseError, Stands, Start, ap, arith, get_or, get_or_from_slice_get, is_space, length, nat_tests, slice_get_within, subst, sym, ℕ, ◌-◌, ◌∙◌, ◌≡◌}
+use Rattle.mime_http.proofs.Common.{InvalidToken, IsDeadAt, IsFault, List, ParseError, Stands, ap, arith, get_or, get_or_from_slice_get, is_space, length, nat_tests, slice_get_within, subst, sym, ℕ, ◌∙◌, ◌≡◌}
 use Rattle.mime_http.proofs.Trims.{trimmed-le}
-use Rattle.mime_http.proofs.Spare.{spare_start, spare_semicolon}
-use Rattle.mime_http.proofs.LeftOut.{first_space, next_semicolon}
+use Rattle.mime_http.proofs.Spare.{first_space, next_semicolon, spare_semicolon, spare_start}
 use Rattle.mime_http.proofs.AtFault.{first_semicolon, byte_that_stays, stands_at_end}
 use Rattle.mime_http.proofs.tight.tightening_of.Goals.{in_default-byte-via-in-59+else-ends_in_semicolon_or_space, in_default-byte-via-in_default-1}
 use Rattle.mime_http.proofs.tight.tightening_of.Goals as goal
@@ -24,9 +23,7 @@ pub overflow_sub-from : goal.overflow_sub-from
 overflow_sub-from c = omega (arith, ap length c.trim_start.ensures, trimmed-le c.args.value.now)
 
 pub copied-requires-clause-loose : goal.copied-requires-clause-loose
-copied-requires-clause-loose c =
-    let value = c.args.value.now in
-    subst (λ rest. IsLoose value 0 (length value - length rest) Start) (sym c.trim_start.ensures) (first_space value)
+copied-requires-clause-loose c = rw c.trim_start.ensures (first_space c.args.value.now)
 
 pub returns-in-32-clause-left : goal.returns-in-32-clause-left
 returns-in-32-clause-left c = c.copied.ensures c.args.fault
@@ -36,8 +33,7 @@ tightening_at_white-requires-clause-within c = slice_get_within _ _ _ (dead_of c
 
 pub tightening_at_white-requires-clause-fault : goal.tightening_at_white-requires-clause-fault
 tightening_at_white-requires-clause-fault c =
-    subst (IsDeadAt c.args.value.now c.in-InvalidToken.pos)
-    (sym (here_of c.args.value.now c.in-InvalidToken.pos c.requires.fault c.in-InvalidToken.is))
+    rw (here_of c.args.value.now c.in-InvalidToken.pos c.requires.fault c.in-InvalidToken.is)
     (dead_of c.requires.fault c.in-InvalidToken.is)
 
 pub tightening_at_white-requires-clause-white : goal.tightening_at_white-requires-clause-white
@@ -47,14 +43,12 @@ tightening_at_white-requires-clause-white c =
 
 pub returns-in-32-2-clause-left : goal.returns-in-32-2-clause-left
 returns-in-32-2-clause-left c =
-    subst (λ fault. IfOk c.tightening_at_white.result (IsTightening c.args.value.now fault))
-    (ap (InvalidToken c.in-InvalidToken.pos) (here_of c.args.value.now c.in-InvalidToken.pos c.requires.fault c.in-InvalidToken.is)
-    ∙ sym c.in-InvalidToken.is)
-    c.tightening_at_white.ensures.left
+    rw (here_of c.args.value.now c.in-InvalidToken.pos c.requires.fault c.in-InvalidToken.is, ← c.in-InvalidToken.is)
+    at c.tightening_at_white.ensures.left
 
 pub copied-requires-in-59-clause-loose : goal.copied-requires-in-59-clause-loose
 copied-requires-in-59-clause-loose c =
-    next_semicolon _ _ _ (dead_of c.requires.fault c.in-InvalidToken.is) c.in-59.is
+    next_semicolon _ _ (rw c.in-59.is at (dead_of c.requires.fault c.in-InvalidToken.is))
     (sym c.ends_in_semicolon_or_space.ensures ∙ c.if-ends_in_semicolon_or_space.true)
 
 pub returns-in-59-clause-left : goal.returns-in-59-clause-left
@@ -67,7 +61,8 @@ returns-in_default-byte-clause-left c =
     let stands : Stands value (InvalidToken c.in-InvalidToken.pos c.in-InvalidToken.byte) =
     elim c.in_default-byte.branch [
       | in_default-byte-via-in-59+else-ends_in_semicolon_or_space w ↦
-          first_semicolon _ _ _ dead w.in-59.is (sym w.ends_in_semicolon_or_space.ensures ∙ w.if-ends_in_semicolon_or_space.false)
+          rw w.in-59.is (first_semicolon _ _ (rw w.in-59.is at dead)
+          (sym w.ends_in_semicolon_or_space.ensures ∙ w.if-ends_in_semicolon_or_space.false))
       | in_default-byte-via-in_default-1 w ↦ byte_that_stays _ _ _ dead (grind (arith, nat_tests, w))
     ] in
     subst (Stands value) (sym c.in-InvalidToken.is) stands
@@ -79,5 +74,5 @@ returns-in-32-clause-memory c = λ isnt.
 
 pub returns-in-59-clause-memory : goal.returns-in-59-clause-memory
 returns-in-59-clause-memory c = λ isnt.
-    absurd (isnt (spare_semicolon _ _ _ (dead_of c.requires.fault c.in-InvalidToken.is) c.in-59.is
+    absurd (isnt (spare_semicolon _ _ (rw c.in-59.is at (dead_of c.requires.fault c.in-InvalidToken.is))
     (sym c.ends_in_semicolon_or_space.ensures ∙ c.if-ends_in_semicolon_or_space.true)))

@@ -1,21 +1,15 @@
 -- What the library reads as it stands is what HTTP writes, and stays as it is.
-use Rattle.mime_http.proofs.Common.{Explains, FaultIsSpare, HttpExplains, HttpReads, IfErr, IfOk, IsAccepted, IsAscii-cons, IsAscii-nil, IsHttpMediaType, IsUtf8, IsUtf8-from_ascii, OwnedMedia, Reads, ReadsTight, [], arith, rules, subst, sym, tight, true≢false, ◌∙◌, ◌∷◌, ◌≡◌, ◌≢◌, IfOk-weaker}
-use Rattle.mime_http.specs.declared.value.FieldError.{FieldError}
+use Rattle.mime_http.proofs.Common.{Explains, HttpReads, IfOk, IfOk-weaker, IsAccepted, IsUtf8, IsUtf8-nil, OwnedMedia, Reads, ReadsTight, [], arith, rules, subst, sym, tight, true≢false, ◌∙◌, ◌∷◌, ◌≡◌}
+use Rattle.mime_http.proofs.HttpText.{put_ascii}
 use Rattle.mime_http.proofs.HttpBack.{read_is_http}
-use Rattle.mime_http.proofs.HttpLaws.{reads_tight}
 use Rattle.mime_http.proofs.Walked.{tight_too}
-use Rattle.mime_http.proofs.HttpLaws.{plain_is_http}
+use Rattle.mime_http.proofs.HttpLaws.{plain_is_http, reads_tight}
 use Rattle.mime_http.proofs.Rejections.{fault_explains}
 use Rattle.mime_http.proofs.value.content_type.Goals as goal
 
--- `*/*` is in UTF-8
-star : IsUtf8 (42 ∷ 47 ∷ 42 ∷ [])
-star =
-    IsUtf8-from_ascii (42 ∷ 47 ∷ 42 ∷ []) (IsAscii-cons 42 (47 ∷ 42 ∷ []) (omega arith) (IsAscii-cons 47 (42 ∷ []) (omega arith)
-    (IsAscii-cons 42 [] (omega arith) IsAscii-nil)))
-
 pub returns-in-Err-clause-star : goal.returns-in-Err-clause-star
-returns-in-Err-clause-star c = λ is. absurd (c.in-Err.ensures.cases.0 (subst IsUtf8 (sym is) star))
+returns-in-Err-clause-star c = λ is.
+    absurd (c.in-Err.ensures.cases.0 (subst IsUtf8 (sym is) (put_ascii (42 ∷ 47 ∷ 42 ∷ []) [] (omega arith) IsUtf8-nil)))
 
 pub returns-in-Ok-from_str-clause-http : goal.returns-in-Ok-from_str-clause-http
 returns-in-Ok-from_str-clause-http c =
@@ -56,12 +50,11 @@ returns-in_default c =
       http = IfOk-weaker result read (λ mime. IsUtf8 value × HttpReads value mime.media)
           (λ mime reads. (search rules, read_is_http value mime.media reads)) kept;
       kept = IfOk-weaker result read (λ mime. ReadsTight value mime.media) (λ mime reads. reads_tight value reads) kept;
-      explained = subst (λ t. IfErr result (λ error. HttpExplains t error)) text said.explained;
-      accepted = λ utf8. subst (λ t. IsHttpMediaType t → IfErr result (λ error. error ≡ FieldError.NoMemory)) text said.accepted;
+      explained = rw text at said.explained;
+      accepted = λ utf8. rw text at said.accepted;
       star = λ is. absurd (true≢false (sym (c.in-Err-from_str.ensures.star (text ∙ is)).1));
       short = λ utf8 accepted few.
           absurd (c.in_default.not-NoMemory
           (c.fault.ensures ∙ c.in-Err-from_str.ensures.accepted (subst IsAccepted (sym text) accepted)));
-      rejected = subst (λ t. ¬ (IsHttpMediaType t) → ¬ (FaultIsSpare t) → IfErr result (λ error. error ≢ FieldError.NoMemory)) text
-          said.rejected;
+      rejected = rw text at said.rejected;
     }

@@ -1,7 +1,7 @@
 -- What tightening leaves is read as the value, and if it isn't, HTTP rejects the value.
-use Rattle.mime_http.proofs.Common.{refl, Begins, Explains, IsAccepted, IsFault, IsTightening, rules, string_bytes, subst, sym, take, tight, ◌∙◌, ◌≡◌}
+use Rattle.mime_http.proofs.Common.{Begins, Explains, IsAccepted, IsTightening, refl, rules, string_bytes, subst, sym, take, tight, ◌∙◌, ◌≡◌}
 use Rattle.mime_http.proofs.HttpViability.{http_from_accepted}
-use Rattle.mime_http.proofs.Rejections.{fault_explains, LeftRejected, rejected_so}
+use Rattle.mime_http.proofs.Rejections.{fault_explains, rejected_so}
 use Rattle.mime_http.proofs.value.read_tight.Goals.{in_default-via-in-Prefix+else-next-value, in_default-via-in_default, in-Prefix, in-Copy}
 use Rattle.mime_http.proofs.value.read_tight.Goals as goal
 
@@ -12,9 +12,8 @@ returns-in_default-clause-read c =
     let is : IsTightening value c.args.fault left = search rules in
     let so = rejected_so value c.args.fault c.args.fault left is in
     elim c.in_default.branch [
-      | in_default-via-in-Prefix+else-next-value w ↦ so (subst (LeftRejected value c.args.fault c.args.fault) (sym w.in-Prefix.is)
-          (λ last. absurd (w.if-next-value.false last)))
-      | in_default-via-in_default w ↦ so (subst (LeftRejected value c.args.fault c.args.fault) (sym w.in_default.is) refl)
+      | in_default-via-in-Prefix+else-next-value w ↦ so (rw w.in-Prefix.is (λ last. absurd (w.if-next-value.false last)))
+      | in_default-via-in_default w ↦ so (rw w.in_default.is refl)
     ]
 
 pub returns-in_default-fault-clause-read : goal.returns-in_default-fault-clause-read
@@ -31,11 +30,10 @@ returns-in_default-fault-clause-read c =
     rejected_so value c.args.fault fault left is (elim c.match-left.branch [
       | in-Prefix w ↦
           let here : text ≡ take w.in-Prefix.end value = search rules in
-          subst (LeftRejected value c.args.fault fault) (sym w.in-Prefix.is) (λ last. subst (λ t. ¬ (IsAccepted t)) here rejected)
+          rw w.in-Prefix.is (λ last. rw here at rejected)
       | in-Copy w ↦
           let here : text ≡ string_bytes w.in-Copy.copy = search rules in
-          subst (LeftRejected value c.args.fault fault) (sym w.in-Copy.is)
-          (subst (λ t. ¬ (IsAccepted t)) here rejected, subst (λ t. IsFault t fault) here faulty)
+          rw w.in-Copy.is (rw here at rejected, rw here at faulty)
     ])
 
 pub returns-in-NoMemory-clause-memory : goal.returns-in-NoMemory-clause-memory
@@ -53,7 +51,6 @@ returns-in-NoMemory-clause-memory c = λ rejected.
           here ∙ sym (begins.alone w.if-next-value.true)
       | in-Copy w ↦
           let here : text ≡ string_bytes w.in-Copy.copy = search rules in
-          let copied : string_bytes w.in-Copy.copy ≡ tight value = subst (IsTightening value c.args.fault) w.in-Copy.is is in
-          here ∙ copied
+          here ∙ subst (IsTightening value c.args.fault) w.in-Copy.is is
     ] in
     absurd (rejected (http_from_accepted value (subst IsAccepted tightly explained.0)))

@@ -1,6 +1,5 @@
 -- The text of the fault follows what is written first.
-use Rattle.mime_http.proofs.Common.{FoldsTo, List, [], ap, codes, concat, field_error_text, refl, subst, sym, ℕ, ◌++◌, ◌∙◌, ◌∷◌}
-use Rattle.std.proofs.lemmas.List.Folds.{concat-append}
+use Rattle.mime_http.proofs.Common.{FoldsTo, List, [], ap, codes, concat, concat-append, field_error_text, refl, subst, sym, ℕ, ◌++◌, ◌∙◌, ◌∷◌}
 use Rattle.mime_http.proofs.value.FieldErrorDisplay.fmt.Goals as goal
 
 -- calls after calls
