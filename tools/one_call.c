@@ -1,7 +1,7 @@
 /* SPDX-License-Identifier: MIT */
-/* Makes a call of include/mime.h on standard input, 1 MiB at most, and prints how many bytes of stack it used: `one_call CALL`. The
- * call that is named has the input as each of its strings; mime_equal compares it with a good one, too. tools/c_calls builds it, and has
- * valgrind count its instructions. */
+/* Makes a call of include/mime.h on standard input, 1 MiB at most, and prints how many bytes of stack it used, and how often it asked for
+ * memory: `one_call CALL`. The call that is named has the input as each of its strings; mime_equal compares it with a good one, too.
+ * tools/c_calls builds it with --wrap for malloc and realloc, and has valgrind count its instructions. */
 #include "mime.h"
 #include <stdio.h>
 #include <ucontext.h>
@@ -10,7 +10,22 @@ enum { MOST = 1 << 20, STACK = 1 << 14 };
 
 static char text[MOST], out[3 * MOST + 3], stack[STACK];
 static const char *name;
-static size_t len;
+static size_t len, requests;
+
+void *__real_malloc(size_t size);
+void *__real_realloc(void *block, size_t size);
+
+void *__wrap_malloc(size_t size)
+{
+    requests++;
+    return __real_malloc(size);
+}
+
+void *__wrap_realloc(void *block, size_t size)
+{
+    requests++;
+    return __real_realloc(block, size);
+}
 
 static void call(void)
 {
@@ -27,7 +42,7 @@ static void call(void)
     IF_NAMED(mime_order) mime_order(text, len, "text/html, a/b", 14, order, 2, &length);
     IF_NAMED(mime_boundary) mime_boundary(text, len, out, 71, &length);
     IF_NAMED(mime_unescape) mime_unescape(text, len, out, sizeof out, &length);
-    IF_NAMED(mime_set_parameter) mime_set_parameter(text, len, "p", 1, "x", 1, out, sizeof out, &length);
+    IF_NAMED(mime_set_parameter) mime_set_parameter(text, len, "p", 1, "\"\"a", 3, out, sizeof out, &length);
     IF_NAMED(mime_equal) mime_equal(text, len, text, len, &equal), mime_equal("a/b", 3, text, len, &equal);
 }
 
@@ -46,6 +61,6 @@ int main(int argc, char **argv)
     swapcontext(&here, &there);
     while (untouched < STACK && stack[untouched] == 'U')
         untouched++;
-    printf("%zu\n", STACK - untouched);
+    printf("%zu %zu\n", STACK - untouched, requests);
     return 0;
 }
