@@ -23,7 +23,7 @@ settled_within (back front n c white is out all) =
     let more = length-append front (c ∷ white) in (omega (arith, within, more), λ past. absurd (omega (arith, past, within, more)))
 
 -- what is known after these bytes
-pub record SoFar (front : List ℕ) (limit : ℕ) (reach : Reach) : Type 0 where
+pub record KnownSoFar (front : List ℕ) (limit : ℕ) (reach : Reach) : Type 0 where
   pub at : reach.at ≡ length front
   pub place : place_from Start front ≡ reach.place
   pub out : length (tight front) + reach.left ≡ limit
@@ -35,9 +35,9 @@ Stops front [] limit = ⊤
 Stops front (b ∷ bytes) limit = limit < length (tight (front ++ (b ∷ [])))
 
 -- the bytes that the value goes, and those before which it stops
-pub data Goes : List ℕ → ℕ → Reach → Type 0 where
-  stop : (front after : List ℕ) (limit : ℕ) (reach : Reach) → SoFar front limit reach → Stops front after limit
-      → Goes (front ++ after) limit reach
+pub data Reaches : List ℕ → ℕ → Reach → Type 0 where
+  stop : (front after : List ℕ) (limit : ℕ) (reach : Reach) → KnownSoFar front limit reach → Stops front after limit
+      → Reaches (front ++ after) limit reach
 
 -- what comes out with one byte more
 pub tight_one : (front : List ℕ) (b : ℕ) → tight (front ++ (b ∷ [])) ≡ tight front ++ added (place_from Start front) b
@@ -48,17 +48,17 @@ pub left_out : (place : Place) (b : ℕ) → place_after place b ≡ Spaced → 
 left_out place b e = grind (arith, nat_tests)
 
 -- byte by byte, until more would come out,
-goes_from : (bytes front : List ℕ) (limit : ℕ) (reach : Reach) → SoFar front limit reach
-    → Goes (front ++ bytes) limit (reach_from reach bytes)
-goes_from [] front limit reach is = stop front [] limit reach is tt
-goes_from (b ∷ bytes) front limit reach is =
-    cond_both (nat_lt reach.left (length (added reach.place b))) _ _ (Goes (front ++ (b ∷ bytes)) limit)
+reaches_from : (bytes front : List ℕ) (limit : ℕ) (reach : Reach) → KnownSoFar front limit reach
+    → Reaches (front ++ bytes) limit (reach_from reach bytes)
+reaches_from [] front limit reach is = stop front [] limit reach is tt
+reaches_from (b ∷ bytes) front limit reach is =
+    cond_both (nat_lt reach.left (length (added reach.place b))) _ _ (Reaches (front ++ (b ∷ bytes)) limit)
     (λ over. stop front (b ∷ bytes) limit reach is
     (let longer : reach.left < length (added reach.place b) = grind (arith, nat_tests) in omega (arith, longer, longer_by, is.out)))
     (λ fits.
     let fewer : length (added reach.place b) ≤ reach.left = grind (arith, nat_tests) in
-    subst (λ value. Goes value limit (reach_from (reach_after reach b) bytes)) (append_assoc front (b ∷ []) bytes)
-    (goes_from bytes (front ++ (b ∷ [])) limit (reach_after reach b) (record {
+    subst (λ value. Reaches value limit (reach_from (reach_after reach b) bytes)) (append_assoc front (b ∷ []) bytes)
+    (reaches_from bytes (front ++ (b ∷ [])) limit (reach_after reach b) (record {
       at = count;
       place = there;
       out = omega (arith, fewer, longer_by, is.out);
@@ -81,8 +81,8 @@ goes_from (b ∷ bytes) front limit reach is =
     settle next e = subst (SettledAt (front ++ (b ∷ []))) (sym count) (here (front ++ (b ∷ [])) (subst IsSettled (sym (there ∙ e)) tt))
 
 -- so it is known of the whole value how far it goes
-pub goes : (value : List ℕ) (limit : ℕ) → Goes value limit (reach_from (start limit) value)
-goes value limit = goes_from value [] limit (start limit) (record { at = refl; place = refl; out = omega arith; back_to = here [] tt })
+pub reaches : (value : List ℕ) (limit : ℕ) → Reaches value limit (reach_from (start limit) value)
+reaches value limit = reaches_from value [] limit (start limit) (record { at = refl; place = refl; out = omega arith; back_to = here [] tt })
 
 -- bytes are none, or some and a last one
 pub data Snoc : List ℕ → Type 0 where

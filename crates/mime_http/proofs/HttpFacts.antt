@@ -131,8 +131,8 @@ not_within media reads = never_walked _ refl (media, tight_is_http _ media reads
 -- ---- spare bytes
 
 -- the library's fault of ` a` is the first byte,
-at_start : FaultIsSpare (codes " a")
-at_start = first 32 (codes "a") refl
+spare_at_start : FaultIsSpare (codes " a")
+spare_at_start = first 32 (codes "a") refl
 
 -- that of `a ;` the space before a semicolon,
 white_before_semicolon : FaultIsSpare (codes "a ;")

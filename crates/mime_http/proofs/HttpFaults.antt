@@ -2,7 +2,7 @@
 use Rattle.mime_http.proofs.Common.{EndsIn, HttpLacks, InvalidToken, IsAccepted, IsCharBoundary, IsFault, IsHttpFault, IsHttpLongestPrefix, IsHttpMediaType, IsHttpViable, IsLongestPrefix, IsViable, Lacks, List, MatchOption, MissingEqual, MissingQuote, MissingSlash, MissingSubtype, MissingValue, ParseError, Place, Reach, Some, Spaced, Start, [], added, ap, append-nil, append_assoc, arith, brought_back, completed_is_rejected, completion_of, false, get_or, get_or-append_right, inl, inr, is_left_out, last_byte_of, length, length-append, limit_of, nat_tests, nil_from_length, place_after, prefix_of_viable_is_viable, reach_from, refl, same_Some, slice_get, slice_get-prefix, slice_get_within, start, subst, suc, sym, take, take-append-add, take-append_seam, tight, tight_from, true, viable-from_lacks, walk-from_viable, whole_prefix-from_walk, ℕ, ⊎_elim, ⊤, ◌++◌, ◌+◌, ◌-◌, ◌<◌, ◌==◌, ◌||◌, ◌∙◌, ◌∷◌, ◌≡◌, ◌≤◌, ◌⊎◌}
 use Rattle.mime_http.proofs.Places.{IsSettled, comes_out, place_from, place_from-append}
 use Rattle.mime_http.proofs.HttpViability.{accepted_from_spaced, goes_on_as, prefix_of_http_viable, settled_end, spaced_end, tight-append, tight_accepted, tight_from_viable, viable_from_accepted, viable_from_tight}
-use Rattle.mime_http.proofs.HowFar.{Goes, goes, SettledAt, Snoc, Stops, back, here, last, none, settled_within, snoc, stop, tight_one}
+use Rattle.mime_http.proofs.HowFar.{Reaches, reaches, SettledAt, Snoc, Stops, back, here, last, none, settled_within, snoc, stop, tight_one}
 
 -- the library's fault is just after the longest beginning that is viable, or something is missing at the end
 fault_parts : (text : List ℕ) (fault : ParseError) → IsFault text fault
@@ -148,7 +148,7 @@ fault_at_end value other lacks (inr is) = absurd (completed_is_rejected (tight v
 
 -- What is known where the fault of the tightened value is reached: the value may be cut there; what it goes on with is at fault if it is
 -- settled or may end, and else the white space before that.
-pub record Found (value text : List ℕ) (fault : ParseError) (limit : ℕ) (reach : Reach) : Type 0 where
+pub record FaultThere (value text : List ℕ) (fault : ParseError) (limit : ℕ) (reach : Reach) : Type 0 where
   pub within : reach.left ≤ limit
   pub boundary : reach.place ≡ Spaced → IsCharBoundary text (limit - reach.left)
   pub here : IsSettled reach.place ⊎ IsAccepted (take (limit - reach.left) text) → FaultAt value fault reach.at
@@ -160,9 +160,9 @@ low_first [] = omega arith
 low_first (b ∷ bytes) = grind (arith, nat_tests, low_first bytes)
 
 -- this is known where it stops,
-found_where : {value : List ℕ} {limit : ℕ} {reach : Reach} → Goes value limit reach → (fault : ParseError)
+found_where : {value : List ℕ} {limit : ℕ} {reach : Reach} → Reaches value limit reach → (fault : ParseError)
     → IsLongestPrefix (tight value) limit × (length (tight value) ≤ limit → Lacks (tight value) fault)
-    → Found value (tight value) fault limit reach
+    → FaultThere value (tight value) fault limit reach
 found_where (stop front after limit reach known stops) fault is = record {
   within = omega (arith, known.out);
   boundary = λ e. (
@@ -232,7 +232,7 @@ found_where (stop front after limit reach known stops) fault is = record {
 
 -- so it is known of the whole value
 pub found : (value text : List ℕ) (fault : ParseError) (limit : ℕ) (reach : Reach) → text ≡ tight value → limit ≡ limit_of text fault
-    → reach ≡ reach_from (start limit) value → IsFault text fault → Found value text fault limit reach
+    → reach ≡ reach_from (start limit) value → IsFault text fault → FaultThere value text fault limit reach
 found value text fault limit reach same bound there is =
-    rw there (rw bound (rw same (found_where (goes value (limit_of (tight value) fault)) fault
+    rw there (rw bound (rw same (found_where (reaches value (limit_of (tight value) fault)) fault
     (fault_parts (tight value) fault (subst (λ t. IsFault t fault) same is)))))

@@ -111,7 +111,8 @@ accepted_from_spaced front white viable =
 pub spaced_stops : (front : List ℕ) (c : ℕ) → place_from Start front ≡ Spaced → is_space c ≡ false → (c == 59) ≡ false
     → ¬ (IsHttpViable (front ++ (c ∷ [])))
 spaced_stops front c white other isnt viable =
-    let both = parted (tight front) _ (tight_accepted front (c ∷ viable.0) (subst IsHttpMediaType (append_assoc front (c ∷ []) _) viable.1)) in
+    let both = parted (tight front) _ (tight_accepted front (c ∷ viable.0)
+    (subst IsHttpMediaType (append_assoc front (c ∷ []) viable.0) viable.1)) in
     let goes = subst (λ place. walk_from both.begun (tight_from place (c ∷ viable.0)) ≡ Some both.last) white both.goes in
     option_and_then_some _ (grow both.begun 32) both.last (rw (other, isnt) at goes) (λ next grew rest.
     none-some next (sym (no_space_grows both.begun (leaves_at (reached front both.begun both.reached) white)) ∙ grew))
