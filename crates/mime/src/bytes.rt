@@ -11,14 +11,17 @@ const N: u8 = 0;
 /// One that may stand in a quoted value only after a backslash: a quote or a backslash.
 const B: u8 = 1;
 
-/// One that may stand in a quoted value, and in no token.
+/// Another ASCII byte that may stand in a quoted value, and in no token.
 const Q: u8 = 2;
 
+/// A byte of a character that isn't ASCII, which may stand in a quoted value, and in no token.
+const U: u8 = 3;
+
 /// The plus, which may begin a suffix.
-const P: u8 = 3;
+const P: u8 = 4;
 
 /// Any other byte that may stand in a token.
-const T: u8 = 4;
+const T: u8 = 5;
 
 /// The kind of each byte. A kind may also stand wherever the kinds before it may.
 static KINDS: [u8; 256] = [
@@ -26,10 +29,10 @@ static KINDS: [u8; 256] = [
     Q, T, B, T, T, T, T, T, Q, Q, T, P, Q, T, T, Q, T, T, T, T, T, T, T, T, T, T, Q, Q, Q, Q, Q, Q,
     Q, T, T, T, T, T, T, T, T, T, T, T, T, T, T, T, T, T, T, T, T, T, T, T, T, T, T, Q, B, Q, T, T,
     T, T, T, T, T, T, T, T, T, T, T, T, T, T, T, T, T, T, T, T, T, T, T, T, T, T, T, Q, T, Q, T, N,
-    Q, Q, Q, Q, Q, Q, Q, Q, Q, Q, Q, Q, Q, Q, Q, Q, Q, Q, Q, Q, Q, Q, Q, Q, Q, Q, Q, Q, Q, Q, Q, Q,
-    Q, Q, Q, Q, Q, Q, Q, Q, Q, Q, Q, Q, Q, Q, Q, Q, Q, Q, Q, Q, Q, Q, Q, Q, Q, Q, Q, Q, Q, Q, Q, Q,
-    Q, Q, Q, Q, Q, Q, Q, Q, Q, Q, Q, Q, Q, Q, Q, Q, Q, Q, Q, Q, Q, Q, Q, Q, Q, Q, Q, Q, Q, Q, Q, Q,
-    Q, Q, Q, Q, Q, Q, Q, Q, Q, Q, Q, Q, Q, Q, Q, Q, Q, Q, Q, Q, Q, Q, Q, Q, Q, Q, Q, Q, Q, Q, Q, Q,
+    U, U, U, U, U, U, U, U, U, U, U, U, U, U, U, U, U, U, U, U, U, U, U, U, U, U, U, U, U, U, U, U,
+    U, U, U, U, U, U, U, U, U, U, U, U, U, U, U, U, U, U, U, U, U, U, U, U, U, U, U, U, U, U, U, U,
+    U, U, U, U, U, U, U, U, U, U, U, U, U, U, U, U, U, U, U, U, U, U, U, U, U, U, U, U, U, U, U, U,
+    U, U, U, U, U, U, U, U, U, U, U, U, U, U, U, U, U, U, U, U, U, U, U, U, U, U, U, U, U, U, U, U,
 ];
 
 /// Returns `true` if a byte may occur in a token: a type, a subtype, a parameter's name, an unquoted value
@@ -74,7 +77,7 @@ pub(crate) fn is_space(b: u8) -> bool
 pub(crate) fn is_separator(b: u8) -> bool
     ensures { result ≡ is_ascii_not_token b }
 {
-    b < 128 && !is_token(b)
+    KINDS[b as usize] < U
 }
 
 /// Returns `true` if a byte may follow a backslash in a quoted value (the second byte of a quoted-pair of

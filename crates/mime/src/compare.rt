@@ -98,7 +98,7 @@ fn has_list_of(mime: &Mime, s: &str) -> bool
 {
     let end = mime.essence_str().len();
     let list = Suffix::of(s, end + 1);
-    let mut reader = ByteReader::new(list.text(), end as u128 + 1);
+    let mut reader = ByteReader::new(list.text(), end as u128 + 1, usize::MAX);
     match parameters(&mut reader, mime.before_list()) {
         Verdict::Accepted(positions) => has_shape(positions, end, mime.param_count()),
         _ => false,

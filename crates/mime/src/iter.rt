@@ -1,12 +1,14 @@
 //! Media types one by one out of a string.
 
-ghost use Rattle.std.specs.Prelude.{◌≡◌, ◌+◌, ◌-◌, ◌<◌, ◌≤◌, ◌^◌, false, [], ◌∷◌, length, IfSome, None, ⊤};
+ghost use Rattle.std.specs.Prelude.{◌≡◌, ◌+◌, ◌-◌, ◌<◌, ◌≤◌, ◌^◌, ℕ, false, [], ◌∷◌, length, IfSome, None, ⊤};
+ghost use Rattle.std.specs.Str.{IsCharBoundary};
 ghost use Rattle.std.specs.Iterator.{UpTo, at_most};
 ghost use Rattle.std.specs.Iterator.SizeHint.{IsWithinCount};
 ghost use Rattle.mime.specs.Runs.{IsNext};
 ghost use Rattle.mime.specs.Inner.BetweenCalls.{ReadsPiece, IsFound};
 
-use crate::scan::{ByteReader, Positions, Verdict, scan_after, separators};
+use crate::bytes::is_token;
+use crate::scan::{ByteReader, NEAR, Positions, Verdict, scan_after, separators};
 use crate::value::Mime;
 use std::alloc::{AllocError, Global};
 use std::fmt;
@@ -34,19 +36,39 @@ struct ReadPiece<'a> {
     steps: u128,
 }
 
+/// The end of a string's first character. It isn't inlined: few strings have a character outside ASCII where no media type goes on, and its
+/// loop would take registers from those of its caller.
+#[cold]
+#[inline(never)]
+fn end_of_first(text: &str) -> usize
+    ensures bound { 1 ≤ length text.now → 1 ≤ result }
+    ensures boundary { IsCharBoundary text.now result }
+    ensures nearest { (i : ℕ) → 1 ≤ i → i < result → ¬ (IsCharBoundary text.now i) }
+{
+    text.ceil_char_boundary(1)
+}
+
+/// The empty string at the start of a string. Its address is known already, unlike that of `""`.
+#[inline(always)]
+fn nothing_of(text: &str) -> &str
+    ensures { result.now ≡ [] }
+{
+    &text[..0]
+}
+
 impl<'a> ReadPiece<'a> {
     /// No piece: the string was read to its end.
     #[inline(always)]
-    fn none(steps: u128) -> ReadPiece<'a>
+    fn none(text: &'a str, steps: u128) -> ReadPiece<'a>
         ensures piece { result.piece.now ≡ [] }
         ensures positions { result.positions ≡ None }
         ensures left { result.left.now ≡ [] }
         ensures steps { result.steps ≡ steps }
     {
         ReadPiece {
-            piece: "",
+            piece: nothing_of(text),
             positions: None,
-            left: "",
+            left: nothing_of(text),
             steps,
         }
     }
@@ -61,16 +83,25 @@ fn read_piece<'a>(text: &'a str, first: u8, reader: &mut ByteReader<'_>) -> Read
     ensures counted { reader.old.count - 1 ≤ result.steps }
 {
     let from = reader.count() - 1;
+    if !is_token(first) {
+        // No media type begins with this character.
+        return ReadPiece {
+            piece: nothing_of(text),
+            positions: None,
+            left: &text[end_of_first(text)..],
+            steps: reader.count(),
+        };
+    }
     let verdict = scan_after(first, reader);
     let steps = reader.count();
     match verdict {
         Verdict::Accepted(positions) => ReadPiece {
             piece: text,
             positions: Some(positions),
-            left: "",
+            left: nothing_of(text),
             steps,
         },
-        Verdict::Unfinished(_) => ReadPiece::none(steps),
+        Verdict::Unfinished(_) => ReadPiece::none(text, steps),
         Verdict::Stopped(_, positions) => {
             let end = reader.position(from);
             ReadPiece {
@@ -91,9 +122,9 @@ fn read_next_piece<'a>(text: &'a str, from: u128) -> ReadPiece<'a>
     ensures reads { ReadsPiece text.now result.piece.now result.positions result.left.now (result.steps - from) }
     ensures counted { from ≤ result.steps }
 {
-    let mut reader = ByteReader::new(text, from);
+    let mut reader = ByteReader::new(text, from, NEAR);
     match separators(&mut reader) {
-        None => ReadPiece::none(reader.count()),
+        None => ReadPiece::none(text, reader.count()),
         Some(first) => {
             let start = reader.position(from);
             read_piece(&text[start..], first, &mut reader)

@@ -17,7 +17,7 @@ use crate::bytes::{
     is_in_token, is_quoted_byte, is_quoted_text_byte, is_separator, is_space, is_token,
 };
 pub use crate::scan::fault::{FromStrError, ParseError};
-pub(crate) use crate::scan::reader::ByteReader;
+pub(crate) use crate::scan::reader::{ByteReader, NEAR};
 
 /// The parts of an accepted string: their positions, in bytes from 0, and the number of its parameters. In this order the byte of another
 /// verdict lies beside no position, which would be moved in two parts.
@@ -54,8 +54,8 @@ fn token(reader: &mut ByteReader<'_>, with_plus: bool) -> Option<u8>
             return Some(known);
         }
     }
-    let far = reader.far();
-    while reader.left() > far {
+    let end = reader.near_end();
+    while reader.is_before(end) {
         let byte = reader.next_byte();
         if !is_in_token(byte, with_plus) {
             return Some(byte);

@@ -1,6 +1,6 @@
 //! A reader of a string's bytes that counts those it has returned or skipped.
 
-ghost use Rattle.std.specs.Prelude.{◌≡◌, ◌≢◌, ◌+◌, ◌-◌, ◌<◌, ◌≤◌, ◌^◌, [], ◌∷◌, length, drop, not, None, Some};
+ghost use Rattle.std.specs.Prelude.{◌≡◌, ◌≢◌, ◌+◌, ◌-◌, ◌<◌, ◌≤◌, ◌^◌, [], ◌∷◌, length, drop, not, IsTrue, None, Some};
 ghost use Rattle.std.specs.List.{prefix_len};
 ghost use Rattle.mime.specs.Bytes.{is_quoted_text_byte};
 ghost use Rattle.mime.specs.Inner.ByteClasses.{is_token_except_plus};
@@ -29,7 +29,7 @@ pub(crate) struct ByteReader<'a> {
 }
 
 /// How many bytes of a run are read in the loop of a `MimeIter`'s caller. Most tokens are shorter.
-const NEAR: usize = 24;
+pub(crate) const NEAR: usize = 24;
 
 /// The position of the byte, from a position on, that ends a run of token bytes other than the plus, or the length. It isn't
 /// inlined: between other loops, its own would have twice as many instructions.
@@ -63,9 +63,9 @@ impl<'a> Model for ByteReader<'a> {
 
 impl<'a> ByteReader<'a> {
     /// A reader of all bytes of `text`, whose count begins at `count`. It looks at no byte but those that it has counted, and
-    /// the next one, so that its count is that of the steps of a `MimeIter`.
+    /// the next one, so that its count is that of the steps of a `MimeIter`. `near` is how many bytes of a run its caller's loop reads.
     #[inline(always)]
-    pub(crate) fn new(text: &'a str, count: u128) -> ByteReader<'a>
+    pub(crate) fn new(text: &'a str, count: u128, near: usize) -> ByteReader<'a>
         requires { count + length text.now < 2 ^ 128 }
         ensures left { result.left ≡ text.now }
         ensures count { result.count ≡ count }
@@ -76,7 +76,7 @@ impl<'a> ByteReader<'a> {
             before: count,
             known: 0,
             stops: 0,
-            near: NEAR,
+            near,
         }
     }
 
@@ -112,18 +112,22 @@ impl<'a> ByteReader<'a> {
         Some(byte)
     }
 
-    /// The number of bytes that are left.
+    /// The position up to which the bytes of a run, from the next byte on, are read in the caller's loop.
     #[inline(always)]
-    pub(crate) fn left(&self) -> usize
-        ensures { result ≡ length self.now.left }
-    {
-        self.text.len() - self.at
+    pub(crate) fn near_end(&self) -> usize {
+        // If the sum wraps, the whole run is read by a call.
+        self.at.wrapping_add(self.near).min(self.text.len())
     }
 
-    /// How many bytes are left after those of a run, from the next byte on, that are read in the caller's loop.
+    /// Whether the next byte is before a position.
     #[inline(always)]
-    pub(crate) fn far(&self) -> usize {
-        self.left().saturating_sub(self.near)
+    pub(crate) fn is_before(&self, end: usize) -> bool
+        ensures { IsTrue result → 0 < length self.now.left }
+    {
+        if self.near == usize::MAX {
+            return self.at != self.text.len();
+        }
+        self.at < end && self.at < self.text.len()
     }
 
     /// The next byte, of a string that hasn't ended.

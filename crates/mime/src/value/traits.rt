@@ -31,10 +31,6 @@ fn same_parts(first: &Mime, second: &Mime) -> bool
 fn order_pairs(first: &Mime, second: &Mime) -> Ordering
     ensures { result ≡ slice_cmp pair_cmp first.now.media.pairs second.now.media.pairs }
 {
-    // Equal texts are equal values.
-    if first.as_str() == second.as_str() {
-        return Ordering::Equal;
-    }
     let pairs = first.pairs();
     let others = second.pairs();
     pairs.cmp(others)
@@ -122,6 +118,10 @@ impl Ord for Mime {
     {
         if let Some(order) = order_short(self, other) {
             return order;
+        }
+        // Equal texts are equal values.
+        if self.essence_end == other.essence_end && self.as_str() == other.as_str() {
+            return Ordering::Equal;
         }
         let order = self.essence_str().cmp(other.essence_str());
         if order.is_ne() {

@@ -7,4 +7,4 @@ use Rattle.mime.proofs.bytes.is_token.Goals as goal
 
 pub returns : goal.returns
 unfolding is_token_byte
-returns c = in_table is_token_byte (nat_le 3) KINDS refl refl c.args.b (omega arith)
+returns c = in_table is_token_byte (nat_le 4) KINDS refl refl c.args.b (omega arith)

@@ -9,4 +9,4 @@ use Rattle.mime.proofs.bytes.is_token_except_plus.Goals as goal
 
 pub returns : goal.returns
 unfolding is_token_byte
-returns c = in_table is_token_except (λ k. k == 4) KINDS refl refl c.args.b (omega arith)
+returns c = in_table is_token_except (λ k. k == 5) KINDS refl refl c.args.b (omega arith)

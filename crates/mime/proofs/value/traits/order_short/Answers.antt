@@ -1,5 +1,5 @@
 -- The texts are the same, or the essences differ where they do.
-use Rattle.std.proofs.Common.{arith, length, length-take, nat_cmp, slice_index, subst, sym, ap, ap₂, refl, ◌∙◌, ◌≡◌, ◌<◌}
+use Rattle.std.proofs.Common.{arith, length, length-take, nat_cmp, slice_index, subst, sym, ap, ap₂, refl, ◌∙◌, ◌<◌}
 use Rattle.std.specs.Prelude.{unwrap_or}
 use Rattle.mime.specs.Inner.KeptBytes.{bytes_of}
 use Rattle.mime.specs.Inner.KeptPlaces.{positions_at}

@@ -1,12 +1,25 @@
 -- The essences decide, or the pairs, and what the answer says.
-use Rattle.std.proofs.Common.{rules, arith}
+use Rattle.std.proofs.Common.{rules, arith, ◌∙◌, sym}
 use Rattle.std.proofs.lemmas.List.{nil_from_length}
 use Rattle.std.specs.declared.cmp.Ordering.TheVariants.{Equal}
-use Rattle.mime.proofs.ValueLemmas.Traits.{tells_answer}
+use Rattle.std.specs.Cmp.Lexicographic.{same_text}
+use Rattle.mime.proofs.ValueLemmas.Parts.{same_from_text}
+use Rattle.mime.proofs.ValueLemmas.Traits.{equal-media, tells_answer}
 use Rattle.mime.proofs.value.traits.MimeOrd.cmp.Goals as goal
 
 pub returns-in-Some-clause-order : goal.returns-in-Some-clause-order
 returns-in-Some-clause-order c = tells_answer c.args.self.now.media c.args.other.now.media c.in-Some.order (search rules)
+
+pub returns-then-eq-clause-computed : goal.returns-then-eq-clause-computed
+returns-then-eq-clause-computed c =
+    let first = c.args.self.now.media in
+    let second = c.args.other.now.media in
+    sym (equal-media first second (same_from_text _ _ first second c.as_str.ensures.reads c.as_str-then-self-other.ensures.reads
+    (same_text _ _ (sym c.if-eq.true ∙ c.eq.ensures))))
+
+pub returns-then-eq-clause-order : goal.returns-then-eq-clause-order
+returns-then-eq-clause-order c =
+    tells_answer c.args.self.now.media c.args.other.now.media Equal (returns-then-eq-clause-computed c)
 
 pub returns-then-is_ne-clause-computed : goal.returns-then-is_ne-clause-computed
 returns-then-is_ne-clause-computed c = search rules

@@ -1,0 +1,12 @@
+-- The table holds the class of each byte.
+use Rattle.std.proofs.Common.{refl, arith}
+use Rattle.std.specs.Prelude.{nat_lt}
+use Rattle.mime.specs.Bytes.{is_token_byte}
+use Rattle.mime.specs.Inner.ByteClasses.{is_ascii_not_token as is_ascii_not}
+use Rattle.mime.specs.declared.bytes.TheConstants.{KINDS}
+use Rattle.mime.proofs.BytesLemmas.{in_table}
+use Rattle.mime.proofs.bytes.is_separator.Goals as goal
+
+pub returns : goal.returns
+unfolding is_token_byte
+returns c = in_table is_ascii_not (λ k. nat_lt k 3) KINDS refl refl c.args.b (omega arith)
