@@ -91,7 +91,8 @@ of_filtered : {X Y : Type 0} (f : X → Option Y) (xs : List X) (y : Y) → Cont
     → (x : X) × Contains xs x × (f x ≡ Some y)
 of_filtered f [] y (k, within, is) = absurd (omega (arith, within))
 of_filtered {X} {Y} f (z ∷ xs) y there =
-    by (λ rest. let found = of_filtered f xs y rest in (found.0, Contains-append_right (z ∷ []) xs found.0 found.1, found.2)) (f z) refl there
+    by (λ rest. let found = of_filtered f xs y rest in (found.0, Contains-append_right (z ∷ []) xs found.0 found.1, found.2))
+    (f z) refl there
   where
     by : (Contains (filter_map f xs) y → (x : X) × Contains (z ∷ xs) x × (f x ≡ Some y)) → (first : Option Y) → f z ≡ first
         → Contains (cons_option first (filter_map f xs)) y → (x : X) × Contains (z ∷ xs) x × (f x ≡ Some y)

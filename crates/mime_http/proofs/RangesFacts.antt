@@ -74,7 +74,8 @@ same_meaning =
 -- a paired backslash means another byte than a paired letter
 other_meaning : ¬ (MeanTheSame (media (codes "a/b;p=\\\\")) (media (codes "a/b;p=\\x")))
 other_meaning same =
-    let b : 92 ≡ 120 = ap (λ (pairs : List (List ℕ × List ℕ)). get_or (get_or pairs 0 ([], [])).1 0 0) same.pairs in absurd (omega (arith, b))
+    let b : 92 ≡ 120 = ap (λ (pairs : List (List ℕ × List ℕ)). get_or (get_or pairs 0 ([], [])).1 0 0) same.pairs in
+    absurd (omega (arith, b))
 
 -- a media type covers itself
 itself : covers (codes "text/html;level=1;q=0.5;level=2") (codes "text/html;level=1;q=0.5;level=2") ≡ true
@@ -110,7 +111,7 @@ choices :
     × (best (codes "text/plain;q=0.5,text/html,text/x-dvi;q=0.8,text/x-c") (codes "text/plain,text/x-dvi") ≡ Some 1)
     × (best (codes "text/plain;q=0.5,text/html,text/x-dvi;q=0.8,text/x-c") (codes "image/jpeg,text/plain") ≡ Some 1)
     -- the most specific range that covers an offer has precedence: first `text/plain;format=flowed`, then `text/plain`, then any other text
-    × (best (codes "text/*,text/plain,text/plain;format=flowed,*/*") (codes "image/jpeg,text/html,text/plain,text/plain;format=flowed") ≡ Some 3)
+    × (best (codes "text/*,text/plain,text/plain;format=flowed,*/*") (codes "text/html,text/plain,text/plain;format=flowed") ≡ Some 2)
     × (best (codes "text/*,text/plain,text/plain;format=flowed,*/*") (codes "image/jpeg,text/html,text/plain") ≡ Some 2)
     × (best (codes "text/*,text/plain,text/plain;format=flowed,*/*") (codes "image/jpeg,text/html") ≡ Some 1)
     -- as axios sends it: the closer range decides, and parameters make it closer

@@ -83,7 +83,8 @@ module _ (offer : MediaType) (k : ℕ) where
       ≡ option_map (moved (shifted k)) (kept offer first at (before ++ after))
   one_more range after none at first [] long =
       ap (λ first. kept offer first (at + 1) after) (ap (ord_max (option_cmp rank_cmp) _)
-      (covers_so offer range (λ _. at) 0 ∙ ap (option_map (moved (λ _. at))) none) ∙ grind (arith)) ∙ later at first after (omega (arith, long))
+      (covers_so offer range (λ _. at) 0 ∙ ap (option_map (moved (λ _. at))) none) ∙ grind (arith))
+      ∙ later at first after (omega (arith, long))
   one_more range after none at first (other ∷ before) long =
       ap (λ first. kept offer first (at + 1) (before ++ (range ∷ after))) (next other at at first (grind (arith, nat_tests, long)))
       ∙ one_more range after none (at + 1) _ before (omega (arith, long))
@@ -120,7 +121,8 @@ module _ (before after : List MediaType) (range : MediaType) where
       → map (merit with_it) offers ≡ map (moved raised) (map (merit (before ++ after)) offers)
   merits_so [] none = refl
   merits_so (offer ∷ offers) none = λ i.
-      merit_so offer (none offer (zero, omega arith, refl)) i ∷ merits_so offers (λ other there. none other (Contains-append_right (offer ∷ []) offers other there)) i
+      merit_so offer (none offer (zero, omega arith, refl)) i
+      ∷ merits_so offers (λ other there. none other (Contains-append_right (offer ∷ []) offers other there)) i
 
 -- so a range that covers none of the offers changes nothing
 pub stranger_changes_nothing : StrangerChangesNothing
