@@ -51,8 +51,8 @@ find_one p xs x (k, among, is) passes one =
     find_at p xs ∙ (slice_get-get_or xs at x within ∙ ap Some (one _ (Contains-get_or xs at x within) (passes_at_first p xs x within)))
 
 -- what all pass, each passes
-passed : {X : Type 0} (p : X → Bool) (xs : List X) (x : X) → list_all p xs ≡ true → Contains xs x → p x ≡ true
-passed p xs x all = All-contains (λ x. p x ≡ true) xs x (AllPass-from_list_all p xs all)
+each_passes : {X : Type 0} (p : X → Bool) (xs : List X) (x : X) → list_all p xs ≡ true → Contains xs x → p x ≡ true
+each_passes p xs x all = All-contains (λ x. p x ≡ true) xs x (AllPass-from_list_all p xs all)
 
 -- the highest is the one that none is above
 found_top : (all : List Rank) → find (is_top all) all ≡ top_if_any all
@@ -62,8 +62,8 @@ found_top (rank ∷ ranks) =
     let top = fold (ord_max rank_cmp) rank ranks in
     let is = top_of rank ranks in
     find_one (is_top all) all top is.among is.above (λ other there passes.
-    let low = passed (λ rank. is_le (rank_cmp rank top)) all other is.above there in
-    let high = passed (λ rank. is_le (rank_cmp rank other)) all top passes is.among in
+    let low = each_passes (λ rank. is_le (rank_cmp rank top)) all other is.above there in
+    let high = each_passes (λ rank. is_le (rank_cmp rank other)) all top passes is.among in
     one_rank other top (grind (arith, nat_tests, low, high)))
 
 -- ---- of ranks that are there
@@ -116,7 +116,7 @@ closest_is_closest ranges offer = rw (found_top (filter_map (closeness offer) it
 
     each : (p : Rank → Bool) → list_all p (filter_map (closeness offer) items) ≡ true → (item : ℕ × MediaType) → Contains items item
         → unwrap_or (option_map p (closeness offer item)) true ≡ true
-    each p all item = passed (λ item. unwrap_or (option_map p (closeness offer item)) true) items item
+    each p all item = each_passes (λ item. unwrap_or (option_map p (closeness offer item)) true) items item
         (sym (all_filtered (closeness offer) p items) ∙ all)
 
     by : (all : List Rank) → filter_map (closeness offer) items ≡ all → MatchOption (top_if_any all)
