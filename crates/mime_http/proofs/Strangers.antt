@@ -70,7 +70,8 @@ module _ (offer : MediaType) (k : ℕ) where
 
   -- so the closest is the same with ranges one position later,
   later : (at : ℕ) (first : Option Rank) (ranges : List MediaType) → k ≤ at
-      → closest_from offer (option_map (moved (shifted k)) first) (at + 1) ranges ≡ option_map (moved (shifted k)) (closest_from offer first at ranges)
+      → closest_from offer (option_map (moved (shifted k)) first) (at + 1) ranges
+      ≡ option_map (moved (shifted k)) (closest_from offer first at ranges)
   later at first [] after = refl
   later at first (range ∷ ranges) after =
       ap (λ first. closest_from offer first (at + 1 + 1) ranges) (next_covers range at (at + 1) first (grind (arith, nat_tests)))
@@ -86,7 +87,8 @@ module _ (offer : MediaType) (k : ℕ) where
       (covers_so offer range (λ _. at) 0 ∙ ap (option_map (moved (λ _. at))) none) ∙ grind (arith))
       ∙ later at first after (omega (arith, long))
   one_more range after none at first (other ∷ before) long =
-      ap (λ first. closest_from offer first (at + 1) (before ++ (range ∷ after))) (next_covers other at at first (grind (arith, nat_tests, long)))
+      ap (λ first. closest_from offer first (at + 1) (before ++ (range ∷ after)))
+      (next_covers other at at first (grind (arith, nat_tests, long)))
       ∙ one_more range after none (at + 1) _ before (omega (arith, long))
 
 -- ---- ranks of offers
