@@ -42,7 +42,8 @@ data Opened : List ℕ → Type 0 where
   opened : (content piece : List ℕ) → IsInString content → IsPiece piece → Opened (content ++ (34 ∷ piece))
 
 -- the content may have more before it
-content_before : (front : List ℕ) → ((content : List ℕ) → IsInString content → IsInString (front ++ content)) → {bytes : List ℕ} → Opened bytes
+content_before : (front : List ℕ) → ((content : List ℕ) → IsInString content → IsInString (front ++ content)) →
+    {bytes : List ℕ} → Opened bytes
     → Opened (front ++ bytes)
 content_before front onto (opened content piece inside rest) =
     subst Opened (append_assoc front content (34 ∷ piece)) (opened (front ++ content) piece (onto content inside) rest)
