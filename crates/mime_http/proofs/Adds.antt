@@ -125,7 +125,8 @@ module _ {Holds : List (List ℕ) → Type 0} (line : List ℕ) (from : ℕ) (so
   -- so it is after an empty piece of a line,
   pub past_empty : {Now : List (List ℕ) → Type 0} → from < length line → get_or line from 0 ≡ 44
       → ((before : List (List ℕ)) → Holds before → Now (before ++ ([] ∷ []))) → SoFar Now (cut line) (cut (drop (from + 1) line))
-  past_empty within comma = some_more ([] ∷ []) (subst (SoFar Holds (cut line)) (ap cut (drop_more line from 0 within ∙ ap (λ b. b ∷ drop (from + 1) line) comma)) so_far)
+  past_empty within comma = some_more ([] ∷ [])
+      (subst (SoFar Holds (cut line)) (ap cut (drop_more line from 0 within ∙ ap (λ b. b ∷ drop (from + 1) line) comma)) so_far)
 
   module _ (end : ℕ) (is : cut (drop from line) ≡ take (end - from) (drop from line) ∷ cut_after (drop end line)) where
     -- something holds with the piece that ends at a position, if something else held before it

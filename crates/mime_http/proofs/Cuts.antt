@@ -42,9 +42,10 @@ data Opened : List ℕ → Type 0 where
   opened : (content piece : List ℕ) → IsInString content → IsPiece piece → Opened (content ++ (34 ∷ piece))
 
 -- the content may have more before it
-more_before : (front : List ℕ) → ((content : List ℕ) → IsInString content → IsInString (front ++ content)) → {bytes : List ℕ} → Opened bytes
+content_before : (front : List ℕ) → ((content : List ℕ) → IsInString content → IsInString (front ++ content)) →
+    {bytes : List ℕ} → Opened bytes
     → Opened (front ++ bytes)
-more_before front onto (opened content piece inside rest) =
+content_before front onto (opened content piece inside rest) =
     subst Opened (append_assoc front content (34 ∷ piece)) (opened (front ++ content) piece (onto content inside) rest)
 
 -- what bytes are from a place on, with those that lead there from outside strings or from an opening quote
@@ -73,8 +74,8 @@ further Quoted b bytes on = cond_both (b == 92) _ _ (λ place. Continues place b
     (λ backslash. subst (λ c. Opened (c ∷ bytes)) (sym (eqb-true b 92 backslash)))
     (λ single. cond_both (b == 34) _ _ (λ place. Continues place bytes → Opened (b ∷ bytes))
     (λ quote is. subst (λ c. Opened (c ∷ bytes)) (sym (eqb-true b 34 quote)) (opened [] bytes string_end is))
-    (λ other. more_before (b ∷ []) (λ content. string_byte b content other single)))
-further Paired b bytes on = more_before (92 ∷ b ∷ []) (string_pair b)
+    (λ other. content_before (b ∷ []) (λ content. string_byte b content other single)))
+further Paired b bytes on = content_before (92 ∷ b ∷ []) (string_pair b)
 
 -- so what passes is a piece
 is_piece : (place : At) (bytes : List ℕ) → IsWhole place bytes → Continues place bytes

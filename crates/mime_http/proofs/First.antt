@@ -1,6 +1,5 @@
 -- The best offer is the first in the order of all.
 use Rattle.mime_http.proofs.Common.{AllPairs, BestIsFirst, Contains, List, Rank, Some, [], arith, cases_lt, get_or_default, inl, inr, lowest, map, merit, nat_tests, refl, subst, suc, sym, zero, ℕ, ⊎_elim, ◌<◌, ◌∷◌, ◌≡◌, ◌⊎◌}
-use Rattle.mime_http.specs.Chosen.{NotAbove}
 use Rattle.mime_http.proofs.Highest.{best_is_found, none_is_best}
 use Rattle.mime_http.proofs.Order.{ComesBefore, rank_at, weighs_within}
 

@@ -101,7 +101,8 @@ bad_between :
     (record { ranges = short (codes "c/d") ∷ short (codes "a/b") ∷ []; bad = codes "a b" ∷ [] })
 bad_between =
     (bad_is_alone (codes "c/d, a b" ∷ codes "a/b " ∷ []) (codes "c/d" ∷ codes "a/b " ∷ []) (codes "c/d" ∷ []) (codes "a/b " ∷ [])
-    (codes " a b") _ _ [] [] (c_d no_text) (a_b no_text) (λ blank. true≢false (sym blank)) (λ is. not_media_type is.1) (are_cut _) (are_cut _)).0
+    (codes " a b") _ _ [] [] (c_d no_text) (a_b no_text) (λ blank. true≢false (sym blank)) (λ is. not_media_type is.1)
+    (are_cut _) (are_cut _)).0
 
 -- a line that has one is no list,
 not_a_list : (media : List MediaType) → ¬ (AreHttpLists (codes "c/d, a b" ∷ codes "a/b " ∷ []) media)

@@ -48,7 +48,8 @@ module _ {ranks : List Rank} {at : ℕ} {found : List (Reverse Rank × ℕ)} (wa
     are = All-push (HasRank ranks (at + 1)) found offer still (rank ∙ ap (rank_at ranks) (sym there), weighs, omega (arith, there));
     all = λ i below some.
         let places = map (λ offer. offer.1) found in
-        rw (map-append (λ offer. offer.1) found (offer ∷ [])) (⊎_elim (λ less. Contains-append_left places (offer.1 ∷ []) i (was.all i less some))
+        rw (map-append (λ offer. offer.1) found (offer ∷ []))
+        (⊎_elim (λ less. Contains-append_left places (offer.1 ∷ []) i (was.all i less some))
         (λ least. Contains-append_right places (offer.1 ∷ []) i (0, omega arith, omega (arith, there, below, least)))
         (cases_lt i at));
     apart = all_pairs_push (λ x y. x.1 < y.1) found offer was.apart (λ k d within. omega (arith, there, (was.are k d within).2));

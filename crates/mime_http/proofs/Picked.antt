@@ -1,9 +1,8 @@
 -- The closest range is what a fold over the ranges keeps, and none is closer.
-use Rattle.mime_http.proofs.Common.{and_parts, and_from, Bool, ClosestIsClosest, Contains, IsAtMost, List, MatchOption, MediaType, None, Option, Rank, Some, [], ap, arith, closeness, closest, cons_option, enumerate_from, false, filter_map, find, fold, is_le, is_lt, list_all, list_all-from_AllPass, AllPass-from_list_all, All-contains, map, nat_tests, option_cmp, option_map, slice_get-get_or, Contains-get_or, unwrap_or, cases_lt, length, ◌<◌, ord_max, rank_cmp, refl, subst, suc, sym, true, true≢false, zero, ℕ, ⊎_elim, ◌∙◌, ◌∷◌, ◌≡◌, Equal, cond_both}
+use Rattle.mime_http.proofs.Common.{and_parts, and_from, Bool, ClosestIsClosest, Contains, IsAtMost, List, MatchOption, MediaType, None, Option, Rank, Some, [], ap, arith, closeness, closest, cons_option, enumerate_from, false, filter_map, find, fold, is_le, is_lt, list_all, AllPass-from_list_all, All-contains, map, nat_tests, option_cmp, option_map, slice_get-get_or, Contains-get_or, unwrap_or, cases_lt, length, ◌<◌, ord_max, rank_cmp, refl, subst, suc, sym, true, true≢false, zero, ℕ, ⊎_elim, ◌∙◌, ◌∷◌, ◌≡◌, cond_both}
 use Rattle.mime_http.proofs.Highest.{one_rank, up_to}
-use Rattle.mime_http.specs.Chosen.{NotAbove}
-use Rattle.std.proofs.lemmas.List.Elements.{All-nil, All-cons, All-head, All-tail, Contains-append_right}
-use Rattle.std.specs.List.{All, position_or_len}
+use Rattle.std.proofs.lemmas.List.Elements.{Contains-append_right}
+use Rattle.std.specs.List.{position_or_len}
 use Rattle.std.proofs.lemmas.List.Folds.{find_at}
 use Rattle.std.proofs.lemmas.List.Sums.{fails_before_first, passes_at_first}
 
@@ -52,8 +51,8 @@ find_one p xs x (k, among, is) passes one =
     find_at p xs ∙ (slice_get-get_or xs at x within ∙ ap Some (one _ (Contains-get_or xs at x within) (passes_at_first p xs x within)))
 
 -- what all pass, each passes
-passed : {X : Type 0} (p : X → Bool) (xs : List X) (x : X) → list_all p xs ≡ true → Contains xs x → p x ≡ true
-passed p xs x all = All-contains (λ x. p x ≡ true) xs x (AllPass-from_list_all p xs all)
+each_passes : {X : Type 0} (p : X → Bool) (xs : List X) (x : X) → list_all p xs ≡ true → Contains xs x → p x ≡ true
+each_passes p xs x all = All-contains (λ x. p x ≡ true) xs x (AllPass-from_list_all p xs all)
 
 -- the highest is the one that none is above
 found_top : (all : List Rank) → find (is_top all) all ≡ top_if_any all
@@ -63,8 +62,8 @@ found_top (rank ∷ ranks) =
     let top = fold (ord_max rank_cmp) rank ranks in
     let is = top_of rank ranks in
     find_one (is_top all) all top is.among is.above (λ other there passes.
-    let low = passed (λ rank. is_le (rank_cmp rank top)) all other is.above there in
-    let high = passed (λ rank. is_le (rank_cmp rank other)) all top passes is.among in
+    let low = each_passes (λ rank. is_le (rank_cmp rank top)) all other is.above there in
+    let high = each_passes (λ rank. is_le (rank_cmp rank other)) all top passes is.among in
     one_rank other top (grind (arith, nat_tests, low, high)))
 
 -- ---- of ranks that are there
@@ -92,7 +91,8 @@ of_filtered : {X Y : Type 0} (f : X → Option Y) (xs : List X) (y : Y) → Cont
     → (x : X) × Contains xs x × (f x ≡ Some y)
 of_filtered f [] y (k, within, is) = absurd (omega (arith, within))
 of_filtered {X} {Y} f (z ∷ xs) y there =
-    by (λ rest. let found = of_filtered f xs y rest in (found.0, Contains-append_right (z ∷ []) xs found.0 found.1, found.2)) (f z) refl there
+    by (λ rest. let found = of_filtered f xs y rest in (found.0, Contains-append_right (z ∷ []) xs found.0 found.1, found.2))
+    (f z) refl there
   where
     by : (Contains (filter_map f xs) y → (x : X) × Contains (z ∷ xs) x × (f x ≡ Some y)) → (first : Option Y) → f z ≡ first
         → Contains (cons_option first (filter_map f xs)) y → (x : X) × Contains (z ∷ xs) x × (f x ≡ Some y)
@@ -116,7 +116,7 @@ closest_is_closest ranges offer = rw (found_top (filter_map (closeness offer) it
 
     each : (p : Rank → Bool) → list_all p (filter_map (closeness offer) items) ≡ true → (item : ℕ × MediaType) → Contains items item
         → unwrap_or (option_map p (closeness offer item)) true ≡ true
-    each p all item = passed (λ item. unwrap_or (option_map p (closeness offer item)) true) items item
+    each p all item = each_passes (λ item. unwrap_or (option_map p (closeness offer item)) true) items item
         (sym (all_filtered (closeness offer) p items) ∙ all)
 
     by : (all : List Rank) → filter_map (closeness offer) items ≡ all → MatchOption (top_if_any all)

@@ -6,39 +6,39 @@ use Rattle.mime_http.proofs.Meanings.{covers_itself, meaning_counts}
 use Rattle.mime_http.proofs.Strangers.{stranger_changes_nothing}
 
 -- the parts of a text between marks, of which the first begins with these bytes
-abbrev parts : ℕ → List ℕ → List ℕ → List (List ℕ)
-parts mark part [] = part ∷ []
-parts mark part (b ∷ bytes) = if b == mark then part ∷ parts mark [] bytes else parts mark (part ++ (b ∷ [])) bytes
+abbrev pieces_at : ℕ → List ℕ → List ℕ → List (List ℕ)
+pieces_at mark part [] = part ∷ []
+pieces_at mark part (b ∷ bytes) = if b == mark then part ∷ pieces_at mark [] bytes else pieces_at mark (part ++ (b ∷ [])) bytes
 
 -- the bytes before a mark
-abbrev before : ℕ → List ℕ → List ℕ
-before mark text = get_or (parts mark [] text) 0 []
+abbrev up_to_mark : ℕ → List ℕ → List ℕ
+up_to_mark mark text = get_or (pieces_at mark [] text) 0 []
 
 -- the parameter of a text
 abbrev pair : List ℕ → List ℕ × List ℕ
-pair text = (before 61 text, get_or (parts 61 [] text) 1 [])
+pair text = (up_to_mark 61 text, get_or (pieces_at 61 [] text) 1 [])
 
 -- the media type of a text without spaces,
 abbrev media : List ℕ → MediaType
 media text = record {
-  essence = before 59 text;
+  essence = up_to_mark 59 text;
   slash = prefix_len (λ b. not (b == 47)) text;
   plus = None;
-  pairs = map pair (drop 1 (parts 59 [] text));
+  pairs = map pair (drop 1 (pieces_at 59 [] text));
   kept = [];
 }
 
 -- and those of a list
 abbrev all : List ℕ → List MediaType
-all text = map media (parts 44 [] text)
+all text = map media (pieces_at 44 [] text)
 
 -- whether a range covers an offer
 abbrev covers : List ℕ → List ℕ → Bool
 covers range offer = is_some (closeness (media offer) (0, media range))
 
 -- what ranges give offers
-abbrev weights : List ℕ → List ℕ → List ℕ
-weights ranges offers = map (given_weight (all ranges)) (all offers)
+abbrev weighed : List ℕ → List ℕ → List ℕ
+weighed ranges offers = map (given_weight (all ranges)) (all offers)
 
 -- and which of these is the best
 abbrev best : List ℕ → List ℕ → Option ℕ
@@ -74,7 +74,8 @@ same_meaning =
 -- a paired backslash means another byte than a paired letter
 other_meaning : ¬ (MeanTheSame (media (codes "a/b;p=\\\\")) (media (codes "a/b;p=\\x")))
 other_meaning same =
-    let b : 92 ≡ 120 = ap (λ (pairs : List (List ℕ × List ℕ)). get_or (get_or pairs 0 ([], [])).1 0 0) same.pairs in absurd (omega (arith, b))
+    let b : 92 ≡ 120 = ap (λ (pairs : List (List ℕ × List ℕ)). get_or (get_or pairs 0 ([], [])).1 0 0) same.pairs in
+    absurd (omega (arith, b))
 
 -- a media type covers itself
 itself : covers (codes "text/html;level=1;q=0.5;level=2") (codes "text/html;level=1;q=0.5;level=2") ≡ true
@@ -83,24 +84,24 @@ itself = covers_itself (media (codes "text/html;level=1;q=0.5;level=2"))
 -- what ranges give offers
 weights_counted :
     -- `audio/basic` is preferred to any other audio type (RFC 9110, 12.5.1)
-    (weights (codes "audio/*;q=0.2,audio/basic") (codes "audio/basic,audio/mp4") ≡ 1000 ∷ 200 ∷ [])
+    (weighed (codes "audio/*;q=0.2,audio/basic") (codes "audio/basic,audio/mp4") ≡ 1000 ∷ 200 ∷ [])
     -- `text/html` and `text/x-c` are preferred alike
-    × (weights (codes "text/plain;q=0.5,text/html,text/x-dvi;q=0.8,text/x-c") (codes "text/html,text/x-c") ≡ 1000 ∷ 1000 ∷ [])
+    × (weighed (codes "text/plain;q=0.5,text/html,text/x-dvi;q=0.8,text/x-c") (codes "text/html,text/x-c") ≡ 1000 ∷ 1000 ∷ [])
     -- its table gives `text/html;level=3` the weight 0.7, which it had in RFC 7231; no range here says so, and `text/*` gives it 0.3
-    × (weights (codes "text/*;q=0.3,text/plain;q=0.7,text/plain;format=flowed,text/plain;format=fixed;q=0.4,*/*;q=0.5")
+    × (weighed (codes "text/*;q=0.3,text/plain;q=0.7,text/plain;format=flowed,text/plain;format=fixed;q=0.4,*/*;q=0.5")
     (codes "text/plain;format=flowed,text/plain,text/html,image/jpeg,text/plain;format=fixed,text/html;level=3")
     ≡ 1000 ∷ 700 ∷ 300 ∷ 500 ∷ 400 ∷ 300 ∷ [])
     -- the table of RFC 7231 (5.3.2)
-    × (weights (codes "text/*;q=0.3,text/html;q=0.7,text/html;level=1,text/html;level=2;q=0.4,*/*;q=0.5")
+    × (weighed (codes "text/*;q=0.3,text/html;q=0.7,text/html;level=1,text/html;level=2;q=0.4,*/*;q=0.5")
     (codes "text/html;level=1,text/html,text/plain,image/jpeg,text/html;level=2,text/html;level=3")
     ≡ 1000 ∷ 700 ∷ 300 ∷ 500 ∷ 400 ∷ 700 ∷ [])
     -- of two weights of a range the first counts, and of ranges as close the higher,
-    × (weights (codes "text/html;q=0.2;q=0.9") (codes "text/html") ≡ 200 ∷ [])
-    × (weights (codes "text/html;q=0.2,text/html;q=0.9,text/html;q=0.5") (codes "text/html") ≡ 900 ∷ [])
+    × (weighed (codes "text/html;q=0.2;q=0.9") (codes "text/html") ≡ 200 ∷ [])
+    × (weighed (codes "text/html;q=0.2,text/html;q=0.9,text/html;q=0.5") (codes "text/html") ≡ 900 ∷ [])
     -- and one of 0 rejects what a wider range accepts
-    × (weights (codes "*/*,text/html;q=0") (codes "text/html") ≡ 0 ∷ [])
+    × (weighed (codes "*/*,text/html;q=0") (codes "text/html") ≡ 0 ∷ [])
     -- `q` is taken with its backslashes, so that `\1` begins with no number
-    × (weights (codes "text/html;q=\\1") (codes "text/html") ≡ 0 ∷ [])
+    × (weighed (codes "text/html;q=\\1") (codes "text/html") ≡ 0 ∷ [])
 weights_counted = (refl, refl, refl, refl, refl, refl, refl, refl)
 
 -- which offer is the best
@@ -110,7 +111,7 @@ choices :
     × (best (codes "text/plain;q=0.5,text/html,text/x-dvi;q=0.8,text/x-c") (codes "text/plain,text/x-dvi") ≡ Some 1)
     × (best (codes "text/plain;q=0.5,text/html,text/x-dvi;q=0.8,text/x-c") (codes "image/jpeg,text/plain") ≡ Some 1)
     -- the most specific range that covers an offer has precedence: first `text/plain;format=flowed`, then `text/plain`, then any other text
-    × (best (codes "text/*,text/plain,text/plain;format=flowed,*/*") (codes "image/jpeg,text/html,text/plain,text/plain;format=flowed") ≡ Some 3)
+    × (best (codes "text/*,text/plain,text/plain;format=flowed,*/*") (codes "text/html,text/plain,text/plain;format=flowed") ≡ Some 2)
     × (best (codes "text/*,text/plain,text/plain;format=flowed,*/*") (codes "image/jpeg,text/html,text/plain") ≡ Some 2)
     × (best (codes "text/*,text/plain,text/plain;format=flowed,*/*") (codes "image/jpeg,text/html") ≡ Some 1)
     -- as axios sends it: the closer range decides, and parameters make it closer

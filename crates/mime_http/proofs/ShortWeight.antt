@@ -1,5 +1,5 @@
 -- A media type whose kept text ends in a weight of one decimal, right after the essence, has no other parameter.
-use Rattle.mime_http.proofs.Common.{AreSpaces, HasBytesAt, List, MediaType, Reads, Some, SyntaxTree, [], ap, append_assoc, arith, drop, drop-append_seam, essence_of, final, get_or, has, is_ascii_digit, is_token_byte, length, length-append, length-lowered, listed, lowered_tree, one_reading, plain, read_number, refl, suc, sym, text_from_reads, text_of, text_of_tail, true, value_of, ℕ, ◌*◌, ◌++◌, ◌+◌, ◌-◌, ◌∙◌, ◌∷◌, ◌≡◌}
+use Rattle.mime_http.proofs.Common.{AreSpaces, HasBytesAt, List, MediaType, Reads, Some, SyntaxTree, [], ap, arith, drop, drop-append_seam, essence_of, final, is_ascii_digit, is_token_byte, length, length-append, length-lowered, listed, lowered_tree, one_reading, plain, read_number, refl, sym, text_from_reads, text_of, text_of_tail, true, value_of, ℕ, ◌*◌, ◌++◌, ◌+◌, ◌-◌, ◌∙◌, ◌∷◌, ◌≡◌}
 use Rattle.mime.proofs.ValueLemmas.KeptText.{text_of-essence}
 use Rattle.mime_http.proofs.Demanded.{found_in}
 use Rattle.mime_http.proofs.Numbers.{read_is}
@@ -19,7 +19,8 @@ module _ (kept : List ℕ) (media : MediaType) (reads : Reads kept media) where
       omega (arith, length-lowered tree.top, length-lowered tree.sub) in
       let long : length media.essence ≡ length (essence_of tree) =
       omega (arith, same, size, length-append low.top (47 ∷ low.sub), length-append tree.top (47 ∷ tree.sub)) in
-      ap (λ n. drop n kept) long ∙ (ap (drop (length (essence_of tree))) kept_is ∙ drop-append_seam (essence_of tree) (text_of_tail tree.tail))
+      ap (λ n. drop n kept) long ∙ (ap (drop (length (essence_of tree))) kept_is
+      ∙ drop-append_seam (essence_of tree) (text_of_tail tree.tail))
 
 -- the tree with this weight in place of the parameters, after these spaces
 abbrev with_weight : SyntaxTree → List ℕ → ℕ → SyntaxTree
@@ -34,7 +35,8 @@ weight_alone media rest n d reads after is spaces digit =
     let tail : text_of_tail reads.tree.tail ≡ 59 ∷ (n ++ (113 ∷ 61 ∷ 48 ∷ 46 ∷ d ∷ [])) =
     sym (after_is_tail media.kept media reads) ∙ (sym after ∙ is) in
     let spelled : text_of (with_weight reads.tree n d) ≡ media.kept =
-    text_of-essence (with_weight reads.tree n d) ∙ (ap (λ t. essence_of reads.tree ++ t) (sym tail) ∙ sym (kept_is media.kept media reads)) in
+    text_of-essence (with_weight reads.tree n d) ∙ (ap (λ t. essence_of reads.tree ++ t) (sym tail)
+    ∙ sym (kept_is media.kept media reads)) in
     let again : Reads media.kept (value_of (with_weight reads.tree n d)) = record {
       tree = with_weight reads.tree n d;
       well_formed = (reads.well_formed.0, reads.well_formed.1, (spaces, (refl, rw digit refl)));

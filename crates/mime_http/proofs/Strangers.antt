@@ -56,36 +56,39 @@ abbrev shifted : ℕ → ℕ → ℕ
 shifted k at = if nat_lt at k then at else at + 1
 
 -- the closest of ranges from a position on, and of one before them
-abbrev kept : MediaType → Option Rank → ℕ → List MediaType → Option Rank
-kept offer first at ranges = fold (ord_max (option_cmp rank_cmp)) first (map (closeness offer) (enumerate_from at ranges))
+abbrev closest_from : MediaType → Option Rank → ℕ → List MediaType → Option Rank
+closest_from offer first at ranges = fold (ord_max (option_cmp rank_cmp)) first (map (closeness offer) (enumerate_from at ranges))
 
 module _ (offer : MediaType) (k : ℕ) where
   -- a range covers as closely at its new position,
-  next : (range : MediaType) (at to : ℕ) (first : Option Rank) → shifted k at ≡ to
+  next_covers : (range : MediaType) (at to : ℕ) (first : Option Rank) → shifted k at ≡ to
       → ord_max (option_cmp rank_cmp) (option_map (moved (shifted k)) first) (closeness offer (to, range))
       ≡ option_map (moved (shifted k)) (ord_max (option_cmp rank_cmp) first (closeness offer (at, range)))
-  next range at to first there =
+  next_covers range at to first there =
       let higher = same_higher (shifted k) (λ x y. grind (arith, nat_tests)) first (closeness offer (at, range)) in
       grind (arith, there, covers_so offer range (shifted k) at, higher)
 
   -- so the closest is the same with ranges one position later,
   later : (at : ℕ) (first : Option Rank) (ranges : List MediaType) → k ≤ at
-      → kept offer (option_map (moved (shifted k)) first) (at + 1) ranges ≡ option_map (moved (shifted k)) (kept offer first at ranges)
+      → closest_from offer (option_map (moved (shifted k)) first) (at + 1) ranges
+      ≡ option_map (moved (shifted k)) (closest_from offer first at ranges)
   later at first [] after = refl
   later at first (range ∷ ranges) after =
-      ap (λ first. kept offer first (at + 1 + 1) ranges) (next range at (at + 1) first (grind (arith, nat_tests)))
+      ap (λ first. closest_from offer first (at + 1 + 1) ranges) (next_covers range at (at + 1) first (grind (arith, nat_tests)))
       ∙ later (at + 1) _ ranges (omega (arith, after))
 
   -- and with one that covers nothing before them
   one_more : (range : MediaType) (after : List MediaType) → closeness offer (0, range) ≡ None
       → (at : ℕ) (first : Option Rank) (before : List MediaType) → k ≡ at + length before
-      → kept offer (option_map (moved (shifted k)) first) at (before ++ (range ∷ after))
-      ≡ option_map (moved (shifted k)) (kept offer first at (before ++ after))
+      → closest_from offer (option_map (moved (shifted k)) first) at (before ++ (range ∷ after))
+      ≡ option_map (moved (shifted k)) (closest_from offer first at (before ++ after))
   one_more range after none at first [] long =
-      ap (λ first. kept offer first (at + 1) after) (ap (ord_max (option_cmp rank_cmp) _)
-      (covers_so offer range (λ _. at) 0 ∙ ap (option_map (moved (λ _. at))) none) ∙ grind (arith)) ∙ later at first after (omega (arith, long))
+      ap (λ first. closest_from offer first (at + 1) after) (ap (ord_max (option_cmp rank_cmp) _)
+      (covers_so offer range (λ _. at) 0 ∙ ap (option_map (moved (λ _. at))) none) ∙ grind (arith))
+      ∙ later at first after (omega (arith, long))
   one_more range after none at first (other ∷ before) long =
-      ap (λ first. kept offer first (at + 1) (before ++ (range ∷ after))) (next other at at first (grind (arith, nat_tests, long)))
+      ap (λ first. closest_from offer first (at + 1) (before ++ (range ∷ after)))
+      (next_covers other at at first (grind (arith, nat_tests, long)))
       ∙ one_more range after none (at + 1) _ before (omega (arith, long))
 
 -- ---- ranks of offers
@@ -120,7 +123,8 @@ module _ (before after : List MediaType) (range : MediaType) where
       → map (merit with_it) offers ≡ map (moved raised) (map (merit (before ++ after)) offers)
   merits_so [] none = refl
   merits_so (offer ∷ offers) none = λ i.
-      merit_so offer (none offer (zero, omega arith, refl)) i ∷ merits_so offers (λ other there. none other (Contains-append_right (offer ∷ []) offers other there)) i
+      merit_so offer (none offer (zero, omega arith, refl)) i
+      ∷ merits_so offers (λ other there. none other (Contains-append_right (offer ∷ []) offers other there)) i
 
 -- so a range that covers none of the offers changes nothing
 pub stranger_changes_nothing : StrangerChangesNothing

@@ -19,5 +19,6 @@ returns-then-bytes c = λ is.
       | then-bytes-via-else-bytes+then-not-contains w ↦
           let finds = contains_char 92 value w.contains.result w.contains.ensures.cases (omega arith) in
           let not_one : ¬ (IsBoundary value) = search rules in
-          not_one (subst IsBoundary (unescaped_same value (λ i below there. absurd (grind (arith, w.if-not-contains.true, finds.1 i below there)))) is)
+          not_one (subst IsBoundary (unescaped_same value
+          (λ i below there. absurd (grind (arith, w.if-not-contains.true, finds.1 i below there)))) is)
     ]

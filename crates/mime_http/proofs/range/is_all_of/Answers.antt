@@ -10,8 +10,10 @@ is_whole : (text end other : List ℕ) (other-borrowed : Bor (List ℕ)) (rest :
 is_whole text end other b None same none =
     grind (arith, same, bytes_eq-Decides text (other ++ end), λ (is : text ≡ other ++ end). none other is)
 is_whole text end other b (Some rest) same (n, found, is, long) =
-    grind (arith, same, is, found, bytes_eq-Decides text (other ++ end), bytes_eq-Decides rest.now b.now, append_cancel_right rest.now b.now end)
+    let test = bytes_eq-Decides text (other ++ end) in
+    grind (arith, same, is, found, test, bytes_eq-Decides rest.now b.now, append_cancel_right rest.now b.now end)
 
 pub returns : goal.returns
 returns c =
-    c.eq.ensures ∙ is_whole _ _ _ _ _ refl c.strip_suffix.ensures.cases ∙ ap (λ text. bytes_eq text (c.args.type_.now ++ codes "/*")) c.essence_str.ensures
+    c.eq.ensures ∙ is_whole _ _ _ _ _ refl c.strip_suffix.ensures.cases
+    ∙ ap (λ text. bytes_eq text (c.args.type_.now ++ codes "/*")) c.essence_str.ensures

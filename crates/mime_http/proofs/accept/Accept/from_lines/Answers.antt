@@ -36,7 +36,8 @@ line_is_nothing : (all rest more : List (Bor (List ℕ))) (line : Bor (List ℕ)
     → IsHeader (map (λ line. line.now) all) nothing → AreSorted (cut line.now) [] []
 line_is_nothing all rest more line now is left holds =
     let next = subst (λ lines. Left all lines now) is left in
-    middle_is_nothing next.before (cut line.now) _ (subst (λ pieces. AreSorted pieces [] []) (only_cut holds.cut ∙ sym next.whole) holds.sorted)
+    middle_is_nothing next.before (cut line.now) _
+    (subst (λ pieces. AreSorted pieces [] []) (only_cut holds.cut ∙ sym next.whole) holds.sorted)
 
 pub loop-line-init : goal.loop-line-init
 loop-line-init c =
@@ -55,8 +56,8 @@ loop-line-init c =
 
 pub loop-line-preserved : goal.loop-line-preserved
 loop-line-preserved c =
-    next c.args.lines.now _ _ _ c.loop-line.accept c.add_line-in-loop-line.new.self (drop_more _ c.loop-line.line-index _ c.loop-line-test.true)
-    c.loop-line.invariant c.in_ok-add_line-2.ensures.added
+    next c.args.lines.now _ _ _ c.loop-line.accept c.add_line-in-loop-line.new.self
+    (drop_more _ c.loop-line.line-index _ c.loop-line-test.true) c.loop-line.invariant c.in_ok-add_line-2.ensures.added
 
 pub returns-clause-header : goal.returns-clause-header
 returns-clause-header c =
