@@ -11,9 +11,6 @@ use Rattle.mime_headers.specs.Program.AreOffers.{no_word, a_word}
 abbrev pub AreBegun : List (List ℕ) → List (List ℕ) → List MediaType → Type 0
 AreBegun all left offers = (more : List MediaType) → AreOffers left more → AreOffers all (offers ++ more)
 
-pub begun-none : (all : List (List ℕ)) → AreBegun all all []
-begun-none all more are = are
-
 -- the next word's offer is put last
 pub begun-next : (all left rest : List (List ℕ)) (word : List ℕ) (offer : MediaType) (offers new : List MediaType) → left ≡ word ∷ rest
     → AreBegun all left offers → HttpReads word offer → new ≡ offers ++ (offer ∷ []) → AreBegun all rest new

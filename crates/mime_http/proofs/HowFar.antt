@@ -82,7 +82,8 @@ reaches_from (b ∷ bytes) front limit reach is =
 
 -- so it is known of the whole value how far it goes
 pub reaches : (value : List ℕ) (limit : ℕ) → Reaches value limit (reach_from (start limit) value)
-reaches value limit = reaches_from value [] limit (start limit) (record { at = refl; place = refl; out = omega arith; back_to = here [] tt })
+reaches value limit =
+    reaches_from value [] limit (start limit) (record { at = refl; place = refl; out = omega arith; back_to = here [] tt })
 
 -- bytes are none, or some and a last one
 pub data Snoc : List ℕ → Type 0 where

@@ -92,14 +92,6 @@ walk_class class place leads [] all = no_bytes place
 walk_class class place leads (b ∷ bytes) all =
     let parts = and_parts (class b) _ all in both (leads b parts.0) (walk_class class place leads bytes parts.1)
 
--- so it does from wherever a token may be
-pub token : {place : Place} → TakesToken place → (bytes : List ℕ) → IsToken bytes → Leads place bytes bytes Plain
-token takes [] is = absurd is
-token takes (b ∷ bytes) is =
-    let parts = and_parts (is_token_byte b) _ is in
-    both (plain_byte takes b (token_is_plain b parts.0))
-    (walk_class is_token_byte Plain (λ b yes. plain_byte goes_on b (token_is_plain b yes)) bytes parts.1)
-
 -- places after which white space stays
 pub data KeepsSpace : Place → Type 0 where
   after_value : KeepsSpace Closed
@@ -182,8 +174,3 @@ is_settled place = true
 -- There a byte that isn't left out comes out as it is.
 pub settled_adds : (place : Place) → IsSettled place → (b : ℕ) → is_left_out place b ≡ false → added place b ≡ b ∷ []
 settled_adds place settled b kept = grind (arith, kept, settled)
-
--- white space is left out after settled places
-pub leaves_settled : {place : Place} → LeavesWhite place → IsSettled place
-leaves_settled after_token = tt
-leaves_settled after_equals = tt

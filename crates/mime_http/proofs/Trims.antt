@@ -15,10 +15,6 @@ split_white (b ∷ bytes) =
 pub below_128 : (b : ℕ) → is_space b ≡ true → b < 128
 below_128 b is = grind (arith, nat_tests)
 
--- Bytes that aren't empty are some.
-pub some_left : (trimmed : List ℕ) (empty : Bool) → empty ≡ (length trimmed == 0) → empty ≡ false → ¬ (trimmed ≡ [])
-some_left trimmed empty tells some none = true≢false (sym (tells ∙ eq-eqb (length trimmed) 0 (ap length none)) ∙ some)
-
 -- A piece is white space exactly if nothing is left of it.
 pub blank_from_trimmed : (piece : List ℕ) → trim_start piece ≡ [] → AreSpaces piece
 blank_from_trimmed piece is =

@@ -248,9 +248,6 @@ pub token_bytes-wider : (with_plus : Bool) (b : ℕ) → is_token_except_plus b 
 token_bytes-wider true b is = token_byte b is
 token_bytes-wider false b is = is
 
-pub token_run : (xs : List ℕ) → IsTrue (list_all is_token_except_plus xs) → IsTrue (list_all is_token_byte xs)
-token_run = list_all-wider is_token_except_plus is_token_byte token_byte
-
 no_plus : (at : ℕ) (xs : List ℕ) → IsTrue (list_all is_token_except_plus xs) → last_plus at xs ≡ None
 no_plus at [] all = refl
 no_plus at (x ∷ xs) all =
