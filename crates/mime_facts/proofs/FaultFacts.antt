@@ -7,9 +7,9 @@ use Rattle.mime.specs.Faults.{IsViable, IsLongestPrefix, completion_of, last_byt
 use Rattle.mime.specs.declared.scan.fault.ParseError.{ParseError}
 use Rattle.mime.specs.declared.scan.fault.ParseError.TheVariants.{MissingSlash, MissingSubtype, MissingEqual, MissingValue, MissingQuote, InvalidToken, NoMemory}
 use Rattle.mime.proofs.GrammarLemmas.Faults.{one_fault, completed_is_rejected, fault-from_lacks}
-use Rattle.mime.proofs.GrammarLemmas.Readings.{stopped-from_walk, rejected-from_walk}
+use Rattle.mime.proofs.GrammarLemmas.Readings.{stopped-from_walk}
 use Rattle.mime_facts.proofs.StandardFacts.{slash_fault-from_walk, no_slash, no_subtype, no_equals, no_value, no_quote, space_in_type}
-use Rattle.mime_facts.proofs.ValueFacts.{differ, plain_value, reads_capitals, text_of_41, text_of_40, reads_41}
+use Rattle.mime_facts.proofs.ValueFacts.{plain_value, reads_capitals, text_of_41, text_of_40, reads_41}
 use Rattle.mime.proofs.GrammarLemmas.Viability.{accepted_is_viable, not_viable-at_dead, prefix_unique, viable-from_lacks}
 
 -- what lacks something is viable, and what has a byte at fault isn't

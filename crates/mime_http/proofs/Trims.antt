@@ -1,5 +1,5 @@
 -- A piece without the white space around it.
-use Rattle.mime_http.proofs.Common.{AreSpaces, Bool, IsAscii, IsUtf8, List, [], and_from, and_parts, ap, append-nil, arith, cond_both, eq-eqb, false, get_or, if◌then◌else◌, is_space, length, length-append, list_all-append, nat_tests, refl, subst, suc, sym, take, take_more, tight, trim_end, trim_start, true, true≢false, ℕ, ◌++◌, ◌-◌, ◌<◌, ◌==◌, ◌∙◌, ◌∷◌, ◌≡◌, ◌≤◌}
+use Rattle.mime_http.proofs.Common.{AreSpaces, IsAscii, IsUtf8, List, [], and_from, and_parts, ap, append-nil, arith, cond_both, false, get_or, if◌then◌else◌, is_space, length, length-append, list_all-append, nat_tests, refl, subst, suc, sym, take, take_more, tight, trim_end, trim_start, true, ℕ, ◌++◌, ◌-◌, ◌<◌, ◌∙◌, ◌∷◌, ◌≡◌, ◌≤◌}
 use Rattle.mime_http.proofs.HttpText.{tight_utf8}
 use Rattle.mime_http.proofs.Places.{at_start, skipped_white}
 

@@ -1,5 +1,5 @@
 -- Where two texts first differ in a block: at the lowest bit of a mask.
-use Rattle.std.proofs.Common.{◌≡◌, ◌≢◌, ℕ, ◌+◌, ◌-◌, ◌%◌, ◌^◌, ◌<◌, ◌≤◌, Bool, true, false, not, cond, eqb, List, map, length, sym, ap, ap₂, ◌∙◌, subst, arith, get_or}
+use Rattle.std.proofs.Common.{◌≡◌, ◌≢◌, ℕ, ◌+◌, ◌-◌, ◌%◌, ◌^◌, ◌<◌, ◌≤◌, true, false, not, cond, eqb, List, map, length, sym, ap, ap₂, ◌∙◌, subst, arith, get_or}
 use Rattle.std.specs.List.{prefix_len}
 use Rattle.std.specs.Simd.Lanes.{chunk, mask_l, top, zip2}
 use Rattle.std.proofs.lemmas.Bool.Decides.{nat_tests}

@@ -1,6 +1,5 @@
 -- The mask of the lanes tells whether and where the blocks differ.
-use Rattle.std.proofs.Common.{◌∙◌, sym, ap, subst}
-use Rattle.mime_search.specs.Differences.{DifferAt}
+use Rattle.std.proofs.Common.{◌∙◌, sym}
 use Rattle.mime_search.proofs.FirstDifference.{in_word, none_differs, lowest_differs}
 use Rattle.mime_search.proofs.differing.difference_from.Goals as goal
 
