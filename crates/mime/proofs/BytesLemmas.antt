@@ -4,16 +4,14 @@ use Rattle.std.specs.List.{range_with_len, list_all}
 use Rattle.std.proofs.lemmas.List.{get_or-map}
 use Rattle.std.proofs.lemmas.List.Folds.{list_all-append}
 use Rattle.std.proofs.lemmas.List.FromFn.{get_or-map-range_with_len}
-use Rattle.std.proofs.lemmas.List.Sums.{passes_at_first}
 use Rattle.std.specs.Prelude.{IsTrue, IsFalse, ◌==◌, not}
 use Rattle.std.proofs.lemmas.Bool.{and_parts, and_from}
-use Rattle.std.proofs.lemmas.Bool.Decides.{nat_tests, Decides-eqb}
+use Rattle.std.proofs.lemmas.Bool.Decides.{nat_tests}
 use Rattle.mime.specs.Bytes.{is_token_byte, semicolon_byte, equals_byte, quote_byte}
 use Rattle.mime.specs.Grammar.{is_space, AreTokenBytes, IsToken}
 use Rattle.std.specs.Str.{IsUtf8, IsCharBoundary}
-use Rattle.std.proofs.lemmas.Option.{slice_get-get_or, slice_get_within, get_or_from_slice_get}
+use Rattle.std.proofs.lemmas.Option.{slice_get_within, get_or_from_slice_get}
 use Rattle.std.proofs.lemmas.Str.{IsCharBoundary-before_ascii, IsCharBoundary-after_ascii}
-use Rattle.mime.specs.Inner.Blocks.{first_position}
 
 -- what a test of a table says of a byte is whether the byte is of the class, if it does byte by byte
 pub in_table : (class test : ℕ → Bool) (table : List ℕ) → map test table ≡ map class (range_with_len 0 256) → length table ≡ 256
@@ -98,14 +96,6 @@ boundary_before text at b there ascii =
 pub boundary_after : (text : List ℕ) (at b : ℕ) → IsUtf8 text → slice_get text at ≡ Some b → b < 128 → IsCharBoundary text (at + 1)
 boundary_after text at b utf8 there ascii =
     IsCharBoundary-after_ascii text at utf8 (slice_get_within text at b there) (omega (arith, get_or_from_slice_get text at b 0 there))
-
--- the byte that was looked for is at the position found
-pub slice_get-first_position : (byte : ℕ) (text : List ℕ) (position : ℕ) → position ≡ first_position byte text → position < length text
-    → slice_get text position ≡ Some byte
-slice_get-first_position byte text position is within =
-    let inside : first_position byte text < length text = omega (arith, is, within) in
-    let there = (Decides-eqb _ _).0 (passes_at_first (λ b. b == byte) text 0 inside) in
-    rw is (slice_get-get_or text (first_position byte text) 0 inside ∙ ap Some there)
 
 -- equal lists have the same first and the same others
 pub cons_parts : {X : Type 0} {x y : X} {xs ys : List X} → x ∷ xs ≡ y ∷ ys → (x ≡ y) × (xs ≡ ys)

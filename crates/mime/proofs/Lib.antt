@@ -4,7 +4,6 @@ pub mod GrammarLemmas
 pub mod LowercaseLemmas
 -- the sources
 pub mod ScanLemmas
-pub mod BlocksLemmas
 pub mod StopsLemmas
 pub mod ValueLemmas
 pub mod CompareLemmas

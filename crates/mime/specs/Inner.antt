@@ -5,7 +5,6 @@ pub mod Remaining
 pub mod Quoted
 pub mod KnownStops
 pub mod Scanning
-pub mod Blocks
 pub mod Pairs
 pub mod KeptText
 pub mod ComparedText

@@ -155,8 +155,7 @@ impl Atom {
         ensures text { result.0.now ≡ atom_text self }
         ensures positions { result.1 ≡ positions_in (atom_text self) }
     {
-        let row = TABLE[self as usize];
-        let (text, slash, plus, semicolon) = row;
+        let (text, slash, plus, semicolon) = TABLE[self as usize];
         let positions = Positions {
             slash,
             plus,

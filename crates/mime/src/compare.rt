@@ -9,13 +9,12 @@ ghost use Rattle.mime.specs.Inner.ComparedText.{StartsWithEssence, IsAcceptedAt}
 ghost use Rattle.mime.specs.Values.{Reads, lowered};
 ghost use Rattle.mime.specs.declared.compare.Compared.TheVariants.{Equal, Different};
 
-use crate::blocks::{BLOCK, Suffix};
 use crate::bytes::is_space;
 use crate::name::constants::CHARSET;
 use crate::scan::{ByteReader, Positions, Verdict, parameters};
 use crate::value::Mime;
 use crate::value::pairs::Pairs;
-use mime_search::{eq_ignore_ascii_case, first_difference};
+use mime_search::{BLOCK, Suffix, eq_ignore_ascii_case, first_difference};
 
 /// Whether two strings are equal ignoring ASCII case.
 #[inline(always)]

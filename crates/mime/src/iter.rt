@@ -86,10 +86,8 @@ fn read_piece<'a>(text: &'a str, first: u8, reader: &mut ByteReader<'_>) -> Read
     if !is_token(first) {
         // No media type begins with this character.
         return ReadPiece {
-            piece: nothing_of(text),
-            positions: None,
             left: &text[end_of_first(text)..],
-            steps: reader.count(),
+            ..ReadPiece::none(text, reader.count())
         };
     }
     let verdict = scan_after(first, reader);

@@ -10,34 +10,10 @@ ghost use Rattle.std.specs.Ordering.{ordering_then, bool_cmp, nat_cmp};
 ghost use Rattle.mime.specs.Values.{OwnedMedia, lowered};
 ghost use Rattle.mime.specs.Names.{name_table};
 ghost use Rattle.mime.specs.Items.{name_text};
-ghost use Rattle.mime.specs.Laws.{
-  OneTree,
-  OneReading,
-  EmptyIsViable,
-  PrefixOfViableIsViable,
-  AcceptedIsViable,
-  OneCompletion,
-  CompletedIsRejected,
-  NoCompletion,
-  OneFault,
-  OneLongestPrefix,
-  PrefixEndsBetweenCharacters,
-  PrefixIsInUtf8,
-  PlusIsLast,
-  KeptIsRead,
-  EssenceIsRead,
-  OneOrder,
-  BeforeIsTransitive,
-  BareTextIs,
-  KeptTextIs,
-  OneAnswer,
-  HasAnswer,
-  IsDecided,
-  FirstDifferenceDecides,
-  AcceptedOrRejected,
-  EssenceIsParts,
-  SameEssence,
-};
+ghost use Rattle.mime.specs.Laws.{OneTree, OneReading, EmptyIsViable, PrefixOfViableIsViable, AcceptedIsViable, AcceptedOrRejected};
+ghost use Rattle.mime.specs.Laws.{OneCompletion, CompletedIsRejected, NoCompletion, OneFault, OneLongestPrefix, PrefixEndsBetweenCharacters, PrefixIsInUtf8};
+ghost use Rattle.mime.specs.Laws.{PlusIsLast, KeptIsRead, EssenceIsRead, EssenceIsParts, SameEssence, OneOrder, BeforeIsTransitive};
+ghost use Rattle.mime.specs.Laws.{BareTextIs, KeptTextIs, OneAnswer, HasAnswer, IsDecided, FirstDifferenceDecides};
 ghost use Rattle.mime.specs.HeaderLaws.{KeptIsSafe, ParameterIsRead};
 ghost use Rattle.mime.specs.Comparison.{Same, IsOrderOf};
 ghost use Rattle.mime.specs.HashLaws.{RespectsEquality, IsPrefixFree};

@@ -48,7 +48,6 @@
 #![tactic(auto)]
 
 mod atoms;
-mod blocks;
 mod bytes;
 mod compare;
 mod iter;

@@ -95,22 +95,15 @@ fn quoted_text(reader: &mut ByteReader<'_>) -> Option<u8>
     None
 }
 
-/// Reads the quoted text at the start of a quoted value, which may be long, and returns the byte that ends it.
-#[inline(always)]
-fn first_quoted_text(reader: &mut ByteReader<'_>) -> Option<u8>
-    ensures { Passes is_quoted_text_byte reader.old reader.new result }
-{
-    reader.skip_quoted_text();
-    quoted_text(reader)
-}
-
 /// Reads a quoted value's content, and returns the byte that ends it: the first quote that no unpaired backslash
 /// precedes, or a byte that may not stand there.
 #[inline(always)]
 fn content(reader: &mut ByteReader<'_>) -> Option<u8>
     ensures { PassesContent reader.old reader.new result }
 {
-    let mut stop = first_quoted_text(reader);
+    // The first quoted text may be long.
+    reader.skip_quoted_text();
+    let mut stop = quoted_text(reader);
     while stop == Some(b'\\') {
         let paired = reader.next()?;
         if !is_quoted_byte(paired) {

@@ -189,10 +189,8 @@ impl Mime {
         ensures short { length (string_bytes text) ≤ SHORT → IsOk result }
     {
         let positions = Positions {
-            slash: self.places.slash,
-            plus: self.places.plus(),
-            semicolon: Some(self.essence_str().len()),
             pair_count: count,
+            ..self.before_list()
         };
         Ok(Mime::of_kept(Text::of(alloc, text)?, positions))
     }

@@ -4,3 +4,4 @@ pub mod Masks
 mod Quotes
 pub mod Searches
 pub mod FirstDifference
+pub mod Suffixes

@@ -2,3 +2,4 @@
 pub mod Classes
 pub mod Quoted
 pub mod Differences
+pub mod Suffixes

@@ -47,6 +47,18 @@ pub fn first_stop_at_end(text: &[u8], from: usize, class: &Class) -> usize
     }
 }
 
+/// The position, from one on, of the first byte at which a search stops, or the length, as `first_stop` finds it. It isn't
+/// inlined: most searches end before.
+#[cold]
+#[inline(never)]
+pub fn first_stop_far(text: &[u8], from: usize, class: &Class) -> usize
+    requires { from ≤ length text.now }
+    ensures end { result ≡ end_of_run class.now text.now from }
+    ensures within { result ≤ length text.now }
+{
+    first_stop(text, from, class)
+}
+
 /// The position, from one on, of the first byte at which a search stops, or the length.
 #[tactic(auto, using(crate::proofs::Searches::run_within))]
 #[inline(always)]

@@ -3,7 +3,7 @@ use Rattle.std.proofs.Common.{◌≡◌, ℕ, zero, suc, ◌+◌, ◌-◌, ◌*�
 use Rattle.std.specs.Int.{byte_at, bytes_low_first, to_le_bytes, w64}
 use Rattle.std.proofs.Math.Nat.{pow-suc, mul_comm, div-div-eq-div-mul}
 use Rattle.std.proofs.lemmas.List.{append_assoc, append_cancel_left, take-append-drop}
-use Rattle.mime.specs.Inner.HashInput.{end_word, number_of, words_len, part_input, pair_input, media_input}
+use Rattle.mime.specs.Inner.HashInput.{end_word, number_of, words_len, words_input, part_input, pair_input, media_input}
 use Rattle.std.specs.Prelude.{IsUtf8}
 use Rattle.std.specs.List.{list_all, flat_map, concat, AllByRecursion}
 use Rattle.std.proofs.lemmas.Bool.{and_parts, and_from}
@@ -16,7 +16,7 @@ use Rattle.mime.specs.Values.{MediaType, lowered, lowered_parameter, lowered_lis
 use Rattle.mime.specs.HashLaws.{IsReadInUtf8, IsPrefixFree}
 use Rattle.mime.proofs.BytesLemmas.{list_all-parts, list_all-wider, is_other, AreTokenBytes-from_token, are_other-token}
 use Rattle.mime.proofs.LowercaseLemmas.{IsToken-lowered, list_all-lowered, lowered_value-either}
-use Rattle.mime.specs.Inner.Blocks.{before_byte, after_byte}
+use Rattle.mime_search.specs.Suffixes.{before_byte, after_byte}
 use Rattle.mime.proofs.ValueLemmas.ListText.{ended, before_byte-run, after_byte-run}
 use Rattle.std.proofs.lemmas.Bool.{cases_lt}
 use Rattle.std.proofs.lemmas.Str.{encode_ascii}
@@ -166,10 +166,15 @@ part_bytes part = part ++ (255 ∷ zeros_after part)
 abbrev pair_bytes : List ℕ × List ℕ → List ℕ
 pair_bytes pair = part_bytes pair.0 ++ part_bytes pair.1
 
+-- whole words feed their bytes, by one call if there are any
+fed_words : (words : List ℕ) (last : List ℕ) → concat (words_input words ++ (last ∷ [])) ≡ words ++ last
+fed_words [] last = append-nil last
+fed_words (b ∷ words) last = ap (λ end. b ∷ (words ++ end)) (append-nil last)
+
 -- a part feeds these
 fed_part_bytes : (part : List ℕ) → concat (part_input part) ≡ part_bytes part
 fed_part_bytes part =
-    ap (λ end. take (words_len part) part ++ end) (append-nil (end_word (drop (words_len part) part)))
+    fed_words (take (words_len part) part) (end_word (drop (words_len part) part))
     ∙ sym (append_assoc (take (words_len part) part) (drop (words_len part) part) (255 ∷ zeros_after part))
     ∙ ap (λ whole. whole ++ (255 ∷ zeros_after part)) (take-append-drop (words_len part) part)
 

@@ -10,8 +10,7 @@ use Rattle.std.proofs.lemmas.List.{take_at, drop_at, drop-drop, take-append-drop
 use Rattle.std.proofs.lemmas.Bool.{and_parts, cases_Bool, cond-false, eqb-true, true≢false, cond_both}
 use Rattle.mime.specs.Bytes.{quote_byte, backslash_byte, equals_byte}
 use Rattle.mime.specs.Grammar.{IsContent, is_space}
-use Rattle.mime.specs.Inner.Blocks.{first_position, before_byte, after_byte, IsSuffixOf}
-use Rattle.mime.proofs.BlocksLemmas.{end_all, end_drop}
+use Rattle.mime_search.specs.Suffixes.{first_position, before_byte, after_byte}
 use Rattle.mime.specs.Inner.Quoted.{awaits_next, takes, takes_all, awaits_after, len_from, content_len}
 use Rattle.mime.proofs.GrammarLemmas.Content.{taken-closes_not, content-taken, content-awaits}
 use Rattle.mime.specs.Values.{lowered, lowered_value}
@@ -111,25 +110,30 @@ pub record LiesIn (list : List ℕ) (cut : PairCut) : Type 0 where
   pub parts : list ≡ prefix ++ (cut.value ++ (middle ++ cut.rest))
   pub value_start : cut.value_start ≡ length prefix
 
+-- a list ends with these bytes, and so with those after the first of them
+abbrev EndsWith : List ℕ → List ℕ → Type 0
+EndsWith list bytes = (prefix : List ℕ) × (prefix ++ bytes ≡ list)
+
+ends-drop : (n : ℕ) (list bytes : List ℕ) → EndsWith list bytes → EndsWith list (drop n bytes)
+ends-drop n list bytes (prefix, whole) =
+    (prefix ++ take n bytes, append_assoc prefix (take n bytes) (drop n bytes) ∙ ap (λ x. prefix ++ x) (take-append-drop n bytes) ∙ whole)
+
 -- a value that begins an end of the list lies in the list
-lies_from_end : (list bytes name rest : List ℕ) (k n : ℕ) → IsSuffixOf bytes list → rest ≡ drop n (drop k bytes)
+lies_from_end : (list bytes name rest : List ℕ) (k n : ℕ) → EndsWith list bytes → rest ≡ drop n (drop k bytes)
     → LiesIn list (record { name = name; value_start = length list - length bytes; value = take k bytes; rest = rest })
-lies_from_end list bytes name rest k n end after =
-    let prefix = take (length list - length bytes) list in
-    let whole : prefix ++ bytes ≡ list = ap (λ x. prefix ++ x) end ∙ take-append-drop (length list - length bytes) list in
-    record {
-      prefix = prefix;
-      middle = take n (drop k bytes);
-      parts = sym (rw (after, take-append-drop n (drop k bytes), take-append-drop k bytes) whole);
-      value_start = omega (arith, ap length whole, length-append prefix bytes);
-    }
+lies_from_end list bytes name rest k n (prefix, whole) after = record {
+  prefix = prefix;
+  middle = take n (drop k bytes);
+  parts = sym (rw (after, take-append-drop n (drop k bytes), take-append-drop k bytes) whole);
+  value_start = omega (arith, ap length whole, length-append prefix bytes);
+}
 
 -- the cut after the equals sign lies in the list
-cut_value-lies : (list name bytes : List ℕ) → IsSuffixOf bytes list → LiesIn list (cut_after_equals (length list) name bytes)
+cut_value-lies : (list name bytes : List ℕ) → EndsWith list bytes → LiesIn list (cut_after_equals (length list) name bytes)
 cut_value-lies list name [] end = record { prefix = list; middle = []; parts = sym (append-nil list); value_start = refl }
 cut_value-lies list name (b ∷ bytes) end =
     cond_both (b == quote_byte) _ _ (LiesIn list)
-    (λ _. lies_from_end list bytes name _ (content_len bytes) _ (end_drop 1 (b ∷ bytes) list end)
+    (λ _. lies_from_end list bytes name _ (content_len bytes) _ (ends-drop 1 list (b ∷ bytes) end)
     (ap (drop _) (sym (drop-drop 1 (content_len bytes) bytes)) ∙ drop-drop _ 1 (drop (content_len bytes) bytes)))
     (λ _. lies_from_end list (b ∷ bytes) name _ _ 1 end (sym (drop-drop 1 _ (b ∷ bytes))))
 
@@ -139,7 +143,7 @@ unfolding cut_of
 cut_of-lies list =
     let body = without_spaces list in
     cut_value-lies list (before_byte equals_byte body) (after_byte equals_byte body)
-    (end_drop _ body list (end_drop (leading_spaces list) list list (end_all list)))
+    (ends-drop _ list body (ends-drop (leading_spaces list) list list ([], refl)))
 
 -- the first value and the rest don't overlap within the list
 pub cut_of-within : (list : List ℕ) → (cut_of list).value_start + length (cut_of list).value + length (cut_of list).rest ≤ length list

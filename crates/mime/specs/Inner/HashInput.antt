@@ -18,9 +18,14 @@ number_of (b ∷ rest) = b + 256 * number_of rest
 abbrev pub words_len : List ℕ → ℕ
 words_len part = length part - length part % 8
 
+-- what its whole words feed, if it has any
+abbrev pub words_input : List ℕ → fed.HashWrites
+words_input [] = []
+words_input (b ∷ words) = (b ∷ words) ∷ []
+
 -- what a part feeds: its whole words, and its last word
 abbrev pub part_input : List ℕ → fed.HashWrites
-part_input part = take (words_len part) part ∷ end_word (drop (words_len part) part) ∷ []
+part_input part = words_input (take (words_len part) part) ++ (end_word (drop (words_len part) part) ∷ [])
 
 -- what a pair feeds: its name, and then its value
 abbrev pub pair_input : List ℕ × List ℕ → fed.HashWrites

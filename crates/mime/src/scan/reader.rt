@@ -8,8 +8,8 @@ ghost use Rattle.mime.specs.Inner.Scanning.{GivesFirst, Passing, Reaches};
 ghost use Rattle.mime_search.specs.Classes.{is_stop};
 
 use crate::bytes::{is_token, is_token_except_plus};
-use crate::scan::runs::{COMMON_TOKEN_BYTES, QUOTED_TEXT, run_by_blocks};
-use mime_search::{BLOCK, Class, WINDOW, stops_at_start, stops_in_window};
+use crate::scan::runs::{COMMON_TOKEN_BYTES, QUOTED_TEXT};
+use mime_search::{BLOCK, Class, WINDOW, first_stop_far, stops_at_start, stops_in_window};
 use std::marker::Model;
 
 /// The bytes of a string, of which the first are read.
@@ -167,7 +167,7 @@ impl<'a> ByteReader<'a> {
         ensures { Passing (λ b. not (is_stop class.now b)) self.old self.new }
     {
         if self.text.len() - self.at >= BLOCK {
-            self.at += run_by_blocks(&self.text[self.at..], class);
+            self.at = first_stop_far(self.text, self.at, class);
         }
     }
 

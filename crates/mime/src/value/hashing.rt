@@ -69,7 +69,10 @@ fn feed_part<H: Hasher>(part: &[u8], state: &mut H)
     ensures { state.new ≡ fold H.write state.old (part_input part.now) }
 {
     let (words, rest) = part.split_at(part.len() - part.len() % WORD);
-    state.write(words);
+    // Most names and values have no whole word.
+    if !words.is_empty() {
+        state.write(words);
+    }
     state.write(&end_word(rest));
 }
 

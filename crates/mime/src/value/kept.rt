@@ -3,16 +3,14 @@
 ghost use Rattle.std.specs.Prelude.{◌≡◌, ◌+◌, ◌-◌, ◌++◌, ◌<◌, if◌then◌else◌, ◌≤◌, ◌↔◌, IsFalse, IfOk, take, drop, length, slice_get, slice_range, string_bytes};
 ghost use Rattle.mime.specs.Bytes.{semicolon_byte};
 ghost use Rattle.mime.specs.Values.{lowered, is_charset};
-ghost use Rattle.mime.specs.Inner.Blocks.{IsSuffixOf};
 ghost use Rattle.mime.specs.Inner.Pairs.{cut_of, lowered_first, lowered_within};
 ghost use Rattle.mime.specs.Inner.Scanning.{HasPositions};
 ghost use Rattle.mime.specs.Inner.KeptText.{with_pairs_lowered, kept_positions, kept_text_of};
 
-use crate::blocks::{BLOCK, Suffix};
 use crate::name::constants::CHARSET;
 use crate::scan::Positions;
 use crate::value::pairs::cut;
-use mime_search::eq_ignore_ascii_case;
+use mime_search::{BLOCK, Suffix, eq_ignore_ascii_case};
 use std::alloc::{AllocError, Global};
 
 /// Whether there is an ASCII capital among bytes.

@@ -4,7 +4,7 @@ ghost use Rattle.std.specs.Iterator.{YieldsFirstBy, item_count, UpTo, at_most};
 ghost use Rattle.std.specs.Iterator.SizeHint.{IsWithinCount};
 ghost use Rattle.std.specs.Prelude.{◌≡◌, ◌<◌, ◌≤◌, ◌+◌, false, IsTrue, length, take, drop, slice_get, slice_index, IfSome, Some, option_map};
 ghost use Rattle.std.specs.Str.{IsCharBoundary};
-ghost use Rattle.mime.specs.Inner.Blocks.{before_byte, after_byte, first_position};
+ghost use Rattle.mime_search.specs.Suffixes.{before_byte, after_byte, first_position};
 ghost use Rattle.mime.specs.Inner.Pairs.{cut_of, leading_spaces, without_spaces, cut_after_equals, pairs_after, pair_seen};
 ghost use Rattle.mime.specs.Bytes.{quote_byte, semicolon_byte, equals_byte};
 ghost use Rattle.mime.specs.Inner.ComparedText.{IsLoneCharset};
@@ -12,10 +12,9 @@ ghost use Rattle.mime.specs.Inner.Quoted.{content_len};
 ghost use Rattle.mime.specs.Inner.KeptText.{AreLowPairs};
 ghost use Rattle.mime.specs.Items.{items_of, name_seen, IsLowIf, IsFirstAccepted};
 
-use crate::blocks::Suffix;
 use crate::name::constants::CHARSET;
 use crate::name::{Name, ParamKey};
-use mime_search::{Class, content_end, first_stop};
+use mime_search::{Class, Suffix, content_end, first_stop};
 use std::marker::Model;
 
 /// The first pair of a list, and the list after its semicolon.
@@ -192,9 +191,7 @@ impl<'a> Pairs<'a> {
     {
         self.left == 1 && self.list.text().as_bytes().starts_with(b" charset=")
     }
-}
 
-impl<'a> Pairs<'a> {
     /// The value of the first pair whose name a key accepts. If the last name isn't accepted, its value isn't searched
     /// for its end.
     #[inline(always)]

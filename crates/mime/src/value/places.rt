@@ -16,14 +16,6 @@ pub(crate) struct Places {
     pub(crate) slash: usize,
 }
 
-/// The position that a word says, if it says one.
-#[inline(always)]
-fn position(word: usize) -> Option<usize>
-    ensures { result ≡ unless_zero word }
-{
-    if word == 0 { None } else { Some(word) }
-}
-
 impl Places {
     /// The positions, a word each, of a text whose essence ends at `end`: at the semicolon after it, or with the text.
     #[inline(always)]
@@ -44,7 +36,7 @@ impl Places {
     pub(crate) fn plus(&self) -> Option<usize>
         ensures { result ≡ unless_zero self.now.plus }
     {
-        position(self.plus)
+        (self.plus != 0).then_some(self.plus)
     }
 
     /// The position of the semicolon after the essence, which ends at `end`.
@@ -52,10 +44,6 @@ impl Places {
     pub(crate) fn semicolon(&self, end: usize) -> Option<usize>
         ensures { result ≡ (positions_at self.now end).semicolon }
     {
-        if self.pair_count == 0 {
-            None
-        } else {
-            Some(end)
-        }
+        (self.pair_count != 0).then_some(end)
     }
 }

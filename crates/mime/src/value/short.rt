@@ -60,19 +60,6 @@ fn lowercase_pairs(block: &mut [u8; PADDED], text: &str, semicolon: usize, count
     }
 }
 
-/// The position of the semicolon of an accepted string with a parameter.
-#[inline(always)]
-fn semicolon_of(text: &str, positions: Positions) -> usize
-    requires accepted { HasPositions text.now positions }
-    requires some { 0 < positions.pair_count }
-    ensures { positions.semicolon ≡ Some result }
-{
-    match positions.semicolon {
-        Some(semicolon) => semicolon,
-        None => unreachable!(),
-    }
-}
-
 impl ShortText {
     /// The text.
     #[inline(always)]
@@ -179,15 +166,13 @@ impl ShortText {
         requires some { 0 < positions.pair_count }
         ensures { result ≡ kept_text_of positions.pair_count positions.semicolon text.now }
     {
+        let Some(semicolon) = positions.semicolon else {
+            unreachable!()
+        };
         // Lowercased where it is made, so that it isn't moved before it is kept.
         let mut block = [0; PADDED];
         block[..text.len()].copy_from_slice(text.as_bytes());
-        lowercase_pairs(
-            &mut block,
-            text,
-            semicolon_of(text, positions),
-            positions.pair_count,
-        );
+        lowercase_pairs(&mut block, text, semicolon, positions.pair_count);
         ShortText::of(&block, text.len())
     }
 

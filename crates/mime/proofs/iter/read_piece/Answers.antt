@@ -23,8 +23,9 @@ returns-then-not-is_token-clause-reads c =
     let next = c.end_of_first.ensures in
     let scans = scans_at None (none_walked (first_given here)) (cond-false _ _ _ (sym c.is_token.ensures ∙ c.if-not-is_token.true)) refl in
     let judged = judged-from_scan _ _ _ _ _ _ scans refl refl c.count.ensures.count in
-    passes-stopped _ _ _ _ 0 _ _ _ judged (omega (arith, c.count.ensures.count))
-    c.nothing_of.ensures c.range_from.ensures.value next.bound next.boundary next.nearest
+    rw (c.none.ensures.positions, c.none.ensures.steps)
+    (passes-stopped _ _ _ _ 0 _ _ _ judged (omega (arith, c.count.ensures.count))
+    c.none.ensures.piece c.range_from.ensures.value next.bound next.boundary next.nearest)
 
 pub range-requires-clause-end_boundary : goal.range-requires-clause-end_boundary
 range-requires-clause-end_boundary c =
@@ -40,14 +41,14 @@ range_from-requires c = λ _. c.end_of_first.ensures.boundary
 pub returns-in-Accepted-clause-reads : goal.returns-in-Accepted-clause-reads
 returns-in-Accepted-clause-reads c =
     let here = (goal.at.returns-in-Accepted-clause-reads c).Start in
-    rw (c.nothing_of-in-Accepted.ensures)
+    rw (c.nothing_of.ensures)
     (passes-whole _ _ _
     (judged-from_scan _ _ _ _ _ _ (c.in-Accepted.ensures (start here) (first_given here)) refl refl c.count-steps.ensures.count))
 
 pub returns-in-Unfinished-clause-reads : goal.returns-in-Unfinished-clause-reads
 returns-in-Unfinished-clause-reads c =
     let here = (goal.at.returns-in-Unfinished-clause-reads c).Start in
-    rw (c.none.ensures.piece, c.none.ensures.positions, c.none.ensures.left, c.none.ensures.steps)
+    rw (c.none-in-Unfinished.ensures.piece, c.none-in-Unfinished.ensures.positions, c.none-in-Unfinished.ensures.left, c.none-in-Unfinished.ensures.steps)
     (passes-unfinished _ _ _
     (judged-from_scan _ _ _ _ _ _ (c.in-Unfinished.ensures (start here) (first_given here)) refl refl c.count-steps.ensures.count))
 
@@ -90,7 +91,7 @@ returns-in-Unfinished-clause-counted c =
       arith,
       (c.in-Unfinished.ensures (start here) (first_given here)).counted,
       c.count-steps.ensures.count,
-      c.none.ensures.steps,
+      c.none-in-Unfinished.ensures.steps,
     )
 
 pub returns-in-Stopped-clause-counted : goal.returns-in-Stopped-clause-counted

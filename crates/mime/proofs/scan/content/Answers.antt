@@ -1,10 +1,10 @@
 -- Quoted text, and a backslash with the byte that it pairs, were passed; what isn't taken ends the content.
 use Rattle.std.proofs.Common.{sym, ◌∙◌}
-use Rattle.mime.proofs.ScanLemmas.Passing.{taking_none, taking_backslash, taking_paired, content_pair, content_text}
+use Rattle.mime.proofs.ScanLemmas.Passing.{passes_then, taking_none, taking_backslash, taking_paired, content_pair, content_text}
 use Rattle.mime.proofs.scan.content.Goals as goal
 
 pub loop-stop-init : goal.loop-stop-init
-loop-stop-init c = (_, taking_none _, c.first_quoted_text-stop.ensures)
+loop-stop-init c = (_, taking_none _, passes_then c.skip_quoted_text.ensures c.quoted_text-stop.ensures)
 
 pub returns-in_err-paired : goal.returns-in_err-paired
 returns-in_err-paired c =
@@ -21,7 +21,7 @@ loop-stop-preserved c =
     let taking = taking_backslash c.loop-stop.invariant.1 c.loop-stop.invariant.2 (sym c.eq.ensures ∙ c.loop-stop-test.true) in (
       _,
       taking_paired taking c.in_ok-paired.ensures (sym c.is_quoted_byte.ensures ∙ c.if-not-is_quoted_byte.false),
-      c.quoted_text-stop.ensures,
+      c.quoted_text-stop-in-loop-stop.ensures,
     )
 
 pub returns : goal.returns

@@ -4,7 +4,7 @@ use Rattle.std.proofs.lemmas.Bool.Decides.{nat_tests}
 use Rattle.std.proofs.lemmas.Str.{IsCharBoundary-after_ascii}
 use Rattle.std.specs.Str.{IsCharBoundary}
 use Rattle.mime.specs.Bytes.{quote_byte, semicolon_byte}
-use Rattle.mime.specs.Inner.Blocks.{after_byte}
+use Rattle.mime_search.specs.Suffixes.{after_byte}
 use Rattle.mime.specs.Inner.Pairs.{cut_after_equals}
 use Rattle.mime.specs.Inner.Quoted.{content_len, content_of, after_content}
 use Rattle.mime.proofs.ValueLemmas.Pairs.{content_len-le, get_or-content_len}

@@ -1,7 +1,5 @@
 -- The bytes before the stop that is found are skipped.
-use Rattle.std.proofs.Common.{not, subst, ap, arith, ◌+◌}
-use Rattle.std.specs.List.{prefix_len}
-use Rattle.std.proofs.lemmas.List.{take_rest}
+use Rattle.std.proofs.Common.{not, subst, arith}
 use Rattle.mime_search.specs.Classes.{is_stop}
 use Rattle.mime.specs.Inner.Scanning.{Passing}
 use Rattle.mime.proofs.ScanLemmas.Passing.{reader_at, passing_skip}
@@ -11,8 +9,6 @@ pub returns-then-self-ge-BLOCK : goal.returns-then-self-ge-BLOCK
 returns-then-self-ge-BLOCK c =
     let inside = c.self.inside in
     let text = inside.text.now in
-    let run = c.run_by_blocks in
-    let to = inside.at + run.result in
-    let left = ap (prefix_len (λ b. not (is_stop c.args.class.now b))) (take_rest text inside.at) in
-    subst (λ old. Passing (λ b. not (is_stop c.args.class.now b)) old (reader_at text to inside.before)) c.self.view_is
-    (passing_skip _ text inside.at to inside.before c.self.invariant.within (omega arith) (omega (arith, run.ensures.end, left)))
+    let to = c.first_stop_far-self-inside in
+    subst (λ old. Passing (λ b. not (is_stop c.args.class.now b)) old (reader_at text to.result inside.before)) c.self.view_is
+    (passing_skip _ text inside.at to.result inside.before c.self.invariant.within (omega (arith, to.ensures.end)) (omega (arith, to.ensures.end)))

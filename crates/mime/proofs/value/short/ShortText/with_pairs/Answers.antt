@@ -8,5 +8,5 @@ use Rattle.mime.proofs.value.short.ShortText.with_pairs.Goals as goal
 pub of-requires-clause-utf8 : goal.of-requires-clause-utf8
 of-requires-clause-utf8 c =
     let text = c.args.text.now in
-    let parts = kept-in_part c.args.positions.pair_count c.semicolon_of.result text in
+    let parts = kept-in_part c.args.positions.pair_count c.in-Some.semicolon text in
     subst IsUtf8 (sym c.lowercase_pairs.ensures) (IsUtf8-in_part text _ parts c.utf8.text)

@@ -1,11 +1,11 @@
-//! The search for a byte in a string, a block of bytes at a time.
+//! The search for a byte in a suffix of a string, a block of bytes at a time.
 
 ghost use Rattle.std.specs.Prelude.{◌≡◌, ◌+◌, ◌<◌, ◌≤◌, length, take, drop, slice_index};
 ghost use Rattle.std.specs.Str.{IsCharBoundary};
-ghost use Rattle.mime.specs.Inner.Blocks.{first_position, before_byte, after_byte};
+ghost use Rattle.mime_search.specs.Suffixes.{first_position, before_byte, after_byte};
 
-pub(crate) use mime_search::BLOCK;
-use mime_search::{Class, first_stop, first_stop_at_end, stops_in_block};
+use crate::class::{BLOCK, Class};
+use crate::search::{first_stop, first_stop_at_end, stops_in_block};
 use std::marker::Model;
 
 /// The position of a byte, from one on, or the length if it doesn't occur. It isn't inlined: most searches end in their
@@ -38,80 +38,76 @@ fn position_by_one(text: &[u8], byte: u8) -> usize
 /// A suffix of a string, together with the string: if the suffix is shorter than a block, the string's last block is
 /// searched instead, without a loop.
 #[derive(Drop)]
-pub(crate) struct Suffix<'a> {
+pub struct Suffix<'a> {
     whole: &'a str,
-    text: &'a str,
+    /// Where the suffix begins.
+    at: usize,
 }
 
 impl<'a> Model for Suffix<'a> {
-    ghost use Rattle.std.specs.Prelude.{List, ℕ};
-    ghost use Rattle.mime.specs.Inner.Blocks.{IsSuffixOf};
+    ghost use Rattle.std.specs.Prelude.{List, ℕ, drop};
+    ghost use Rattle.std.specs.Str.{IsCharBoundary};
 
     ghost Value = { List ℕ };
 
-    ghost view = { λ end. end.text.now };
+    ghost view = { λ suffix. drop suffix.at suffix.whole.now };
 
-    ghost invariant = { λ end. IsSuffixOf end.text.now end.whole.now };
+    ghost invariant = { λ suffix. IsCharBoundary suffix.whole.now suffix.at };
 }
 
 impl<'a> Suffix<'a> {
     /// The suffix of a string from this position on.
     #[inline(always)]
-    pub(crate) fn of(whole: &'a str, from: usize) -> Suffix<'a>
+    pub fn of(whole: &'a str, from: usize) -> Suffix<'a>
         requires { IsCharBoundary whole.now from }
         ensures { result ≡ drop from whole.entry.now }
     {
-        Suffix {
-            whole,
-            text: &whole[from..],
-        }
+        Suffix { whole, at: from }
     }
 
     /// The suffix itself.
     #[inline(always)]
-    pub(crate) fn text(&self) -> &'a str
+    pub fn text(&self) -> &'a str
         ensures { result.now ≡ self.now }
     {
-        self.text
+        &self.whole[self.at..]
     }
 
     /// Its own suffix from this position on.
     #[inline(always)]
-    pub(crate) fn after(&self, from: usize) -> Suffix<'a>
+    pub fn after(&self, from: usize) -> Suffix<'a>
         requires { IsCharBoundary self.now from }
         ensures { result ≡ drop from self.now }
     {
         Suffix {
             whole: self.whole,
-            text: &self.text[from..],
+            at: self.at + from,
         }
     }
 
     /// The first position of a byte, counted from 0 in the suffix, or the suffix's length if it doesn't occur.
     #[inline(always)]
-    pub(crate) fn position_of(&self, byte: u8) -> usize
+    pub fn position_of(&self, byte: u8) -> usize
         ensures { result ≡ first_position byte self.now }
     {
-        let text = self.text.as_bytes();
+        let whole = self.whole.as_bytes();
         let class = Class::of(byte, byte);
-        if text.len() >= BLOCK {
-            let stops = stops_in_block(text, 0, &class);
+        if whole.len() - self.at >= BLOCK {
+            let stops = stops_in_block(whole, self.at, &class);
             if stops == 0 {
-                return position_far(text, BLOCK, byte);
+                return position_far(whole, self.at + BLOCK, byte) - self.at;
             }
             return stops.trailing_zeros() as usize;
         }
-        let whole = self.whole.as_bytes();
         if whole.len() < BLOCK {
-            return position_by_one(text, byte);
+            return position_by_one(&whole[self.at..], byte);
         }
-        let from = whole.len() - text.len();
-        first_stop_at_end(whole, from, &class) - from
+        first_stop_at_end(whole, self.at, &class) - self.at
     }
 
     /// Splits at the ASCII byte at `position`, which is dropped. At the end, returns the whole suffix and an empty one.
     #[inline(always)]
-    pub(crate) fn split_around(&self, position: usize) -> (&'a str, Suffix<'a>)
+    pub fn split_around(&self, position: usize) -> (&'a str, Suffix<'a>)
         requires within { position ≤ length self.now }
         requires ascii { position < length self.now → slice_index self.now position < 128 }
         ensures before { result.0.now ≡ take position self.now }
@@ -125,7 +121,7 @@ impl<'a> Suffix<'a> {
     /// Splits at the first `byte`, which must be ASCII and is dropped. If it doesn't occur, returns the whole suffix
     /// and an empty one.
     #[inline(always)]
-    pub(crate) fn split_at_first(&self, byte: u8) -> (&'a str, Suffix<'a>)
+    pub fn split_at_first(&self, byte: u8) -> (&'a str, Suffix<'a>)
         requires ascii { byte < 128 }
         ensures before { result.0.now ≡ before_byte byte self.now }
         ensures after { result.1 ≡ after_byte byte self.now }
