@@ -1,5 +1,5 @@
--- Private: where a byte first occurs in a text.
-use Rattle.std.specs.Prelude.{ℕ, ◌+◌, List, take, drop, ◌==◌}
+-- Private: where a byte first occurs in a text, and what a suffix of a text is.
+use Rattle.std.specs.Prelude.{◌≡◌, ℕ, ◌+◌, ◌-◌, List, length, take, drop, ◌==◌}
 use Rattle.std.specs.List.{position_or_len}
 
 -- the first position of a byte, or the text's length
@@ -12,3 +12,7 @@ before_byte byte text = take (first_position byte text) text
 
 abbrev pub after_byte : ℕ → List ℕ → List ℕ
 after_byte byte text = drop (first_position byte text + 1) text
+
+-- the first list is the second without some of its first bytes
+abbrev pub IsSuffixOf : List ℕ → List ℕ → Type 0
+IsSuffixOf end whole = end ≡ drop (length whole - length end) whole

@@ -1,6 +1,6 @@
 //! The search for a byte in a suffix of a string, a block of bytes at a time.
 
-ghost use Rattle.std.specs.Prelude.{◌≡◌, ◌+◌, ◌<◌, ◌≤◌, length, take, drop, slice_index};
+ghost use Rattle.std.specs.Prelude.{◌≡◌, ◌+◌, ◌<◌, ◌≤◌, ◌↔◌, IsTrue, Some, length, take, drop, slice_index, slice_get};
 ghost use Rattle.std.specs.Str.{IsCharBoundary};
 ghost use Rattle.mime_search.specs.Suffixes.{first_position, before_byte, after_byte};
 
@@ -40,19 +40,18 @@ fn position_by_one(text: &[u8], byte: u8) -> usize
 #[derive(Drop)]
 pub struct Suffix<'a> {
     whole: &'a str,
-    /// Where the suffix begins.
-    at: usize,
+    text: &'a str,
 }
 
 impl<'a> Model for Suffix<'a> {
-    ghost use Rattle.std.specs.Prelude.{List, ℕ, drop};
-    ghost use Rattle.std.specs.Str.{IsCharBoundary};
+    ghost use Rattle.std.specs.Prelude.{List, ℕ};
+    ghost use Rattle.mime_search.specs.Suffixes.{IsSuffixOf};
 
     ghost Value = { List ℕ };
 
-    ghost view = { λ suffix. drop suffix.at suffix.whole.now };
+    ghost view = { λ end. end.text.now };
 
-    ghost invariant = { λ suffix. IsCharBoundary suffix.whole.now suffix.at };
+    ghost invariant = { λ end. IsSuffixOf end.text.now end.whole.now };
 }
 
 impl<'a> Suffix<'a> {
@@ -62,7 +61,10 @@ impl<'a> Suffix<'a> {
         requires { IsCharBoundary whole.now from }
         ensures { result ≡ drop from whole.entry.now }
     {
-        Suffix { whole, at: from }
+        Suffix {
+            whole,
+            text: &whole[from..],
+        }
     }
 
     /// The suffix itself.
@@ -70,7 +72,24 @@ impl<'a> Suffix<'a> {
     pub fn text(&self) -> &'a str
         ensures { result.now ≡ self.now }
     {
-        &self.whole[self.at..]
+        self.text
+    }
+
+    /// Its length in bytes.
+    #[inline(always)]
+    pub fn len(&self) -> usize
+        ensures { result ≡ length self.now }
+    {
+        self.text.len()
+    }
+
+    /// Whether it begins with a byte.
+    #[inline(always)]
+    pub fn begins_with(&self, byte: u8) -> bool
+        ensures begins { IsTrue result ↔ (slice_get self.now 0 ≡ Some byte) }
+        ensures boundary { IsTrue result → byte < 128 → IsCharBoundary self.now 1 }
+    {
+        !self.text.is_empty() && self.text.as_bytes()[0] == byte
     }
 
     /// Its own suffix from this position on.
@@ -81,7 +100,7 @@ impl<'a> Suffix<'a> {
     {
         Suffix {
             whole: self.whole,
-            at: self.at + from,
+            text: &self.text[from..],
         }
     }
 
@@ -90,19 +109,21 @@ impl<'a> Suffix<'a> {
     pub fn position_of(&self, byte: u8) -> usize
         ensures { result ≡ first_position byte self.now }
     {
-        let whole = self.whole.as_bytes();
+        let text = self.text.as_bytes();
         let class = Class::of(byte, byte);
-        if whole.len() - self.at >= BLOCK {
-            let stops = stops_in_block(whole, self.at, &class);
+        if text.len() >= BLOCK {
+            let stops = stops_in_block(text, 0, &class);
             if stops == 0 {
-                return position_far(whole, self.at + BLOCK, byte) - self.at;
+                return position_far(text, BLOCK, byte);
             }
             return stops.trailing_zeros() as usize;
         }
+        let whole = self.whole.as_bytes();
         if whole.len() < BLOCK {
-            return position_by_one(&whole[self.at..], byte);
+            return position_by_one(text, byte);
         }
-        first_stop_at_end(whole, self.at, &class) - self.at
+        let from = whole.len() - text.len();
+        first_stop_at_end(whole, from, &class) - from
     }
 
     /// Splits at the ASCII byte at `position`, which is dropped. At the end, returns the whole suffix and an empty one.

@@ -230,12 +230,12 @@ cut_after_equals-name size name [] = refl
 cut_after_equals-name size name (b ∷ back) = cond_both (b == quote_byte) _ _ (λ (cut : PairCut). cut.name ≡ name) (λ _. refl) (λ _. refl)
 
 -- a part of a cut by the name and what follows the equals sign is that of the whole cut
-pub cut_of-part : {X : Type 0} (part : PairCut → X) (list text name back : List ℕ) (x : X) → text ≡ list
+pub cut_of-part : {X : Type 0} (part : PairCut → X) (list name back : List ℕ) (size : ℕ) (x : X) → size ≡ length list
     → name ≡ before_byte equals_byte (without_spaces list) → back ≡ after_byte equals_byte (without_spaces list)
-    → x ≡ part (cut_after_equals (length text) name back) → x ≡ part (cut_of list)
+    → x ≡ part (cut_after_equals size name back) → x ≡ part (cut_of list)
 unfolding cut_of
-cut_of-part part list text name back x text_is name_is back_is is =
-    is ∙ (λ i. part (cut_after_equals (length (text_is i)) (name_is i) (back_is i)))
+cut_of-part part list name back size x size_is name_is back_is is =
+    is ∙ (λ i. part (cut_after_equals (size_is i) (name_is i) (back_is i)))
 
 -- so the cut has that name
 pub cut_of-name : (list name : List ℕ) → name ≡ before_byte equals_byte (without_spaces list) → name ≡ (cut_of list).name

@@ -79,11 +79,11 @@ pub(crate) fn lowercase_text(bytes: &mut [u8], text: &str, semicolon: usize, cou
     let mut left = Suffix::of(text, semicolon + 1);
     let mut from = 0;
     for _ in 0..count {
-        let start = bytes.len() - left.text().len();
+        let start = bytes.len() - left.len();
         let pair = cut(&left);
         let low = pair.value_start + low_len(pair.name, pair.value);
         lowercase_start(&mut bytes[from..], start - from + low);
-        from = bytes.len() - pair.rest.text().len();
+        from = bytes.len() - pair.rest.len();
         left = pair.rest;
     }
 }

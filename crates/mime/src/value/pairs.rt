@@ -84,11 +84,10 @@ fn leading_spaces(list: &str) -> usize
 fn after_semicolon<'a>(end: Suffix<'a>) -> Suffix<'a>
     ensures { result ≡ after_byte semicolon_byte end.entry }
 {
-    let text = end.text();
-    if text.is_empty() {
+    if end.len() == 0 {
         return end;
     }
-    if text.as_bytes()[0] == b';' {
+    if end.begins_with(b';') {
         return end.after(1);
     }
     end.split_at_first(b';').1
@@ -104,14 +103,13 @@ fn cut_value<'a>(list: usize, name: &'a str, end: &Suffix<'a>) -> Pair<'a>
     ensures value { result.value.now ≡ (cut_after_equals list name.entry.now end.now).value }
     ensures rest { result.rest ≡ (cut_after_equals list name.entry.now end.now).rest }
 {
-    let text = end.text();
-    if !text.is_empty() && text.as_bytes()[0] == b'"' {
+    if end.begins_with(b'"') {
         let content = end.after(1);
         let length = content_len(content.text().as_bytes(), content.position_of(b'"'));
         let (value, others) = content.split_around(length);
         return Pair {
             name,
-            value_start: list - content.text().len(),
+            value_start: list - content.len(),
             value,
             rest: after_semicolon(others),
         };
@@ -119,7 +117,7 @@ fn cut_value<'a>(list: usize, name: &'a str, end: &Suffix<'a>) -> Pair<'a>
     let (value, rest) = end.split_at_first(b';');
     Pair {
         name,
-        value_start: list - text.len(),
+        value_start: list - end.len(),
         value,
         rest,
     }
@@ -144,7 +142,7 @@ pub(crate) fn cut<'a>(list: &Suffix<'a>) -> Pair<'a>
     ensures rest { result.rest ≡ (cut_of list.now).rest }
 {
     let (name, rest) = cut_name(list);
-    cut_value(list.text().len(), name, &rest)
+    cut_value(list.len(), name, &rest)
 }
 
 /// The pairs of a list that are left, each a name and a value.
@@ -209,14 +207,14 @@ impl<'a> Pairs<'a> {
             });
             if accepted {
                 return Some(Name {
-                    text: cut_value(list.text().len(), name, &rest).value,
+                    text: cut_value(list.len(), name, &rest).value,
                     ignores_case: name == CHARSET.text,
                 });
             }
             if left == 1 {
                 return None;
             }
-            list = cut_value(list.text().len(), name, &rest).rest;
+            list = cut_value(list.len(), name, &rest).rest;
             left -= 1;
         }
         None

@@ -14,7 +14,7 @@ pub loop-init : goal.loop-init
 loop-init c = lowered_to-none _ _ _ _ _ _ c.requires.same c.of-left.ensures (omega arith) c.requires.some
 
 pub overflow_sub-start : goal.overflow_sub-start
-overflow_sub-start c = omega (arith, ap length c.text.ensures, lowered_to-sizes _ _ _ _ _ c.loop.invariant)
+overflow_sub-start c = omega (arith, c.len.ensures, lowered_to-sizes _ _ _ _ _ c.loop.invariant)
 
 pub overflow_add-low : goal.overflow_add-low
 overflow_add-low c =
@@ -25,36 +25,36 @@ pub slice_bounds-lowercase_start-count : goal.slice_bounds-lowercase_start-count
 slice_bounds-lowercase_start-count c = omega (arith, lowered_to-sizes _ _ _ _ _ c.loop.invariant)
 
 pub overflow_sub-start-in-loop : goal.overflow_sub-start-in-loop
-overflow_sub-start-in-loop c = omega (arith, ap length c.text.ensures, lowered_to-sizes _ _ _ _ _ c.loop.invariant)
+overflow_sub-start-in-loop c = omega (arith, c.len.ensures, lowered_to-sizes _ _ _ _ _ c.loop.invariant)
 
 pub overflow_add-start : goal.overflow_add-start
 overflow_add-start c =
     let cut = c.cut-pair.ensures in
     let within = low_within c.loop.left _ _ _ _ cut.value_start cut.value c.low_len.ensures in
-    omega (arith, within, ap length c.text.ensures, lowered_to-sizes _ _ _ _ _ c.loop.invariant)
+    omega (arith, within, c.len.ensures, lowered_to-sizes _ _ _ _ _ c.loop.invariant)
 
 pub lowercase_start-requires : goal.lowercase_start-requires
 lowercase_start-requires c =
     let cut = c.cut-pair.ensures in
     let within = low_within c.loop.left _ _ _ _ cut.value_start cut.value c.low_len.ensures in
     let size = ap length (take_rest c.loop.bytes c.loop.from) ∙ length-drop c.loop.from c.loop.bytes in
-    omega (arith, within, size, ap length c.text.ensures, lowered_to-sizes _ _ _ _ _ c.loop.invariant)
+    omega (arith, within, size, c.len.ensures, lowered_to-sizes _ _ _ _ _ c.loop.invariant)
 
 -- what a turn leaves
-next_turn : (c : goal.After-text-in-loop) → let new = put_mid c.loop.from (length c.loop.bytes - c.loop.from) c.loop.bytes c.lowercase_start.new.bytes in
+next_turn : (c : goal.After-len-in-loop) → let new = put_mid c.loop.from (length c.loop.bytes - c.loop.from) c.loop.bytes c.lowercase_start.new.bytes in
     IsLoweredTo new c.cut-pair.result.rest (length new - length c.cut-pair.result.rest) (c.args.count - (c.loop.counter + 1))
     (with_pairs_lowered c.args.count c.args.semicolon c.args.text.now)
 next_turn c =
     let cut = c.cut-pair.ensures in
     lowered_to-more c.loop.bytes c.loop.left c.lowercase_start.new.bytes c.cut-pair.result.rest c.loop.from c.low_len.result _ _ _ c.loop.invariant
     (omega (arith, c.loop-test.true)) (c.low_len.ensures ∙ rw (cut.name, cut.value) refl)
-    (c.lowercase_start.ensures ∙ rw (c.text.ensures, cut.value_start) refl) cut.rest
+    (c.lowercase_start.ensures ∙ rw (c.len.ensures, cut.value_start) refl) cut.rest
 
 pub overflow_sub-from : goal.overflow_sub-from
-overflow_sub-from c = omega (arith, ap length c.text-in-loop.ensures, lowered_to-sizes _ _ _ _ _ (next_turn c))
+overflow_sub-from c = omega (arith, c.len-in-loop.ensures, lowered_to-sizes _ _ _ _ _ (next_turn c))
 
 pub loop-preserved : goal.loop-preserved
-loop-preserved c = rw c.text-in-loop.ensures (next_turn c)
+loop-preserved c = rw c.len-in-loop.ensures (next_turn c)
 
 pub returns : goal.returns
 returns c = lowered_to-all _ _ _ _ _ c.loop.invariant (omega arith)

@@ -1,21 +1,12 @@
--- A quote is ASCII: the text may be cut after it, and the byte after the content is a quote too.
+-- The byte after the content is a quote, which is ASCII.
 use Rattle.std.proofs.Common.{rules, subst, refl, sym, ◌≡◌, ◌<◌, ◌-◌, ◌∙◌, ap, ℕ, List, [], ◌∷◌, length, get_or, drop, arith}
-use Rattle.std.proofs.lemmas.Bool.Decides.{nat_tests}
-use Rattle.std.proofs.lemmas.Str.{IsCharBoundary-after_ascii}
-use Rattle.std.specs.Str.{IsCharBoundary}
+use Rattle.std.proofs.lemmas.Option.{get_or_from_slice_get}
 use Rattle.mime.specs.Bytes.{quote_byte, semicolon_byte}
 use Rattle.mime_search.specs.Suffixes.{after_byte}
 use Rattle.mime.specs.Inner.Pairs.{cut_after_equals}
 use Rattle.mime.specs.Inner.Quoted.{content_len, content_of, after_content}
 use Rattle.mime.proofs.ValueLemmas.Pairs.{content_len-le, get_or-content_len}
 use Rattle.mime.proofs.value.pairs.cut_value.Goals as goal
-
-pub after-content-requires : goal.after-content-requires
-after-content-requires c =
-    let text = c.text-text.result.now in
-    let within : 0 < length text = grind (arith, nat_tests, c.is_empty.ensures, c.if-not-is_empty.true) in
-    let quote : get_or text 0 0 ≡ quote_byte = ap (λ (t : List ℕ). get_or t 0 0) (sym c.as_bytes.ensures.value) ∙ c.if-as_bytes-eq34.true in
-    subst (λ t. IsCharBoundary t 1) c.text-text.ensures (IsCharBoundary-after_ascii text 0 c.text-text.utf8 within (omega arith))
 
 -- what a cut is where a quote begins the text
 cut_quoted : (list : ℕ) (name text : List ℕ) → get_or text 0 0 ≡ quote_byte → cut_after_equals list name text ≡ (record {
@@ -27,11 +18,10 @@ cut_quoted : (list : ℕ) (name text : List ℕ) → get_or text 0 0 ≡ quote_b
 cut_quoted list name [] quote = absurd (omega (arith, quote))
 cut_quoted list name (b ∷ text) quote = rw quote refl
 
-pub returns-then-as_bytes-eq34 : goal.returns-then-as_bytes-eq34
-returns-then-as_bytes-eq34 c =
-    let length = c.content_len-length.ensures ∙ ap content_len (c.as_bytes-then-as_bytes-eq34.ensures.value ∙ c.text.ensures) in
-    let quote : get_or c.args.end.now 0 0 ≡ quote_byte =
-    ap (λ (t : List ℕ). get_or t 0 0) (sym (c.as_bytes.ensures.value ∙ c.text-text.ensures)) ∙ c.if-as_bytes-eq34.true in
+pub returns-then-begins_with : goal.returns-then-begins_with
+returns-then-begins_with c =
+    let length = c.content_len-length.ensures ∙ ap content_len (c.as_bytes.ensures.value ∙ c.text.ensures) in
+    let quote = get_or_from_slice_get c.args.end.now 0 quote_byte 0 (c.begins_with.ensures.begins.0 c.if-begins_with.true) in
     let cut = cut_quoted c.args.list c.args.name.now c.args.end.now quote in
     record {
       name = rw cut refl;
@@ -42,9 +32,9 @@ returns-then-as_bytes-eq34 c =
 
 pub split_around-others-requires-clause-within : goal.split_around-others-requires-clause-within
 split_around-others-requires-clause-within c =
-    content_len-le _ _ (c.content_len-length.ensures ∙ ap content_len (c.as_bytes-then-as_bytes-eq34.ensures.value ∙ c.text.ensures))
+    content_len-le _ _ (c.content_len-length.ensures ∙ ap content_len (c.as_bytes.ensures.value ∙ c.text.ensures))
 
 pub split_around-others-requires-clause-ascii : goal.split_around-others-requires-clause-ascii
 split_around-others-requires-clause-ascii c = λ within.
-    let length = c.content_len-length.ensures ∙ ap content_len (c.as_bytes-then-as_bytes-eq34.ensures.value ∙ c.text.ensures) in
+    let length = c.content_len-length.ensures ∙ ap content_len (c.as_bytes.ensures.value ∙ c.text.ensures) in
     omega (arith, get_or-content_len _ _ length within)

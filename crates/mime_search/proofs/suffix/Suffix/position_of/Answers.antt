@@ -1,5 +1,5 @@
--- The string is searched from the suffix's first block on, or its last block.
-use Rattle.std.proofs.Common.{◌≡◌, ◌+◌, drop, ◌∙◌, ap, arith}
+-- The suffix is searched from its first block on, or the string's last block.
+use Rattle.std.proofs.Common.{◌≡◌, ◌-◌, length, drop, ◌∙◌, ap, sym, arith}
 use Rattle.mime_search.specs.Classes.{is_stop}
 use Rattle.mime_search.proofs.Searches.{no_stop, a_stop, first_stop-position}
 use Rattle.mime_search.specs.Suffixes.{first_position}
@@ -7,39 +7,34 @@ use Rattle.mime_search.proofs.suffix.Suffix.position_of.Goals as goal
 
 pub returns-then-stops-eq0 : goal.returns-then-stops-eq0
 returns-then-stops-eq0 c =
-    let whole = c.as_bytes-whole.result.now in
-    let from = c.self.inside.at in
-    let at = first_stop-position c.of-class.result c.args.byte c.of-class.ensures whole in
-    let passed = no_stop (is_stop c.of-class.result) whole from 16 _ (omega (arith, c.if-whole-self-ge-BLOCK.true)) (omega arith)
+    let text = c.as_bytes-text.result.now in
+    let at = first_stop-position c.of-class.result c.args.byte c.of-class.ensures text in
+    let passed = no_stop (is_stop c.of-class.result) text 0 16 _ (omega (arith, c.if-text-ge-BLOCK.true)) (omega arith)
     c.stops_in_block-stops.ensures.mask c.if-stops-eq0.true in
-    omega (
-      arith,
-      c.position_far.ensures,
-      passed,
-      at (from + 16),
-      at from,
-      ap (first_position c.args.byte) (ap (drop from) c.as_bytes-whole.ensures.value ∙ c.self.view_is),
-    )
+    let is : c.position_far.result ≡ first_position c.args.byte text = omega (arith, c.position_far.ensures, passed, at 16, at 0) in
+    is ∙ ap (first_position c.args.byte) (c.as_bytes-text.ensures.value ∙ c.self.view_is)
 
-pub returns-then-whole-self-ge-BLOCK : goal.returns-then-whole-self-ge-BLOCK
-returns-then-whole-self-ge-BLOCK c =
-    let whole = c.as_bytes-whole.result.now in
-    let from = c.self.inside.at in
+pub returns-then-text-ge-BLOCK : goal.returns-then-text-ge-BLOCK
+returns-then-text-ge-BLOCK c =
+    let text = c.as_bytes-text.result.now in
     omega (
       arith,
-      a_stop (is_stop c.of-class.result) whole from 16 _ (omega (arith, c.if-whole-self-ge-BLOCK.true)) (omega arith)
+      a_stop (is_stop c.of-class.result) text 0 16 _ (omega (arith, c.if-text-ge-BLOCK.true)) (omega arith)
           c.stops_in_block-stops.ensures.mask c.if-stops-eq0.false,
-      first_stop-position c.of-class.result c.args.byte c.of-class.ensures whole from,
-      ap (first_position c.args.byte) (ap (drop from) c.as_bytes-whole.ensures.value ∙ c.self.view_is),
+      first_stop-position c.of-class.result c.args.byte c.of-class.ensures text 0,
     )
+    ∙ ap (first_position c.args.byte) (c.as_bytes-text.ensures.value ∙ c.self.view_is)
 
 pub returns : goal.returns
 returns c =
     let whole = c.as_bytes-whole.result.now in
-    let from = c.self.inside.at in
+    let text = c.as_bytes-text.result.now in
+    let whole_is = c.as_bytes-whole.ensures.value in
+    let suffix = (λ i. drop (length (whole_is i) - length (c.as_bytes-text.ensures.value i)) (whole_is i))
+    ∙ sym c.self.invariant ∙ c.self.view_is in
     omega (
       arith,
       c.first_stop_at_end.ensures,
-      first_stop-position c.of-class.result c.args.byte c.of-class.ensures whole from,
-      ap (first_position c.args.byte) (ap (drop from) c.as_bytes-whole.ensures.value ∙ c.self.view_is),
+      first_stop-position c.of-class.result c.args.byte c.of-class.ensures whole (length whole - length text),
+      ap (first_position c.args.byte) suffix,
     )

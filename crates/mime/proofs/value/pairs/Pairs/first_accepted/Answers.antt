@@ -17,7 +17,7 @@ returns-then-accepted g c =
     let cut = c.cut_name-rest in
     let name = cut_of-name list cut.result.0.now cut.ensures.name in
     let valued : c.cut_value.result.value.now ≡ (cut_of list).value =
-    cut_of-part (λ (p : PairCut). p.value) list c.text.result.now cut.result.0.now cut.result.1 _ c.text.ensures cut.ensures.name
+    cut_of-part (λ (p : PairCut). p.value) list cut.result.0.now cut.result.1 c.len.result _ c.len.ensures cut.ensures.name
     cut.ensures.rest c.cut_value.ensures.value in
     let flagged : c.eq.result ≡ bytes_eq (cut_of list).name (codes "charset") =
     c.eq.ensures ∙ ap (λ n. bytes_eq n (codes "charset")) name in
@@ -47,7 +47,7 @@ loop-left-preserved g c =
     let cut = c.cut_name-rest in
     let name = cut_of-name list cut.result.0.now cut.ensures.name in
     let rest : c.cut_value-in-loop-left.result.rest ≡ (cut_of list).rest =
-    cut_of-part (λ (p : PairCut). p.rest) list c.text-in-loop-left.result.now cut.result.0.now cut.result.1 _ c.text-in-loop-left.ensures
+    cut_of-part (λ (p : PairCut). p.rest) list cut.result.0.now cut.result.1 c.len-in-loop-left.result _ c.len-in-loop-left.ensures
     cut.ensures.name cut.ensures.rest c.cut_value-in-loop-left.ensures.rest in
     record {
       decides = λ found is. c.loop-left.invariant.decides found
