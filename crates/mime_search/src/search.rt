@@ -67,16 +67,17 @@ pub fn first_stop(text: &[u8], from: usize, class: &Class) -> usize
     ensures end { result ≡ end_of_run class.now text.now from }
     ensures within { result ≤ length text.now }
 {
+    if text.len() < BLOCK {
+        return first_stop_by_bytes(text, from, class);
+    }
+    let last = text.len() - BLOCK;
     let mut at = from;
-    while text.len() - at >= BLOCK {
+    while at <= last {
         let stops = stops_in_block(text, at, class);
         if stops != 0 {
             return at + stops.trailing_zeros() as usize;
         }
         at += BLOCK;
-    }
-    if text.len() < BLOCK {
-        return first_stop_by_bytes(text, at, class);
     }
     first_stop_at_end(text, at, class)
 }
