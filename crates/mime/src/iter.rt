@@ -92,23 +92,25 @@ fn read_piece<'a>(text: &'a str, first: u8, reader: &mut ByteReader<'_>) -> Read
     }
     let verdict = scan_after(first, reader);
     let steps = reader.count();
-    match verdict {
-        Verdict::Accepted(positions) => ReadPiece {
-            piece: text,
-            positions: Some(positions),
-            left: nothing_of(text),
-            steps,
-        },
-        Verdict::Unfinished(_) => ReadPiece::none(text, steps),
-        Verdict::Stopped(_, positions) => {
-            let end = reader.position(from);
-            ReadPiece {
-                piece: &text[..end],
-                positions,
-                left: &text[text.ceil_char_boundary(end + 1)..],
+    let positions = match verdict {
+        Verdict::Accepted(positions) => {
+            return ReadPiece {
+                piece: text,
+                positions: Some(positions),
+                left: nothing_of(text),
                 steps,
-            }
+            };
         }
+        Verdict::Unfinished(_) => return ReadPiece::none(text, steps),
+        Verdict::Stopped(_) => None,
+        Verdict::Followed(positions, _) => Some(positions),
+    };
+    let end = reader.position(from);
+    ReadPiece {
+        piece: &text[..end],
+        positions,
+        left: &text[text.ceil_char_boundary(end + 1)..],
+        steps,
     }
 }
 

@@ -39,9 +39,11 @@ pub(crate) enum Verdict {
     Accepted(Positions),
     /// It ends too early: this is missing.
     Unfinished(ParseError),
-    /// No media type continues with this byte, the last one read. The positions are those of the parts of the string
-    /// before it, if that is a media type by itself.
-    Stopped(u8, Option<Positions>),
+    /// No media type continues with this byte, the last one read, and the string before it is none.
+    Stopped(u8),
+    /// The string before this byte, the last one read, is a media type, whose parts have these positions, and no media type
+    /// continues with the byte. It stands last, so that the positions are where those of an accepted string are.
+    Followed(Positions, u8),
 }
 
 /// Reads the bytes of a token, up to a plus unless `with_plus`, and returns the byte that ends them.
@@ -145,12 +147,12 @@ pub(crate) fn parameters(reader: &mut ByteReader<'_>, before: Positions) -> Verd
             return Verdict::Accepted(positions);
         };
         if !is_token(first) {
-            return Verdict::Stopped(first, Some(positions));
+            return Verdict::Followed(positions, first);
         }
         match token(reader, true) {
             None => return Verdict::Unfinished(ParseError::MissingEqual),
             Some(b'=') => {}
-            Some(byte) => return Verdict::Stopped(byte, None),
+            Some(byte) => return Verdict::Stopped(byte),
         }
         let Some(first) = reader.next() else {
             return Verdict::Unfinished(ParseError::MissingValue);
@@ -159,19 +161,19 @@ pub(crate) fn parameters(reader: &mut ByteReader<'_>, before: Positions) -> Verd
             match content(reader) {
                 None => return Verdict::Unfinished(ParseError::MissingQuote),
                 Some(b'"') => {}
-                Some(byte) => return Verdict::Stopped(byte, None),
+                Some(byte) => return Verdict::Stopped(byte),
             }
             spaces(reader)
         } else if is_token(first) {
             token(reader, true)
         } else {
-            return Verdict::Stopped(first, None);
+            return Verdict::Stopped(first);
         };
         positions.pair_count += 1;
         match stop {
             None => return Verdict::Accepted(positions),
             Some(b';') => {}
-            Some(byte) => return Verdict::Stopped(byte, Some(positions)),
+            Some(byte) => return Verdict::Followed(positions, byte),
         }
     }
 }
@@ -199,19 +201,19 @@ pub(crate) fn scan_after(first: u8, reader: &mut ByteReader<'_>) -> Verdict
 {
     let from = reader.count() - 1;
     if !is_token(first) {
-        return Verdict::Stopped(first, None);
+        return Verdict::Stopped(first);
     }
     match token(reader, true) {
         None => return Verdict::Unfinished(ParseError::MissingSlash),
         Some(b'/') => {}
-        Some(byte) => return Verdict::Stopped(byte, None),
+        Some(byte) => return Verdict::Stopped(byte),
     }
     let slash = reader.position(from);
     let Some(first) = reader.next() else {
         return Verdict::Unfinished(ParseError::MissingSubtype);
     };
     if !is_token(first) {
-        return Verdict::Stopped(first, None);
+        return Verdict::Stopped(first);
     }
     let (plus, stop) = subtype(reader, from);
     let mut positions = Positions {
@@ -223,7 +225,7 @@ pub(crate) fn scan_after(first: u8, reader: &mut ByteReader<'_>) -> Verdict
     match stop {
         None => return Verdict::Accepted(positions),
         Some(b';') => {}
-        Some(byte) => return Verdict::Stopped(byte, Some(positions)),
+        Some(byte) => return Verdict::Followed(positions, byte),
     }
     positions.semicolon = Some(reader.position(from));
     parameters(reader, positions)

@@ -124,7 +124,7 @@ impl Mime {
         let positions = match scan(&mut reader) {
             Verdict::Accepted(positions) => positions,
             Verdict::Unfinished(fault) => return Err(FromStrError::new(fault)),
-            Verdict::Stopped(byte, _) => {
+            Verdict::Stopped(byte) | Verdict::Followed(_, byte) => {
                 let pos = reader.position(0);
                 return Err(FromStrError::new(ParseError::InvalidToken { pos, byte }));
             }

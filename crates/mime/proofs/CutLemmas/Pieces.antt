@@ -15,12 +15,12 @@ use Rattle.mime.specs.Values.{IsAccepted, IsRejected}
 use Rattle.mime.specs.Faults.{IsViable, IsLongestPrefix, IsDeadAt}
 use Rattle.mime.specs.Cut.{is_following_byte, BeginsCharacter, IsCharacter, IsSplit, CutItem, good, bad, ItemsOf, is_read, is_rejected, is_empty, Cut, whole, unfinished, goes_on, TakesSteps}
 use Rattle.mime.specs.Inner.Remaining.{Remaining}
-use Rattle.mime.specs.Inner.Scanning.{HasPositions, Judges, Scans}
+use Rattle.mime.specs.Inner.Scanning.{HasPositions, StopsAt, Judges, Scans}
 use Rattle.mime.specs.Inner.BetweenCalls.{IsUnderWay, IsFirstPiece, ReadsPiece}
 use Rattle.mime.specs.declared.scan.fault.ParseError.{ParseError}
 use Rattle.mime.specs.declared.scan.Positions.{Positions}
 use Rattle.mime.specs.declared.scan.Verdict.{Verdict}
-use Rattle.mime.specs.declared.scan.Verdict.TheVariants.{Accepted, Unfinished, Stopped}
+use Rattle.mime.specs.declared.scan.Verdict.TheVariants.{Accepted, Unfinished}
 use Rattle.mime.proofs.GrammarLemmas.Characters.{following-low, prefix_ends_between_characters}
 use Rattle.mime.proofs.CutLemmas.Cuts.{empty-rejected, empty-cut, split-size, split-from_dead, cut_unique, takes-split, takes-viable, takes-empty}
 use Rattle.mime.proofs.GrammarLemmas.Begun.{in_type}
@@ -76,7 +76,7 @@ judged-from_scan old new text from steps verdict scans left begin end = rw (left
 
 -- where it stopped the text may be cut, and isn't at its end
 pub stopped-boundary : (text : List ℕ) (steps at byte : ℕ) (positions : Option Positions) → IsUtf8 text
-    → Judges text steps (Stopped byte positions) → at ≡ steps - 1 → IsCharBoundary text at × (0 < length (drop at text))
+    → StopsAt text steps byte positions → at ≡ steps - 1 → IsCharBoundary text at × (0 < length (drop at text))
 stopped-boundary text steps at byte positions utf8 (some, dead, before) is_at = (
   rw is_at (prefix_ends_between_characters text (steps - 1) utf8 dead.prefix),
   omega (arith, length-drop at text, is_at, slice_get_within text (steps - 1) byte dead.there),
@@ -169,7 +169,7 @@ after_position text at end there past border near =
 
 -- a text is split where the scanner stops
 pub passes-stopped : (text piece left : List ℕ) (steps at end byte : ℕ) (positions : Option Positions)
-    → Judges text steps (Stopped byte positions) → at ≡ steps - 1 → piece ≡ take at text → left ≡ drop end text
+    → StopsAt text steps byte positions → at ≡ steps - 1 → piece ≡ take at text → left ≡ drop end text
     → (at + 1 ≤ length text → at + 1 ≤ end) → IsCharBoundary text end → ((i : ℕ) → at + 1 ≤ i → i < end → ¬ (IsCharBoundary text i))
     → ReadsPiece text piece positions left steps
 passes-stopped text piece left steps at end byte positions (given, dead_at, rejected) is_at is_piece is_left past border near =

@@ -5,11 +5,11 @@ use Rattle.std.proofs.lemmas.List.{take_at}
 use Rattle.mime.specs.Grammar.{Parameter, Parameters, more, listed, SyntaxTree, text_of}
 use Rattle.mime.specs.Values.{pairs_of_list, IsRejected}
 use Rattle.mime.specs.Inner.Remaining.{Remaining}
-use Rattle.mime.specs.Inner.Scanning.{Given, positions_of, HasPositions, Judges, before_list, ScansList, Scans}
+use Rattle.mime.specs.Inner.Scanning.{Given, positions_of, HasPositions, StopsAt, Judges, before_list, ScansList, Scans}
 use Rattle.mime.specs.declared.scan.Positions.{Positions}
 use Rattle.mime.specs.declared.scan.fault.ParseError.{ParseError}
 use Rattle.mime.specs.declared.scan.Verdict.{Verdict}
-use Rattle.mime.specs.declared.scan.Verdict.TheVariants.{Accepted, Unfinished, Stopped}
+use Rattle.mime.specs.declared.scan.Verdict.TheVariants.{Accepted, Unfinished, Stopped, Followed}
 use Rattle.mime.proofs.GrammarLemmas.Begun.{Begun, in_type, in_list, BegunList, begun_list, grow, grow_list, walk, walk_from, walk_list, with_closed, list_at_end, tree_of, lacking, lacking_list, walk_by-append_some, walk_from-in_list}
 use Rattle.mime.proofs.ScanLemmas.Passing.{given_then, given_whole}
 use Rattle.mime.proofs.GrammarLemmas.Readings.{accepted-from_walk, rejected-from_walk, walk-head}
@@ -63,7 +63,14 @@ list_byte r e = λ top sub. reaches_byte (r top sub) (ap (option_map (in_list to
 abbrev verdict_at : Option ℕ → Option Positions → ParseError → Verdict
 verdict_at None None fault = Unfinished fault
 verdict_at None (Some positions) fault = Accepted positions
-verdict_at (Some b) positions fault = Stopped b positions
+verdict_at (Some b) None fault = Stopped b
+verdict_at (Some b) (Some positions) fault = Followed positions b
+
+-- that at a byte says of the text what is known of it
+judges-stop : (text : List ℕ) (count b : ℕ) (positions : Option Positions) (fault : ParseError) → StopsAt text count b positions
+    → Judges text count (verdict_at (Some b) positions fault)
+judges-stop text count b None fault stops = stops
+judges-stop text count b (Some positions) fault stops = stops
 
 -- a text that is walked to a complete tree has that tree's positions
 has_positions : (text : List ℕ) (begun : Begun) (tree : SyntaxTree) → walk text ≡ Some begun → tree_of begun ≡ Some tree
@@ -99,7 +106,7 @@ scans_at {old} {now} {stop = Some b} {begun} positions r dead e =
     let size : now.count - old.count - 1 ≡ length r.run = omega (arith, r.given.counted) in
     record {
       counted = omega (arith, r.given.counted);
-      judged = (
+      judged = judges-stop _ _ b positions _ (
         omega (arith, r.given.counted),
         rw (size, r.given.bytes) (dead-from_walk r.run now.left b begun r.walked dead),
         rw (e, size, r.given.bytes, take_at r.run (b ∷ now.left) (length r.run) refl)

@@ -8,7 +8,7 @@ use Rattle.mime.specs.Values.{last_plus, pairs_of_tail, IsRejected}
 use Rattle.mime.specs.Faults.{IsViable, IsDeadAt, IsFault}
 use Rattle.mime.specs.declared.scan.Positions.{Positions}
 use Rattle.mime.specs.declared.scan.Verdict.{Verdict}
-use Rattle.mime.specs.declared.scan.Verdict.TheVariants.{Accepted, Unfinished, Stopped}
+use Rattle.mime.specs.declared.scan.Verdict.TheVariants.{Accepted, Unfinished, Stopped, Followed}
 use Rattle.mime.specs.Inner.Remaining.{Remaining}
 use Rattle.mime.specs.Inner.Quoted.{IsOpenContent, continues}
 
@@ -58,12 +58,17 @@ pub record HasPositions (text : List ℕ) (positions : Positions) : Type 0 where
   pub spelled : text_of tree ≡ text
   pub same_positions : positions_of tree ≡ positions
 
--- what the scanner finds in a text, after it was given `count` bytes; where it stops, the last of them is at fault
+-- the last of `count` bytes is at fault, and the text before it is rejected, or accepted with its parts at these positions
+abbrev pub StopsAt : List ℕ → ℕ → ℕ → Option Positions → Type 0
+StopsAt text count byte positions = (0 < count) × IsDeadAt text (count - 1) byte
+    × MatchOption positions (IsRejected (take (count - 1) text)) (λ p. HasPositions (take (count - 1) text) p)
+
+-- what the scanner finds in a text, after it was given `count` bytes
 abbrev pub Judges : List ℕ → ℕ → Verdict → Type 0
 Judges text count (Accepted positions) = (count ≡ length text) × HasPositions text positions
 Judges text count (Unfinished fault) = (count ≡ length text) × IsFault text fault × IsViable text
-Judges text count (Stopped byte positions) = (0 < count) × IsDeadAt text (count - 1) byte
-    × MatchOption positions (IsRejected (take (count - 1) text)) (λ p. HasPositions (take (count - 1) text) p)
+Judges text count (Stopped byte) = StopsAt text count byte None
+Judges text count (Followed positions byte) = StopsAt text count byte (Some positions)
 
 -- the scanner's answer, with the bytes that it took
 pub record Scans (old new : Remaining) (verdict : Verdict) : Type 0 where

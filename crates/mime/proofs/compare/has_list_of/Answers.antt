@@ -5,7 +5,7 @@ use Rattle.mime.specs.Values.{IsRejected}
 use Rattle.mime.specs.Inner.Scanning.{Judges}
 use Rattle.mime.specs.declared.scan.Positions.{Positions}
 use Rattle.mime.specs.declared.scan.Verdict.{Verdict}
-use Rattle.mime.specs.declared.scan.Verdict.TheVariants.{Accepted, Unfinished, Stopped}
+use Rattle.mime.specs.declared.scan.Verdict.TheVariants.{Accepted, Unfinished, Stopped, Followed}
 use Rattle.mime.proofs.BytesLemmas.{boundary_after}
 use Rattle.mime.proofs.ValueLemmas.Reading.{accepted-from_positions, one_positions, rejected-from_fault}
 use Rattle.mime.proofs.GrammarLemmas.Viability.{rejected-at_dead}
@@ -17,7 +17,8 @@ rejected-not_accepted : (text : List ℕ) (count : ℕ) (verdict : Verdict) → 
     → ((positions : Positions) → verdict ≢ Accepted positions) → IsRejected text
 rejected-not_accepted text count (Accepted positions) judged other = absurd (other positions refl)
 rejected-not_accepted text count (Unfinished fault) judged other = rejected-from_fault _ _ judged.1
-rejected-not_accepted text count (Stopped byte positions) judged other = rejected-at_dead _ _ _ judged.1
+rejected-not_accepted text count (Stopped byte) judged other = rejected-at_dead _ _ _ judged.1
+rejected-not_accepted text count (Followed positions byte) judged other = rejected-at_dead _ _ _ judged.1
 
 pub of-list-requires : goal.of-list-requires
 of-list-requires c =
