@@ -1,5 +1,5 @@
 -- The byte after the content is a quote, which is ASCII.
-use Rattle.std.proofs.Common.{rules, subst, refl, sym, ◌≡◌, ◌<◌, ◌-◌, ◌∙◌, ap, ℕ, List, [], ◌∷◌, length, get_or, drop, arith}
+use Rattle.std.proofs.Common.{rules, refl, ◌≡◌, ◌-◌, ◌∙◌, ap, ℕ, List, [], ◌∷◌, length, get_or, drop, arith}
 use Rattle.std.proofs.lemmas.Option.{get_or_from_slice_get}
 use Rattle.mime.specs.Bytes.{quote_byte, semicolon_byte}
 use Rattle.mime_search.specs.Suffixes.{after_byte}
