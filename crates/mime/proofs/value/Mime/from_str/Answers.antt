@@ -20,8 +20,8 @@ returns-in-Unfinished-clause-star c = λ star.
     absurd (rejected-from_fault _ _ (rw c.by_blocks-reader.ensures.left at c.in-Unfinished.ensures.judged.1) (star-accepted _ star))
 
 -- where the scanner stopped
-stopped : (c : In-Stopped) → IsDeadAt c.args.s.now (c.scan.new.reader.count - c.by_blocks-reader.result.count - 1) c.in-Stopped.byte
-stopped c =
+dead_at_stop : (c : In-Stopped) → IsDeadAt c.args.s.now (c.scan.new.reader.count - c.by_blocks-reader.result.count - 1) c.in-Stopped.byte
+dead_at_stop c =
     elim c.in-Stopped.is [
       | inl is ↦ (rw (is, c.by_blocks-reader.ensures.left) at c.scan.ensures.judged).1
       | inr (positions, is) ↦ (rw (is, c.by_blocks-reader.ensures.left) at c.scan.ensures.judged).1
@@ -29,11 +29,11 @@ stopped c =
 
 pub returns-in-Stopped-clause-accepted : goal.returns-in-Stopped-clause-accepted
 returns-in-Stopped-clause-accepted c = λ accepted.
-    absurd (rejected-at_dead _ _ _ (stopped (goal.at.returns-in-Stopped-clause-accepted c).In-Stopped) accepted)
+    absurd (rejected-at_dead _ _ _ (dead_at_stop (goal.at.returns-in-Stopped-clause-accepted c).In-Stopped) accepted)
 
 pub returns-in-Stopped-clause-star : goal.returns-in-Stopped-clause-star
 returns-in-Stopped-clause-star c = λ star.
-    absurd (rejected-at_dead _ _ _ (stopped (goal.at.returns-in-Stopped-clause-star c).In-Stopped) (star-accepted _ star))
+    absurd (rejected-at_dead _ _ _ (dead_at_stop (goal.at.returns-in-Stopped-clause-star c).In-Stopped) (star-accepted _ star))
 
 pub returns-in-Unfinished-clause-explained : goal.returns-in-Unfinished-clause-explained
 returns-in-Unfinished-clause-explained c =
@@ -42,7 +42,7 @@ returns-in-Unfinished-clause-explained c =
 pub returns-in-Stopped-clause-explained : goal.returns-in-Stopped-clause-explained
 returns-in-Stopped-clause-explained c =
     rw (c.new-in-Stopped.ensures, c.position-pos.ensures, sym c.by_blocks-reader.ensures.count)
-    (stopped (goal.at.returns-in-Stopped-clause-explained c).In-Stopped)
+    (dead_at_stop (goal.at.returns-in-Stopped-clause-explained c).In-Stopped)
 
 pub returns-clause-read : goal.returns-clause-read
 returns-clause-read c = c.of_accepted.ensures.read
