@@ -42,7 +42,7 @@ pub(crate) enum Verdict {
     /// No media type continues with this byte, the last one read, and the string before it is none.
     Stopped(u8),
     /// The string before this byte, the last one read, is a media type, whose parts have these positions, and no media type
-    /// continues with the byte. It stands last, so that the positions are where those of an accepted string are.
+    /// continues with the byte. The byte stands last, so that the positions lie where those of an accepted string do.
     Followed(Positions, u8),
 }
 
