@@ -48,10 +48,23 @@ use mime_examples::callers::{has_suffix, reads_alike};
 use mime_examples::reader::reader_of;
 use mime_examples::utf8::says_utf8;
 use mime_http::{FieldError, content_type, is_boundary};
+use std::alloc::Global;
 
 /// Writes what is said of a row.
 pub(crate) fn show_row(rt: &HostRuntime, out: &mut String, word: &str, strings: &[String]) {
-    let alloc = rt.alloc();
+    let is_known = show_of_library(rt.alloc(), out, word, strings)
+        || show_of_headers(rt.alloc(), out, word, strings)
+        || show_of_recipes(rt, out, word, strings);
+    if !is_known {
+        show_text(out, None);
+    }
+    if !out.ends_with('\n') {
+        let _ = out.push('\n');
+    }
+}
+
+/// Writes what the library says of a row, if the word is of one.
+fn show_of_library(alloc: Global, out: &mut String, word: &str, strings: &[String]) -> bool {
     let one = string_at(strings, 0);
     let two = string_at(strings, 1);
     let three = string_at(strings, 2);
@@ -73,7 +86,17 @@ pub(crate) fn show_row(rt: &HostRuntime, out: &mut String, word: &str, strings: 
         "read" => show_parse(alloc, out, one),
         "sets" => show_sets(alloc, out, one, two),
         "short_verdicts" => show_short_verdicts(alloc, out),
+        _ => return false,
+    }
+    true
+}
 
+/// Writes what `mime_http` says of a row, if the word is of one.
+fn show_of_headers(alloc: Global, out: &mut String, word: &str, strings: &[String]) -> bool {
+    let one = string_at(strings, 0);
+    let two = string_at(strings, 1);
+    let three = string_at(strings, 2);
+    match word {
         "accept" => show_accept(alloc, out, one),
         "accept in Latin-1" => show_accept_in_latin_1(alloc, out, one),
         "best" => show_best(alloc, out, strings),
@@ -90,7 +113,17 @@ pub(crate) fn show_row(rt: &HostRuntime, out: &mut String, word: &str, strings: 
         "with_boundary" => show_with_boundary(alloc, out, one, two),
         "with_charset" => show_with_charset(alloc, out, one, two),
         "with_parameter" => show_with_parameter(alloc, out, one, two, three),
+        _ => return false,
+    }
+    true
+}
 
+/// Writes what the recipes say of a row, if the word is of one.
+fn show_of_recipes(rt: &HostRuntime, out: &mut String, word: &str, strings: &[String]) -> bool {
+    let alloc = rt.alloc();
+    let one = string_at(strings, 0);
+    let two = string_at(strings, 1);
+    match word {
         "accepts_html" => show_accepts_html(alloc, out, one),
         "bare_of" => show_bare_of(alloc, out, one),
         "caret_line" => show_caret_line(alloc, out, one),
@@ -121,9 +154,7 @@ pub(crate) fn show_row(rt: &HostRuntime, out: &mut String, word: &str, strings: 
         "type_for" => show_type_for(alloc, out, one, two),
         "type_of_file" => show_type_of_file(alloc, out, one),
         "vendor_json" => show_vendor_json(alloc, out, one),
-        _ => show_text(out, None),
+        _ => return false,
     }
-    if !out.ends_with('\n') {
-        let _ = out.push('\n');
-    }
+    true
 }
