@@ -9,11 +9,11 @@ use crate::scan::Positions;
 /// The positions of the parts of a text but for the end of its essence, and its number of parameters, in one word each.
 #[derive(Clone, Copy)]
 pub(crate) struct Places {
-    /// The plus before the suffix, or 0, which says that there is none.
-    pub(crate) plus: usize,
-    pub(crate) pair_count: usize,
-    // Last, where an error of `from_str` has its byte: LLVM writes a constant there in parts, and this is none.
     pub(crate) slash: usize,
+    pub(crate) pair_count: usize,
+    /// The plus before the suffix, or 0, which says that there is none.
+    // Last, where an error of `from_str` has its byte: LLVM writes a constant there in parts, unless it is 0 beside others.
+    pub(crate) plus: usize,
 }
 
 impl Places {
