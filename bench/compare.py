@@ -1,13 +1,16 @@
-"""Times the workloads of bench/workloads.txt in two built checkouts: bench/run OLD NEW [SEED]."""
+"""Counts and times the workloads of bench/workloads.txt in two built checkouts: bench/run OLD NEW [SEED]."""
 
 import os
 import subprocess
 import sys
 import time
+from concurrent.futures import ThreadPoolExecutor
 from statistics import median
 
-# How often each side runs a workload.
-TURNS = 9
+from commands import instructions
+
+# How often each side runs a workload, and the rounds of the short run of which the instructions are counted.
+TURNS, SHORT = 9, {"requests": "60", "negotiation": "25", "log": "20", "writing": "25", "awkward": "3"}
 
 
 def workloads(top):
@@ -28,10 +31,20 @@ def once(top, crate, words):
         return time.perf_counter() - began, ended.stdout
 
 
+def counted(sides, seed):
+    """The millions of instructions that a short run of each workload takes in each checkout."""
+    runs = [[f"{top}/crates/mime_jobs/out/mime_jobs", name, seed, rounds] for name, rounds in SHORT.items() for top in sides]
+    with ThreadPoolExecutor(os.cpu_count()) as pool:
+        counts = [it / 1e6 for it in pool.map(lambda words: instructions(words, b""), runs)]
+    return dict(zip(SHORT, zip(counts[::2], counts[1::2])))
+
+
 def compare(old, new, seed):
-    """Runs each workload by turns, and prints both medians and their ratio. The first turn isn't counted."""
+    """Counts and runs each workload by turns, and prints the counts, both medians and their ratio. The first turn isn't counted."""
+    counts = counted((old, new), seed)
     os.sched_setaffinity(0, {max(os.sched_getaffinity(0))})
-    print(f"seed {seed}, {TURNS} turns\n{'workload':<14}{'old, s':>8}{'new, s':>8}{'old/new':>9}   digest", flush=True)
+    print(f"seed {seed}, {TURNS} turns, millions of instructions of a short run")
+    print(f"{'workload':<14}{'old, s':>8}{'new, s':>8}{'old/new':>9}{'old, M':>9}{'new, M':>9}   digest", flush=True)
     for name, crate, words in workloads(new):
         words = [seed if it == "SEED" else it for it in words]
         times = {old: [], new: []}
@@ -42,4 +55,5 @@ def compare(old, new, seed):
             for side, found in times.items():
                 found.append(said[side][0])
         before, after = (median(times[side][1:]) for side in (old, new))
-        print(f"{name:<14}{before:8.3f}{after:8.3f}{before / after:9.2f}   {said[new][1].decode().strip()}", flush=True)
+        millions = "".join(f"{it:9.1f}" for it in counts[name])
+        print(f"{name:<14}{before:8.3f}{after:8.3f}{before / after:9.2f}{millions}   {said[new][1].decode().strip()}", flush=True)

@@ -1,17 +1,15 @@
-//! Makes operations on media types here and over the Rust crate `mime`, as bench/run asks for them.
+//! Makes operations on media types, as bench/run asks for them.
 //!
-//! `driver OPERATION here ROUNDS` and `driver OPERATION there ROUNDS` make an operation on each line of standard input so many rounds: the
-//! difference of two runs is what it costs. `driver OPERATION` prints the nanoseconds of a round here, and there, and the sums of what the
-//! operation returns here, and there. After a zero byte, standard input has the strings that an operation on two takes, one a line.
-//! Without words it is the program `mime_lines` over the Rust crate, written the same way.
+//! `driver OPERATION here ROUNDS` and `driver OPERATION there ROUNDS` make an operation on each line of standard input so many rounds, here
+//! and over the Rust crate `mime`: the difference of two runs is what it costs. After a zero byte, standard input has the strings that an
+//! operation on two takes, one a line. `driver OPERATION each` makes it on each of several such texts, which a byte 1 parts, and calls
+//! `mark` after rounds that don't count, after some, and after twice as many. there.rs says what a driver with the Rust crate does.
 
-use mime::{Mime, Name, BOUNDARY, CHARSET, MULTIPART, STAR};
-use std::cmp::Reverse;
-use std::fmt::Write as _;
-use std::hash::{DefaultHasher, Hash, Hasher};
 use std::hint::black_box;
-use std::io::{self, Read, Write as _};
-use std::time::{Duration, Instant};
+use std::io::{self, Read};
+
+#[cfg(there)]
+mod there;
 
 /// A text on its way into a call, or the room for what it writes. A Global crosses as nothing.
 #[repr(C)]
@@ -25,6 +23,7 @@ extern "C" {
     fn mime_read(text: Slice, out: Slice, found: *mut [usize; 7]) -> u32;
     fn mime_list(text: Slice, out: Slice, length: *mut usize) -> u32;
     fn mime_equal(one: Slice, other: Slice, equal: *mut u8) -> u32;
+    fn mime_accept(text: Slice, out: Slice, length: *mut usize, bad: *mut usize) -> u32;
     // Those that an earlier library may lack.
     #[cfg(call = "mime_order")]
     fn mime_order(accept: Slice, offers: Slice, order: *mut usize, order_len: usize, count: *mut usize) -> u32;
@@ -40,161 +39,58 @@ fn slice(text: &str) -> Slice {
     Slice(text.as_ptr(), text.len())
 }
 
-/// What an operation is made on: lines, and the media types that they are; those that are rejected are left out.
+/// What an operation is made on: two strings, and their lines.
 struct Given<'a> {
     text: &'a str,
+    other: &'a str,
     texts: Vec<&'a str>,
     others: Vec<&'a str>,
-    values: Vec<Mime>,
-    against: Vec<Mime>,
 }
 
-type Operation = fn(&Given, usize) -> usize;
+/// The operations of `mime_bench`, by their positions.
+const OPERATIONS: &str =
+    "read read_and_look_up look_up_charset look_up_boundary look_up_charset_str look_up_missing walk parts essence eq \
+    eq_str cmp hash clone print items field serve boundary write_parameter negotiate weight_of covers unescape accept best order weight \
+    write_charset write_boundary write_name";
 
-/// The operations. Those of `mime_bench` have the same positions.
-const OPERATIONS: &[(&str, Operation)] = &[
-    ("read", read_all),
-    ("read_and_look_up", |it, rounds| sum(&it.texts, rounds, |text| read(text).map_or(0, |mime| length_found(&mime, "charset")))),
-    ("look_up_charset", |it, rounds| sum(&it.values, rounds, |mime| length_found(mime, CHARSET))),
-    ("look_up_boundary", |it, rounds| sum(&it.values, rounds, |mime| length_found(mime, BOUNDARY))),
-    ("look_up_charset_str", |it, rounds| sum(&it.values, rounds, |mime| length_found(mime, "charset"))),
-    ("look_up_missing", |it, rounds| sum(&it.values, rounds, |mime| length_found(mime, "level"))),
-    ("walk", |it, rounds| {
-        sum(&it.values, rounds, |mime| mime.params().map(|(name, value)| name.as_str().len() + value.as_str().len()).sum())
-    }),
-    ("parts", |it, rounds| {
-        let length = |name: Name| name.as_str().len();
-        sum(&it.values, rounds, |mime| length(mime.type_()) + length(mime.subtype()) + mime.suffix().map_or(0, length))
-    }),
-    ("essence", |it, rounds| sum(&it.values, rounds, which_essence)),
-    ("eq", |it, rounds| sum_of_two(&it.values, &it.against, rounds, |mime, other| (mime == other) as usize)),
-    ("eq_str", |it, rounds| sum_of_two(&it.values, &it.others, rounds, |mime, text| (mime == text) as usize)),
-    ("cmp", |it, rounds| sum_of_two(&it.values, &it.against, rounds, |mime, other| mime.cmp(other).is_lt() as usize)),
-    ("hash", |it, rounds| {
-        sum(&it.values, rounds, |mime| {
-            let mut hasher = DefaultHasher::new();
-            mime.hash(&mut hasher);
-            (hasher.finish() != 1) as usize
-        })
-    }),
-    ("clone", |it, rounds| sum(&it.values, rounds, |mime| black_box(&mime.clone()).as_ref().len())),
-    ("print", |it, rounds| {
-        let mut printed = String::new();
-        sum(&it.values, rounds, |mime| {
-            printed.clear();
-            write!(printed, "{mime}").unwrap();
-            printed.len()
-        })
-    }),
-    // The release has no iterator, so this is what its user writes.
-    ("items", list_all),
-    // The Rust crate doesn't read header values as HTTP writes them: beside it stands reading a string, here.
-    ("field", |it, rounds| unsafe { mime_bench(0, slice(it.text), slice(""), rounds) }),
-    ("serve", |it, rounds| {
+/// The calls from C.
+const CALLS: &[(&str, fn(&Given, usize) -> usize)] = &[
+    ("call_read", |it, rounds| call_read(it, rounds, mime_read)),
+    ("call_field", |it, rounds| call_read(it, rounds, mime_content_type)),
+    ("call_best", |it, rounds| {
+        let mut at = 0;
         sum(&it.texts, rounds, |text| {
-            read(text).map_or(0, |mime| which_essence(&mime) + length_found(&mime, CHARSET) + boundary_len(&mime))
+            unsafe { mime_best(slice(text), slice(it.others[0]), &mut at) };
+            at
         })
     }),
-    ("boundary", |it, rounds| sum(&it.values, rounds, boundary_len)),
-    // The Rust crate writes no parameters, so this is what its user writes.
-    ("write_parameter", |it, rounds| {
-        sum(&it.texts, rounds, |value| {
-            let escaped = value.replace('\\', "\\\\").replace('"', "\\\"");
-            read(&format!("{}; p=\"{escaped}\"", it.against[0])).map_or(0, |mime| mime.as_ref().len())
-        })
-    }),
-    ("negotiate", |it, rounds| sum(&it.texts, rounds, |text| best(text, &it.against).map_or(0, |at| at + 1))),
-];
-
-/// The calls from C, each with what it is compared with.
-const CALLS: &[(&str, Operation, Operation)] = &[
-    ("call_read", read_all, |it, rounds| call_read(it, rounds, mime_read)),
-    ("call_field", read_all, |it, rounds| call_read(it, rounds, mime_content_type)),
-    (
-        "call_best",
-        |it, rounds| {
-            let offers = it.others[0];
-            sum(&it.texts, rounds, |text| best(text, &entries(offers).collect::<Vec<_>>()).unwrap_or(0))
-        },
-        |it, rounds| {
-            let mut at = 0;
-            sum(&it.texts, rounds, |text| {
-                unsafe { mime_best(slice(text), slice(it.others[0]), &mut at) };
-                at
-            })
-        },
-    ),
     #[cfg(call = "mime_order")]
-    (
-        "call_order",
-        |it, rounds| {
-            sum(&it.texts, rounds, |text| {
-                let order = order(text, &entries(it.others[0]).collect::<Vec<_>>());
-                order.first().map_or(0, |at| at + 10 * order.len())
-            })
-        },
-        |it, rounds| {
-            let (mut order, mut count) = ([0; 8], 0);
-            sum(&it.texts, rounds, |text| {
-                unsafe { mime_order(slice(text), slice(it.others[0]), order.as_mut_ptr(), order.len(), &mut count) };
-                order[..count].first().map_or(0, |at| at + 10 * count)
-            })
-        },
-    ),
-    ("call_items", list_all, |it, rounds| call(it, rounds, |text, out, length| unsafe { mime_list(slice(text), out, length) })),
+    ("call_order", |it, rounds| {
+        let (mut order, mut count) = ([0; 8], 0);
+        sum(&it.texts, rounds, |text| {
+            unsafe { mime_order(slice(text), slice(it.others[0]), order.as_mut_ptr(), order.len(), &mut count) };
+            order[..count].first().map_or(0, |at| at + 10 * count)
+        })
+    }),
+    ("call_items", |it, rounds| call(it, rounds, |text, out, length| unsafe { mime_list(slice(text), out, length) })),
+    ("call_accept", |it, rounds| call(it, rounds, |text, out, length| unsafe { mime_accept(slice(text), out, length, &mut 0) })),
     #[cfg(call = "mime_boundary")]
-    (
-        "call_boundary",
-        |it, rounds| sum(&it.texts, rounds, |text| read(text).map_or(0, |mime| boundary_len(&mime))),
-        |it, rounds| call(it, rounds, |text, out, size| unsafe { mime_boundary(slice(text), out, size) }),
-    ),
+    ("call_boundary", |it, rounds| call(it, rounds, |text, out, size| unsafe { mime_boundary(slice(text), out, size) })),
     #[cfg(call = "mime_unescape")]
-    (
-        "call_unescape",
-        |it, rounds| {
-            sum(&it.texts, rounds, |value| {
-                let mut bytes = value.chars();
-                black_box(std::iter::from_fn(|| bytes.next().map(|it| if it == '\\' { bytes.next().unwrap_or(it) } else { it }))
-                    .collect::<String>())
-                .len()
-            })
-        },
-        |it, rounds| call(it, rounds, |value, out, size| unsafe { mime_unescape(slice(value), out, size) }),
-    ),
+    ("call_unescape", |it, rounds| call(it, rounds, |value, out, size| unsafe { mime_unescape(slice(value), out, size) })),
     #[cfg(call = "mime_set_parameter")]
-    (
-        "call_set_parameter",
-        |it, rounds| {
-            sum(&it.texts, rounds, |text| {
-                let Some(mime) = read(text) else { return 0 };
-                let mut made = mime.essence_str().to_string();
-                for (name, value) in mime.params().filter(|(name, _)| *name != it.others[0]) {
-                    write!(made, "; {name}=\"{value}\"").unwrap();
-                }
-                read(&format!("{made}; {}={}", it.others[0], it.others[1])).map_or(0, |mime| mime.as_ref().len())
-            })
-        },
-        |it, rounds| {
-            let (name, value) = (it.others[0], it.others[1]);
-            call(it, rounds, |text, out, size| unsafe { mime_set_parameter(slice(text), slice(name), slice(value), out, size) })
-        },
-    ),
-    (
-        "call_equal",
-        |it, rounds| sum_of_two(&it.texts, &it.others, rounds, |text, other| (read(text) == read(other)) as usize),
-        |it, rounds| {
-            let mut equal = 0;
-            sum_of_two(&it.texts, &it.others, rounds, |text, other| {
-                unsafe { mime_equal(slice(text), slice(other), &mut equal) };
-                usize::from(equal)
-            })
-        },
-    ),
+    ("call_set_parameter", |it, rounds| {
+        let (name, value) = (it.others[0], it.others[1]);
+        call(it, rounds, |text, out, size| unsafe { mime_set_parameter(slice(text), slice(name), slice(value), out, size) })
+    }),
+    ("call_equal", |it, rounds| {
+        let mut equal = 0;
+        sum_of_two(&it.texts, &it.others, rounds, |text, other| {
+            unsafe { mime_equal(slice(text), slice(other), &mut equal) };
+            usize::from(equal)
+        })
+    }),
 ];
-
-fn read_all(it: &Given, rounds: usize) -> usize {
-    sum(&it.texts, rounds, |text| read(text).map_or(0, |mime| mime.as_ref().len()))
-}
 
 /// Reads by a call from C. What it finds is first the length, and third where the printed text begins, or 0 if the string is rejected.
 fn call_read(it: &Given, rounds: usize, call: unsafe extern "C" fn(Slice, Slice, *mut [usize; 7]) -> u32) -> usize {
@@ -215,13 +111,9 @@ fn call(it: &Given, rounds: usize, call: impl Fn(&str, Slice, *mut usize) -> u32
     })
 }
 
-fn list_all(it: &Given, rounds: usize) -> usize {
-    sum(&it.texts, rounds, |text| entries(text).map(|mime| mime.as_ref().len()).sum())
-}
-
 /// Room for what any call writes.
 fn room(it: &Given) -> Vec<u8> {
-    vec![0; 2 * it.texts.iter().map(|text| text.len()).max().unwrap_or(0) + 128]
+    vec![0; 3 * it.texts.iter().map(|text| text.len()).max().unwrap_or(0) + 128]
 }
 
 /// The sum of what an operation returns for each of these things, so many rounds.
@@ -235,191 +127,53 @@ fn sum_of_two<T, U>(all: &[T], others: &[U], rounds: usize, mut turn: impl FnMut
     (0..rounds).map(|_| all.iter().zip(others).map(|(one, other)| turn(one, other)).sum::<usize>()).sum()
 }
 
-#[inline(always)]
-fn read(text: &str) -> Option<Mime> {
-    text.parse().ok()
-}
-
-#[inline(always)]
-fn length_found<'a>(mime: &'a Mime, name: impl PartialEq<Name<'a>>) -> usize {
-    mime.get_param(name).map_or(0, |value| value.as_str().len())
-}
-
-/// Which of two strings the essence is: 1 or 2, or 0 if it is neither.
-#[inline(always)]
-fn which_essence(mime: &Mime) -> usize {
-    match mime.essence_str() {
-        "text/html" => 1,
-        "application/json" => 2,
-        _ => 0,
+/// Makes an operation here.
+fn here(operation: &str, it: &Given, rounds: usize) -> usize {
+    match OPERATIONS.split(' ').position(|name| name == operation) {
+        Some(at) => unsafe { mime_bench(at, slice(it.text), slice(it.other), rounds) },
+        None => CALLS.iter().find(|(name, _)| *name == operation).unwrap().1(it, rounds),
     }
 }
 
-/// The length of the boundary of a multipart body, or 0 if there is none.
-#[inline(always)]
-fn boundary_len(mime: &Mime) -> usize {
-    if mime.type_() == MULTIPART {
-        length_found(mime, BOUNDARY)
-    } else {
-        0
-    }
+fn given(text: &str) -> Given<'_> {
+    let (text, other) = text.split_once('\0').unwrap();
+    Given { text, other, texts: text.split('\n').collect(), others: other.split('\n').collect() }
 }
 
-#[inline(always)]
-fn entries(text: &str) -> impl Iterator<Item = Mime> + '_ {
-    text.split(',').filter_map(|entry| entry.trim().parse().ok())
-}
-
-/// What decides between offers: the weight, then the closeness of the range, then the position of the range, then that of the offer.
-type Merit = (u16, (usize, usize), Reverse<usize>, Reverse<usize>);
-
-/// The best offer for an Accept header, as a user of the Rust crate writes it.
-fn best(text: &str, offers: &[Mime]) -> Option<usize> {
-    merits(&ranges(text), offers).max().map(|(.., Reverse(at))| at)
-}
-
-/// All acceptable offers, from the best on.
-#[cfg(call = "mime_order")]
-fn order(text: &str, offers: &[Mime]) -> Vec<usize> {
-    let mut order: Vec<Merit> = merits(&ranges(text), offers).collect();
-    order.sort_unstable_by(|one, other| other.cmp(one));
-    order.into_iter().map(|(.., Reverse(at))| at).collect()
-}
-
-fn ranges(text: &str) -> Vec<(u16, Mime)> {
-    entries(text).map(|range| (weight_of(&range), range)).collect()
-}
-
-/// The merit of each acceptable offer.
-#[inline(always)]
-fn merits<'a>(ranges: &'a [(u16, Mime)], offers: &'a [Mime]) -> impl Iterator<Item = Merit> + 'a {
-    let merit = move |offer| {
-        let covering = ranges.iter().enumerate().filter(|(_, (_, range))| covers(range, offer));
-        covering.map(|(at, (weight, range))| (closeness(range), *weight, Reverse(at))).max()
-    };
-    let merits = offers.iter().enumerate().filter_map(move |(at, offer)| merit(offer).map(|merit| (merit, at)));
-    merits.map(|((close, weight, range), at)| (weight, close, range, Reverse(at))).filter(|(weight, ..)| *weight > 0)
-}
-
-/// The weight in thousandths.
-fn weight_of(range: &Mime) -> u16 {
-    range.get_param("q").map_or(1_000, |weight| weight.as_str().parse().map_or(0, |weight: f32| (weight * 1_000.0).round() as u16))
-}
-
-fn covers(range: &Mime, offer: &Mime) -> bool {
-    (range.type_() == STAR || range.type_() == offer.type_())
-        && (range.subtype() == STAR && range.suffix().is_none() || (range.subtype(), range.suffix()) == (offer.subtype(), offer.suffix()))
-        && range.params().filter(|(name, _)| *name != "q").all(|(name, value)| offer.get_param(name) == Some(value))
-}
-
-/// The number of parts that a range names, and that of its parameters.
-fn closeness(range: &Mime) -> (usize, usize) {
-    let named = [range.type_(), range.subtype()].iter().filter(|part| **part != STAR).count();
-    (named, range.params().filter(|(name, _)| *name != "q").count())
-}
-
-/// Adds the report on a line.
-fn push_line(report: &mut String, line: &[u8]) {
-    let Ok(text) = std::str::from_utf8(line) else {
-        return push_row(report, "not text", "");
-    };
-    let mime = match text.parse::<Mime>() {
-        Ok(mime) => mime,
-        Err(error) => return writeln!(report, "bad {error}").unwrap(),
-    };
-    push_row(report, "ok ", mime.as_ref());
-    push_row(report, "type ", mime.type_().as_str());
-    push_row(report, "subtype ", mime.subtype().as_str());
-    if let Some(suffix) = mime.suffix() {
-        push_row(report, "suffix ", suffix.as_str());
-    }
-    for (name, value) in mime.params() {
-        report.push_str("param ");
-        report.push_str(name.as_str());
-        push_row(report, "=", value.as_str());
-    }
-}
-
-fn push_row(report: &mut String, label: &str, text: &str) {
-    report.push_str(label);
-    report.push_str(text);
-    report.push('\n');
-}
-
-fn write_report(input: &[u8]) -> io::Result<()> {
-    let mut report = String::new();
-    if !input.is_empty() {
-        let lines = input.strip_suffix(b"\n").unwrap_or(input).split(|byte| *byte == b'\n');
-        lines.for_each(|line| push_line(&mut report, line));
-    }
-    io::stdout().write_all(report.as_bytes())
-}
-
-/// What of one side's operation is repeated, and so often.
-type Side<'a> = &'a dyn Fn(usize) -> usize;
-
-/// The least nanoseconds of each side, of many turns, in which the sides take turns: for so long, and at least five times.
-fn least(sides: [Side; 2], rounds: [usize; 2], long: Duration) -> [f64; 2] {
-    let (mut least, begun, mut turns) = ([f64::MAX; 2], Instant::now(), 0);
-    while turns < 5 || begun.elapsed() < long {
-        for ((run, rounds), least) in sides.iter().zip(rounds).zip(&mut least) {
-            let begun = Instant::now();
-            black_box(run(rounds));
-            *least = least.min(begun.elapsed().as_nanos() as f64);
-        }
-        turns += 1;
-    }
-    least
-}
-
-/// The nanoseconds that a round takes on each side: what is made before is taken off.
-fn time(sides: [Side; 2]) -> [f64; 2] {
-    let before = least(sides, [0, 0], Duration::from_millis(50));
-    // So often that it takes a while on each side, unless there is nothing to do.
-    let mut rounds = [1, 1];
-    loop {
-        let all = least(sides, rounds, Duration::ZERO);
-        let is_short = [0, 1].map(|side| rounds[side] < 1 << 16 && all[side] - before[side] < 50_000.0 + before[side]);
-        if !is_short.contains(&true) {
-            break;
-        }
-        rounds = [0, 1].map(|side| rounds[side] << is_short[side] as usize);
-    }
-    let all = least(sides, rounds, Duration::from_millis(250));
-    [0, 1].map(|side| (all[side] - before[side]) / rounds[side] as f64)
+/// Where valgrind writes what it has counted, and begins anew.
+#[no_mangle]
+#[inline(never)]
+extern "C" fn mark() {
+    black_box(());
 }
 
 fn main() -> io::Result<()> {
-    let (words, mut input): (Vec<String>, _) = (std::env::args().collect(), Vec::new());
-    io::stdin().read_to_end(&mut input)?;
-    if words.len() == 1 {
-        return write_report(&input);
-    }
-    let given = String::from_utf8(input).unwrap();
-    let (texts, others) = given.split_once('\0').unwrap();
-    let lists = [texts, others].map(|it| it.split('\n').collect::<Vec<_>>());
-    let [values, against] = [0, 1].map(|at| lists[at].iter().filter_map(|text| read(text)).collect());
-    let [lines, other_lines] = lists;
-    let it = Given { text: texts, texts: lines, others: other_lines, values, against };
-    let at = OPERATIONS.iter().position(|(name, _)| *name == words[1]);
-    let call = CALLS.iter().find(|(name, ..)| *name == words[1]);
-    let here = |rounds| match at {
-        Some(at) => unsafe { mime_bench(at, slice(texts), slice(others), rounds) },
-        None => call.unwrap().2(&it, rounds),
-    };
-    let there = |rounds| at.map_or_else(|| call.unwrap().1, |at| OPERATIONS[at].1)(&it, rounds);
+    let (words, mut input): (Vec<String>, _) = (std::env::args().collect(), String::new());
+    io::stdin().read_to_string(&mut input)?;
     // Memory was used before, as in a program that has run for a while: else a block can grow where it is.
     drop(black_box((20..80).map(|length| "x".repeat(length)).collect::<Vec<_>>()).clone());
-    let [_, _, side, rounds] = &words[..] else {
-        let [time, time_there] = time([&here, &there]);
-        println!("{time} {time_there} {} {}", here(4), there(4));
-        return Ok(());
-    };
-    let run: Side = if side == "here" { &here } else { &there };
-    // Until malloc's own lists are filled, the same request costs more or less.
-    for _ in 0..(20_000 / texts.len()).clamp(1, 32) {
-        run(1);
+    match &words.iter().map(String::as_str).collect::<Vec<_>>()[1..] {
+        [operation, "each"] => {
+            for it in input.split('\u{1}').map(given) {
+                for rounds in [4, 2, 4] {
+                    black_box(here(operation, &it, rounds));
+                    mark();
+                }
+            }
+        }
+        [operation, "here", rounds] => repeat(&given(&input), rounds, &|it, rounds| here(operation, it, rounds)),
+        #[cfg(there)]
+        words => there::run(words, &input)?,
+        #[cfg(not(there))]
+        _ => panic!("this driver is without the Rust crate"),
     }
-    run(rounds.parse().unwrap());
     Ok(())
+}
+
+/// Makes an operation so many rounds. Until malloc's own lists are filled, the same request costs more or less.
+fn repeat(it: &Given, rounds: &str, run: &dyn Fn(&Given, usize) -> usize) {
+    for _ in 0..(20_000 / it.text.len()).clamp(1, 32) {
+        black_box(run(it, 1));
+    }
+    black_box(run(it, rounds.parse().unwrap()));
 }

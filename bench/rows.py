@@ -35,13 +35,18 @@ def values():
     yield Row("type, subtype and suffix", "parts", TEXT)
     yield Row("essence, compared with two strings", "essence", TEXT)
     yield Row("equality", "eq", TEXT, BESIDE, differs=True)
+    yield Row("equality of two equal ones", "eq", TEXT, TEXT)
+    yield Row("equality of each and the next", "eq", TEXT, NEXT, most=16, differs=True)
     yield Row("equality with a string", "eq_str", TEXT, BESIDE)
+    yield Row("equality with an equal string", "eq_str", TEXT, TEXT, differs=True)
+    yield Row("equality with the next one's string", "eq_str", TEXT, NEXT, differs=True)
     yield Row("order of two equal ones", "cmp", TEXT, TEXT)
     yield Row("order of each and the next", "cmp", TEXT, NEXT, most=50, differs=True)
     yield Row("hash in a map", "hash", TEXT)
     yield Row("clone and drop", "clone", TEXT)
     yield Row("print", "print", TEXT)
     yield Row("boundary", "boundary", TEXT)
+    yield Row("weight, as that of a range", "weight_of", TEXT)
     yield Row("content_type, beside from_str here", "field", TEXT, most=517)
 
 
@@ -72,13 +77,24 @@ def strings():
     yield Row("a hundred parameters, 2,110 bytes", "read", hundred)
     yield Row("rejected: text/pl(in", "read", "text/pl(in")
     yield Row("rejected: text( and 59 bytes", "read", f"text({'z' * 59}", most=125)
-    yield Row("rejected: a/b;p=\"\" and 56 bytes", "read", f"a/b;p=\"\"{'z' * 56}")
+    yield Row("rejected: a/b;p=\"x\" and 24 bytes", "read", f"a/b;p=\"x\"{'z' * 24}")
     yield Row("rejected: a/b;p=\"x, which isn't closed", "read", "a/b;p=\"x")
     yield Row("rejected: a browser's Accept header", "read", BROWSER, most=165)
 
 
+def sixteen(text):
+    """A string so often that the loop counts for little."""
+    return "\n".join([text] * 16)
+
+
 def others():
-    yield Row("content_type of a space", "field", " ")
+    yield Row("content_type of a space", "field", " ", most=250)
+    yield Row("content_type of text", "field", "text")
+    yield Row("content_type of text/html ; charset=utf-8", "field", "text/html ; charset=utf-8", differs=True)
+    yield Row("content_type of application/json, application/json", "field", "application/json, application/json")
+    yield Row("equality of text/html; charset=utf-8 and text/html", "eq", *map(sixteen, ("text/html; charset=utf-8", "text/html")), most=16)
+    for label, text, most in (("x", "x" * 2_048, 1_600), ("\\\"-", '\\"-' * 683, 12_000)):
+        yield Row(f"covers: a/b;p=1 and 2 KB of {label}", "covers", "a/b;p=1", f'a/b;charset="{text}"', most=most)
     yield Row("equality of charset=utf-8 and \"charset=UTF-8\"", "eq_str", "text/plain; charset=utf-8", "text/plain; charset=UTF-8")
     yield Row("equality of charset=utf-8 and \"charset=us-ascii\"", "eq_str", "text/plain; charset=utf-8", "text/plain; charset=us-ascii",
               differs=True)
@@ -92,8 +108,9 @@ def others():
 
 
 # The other side rejects these, or takes them for other things.
-OTHERWISE = ("read: pairs \\\"", "walk: pairs \\\"", "order: parameters, a tab before each", "with_parameter: quotes",
-             "mime_list: */ over and over", "list: semicolons", "content_type: semicolons", "content_type: spaces",
+OTHERWISE = ("read: pairs \\\"", "walk: pairs \\\"", "read: pairs \\\"a", "walk: pairs \\\"a", "hash: pairs \\\"a",
+             "order: pairs \\\"a", "order: parameters, a tab before each", "with_parameter: quotes",
+             "mime_list: */ over and over", "mime_list: a type of +", "list: semicolons", "content_type: semicolons", "content_type: spaces",
              "content_type: tabs at the end", "content_type: parameters ;p=1 after spaces")
 
 
@@ -106,20 +123,30 @@ def with_tabs(length):
     return "a/b" + ";\tA=A" * (length // 5)
 
 
+def single_pairs(length):
+    return 'a/b;p="' + '\\"a' * (length // 3) + '";q=x'
+
+
 def texts():
     """A value that ends, or goes on, only after 64 KB."""
     kinds = (("pairs \\\"", lambda n: 'a/b;p="' + '\\"' * (n // 2) + '"'), ("pairs \\\\", lambda n: 'a/b;p="' + "\\\\" * (n // 2) + '"'),
-             ("spaces", lambda n: "a/b;" + " " * n + "p=x"), ("parameters ;p=x", lambda n: "a/b" + ";p=x" * (n // 4)))
+             ("pairs \\\"a", single_pairs), ("spaces", lambda n: "a/b;" + " " * n + "p=x"),
+             ("parameters ;p=x", lambda n: "a/b" + ";p=x" * (n // 4)))
     for operation, what in (("read", "read"), ("look_up_missing", "look up \"level\""), ("walk", "walk")):
         for label, make in kinds:
             yield long(f"{what}: {label}", operation, make)
     yield long("read: a subtype", "read", lambda n: "a/" + "x" * n)
     yield long("read: a type of rare token bytes", "read", lambda n: "!#$%&'*+^_`|~" * (n // 13) + "/b", most=8)
     yield long("list: a subtype", "items", lambda n: "a/" + "x" * n, most=8.5)
+    yield long("list: a type of +", "items", lambda n: "+" * n + "/b", most=8.5)
+    yield long("hash: pairs \\\"a", "hash", single_pairs, most=6)
+    yield long("order: pairs \\\"a", "cmp", single_pairs, single_pairs(65_536) + "y", most=12)
     yield long("order: parameters, a tab before each", "cmp", with_tabs, with_tabs(65_536) + ";p=x")
     yield long("with_parameter: quotes", "write_parameter", lambda n: '"' * n, "a/b", most=56)
     yield long("mime_list: */ over and over", "call_items", lambda n: "*/" * (n // 2))
     yield long("mime_unescape: pairs \\\"", "call_unescape", lambda n: '\\"' * (n // 2))
+    yield long("mime_unescape: a plain value", "call_unescape", lambda n: "x" * n, most=1.5)
+    yield long("mime_list: a type of +", "call_items", lambda n: "+" * n + "/b", most=8.5)
     yield long("mime_list: é", "call_items", lambda n: "é" * (n // 2))
     yield long("mime_read: a type of rare token bytes", "call_read", lambda n: "!#$%&'*+^_`|~" * (n // 13) + "/b")
     for label, make in (("quotes", lambda n: '"' * n), ("commas", lambda n: "," * n), ("semicolons", lambda n: "a/b" + ";" * n),
@@ -154,3 +181,9 @@ GROUPS = {
     "Texts of 64 KB: instructions and nanoseconds a byte": texts,
     "The calls from C, on the same values and headers": calls,
 }
+
+# What `bench/run --check` counts: few rows, in one of which a slip of layout or inlining shows.
+CHECKED = (*(it.label for it in values()), "content_type, essence, CHARSET, boundary", "its media types",
+           "Accept, and the best of four offers", "text/plain", "text/plain; charset=utf-8", "*/*", "rejected: text/pl(in",
+           "rejected: a browser's Accept header", "content_type of text", "hash of text/html", "read: a subtype", "with_parameter: quotes",
+           "mime_read", "mime_content_type", "mime_best, of an Accept header and four offers")

@@ -7,14 +7,14 @@
 
 enum { OK = 200, BAD_REQUEST = 400, NOT_ACCEPTABLE = 406, UNSUPPORTED_TYPE = 415, UNAVAILABLE = 503, LONGEST = 1024 };
 
-/* What is sent, the best first. */
+/* What is sent, the best first, and the same as a list: each is one media type. */
 static const char *const types[] = {"text/html; charset=utf-8", "application/json", "text/plain; charset=utf-8"};
 static const char offers[] = "text/html; charset=utf-8, application/json, text/plain; charset=utf-8";
 
 /* The status for an upload: a table in UTF-8 is taken. */
 static int check_upload(const char *content_type)
 {
-    char out[2 * LONGEST + 2];
+    char out[3 * LONGEST + 2];
     struct mime_found found;
     size_t len = strlen(content_type);
     if (len > LONGEST)

@@ -11,10 +11,19 @@ TYPES = ["text/html; charset=utf-8", "application/json", "text/plain; charset=ut
 OK, NOT_ACCEPTABLE = 0, 10
 
 
+def joined(library, offers):
+    """The offers as a list. One that is empty, or has a comma, isn't one in the list, so each has to be a media type."""
+    for offer in offers:
+        value, out, found = offer.encode(), ctypes.create_string_buffer(3 * len(offer.encode()) + 2), (ctypes.c_size_t * 7)()
+        if library.mime_content_type(value, ctypes.c_size_t(len(value)), out, ctypes.c_size_t(len(out)), found) != OK:
+            raise ValueError(f"the offer {offer!r} isn't a media type")
+    return ", ".join(offers).encode()
+
+
 def choose(library, accept, offers):
     """The status, and the best of these offers, or None. `accept` is what the request has, or None if it has no such header; several lines
     are joined by a comma."""
-    best, listed = ctypes.c_size_t(), ", ".join(offers).encode()
+    best, listed = ctypes.c_size_t(), joined(library, offers)
     answer = library.mime_best(accept, ctypes.c_size_t(len(accept or b"")), listed, ctypes.c_size_t(len(listed)), ctypes.byref(best))
     status = {OK: 200, NOT_ACCEPTABLE: 406}.get(answer, 503)
     return status, offers[best.value] if answer == OK else None

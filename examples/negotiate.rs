@@ -12,13 +12,31 @@ const OK: u32 = 0;
 const NOT_ACCEPTABLE: u32 = 10;
 
 unsafe extern "C" {
+    fn mime_content_type(value: *const c_char, value_len: usize, out: *mut c_char, out_len: usize, found: *mut usize) -> u32;
     fn mime_best(accept: *const c_char, accept_len: usize, offers: *const c_char, offers_len: usize, best: *mut usize) -> u32;
+}
+
+/// The offers as a list. One that is empty, or has a comma, isn't one in the list, so each has to be a media type.
+///
+/// # Panics
+/// If an offer isn't one.
+fn joined(offers: &[&str]) -> String {
+    for offer in offers {
+        let mut out = vec![0u8; 3 * offer.len() + 2];
+        // What is found isn't needed: a struct as large as seven words.
+        let mut found = [0; 7];
+        // SAFETY: each pointer is to a block of its own of the length given, and none is null.
+        let answer =
+            unsafe { mime_content_type(offer.as_ptr().cast(), offer.len(), out.as_mut_ptr().cast(), out.len(), found.as_mut_ptr()) };
+        assert_eq!(answer, OK, "the offer {offer:?} isn't a media type");
+    }
+    offers.join(", ")
 }
 
 /// The best of these offers, or the status without one: 406 if the client accepts none, 503 if memory ran out. `accept` is what the request
 /// has, if it has such a header; several lines are joined by a comma.
 pub fn choose<'o>(accept: Option<&[u8]>, offers: &[&'o str]) -> Result<&'o str, u16> {
-    let list = offers.join(", ");
+    let list = joined(offers);
     let mut best = 0;
     let (header, len) = accept.map_or((std::ptr::null(), 0), |accept| (accept.as_ptr(), accept.len()));
     // SAFETY: each pointer is to a block of the length given; the header's is null only if there is none.

@@ -24,7 +24,7 @@ class Mime:
 
     def read(self, text):
         """The essence, the parameters as pairs, and the printed media type of a header's value, such as that of Content-Type."""
-        out, found = ctypes.create_string_buffer(2 * len(_bytes(text)) + 2), Found()
+        out, found = ctypes.create_string_buffer(3 * len(_bytes(text)) + 2), Found()
         answer = self.library.mime_content_type(*_block(text), out, ctypes.c_size_t(len(out)), ctypes.byref(found))
         self._check(answer, f" at position {found.pos}" if answer in (self.INVALID_BYTE, self.NOT_UTF8) else "")
         essence, *parts, printed, _ = out.raw[: found.length].decode().split("\0")
@@ -32,10 +32,18 @@ class Mime:
 
     def best(self, accept, offers):
         """The best of these offers for an Accept header, or for a request without one if that is None; or None."""
+        for offer in offers:
+            # An offer that is empty, or has a comma, isn't one in the list.
+            try:
+                self.read(offer)
+            except ValueError as error:
+                raise ValueError(f"the offer {offer!r} isn't a media type: {error}") from None
         best = ctypes.c_size_t()
         answer = self.library.mime_best(*_block(accept), *_block(", ".join(offers)), ctypes.byref(best))
-        self._check(answer * (answer != self.NOT_ACCEPTABLE))
-        return None if answer else offers[best.value]
+        if answer == self.NOT_ACCEPTABLE:
+            return None
+        self._check(answer)
+        return offers[best.value]
 
     def _check(self, answer, where=""):
         if answer:

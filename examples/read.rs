@@ -55,7 +55,7 @@ pub struct Media {
 
 /// Reads the media type of a header's value, such as that of a Content-Type.
 pub fn read(value: &[u8]) -> Result<Media, Error> {
-    let mut out = vec![0u8; 2 * value.len() + 2];
+    let mut out = vec![0u8; 3 * value.len() + 2];
     let mut found = Found::default();
     // SAFETY: each pointer is to a block of its own of the length given, and none is null.
     let answer = unsafe { mime_content_type(value.as_ptr().cast(), value.len(), out.as_mut_ptr().cast(), out.len(), &mut found) };

@@ -186,29 +186,50 @@ static void check_list(const char *text, size_t len)
     CHECK_REFUSED(asked, mime_list(text, len, buffer(room), room, &length) == MIME_NO_MEMORY && length == 0 && requests == refused_at);
 }
 
-/* Checks that what a header's value is printed as, or it itself if mime_read reads it, is read alike. */
+static int is_white(char byte)
+{
+    return byte == ' ' || byte == '\t';
+}
+
+/* Checks that what a header's value is printed as, or it itself if mime_read reads it without the white space around it, is read alike. */
 static void check_content_type(const char *text, size_t len)
 {
     static char again[ROOM];
     struct mime_found found, same;
-    size_t room = 2 * len + 2;
-    uint32_t is = mime_read(text, len, again, sizeof again, &same), refused;
+    size_t room = 3 * len + 2, first = 0, last = len;
+    while (first < last && is_white(text[first]))
+        first++;
+    while (last > first && is_white(text[last - 1]))
+        last--;
+    uint32_t is = mime_read(text + first, last - first, again, sizeof again, &same);
+    uint32_t refused;
+    int is_plain = is == MIME_OK;
     count_anew();
     for (size_t small = len < 100 ? 0 : room - 1; small < room; small++)
         CHECK(mime_content_type(text, len, buffer(small), small, &found) == MIME_NO_ROOM && has_written(0, small) && requests == 0);
     char *out = buffer(room);
     uint32_t answer = mime_content_type(text, len, out, room, &found);
     size_t asked = requests;
-    CHECK(has_written(found.length, room) && held == 0 && most_held <= 2 && largest <= len);
-    if (answer == MIME_OK && is != MIME_OK)
+    /* What is written anew has at most a byte more for each parameter, which has four. */
+    CHECK(has_written(found.length, room) && held == 0 && most_held <= (is_plain ? 1 : 2) && largest <= len + (is_plain ? 0 : len / 4));
+    CHECK(answer == MIME_OK || asked == 0);
+    if (answer == MIME_OK && !is_plain) {
+        CHECK(asked == (strlen(out + found.printed) > SHORT ? 2 : 0));
         is = mime_read(out + found.printed, strlen(out + found.printed), again, sizeof again, &same);
+    }
     CHECK((answer == MIME_OK) == (is == MIME_OK) && is_at_fault(answer, text, len, found));
     if (answer == MIME_OK) {
         check_strings(text, len, out, found);
         CHECK(found.length == same.length && memcmp(out, again, found.length) == 0 && found.slash == same.slash);
+        CHECK(!is_white(out[found.length - 2]));
+        /* What is before the first semicolon has the same essence. */
+        const char *end = memchr(text, ';', len);
+        CHECK(mime_content_type(text, end != NULL ? (size_t)(end - text) : len, again, sizeof again, &same) == MIME_OK && same.params == 0);
+        CHECK(strcmp(again, out) == 0);
     }
+    /* Of 41 bytes with a semicolon at the end those before it need no memory. */
     CHECK_REFUSED(asked, (refused = mime_content_type(text, len, buffer(room), room, &found)) == MIME_NO_MEMORY
-                             ? has_written(0, room) && found.length == 0 : refused == answer && refused != MIME_OK);
+                             ? has_written(0, room) && found.length == 0 : refused == MIME_OK && last - first == SHORT + 1);
 }
 
 static void check_accept(const char *text, size_t len)
@@ -226,16 +247,19 @@ static void check_accept(const char *text, size_t len)
         for (it = skip(it, 2); *it != 0; it = skip(it, 2))
             ;
     }
-    size_t others = bad;
-    uint32_t none = bad > 0 ? MIME_BAD_OFFER : MIME_NOT_ACCEPTABLE, answer;
-    CHECK_REFUSED(asked, mime_accept(text, len, buffer(room), room, &length, &bad) == MIME_NO_MEMORY && has_written(0, room)
-                             && length + bad == 0);
+    size_t others = bad, size = length;
+    uint32_t none = bad > 0 ? MIME_BAD_OFFER : MIME_NOT_ACCEPTABLE, answer, refused;
+    /* An entry of 41 bytes with a semicolon at its end needs no memory, though it is asked for. */
+    CHECK_REFUSED(asked, (refused = mime_accept(text, len, buffer(room), room, &length, &bad)) == MIME_NO_MEMORY
+                             ? has_written(0, room) && length + bad == 0
+                             : refused == MIME_OK && length == size && bad == others && memchr(text, ';', len) != NULL);
     CHECK(mime_best("", 0, text, len, &best) == none && best == 0);
     count_anew();
     answer = mime_best(NULL, 0, text, len, &best);
     CHECK(answer == (none == MIME_NOT_ACCEPTABLE && ranges > 0 ? MIME_OK : none) && best == 0 && held == 0);
     asked = others > 0 ? 0 : requests;
-    CHECK_REFUSED(asked, mime_best(NULL, 0, text, len, &best) == MIME_NO_MEMORY && best == 0);
+    CHECK_REFUSED(asked, ((refused = mime_best(NULL, 0, text, len, &best)) == MIME_NO_MEMORY
+                          || (refused == answer && memchr(text, ';', len) != NULL)) && best == 0);
     answer = mime_best(text != NULL ? text : "", len, offers, strlen(offers), &best);
     CHECK(answer == MIME_OK ? ranges > 0 && best < 3 : answer == MIME_NOT_ACCEPTABLE && best == 0);
 }
@@ -326,7 +350,7 @@ static void check_set(const char *text, size_t len, const char *name, size_t nam
     } else
         CHECK(size == 0);
     CHECK_REFUSED(asked, (refused = mime_set_parameter(text, len, name, name_len, value, value_len, buffer(room), room, &size)) == MIME_NO_MEMORY
-                             ? has_written(0, room) && size == 0 : refused == answer && refused != MIME_OK);
+                             ? has_written(0, room) && size == 0 : refused == answer && (refused != MIME_OK || memchr(text, ';', len) != NULL));
 }
 
 static void check_set_parameter(const char *text, size_t len)
@@ -404,7 +428,7 @@ static void check_order(const char *text, size_t len)
 static int has_texts(void)
 {
     static const char *const words[] = {"no error", "between the type", "a subtype was", "sign (=) was", "a value was", "a quote",
-                                        "invalid token", "memory", "UTF-8", "buffer", "acceptable", "an offer isn't", "no valid boundary",
+                                        "invalid token", "memory", "the input", "buffer", "acceptable", "an offer isn't", "no valid boundary",
                                         "the name", "unknown"};
     for (uint32_t one = 0; one < sizeof words / sizeof *words; one++)
         for (uint32_t other = 0; other < sizeof words / sizeof *words; other++)

@@ -1,4 +1,5 @@
-"""What the tools share: commands with time limits, none of which outlives its tool; what passed in earlier runs; and programs."""
+"""What the tools share: commands with time limits, none of which outlives its tool; what passed in earlier runs; and programs. A tool that
+reads this with `--help` alone prints what stands at its head, and does nothing else."""
 
 import functools
 import os
@@ -6,6 +7,7 @@ import re
 import shutil
 import signal
 import subprocess
+import sys
 from collections import namedtuple
 from pathlib import Path
 from subprocess import DEVNULL, PIPE, STDOUT
@@ -23,6 +25,16 @@ KINDS = {"": "rt run --backend llvm", ".by-rattle": "rt run --backend rattle", "
 # What a command wrote, and its status; the commands that are running, and the signals that told the tool to end.
 Outcome = namedtuple("Outcome", "stdout stderr returncode")
 _running, _signals = set(), []
+
+
+def show(text):
+    """Prints a text and ends, without a word too if its reader ends earlier, as `head` does."""
+    signal.signal(signal.SIGPIPE, signal.SIG_DFL)
+    sys.exit(print(text))
+
+
+if sys.argv[1:] == ["--help"]:
+    show(sys.modules["__main__"].__doc__)
 
 
 def run(words, seconds=RT_SECONDS, given=None, **how):
@@ -104,7 +116,7 @@ def tracked():
 def checksum(*paths):
     """A checksum of the kit, and of these files and folders as far as git doesn't ignore them."""
     files = 'git ls-files -coz --exclude-standard -- "$@" | LC_ALL=C sort -z | xargs -0 sha256sum'
-    return run_ok("sh", "-c", f"(rt version; {files}) | sha256sum", "sh", *paths)
+    return run_ok("bash", "-eo", "pipefail", "-c", f"(rt version; {files}) | sha256sum", "bash", *paths)
 
 
 def is_kept(name, paths, more):

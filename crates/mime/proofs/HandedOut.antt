@@ -3,6 +3,7 @@
 -- Bytes: a list of a class is one of a wider class, the first byte after a prefix, a cut after an ASCII byte, and those past ASCII.
 pub use Rattle.mime.proofs.BytesLemmas.{list_all-wider, slice_get-prefix, boundary_after, AreTokenBytes-from_token}
 pub use Rattle.mime.proofs.ValueLemmas.Utf8.{high_bytes}
+pub use Rattle.mime.proofs.StopsLemmas.{in_ranges}
 -- Lowercase: it is idempotent, and keeps the length, a class that case doesn't matter to, and what a parameter's value is read as.
 pub use Rattle.mime.proofs.LowercaseLemmas.{lowered-lowered, list_all-lowered, IsToken-lowered, lowered_value-either, lowered_value-lowered, pairs_of_tail-lowered}
 pub use Rattle.mime_search.proofs.IgnoringCase.{length-lowered}
@@ -18,5 +19,7 @@ pub use Rattle.mime.proofs.CutLemmas.Cuts.{accepted_or_rejected}
 pub use Rattle.mime.proofs.GrammarLemmas.Viability.{viable-from_walk, walk-from_viable, viable-from_lacks, dead-from_walk, not_viable-at_dead, prefix_of_viable_is_viable}
 pub use Rattle.mime.proofs.GrammarLemmas.Faults.{completed_is_rejected, one_fault}
 pub use Rattle.mime.proofs.ValueLemmas.Reading.{rejected-from_fault}
--- The essence of a value that was read is read as the value without its parameters.
-pub use Rattle.mime.proofs.LawsLemmas.Written.{essence_is_read}
+-- The essence of a value that was read is read as the value without its parameters; a token is quoted content.
+pub use Rattle.mime.proofs.LawsLemmas.Written.{essence_is_read, content-from_token}
+-- What is printed of a value that was read is read as the value.
+pub use Rattle.mime.proofs.ValueLemmas.KeptText.{kept_is_read}

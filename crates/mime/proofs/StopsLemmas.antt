@@ -19,7 +19,7 @@ past_range : (range : Range) (b : ℕ) → range.1 < b → is_outside_range rang
 past_range range b past = rw (lt-ltb range.1 b past) (or-true (nat_lt b range.0))
 
 -- a byte is inside the ranges only if a wider class has it: tried on all bytes
-in_ranges : (class : Class) (wider : ℕ → Bool) → class.folded.1 < 256 → class.second.1 < 256 → class.third.1 < 256
+pub in_ranges : (class : Class) (wider : ℕ → Bool) → class.folded.1 < 256 → class.second.1 < 256 → class.third.1 < 256
     → list_all (λ b. is_outside class b || wider b) (range_with_len 0 256) ≡ true → (b : ℕ) → is_outside class b ≡ false → wider b ≡ true
 in_ranges class wider one two three all b inside =
     elim (cases_lt b 256) [

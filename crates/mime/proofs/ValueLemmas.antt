@@ -9,3 +9,4 @@ pub mod Places
 pub mod Reading
 pub mod Traits
 pub mod Hash
+pub mod Zeros

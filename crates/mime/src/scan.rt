@@ -63,7 +63,7 @@ fn token(reader: &mut ByteReader<'_>, with_plus: bool) -> Option<u8>
             return Some(byte);
         }
     }
-    while let Some(stop) = reader.next_far() {
+    while let Some(stop) = reader.next_far(with_plus) {
         if !is_in_token(stop, with_plus) {
             return Some(stop);
         }

@@ -5,8 +5,11 @@
 #![tactic(auto)]
 
 use mime::{BOUNDARY, CHARSET, Mime, MimeIter, ParamKey, TextKey, mime_eq_str};
-use mime_http::{Accept, boundary, content_type, with_parameter};
-use std::alloc::Global;
+use mime_http::{
+    Accept, boundary, content_type, covers, unescape, weight_of, with_boundary, with_charset,
+    with_parameter,
+};
+use std::alloc::{AllocError, Global};
 use std::fmt::Write;
 use std::hash::{FoldHasher, Hash, Hasher};
 use std::str;
@@ -61,7 +64,9 @@ pub extern "C" fn mime_bench(
         18 => meant_boundary(alloc, &values, rounds),
         19 => write_parameter(alloc, &texts, &against, rounds),
         20 => negotiate(alloc, &texts, &against, rounds),
-        _ => 0,
+        21 => weight(&values, rounds),
+        22 => cover(&values, &against, rounds),
+        _ => one(alloc, operation, &texts, &values, &against, rounds),
     }
 }
 
@@ -273,10 +278,16 @@ fn write_parameter(alloc: Global, values: &[&str], mimes: &[Mime], rounds: usize
     let Some(mime) = mimes.first() else {
         return 0;
     };
-    sum!(rounds, value in values => match with_parameter(alloc, mime, "p", value) {
+    sum!(rounds, value in values => written(with_parameter(alloc, mime, "p", value)))
+}
+
+/// The length of what is kept, or 0 if nothing was written.
+#[inline(always)]
+fn written(made: Result<Option<Mime>, AllocError>) -> usize {
+    match made {
         Ok(Some(made)) => made.as_str().len(),
         _ => 0,
-    })
+    }
 }
 
 /// Reads an `Accept` header and chooses the best of the offers: its position, counted from 1.
@@ -288,5 +299,58 @@ fn negotiate(alloc: Global, texts: &[&str], offers: &[Mime], rounds: usize) -> u
             None => 0,
         },
         Err(_) => 0,
+    })
+}
+
+#[inline(never)]
+fn weight(values: &[Mime], rounds: usize) -> usize {
+    sum!(rounds, range in values => weight_of(range) as usize)
+}
+
+#[inline(never)]
+fn cover(values: &[Mime], offers: &[Mime], rounds: usize) -> usize {
+    sum!(rounds, (range, offer) in values.iter().zip(offers) => covers(range, offer) as usize)
+}
+
+/// Makes an operation that is measured on one string alone.
+#[inline(never)]
+fn one(
+    alloc: Global,
+    operation: usize,
+    texts: &[&str],
+    values: &[Mime],
+    offers: &[Mime],
+    rounds: usize,
+) -> usize {
+    let Some(text) = texts.first() else {
+        return 0;
+    };
+    let Ok(accept) = Accept::from_lines(alloc, &[text.as_bytes()]) else {
+        return 0;
+    };
+    let mut buffer = Vec::new(alloc);
+    sum!(rounds, _ in texts => match (operation, values.first(), offers.first()) {
+        (23, _, _) => {
+            buffer.clear();
+            let _ = unescape(text, &mut buffer);
+            buffer.len()
+        }
+        (24, _, _) => match Accept::from_lines(alloc, &[text.as_bytes()]) {
+            Ok(read) => read.ranges().len(),
+            Err(_) => 0,
+        },
+        (25, _, _) => match accept.best(offers) {
+            Some(at) => at.wrapping_add(1),
+            None => 0,
+        },
+        (26, _, _) => match accept.order(alloc, offers) {
+            Ok(order) => order.len(),
+            Err(_) => 0,
+        },
+        (27, _, Some(offer)) => accept.weight(offer) as usize,
+        (28, Some(mime), _) => written(with_charset(alloc, mime, "utf-8")),
+        (29, Some(mime), _) => written(with_boundary(alloc, mime, "----WebKitFormBoundary7MA4YWxk")),
+        (30, Some(mime), _) => written(with_parameter(alloc, mime, "name", "a value")),
+        _ => 0,
     })
 }

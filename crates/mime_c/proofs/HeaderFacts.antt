@@ -1,12 +1,17 @@
 -- What the page HeaderAnswers says of some texts.
-use Rattle.std.proofs.Common.{◌≡◌, true, false, [], ◌∷◌, ◌++◌, map, refl, arith, codes, None}
+use Rattle.std.proofs.Common.{◌≡◌, ℕ, true, false, List, [], ◌∷◌, ◌++◌, map, refl, arith, codes, None}
 use Rattle.mime.specs.Values.{MediaType}
 use Rattle.mime.specs.declared.scan.fault.ParseError.TheVariants.{MissingSlash, InvalidToken}
 use Rattle.mime_http.specs.declared.value.FieldError.TheVariants.{NotUtf8, Invalid, NoMemory}
+use Rattle.mime_http.specs.HttpList.{line_end, no_line, blank, no_text, piece_end}
 use Rattle.mime_c.specs.Strings.{strings}
 use Rattle.mime_c.specs.Answers.{found_at, nothing}
-use Rattle.mime_c.specs.HeaderAnswers.{number_of_error, found_of_error, HeaderReadsTo, value_has_no_room, four_digits, range_texts, AcceptsTo, ranges_have_no_room, lines_of}
-use Rattle.mime_c.specs.declared.TheConstants.{MIME_NO_ROOM}
+use Rattle.mime_c.specs.HeaderAnswers.{number_of_error, found_of_error, HeaderReadsTo, value_has_no_room, four_digits, range_texts, AcceptsTo, ranges_have_no_room, lines_of, HaveNoEntry, BestIs, none_is_best, OrderIs, none_is_ordered}
+use Rattle.mime_c.specs.declared.MimeFound.{MimeFound}
+use Rattle.mime_c.specs.declared.TheConstants.{MIME_OK, MIME_NO_ROOM, MIME_NOT_ACCEPTABLE}
+use Rattle.mime_c.proofs.HeaderOutcome.{accepts_to_one, best_is_one}
+use Rattle.mime_c.proofs.OrderOutcome.{order_is_one}
+use Rattle.mime_c.proofs.ValueOutcome.{header_reads_to_one}
 
 -- the numbers of the header, and what is found
 errors_numbered : (map number_of_error (NotUtf8 3 ∷ Invalid MissingSlash ∷ Invalid (InvalidToken 7 40) ∷ NoMemory ∷ []) ≡ 8 ∷ 1 ∷ 6 ∷ 7 ∷ [])
@@ -33,9 +38,43 @@ whole_written = refl
 lines_are : (lines_of true [] ≡ [] ∷ []) × (lines_of false (codes "a/b") ≡ [])
 lines_are = (refl, refl)
 
--- for three bytes, seven aren't enough, nor eleven for ranges
-no_room : HeaderReadsTo (codes "A/B") (codes "-------") MIME_NO_ROOM (codes "-------") nothing
+-- for three bytes, ten aren't enough, nor eleven for ranges
+no_room : HeaderReadsTo (codes "A/B") (codes "----------") MIME_NO_ROOM (codes "----------") nothing
 no_room = value_has_no_room (omega arith)
 
 no_room_for_ranges : AcceptsTo (codes "A/B") (codes "-----------") MIME_NO_ROOM (codes "-----------") 0 0
 no_room_for_ranges = ranges_have_no_room (omega arith)
+
+-- and nothing else is answered then
+not_read : (new : List ℕ) (found : MimeFound) → ¬ (HeaderReadsTo (codes "A/B") (codes "----------") MIME_OK new found)
+not_read new found is =
+    let only = (header_reads_to_one (codes "A/B") (codes "----------")).4 in
+    absurd (omega (arith, (only MIME_OK (new, found) (λ no. omega (arith, no)) is).0, (only MIME_NO_ROOM _ (λ no. omega (arith, no)) no_room).0))
+
+not_listed : (new : List ℕ) (size bad : ℕ) → ¬ (AcceptsTo (codes "A/B") (codes "-----------") MIME_OK new size bad)
+not_listed new size bad is =
+    let only = (accepts_to_one (codes "A/B") (codes "-----------")).4 in
+    absurd (omega (arith, (only MIME_OK (new, size, bad) (λ no. omega (arith, no)) is).0, (only MIME_NO_ROOM _ (λ no. omega (arith, no)) no_room_for_ranges).0))
+
+-- an empty line has no entry, so of no offers none is acceptable, and nothing else is answered
+empty : HaveNoEntry ([] ∷ [])
+empty = record { pieces = [] ∷ []; cut = line_end [] [] [] ([], piece_end) no_line; sorted = blank [] [] [] [] refl no_text }
+
+none_acceptable : BestIs true [] [] MIME_NOT_ACCEPTABLE 0
+none_acceptable = none_is_best _ _ empty empty refl refl
+
+none_best : (at : ℕ) → ¬ (BestIs true [] [] MIME_OK at)
+none_best at is =
+    let only = (best_is_one true [] []).4 in
+    absurd (omega (arith, (only MIME_OK at (λ no. omega (arith, no)) is).0, (only MIME_NOT_ACCEPTABLE 0 (λ no. omega (arith, no)) none_acceptable).0))
+
+none_ordered : OrderIs true [] [] [] MIME_NOT_ACCEPTABLE [] 0
+none_ordered = none_is_ordered _ _ empty empty refl (record {
+  best_first = λ i j d less within. absurd (omega (arith, within));
+  all = λ at. (λ is. absurd (omega (arith, is.1)), λ weighs. absurd (omega (arith, weighs)));
+})
+
+none_in_order : (new : List ℕ) (count : ℕ) → ¬ (OrderIs true [] [] [] MIME_OK new count)
+none_in_order new count is =
+    let only = (order_is_one true [] [] []).4 in
+    absurd (omega (arith, (only MIME_OK (new, count) (λ no. omega (arith, no)) is).0, (only MIME_NOT_ACCEPTABLE _ (λ no. omega (arith, no)) none_ordered).0))

@@ -1,41 +1,172 @@
 -- How many bytes the strings of a header's value are, and that they come back.
-use Rattle.std.proofs.Common.{◌≡◌, ℕ, ◌+◌, ◌*◌, ◌≤◌, List, [], ◌∷◌, ◌++◌, length, refl, ap, ◌∙◌, arith, length-append}
+use Rattle.std.proofs.Common.{◌≡◌, ℕ, ◌+◌, ◌*◌, ◌<◌, ◌≤◌, Bool, true, false, List, [], ◌∷◌, ◌++◌, length, filter, refl, sym, subst, ap, ◌∙◌, arith, length-append}
 use Rattle.std.specs.List.{AllByRecursion}
+use Rattle.std.specs.Prelude.{if◌then◌else◌}
 use Rattle.std.proofs.lemmas.Bool.Decides.{nat_tests}
 use Rattle.mime.specs.Bytes.{comma_byte}
+use Rattle.mime.specs.HeaderLaws.{IsSafePair}
 use Rattle.mime.specs.Laws.{without_parameters}
-use Rattle.mime.specs.Values.{MediaType}
+use Rattle.mime.specs.Values.{MediaType, Reads, lowered, lowered_value}
+use Rattle.mime.proofs.HandedOut.{length-lowered, lowered_value-either}
 use Rattle.mime.proofs.LawsLemmas.Written.{essence_is_read, kept_is_safe}
-use Rattle.mime.proofs.ValueLemmas.KeptText.{kept_is_read}
-use Rattle.mime_http.specs.Tight.{ReadsTight}
-use Rattle.mime_http.specs.HttpMediaType.{HttpReads}
-use Rattle.mime_http.specs.HttpList.{AreBetweenCommas, no_line, line_end, comma, AreSorted, no_text, blank, a_range, a_bad, Header, IsHeader}
-use Rattle.mime_http.proofs.HttpForth.{http_is_tight}
-use Rattle.mime_c.proofs.NoLonger.{no_longer}
-use Rattle.mime_c.specs.Strings.{string_of, strings, ComeBack, parts_of, texts_of}
+use Rattle.mime_http.specs.HttpMediaType.{IsHttpParameter, with_token, with_string, AreHttpParameters, no_more, semicolon, semicolon_and, HttpReads}
+use Rattle.mime_http.specs.HttpList.{trimmed, IsPrinted, as_it_stands, anew, AreBetweenCommas, no_line, line_end, comma, AreSorted, no_text, blank, a_range, a_bad, Header, IsHeader}
+use Rattle.mime_http.specs.Reader.{text_of_parts}
+use Rattle.mime_http.specs.Written.{is_token_value, quote_of, text_of_pair, text_of_pairs, with_pairs}
+use Rattle.mime_http.proofs.Around.{white_around}
+use Rattle.mime_http.proofs.ReadAnew.{written_reads}
+use Rattle.mime_http.proofs.ReadForth.{http_is_answered}
+use Rattle.mime_c.specs.Strings.{string_of, strings, ComeBack, pair_texts, parts_of, texts_of}
 use Rattle.mime_c.specs.HeaderAnswers.{range_texts, ranges_texts}
 use Rattle.mime_c.proofs.NoZero.{HasNoZero, come_back, no_zero-read, no_zero-pairs}
-use Rattle.mime_c.proofs.Room.{lengths_of, texts_fit}
+use Rattle.mime_c.proofs.Room.{lengths_of, some-token}
 use Rattle.mime_c.proofs.Writing.{strings_of_texts, strings_of_range, strings_of_ranges}
 
--- those of a value's media type are at most twice as many as the value, and two
-pub value_fits : (value : List ℕ) (media : MediaType) → ReadsTight value media → length (strings (texts_of media)) ≤ 2 * length value + 2
-value_fits value media reads = omega (arith, texts_fit reads.0 media reads.2, no_longer reads.1)
+-- ---- parameters
+
+length-quote_of : (value : List ℕ) → length (quote_of value) ≤ 1
+length-quote_of value = by_test (is_token_value value)
+  where
+    by_test : (token : Bool) → length (if◌then◌else◌ {A = List ℕ} token [] (34 ∷ [])) ≤ 1
+    by_test true = omega arith
+    by_test false = omega arith
+
+-- a parameter has at most five bytes more than its name and its value
+pub length-pair : (name value : List ℕ) → length (text_of_pair (name, value)) ≤ length name + length value + 5
+length-pair name value = omega (arith, length-quote_of value, length-append {A = ℕ})
+
+length-strings_of_pair : (name value : List ℕ) (pairs : List (List ℕ × List ℕ))
+    → length (strings (pair_texts ((name, value) ∷ pairs))) ≡ length name + length value + 2 + length (strings (pair_texts pairs))
+length-strings_of_pair name value pairs = omega (arith, length-append {A = ℕ})
+
+-- those of parameters that pass a test are at most twice as many bytes as the strings of all
+kept_pairs : (test : List ℕ × List ℕ → Bool) (pairs : List (List ℕ × List ℕ)) → AllByRecursion IsSafePair pairs
+    → length (text_of_pairs (filter test pairs)) ≤ 2 * length (strings (pair_texts pairs))
+kept_pairs test [] are = omega arith
+kept_pairs test ((name, value) ∷ pairs) (is, are) =
+    let more = kept_pairs test pairs are in
+    let size = length-strings_of_pair name value pairs in
+    let some = some-token name is.0 in
+    by_test (test (name, value)) (name, value) (filter test pairs) (omega (arith, more, size))
+    (omega (arith, more, size, some, length-pair name value, length-append (text_of_pair (name, value)) (text_of_pairs (filter test pairs))))
+  where
+    by_test : (kept : Bool) (pair : List ℕ × List ℕ) (others : List (List ℕ × List ℕ)) {most : ℕ} → length (text_of_pairs others) ≤ most
+        → length (text_of_pairs (pair ∷ others)) ≤ most → length (text_of_pairs (if kept then pair ∷ others else others)) ≤ most
+    by_test true pair others less more = more
+    by_test false pair others less more = less
+
+filter_all : (pairs : List (List ℕ × List ℕ)) → filter (λ pair. true) pairs ≡ pairs
+filter_all [] = refl
+filter_all (pair ∷ pairs) = ap (λ rest. pair ∷ rest) (filter_all pairs)
+
+length-lowered_value : (name value : List ℕ) → length (lowered_value name value) ≡ length value
+length-lowered_value name value = lowered_value-either (λ it. length it ≡ length value) name value refl (length-lowered value)
+
+-- ---- the media type of a value
+
+-- the strings of its parameters are at most as many bytes as their text,
+pairs_fit : {bytes : List ℕ} {pairs : List (List ℕ × List ℕ)} → AreHttpParameters bytes pairs → length (strings (pair_texts pairs)) ≤ length bytes
+pairs_fit no_more = omega arith
+pairs_fit (semicolon before after rest pairs wb wa are) = omega (arith, pairs_fit are, length-append {A = ℕ})
+pairs_fit (semicolon_and before after parameter rest pair pairs wb wa is are) =
+    omega (arith, pair_fits is, pairs_fit are, length-append {A = ℕ})
+  where
+    pair_fits : {parameter : List ℕ} {pair : List ℕ × List ℕ} → IsHttpParameter parameter pair
+        → length (strings (pair_texts (pair ∷ pairs))) ≤ length parameter + 1 + length (strings (pair_texts pairs))
+    pair_fits (with_token name value named valued) = omega (
+      arith,
+      length-strings_of_pair (lowered name) (lowered_value name value) pairs,
+      length-lowered name,
+      length-lowered_value name value,
+      length-append name (61 ∷ value),
+    )
+    pair_fits (with_string name content named is) = omega (
+      arith,
+      length-strings_of_pair (lowered name) (lowered_value name content) pairs,
+      length-lowered name,
+      length-lowered_value name content,
+      length-append name (61 ∷ 34 ∷ (content ++ (34 ∷ []))),
+      length-append content (34 ∷ []),
+    )
+
+-- and with the essence as many as the value,
+pub sizes_of : (value : List ℕ) (media : MediaType) → HttpReads value media
+    → (length media.essence + length (strings (pair_texts media.pairs)) ≤ length value) × (2 < length value)
+sizes_of value media reads =
+    let top = reads.top in
+    let sub = reads.sub in
+    let essence = ap length reads.essence ∙ length-append (lowered top) (47 ∷ lowered sub) in
+    let spelled = ap length (sym reads.spelled) in
+    let before = length-append reads.before (top ++ (47 ∷ (sub ++ (reads.parameters ++ reads.after)))) in
+    let first = length-append top (47 ∷ (sub ++ (reads.parameters ++ reads.after))) in
+    let second = length-append sub (reads.parameters ++ reads.after) in (
+      omega (
+        arith,
+        essence,
+        spelled,
+        pairs_fit reads.are_parameters,
+        before,
+        first,
+        second,
+        length-append reads.parameters reads.after,
+        length-lowered top,
+        length-lowered sub,
+      ),
+      omega (arith, spelled, some-token top reads.is_top, some-token sub reads.is_sub, before, first, second),
+    )
+
+-- which is read of what is written anew
+pub read_anew : (value : List ℕ) (media : MediaType) → HttpReads value media → (text : List ℕ) × Reads text (with_pairs media media.pairs)
+read_anew value media reads =
+    let is = http_is_answered value media reads in
+    (text_of_parts is.0, subst (Reads (text_of_parts is.0)) is.2 (written_reads value is.0 is.1))
+
+-- its parameters have at most twice as many bytes as their strings
+pub anew_fits : (value : List ℕ) (media : MediaType) → HttpReads value media → (test : List ℕ × List ℕ → Bool)
+    → length (text_of_pairs (filter test media.pairs)) ≤ 2 * length (strings (pair_texts media.pairs))
+anew_fits value media reads test =
+    let is = read_anew value media reads in kept_pairs test media.pairs (kept_is_safe is.0 (with_pairs media media.pairs) is.1).pairs
+
+-- all its strings have at most three times as many bytes as the value, and two
+pub value_fits : (value : List ℕ) (media : MediaType) → HttpReads value media → IsPrinted value media
+    → length (strings (texts_of media)) ≤ 3 * length value + 2
+value_fits value media reads printed =
+    let parts = strings (parts_of media) in
+    let sizes = sizes_of value media reads in
+    let texts : length (strings (texts_of media)) ≡ length parts + (length media.kept + 1) =
+    ap length (strings_of_texts media) ∙ length-append parts (string_of media.kept) ∙ ap (λ n. length parts + n) (length-append media.kept (0 ∷ [])) in
+    omega (arith, texts, sizes.0, kept_fits printed, length-append media.essence (0 ∷ []), length-append (media.essence ++ 0 ∷ []) (strings (pair_texts media.pairs)))
+  where
+    length-trimmed : length (trimmed value) ≤ length value
+    length-trimmed =
+        let is = white_around value in
+        omega (arith, ap length is.4, length-append is.0 (trimmed value ++ is.1), length-append (trimmed value) is.1)
+
+    kept_fits : IsPrinted value media → length media.kept ≤ 2 * length value
+    kept_fits (as_it_stands v m is) = omega (arith, (lengths_of (trimmed value) media is).0, length-trimmed)
+    kept_fits (anew v m isnt is) = omega (
+      arith,
+      ap (λ (it : MediaType). length it.kept) is ∙ length-append media.essence (text_of_pairs media.pairs),
+      ap (λ pairs. length (text_of_pairs pairs)) (filter_all media.pairs),
+      anew_fits value media reads (λ pair. true),
+      (sizes_of value media reads).0,
+    )
 
 -- ---- the strings of ranges
 
 -- those of a range are at most three times as many as its text with a comma
 range_fits : (text : List ℕ) (range : MediaType) → HttpReads text range → length (strings (range_texts range)) ≤ 3 * (length text + 1)
 range_fits text range reads =
-    let read = http_is_tight text range reads in
-    let media = record range { kept = read.0 } in
-    let tight = read.1 in
-    let sizes = lengths_of tight.0 media tight.2 in
-    let kept = lengths_of media.kept media (kept_is_read tight.0 media tight.2) in
-    let parts = strings (parts_of range) in
-    let texts : length (strings (texts_of media)) ≡ length parts + (length media.kept + 1) =
-    ap length (strings_of_texts media) ∙ length-append parts (string_of media.kept) ∙ ap (λ n. length parts + n) (length-append media.kept (0 ∷ [])) in
-    omega (arith, sizes.1, kept.2, no_longer tight.1, texts, ap length (strings_of_range range), length-append parts (0 ∷ []))
+    let sizes = sizes_of text range reads in
+    omega (
+      arith,
+      sizes.0,
+      sizes.1,
+      ap length (strings_of_range range),
+      length-append (strings (parts_of range)) (0 ∷ []),
+      length-append range.essence (0 ∷ []),
+      length-append (range.essence ++ 0 ∷ []) (strings (pair_texts range.pairs)),
+    )
 
 -- how many bytes texts are with a comma after each
 abbrev total : List (List ℕ) → ℕ
@@ -65,11 +196,10 @@ ranges_fit line header is = omega (arith, total-cut (line ∷ []) is.pieces is.c
 
 no_zero-range : (text : List ℕ) (range : MediaType) → HttpReads text range → AllByRecursion HasNoZero (range_texts range)
 no_zero-range text range reads =
-    let read = http_is_tight text range reads in
-    let media = record range { kept = read.0 } in
-    let tight = read.1 in
-    let essence = no_zero-read range.essence (without_parameters media) (essence_is_read tight.0 media tight.2) in
-    (grind (arith, nat_tests), (essence, no_zero-pairs range.pairs [] (kept_is_safe tight.0 media tight.2).pairs refl))
+    let read = read_anew text range reads in
+    let media = with_pairs range range.pairs in
+    let essence = no_zero-read range.essence (without_parameters media) (essence_is_read read.0 media read.1) in
+    (grind (arith, nat_tests), (essence, no_zero-pairs range.pairs [] (kept_is_safe read.0 media read.1).pairs refl))
 
 both_none : (texts others : List (List ℕ)) → AllByRecursion HasNoZero texts → AllByRecursion HasNoZero others → AllByRecursion HasNoZero (texts ++ others)
 both_none [] others none more = more

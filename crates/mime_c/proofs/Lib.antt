@@ -1,10 +1,13 @@
-pub mod NoLonger
 pub mod NoZero
 pub mod Room
 pub mod Writing
 pub mod HeaderRoom
 pub mod ParameterRoom
 pub mod OneOutcome
+pub mod HeaderOutcome
+pub mod OrderOutcome
+pub mod ValueOutcome
 mod AnswerFacts
 mod HeaderFacts
+mod ParameterFacts
 mod OutcomeFacts

@@ -19,14 +19,14 @@ use Rattle.mime.proofs.ValueLemmas.Traits.{eq_by_cmp-tells, eq_by_cmp-same}
 use Rattle.mime.specs.Cut.{CutItem}
 use Rattle.mime.proofs.CutLemmas.Cuts.{accepted_or_rejected, has_cut, cut_unique}
 use Rattle.mime_c.specs.Strings.{strings, texts_of, item_texts, written}
-use Rattle.mime_c.specs.Answers.{number_of, found_at, nothing, found_of, found_of_fault, Fails, is_rejected, is_not_text, ReadsTo, is_read, fails, has_no_room, ListsTo, is_listed, has_no_memory, Compares, are_read, first_fails, second_fails}
+use Rattle.mime_c.specs.Answers.{number_of, found_at, found_of, found_of_fault, Fails, is_rejected, is_not_text, ReadsTo, is_read, fails, has_no_room, ListsTo, is_listed, has_no_memory, Compares, are_read, first_fails, second_fails}
 use Rattle.mime_c.specs.Answers as answers
 use Rattle.mime_c.specs.Laws.{HasOne, ReadsToOne, ListsToOne, ComparesAsOne}
 use Rattle.mime_c.specs.declared.MimeFound.{MimeFound}
 use Rattle.mime_c.specs.declared.TheConstants.{MIME_OK, MIME_NO_MEMORY}
 use Rattle.mime_c.proofs.NoZero.{texts_come_back, items_come_back}
 
-utf8_or_not : (text : List ℕ) → IsUtf8 text ⊎ ¬ (IsUtf8 text)
+pub utf8_or_not : (text : List ℕ) → IsUtf8 text ⊎ ¬ (IsUtf8 text)
 utf8_or_not text =
     ⊎_elim (λ is. inl (IsUtf8-from_is_utf8 text is)) (λ isnt. inr (λ utf8. true≢false (sym (is_utf8-from_IsUtf8 text utf8) ∙ isnt)))
     (cases_Bool (is_utf8 text))
@@ -50,7 +50,7 @@ longest_within text (suc n) = ⊎_elim
     (utf8_or_not (take (suc n) text))
 
 -- so what isn't UTF-8 is up to a position
-valid_up_to : (text : List ℕ) → ¬ (IsUtf8 text) → (pos : ℕ) × IsValidUpTo text pos
+pub valid_up_to : (text : List ℕ) → ¬ (IsUtf8 text) → (pos : ℕ) × IsValidUpTo text pos
 valid_up_to text isnt =
     let found = longest_within text (length text) in
     let short : found.0 < length text = ⊎_elim (λ less. less)
@@ -104,7 +104,7 @@ given_or_failed text = ⊎_elim
     (λ isnt. let up = valid_up_to text isnt in inr (_, _, (λ same. omega (arith, same)), is_not_text up.0 isnt up.1)) (utf8_or_not text)
 
 -- an outcome is the one, if any two are the same
-is_one : {Held : Type 0} (IsOutcome : ℕ → Held → Type 0) (n : ℕ) (x : Held) → n ≢ MIME_NO_MEMORY → IsOutcome n x
+pub is_one : {Held : Type 0} (IsOutcome : ℕ → Held → Type 0) (n : ℕ) (x : Held) → n ≢ MIME_NO_MEMORY → IsOutcome n x
     → ((m : ℕ) (y : Held) → n ≢ MIME_NO_MEMORY → m ≢ MIME_NO_MEMORY → IsOutcome n x → IsOutcome m y → (m ≡ n) × (y ≡ x)) → HasOne IsOutcome
 is_one IsOutcome n x some is same = (n, x, some, is, λ m y other too. same m y some other is too)
 

@@ -4,9 +4,8 @@ use Rattle.std.specs.Str.{IsUtf8}
 use Rattle.mime.specs.Values.{MediaType}
 use Rattle.mime_http.specs.HttpMediaType.{HttpReads}
 use Rattle.mime_http.specs.HttpFaults.{HttpExplains}
-use Rattle.mime_http.specs.HttpList.{Header, IsHeader}
+use Rattle.mime_http.specs.HttpList.{IsPrinted, Header, IsHeader}
 use Rattle.mime_http.specs.Ranges.{weight_of, best_offer, AreInOrder}
-use Rattle.mime_http.specs.Tight.{ReadsTight}
 use Rattle.mime_http.specs.declared.value.FieldError.{FieldError}
 use Rattle.mime_http.specs.declared.value.FieldError.TheVariants.{NotUtf8, Invalid, NoMemory}
 use Rattle.mime_c.specs.Strings.{strings, ComeBack, parts_of, texts_of, written}
@@ -26,15 +25,14 @@ found_of_error (Invalid fault) = found_of_fault fault
 found_of_error NoMemory = nothing
 
 -- `mime_content_type` of a value, with the caller's buffer: the answer, what the buffer holds then, and what is found. What HTTP writes
--- there is written as `mime_read` writes it, and printed as tightened: of the white space and empty parameters that HTTP allows those
--- stay that `mime_read` takes, too
+-- there is written as `mime_read` writes a text; a value that `mime_read` rejects without the white space around it is printed anew
 pub data HeaderReadsTo (value old : List ℕ) : ℕ → List ℕ → MimeFound → Type 0 where
-  is_value : (media : MediaType) → 2 * length value + 2 ≤ length old → IsUtf8 value → HttpReads value media → ReadsTight value media
+  is_value : (media : MediaType) → 3 * length value + 2 ≤ length old → IsUtf8 value → HttpReads value media → IsPrinted value media
       → ComeBack (texts_of media)
       → HeaderReadsTo value old MIME_OK (written (strings (texts_of media)) old) (found_of media)
-  isnt_value : (error : FieldError) → 2 * length value + 2 ≤ length old → HttpExplains value error
+  isnt_value : (error : FieldError) → 3 * length value + 2 ≤ length old → HttpExplains value error
       → HeaderReadsTo value old (number_of_error error) old (found_of_error error)
-  value_has_no_room : length old < 2 * length value + 2 → HeaderReadsTo value old MIME_NO_ROOM old nothing
+  value_has_no_room : length old < 3 * length value + 2 → HeaderReadsTo value old MIME_NO_ROOM old nothing
 
 -- a number below 10,000 in four digits
 abbrev pub four_digits : ℕ → List ℕ

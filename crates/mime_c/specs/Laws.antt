@@ -1,6 +1,8 @@
 -- The laws: each call has exactly one outcome, unless memory runs out.
-use Rattle.std.specs.Prelude.{◌≡◌, ◌≢◌, ℕ, List}
+use Rattle.std.specs.Prelude.{◌≡◌, ◌≢◌, ℕ, Bool, List}
 use Rattle.mime_c.specs.Answers.{ReadsTo, ListsTo, Compares}
+use Rattle.mime_c.specs.HeaderAnswers.{HeaderReadsTo, AcceptsTo, BestIs, OrderIs}
+use Rattle.mime_c.specs.ParameterAnswers.{BoundaryIs, UnescapesTo, SetsTo}
 use Rattle.mime_c.specs.declared.MimeFound.{MimeFound}
 use Rattle.mime_c.specs.declared.TheConstants.{MIME_NO_MEMORY}
 
@@ -21,3 +23,34 @@ ListsToOne = (text old : List ℕ) → HasOne (λ (answer : ℕ) (held : List �
 -- Unless memory runs out, `mime_equal` of two texts has exactly one outcome.
 abbrev pub ComparesAsOne : Type 0
 ComparesAsOne = (one other : List ℕ) → HasOne (Compares one other)
+
+-- Unless memory runs out, `mime_content_type` of a value into a buffer has exactly one outcome.
+abbrev pub HeaderReadsToOne : Type 0
+HeaderReadsToOne =
+    (value old : List ℕ) → HasOne (λ (answer : ℕ) (held : List ℕ × MimeFound). HeaderReadsTo value old answer held.0 held.1)
+
+-- Unless memory runs out, `mime_accept` of a line into a buffer has exactly one outcome.
+abbrev pub AcceptsToOne : Type 0
+AcceptsToOne = (line old : List ℕ) → HasOne (λ (answer : ℕ) (held : List ℕ × ℕ × ℕ). AcceptsTo line old answer held.0 held.1 held.2)
+
+-- Unless memory runs out, `mime_best` of a header and a list of offers has exactly one outcome.
+abbrev pub BestIsOne : Type 0
+BestIsOne = (is_there : Bool) (line offers : List ℕ) → HasOne (BestIs is_there line offers)
+
+-- Unless memory runs out, `mime_order` of a header and a list of offers has exactly one outcome.
+abbrev pub OrderIsOne : Type 0
+OrderIsOne =
+    (is_there : Bool) (line offers old : List ℕ)
+    → HasOne (λ (answer : ℕ) (held : List ℕ × ℕ). OrderIs is_there line offers old answer held.0 held.1)
+
+-- Unless memory runs out, `mime_boundary` of a value into a buffer has exactly one outcome.
+abbrev pub BoundaryIsOne : Type 0
+BoundaryIsOne = (value old : List ℕ) → HasOne (λ (answer : ℕ) (held : List ℕ × ℕ). BoundaryIs value old answer held.0 held.1)
+
+-- `mime_unescape` of a value into a buffer has exactly one outcome.
+abbrev pub UnescapesToOne : Type 0
+UnescapesToOne = (value old : List ℕ) → HasOne (λ (answer : ℕ) (held : List ℕ × ℕ). UnescapesTo value old answer held.0 held.1)
+
+-- Unless memory runs out, `mime_set_parameter` of a media type, a name and a value into a buffer has exactly one outcome.
+abbrev pub SetsToOne : Type 0
+SetsToOne = (text name value old : List ℕ) → HasOne (λ (answer : ℕ) (held : List ℕ × ℕ). SetsTo text name value old answer held.0 held.1)

@@ -1,6 +1,6 @@
 //! What follows from the definitions of the calls, whatever their code is: each law is the clause of an empty function.
 
-ghost use Rattle.mime_c.specs.Laws.{ReadsToOne, ListsToOne, ComparesAsOne};
+ghost use Rattle.mime_c.specs.Laws.{ReadsToOne, ListsToOne, ComparesAsOne, HeaderReadsToOne, AcceptsToOne, BestIsOne, OrderIsOne, BoundaryIsOne, UnescapesToOne, SetsToOne};
 
 /// Unless memory runs out, `mime_read` of a text into a buffer has exactly one outcome.
 #[tactic(auto, using(crate::proofs::OneOutcome::reads_to_one))]
@@ -18,4 +18,46 @@ pub fn lists_to_one()
 #[tactic(auto, using(crate::proofs::OneOutcome::compares_as_one))]
 pub fn compares_as_one()
     ensures { ComparesAsOne }
+{}
+
+/// Unless memory runs out, `mime_content_type` of a value into a buffer has exactly one outcome.
+#[tactic(auto, using(crate::proofs::ValueOutcome::header_reads_to_one))]
+pub fn header_reads_to_one()
+    ensures { HeaderReadsToOne }
+{}
+
+/// Unless memory runs out, `mime_accept` of a line into a buffer has exactly one outcome.
+#[tactic(auto, using(crate::proofs::HeaderOutcome::accepts_to_one))]
+pub fn accepts_to_one()
+    ensures { AcceptsToOne }
+{}
+
+/// Unless memory runs out, `mime_best` of a header and a list of offers has exactly one outcome.
+#[tactic(auto, using(crate::proofs::HeaderOutcome::best_is_one))]
+pub fn best_is_one()
+    ensures { BestIsOne }
+{}
+
+/// Unless memory runs out, `mime_order` of a header and a list of offers has exactly one outcome.
+#[tactic(auto, using(crate::proofs::OrderOutcome::order_is_one))]
+pub fn order_is_one()
+    ensures { OrderIsOne }
+{}
+
+/// Unless memory runs out, `mime_boundary` of a value into a buffer has exactly one outcome.
+#[tactic(auto, using(crate::proofs::ValueOutcome::boundary_is_one))]
+pub fn boundary_is_one()
+    ensures { BoundaryIsOne }
+{}
+
+/// `mime_unescape` of a value into a buffer has exactly one outcome.
+#[tactic(auto, using(crate::proofs::HeaderOutcome::unescapes_to_one))]
+pub fn unescapes_to_one()
+    ensures { UnescapesToOne }
+{}
+
+/// Unless memory runs out, `mime_set_parameter` of a media type, a name and a value into a buffer has exactly one outcome.
+#[tactic(auto, using(crate::proofs::ValueOutcome::sets_to_one))]
+pub fn sets_to_one()
+    ensures { SetsToOne }
 {}

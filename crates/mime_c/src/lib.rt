@@ -1,19 +1,17 @@
 //! Media types for programs that aren't in Rattle: the calls that include/mime.h declares.
 //!
 //! No call keeps a pointer or a state. Each returns a number, its answer, and writes strings, with the byte 0 after
-//! each, into the caller's buffer. The pages `Strings` and `Answers` of `Rattle.mime_c.specs` say which.
+//! each, into the caller's buffer. The pages `Answers`, `HeaderAnswers` and `ParameterAnswers` of `Rattle.mime_c.specs` say which.
 #![tactic(auto)]
 
-ghost use Rattle.std.specs.Prelude.{◌≡◌, ◌+◌, ◌<◌, ◌≤◌, ◌∷◌, length, IfOk, IfErr, IsOk, MatchResult};
+ghost use Rattle.std.specs.Prelude.{◌≡◌, ◌≢◌, ◌+◌, ◌<◌, ◌≤◌, true, false, [], ◌∷◌, length, IfOk, IfErr, IsOk, MatchResult};
 ghost use Rattle.std.specs.Str.{IsUtf8, IsValidUpTo, valid_up_to};
 ghost use Rattle.mime.specs.Values.{Reads};
 ghost use Rattle.mime.specs.CutLaws.{IsRead};
 ghost use Rattle.mime_c.specs.Strings.{string_of, strings, parts_of, texts_of, written};
 ghost use Rattle.mime_c.specs.Writing.{Writes};
 ghost use Rattle.mime_c.specs.Answers.{number_of, found_at, found_of_fault, found_of, Fails, ReadsTo, ListsTo, Compares};
-ghost use Rattle.mime_http.specs.HttpMediaType.{HttpReads};
-ghost use Rattle.mime_http.specs.Tight.{ReadsTight};
-ghost use Rattle.mime_http.specs.HttpList.{IsHeader};
+ghost use Rattle.mime_http.specs.HttpList.{Header, IsHeader};
 ghost use Rattle.mime_http.specs.Ranges.{weight_of};
 ghost use Rattle.mime_c.specs.HeaderAnswers.{number_of_error, found_of_error, HeaderReadsTo, four_digits, range_texts, AcceptsTo, lines_of, HaveNoEntry, BestIs, OrderIs};
 
@@ -59,7 +57,7 @@ const MIME_GOOD: u8 = b'+';
 
 const MIME_BAD: u8 = b'-';
 
-/// What `mime_read` finds besides the strings, in bytes, positions from 0. What its answer doesn't set is 0.
+/// What `mime_read` and `mime_content_type` find besides the strings, in bytes, positions from 0. What an answer doesn't set is 0.
 #[repr(C)]
 #[derive(Clone, Copy)]
 pub struct MimeFound {
@@ -264,9 +262,8 @@ pub extern "C" fn mime_read(
 }
 
 /// Reads a header's value, such as that of a Content-Type, as one media type (RFC 9110, 8.3.1), and writes what
-/// `mime_read` writes of a text to `out`, of at least `2 * value.len() + 2` bytes.
+/// `mime_read` writes of a text to `out`, of at least `3 * value.len() + 2` bytes.
 #[unsafe(no_mangle)]
-#[tactic(auto, using(crate::proofs::HeaderRoom::value_fits))]
 pub extern "C" fn mime_content_type(
     alloc: Global,
     value: &[u8],
@@ -275,7 +272,7 @@ pub extern "C" fn mime_content_type(
 ) -> u32
     ensures { HeaderReadsTo value.now out.old result out.new found.new }
 {
-    if out.len() / 2 <= value.len() {
+    if (out.len() + 1) / 3 <= value.len() {
         *found = NOTHING;
         return MIME_NO_ROOM;
     }
@@ -401,16 +398,24 @@ pub extern "C" fn mime_accept(
     MIME_OK
 }
 
-/// What a header accepts, of one line or of none.
+/// What a header accepts, of one line or of none. Its bad entries are left out.
 fn accepted(alloc: Global, is_there: bool, line: &[u8]) -> Result<Accept, AllocError>
-    ensures header { IfOk result (λ accept. IsHeader (lines_of is_there line.now) accept) }
+    ensures header { IfOk result (λ accept. (header : Header) × IsHeader (lines_of is_there line.now) header × (accept.ranges ≡ header.ranges)) }
     ensures nothing { HaveNoEntry (lines_of is_there line.now) → IsOk result }
 {
     if is_there {
-        Accept::from_lines(alloc, &[line])
+        Accept::from_lines_without_bad(alloc, &[line])
     } else {
-        Accept::from_lines(alloc, &[])
+        Accept::from_lines_without_bad(alloc, &[])
     }
+}
+
+/// Whether an entry of a list of offers is no media type.
+fn has_bad(offered: &Accept) -> bool
+    ensures bad { result ≡ true → offered.now.bad ≢ [] }
+    ensures good { result ≡ false → offered.now.bad ≡ [] }
+{
+    !offered.bad().is_empty()
 }
 
 /// Sets `best` to the position in a list of offers, such as `text/html, application/json`, of the one that an Accept header
@@ -426,16 +431,16 @@ pub extern "C" fn mime_best(
     ensures { BestIs is_there accept.now offers.now result best.new }
 {
     *best = 0;
+    let Ok(offered) = Accept::from_lines(alloc, &[offers]) else {
+        return MIME_NO_MEMORY;
+    };
+    if has_bad(&offered) {
+        return MIME_BAD_OFFER;
+    }
     let Ok(header) = accepted(alloc, is_there, accept) else {
         return MIME_NO_MEMORY;
     };
-    let Ok((position, bad)) = header.best_listed(alloc, offers) else {
-        return MIME_NO_MEMORY;
-    };
-    if bad > 0 {
-        return MIME_BAD_OFFER;
-    }
-    match position {
+    match header.best(offered.ranges()) {
         Some(at) => {
             *best = at;
             MIME_OK
@@ -461,7 +466,7 @@ pub extern "C" fn mime_order(
     let Ok(offered) = Accept::from_lines(alloc, &[offers]) else {
         return MIME_NO_MEMORY;
     };
-    if !offered.bad().is_empty() {
+    if has_bad(&offered) {
         return MIME_BAD_OFFER;
     }
     let Ok(header) = accepted(alloc, is_there, accept) else {

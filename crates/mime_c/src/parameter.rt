@@ -1,6 +1,6 @@
 //! The calls for parameters: what they mean, and one that is written.
 
-ghost use Rattle.std.specs.Prelude.{◌≡◌, ◌↔◌, ◌<◌, ◌≤◌, ◌==◌, ◌&&◌, not, IsTrue, length};
+ghost use Rattle.std.specs.Prelude.{◌≡◌, false, ◌↔◌, ◌<◌, ◌≤◌, ◌==◌, ◌&&◌, not, IsTrue, length};
 ghost use Rattle.mime.specs.Bytes.{backslash_byte};
 ghost use Rattle.mime_http.specs.Unescaped.{unescaped};
 ghost use Rattle.mime_c.specs.Strings.{string_of, written};
@@ -12,6 +12,7 @@ use crate::{
     number_of_error, text_of,
 };
 use mime_http::{boundary, content_type, with_parameter};
+use mime_search::{Class, first_stop};
 use std::alloc::Global;
 
 /// The most bytes that a boundary has, and a 0 (RFC 2046, 5.1.1).
@@ -65,12 +66,23 @@ fn begins_pair(is_paired: bool, byte: u8) -> bool
     !is_paired && byte == b'\\'
 }
 
+/// Whether a value has a backslash. Without one it means itself.
+fn has_backslash(value: &[u8]) -> bool
+    ensures { result ≡ false → unescaped value.now ≡ value.now }
+{
+    first_stop(value, 0, &Class::of(b'\\', b'\\')) < value.len()
+}
+
 /// Writes what a value means, and returns how many bytes that is: each backslash and the byte after it are that byte.
 fn put_unescaped(out: &mut [u8], value: &[u8]) -> usize
     requires { length value.now < length out.old }
     ensures written { HasWritten out.old out.new result (unescaped value.now) }
     ensures within { result ≤ length value.now }
 {
+    // The short way for most values.
+    if !has_backslash(value) {
+        return copy(out, 0, value);
+    }
     let mut end = 0;
     let mut is_paired = false;
     for (at, &byte) in value.iter().enumerate() {

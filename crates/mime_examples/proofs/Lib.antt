@@ -1,1 +1,4 @@
+pub mod BodyFacts
+pub mod DispositionFacts
 pub mod Found
+pub mod Places

@@ -1,10 +1,11 @@
 //! What to answer a `Content-Type`.
 
-ghost use Rattle.std.specs.Prelude.{◌≡◌, ◌≢◌, ◌↔◌, ◌⊎◌, Some, None, IfSome, codes};
+ghost use Rattle.std.specs.Prelude.{◌≡◌, ◌≢◌, ◌↔◌, ◌⊎◌, Some, None, IfSome, IsSomeAnd, codes};
 ghost use Rattle.std.specs.Str.{IsUtf8};
 ghost use Rattle.mime.specs.Values.{MediaType};
 ghost use Rattle.mime_http.specs.HttpMediaType.{HttpReads, IsHttpMediaType};
 
+use mime_http::laws::one_http_reading;
 use mime_http::{FieldError, content_type};
 use std::alloc::Global;
 
@@ -31,9 +32,13 @@ pub fn refusal(alloc: Global, value: &[u8]) -> Option<u16>
     // and 415 is so to another one alone.
     ensures unsupported { result ≡ Some 415
         → (media : MediaType) × HttpReads value.now media × (media.essence ≢ codes "application/json") }
+    // JSON is refused only for want of memory.
+    ensures json { IsUtf8 value.now → (media : MediaType) → HttpReads value.now media → media.essence ≡ codes "application/json"
+        → IfSome result (λ status. status ≡ 503) }
     // No other status is answered.
     ensures known { IfSome result (λ status. (status ≡ 400) ⊎ ((status ≡ 415) ⊎ (status ≡ 503))) }
 {
+    one_http_reading();
     match content_type(alloc, value) {
         Ok(mime) => {
             if mime.essence_str() == "application/json" {
@@ -43,5 +48,21 @@ pub fn refusal(alloc: Global, value: &[u8]) -> Option<u16>
             }
         }
         Err(error) => Some(status_of(&error)),
+    }
+}
+
+/// The status that refuses a request with a body by its `Content-Type`, if there is one: without it the body may be anything
+/// (RFC 9110, 8.3), so it isn't taken. Answer 400 to a request with two: recipients differ in which of them they take.
+pub fn refusal_of_body(alloc: Global, content_type: Option<&[u8]>) -> Option<u16>
+    ensures without { content_type.entry ≡ None → result ≡ Some 415 }
+    ensures taken { result ≡ None → IsSomeAnd content_type.entry (λ value. (media : MediaType) × HttpReads value.now media
+        × (media.essence ≡ codes "application/json")) }
+    ensures malformed { result ≡ Some 400 → IsSomeAnd content_type.entry (λ value. ¬ (IsUtf8 value.now × IsHttpMediaType value.now)) }
+    ensures json { IfSome content_type.entry (λ value. IsUtf8 value.now → (media : MediaType) → HttpReads value.now media
+        → media.essence ≡ codes "application/json" → IfSome result (λ status. status ≡ 503)) }
+{
+    match content_type {
+        Some(value) => refusal(alloc, value),
+        None => Some(415),
     }
 }

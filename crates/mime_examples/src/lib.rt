@@ -11,6 +11,7 @@ pub mod caret;
 pub mod charset;
 pub mod compress;
 pub mod counts;
+pub mod disposition;
 pub mod document;
 pub mod file_name;
 pub mod files;

@@ -1,21 +1,33 @@
 //! The parts of a multipart body.
 
-ghost use Rattle.std.specs.Prelude.{◌≡◌, ◌≢◌, ◌-◌, ◌<◌, ◌++◌, [], ℕ, List, IfOk, IfSome, Some, codes, length, slice_get};
+ghost use Rattle.std.specs.Prelude.{◌≡◌, ◌≢◌, ◌⊎◌, ◌↔◌, ◌≤◌, ◌<◌, ◌∷◌, ◌++◌, [], ℕ, List, IsTrue, IfOk, IfSome, MatchOption, Option, Some, None, codes, false, drop, length, map, option_map, take};
 ghost use Rattle.std.specs.Vec.{vec_items};
-ghost use Rattle.mime_http.specs.Boundary.{IsBoundaryOf};
+ghost use Rattle.mime_http.specs.Boundary.{IsBoundary, IsBoundaryOf};
+ghost use Rattle.mime_examples.specs.Disposition.{IsDisposition};
+ghost use Rattle.mime_examples.specs.Multipart.{IsLine, EndsLine, HasNoDelimiter, IsCut, IsPart, Closes, IsNextPart, IsCutOff, IsBody, IsEmptyLine, IsField, IsFirstField};
 
+use crate::disposition::{Disposition, read_disposition};
 use mime::Mime;
 use mime_http::{boundary, is_boundary};
 use std::alloc::{AllocError, Global};
 
-/// What stands before each part of a body, at the start of a line: two hyphens and the boundary (RFC 2046, 5.1.1). `None` if the type
-/// isn't `multipart`, or has no boundary.
+/// The parts of a body.
+#[derive(Drop)]
+pub struct Body<'a> {
+    /// Each part: its own header, an empty line, and its content.
+    pub parts: Vec<&'a [u8]>,
+    /// Whether a delimiter closes the body. If not, it was cut off, and what follows the last delimiter is no part.
+    pub is_whole: bool,
+}
+
+/// What stands before each part of a body, at the start of a line: two hyphens and the boundary (RFC 2046, 5.1.1). `None` exactly if the
+/// type isn't `multipart`, or has no boundary.
 ///
 /// # Errors
 /// `AllocError` if memory runs out, here and below.
 pub fn delimiter(alloc: Global, mime: &Mime) -> Result<Option<Vec<u8>>, AllocError>
-    ensures { IfOk result (λ answer. IfSome answer (λ delimiter. (boundary : List ℕ) × IsBoundaryOf mime.now.media boundary
-        × (vec_items delimiter ≡ codes "--" ++ boundary))) }
+    ensures { IfOk result (λ answer. MatchOption answer ((boundary : List ℕ) → ¬ (IsBoundaryOf mime.now.media boundary))
+        (λ delimiter. (boundary : List ℕ) × IsBoundaryOf mime.now.media boundary × (vec_items delimiter ≡ codes "--" ++ boundary))) }
 {
     let Some(boundary) = boundary(alloc, mime)? else {
         return Ok(None);
@@ -25,78 +37,175 @@ pub fn delimiter(alloc: Global, mime: &Mime) -> Result<Option<Vec<u8>>, AllocErr
     Ok(Some(delimiter))
 }
 
+/// What stands after the delimiter, if a line begins with it at this position.
+fn after_delimiter<'a>(body: &'a [u8], at: usize, delimiter: &[u8]) -> Option<&'a [u8]>
+    requires { at ≤ length body.now }
+    ensures { MatchOption result ((after : List ℕ) → EndsLine (take at body.now) → drop at body.now ≢ delimiter.now ++ after)
+        (λ after. EndsLine (take at body.now) × (drop at body.now ≡ delimiter.now ++ after.now)) }
+{
+    if at > 0 && body[at - 1] != b'\n' {
+        return None;
+    }
+    body[at..].strip_prefix(delimiter)
+}
+
 /// A body cut at the first line that begins with the delimiter: what stands before it, and what stands after it.
 pub fn cut<'a>(body: &'a [u8], delimiter: &[u8]) -> Option<(&'a [u8], &'a [u8])>
-    ensures whole { IfSome result (λ halves. body.now ≡ halves.0.now ++ (delimiter.now ++ halves.1.now)) }
-    // The delimiter stands at the start of a line.
-    ensures line { IfSome result (λ halves. halves.0.now ≢ [] → slice_get halves.0.now (length halves.0.now - 1) ≡ Some 10) }
+    ensures cut { IfSome result (λ halves. IsCut delimiter.now body.now halves.0.now halves.1.now) }
+    ensures none { result ≡ None → delimiter.now ≢ [] → HasNoDelimiter delimiter.now body.now }
 {
     for at in 0..body.len() {
-        if at == 0 || body[at - 1] == b'\n' {
-            if let Some(after) = body[at..].strip_prefix(delimiter) {
-                return Some((&body[..at], after));
-            }
+        if let Some(after) = after_delimiter(body, at, delimiter) {
+            return Some((&body[..at], after));
         }
     }
     None
 }
 
-/// What stands after the end of the first line.
-fn after_line(text: &[u8]) -> Option<&[u8]>
-    ensures { IfSome result (λ after. length after.now < length text.now) }
+/// The first line, without its line feed, and what stands after it. `None` if there is no line feed.
+fn split_line(text: &[u8]) -> Option<(&[u8], &[u8])>
+    ensures { MatchOption result (IsLine text.now) (λ halves. IsLine halves.0.now × (text.now ≡ halves.0.now ++ (10 ∷ halves.1.now))) }
 {
     for at in 0..text.len() {
         if text[at] == b'\n' {
-            return Some(&text[at + 1..]);
+            return Some((&text[..at], &text[at + 1..]));
         }
     }
     None
 }
 
-/// A part without the end of its last line, which belongs to the delimiter after it.
-fn without_end(part: &[u8]) -> &[u8]
-    ensures { (end : List ℕ) × (part.now ≡ result.now ++ end) }
+/// The part in what stands before a delimiter: without the end of the last line, which belongs to the delimiter.
+fn without_end(before: &[u8]) -> &[u8]
+    ensures { EndsLine before.now → IsPart before.now result.now }
 {
-    if let Some(text) = part.strip_suffix(b"\r\n") {
-        text
-    } else if let Some(text) = part.strip_suffix(b"\n") {
-        text
-    } else {
-        part
+    match before.strip_suffix(b"\n") {
+        Some(part) => part.strip_suffix(b"\r").unwrap_or(part),
+        None => before,
     }
 }
 
-/// The parts of a body, each with its own header: what stands between each two lines that begin with the delimiter, up to one that goes on
-/// with two hyphens, or to the last. A part that is open at the end of the body is left out.
-pub fn parts<'a>(alloc: Global, mime: &Mime, body: &'a [u8]) -> Result<Vec<&'a [u8]>, AllocError> {
+/// The part between a delimiter, with these bytes after it, and the next delimiter; and what stands after that.
+fn next_part<'a>(left: &'a [u8], delimiter: &[u8]) -> Option<(&'a [u8], &'a [u8])>
+    requires { delimiter.now ≢ [] }
+    ensures part { IfSome result (λ halves. IsNextPart delimiter.now left.now halves.0.now halves.1.now) }
+    ensures none { result ≡ None → Closes left.now ⊎ IsCutOff delimiter.now left.now }
+    ensures shorter { IfSome result (λ halves. length halves.1.now < length left.now) }
+{
+    if left.starts_with(b"--") {
+        return None;
+    }
+    let (_, text) = split_line(left)?;
+    let (before, after) = cut(text, delimiter)?;
+    Some((without_end(before), after))
+}
+
+/// The parts between lines that begin with the delimiter.
+fn parts_between<'a>(
+    alloc: Global,
+    body: &'a [u8],
+    delimiter: &[u8],
+) -> Result<Body<'a>, AllocError>
+    requires { delimiter.now ≢ [] }
+    ensures { IfOk result (λ found. IsBody delimiter.now body.now (map (λ part. part.now) (vec_items found.parts)) found.is_whole) }
+{
     let mut parts = Vec::new(alloc);
-    let Some(delimiter) = delimiter(alloc, mime)? else {
-        return Ok(parts);
-    };
-    let mut left = match cut(body, &delimiter) {
+    let mut left = match cut(body, delimiter) {
         Some((_, after)) => after,
-        None => return Ok(parts),
+        None => {
+            return Ok(Body {
+                parts,
+                is_whole: false,
+            });
+        }
     };
-    while !left.starts_with(b"--") {
-        let Some(text) = after_line(left) else {
-            break;
-        };
-        let Some((part, after)) = cut(text, &delimiter) else {
-            break;
-        };
-        parts.push(without_end(part))?;
+    while let Some((part, after)) = next_part(left, delimiter) {
+        parts.push(part)?;
         left = after;
     }
-    Ok(parts)
+    Ok(Body {
+        parts,
+        is_whole: left.starts_with(b"--"),
+    })
+}
+
+/// The parts of a body: what stands between each two lines that begin with the delimiter, up to one that goes on with two hyphens, or to
+/// the last. `None` exactly if the media type has no boundary. What stands in a part isn't looked at: it may have no header.
+pub fn parts<'a>(alloc: Global, mime: &Mime, body: &'a [u8]) -> Result<Option<Body<'a>>, AllocError>
+    ensures { IfOk result (λ answer. MatchOption answer ((boundary : List ℕ) → ¬ (IsBoundaryOf mime.now.media boundary))
+        (λ found. (boundary : List ℕ) × IsBoundaryOf mime.now.media boundary
+        × IsBody (codes "--" ++ boundary) body.now (map (λ part. part.now) (vec_items found.parts)) found.is_whole)) }
+{
+    let Some(delimiter) = delimiter(alloc, mime)? else {
+        return Ok(None);
+    };
+    let found = parts_between(alloc, body, &delimiter)?;
+    Ok(Some(found))
+}
+
+/// The value of a line that is a field of this name, if it is one.
+fn value_in<'a>(line: &'a [u8], name: &str) -> Option<&'a [u8]>
+    ensures { MatchOption result ((value : List ℕ) → ¬ (IsField name.now line.now value)) (λ value. IsField name.now line.now value.now) }
+{
+    if line.len() < name.len() {
+        return None;
+    }
+    if !line[..name.len()].eq_ignore_ascii_case(name.as_bytes()) {
+        return None;
+    }
+    let rest = line[name.len()..].strip_prefix(b":")?;
+    Some(rest.trim_ascii())
+}
+
+/// Whether a line ends a header.
+fn is_empty_line(line: &[u8]) -> bool
+    ensures { IsTrue result ↔ IsEmptyLine line.now }
+{
+    line.is_empty() || line == b"\r".as_slice()
+}
+
+/// The value of the first field of this name in a part's header, if there is one.
+fn value_of<'a>(part: &'a [u8], name: &str) -> Option<&'a [u8]>
+    ensures { IsFirstField name.now part.now (option_map (λ value. value.now) result) }
+{
+    let mut left = part;
+    while let Some((line, after)) = split_line(left) {
+        if let Some(value) = value_in(line, name) {
+            return Some(value);
+        }
+        if is_empty_line(line) {
+            return None;
+        }
+        left = after;
+    }
+    None
+}
+
+/// What the first `Content-Disposition` of a part says: the names of its field and of its file. `None` exactly if there is none, or it names
+/// no field. What goes on in a second line isn't read (RFC 5322, 2.2.3).
+pub fn disposition_of(alloc: Global, part: &[u8]) -> Result<Option<Disposition>, AllocError>
+    ensures { IfOk result (λ answer. (first : Option (List ℕ)) × IsFirstField (codes "content-disposition") part.now first
+        × MatchOption answer ((value name : List ℕ) (file_name : Option (List ℕ)) → first ≡ Some value → ¬ (IsDisposition value name file_name))
+        (λ found. (value : List ℕ) × (first ≡ Some value)
+        × IsDisposition value (vec_items found.name) (option_map vec_items found.file_name))) }
+{
+    match value_of(part, "content-disposition") {
+        Some(value) => read_disposition(alloc, value),
+        None => Ok(None),
+    }
 }
 
 /// Whether bytes can be the boundary of a part: they are a boundary, and don't stand in it.
-pub fn may_delimit(bytes: &[u8], part: &[u8]) -> bool {
+pub fn may_delimit(bytes: &[u8], part: &[u8]) -> bool
+    ensures { IsTrue result ↔ IsBoundary bytes.now × ((before after : List ℕ) → part.now ≢ before ++ (bytes.now ++ after)) }
+{
     is_boundary(bytes) && !stand_in(bytes, part)
 }
 
-/// Whether bytes stand in a part.
-fn stand_in(bytes: &[u8], part: &[u8]) -> bool {
+/// Whether bytes, which aren't none, stand in a part.
+fn stand_in(bytes: &[u8], part: &[u8]) -> bool
+    ensures stand { IsTrue result → (before after : List ℕ) × (part.now ≡ before ++ (bytes.now ++ after)) }
+    ensures none { result ≡ false → bytes.now ≢ [] → (before after : List ℕ) → part.now ≢ before ++ (bytes.now ++ after) }
+{
     for at in 0..part.len() {
         if part[at..].starts_with(bytes) {
             return true;

@@ -1,23 +1,41 @@
 //! A reader chosen without memory.
 
-use mime::{APPLICATION_JSON, APPLICATION_WWW_FORM_URLENCODED, Atom, TEXT_PLAIN, mime_eq_str};
+ghost use Rattle.std.specs.Prelude.{◌≡◌, ◌==◌, ℕ, List, if◌then◌else◌, codes};
+ghost use Rattle.std.specs.List.{before_first};
+ghost use Rattle.std.specs.Str.{IsTrimAscii, bytes_eq};
+ghost use Rattle.mime.specs.Bytes.{semicolon_byte};
+ghost use Rattle.mime.specs.Values.{lowered};
 
-/// The readers by the media type that each takes.
-static READERS: [(Atom, &str); 3] = [
-    (APPLICATION_JSON, "json"),
-    (APPLICATION_WWW_FORM_URLENCODED, "form"),
-    (TEXT_PLAIN, "text"),
-];
+use mime::{APPLICATION_JSON, APPLICATION_WWW_FORM_URLENCODED, TEXT_PLAIN};
 
-/// Which reader takes a body, by the essence of its `Content-Type` and without memory, whatever the
-/// parameters are: `bytes` if it isn't one of three media types. The parameters aren't read, so they
-/// may be broken.
-pub fn reader_of(content_type: &str) -> &'static str {
-    let (essence, _) = content_type.split_once(';').unwrap_or((content_type, ""));
-    for (atom, reader) in &READERS {
-        if mime_eq_str(&atom.mime(), essence.trim_ascii()) {
-            return reader;
-        }
+/// What stands before the first semicolon of a `Content-Type`, without the white space around it: the essence, if it is one. The
+/// parameters aren't read, so they may be broken: of `text/html; charset` it is `text/html`.
+pub fn essence_of(content_type: &str) -> &str
+    ensures { IsTrimAscii (before_first (λ b. b == semicolon_byte) content_type.now) result.now }
+{
+    let before = match content_type.split_once(';') {
+        Some((before, _)) => before,
+        None => content_type,
+    };
+    before.trim_ascii()
+}
+
+/// Which reader takes a body, by the essence of its `Content-Type` and without memory, whatever the parameters are: `bytes` if it is
+/// none of three media types.
+pub fn reader_of(content_type: &str) -> &'static str
+    ensures { (essence : List ℕ) × IsTrimAscii (before_first (λ b. b == semicolon_byte) content_type.now) essence
+        × (result.now ≡ (if bytes_eq (lowered essence) (codes "application/json") then codes "json" else
+        if bytes_eq (lowered essence) (codes "application/x-www-form-urlencoded") then codes "form" else
+        if bytes_eq (lowered essence) (codes "text/plain") then codes "text" else codes "bytes")) }
+{
+    let essence = essence_of(content_type);
+    if essence.eq_ignore_ascii_case(APPLICATION_JSON.text()) {
+        "json"
+    } else if essence.eq_ignore_ascii_case(APPLICATION_WWW_FORM_URLENCODED.text()) {
+        "form"
+    } else if essence.eq_ignore_ascii_case(TEXT_PLAIN.text()) {
+        "text"
+    } else {
+        "bytes"
     }
-    "bytes"
 }

@@ -4,6 +4,7 @@ ghost use Rattle.std.specs.Prelude.{◌≡◌, IfOk, IfSome, codes};
 ghost use Rattle.mime.specs.Values.{MediaType, Reads, lowered};
 ghost use Rattle.mime_http.specs.Written.{with_pair};
 
+use mime::laws::one_reading;
 use mime::{MULTIPART_FORM_DATA, Mime, TEXT_HTML};
 use mime_http::{with_boundary, with_charset};
 use std::alloc::{AllocError, Global};
@@ -13,9 +14,13 @@ use std::alloc::{AllocError, Global};
 /// # Errors
 /// `AllocError` if memory runs out, here and below.
 pub fn page_in(alloc: Global, charset: &str) -> Result<Option<Mime>, AllocError>
-    ensures { IfOk result (λ answer. IfSome answer (λ page. (html : MediaType) × Reads (codes "text/html") html
+    ensures made { IfOk result (λ answer. IfSome answer (λ page. (html : MediaType) × Reads (codes "text/html") html
         × (page.media ≡ with_pair html (codes "charset") (lowered charset.now)))) }
+    // In UTF-8 it is printed so exactly.
+    ensures printed { charset.now ≡ codes "utf-8"
+        → IfOk result (λ answer. IfSome answer (λ page. page.media.kept ≡ codes "text/html; charset=utf-8")) }
 {
+    one_reading();
     with_charset(alloc, &TEXT_HTML.mime(), charset)
 }
 

@@ -1,4 +1,5 @@
 mod HeadLines
 mod HeaderFacts
+mod ReportFacts
 mod Rows
 mod Words

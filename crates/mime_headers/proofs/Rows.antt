@@ -4,13 +4,11 @@ use Rattle.std.specs.Prelude.{flat_map, slice_get}
 use Rattle.std.specs.Str.{IsUtf8}
 use Rattle.mime.specs.Items.{Item, items_of}
 use Rattle.mime.specs.Values.{MediaType}
-use Rattle.mime_http.specs.HttpMediaType.{HttpReads}
 use Rattle.mime_http.specs.Ranges.{AreInOrder}
-use Rattle.mime_http.specs.Tight.{ReadsTight}
 use Rattle.std.proofs.lemmas.List.{drop_more}
 use Rattle.mime_io.specs.Inner.{Adds}
-use Rattle.mime_headers.specs.Head.{without_start}
-use Rattle.mime_headers.specs.Report.{param_row, media_rows, ReportsBoundary, ReportsType, ReportsTypes, row_at, row_if_refused}
+use Rattle.mime_headers.specs.Head.{trimmed}
+use Rattle.mime_headers.specs.Report.{param_row, media_rows, ReportsBoundary, ReadsAs, ReportsType, ReportsTypes, row_at, row_if_refused}
 use Rattle.mime_headers.specs.Report.ReportsType.{good}
 use Rattle.mime_headers.specs.Report.ReportsTypes.{no_more, one_more}
 use Rattle.mime_headers.specs.Inner.{AddsOffers}
@@ -33,14 +31,14 @@ rows-next f xs i x old new whole within is left added =
 
 -- the rows of a media type, and then that of its boundary
 pub reported-good : {E : Type 0} (result : Result (Unit {0}) E) (value : List ℕ) (media : MediaType) (old between new : List ℕ) → IsUtf8 value
-    → HttpReads value media → ReadsTight value media → between ≡ old ++ media_rows media
+    → ReadsAs value media → between ≡ old ++ media_rows media
     → OnOk result (Adds (ReportsBoundary media) between new) → OnOk result (Adds (ReportsType value) old new)
-reported-good (Ok done) value media old between new utf8 http kept first (last, is, added) = (
+reported-good (Ok done) value media old between new utf8 read first (last, is, added) = (
   media_rows media ++ last,
-  good media last utf8 http kept is,
+  good media last utf8 read is,
   added ∙ ap (λ text. text ++ last) first ∙ append_assoc old (media_rows media) last,
 )
-reported-good (Err error) value media old between new utf8 http kept first added = tt
+reported-good (Err error) value media old between new utf8 read first added = tt
 
 -- what was added of values, and what is left to add
 abbrev pub AreReported : List (List ℕ) → List (List ℕ) → List ℕ → List ℕ → Type 0
@@ -52,7 +50,7 @@ reported-none all start more reports = (more, reports, refl)
 
 -- the next value's rows, and then those of the others
 pub reported-next : (all left rest : List (List ℕ)) (value start now new : List ℕ) → left ≡ value ∷ rest → AreReported all left start now
-    → Adds (ReportsType (without_start value)) now new → AreReported all rest start new
+    → Adds (ReportsType (trimmed value)) now new → AreReported all rest start new
 reported-next all left rest value start now new is reported (rows, report, added) more reports =
     let whole =
     reported (rows ++ more) (subst (λ values. ReportsTypes values (rows ++ more)) (sym is) (one_more report reports)) in

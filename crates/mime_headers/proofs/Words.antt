@@ -1,7 +1,7 @@
 -- The offers of words, one by one.
 use Rattle.std.proofs.Common.{suc, ◌≡◌, ℕ, ◌+◌, List, [], ◌∷◌, ◌++◌, take, sym, subst, ap, ◌∙◌, arith, append_assoc, append-nil}
 use Rattle.mime.specs.Values.{MediaType}
-use Rattle.mime_http.specs.HttpMediaType.{HttpReads}
+use Rattle.mime_headers.specs.Report.{ReadsAs}
 use Rattle.mime_headers.specs.declared.offers.BadOffer.{BadOffer}
 use Rattle.mime_headers.specs.Program.{AreOffers, AreRefused}
 use Rattle.mime_headers.specs.Program.AreRefused.{after_word}
@@ -13,7 +13,7 @@ AreBegun all left offers = (more : List MediaType) → AreOffers left more → A
 
 -- the next word's offer is put last
 pub begun-next : (all left rest : List (List ℕ)) (word : List ℕ) (offer : MediaType) (offers new : List MediaType) → left ≡ word ∷ rest
-    → AreBegun all left offers → HttpReads word offer → new ≡ offers ++ (offer ∷ []) → AreBegun all rest new
+    → AreBegun all left offers → ReadsAs word offer → new ≡ offers ++ (offer ∷ []) → AreBegun all rest new
 begun-next all left rest word offer offers new is begun reads pushed more are =
     subst (λ it. AreOffers all (it ++ more)) (sym pushed)
     (subst (AreOffers all) (sym (append_assoc offers (offer ∷ []) more))
@@ -30,7 +30,7 @@ AreRefusedBy all left = (error : BadOffer) → AreRefused left error → AreRefu
 
 -- and so are those after a word that names an offer
 pub refused-next : (all left rest : List (List ℕ)) (word : List ℕ) (offer : MediaType) → left ≡ word ∷ rest → AreRefusedBy all left
-    → HttpReads word offer → AreRefusedBy all rest
+    → ReadsAs word offer → AreRefusedBy all rest
 refused-next all left rest word offer is refused reads error are =
     refused error (subst (λ words. AreRefused words error) (sym is) (after_word reads are))
 

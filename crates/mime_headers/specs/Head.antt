@@ -1,16 +1,10 @@
--- Which lines of an input are a head, and the values of a field there (RFC 9110, 5.5; RFC 9112, 2.1 and 5).
-use Rattle.std.specs.Prelude.{ℕ, ◌-◌, Bool, false, List, [], ◌∷◌, ◌++◌, ◌==◌, ◌||◌, map, take, drop, length, if◌then◌else◌}
-use Rattle.std.specs.Char.{is_ascii_whitespace}
-use Rattle.std.specs.List.{prefix_len, suffix_len}
+-- Which lines of an input are a head, and the values of a field there (RFC 9110, 5.5 and 5.6.3; RFC 9112, 2.2 and 5).
+use Rattle.std.specs.Prelude.{ℕ, Bool, false, List, [], ◌∷◌, ◌++◌, ◌==◌, ◌||◌, map, take, drop, length, if◌then◌else◌}
 use Rattle.std.specs.Str.{str_eq_ignore_ascii_case}
+use Rattle.std.specs.Str.Lines.{strip_carriage_return}
+use Rattle.mime.specs.Grammar.{is_space}
+use Rattle.mime_http.specs.HttpList.{trim_start, trim_end}
 use Rattle.mime_io.specs.Lines.{lines_of}
-
--- bytes without the white space before them, and without that after them, which a carriage return is too
-abbrev pub without_start : List ℕ → List ℕ
-without_start bytes = drop (prefix_len is_ascii_whitespace bytes) bytes
-
-abbrev pub without_end : List ℕ → List ℕ
-without_end bytes = take (length bytes - suffix_len is_ascii_whitespace bytes) bytes
 
 -- a line without the mark that `curl -v` writes before it, `>` or `<` and a space, which begins no field's name
 abbrev pub without_space : List ℕ → List ℕ
@@ -21,22 +15,26 @@ abbrev pub without_mark : List ℕ → List ℕ
 without_mark [] = []
 without_mark (b ∷ line) = if b == 60 || b == 62 then without_space line else b ∷ line
 
--- the lines of a head, which end with the first that is empty
+-- the lines of a head, which end with the first that has nothing but a mark; one carriage return at a line's end is no part of it
 abbrev pub until_empty : List (List ℕ) → List (List ℕ)
 until_empty [] = []
 until_empty (line ∷ lines) = if length line == 0 then [] else line ∷ until_empty lines
 
 abbrev pub head_of : List ℕ → List (List ℕ)
-head_of bytes = until_empty (map (λ line. without_end (without_mark line)) (lines_of bytes))
+head_of bytes = until_empty (map (λ line. without_mark (strip_carriage_return line)) (lines_of bytes))
 
--- a line that begins with white space goes on with the field before it (RFC 9112, 5.2)
+-- bytes without the white space around them
+abbrev pub trimmed : List ℕ → List ℕ
+trimmed bytes = trim_end (trim_start bytes)
+
+-- a line that begins with white space goes on with the field before it: one space stands for the white space between them (RFC 9112, 5.2)
 abbrev pub goes_on : List ℕ → Bool
 goes_on [] = false
-goes_on (b ∷ line) = is_ascii_whitespace b
+goes_on (b ∷ line) = is_space b
 
 abbrev pub continued : List (List ℕ) → List ℕ
 continued [] = []
-continued (line ∷ lines) = if goes_on line then line ++ continued lines else []
+continued (line ∷ lines) = if goes_on line then 32 ∷ trimmed line ++ continued lines else []
 
 -- the values of a field, of each line that begins with its name, in any case, and a colon; other lines are passed over
 abbrev pub begins : List ℕ → List ℕ → Bool
@@ -46,5 +44,5 @@ abbrev pub values_of : List ℕ → List (List ℕ) → List (List ℕ)
 values_of label [] = []
 values_of label (line ∷ lines) =
     if begins label line
-    then (drop (length label) line ++ continued lines) ∷ values_of label lines
+    then (trimmed (drop (length label) line) ++ continued lines) ∷ values_of label lines
     else values_of label lines

@@ -8,16 +8,15 @@ use Rattle.mime.specs.declared.scan.fault.ParseError.{ParseError}
 use Rattle.mime.specs.declared.scan.fault.ParseError.TheVariants.{InvalidToken}
 use Rattle.mime_http.specs.Boundary.{IsBoundaryOf}
 use Rattle.mime_http.specs.HttpFaults.{HttpExplains}
-use Rattle.mime_http.specs.HttpList.{Header, IsHeader}
+use Rattle.mime_http.specs.HttpList.{IsPrinted, Header, IsHeader}
 use Rattle.mime_http.specs.HttpMediaType.{HttpReads}
 use Rattle.mime_http.specs.HttpPrinted.{field_error_text}
 use Rattle.mime_http.specs.Ranges.{weight_of, given_weight, best_offer, AreInOrder}
-use Rattle.mime_http.specs.Tight.{ReadsTight}
 use Rattle.mime_http.specs.Unescaped.{unescaped}
 use Rattle.mime_http.specs.declared.value.FieldError.{FieldError}
 use Rattle.mime_http.specs.declared.value.FieldError.TheVariants.{NotUtf8, Invalid, NoMemory}
 use Rattle.mime_io.specs.Lines.{row, suffix_row}
-use Rattle.mime_headers.specs.Head.{without_start, head_of, values_of}
+use Rattle.mime_headers.specs.Head.{trimmed, head_of, values_of}
 use Rattle.mime_headers.specs.declared.verdict.Verdict.{Verdict}
 
 -- bytes that may be any, as they are shown: a dot for each that isn't printable ASCII
@@ -63,16 +62,20 @@ fault_rows value error =
     ++ (row (codes "    ") (shown value)
     ++ row (codes "    ") (replicate (fault_at value error) 32 ++ codes "^"))
 
+-- what is read of a value, with the kept text that is printed of it
+abbrev pub ReadsAs : List ℕ → MediaType → Type 0
+ReadsAs value media = HttpReads value media × IsPrinted value media
+
 -- what is written of a value: of a media type its rows, and otherwise those of its fault
 pub data ReportsType (value : List ℕ) : List ℕ → Type 0 where
-  good : (media : MediaType) (last : List ℕ) → IsUtf8 value → HttpReads value media → ReadsTight value media → ReportsBoundary media last
+  good : (media : MediaType) (last : List ℕ) → IsUtf8 value → ReadsAs value media → ReportsBoundary media last
       → ReportsType value (media_rows media ++ last)
   bad : (error : FieldError) → error ≢ NoMemory → HttpExplains value error → ReportsType value (fault_rows value error)
 
--- and of all values, one after another
+-- and of all values, one after another, each without the white space around it (RFC 9110, 5.5)
 pub data ReportsTypes : List (List ℕ) → List ℕ → Type 0 where
   no_more : ReportsTypes [] []
-  one_more : {value rows others : List ℕ} {values : List (List ℕ)} → ReportsType (without_start value) rows → ReportsTypes values others
+  one_more : {value rows others : List ℕ} {values : List (List ℕ)} → ReportsType (trimmed value) rows → ReportsTypes values others
       → ReportsTypes (value ∷ values) (rows ++ others)
 
 -- the row which says that a field has no line
@@ -142,7 +145,7 @@ pub record Reports (types lines : List (List ℕ)) (offers : List MediaType) (te
   pub header : Header
   pub order : List ℕ
   pub are_types : ReportsTypes types rows
-  pub is_header : IsHeader lines header
+  pub is_header : IsHeader (map trimmed lines) header
   pub is_order : AreInOrder header.ranges offers order
   pub is_text :
       text

@@ -1,11 +1,24 @@
 //! A head: its lines, and the values of a field.
 
-ghost use Rattle.std.specs.Prelude.{◌≡◌, ◌<◌, ◌∷◌, ◌++◌, ◌==◌, [], None, Some, length, drop, map, OnOk, IfOk, IfSome, MatchOption, if◌then◌else◌};
+ghost use Rattle.std.specs.Prelude.{◌≡◌, ◌<◌, ◌∷◌, ◌++◌, ◌==◌, [], None, Some, length, map, OnOk, IfOk, IfSome, MatchOption};
+ghost use Rattle.std.specs.Str.Lines.{strip_carriage_return};
 ghost use Rattle.std.specs.Vec.{vec_items};
-ghost use Rattle.mime_headers.specs.Head.{without_end, without_space, without_mark, head_of, goes_on, continued, begins, values_of};
+ghost use Rattle.mime.specs.Grammar.{is_space};
+ghost use Rattle.mime_http.specs.HttpList.{trim_start, trim_end};
+ghost use Rattle.mime_headers.specs.Head.{without_space, without_mark, head_of, trimmed, goes_on, continued, begins, values_of};
 
 use mime_io::first_line;
 use std::alloc::{AllocError, Global};
+
+/// A line without the carriage return of its end.
+fn unreturned(line: &[u8]) -> &[u8]
+    ensures { result.now ≡ strip_carriage_return line.now }
+{
+    match line.split_last() {
+        Some((b'\r', rest)) => rest,
+        _ => line,
+    }
+}
 
 /// A line without one space before it.
 fn unspaced(line: &[u8]) -> &[u8]
@@ -27,13 +40,14 @@ fn unmarked(line: &[u8]) -> &[u8]
     }
 }
 
-/// The first line of a head and the input after it, or `None` if the head has ended: with an empty line, or with the input.
+/// The first line of a head and the input after it, or `None` if the head has ended: with a line that has nothing but a mark, or with
+/// the input.
 fn head_line(input: &[u8]) -> Option<(&[u8], &[u8])>
     ensures lines { MatchOption result (head_of input.now ≡ []) (λ cut. head_of input.now ≡ cut.0.now ∷ head_of cut.1.now) }
     ensures shorter { IfSome result (λ cut. length cut.1.now < length input.now) }
 {
     let (line, rest) = first_line(input)?;
-    let line = unmarked(line).trim_ascii_end();
+    let line = unmarked(unreturned(line));
     if line.is_empty() {
         None
     } else {
@@ -41,12 +55,54 @@ fn head_line(input: &[u8]) -> Option<(&[u8], &[u8])>
     }
 }
 
+/// Whether a byte is white space.
+fn is_space(byte: u8) -> bool
+    ensures { result ≡ is_space byte }
+{
+    byte == b' ' || byte == b'\t'
+}
+
+/// Bytes without the white space before them.
+fn trim_start(bytes: &[u8]) -> &[u8]
+    ensures { result.now ≡ trim_start bytes.now }
+{
+    let mut text = bytes;
+    while let Some((&first, rest)) = text.split_first() {
+        if !is_space(first) {
+            return text;
+        }
+        text = rest;
+    }
+    text
+}
+
+/// Bytes without the white space after them.
+fn trim_end(bytes: &[u8]) -> &[u8]
+    ensures { result.now ≡ trim_end bytes.now }
+{
+    let mut text = bytes;
+    while let Some((&last, rest)) = text.split_last() {
+        if !is_space(last) {
+            return text;
+        }
+        text = rest;
+    }
+    text
+}
+
+/// Bytes without the white space around them.
+pub(crate) fn trimmed(bytes: &[u8]) -> &[u8]
+    ensures { result.now ≡ trimmed bytes.now }
+{
+    trim_end(trim_start(bytes))
+}
+
 /// Whether a line goes on with the field before it.
 fn goes_on(line: &[u8]) -> bool
     ensures { result ≡ goes_on line.now }
 {
     match line.first() {
-        Some(byte) => byte.is_ascii_whitespace(),
+        Some(&first) => is_space(first),
         None => false,
     }
 }
@@ -67,7 +123,8 @@ fn push_continued(value: &mut Vec<u8>, after: &[u8]) -> Result<(), AllocError>
         if !goes_on(line) {
             return Ok(());
         }
-        value.extend_from_slice(line)?;
+        value.push(b' ')?;
+        value.extend_from_slice(trimmed(line))?;
         rest = more;
     }
     Ok(())
@@ -75,9 +132,9 @@ fn push_continued(value: &mut Vec<u8>, after: &[u8]) -> Result<(), AllocError>
 
 /// A field's value, which begins in its line and goes on in those after it.
 fn whole_value(alloc: Global, begin: &[u8], after: &[u8]) -> Result<Vec<u8>, AllocError>
-    ensures { IfOk result (λ value. vec_items value ≡ begin.now ++ continued (head_of after.now)) }
+    ensures { IfOk result (λ value. vec_items value ≡ trimmed begin.now ++ continued (head_of after.now)) }
 {
-    let mut value = begin.to_vec(alloc)?;
+    let mut value = trimmed(begin).to_vec(alloc)?;
     push_continued(&mut value, after)?;
     Ok(value)
 }

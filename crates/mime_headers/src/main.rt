@@ -9,6 +9,8 @@ mod head;
 mod offers;
 mod program;
 mod report;
+#[cfg(test)]
+mod tests;
 mod verdict;
 
 use crate::offers::{read_offers, refused};

@@ -4,8 +4,8 @@ ghost use Rattle.std.specs.Prelude.{◌≡◌, ◌≢◌, ◌∷◌, ℕ, List, 
 ghost use Rattle.std.specs.Process.{exit_status};
 ghost use Rattle.std.specs.Vec.{vec_items};
 ghost use Rattle.std.specs.Vec.Iter.{into_iter_items, into_iter_len};
-ghost use Rattle.mime_http.specs.HttpMediaType.{HttpReads};
 ghost use Rattle.mime_headers.specs.Program.{AreOffers, AreRefused};
+ghost use Rattle.mime_headers.specs.Report.{ReadsAs};
 
 use mime::Mime;
 use mime_http::{FieldError, content_type};
@@ -54,7 +54,7 @@ fn offers_of(alloc: Global, mut words: Args) -> Result<Vec<Mime>, BadOffer>
 
 /// The offer that a word names.
 fn offer_of(alloc: Global, word: String) -> Result<Mime, BadOffer>
-    ensures read { IfOk result (λ offer. HttpReads (string_bytes word) offer.media) }
+    ensures read { IfOk result (λ offer. ReadsAs (string_bytes word) offer.media) }
     ensures refused { (others : List (List ℕ)) → IfErr result (λ error. AreRefused (string_bytes word ∷ others) error) }
 {
     match content_type(alloc, word.as_bytes()) {

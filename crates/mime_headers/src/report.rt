@@ -7,12 +7,12 @@ ghost use Rattle.mime_http.specs.HttpFaults.{HttpExplains};
 ghost use Rattle.mime_http.specs.HttpList.{IsHeader};
 ghost use Rattle.mime_io.specs.Inner.{Adds};
 ghost use Rattle.mime_io.specs.Lines.{row, suffix_row};
-ghost use Rattle.mime_headers.specs.Head.{without_start};
+ghost use Rattle.mime_headers.specs.Head.{trimmed};
 ghost use Rattle.mime_headers.specs.Report.{shown_byte, shown, param_row, media_rows, ReportsBoundary, fault_at, fault_rows, ReportsType, ReportsTypes, none_row};
 ghost use Rattle.mime_headers.specs.Report.{digit, weight_text, weighed_row, range_row, bad_row, accept_rows, row_at, row_if_refused, best_of, best_rows, verdict_of, Reports, IsReportOf};
 ghost use Rattle.mime_headers.specs.Inner.{AddsOffers};
 
-use crate::head::values_of;
+use crate::head::{trimmed, values_of};
 use crate::verdict::Verdict;
 use mime::{Mime, ParseError};
 use mime_http::{Accept, FieldError, boundary, content_type, unescape, weight_of};
@@ -57,20 +57,20 @@ fn report_on(
     Ok(Report { text, verdict })
 }
 
-/// The slices of some values.
+/// Some values, each without the white space around it.
 fn slices_of<'v>(alloc: Global, values: &'v [Vec<u8>]) -> Result<Vec<&'v [u8]>, AllocError>
-    ensures { IfOk result (λ lines. map (λ line. line.now) (vec_items lines) ≡ map vec_items values.now) }
+    ensures { IfOk result (λ lines. map (λ line. line.now) (vec_items lines) ≡ map trimmed (map vec_items values.now)) }
 {
     let mut slices = Vec::new(alloc);
     for value in values {
-        slices.push(value.as_slice())?;
+        slices.push(trimmed(value))?;
     }
     Ok(slices)
 }
 
 /// What the values of `Accept` accept.
 fn accept_of(alloc: Global, values: &[Vec<u8>]) -> Result<Accept, AllocError>
-    ensures { IfOk result (λ accept. IsHeader (map vec_items values.now) accept) }
+    ensures { IfOk result (λ accept. IsHeader (map trimmed (map vec_items values.now)) accept) }
 {
     let lines = slices_of(alloc, values)?;
     Accept::from_lines(alloc, &lines)
@@ -86,11 +86,11 @@ fn push_types(alloc: Global, report: &mut Vec<u8>, values: &[Vec<u8>]) -> Result
     Ok(())
 }
 
-/// Adds the rows of a value of `Content-Type`, without the white space before it.
+/// Adds the rows of a value of `Content-Type`, without the white space around it.
 fn push_type(alloc: Global, report: &mut Vec<u8>, value: &[u8]) -> Result<(), AllocError>
-    ensures { OnOk result (Adds (ReportsType (without_start value.now)) (vec_items report.old) (vec_items report.new)) }
+    ensures { OnOk result (Adds (ReportsType (trimmed value.now)) (vec_items report.old) (vec_items report.new)) }
 {
-    push_value(alloc, report, value.trim_ascii_start())
+    push_value(alloc, report, trimmed(value))
 }
 
 /// Adds the rows of a media type, or of the value's fault.

@@ -11,7 +11,7 @@ pub use Rattle.std.proofs.lemmas.Grind.{common_steps, flat_map-append}
 pub use Rattle.std.proofs.lemmas.Iterator.Adapters.{position_from-zero}
 pub use Rattle.std.proofs.lemmas.List.{append_cancel_left, append_cancel_right, drop-drop, drop_all, drop_at, drop_more, get_or-drop, get_or-map, get_or_default, get_or_past, length-map, length-take-le, map-append, nil_from_length, take-append-drop, take_all, take_more, take_rest}
 pub use Rattle.std.proofs.lemmas.List.Elements.{All-contains, Contains-get_or}
-pub use Rattle.std.proofs.lemmas.List.Folds.{concat-append, list_all-append, list_all-map, list_any-append}
+pub use Rattle.std.proofs.lemmas.List.Folds.{concat-append, drop_split, list_all-append, list_all-map, list_any-append}
 pub use Rattle.std.proofs.lemmas.List.FromFn.{get_or-map-range_with_len}
 pub use Rattle.std.proofs.lemmas.List.Sums.{AllPass-from_list_all, fold_push, list_all-from_AllPass, prefix_len-le-length, prefix_len_stops, take_while-cons}
 pub use Rattle.std.proofs.lemmas.Option.{MatchOption-at_some, get_or_from_slice_get, none-some, option_and_then_some, same_Some, slice_get-get_or, slice_get_within}
@@ -27,13 +27,13 @@ unfoldable pub use Rattle.std.specs.List.{IsDistinct}
 pub use Rattle.std.specs.List.{AllByRecursion, AllPairs, FoldsTo, concat, cons_option, drop-map, enumerate_from, list_all, list_any, position_from, prefix_len, range_with_len}
 pub use Rattle.std.specs.Option.{option_and_then, option_cmp, option_eq, option_map, option_or}
 pub use Rattle.std.specs.Ordering.{MatchOrdering, eq_by_cmp, flip_args, is_eq, is_gt, is_le, is_lt, is_some_and, nat_cmp, on, ord_max, ordering_reverse, ordering_then, partial_ordering_then, then_cmp}
-pub use Rattle.std.specs.Prelude.{Contains, IfErr, IfOk, IfSome, IsFalse, IsTrue, IsUtf8, MatchOption, MatchResult, OnOk, Result, bit_and, bytes_eq, codes, filter_map, find, flat_map, fold, if◌then◌else◌, min, nat_le, nat_lt, not, position, slice_get, slice_index, take_while, unwrap_or, ⊤, ◌&&◌, ◌↔◌}
+pub use Rattle.std.specs.Prelude.{Contains, IfErr, IfOk, IfSome, IsFalse, IsTrue, IsUtf8, MatchOption, MatchResult, OnOk, Result, bit_and, bytes_eq, codes, filter_map, find, flat_map, fold, if◌then◌else◌, min, nat_le, nat_lt, not, position, slice_get, slice_index, slice_range, take_while, unwrap_or, ⊤, ◌&&◌, ◌↔◌}
 pub use Rattle.std.specs.Str.{IsAscii, IsCharBoundary, is_utf8}
 pub use Rattle.std.specs.Vec.{vec_items}
 pub use Rattle.std.specs.declared.cmp.Ordering.{Ordering}
 pub use Rattle.std.specs.declared.cmp.Ordering.TheVariants.{Equal, Greater, Less}
 pub use Rattle.std.specs.declared.cmp.Reverse.{Reverse}
-pub use Rattle.mime.proofs.HandedOut.{AreTokenBytes-from_token, Begun, ClosedParameters, IsContent-taken, IsToken-lowered, ListState, accepted-from_complete, accepted_or_rejected, after_quotes, awaits_after-append, boundary_after, by_class, completed_is_rejected, dead-from_walk, essence_is_read, grow, grow_list, grow_state, high_bytes, in_list, in_name, in_quotes, in_spaces, in_subtype, in_type, in_value, IsBegun, IsState, BegunList, walk_from-lengthens, length-lowered, list_all-lowered, list_all-wider, list_at, lowered-lowered, lowered_value-either, lowered_value-lowered, not_viable-at_dead, one_fault, one_reading, pairs_of_tail-lowered, prefix_of_viable_is_viable, rejected-from_walk, slice_get-prefix, spelled-from_walk, stopped-from_walk, tree_of, viable-from_lacks, viable-from_walk, walk, walk-accepted, walk-from_viable, walk_by-append, walk_by-append_some, walk_from}
+pub use Rattle.mime.proofs.HandedOut.{AreTokenBytes-from_token, Begun, ClosedParameters, IsContent-taken, IsToken-lowered, ListState, accepted-from_complete, accepted_or_rejected, after_quotes, awaits_after-append, boundary_after, by_class, completed_is_rejected, content-from_token, dead-from_walk, essence_is_read, grow, grow_list, grow_state, high_bytes, in_ranges, IsBegun, IsState, BegunList, walk_from-lengthens, length-lowered, list_all-lowered, list_all-wider, list_at, lowered-lowered, lowered_value-either, lowered_value-lowered, not_viable-at_dead, one_fault, one_reading, pairs_of_tail-lowered, prefix_of_viable_is_viable, rejected-from_walk, slice_get-prefix, spelled-from_walk, stopped-from_walk, tree_of, viable-from_lacks, viable-from_walk, walk, walk-accepted, walk-from_viable, walk_by-append, walk_by-append_some, walk_from}
 unfoldable pub use Rattle.mime.specs.Bytes.{is_quoted_byte, is_token_byte}
 pub use Rattle.mime.specs.Bytes.{backslash_byte, is_quoted_text_byte, quote_byte}
 pub use Rattle.mime.specs.Faults.{EndsIn, Explains, IsDeadAt, IsFault, IsLongestPrefix, IsViable, Lacks, completion_of, last_byte_of}
@@ -46,31 +46,23 @@ pub use Rattle.mime.specs.Values.{IsAccepted, MediaType, OwnedMedia, Reads, esse
 pub use Rattle.mime.specs.declared.scan.fault.ParseError.{ParseError}
 pub use Rattle.mime.specs.declared.scan.fault.ParseError.TheVariants.{InvalidToken, MissingEqual, MissingQuote, MissingSlash, MissingSubtype, MissingValue, NoMemory}
 pub use Rattle.mime_http.specs.Boundary.{IsBoundary, IsBoundaryOf, is_bchar}
-pub use Rattle.mime_http.specs.Chosen.{ChoosesOn, IsChosen, lowest}
 pub use Rattle.mime_http.specs.Digits.{read_number, worth}
 pub use Rattle.mime_http.specs.Forms.{content, form_of, is_plain, kind_from, kind_of, marks, text_in}
-pub use Rattle.mime_http.specs.HeaderLaws.{HttpIsRead, OneHttpFault, OneHttpReading, OneTightReading, PlainIsHttp, ReadIsHttp, SpareIsLeftOut}
-pub use Rattle.mime_http.specs.HttpFaults.{HttpExplains, HttpLacks, IsHttpDeadAt, IsHttpFault, IsHttpLongestPrefix, IsHttpViable}
-pub use Rattle.mime_http.specs.HttpList.{AreBetweenCommas, AreSorted, BeginsPiece, Header, IsHeader, IsInString, IsPiece, a_bad, a_range, comma, line_end, lines_or_any, no_line, no_text, opens_string, piece_byte, piece_end, piece_string, string_byte, string_end, string_pair, trim_end, trim_start}
+pub use Rattle.mime_http.specs.HeaderLaws.{OneHttpFault, OneHttpReading, OnePrintedText, PlainIsHttp, PrintedIsRead}
+pub use Rattle.mime_http.specs.HttpFaults.{HttpExplains, HttpLacks, IsHttpDeadAt, IsHttpFault, IsHttpLongestPrefix, IsHttpViable, NeedsMemory}
+pub use Rattle.mime_http.specs.HttpList.{AreBetweenCommas, AreSorted, BeginsPiece, Header, IsHeader, IsInString, IsPiece, IsPrinted, a_bad, a_range, anew, as_it_stands, comma, line_end, lines_or_any, no_line, no_text, opens_string, piece_byte, piece_end, piece_string, string_byte, string_end, string_pair, trim_end, trim_start, trimmed}
 pub use Rattle.mime_http.specs.HttpMediaType.{AreHttpParameters, HttpReads, IsHttpMediaType, IsHttpParameter, no_more, semicolon, semicolon_and, with_string, with_token}
 pub use Rattle.mime_http.specs.HttpPrinted.{field_error_text}
 pub use Rattle.mime_http.specs.ListLaws.{AreElements, AreHttpLists, AreSame, BadIsAlone, HttpListsAreRead, OneCut, OneHeader, ReadAreHttpLists, element, nothing, without_kept}
-pub use Rattle.mime_http.specs.Places.{added, after_quote, after_space, after_unquoted, after_within, brought_back, is_left_out, place_after, tight, tight_from}
 pub use Rattle.mime_http.specs.Ranges.{AreInOrder, Rank, best_offer, closeness, closest, demanded, first_value, given_weight, has, merit, merit_at, named_parts, rank_cmp, weight_of}
-pub use Rattle.mime_http.specs.RangesLaws.{BestIsFirst, ClosestIsClosest, CoversItself, IsAtMost, IsQvalue, MeanTheSame, MeaningCounts, StrangerChangesNothing, WeightIsNumber, meaning_of, one_digit, one_dot, three_digits, two_digits, zero_dot}
-pub use Rattle.mime_http.specs.Reached.{limit_of, reach_after, reach_from, settled_at, start}
-pub use Rattle.mime_http.specs.Tight.{FaultIsSpare, ReadsTight, Tightens, a_byte, a_semicolon, a_string, another, at_end, before_token, first, semicolon_left, white, white_left}
-pub use Rattle.mime_http.specs.Tightening.{Begins, IsLoose, IsRejected, IsTightening, LeavesFault, Stands, begins_with_semicolon, ends_in_semicolon_or_space, is_semicolon_or_space}
+pub use Rattle.mime_http.specs.RangesLaws.{BestIsAcceptable, BestIsFirst, ClosestIsClosest, CoversItself, IsAtMost, IsQvalue, MeanTheSame, MeaningCounts, StrangerChangesNothing, WeightIsNumber, meaning_of, one_digit, one_dot, three_digits, two_digits, zero_dot}
+pub use Rattle.mime_http.specs.Reader.{Answer, Holds, IsClosedAt, IsEssenceAt, IsParameterAt, IsStringFault, IsValueAt, Parts, State, after_backslash, after_semicolon, answer_at, answer_at_end, answer_from, answer_of, before_semicolon, before_type, fault_at, in_name, in_string, in_subtype, in_type, in_value, media_of, next, next_after, next_empty, next_quoted, read, rejected, run_end, text_of_parts, with_parameter}
 pub use Rattle.mime_http.specs.Unescaped.{unescaped}
-pub use Rattle.mime_http.specs.Walk.{Adds, AreUnmarked, At, Outside, after, after_outside, cut, cut_after, cut_from, ends, is_mark}
+pub use Rattle.mime_http.specs.LineCut.{AreKept, AreUnmarked, At, Outside, Takes, after, after_outside, cut, cut_after, cut_from, ends, is_mark}
 pub use Rattle.mime_http.specs.Weight.{thousandths_of}
 pub use Rattle.mime_http.specs.Written.{WrittenIsMeant, escaped, is_token_value, others, quote_of, text_of_pair, text_of_pairs, with_pair, with_pairs}
-pub use Rattle.mime_http.specs.declared.fault.Reach.{Reach}
-pub use Rattle.mime_http.specs.declared.listed.Chosen.{Chosen}
 pub use Rattle.mime_http.specs.declared.quoted.Form.{Form}
 pub use Rattle.mime_http.specs.declared.quoted.Form.TheVariants.{Escaped, Token}
-pub use Rattle.mime_http.specs.declared.tight.Place.{Place}
-pub use Rattle.mime_http.specs.declared.tight.Place.TheVariants.{Closed, Equals, Paired, Plain, Quoted, Semicolon, Spaced, Start}
 pub use Rattle.mime.proofs.GrammarLemmas.Viability.{by_option, whole_prefix-from_walk}
 pub use Rattle.std.proofs.lemmas.Result.{IfOk-weaker, on_ok_weaker}
 pub use Rattle.std.proofs.Math.Bool.{and-false, and-true}

@@ -9,9 +9,7 @@ is_special b = b == 34 || b == 92
 pub plain_text : (bytes : List ℕ) → list_all is_quoted_text_byte bytes ≡ true → escaped bytes ≡ bytes
 plain_text [] all = refl
 plain_text (b ∷ bytes) all =
-    let parts = and_parts (is_quoted_text_byte b) (list_all is_quoted_text_byte bytes) all in
-    let plain : is_special b ≡ false = grind (arith, nat_tests, (and_parts (is_quoted_byte b) _ parts.0).1) in
-    rw plain (ap (λ rest. b ∷ rest) (plain_text bytes parts.1))
+    grind (arith, nat_tests, all, plain_text bytes)
 
 -- and may stand in a header
 pub safe_text : (bytes : List ℕ) → list_all is_quoted_text_byte bytes ≡ true → AreHeaderBytes bytes

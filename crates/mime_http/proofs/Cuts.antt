@@ -1,6 +1,6 @@
 -- Lines are cut in one way, and each line is.
 use Rattle.mime_http.proofs.Common.{AreBetweenCommas, At, BeginsPiece, IsInString, IsPiece, List, OneCut, Outside, [], after, after_outside, ap, append-nil, append_assoc, arith, nat_tests, comma, cond_both, cut, cut_from, ends, eqb-true, false, flat_map, line_end, no_line, opens_string, piece_byte, piece_end, piece_string, refl, string_byte, string_end, string_pair, subst, sym, true, ℕ, ⊤, ◌++◌, ◌==◌, ◌∙◌, ◌∷◌, ◌≡◌}
-use Rattle.mime_http.specs.Walk.{Equals, Quoted, Paired}
+use Rattle.mime_http.specs.LineCut.{Equals, Quoted, Paired}
 
 -- ---- what is a piece from a place on
 
@@ -11,7 +11,7 @@ IsOutside Equals = ⊤
 IsOutside place = ⊥
 
 -- from a place on, no byte ends a piece, and they lead to a place outside strings
-abbrev IsWhole : At → List ℕ → Type 0
+abbrev pub IsWhole : At → List ℕ → Type 0
 IsWhole place [] = IsOutside place
 IsWhole place (b ∷ bytes) = (ends place b ≡ false) × IsWhole (after place b) bytes
 
@@ -38,7 +38,7 @@ piece_passes (piece_string content piece inside rest) = (refl, (refl, string_pas
 -- ---- what passes is a piece
 
 -- what follows an opening quote: content, a quote, and a piece
-data Opened : List ℕ → Type 0 where
+pub data Opened : List ℕ → Type 0 where
   opened : (content piece : List ℕ) → IsInString content → IsPiece piece → Opened (content ++ (34 ∷ piece))
 
 -- the content may have more before it
@@ -49,7 +49,7 @@ content_before front onto (opened content piece inside rest) =
     subst Opened (append_assoc front content (34 ∷ piece)) (opened (front ++ content) piece (onto content inside) rest)
 
 -- what bytes are from a place on, with those that lead there from outside strings or from an opening quote
-abbrev Continues : At → List ℕ → Type 0
+abbrev pub Continues : At → List ℕ → Type 0
 Continues Outside bytes = IsPiece bytes
 Continues Equals bytes = IsPiece (61 ∷ bytes)
 Continues Quoted bytes = Opened bytes
@@ -78,7 +78,7 @@ further Quoted b bytes on = cond_both (b == 92) _ _ (λ place. Continues place b
 further Paired b bytes on = content_before (92 ∷ b ∷ []) (string_pair b)
 
 -- so what passes is a piece
-is_piece : (place : At) (bytes : List ℕ) → IsWhole place bytes → Continues place bytes
+pub is_piece : (place : At) (bytes : List ℕ) → IsWhole place bytes → Continues place bytes
 is_piece Outside [] whole = piece_end
 is_piece Equals [] whole = piece_byte 61 [] refl refl piece_end
 is_piece place [] whole = absurd whole

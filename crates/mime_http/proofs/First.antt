@@ -1,6 +1,7 @@
--- The best offer is the first in the order of all.
-use Rattle.mime_http.proofs.Common.{AllPairs, BestIsFirst, Contains, List, Rank, Some, [], arith, cases_lt, get_or_default, inl, inr, lowest, map, merit, nat_tests, refl, subst, suc, sym, zero, ℕ, ⊎_elim, ◌<◌, ◌∷◌, ◌≡◌, ◌⊎◌}
-use Rattle.mime_http.proofs.Highest.{best_is_found, none_is_best}
+-- The best offer is the first in the order of all, and weighs more than 0.
+use Rattle.mime_http.proofs.Common.{AllPairs, BestIsAcceptable, BestIsFirst, Contains, List, MediaType, None, Rank, Some, [], and_parts, arith, cases_lt, get_or, get_or-map, get_or_default, inl, inr, length, length-map, map, merit, nat_lt, nat_tests, refl, slice_get-get_or, subst, suc, sym, true, zero, ℕ, ⊎_elim, ◌<◌, ◌∷◌, ◌≡◌, ◌⊎◌}
+use Rattle.std.proofs.lemmas.List.Quantifiers.{position-Some}
+use Rattle.mime_http.proofs.Highest.{best_is_found, is_best, none_is_best, lowest}
 use Rattle.mime_http.proofs.Order.{ComesBefore, rank_at, weighs_within}
 
 -- the first in order is each that is in order, or comes before it
@@ -28,3 +29,16 @@ best_is_first ranges offers (best ∷ others) are =
       above = λ at d inside. rw (get_or_default ranks at d lowest inside) (grind (arith, nat_tests, stands at));
       first = λ _. (best, refl, record { within = within; there = refl; before = λ at less. grind (arith, less, stands at) });
     }) weighs)
+
+-- the best offer passes the test of the best: it weighs more than 0
+pub best_is_acceptable : BestIsAcceptable
+best_is_acceptable ranges offers at is =
+    let no_offer : MediaType = record { essence = []; slash = 0; plus = None; pairs = []; kept = [] } in
+    let all = map (merit ranges) offers in
+    let found = position-Some (is_best all) all at lowest is in
+    let within : at < length offers = omega (arith, found.0, length-map offers (merit ranges)) in
+    let weighs : nat_lt 0 (get_or all at lowest).0 ≡ true = (and_parts (nat_lt 0 _) _ found.1).0 in (
+      get_or offers at no_offer,
+      slice_get-get_or offers at no_offer within,
+      grind (arith, nat_tests, get_or-map (merit ranges) offers at no_offer lowest within, weighs),
+    )

@@ -1,8 +1,8 @@
 -- The kinds of a value's bytes, and the form in which it is written.
-use Rattle.mime_http.proofs.Common.{AreTokenBytes-from_token, Bool, Escaped, IsBoundary, List, Token, [], and_from, and_parts, ap, append_assoc, arith, bit_and, both_ways, cases_Bool, drop, drop-cons, escaped, false, false≢true, form_of, get_or, if◌then◌else◌, is_plain, is_quoted_byte, is_quoted_text_byte, is_token_byte, is_token_value, kind_from, kind_of, length, list_all, list_all-append, list_all-wider, nat_tests, prefix_len, prefix_len-le-length, prefix_len_stops, refl, suc, sym, take, take_more, text_in, text_of_pair, true, ℕ, ⊎_elim, ◌++◌, ◌+◌, ◌<◌, ◌∙◌, ◌∷◌, ◌≡◌, ◌≢◌, ◌≤◌}
+use Rattle.mime_http.proofs.Common.{Escaped, IsBoundary, List, Token, [], ap, append_assoc, arith, bit_and, drop, drop-cons, escaped, false, form_of, get_or, if◌then◌else◌, is_plain, is_quoted_byte, is_quoted_text_byte, is_token_byte, is_token_value, kind_of, length, list_all, list_all-append, list_all-wider, nat_tests, prefix_len, prefix_len-le-length, prefix_len_stops, refl, suc, sym, take, take_more, text_in, text_of_pair, true, ℕ, ◌++◌, ◌+◌, ◌<◌, ◌∙◌, ◌∷◌, ◌≡◌, ◌≢◌, ◌≤◌}
 use Rattle.mime_http.specs.declared.quoted.Form.TheVariants.{Quoted}
 use Rattle.mime_http.proofs.Written.{token_from_test}
-use Rattle.mime_http.proofs.Contents.{boundary_text, is_special, plain_text, safe_text, token_byte_text, token_text}
+use Rattle.mime_http.proofs.Contents.{boundary_text, plain_text, safe_text, token_byte_text, token_text}
 
 -- the kind of joined bytes
 pub kind_of-append : (xs ys : List ℕ) → kind_of (xs ++ ys) ≡ bit_and (kind_of xs) (kind_of ys)
@@ -22,7 +22,7 @@ pub record Seen (value : List ℕ) (kind : ℕ) (left : List ℕ) : Type 0 where
   pub split : bytes ++ left ≡ value
   pub is : kind ≡ kind_of bytes
 
--- a block more
+-- the kind seen so far, after one more block
 pub block_seen : {value : List ℕ} {kind : ℕ} {left : List ℕ} → Seen value kind left → (block rest : List ℕ) → left ≡ block ++ rest
     → Seen value (bit_and kind (kind_of block)) rest
 block_seen seen block rest is = record {
@@ -49,18 +49,14 @@ pub run_written : (bytes : List ℕ)
     → take (prefix_len is_plain bytes) bytes ++ escaped (drop (prefix_len is_plain bytes) bytes) ≡ escaped bytes
 run_written [] = refl
 run_written (b ∷ bytes) =
-    let longer : 1 + prefix_len is_plain bytes ≡ suc (prefix_len is_plain bytes) = omega arith in
-    ⊎_elim (λ (special : is_special b ≡ true). rw (special, special))
-    (λ (plain : is_special b ≡ false). rw (plain, longer) (ap (λ rest. b ∷ rest) (run_written bytes))) (cases_Bool (is_special b))
+    let longer : 1 + prefix_len is_plain bytes ≡ suc (prefix_len is_plain bytes) = omega arith in grind (arith, longer, run_written bytes)
 
 -- a backslash is written before a byte that needs it, and both before the next run
 byte_written : (bytes : List ℕ) (end : ℕ) → 0 < length bytes → is_plain (get_or bytes 0 0) ≡ false
     → end ≡ 1 + prefix_len is_plain (drop 1 bytes) → escaped bytes ≡ 92 ∷ (take end bytes ++ escaped (drop end bytes))
 byte_written [] end some special is = absurd (omega (arith, some))
 byte_written (b ∷ bytes) end some special is =
-    let longer : end ≡ suc (prefix_len is_plain bytes) = omega (arith, is) in
-    let needs : is_special b ≡ true = grind arith in
-    rw (needs, longer) (ap (λ rest. 92 ∷ b ∷ rest) (sym (run_written bytes)))
+    let longer : end ≡ suc (prefix_len is_plain bytes) = omega (arith, is) in grind (arith, longer, special, run_written bytes)
 
 -- what is written after a special byte, up to the next, and what is left
 pub more_written : (text left bytes whole : List ℕ) (run end : ℕ) → bytes ≡ drop run left → 0 < length bytes
@@ -80,18 +76,13 @@ next_end [] end some is = absurd (omega (arith, some))
 next_end (b ∷ bytes) end some is =
     (omega (arith, is, prefix_len-le-length is_plain bytes), λ within. grind (arith, prefix_len_stops is_plain bytes 0))
 
--- if the bits don't say that a backslash or quotes are needed, neither is
-token_from_bits : (t q e : Bool) → (t ≡ true → q ≡ true) → (q ≡ true → e ≡ true) → kind_from t q e ≢ 0 → kind_from t q e ≢ 1
-    → kind_from t q e ≢ 3 → (t ≡ true) × (e ≡ true)
-token_from_bits t q e plain fits n b k = grind arith
-
 -- a value of the last kind is a token
 pub token_from_kind : (value : List ℕ) → 0 < length value → kind_of value ≢ 0 → kind_of value ≢ 1 → kind_of value ≢ 3
     → (is_token_value value ≡ true) × (list_all is_quoted_byte value ≡ true)
-token_from_kind [] some = absurd (omega (arith, some))
-token_from_kind (b ∷ bytes) some =
-    token_from_bits (list_all is_token_byte (b ∷ bytes)) (list_all is_quoted_text_byte (b ∷ bytes)) (list_all is_quoted_byte (b ∷ bytes))
-    (list_all-wider is_token_byte is_quoted_text_byte token_byte_text (b ∷ bytes)) (safe_text (b ∷ bytes))
+token_from_kind [] some no_bits quoted text = absurd (omega (arith, some))
+token_from_kind (b ∷ bytes) some no_bits quoted text =
+    let plain = list_all-wider is_token_byte is_quoted_text_byte token_byte_text (b ∷ bytes) in
+    grind (arith, no_bits, quoted, text, plain, safe_text (b ∷ bytes))
 
 -- ---- what is written in a form
 
@@ -99,23 +90,16 @@ token_from_kind (b ∷ bytes) some =
 pub kept_text : (name bytes : List ℕ) → text_in (if is_token_value bytes then Token else Quoted) name bytes ≡ text_of_pair (name, bytes)
 kept_text name bytes = grind arith
 
--- what is a token with backslashes is one without
-tokens_from_escaped : (value : List ℕ) → list_all is_token_byte (escaped value) ≡ true → list_all is_token_byte value ≡ true
-unfolding is_token_byte
-tokens_from_escaped [] all = refl
-tokens_from_escaped (b ∷ value) all = ⊎_elim
-    (λ special. absurd (false≢true (rw special at all)))
-    (λ plain.
-    let parts = and_parts (is_token_byte b) (list_all is_token_byte (escaped value)) (rw plain at all) in
-    and_from (is_token_byte b) (list_all is_token_byte value) parts.0 (tokens_from_escaped value parts.1)) (cases_Bool (is_special b))
-
 -- escaped a value is a token exactly if it is one
+all_tokens : (value : List ℕ) → list_all is_token_byte (escaped value) ≡ list_all is_token_byte value
+unfolding is_token_byte
+all_tokens [] = refl
+all_tokens (b ∷ value) = grind (arith, nat_tests, all_tokens value)
+
 same_test : (value : List ℕ) → is_token_value (escaped value) ≡ is_token_value value
+unfolding is_token_byte
 same_test [] = refl
-same_test (b ∷ value) =
-    let text = escaped (b ∷ value) in
-    both_ways _ _ (λ token. tokens_from_escaped (b ∷ value) (AreTokenBytes-from_token text (token_from_test text token)))
-    (λ token. ap is_token_value (plain_text (b ∷ value) (token_text (b ∷ value) token)) ∙ token)
+same_test (b ∷ value) = grind (arith, nat_tests, all_tokens value)
 
 -- a value is written in its form
 pub form_text : (name value : List ℕ) → text_in (form_of value) name value ≡ text_of_pair (name, escaped value)

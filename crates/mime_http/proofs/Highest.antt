@@ -1,6 +1,6 @@
 -- The highest of ranks and its first place, and which of all is the best.
-use Rattle.mime_http.proofs.Common.{AllPass-from_list_all, Bool, cases_Bool, ⊎_elim, Equal, List, None, Option, Rank, Some, [], and_from, ap, arith, false, false_from_ne_true, get_or, get_or-map, is_gt, is_le, length, length-append, length-map, list_all, list_all-from_AllPass, lowest, map, nat_lt, nat_tests, and_parts, position, if◌then◌else◌, rank_cmp, refl, sym, true, ℕ, ◌&&◌, ◌++◌, ◌<◌, ◌∙◌, ◌∷◌, ◌≡◌, ◌≤◌}
-use Rattle.mime_http.specs.Chosen.{IsFirstPlace, IsHighest, NotAbove}
+use Rattle.mime_http.proofs.Common.{AllPass-from_list_all, Bool, cases_Bool, ⊎_elim, Equal, List, None, Option, Rank, Some, [], and_from, ap, arith, false, false_from_ne_true, get_or, get_or-map, is_gt, is_le, length, length-append, length-map, list_all, list_all-from_AllPass, map, nat_lt, nat_tests, and_parts, position, if◌then◌else◌, rank_cmp, refl, sym, true, ℕ, ◌&&◌, ◌++◌, ◌<◌, ◌∙◌, ◌∷◌, ◌≡◌, ◌≤◌}
+use Rattle.std.specs.List.{All}
 use Rattle.std.proofs.Math.Seq.{get_or-append_seam}
 use Rattle.std.proofs.lemmas.List.{get_or_append_left}
 use Rattle.std.proofs.lemmas.List.Sums.{position_or_len_is}
@@ -14,6 +14,25 @@ value_at f g xs i x d within is =
     ∙ ap f (get_or-map g xs i x (g x) within))
 
 -- ---- ranks
+
+-- the rank of what weighs nothing
+abbrev pub lowest : Rank
+lowest = (0, 0, 0, 0)
+
+-- the second isn't above the first
+abbrev pub NotAbove : Rank → Rank → Type 0
+NotAbove top rank = is_le (rank_cmp rank top) ≡ true
+
+-- the first place of a rank, which is above all before it
+pub record IsFirstPlace (ranks : List Rank) (rank : Rank) (at : ℕ) : Type 0 where
+  pub within : at < length ranks
+  pub there : get_or ranks at lowest ≡ rank
+  pub before : (j : ℕ) → j < at → is_gt (rank_cmp rank (get_or ranks j lowest)) ≡ true
+
+-- no rank is above the highest, which has a first place if it weighs anything
+pub record IsHighest (ranks : List Rank) (most : Rank) (best : Option ℕ) : Type 0 where
+  pub above : All (NotAbove most) ranks
+  pub first : 0 < most.0 → (at : ℕ) × (best ≡ Some at) × IsFirstPlace ranks most at
 
 -- of ranks that compare as equal each part is equal
 pub one_rank : (x y : Rank) → rank_cmp x y ≡ Equal → x ≡ y

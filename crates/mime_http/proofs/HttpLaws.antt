@@ -1,33 +1,43 @@
--- The laws of a header's value.
-use Rattle.mime_http.proofs.Common.{IsAccepted, IsHttpMediaType, List, MediaType, OneTightReading, PlainIsHttp, ReadIsHttp, Reads, ReadsTight, one_reading, subst, sym, tight, ℕ}
-use Rattle.mime_http.proofs.Walked.{accepted_stays}
-use Rattle.mime_http.proofs.Tightened.{tight_is}
-use Rattle.mime_http.proofs.HttpForth.{http_is_tight, http_is_read}
-use Rattle.mime_http.proofs.HttpBack.{read_is_http}
+-- The laws of a header's value: it is one media type, of which one text is printed, which is read as it.
+use Rattle.mime_http.proofs.Common.{IsPrinted, List, MediaType, OneHttpReading, OnePrintedText, PrintedIsRead, Reads, anew, ap, as_it_stands, subst, media_of, one_reading, sym, text_of_parts, trimmed, with_pairs, ℕ, ◌∙◌, ◌≡◌}
+use Rattle.mime.proofs.HandedOut.{kept_is_read}
+use Rattle.mime_http.specs.HttpMediaType.{HttpReads}
+use Rattle.mime_http.proofs.PlainIsHttp.{plain_is_http}
+use Rattle.mime_http.proofs.ReadAnew.{written_reads}
+use Rattle.mime_http.proofs.ReadForth.{http_is_answered}
 
--- the library accepts what is left of a media type as HTTP writes it
-pub accepted_from_http : (value : List ℕ) → IsHttpMediaType value → IsAccepted (tight value)
-accepted_from_http value is = (_, (http_is_read value is.0 is.1).1)
+-- two media types of a value, written anew, are the same
+pub same_anew : (value : List ℕ) (first second : MediaType) → HttpReads value first → HttpReads value second
+    → with_pairs first first.pairs ≡ with_pairs second second.pairs
+same_anew value first second one other =
+    let here = http_is_answered value first one in
+    let there = http_is_answered value second other in
+    let same : here.0 ≡ there.0 = cc (here.1, there.1) in
+    sym here.2 ∙ ap media_of same ∙ there.2
 
--- what the library reads as it stands is what HTTP writes
-pub plain_is_http : PlainIsHttp
-plain_is_http value media reads =
-    read_is_http value media (subst (λ text. Reads text media) (sym (accepted_stays value (media, reads))) reads)
+-- so a value is one media type,
+pub one_http_reading : OneHttpReading
+one_http_reading value first second one other =
+    let same = same_anew value first second one other in
+    (ap (λ (media : MediaType). media.essence) same, ap (λ (media : MediaType). media.pairs) same)
 
--- what is read of a value tightened is read of what comes out of it,
-pub tight_reads : (value : List ℕ) {media : MediaType} → ReadsTight value media → Reads (tight value) media
-tight_reads value {media} reads = subst (λ text. Reads text media) (sym (tight_is reads.1)) reads.2
+-- and one text is printed of it,
+pub one_printed_text : OnePrintedText
+one_printed_text value first second one (as_it_stands _ _ reads) other (as_it_stands _ _ again) =
+    one_reading (trimmed value) first second reads again
+one_printed_text value first second one (as_it_stands _ _ reads) other (anew _ _ isnt is) = absurd (isnt (first, reads))
+one_printed_text value first second one (anew _ _ isnt is) other (as_it_stands _ _ again) = absurd (isnt (second, again))
+one_printed_text value first second one (anew _ _ isnt is) other (anew _ _ not same) =
+    is ∙ same_anew value first second one other ∙ sym same
 
--- and the other way
-pub reads_tight : (value : List ℕ) {media : MediaType} → Reads (tight value) media → ReadsTight value media
-reads_tight value {media} reads =
-    let is = (http_is_tight value media (read_is_http value media reads)).1 in
-    (is.0, is.1, subst (λ text. Reads text media) (tight_is is.1) reads)
+-- which the library reads as it
+printed_reads : (value : List ℕ) (media : MediaType) → HttpReads value media → IsPrinted value media → Reads media.kept media
+printed_reads value media is (as_it_stands _ _ reads) = kept_is_read (trimmed value) media reads
+printed_reads value media is (anew _ _ isnt same) =
+    let answered = http_is_answered value media is in
+    kept_is_read _ media (subst (Reads (text_of_parts answered.0)) (answered.2 ∙ sym same) (written_reads value answered.0 answered.1))
 
--- so it is read as one media type,
-pub one_tight_reading : OneTightReading
-one_tight_reading value first second one other = one_reading (tight value) first second (tight_reads value one) (tight_reads value other)
-
--- which is what HTTP writes
-pub tight_is_http : ReadIsHttp
-tight_is_http value media reads = read_is_http value media (tight_reads value reads)
+-- and so HTTP
+pub printed_is_read : PrintedIsRead
+printed_is_read value media is printed =
+    let reads = printed_reads value media is printed in (reads, plain_is_http media.kept media reads)

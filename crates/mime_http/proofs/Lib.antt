@@ -1,7 +1,6 @@
 -- What the proofs of several functions cite.
-pub mod Adds
-pub mod AtFault
-pub mod Chosen
+pub mod Around
+pub mod Bare
 pub mod Common
 pub mod Contents
 pub mod Cuts
@@ -9,15 +8,9 @@ pub mod Demanded
 pub mod First
 pub mod Forms
 pub mod Highest
-pub mod HowFar
-pub mod HttpBack
 pub mod HttpFacts
-pub mod HttpFaults
-pub mod HttpForth
 pub mod HttpLaws
-pub mod HttpOneFault
 pub mod HttpText
-pub mod HttpViability
 pub mod Lists
 pub mod Meanings
 pub mod NegotiationFacts
@@ -26,13 +19,16 @@ pub mod Order
 pub mod Others
 pub mod Picked
 pub mod Pieces
-pub mod Places
+pub mod PlainIsHttp
 pub mod RangesFacts
-pub mod Rejections
+pub mod ReadAnew
+pub mod ReadAt
+pub mod ReadBack
+pub mod ReadFaults
+pub mod ReadForth
+pub mod Runs
 pub mod ShortWeight
-pub mod Spare
 pub mod Strangers
-pub mod Tightened
+pub mod Takes
 pub mod Trims
-pub mod Walked
 pub mod Written

@@ -1,80 +1,71 @@
 -- Lists as HTTP writes them are read as their elements, and what is read with nothing bad are such lists.
-use Rattle.mime_http.proofs.Common.{AreBetweenCommas, AreElements, AreHttpParameters, AreSame, AreSorted, AreSpaces, BadIsAlone, BeginsPiece, HttpListsAreRead, HttpReads, IsAccepted, IsContent, IsHttpMediaType, IsHttpParameter, IsInString, IsPiece, IsToken, List, MediaType, OneHeader, ReadAreHttpLists, [], a_bad, a_range, and_parts, ap, append-nil, append_assoc, arith, comma, element, false, in_type, is_space, is_token_byte, line_end, nat_tests, no_byte, no_line, no_more, no_text, nothing, one_reading, piece_byte, piece_end, piece_string, quoted_pair, refl, rejected-from_walk, semicolon, semicolon_and, string_byte, string_end, string_pair, subst, sym, text_byte, tight, trim_end, trim_start, true, with_string, with_token, without_kept, ℕ, ⊤, ◌++◌, ◌==◌, ◌∙◌, ◌∷◌, ◌≡◌, AreTokenBytes-from_token, Bool, IsFalse, list_all}
+use Rattle.mime_http.proofs.Common.{At, Outside, State, Parts, Option, MatchOption, MatchOption-at_some, MissingSlash, by_option, next, ends, after, answer_of, answer_from, answer_at_end, read, before_type, in_subtype, in_value, in_string, after_backslash, is_quoted_byte, ◌+◌, AreBetweenCommas, AreElements, AreSame, AreSorted, AreSpaces, BadIsAlone, BeginsPiece, HttpListsAreRead, HttpReads, IsAccepted, IsHttpMediaType, IsPiece, IsPrinted, List, MediaType, OneHeader, ReadAreHttpLists, [], a_bad, a_range, accepted_or_rejected, and_parts, anew, ap, append-nil, arith, as_it_stands, comma, element, false, is_space, is_token_byte, line_end, nat_tests, no_line, no_text, nothing, piece_byte, piece_end, refl, subst, sym, trimmed, with_pairs, without_kept, ℕ, ⊎_elim, ⊤, ◌++◌, ◌∙◌, ◌∷◌, ◌≡◌}
 use Rattle.mime_http.specs.HttpList.{blank}
 use Rattle.mime_http.specs.ListLaws.{no_text as no_element}
-use Rattle.mime_http.proofs.Places.{token_is_plain, text_is_no_mark, at_start, nothing_out}
-use Rattle.mime_http.proofs.Adds.{sorted_both}
-use Rattle.mime_http.proofs.HttpBack.{read_is_http}
-use Rattle.mime_http.proofs.HttpForth.{http_is_read}
-use Rattle.mime_http.proofs.HttpLaws.{accepted_from_http, reads_tight, tight_reads}
-use Rattle.mime_http.proofs.Cuts.{only_cut, opens_none}
+use Rattle.mime_http.proofs.Around.{reads_around, white_more}
+use Rattle.mime_http.proofs.HttpLaws.{one_printed_text, same_anew}
+use Rattle.mime_http.proofs.PlainIsHttp.{plain_is_http}
+use Rattle.mime_http.proofs.Runs.{white_before}
+use Rattle.mime_http.proofs.Takes.{sorted_both}
+use Rattle.mime_http.proofs.Cuts.{IsOutside, IsWhole, is_piece, only_cut, opens_none}
+use Rattle.mime_http.proofs.ReadFaults.{rejected_is_none}
+use Rattle.mime_http.proofs.ReadForth.{http_is_answered}
+use Rattle.mime_http.specs.LineCut.{Equals, Quoted, Paired}
 
 -- ---- what HTTP writes has no comma outside strings
 
--- a byte that is no comma and no equals sign may stand before a piece,
-before : (b : ℕ) {piece : List ℕ} → (b == 44) ≡ false → (b == 61) ≡ false → IsPiece piece → IsPiece (b ∷ piece)
-before b {piece} other equals is = piece_byte b piece other (opens_none b piece equals) is
+-- where in a line the next byte is, in each state of reading one of its pieces
+abbrev place_of : State → At
+place_of (in_value parts name []) = Equals
+place_of (in_string parts name content) = Quoted
+place_of (after_backslash parts name content) = Paired
+place_of state = Outside
 
--- so may bytes of a class without them,
-before_class : (class : ℕ → Bool) → ((b : ℕ) → class b ≡ true → IsFalse (b == 44) × IsFalse (b == 61)) → (bytes : List ℕ) {piece : List ℕ}
-    → list_all class bytes ≡ true → IsPiece piece → IsPiece (bytes ++ piece)
-before_class class other [] all is = is
-before_class class other (b ∷ bytes) all is =
-    let parts = and_parts (class b) _ all in before b (other b parts.0).0 (other b parts.0).1 (before_class class other bytes parts.1 is)
+-- a byte that reading goes on with ends no piece, and leads to the place of the next state
+abbrev Follows : At → ℕ → Option State → Type 0
+Follows place b next = MatchOption next ⊤ (λ state. (ends place b ≡ false) × (after place b ≡ place_of state))
 
--- a token,
-before_token : (bytes : List ℕ) {piece : List ℕ} → IsToken bytes → IsPiece piece → IsPiece (bytes ++ piece)
-before_token bytes token =
-    before_class is_token_byte (λ b yes. let marks = token_is_plain b yes in (marks.comma, marks.equals)) bytes
-    (AreTokenBytes-from_token bytes token)
+follows : (state : State) (b : ℕ) → Follows (place_of state) b (next state b)
+unfolding is_token_byte is_quoted_byte
+follows (in_subtype top []) b = grind (arith, nat_tests)
+follows (in_subtype top (s ∷ sub)) b = grind (arith, nat_tests)
+follows (in_value parts name []) b = grind (arith, nat_tests)
+follows (in_value parts name (v ∷ value)) b = grind (arith, nat_tests)
+follows state b = grind (arith, nat_tests)
 
--- white space,
-before_spaces : (bytes : List ℕ) {piece : List ℕ} → AreSpaces bytes → IsPiece piece → IsPiece (bytes ++ piece)
-before_spaces = before_class is_space (λ b white. (grind (arith, nat_tests), grind (arith, nat_tests)))
+-- so what is read ends in no string, and no piece before
+whole_from : (bytes : List ℕ) (state : State) (at : ℕ) (parts : Parts) → answer_from state at bytes ≡ read parts
+    → IsWhole (place_of state) bytes
+whole_from [] state at parts is = ended state is
+  where
+    ended : (state : State) → answer_at_end state ≡ read parts → IsOutside (place_of state)
+    ended (in_value _ name []) is = absurd cc
+    ended (in_string _ name content) is = absurd cc
+    ended (after_backslash _ name content) is = absurd cc
+    ended state is = tt
+whole_from (b ∷ bytes) state at parts is = by_option (next state b)
+    (λ stops. absurd (cc (rw stops at is)))
+    (λ next goes.
+    let Leads = λ (next : State). (ends (place_of state) b ≡ false) × (after (place_of state) b ≡ place_of next) in
+    let it = MatchOption-at_some ⊤ Leads next goes (follows state b) in
+    (it.0, subst (λ place. IsWhole place bytes) (sym it.1) (whole_from bytes next (at + 1) parts (rw goes at is))))
 
--- and the value of a parameter with its equals sign
-before_value : (value : List ℕ) {piece : List ℕ} → IsToken value → IsPiece piece → IsPiece (61 ∷ (value ++ piece))
-before_value [] token is = absurd token
-before_value (b ∷ value) token is =
-    let marks = token_is_plain b (and_parts (is_token_byte b) _ token).0 in
-    piece_byte 61 _ refl marks.quote (before_token (b ∷ value) token is)
-
--- quoted content stands in a string
-content_in_string : {content : List ℕ} → IsContent content → IsInString content
-content_in_string no_byte = string_end
-content_in_string (text_byte b content is rest) =
-    string_byte b content (text_is_no_mark b is).1 (text_is_no_mark b is).0 (content_in_string rest)
-content_in_string (quoted_pair b content is rest) = string_pair b content (content_in_string rest)
-
--- so a parameter may stand before a piece,
-before_parameter : {text : List ℕ} {pair : List ℕ × List ℕ} {piece : List ℕ} → IsHttpParameter text pair → IsPiece piece
-    → IsPiece (text ++ piece)
-before_parameter (with_token name value named valued) is = simp append_assoc (before_token name named (before_value value valued is))
-before_parameter {piece = piece} (with_string name content named valued) is =
-    simp append_assoc (before_token name named (piece_string content piece (content_in_string valued) is))
-
--- and parameters
-before_parameters : {text : List ℕ} {pairs : List (List ℕ × List ℕ)} → AreHttpParameters text pairs → (piece : List ℕ) → IsPiece piece
-    → IsPiece (text ++ piece)
-before_parameters no_more piece is = is
-before_parameters (semicolon white after rest pairs first second all) piece is =
-    simp append_assoc (before_spaces white first (before 59 refl refl (before_spaces after second (before_parameters all piece is))))
-before_parameters (semicolon_and white after parameter rest pair pairs first second one all) piece is =
-    simp append_assoc (before_spaces white first (before 59 refl refl (before_spaces after second
-    (before_parameter one (before_parameters all piece is)))))
-
--- white space is a piece,
-spaces_are_piece : (white : List ℕ) → AreSpaces white → IsPiece white
-spaces_are_piece white all = subst IsPiece (append-nil white) (before_spaces white all piece_end)
-
--- and so is a media type as HTTP writes it
+-- and a media type as HTTP writes it is a piece,
 http_is_piece : {value : List ℕ} {media : MediaType} → HttpReads value media → IsPiece value
-http_is_piece reads =
-    subst IsPiece reads.spelled
-    (before_spaces reads.before reads.white_before
-    (before_token reads.top reads.is_top (before 47 refl refl
-    (before_token reads.sub reads.is_sub (before_parameters reads.are_parameters reads.after
-    (spaces_are_piece reads.after reads.white_after))))))
+http_is_piece {value} {media} reads =
+    let answered = http_is_answered value media reads in is_piece Outside value (whole_from value before_type 0 answered.0 answered.1)
+
+-- as white space is
+spaces_are_piece : (white : List ℕ) → AreSpaces white → IsPiece white
+spaces_are_piece [] all = piece_end
+spaces_are_piece (b ∷ white) all =
+    let parts = and_parts (is_space b) _ all in
+    piece_byte b white (grind (arith, nat_tests, parts.0)) (opens_none b white (grind (arith, nat_tests, parts.0)))
+    (spaces_are_piece white parts.1)
+
+-- a piece begins one
+begins : {text : List ℕ} → IsPiece text → BeginsPiece text
+begins {text} is = ([], subst IsPiece (sym (append-nil text)) is)
 
 -- ---- forth
 
@@ -83,15 +74,27 @@ elements_are_pieces : {lines texts : List (List ℕ)} {media : List MediaType} �
     → AreElements texts media → AreBetweenCommas IsPiece BeginsPiece lines texts
 elements_are_pieces no_line are = no_line
 elements_are_pieces (line_end text lines texts any rest) (nothing _ _ _ white others) =
-    line_end text lines texts ([], before_spaces text white piece_end) (elements_are_pieces rest others)
+    line_end text lines texts (begins (spaces_are_piece text white)) (elements_are_pieces rest others)
 elements_are_pieces (line_end text lines texts any rest) (element _ _ _ _ utf8 reads others) =
-    line_end text lines texts ([], subst IsPiece (sym (append-nil text)) (http_is_piece reads)) (elements_are_pieces rest others)
+    line_end text lines texts (begins (http_is_piece reads)) (elements_are_pieces rest others)
 elements_are_pieces (comma text line lines texts any rest) (nothing _ _ _ white others) =
     comma text line lines texts (spaces_are_piece text white) (elements_are_pieces rest others)
 elements_are_pieces (comma text line lines texts any rest) (element _ _ _ _ utf8 reads others) =
     comma text line lines texts (http_is_piece reads) (elements_are_pieces rest others)
 
--- elements are sorted as ranges, which may print another text
+-- a text of one media type is printed in some way,
+printed : (text : List ℕ) (media : MediaType) → HttpReads text media
+    → (range : MediaType) × HttpReads text range × IsPrinted text range × (without_kept range ≡ without_kept media)
+printed text media reads =
+    ⊎_elim (λ (plain : IsAccepted (trimmed text)).
+    let http = reads_around text plain.0 (plain_is_http (trimmed text) plain.0 plain.1) in
+    (plain.0, http, as_it_stands text plain.0 plain.1, ap without_kept (same_anew text plain.0 media http reads)))
+    (λ (rejected : ¬ (IsAccepted (trimmed text))).
+    let range = with_pairs media media.pairs in
+    (range, white_more media.kept [] [] refl refl reads (append-nil text), anew text range rejected refl, refl))
+    (accepted_or_rejected (trimmed text))
+
+-- so elements are sorted as ranges
 sorted_elements : {texts : List (List ℕ)} {media : List MediaType} → AreElements texts media
     → (ranges : List MediaType) × AreSame ranges media × AreSorted texts ranges []
 sorted_elements no_element = ([], refl, no_text)
@@ -99,12 +102,8 @@ sorted_elements (nothing text texts media white rest) =
     let more = sorted_elements rest in (more.0, more.1, blank text texts more.0 [] white more.2)
 sorted_elements (element text range texts media utf8 reads rest) =
     let more = sorted_elements rest in
-    let kept = http_is_read text range reads in
-    let range-kept : MediaType = record range { kept = kept.0 } in (
-      range-kept ∷ more.0,
-      ap (λ others. without_kept range ∷ others) more.1,
-      a_range text range-kept texts _ [] utf8 (read_is_http text range-kept kept.1) (reads_tight text kept.1) more.2,
-    )
+    let is = printed text range reads in
+    (is.0 ∷ more.0, λ i. is.3 i ∷ more.1 i, a_range text is.0 texts _ [] utf8 is.1 is.2 more.2)
 
 -- a list as HTTP writes it is read as its elements
 pub http_lists_are_read : HttpListsAreRead
@@ -140,10 +139,10 @@ read_are_http_lists lines header is none = record {
 
 -- ---- pieces are sorted in one way
 
--- white space is no media type, as HTTP writes it, since nothing is left of it
+-- white space is no media type, which begins with a token byte after white space
 http_is_not_blank : {piece : List ℕ} → AreSpaces piece → ¬ (IsHttpMediaType piece)
-http_is_not_blank {piece} white is =
-    rejected-from_walk [] (in_type []) refl refl (subst IsAccepted (nothing_out at_start piece white) (accepted_from_http piece is))
+http_is_not_blank {piece} white =
+    rejected_is_none piece MissingSlash (ap answer_of (sym (append-nil piece)) ∙ white_before piece white 0 [])
 
 -- texts are sorted in one way
 one_sorting : {texts : List (List ℕ)} {ranges others : List MediaType} {bad poor : List (List ℕ)} → AreSorted texts ranges bad
@@ -153,14 +152,14 @@ one_sorting (blank text _ _ _ white rest) (blank _ _ _ _ _ more) = one_sorting r
 one_sorting (blank text _ _ _ white rest) (a_range _ media _ _ _ _ reads _ more) = absurd (http_is_not_blank white (media, reads))
 one_sorting (blank text _ _ _ white rest) (a_bad _ _ _ _ not_blank _ more) = absurd (not_blank white)
 one_sorting (a_range text media _ _ _ utf8 reads _ rest) (blank _ _ _ _ white more) = absurd (http_is_not_blank white (media, reads))
-one_sorting (a_range text media _ _ _ utf8 _ reads rest) (a_range _ other _ _ _ _ _ again more) =
+one_sorting (a_range text media _ _ _ utf8 reads printed rest) (a_range _ other _ _ _ _ again likewise more) =
     let same = one_sorting rest more in
-    (λ i. one_reading (tight text) media other (tight_reads text reads) (tight_reads text again) i ∷ same.0 i, same.1)
+    (λ i. one_printed_text text media other reads printed again likewise i ∷ same.0 i, same.1)
 one_sorting (a_range text media _ _ _ utf8 reads _ rest) (a_bad _ _ _ _ _ isnt more) = absurd (isnt (utf8, (media, reads)))
 one_sorting (a_bad text _ _ _ not_blank isnt rest) (blank _ _ _ _ white more) = absurd (not_blank white)
 one_sorting (a_bad text _ _ _ not_blank isnt rest) (a_range _ media _ _ _ utf8 reads _ more) = absurd (isnt (utf8, (media, reads)))
 one_sorting (a_bad text _ _ _ not_blank isnt rest) (a_bad _ _ _ _ _ _ more) =
-    let same = one_sorting rest more in (same.0, ap (λ x. trim_end (trim_start text) ∷ x) same.1)
+    let same = one_sorting rest more in (same.0, ap (λ x. trimmed text ∷ x) same.1)
 
 -- so lines are read as one header
 pub one_header : OneHeader

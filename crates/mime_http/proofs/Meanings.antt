@@ -1,5 +1,5 @@
 -- A media type covers itself, and what covers an offer is told by what both mean.
-use Rattle.mime_http.proofs.Common.{arith, Bool, CoversItself, List, MeaningCounts, MediaType, [], and_from, ap, bytes_eq, bytes_eq-Decides, codes, demanded, has, length, list_all, list_any, map, meaning_of, not, refl, sym, true, unescaped, ℕ, ◌&&◌, ◌∙◌, ◌∷◌, ◌≡◌, length-map, list_all-map, list_all-from_AllPass, get_or}
+use Rattle.mime_http.proofs.Common.{arith, Bool, CoversItself, List, MeaningCounts, MediaType, [], and_from, ap, bytes_eq, bytes_eq-Decides, codes, demanded, has, length, list_all, list_any, map, meaning_of, not, refl, sym, true, unescaped, ℕ, ◌&&◌, ◌∙◌, ◌∷◌, ◌≡◌, length-map, list_all-from_AllPass, get_or}
 use Rattle.std.proofs.lemmas.List.Elements.{All-filter}
 use Rattle.std.proofs.lemmas.List.Folds.{list_any_at}
 
@@ -47,10 +47,8 @@ demanded_meant (pair ∷ pairs) = grind (arith, demanded_meant pairs)
 -- and all that are demanded are there if it has what they mean
 all_by_meaning : (offer : MediaType) (pairs : Pairs)
     → list_all (has offer) (demanded pairs) ≡ list_all (has_meant (map meaning_of offer.pairs)) (demanded (map meaning_of pairs))
-all_by_meaning offer pairs =
-    (λ i. list_all (λ pair. has_by_meaning offer.pairs pair i) (demanded pairs))
-    ∙ (sym (list_all-map (has_meant (map meaning_of offer.pairs)) meaning_of (demanded pairs))
-    ∙ ap (list_all (has_meant (map meaning_of offer.pairs))) (sym (demanded_meant pairs)))
+all_by_meaning offer [] = refl
+all_by_meaning offer (pair ∷ pairs) = grind (arith, has_by_meaning offer.pairs pair, all_by_meaning offer pairs)
 
 -- and as many are demanded
 count_by_meaning : (pairs : Pairs) → length (demanded pairs) ≡ length (demanded (map meaning_of pairs))

@@ -1,12 +1,13 @@
 -- Worked facts of the pages `HttpList` and `Weight`: what is true of a text, and what is false.
-use Rattle.mime_http.proofs.Common.{AreHttpLists, AreSorted, Header, IsHeader, IsHttpMediaType, IsPiece, IsQvalue, IsToken, IsUtf8, IsUtf8-nil, List, MediaType, None, Reads, [], a_range, ap, append-nil, arith, codes, cut, get_or, is_token_byte, length, map, no_list, no_text, refl, stopped-from_walk, subst, sym, thousandths_of, tight, trim_end, trim_start, true≢false, two_digits, value_of, ℕ, ◌++◌, ◌∷◌, ◌≡◌}
+use Rattle.mime_http.proofs.Common.{IsUtf8, IsUtf8-nil, append-nil, Reads, text_of_parts, AreHttpLists, AreSorted, Header, IsHeader, IsHttpMediaType, IsPiece, IsQvalue, List, MediaType, Parts, [], a_range, answer_of, ap, arith, as_it_stands, codes, cut, get_or, is_token_byte, length, map, media_of, no_text, read, refl, subst, sym, thousandths_of, trimmed, true≢false, two_digits, ℕ, ◌∷◌, ◌≡◌}
 use Rattle.mime_http.specs.HttpList.{blank}
 use Rattle.mime_http.proofs.HttpText.{AreAscii, put_ascii}
 use Rattle.mime_http.proofs.Numbers.{weight_is_number}
 use Rattle.mime_http.proofs.Cuts.{cut_of_piece, are_cut}
-use Rattle.mime_http.proofs.HttpLaws.{accepted_from_http, reads_tight}
-use Rattle.mime_http.proofs.HttpBack.{read_is_http}
 use Rattle.mime_http.proofs.Lists.{one_header, http_lists_are_read, read_are_http_lists, bad_is_alone}
+use Rattle.mime_http.proofs.ReadAnew.{written_reads}
+use Rattle.mime_http.proofs.ReadBack.{answered_is_http}
+use Rattle.mime_http.proofs.ReadFaults.{rejected_is_none}
 
 -- ---- weights (RFC 9110, 12.4.2)
 
@@ -49,60 +50,57 @@ comma_outside : ¬ (IsPiece (codes "a/b,c/d"))
 comma_outside is = absurd (omega (arith, ap length (cut_of_piece {text = codes "a/b,c/d"} ([], is))))
 
 -- white space is left out on both sides
-trimmed : trim_end (trim_start (codes " \t x y ")) ≡ codes "x y"
-trimmed = refl
+trims : trimmed (codes " \t x y ") ≡ codes "x y"
+trims = refl
 
 -- ---- lists, of which this one has two elements among empty ones
 
--- a media type of a type of one letter, and a subtype
-abbrev short : List ℕ → MediaType
-short essence = record { essence = essence; slash = 1; plus = None; pairs = []; kept = essence }
+-- the parts of a type and a subtype
+abbrev bare : List ℕ → List ℕ → Parts
+bare top sub = record { top = top; sub = sub; pairs = [] }
 
--- what is a type and a subtype, tightened, is a range before others,
-as_range : (text top sub : List ℕ) {texts bad : List (List ℕ)} {ranges : List MediaType} → AreAscii text → IsToken top → IsToken sub
-    → tight text ≡ top ++ (47 ∷ (sub ++ [])) → value_of (record { top = top; sub = sub; tail = no_list }) ≡ short (top ++ (47 ∷ sub))
-    → AreSorted texts ranges bad → AreSorted (text ∷ texts) (short (top ++ (47 ∷ sub)) ∷ ranges) bad
-as_range text top sub ascii is_top is_sub same is rest =
-    let utf8 = subst IsUtf8 (append-nil text) (put_ascii text [] ascii IsUtf8-nil) in
-    let reads : Reads (tight text) (short (top ++ (47 ∷ sub))) = record {
-      tree = record { top = top; sub = sub; tail = no_list };
-      well_formed = (is_top, is_sub, tt);
-      spelled = sym same;
-      valued = is;
-    } in
-    a_range text (short (top ++ (47 ∷ sub))) _ _ _ utf8 (read_is_http text _ reads) (reads_tight text reads) rest
+abbrev a_b : Parts
+a_b = bare (codes "a") (codes "b")
 
--- as is `a/b` with a space after it,
-a_b : {texts bad : List (List ℕ)} {ranges : List MediaType} → AreSorted texts ranges bad
-    → AreSorted (codes "a/b " ∷ texts) (short (codes "a/b") ∷ ranges) bad
-unfolding is_token_byte
-a_b = as_range (codes "a/b ") (codes "a") (codes "b") (omega arith, (omega arith, (omega arith, (omega arith, tt)))) refl refl refl refl
+abbrev c_d : Parts
+c_d = bare (codes "c") (codes "d")
 
--- and `c/d`
-c_d : {texts bad : List (List ℕ)} {ranges : List MediaType} → AreSorted texts ranges bad
-    → AreSorted (codes "c/d" ∷ texts) (short (codes "c/d") ∷ ranges) bad
-unfolding is_token_byte
-c_d = as_range (codes "c/d") (codes "c") (codes "d") (omega arith, (omega arith, (omega arith, tt))) refl refl refl refl
+-- what is written as it is printed, but for the white space around it, is a range before others
+as_range : (text : List ℕ) (parts : Parts) {texts bad : List (List ℕ)} {ranges : List MediaType} → AreAscii text
+    → answer_of text ≡ read parts → text_of_parts parts ≡ trimmed text → AreSorted texts ranges bad
+    → AreSorted (text ∷ texts) (media_of parts ∷ ranges) bad
+as_range text parts ascii answered same =
+    a_range text (media_of parts) _ _ _ (subst IsUtf8 (append-nil text) (put_ascii text [] ascii IsUtf8-nil))
+    (answered_is_http text parts answered)
+    (as_it_stands text (media_of parts) (subst (λ t. Reads t (media_of parts)) same (written_reads text parts answered)))
 
 -- empty elements are no elements
-two_elements : AreHttpLists (codes ",a/b , ,c/d" ∷ []) (short (codes "a/b") ∷ short (codes "c/d") ∷ [])
+two_elements : AreHttpLists (codes ",a/b , ,c/d" ∷ []) (media_of a_b ∷ media_of c_d ∷ [])
+unfolding is_token_byte
 two_elements =
-    read_are_http_lists (codes ",a/b , ,c/d" ∷ []) (record { ranges = short (codes "a/b") ∷ short (codes "c/d") ∷ []; bad = [] })
-    (record { pieces = _; cut = are_cut _; sorted = blank [] _ _ _ refl (a_b (blank (codes " ") _ _ _ refl (c_d no_text))) }) refl
+    read_are_http_lists (codes ",a/b , ,c/d" ∷ []) (record { ranges = media_of a_b ∷ media_of c_d ∷ []; bad = [] })
+    (record {
+      pieces = _;
+      cut = are_cut _;
+      sorted = blank [] _ _ _ refl (as_range (codes "a/b ") a_b (omega arith) refl refl
+          (blank (codes " ") _ _ _ refl (as_range (codes "c/d") c_d (omega arith) refl refl no_text)));
+    }) refl
 
 -- a text with a space within is no media type
 not_media_type : ¬ (IsHttpMediaType (codes " a b"))
 unfolding is_token_byte
-not_media_type is = stopped-from_walk (tight (codes " a b")) refl (accepted_from_http _ is)
+not_media_type = rejected_is_none (codes " a b") _ refl
 
 -- so an entry that is one is bad as a whole, also between two others
 bad_between :
-    IsHeader (codes "c/d, a b" ∷ codes "a/b " ∷ [])
-    (record { ranges = short (codes "c/d") ∷ short (codes "a/b") ∷ []; bad = codes "a b" ∷ [] })
+    IsHeader (codes "c/d, a b" ∷ codes "a/b " ∷ []) (record { ranges = media_of c_d ∷ media_of a_b ∷ []; bad = codes "a b" ∷ [] })
+unfolding is_token_byte
 bad_between =
     (bad_is_alone (codes "c/d, a b" ∷ codes "a/b " ∷ []) (codes "c/d" ∷ codes "a/b " ∷ []) (codes "c/d" ∷ []) (codes "a/b " ∷ [])
-    (codes " a b") _ _ [] [] (c_d no_text) (a_b no_text) (λ blank. true≢false (sym blank)) (λ is. not_media_type is.1)
-    (are_cut _) (are_cut _)).0
+    (codes " a b") _ _ [] []
+    (as_range (codes "c/d") c_d (omega arith) refl refl no_text)
+    (as_range (codes "a/b ") a_b (omega arith) refl refl no_text)
+    (λ blank. true≢false (sym blank)) (λ is. not_media_type is.1) (are_cut _) (are_cut _)).0
 
 -- a line that has one is no list,
 not_a_list : (media : List MediaType) → ¬ (AreHttpLists (codes "c/d, a b" ∷ codes "a/b " ∷ []) media)
@@ -113,7 +111,7 @@ not_a_list media is =
 -- and a range prints no other text than its own
 other_text :
     ¬ (IsHeader (codes "c/d, a b" ∷ codes "a/b " ∷ [])
-    (record { ranges = record (short (codes "c/d")) { kept = codes "C/d" } ∷ short (codes "a/b") ∷ []; bad = codes "a b" ∷ [] }))
+    (record { ranges = record (media_of c_d) { kept = codes "C/d" } ∷ media_of a_b ∷ []; bad = codes "a b" ∷ [] }))
 other_text is =
     let kept = λ (header : Header). get_or (get_or (map (λ (range : MediaType). range.kept) header.ranges) 0 []) 0 0 in
     absurd (omega (arith, ap kept (one_header _ _ _ bad_between is)))

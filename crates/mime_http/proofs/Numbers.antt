@@ -1,5 +1,5 @@
 -- A weight that is read digit by digit is the number that its text begins with.
-use Rattle.mime_http.proofs.Common.{List, WeightIsNumber, [], arith, cases_Bool, codes, drop, false, fold, if◌then◌else◌, is_ascii_digit, length, nat_tests, one_digit, one_dot, read_number, refl, replicate, slice_index, suc, sym, take, take_while, take_while-cons, thousandths_of, three_digits, true, two_digits, worth, zero_dot, ℕ, ⊎_elim, ◌*◌, ◌++◌, ◌+◌, ◌-◌, ◌==◌, ◌∙◌, ◌∷◌, ◌≡◌, ◌≤◌, ◌/◌}
+use Rattle.mime_http.proofs.Common.{List, WeightIsNumber, [], arith, codes, drop, fold, if◌then◌else◌, is_ascii_digit, length, nat_tests, one_digit, one_dot, read_number, refl, replicate, slice_index, suc, sym, take, take_while, take_while-cons, thousandths_of, three_digits, two_digits, worth, zero_dot, ℕ, ◌*◌, ◌++◌, ◌+◌, ◌-◌, ◌==◌, ◌∙◌, ◌∷◌, ◌≡◌, ◌≤◌, ◌/◌}
 use Rattle.std.proofs.Math.Nat.{mul-le-mul_left}
 use Rattle.mime_http.specs.RangesLaws.{zero, one}
 
@@ -55,8 +55,7 @@ number_from n bytes = fold step n (digits bytes ++ take 3 (decimals (drop (lengt
 number_goes_on : (n b : ℕ) (bytes : List ℕ) → number_from n (b ∷ bytes)
     ≡ (if is_ascii_digit b then number_from (step n b) bytes else fold step n (take 3 (decimals (b ∷ bytes) ++ codes "000")))
 number_goes_on n b bytes =
-    rw (take_while-cons is_ascii_digit b bytes) (⊎_elim (λ (is : is_ascii_digit b ≡ true). rw is refl)
-    (λ (isnt : is_ascii_digit b ≡ false). rw isnt refl) (cases_Bool (is_ascii_digit b)))
+    rw (take_while-cons is_ascii_digit b bytes) (grind arith)
 
 -- what stands after a dot makes it no less
 no_less : (n : ℕ) (bytes : List ℕ) → 1000 * n ≤ number_from n bytes

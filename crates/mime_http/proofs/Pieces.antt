@@ -1,9 +1,9 @@
 -- A line's first piece: bytes without a mark go on with it, and a comma outside strings ends it.
-use Rattle.mime_http.proofs.Common.{AreUnmarked, At, Bool, List, Outside, [], ap, append-nil, append_assoc, ap₂, arith, cases_Bool, cond, cut, cut_after, cut_from, drop, drop-drop, drop_of_length-le, eq-eqb, false, get_or, get_or-drop, get_or_past, is_mark, length, length-drop, nat_tests, not, prefix_len, prefix_len-le-length, refl, subst, suc, sym, take, take-add, take_all, take_more, true, zero, ℕ, ⊎_elim, ◌&&◌, ◌++◌, ◌+◌, ◌-◌, ◌<◌, ◌==◌, ◌∙◌, ◌∷◌, ◌≡◌, ◌≤◌}
+use Rattle.mime_http.proofs.Common.{AreUnmarked, At, Bool, List, Outside, [], ap, append-nil, append_assoc, ap₂, arith, cond, cut, cut_after, cut_from, drop, drop-drop, drop_of_length-le, eq-eqb, false, get_or, get_or-drop, get_or_past, is_mark, length, length-drop, nat_tests, not, prefix_len, prefix_len-le-length, refl, subst, suc, sym, take, take-add, take_all, take_more, true, zero, ℕ, ◌&&◌, ◌++◌, ◌+◌, ◌-◌, ◌<◌, ◌==◌, ◌∙◌, ◌∷◌, ◌≡◌, ◌≤◌}
 use Rattle.mime_search.specs.Classes.{is_stop, end_of_run}
 use Rattle.mime_search.specs.Quoted.{awaits_next, len_from}
 use Rattle.mime_search.specs.declared.class.Class.{Class}
-use Rattle.mime_http.specs.Walk.{Equals, Quoted, Paired, IsNextMark}
+use Rattle.mime_http.specs.LineCut.{Equals, Quoted, Paired, IsNextMark}
 use Rattle.std.specs.List.{position_or_len}
 use Rattle.std.proofs.lemmas.List.Sums.{fails_before_first, passes_at_first}
 use Rattle.std.proofs.lemmas.List.{drop_more}
@@ -91,11 +91,8 @@ string_left paired piece [] = ap (λ p. p ∷ []) (append-nil piece)
 string_left paired piece (b ∷ bytes) =
     let n = len_from (awaits_next paired b) bytes in
     let next : suc n + 1 ≡ suc (n + 1) = omega arith in
-    ⊎_elim (λ (closes : (not paired && b == 34) ≡ true). rw closes (grind (arith, nat_tests, closes)))
-    (λ (on : (not paired && b == 34) ≡ false). rw on
-    (rw next (ap (λ p. cut_from Outside p (drop (n + 1) bytes)) (sym (append_assoc piece (b ∷ []) (take (n + 1) bytes)))
-    ∙ (string_left (awaits_next paired b) (piece ++ (b ∷ [])) bytes ∙ grind (arith, nat_tests, on)))))
-    (cases_Bool (not paired && b == 34))
+    let more = append_assoc piece (b ∷ []) (take (n + 1) bytes) in
+    grind (arith, nat_tests, next, more, string_left (awaits_next paired b) (piece ++ (b ∷ [])) bytes)
 
 -- so it does at a position past the content
 pub string_closed : (line : List ℕ) (from end : ℕ) → end ≡ from + len_from false (drop from line)

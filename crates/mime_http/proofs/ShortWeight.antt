@@ -1,8 +1,9 @@
 -- A media type whose kept text ends in a weight of one decimal, right after the essence, has no other parameter.
-use Rattle.mime_http.proofs.Common.{AreSpaces, HasBytesAt, List, MediaType, Reads, Some, SyntaxTree, [], ap, arith, drop, drop-append_seam, essence_of, final, is_ascii_digit, is_token_byte, length, length-append, length-lowered, listed, lowered_tree, one_reading, plain, read_number, refl, sym, text_from_reads, text_of, text_of_tail, true, value_of, ℕ, ◌*◌, ◌++◌, ◌+◌, ◌-◌, ◌∙◌, ◌∷◌, ◌≡◌}
+use Rattle.mime_http.proofs.Common.{AreSpaces, HasBytesAt, List, MediaType, Reads, Some, SyntaxTree, [], ap, arith, drop, drop-append_seam, essence_of, final, is_ascii_digit, is_token_byte, length, length-append, listed, lowered_tree, one_reading, plain, read_number, refl, sym, text_from_reads, text_of, text_of_tail, true, value_of, ℕ, ◌*◌, ◌++◌, ◌+◌, ◌-◌, ◌∙◌, ◌∷◌, ◌≡◌}
 use Rattle.mime.proofs.ValueLemmas.KeptText.{text_of-essence}
 use Rattle.mime_http.proofs.Demanded.{found_in}
 use Rattle.mime_http.proofs.Numbers.{read_is}
+use Rattle.mime_http.proofs.Written.{lengths}
 
 module _ (kept : List ℕ) (media : MediaType) (reads : Reads kept media) where
   -- a text that is read is its essence and the tail,
@@ -15,10 +16,7 @@ module _ (kept : List ℕ) (media : MediaType) (reads : Reads kept media) where
       let tree = reads.tree in
       let low = lowered_tree tree in
       let same : length media.essence ≡ length (essence_of low) = ap (λ value. length value.essence) (sym reads.valued) in
-      let size : length low.top + length low.sub ≡ length tree.top + length tree.sub =
-      omega (arith, length-lowered tree.top, length-lowered tree.sub) in
-      let long : length media.essence ≡ length (essence_of tree) =
-      omega (arith, same, size, length-append low.top (47 ∷ low.sub), length-append tree.top (47 ∷ tree.sub)) in
+      let long : length media.essence ≡ length (essence_of tree) = same ∙ simp lengths in
       ap (λ n. drop n kept) long ∙ (ap (drop (length (essence_of tree))) kept_is
       ∙ drop-append_seam (essence_of tree) (text_of_tail tree.tail))
 

@@ -1,7 +1,5 @@
 -- A piece without the white space around it.
-use Rattle.mime_http.proofs.Common.{AreSpaces, IsAscii, IsUtf8, List, [], and_from, and_parts, ap, append-nil, arith, cond_both, false, get_or, if◌then◌else◌, is_space, length, length-append, list_all-append, nat_tests, refl, subst, suc, sym, take, take_more, tight, trim_end, trim_start, true, ℕ, ◌++◌, ◌-◌, ◌<◌, ◌∙◌, ◌∷◌, ◌≡◌, ◌≤◌}
-use Rattle.mime_http.proofs.HttpText.{tight_utf8}
-use Rattle.mime_http.proofs.Places.{at_start, skipped_white}
+use Rattle.mime_http.proofs.Common.{AreSpaces, IsAscii, IsAscii-cons, IsAscii-nil, List, [], and_from, and_parts, ap, arith, cond_both, false, get_or, if◌then◌else◌, is_space, length, list_all, list_all-append, refl, suc, sym, take, take_more, trim_end, trim_start, trimmed, true, zero, ℕ, ◌++◌, ◌-◌, ◌<◌, ◌∙◌, ◌∷◌, ◌≡◌, ◌≤◌}
 
 -- Bytes are white space, and what is left without it.
 pub split_white : (bytes : List ℕ) → (white : List ℕ) × AreSpaces white × (bytes ≡ white ++ trim_start bytes)
@@ -11,38 +9,27 @@ split_white (b ∷ bytes) =
     cond_both (is_space b) _ _ (λ left. (white : List ℕ) × AreSpaces white × (b ∷ bytes ≡ white ++ left))
     (λ is. (b ∷ rest.0, and_from (is_space b) _ is rest.1, ap (λ x. b ∷ x) rest.2)) (λ other. ([], refl, refl))
 
--- White space is ASCII.
-pub below_128 : (b : ℕ) → is_space b ≡ true → b < 128
-below_128 b is = grind (arith, nat_tests)
+-- nothing is left of white space,
+trimmed_start : (piece : List ℕ) → AreSpaces piece → trim_start piece ≡ []
+trimmed_start [] all = refl
+trimmed_start (b ∷ piece) all = let parts = and_parts (is_space b) _ all in rw parts.0 (trimmed_start piece parts.1)
 
--- A piece is white space exactly if nothing is left of it.
-pub blank_from_trimmed : (piece : List ℕ) → trim_start piece ≡ [] → AreSpaces piece
-blank_from_trimmed piece is =
-    let split = split_white piece in
-    subst AreSpaces (sym (split.2 ∙ (ap (λ x. split.0 ++ x) is ∙ append-nil split.0))) split.1
+-- on neither side
+pub trimmed_from_blank : (piece : List ℕ) → AreSpaces piece → trimmed piece ≡ []
+trimmed_from_blank piece all = ap trim_end (trimmed_start piece all)
 
--- and nothing is left of white space
-pub trimmed_from_blank : (piece : List ℕ) → AreSpaces piece → trim_start piece ≡ []
-trimmed_from_blank [] all = refl
-trimmed_from_blank (b ∷ piece) all = let parts = and_parts (is_space b) _ all in rw parts.0 (trimmed_from_blank piece parts.1)
+-- What is left of ASCII is ASCII.
+ascii_start : (piece : List ℕ) → IsAscii piece → IsAscii (trim_start piece)
+ascii_start [] ascii = ascii
+ascii_start (b ∷ piece) ascii = cond_both (is_space b) _ _ IsAscii (λ white. ascii_start piece (λ i. ascii (suc i))) (λ other. ascii)
 
--- What is left comes out tightened as the piece does,
-pub tight_trimmed : (piece : List ℕ) → tight piece ≡ tight (trim_start piece)
-tight_trimmed piece =
-    let split = split_white piece in ap tight split.2 ∙ (skipped_white at_start split.0 split.1).tightly (trim_start piece)
+ascii_end : (piece : List ℕ) → IsAscii piece → IsAscii (trim_end piece)
+ascii_end [] ascii = ascii
+ascii_end (b ∷ piece) ascii = cond_both (list_all is_space (b ∷ piece)) _ _ IsAscii (λ white. IsAscii-nil)
+    (λ other. IsAscii-cons b _ (ascii zero) (ascii_end piece (λ i. ascii (suc i))))
 
--- is no longer than the piece,
-pub trimmed-le : (piece : List ℕ) → length (trim_start piece) ≤ length piece
-trimmed-le piece =
-    let split = split_white piece in omega (arith, ap length split.2, length-append split.0 (trim_start piece))
-
--- and is in UTF-8 exactly if the piece is.
-pub utf8_before : (piece : List ℕ) → IsUtf8 (trim_start piece) → IsUtf8 piece
-utf8_before piece utf8 = (tight_utf8 piece).1 (subst IsUtf8 (sym (tight_trimmed piece)) ((tight_utf8 (trim_start piece)).0 utf8))
-
--- and the other way
-pub utf8_trimmed : (piece : List ℕ) → IsUtf8 piece → IsUtf8 (trim_start piece)
-utf8_trimmed piece utf8 = (tight_utf8 (trim_start piece)).1 (subst IsUtf8 (tight_trimmed piece) ((tight_utf8 piece).0 utf8))
+pub ascii_trimmed : (piece : List ℕ) → IsAscii piece → IsAscii (trimmed piece)
+ascii_trimmed piece ascii = ascii_end (trim_start piece) (ascii_start piece ascii)
 
 -- a byte at the end is left out if it is white space, and else all bytes stay
 trim_end-last : (bytes : List ℕ) (b : ℕ) → trim_end (bytes ++ (b ∷ [])) ≡ (if is_space b then trim_end bytes else bytes ++ (b ∷ []))
@@ -66,8 +53,3 @@ end_at_space piece end some within white = sym (rw white at (last_trimmed piece 
 pub end_at_other : (piece : List ℕ) (end : ℕ) → 0 < end → end ≤ length piece → is_space (get_or piece (end - 1) 0) ≡ false
     → take end piece ≡ trim_end (take end piece)
 end_at_other piece end some within other = sym (rw other at (last_trimmed piece end some within))
-
--- What is left of ASCII without the white space before it is ASCII.
-pub ascii_trimmed : (piece : List ℕ) → IsAscii piece → IsAscii (trim_start piece)
-ascii_trimmed [] ascii = ascii
-ascii_trimmed (b ∷ piece) ascii = cond_both (is_space b) _ _ IsAscii (λ white. ascii_trimmed piece (λ i. ascii (suc i))) (λ other. ascii)

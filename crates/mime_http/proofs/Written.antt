@@ -1,5 +1,5 @@
 -- What is written of parameters is read as them.
-use Rattle.mime_http.proofs.Common.{AllByRecursion, AreParameters, Bool, IsContent, IsParameter, IsSafe, IsSafePair, IsToken, IsToken-lowered, List, MediaType, Parameter, Parameters, Reads, [], ap, append-nil, append_assoc, arith, bytes_eq, cond_both, essence_is_read, false, final, is_token_byte, is_token_value, length-lowered, list_all-lowered, listed, lowered, lowered-lowered, lowered_list, lowered_parameter, lowered_value, lowered_value-either, lowered_value-lowered, map, more, nat_tests, not, others, pair_of, pairs_of_list, pairs_of_tail, pairs_of_tail-lowered, plain, quoted, refl, subst, sym, text_of_list, text_of_pair, text_of_pairs, text_of_parameter, true, with_pair, with_pairs, ℕ, ◌++◌, ◌∙◌, ◌∷◌, ◌≡◌}
+use Rattle.mime_http.proofs.Common.{if◌then◌else◌, AllByRecursion, AreParameters, Bool, IsContent, IsParameter, IsSafe, IsSafePair, IsToken, IsToken-lowered, List, MediaType, Parameter, Parameters, Parts, Reads, [], ap, append-nil, append_assoc, arith, bytes_eq, cond_both, false, final, is_token_byte, is_token_value, length, length-append, length-lowered, list_all-lowered, listed, lowered, lowered-lowered, lowered_list, lowered_parameter, lowered_value, lowered_value-either, lowered_value-lowered, map, media_of, more, nat_tests, no_list, not, others, pair_of, pairs_of_list, pairs_of_tail, pairs_of_tail-lowered, plain, quoted, refl, subst, suc, sym, text_of_list, text_of_pair, text_of_pairs, text_of_parameter, text_of_parts, true, value_of, with_pair, with_pairs, ℕ, ◌++◌, ◌∙◌, ◌∷◌, ◌≡◌}
 use Rattle.mime.specs.Inner.KeptText.{lowered_pair}
 
 -- the test for a token holds for tokens alone
@@ -13,6 +13,36 @@ unfolding is_token_byte
 test-lowered [] = refl
 test-lowered (b ∷ value) = list_all-lowered is_token_byte (λ x. grind (arith, nat_tests)) (b ∷ value)
 
+-- and so under any name
+test-either : (name value : List ℕ) → is_token_value (lowered_value name value) ≡ is_token_value value
+test-either name value = lowered_value-either (λ v. is_token_value v ≡ is_token_value value) name value refl (test-lowered value)
+
+-- in lowercase a value takes as many bytes,
+pub length-lowered_value : (name value : List ℕ) → length (lowered_value name value) ≡ length value
+length-lowered_value name value = lowered_value-either (λ v. length v ≡ length value) name value refl (length-lowered value)
+
+-- so lengths are compared by `simp`, which doesn't compute a list with a first byte
+pub length-cons : (b : ℕ) (xs : List ℕ) → length (b ∷ xs) ≡ suc (length xs)
+length-cons b xs = refl
+
+pub ruleset lengths = (length-append, length-cons, length-lowered, length-lowered_value)
+
+-- a pair takes as many,
+length-pair : (pair : List ℕ × List ℕ) → length (text_of_pair (lowered_pair pair)) ≡ length (text_of_pair pair)
+length-pair (name, value) = ap (λ token. length (text token)) (test-either name value) ∙ (simp lengths)
+  where
+    text : Bool → List ℕ
+    text token =
+        let quote = if token then [] else 34 ∷ [] in
+        59 ∷ 32 ∷ (lowered name ++ (61 ∷ (quote ++ (lowered_value name value ++ quote))))
+
+-- and so do more of them
+pub length-pairs : (pairs : List (List ℕ × List ℕ)) → length (text_of_pairs (map lowered_pair pairs)) ≡ length (text_of_pairs pairs)
+length-pairs [] = refl
+length-pairs (pair ∷ pairs) =
+    length-append (text_of_pair (lowered_pair pair)) _ ∙ simp (length-pair pair, length-pairs pairs)
+    (sym (length-append (text_of_pair pair) (text_of_pairs pairs)))
+
 -- a pair is written as a token or in quotes, and is read in lowercase
 record WritesOne (pair : List ℕ × List ℕ) : Type 0 where
   parameter : Parameter
@@ -25,22 +55,19 @@ record WritesOne (pair : List ℕ × List ℕ) : Type 0 where
 writes_one : (pair : List ℕ × List ℕ) → IsSafePair pair → WritesOne pair
 writes_one (name, value) (named, is) = go (is_token_value value) refl
   where
-    same : is_token_value (lowered_value name value) ≡ is_token_value value
-    same = lowered_value-either (λ v. is_token_value v ≡ is_token_value value) name value refl (test-lowered value)
-
     go : (token : Bool) → is_token_value value ≡ token → WritesOne (name, value)
     go true e = record {
       parameter = plain name value;
       fine = (named, token_from_test value e);
       text = rw (e, append-nil value) refl;
-      low = rw (same ∙ e, append-nil (lowered_value name value)) refl;
+      low = rw (test-either name value ∙ e, append-nil (lowered_value name value)) refl;
       has = refl;
     }
     go false e = record {
       parameter = quoted name value [];
       fine = (named, is, refl);
       text = rw e refl;
-      low = rw (same ∙ e) refl;
+      low = rw (test-either name value ∙ e) refl;
       has = refl;
     }
 
@@ -72,27 +99,39 @@ writes pair (next ∷ pairs) (is, all) =
       has = λ i. one.has i ∷ rest.has i;
     }
 
--- so an essence and pairs are read as they are written
+-- So a type, a subtype and pairs are read as they are written,
+pub parts_are_read : (parts : Parts) → IsToken parts.top → IsToken parts.sub → AllByRecursion IsSafePair parts.pairs
+    → Reads (text_of_parts parts) (media_of parts)
+parts_are_read parts is_top is_sub safe = go parts.pairs safe
+  where
+    go : (pairs : List (List ℕ × List ℕ)) → AllByRecursion IsSafePair pairs
+        → Reads (text_of_parts (record parts { pairs = pairs })) (media_of (record parts { pairs = pairs }))
+    go [] safe = record {
+      tree = record { top = parts.top; sub = parts.sub; tail = no_list };
+      well_formed = (is_top, is_sub, tt);
+      spelled = refl;
+      valued = rw (append-nil (lowered parts.top ++ (47 ∷ lowered parts.sub))) refl;
+    }
+    go (pair ∷ pairs) safe =
+        let list = writes pair pairs safe in record {
+          tree = record { top = parts.top; sub = parts.sub; tail = listed list.list };
+          well_formed = (is_top, is_sub, list.fine);
+          spelled = ap (λ text. parts.top ++ (47 ∷ (parts.sub ++ text))) list.text;
+          valued = rw (list.has, list.low) (simp append_assoc);
+        }
+
+-- and so are an essence and pairs
 written_is_read : (text : List ℕ) (value : MediaType) (pairs : List (List ℕ × List ℕ)) → Reads text value
     → AllByRecursion IsSafePair pairs → Reads (value.essence ++ text_of_pairs pairs) (with_pairs value (map lowered_pair pairs))
-written_is_read text value [] reads safe =
-    subst (λ essence. Reads essence (record value { pairs = []; kept = essence })) (sym (append-nil value.essence))
-    (essence_is_read text value reads)
-written_is_read text value (pair ∷ pairs) reads safe =
-    let list = writes pair pairs safe in
-    subst (λ (v : MediaType). Reads (v.essence ++ text_of_pairs (pair ∷ pairs)) (with_pairs v (map lowered_pair (pair ∷ pairs))))
-    reads.valued
-    (record {
-      tree = record { top = lowered reads.tree.top; sub = lowered reads.tree.sub; tail = listed list.list };
-      well_formed = (
-        IsToken-lowered reads.tree.top reads.well_formed.0,
-        IsToken-lowered reads.tree.sub reads.well_formed.1,
-        list.fine,
-      );
-      spelled = rw list.text (simp append_assoc);
-      valued = rw (list.has, lowered-lowered reads.tree.top, lowered-lowered reads.tree.sub, length-lowered reads.tree.top, list.low)
-          (simp append_assoc);
-    })
+written_is_read text value pairs reads safe =
+    let top = reads.tree.top in
+    let sub = reads.tree.sub in
+    let low : Parts = record { top = lowered top; sub = lowered sub; pairs = pairs } in
+    let written = parts_are_read low (IsToken-lowered top reads.well_formed.0) (IsToken-lowered sub reads.well_formed.1) safe in
+    subst (λ (v : MediaType). Reads (v.essence ++ text_of_pairs pairs) (with_pairs v (map lowered_pair pairs))) reads.valued
+    (subst (λ text. Reads text (with_pairs (value_of reads.tree) (map lowered_pair pairs)))
+    (sym (append_assoc (lowered top) (47 ∷ lowered sub) (text_of_pairs pairs)))
+    (rw (lowered-lowered top, lowered-lowered sub, length-lowered top) at written))
 
 -- what holds of all pairs holds of those of other names, and of one more
 all_others : (P : List ℕ × List ℕ → Type 0) (name : List ℕ) (pairs : List (List ℕ × List ℕ)) (pair : List ℕ × List ℕ)
@@ -111,15 +150,8 @@ low_pair (name, value) = cc (lowered-lowered name, lowered_value-lowered name va
 others_stay : (name : List ℕ) (pairs : List (List ℕ × List ℕ)) (pair : List ℕ × List ℕ)
     → map lowered_pair (others name (map lowered_pair pairs) ++ (pair ∷ []))
     ≡ others (lowered name) (map lowered_pair pairs) ++ (lowered_pair pair ∷ [])
-others_stay name pairs pair = rw (lowered-lowered name) (go pairs)
-  where
-    go : (pairs : List (List ℕ × List ℕ)) → map lowered_pair (others name (map lowered_pair pairs) ++ (pair ∷ []))
-        ≡ others name (map lowered_pair pairs) ++ (lowered_pair pair ∷ [])
-    go [] = refl
-    go (first ∷ pairs) =
-        cond_both (not (bytes_eq (lowered (lowered first.0)) (lowered name))) _ _
-        (λ ps. map lowered_pair (ps ++ (pair ∷ [])) ≡ ps ++ (lowered_pair pair ∷ []))
-        (λ other. λ i. low_pair first i ∷ go pairs i) (λ same. go pairs)
+others_stay name [] pair = refl
+others_stay name (first ∷ pairs) pair = grind (arith, lowered-lowered name, low_pair first, others_stay name pairs pair)
 
 -- an essence with the parameters of other names and this one after it is read as the value with this one in place of those of its name
 pub with_pair_is_read : (text : List ℕ) (value : MediaType) (name content : List ℕ) → Reads text value → IsSafe value → IsToken name

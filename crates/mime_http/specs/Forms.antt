@@ -25,13 +25,11 @@ form_of value = if is_token_value value then Token else (if list_all is_quoted_t
 -- what stands on both sides of a value, and the value between
 abbrev pub marks : Form → List ℕ
 marks Token = []
-marks Quoted = quote_byte ∷ []
-marks Escaped = quote_byte ∷ []
+marks form = quote_byte ∷ []
 
 abbrev pub content : Form → List ℕ → List ℕ
-content Token value = value
-content Quoted value = value
 content Escaped value = escaped value
+content form value = value
 
 -- a parameter in this form after a semicolon and a space
 abbrev pub text_in : Form → List ℕ → List ℕ → List ℕ

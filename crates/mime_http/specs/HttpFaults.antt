@@ -1,11 +1,13 @@
 -- How a header's value is rejected: which values may still become a media type as HTTP writes it, up to where a value may, and its
 -- one fault. As of a text alone (the library's page `Faults`), with `IsHttpMediaType` for accepted.
-use Rattle.std.specs.Prelude.{◌≡◌, ◌≢◌, ℕ, ◌<◌, ◌≤◌, List, ◌++◌, length, take, slice_get, Some, MatchOption, codes, ⊤}
+use Rattle.std.specs.Prelude.{◌≡◌, ℕ, ◌<◌, ◌≤◌, List, ◌++◌, length, take, slice_get, Some, MatchOption, ⊤}
 use Rattle.std.specs.Str.{IsUtf8, IsValidUpTo}
+use Rattle.mime.specs.Values.{MediaType}
 use Rattle.mime.specs.Faults.{completion_of, last_byte_of, EndsIn}
 use Rattle.mime.specs.declared.scan.fault.ParseError.{ParseError}
 use Rattle.mime.specs.declared.scan.fault.ParseError.TheVariants.{InvalidToken}
-use Rattle.mime_http.specs.HttpMediaType.{IsHttpMediaType}
+use Rattle.mime_http.specs.HttpMediaType.{HttpReads, IsHttpMediaType}
+use Rattle.mime_http.specs.HttpList.{IsPrinted}
 use Rattle.mime_http.specs.declared.value.FieldError.{FieldError}
 use Rattle.mime_http.specs.declared.value.FieldError.TheVariants.{NotUtf8, Invalid, NoMemory}
 
@@ -36,8 +38,15 @@ abbrev pub IsHttpFault : List ℕ → ParseError → Type 0
 IsHttpFault value (InvalidToken pos byte) = IsHttpDeadAt value pos byte
 IsHttpFault value fault = HttpLacks value fault
 
--- why reading a value fails: from where on it isn't UTF-8, or by its fault, or out of memory, which never comes for `*/*`
+-- the value is a media type of which more than 40 bytes are printed
+pub record NeedsMemory (value : List ℕ) : Type 0 where
+  pub media : MediaType
+  pub is : HttpReads value media
+  pub printed : IsPrinted value media
+  pub long : 40 < length media.kept
+
+-- why reading a value fails: from where on it isn't UTF-8, or by its fault, or out of memory
 abbrev pub HttpExplains : List ℕ → FieldError → Type 0
 HttpExplains value (NotUtf8 pos) = ¬ (IsUtf8 value) × IsValidUpTo value pos
 HttpExplains value (Invalid fault) = IsUtf8 value × IsHttpFault value fault
-HttpExplains value NoMemory = IsUtf8 value × (value ≢ codes "*/*")
+HttpExplains value NoMemory = IsUtf8 value × NeedsMemory value

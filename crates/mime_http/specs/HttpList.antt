@@ -1,13 +1,13 @@
 -- What a header holds whose lines are lists of media types (RFC 9110, 5.6.1.2 and 12.5.1), or any lines at all: the ranges and the bad
--- entries. OWS (5.6.3) is the library's `AreSpaces`. The page Tight says only what a range prints.
-use Rattle.std.specs.Prelude.{ℕ, Bool, false, List, [], ◌∷◌, ◌++◌, ◌==◌, ◌&&◌, IsFalse, if◌then◌else◌, codes}
+-- entries; and what is printed of a media type. OWS (5.6.3) is the library's `AreSpaces`.
+use Rattle.std.specs.Prelude.{◌≡◌, ℕ, Bool, false, List, [], ◌∷◌, ◌++◌, ◌==◌, ◌&&◌, IsFalse, if◌then◌else◌, codes}
 use Rattle.std.specs.List.{list_all}
 use Rattle.std.specs.Str.{IsUtf8}
 use Rattle.mime.specs.Bytes.{comma_byte, equals_byte, quote_byte, backslash_byte}
 use Rattle.mime.specs.Grammar.{is_space, AreSpaces}
-use Rattle.mime.specs.Values.{MediaType}
+use Rattle.mime.specs.Values.{MediaType, Reads, IsAccepted}
 use Rattle.mime_http.specs.HttpMediaType.{HttpReads, IsHttpMediaType}
-use Rattle.mime_http.specs.Tight.{ReadsTight}
+use Rattle.mime_http.specs.Written.{with_pairs}
 
 -- the lines of a header that a request has, if only empty ones, or else one that accepts everything (12.5.1)
 abbrev pub lines_or_any : List (List ℕ) → List (List ℕ)
@@ -31,16 +31,26 @@ abbrev pub trim_end : List ℕ → List ℕ
 trim_end [] = []
 trim_end (b ∷ bytes) = if list_all is_space (b ∷ bytes) then [] else b ∷ trim_end bytes
 
+abbrev pub trimmed : List ℕ → List ℕ
+trimmed bytes = trim_end (trim_start bytes)
+
+-- What is printed of a value that is this media type. If the library accepts the value without the white space around it, that is printed
+-- as the library prints it; if not, the value is printed anew: its essence, and each parameter after a semicolon and a space.
+pub data IsPrinted : List ℕ → MediaType → Type 0 where
+  as_it_stands : (value : List ℕ) (media : MediaType) → Reads (trimmed value) media → IsPrinted value media
+  anew : (value : List ℕ) (media : MediaType) → ¬ (IsAccepted (trimmed value)) → media ≡ with_pairs media media.pairs
+      → IsPrinted value media
+
 -- what texts are, in their order: white space alone is nothing, OWS media-type OWS in UTF-8 is a range, and any other is bad as a whole.
--- A range prints what is read of the tightened text, as the value of a header does that has one media type
+-- A range is printed as the value of a header is that has one media type
 pub data AreSorted : List (List ℕ) → List MediaType → List (List ℕ) → Type 0 where
   no_text : AreSorted [] [] []
   blank : (text : List ℕ) (texts : List (List ℕ)) (ranges : List MediaType) (bad : List (List ℕ)) → AreSpaces text
       → AreSorted texts ranges bad → AreSorted (text ∷ texts) ranges bad
   a_range : (text : List ℕ) (range : MediaType) (texts : List (List ℕ)) (ranges : List MediaType) (bad : List (List ℕ)) → IsUtf8 text
-      → HttpReads text range → ReadsTight text range → AreSorted texts ranges bad → AreSorted (text ∷ texts) (range ∷ ranges) bad
+      → HttpReads text range → IsPrinted text range → AreSorted texts ranges bad → AreSorted (text ∷ texts) (range ∷ ranges) bad
   a_bad : (text : List ℕ) (texts : List (List ℕ)) (ranges : List MediaType) (bad : List (List ℕ)) → ¬ (AreSpaces text)
-      → ¬ (IsUtf8 text × IsHttpMediaType text) → AreSorted texts ranges bad → AreSorted (text ∷ texts) ranges (trim_end (trim_start text) ∷ bad)
+      → ¬ (IsUtf8 text × IsHttpMediaType text) → AreSorted texts ranges bad → AreSorted (text ∷ texts) ranges (trimmed text ∷ bad)
 
 -- what stands between a string's quotes, of any bytes: a backslash hides the byte after it, and no quote is bare
 pub data IsInString : List ℕ → Type 0 where

@@ -4,7 +4,7 @@ use Rattle.std.specs.Str.{IsUtf8}
 use Rattle.mime.specs.Grammar.{AreSpaces}
 use Rattle.mime.specs.Values.{MediaType}
 use Rattle.mime_http.specs.HttpMediaType.{HttpReads, IsHttpMediaType}
-use Rattle.mime_http.specs.HttpList.{lines_or_any, AreBetweenCommas, trim_start, trim_end, AreSorted, IsPiece, BeginsPiece, Header, IsHeader}
+use Rattle.mime_http.specs.HttpList.{lines_or_any, AreBetweenCommas, trimmed, AreSorted, IsPiece, BeginsPiece, Header, IsHeader}
 
 -- Lines have exactly one cut into pieces.
 abbrev pub OneCut : Type 0
@@ -57,5 +57,5 @@ BadIsAlone =
     → AreSorted before ranges bad → AreSorted after more worse → ¬ (AreSpaces entry) → ¬ (IsUtf8 entry × IsHttpMediaType entry)
     → AreBetweenCommas IsPiece BeginsPiece (lines_or_any lines) (before ++ (entry ∷ after))
     → AreBetweenCommas IsPiece BeginsPiece (lines_or_any others) (before ++ after)
-    → IsHeader lines (record { ranges = ranges ++ more; bad = bad ++ (trim_end (trim_start entry) ∷ worse) })
+    → IsHeader lines (record { ranges = ranges ++ more; bad = bad ++ (trimmed entry ∷ worse) })
     × IsHeader others (record { ranges = ranges ++ more; bad = bad ++ worse })

@@ -41,6 +41,12 @@ ClosestIsClosest =
 abbrev pub BestIsFirst : Type 0
 BestIsFirst = (ranges offers : List MediaType) (order : List ℕ) → AreInOrder ranges offers order → best_offer ranges offers ≡ slice_get order 0
 
+-- The best offer weighs more than 0.
+abbrev pub BestIsAcceptable : Type 0
+BestIsAcceptable =
+    (ranges offers : List MediaType) (at : ℕ) → best_offer ranges offers ≡ Some at
+    → (offer : MediaType) × (slice_get offers at ≡ Some offer) × (0 < given_weight ranges offer)
+
 -- Each media type covers itself.
 abbrev pub CoversItself : Type 0
 CoversItself = (media : MediaType) → IsTrue (is_some (closeness media (0, media)))

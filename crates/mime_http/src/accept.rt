@@ -1,17 +1,16 @@
 //! An `Accept` header, read once, and what it says of a server's offers.
 
-ghost use Rattle.std.specs.Prelude.{◌≡◌, ◌≢◌, ◌<◌, true, [], ◌∷◌, ◌++◌, map, length, IfSome, IsOk, IfOk, OnOk};
-ghost use Rattle.std.specs.Str.{IsAscii};
+ghost use Rattle.std.specs.Prelude.{◌≡◌, ◌≢◌, ◌<◌, true, [], ◌∷◌, ◌++◌, map, length, if◌then◌else◌, IfSome, IsOk, IfOk, OnOk};
+ghost use Rattle.std.specs.Str.{IsAscii, IsUtf8};
 ghost use Rattle.std.specs.Vec.{vec_items};
-ghost use Rattle.mime.specs.Grammar.{AreSpaces};
 ghost use Rattle.mime.specs.Faults.{Explains};
-ghost use Rattle.mime_http.specs.HttpList.{trim_end, AreSorted, IsHeader};
+ghost use Rattle.mime_http.specs.HttpList.{trimmed, AreSorted, Header, IsHeader};
 ghost use Rattle.mime_http.specs.Ranges.{given_weight, best_offer, AreInOrder};
-ghost use Rattle.mime_http.specs.Walk.{cut, Adds, AddsEntry};
+ghost use Rattle.mime_http.specs.LineCut.{cut, Takes};
 
 use crate::list::{is_empty_piece, is_short_ascii, piece_end, trim_end, trim_start};
 use crate::offers::{best_of, merit, order_of};
-use crate::value::{read_tight, text_of_piece};
+use crate::value::{FieldError, read_rejected, text_of_piece};
 use mime::{Mime, ParseError};
 use std::alloc::{AllocError, Global};
 use std::marker::Model;
@@ -37,45 +36,10 @@ impl Model for Accept {
 }
 
 impl Accept {
-    /// Adds an entry that is no media range. It isn't inlined: few entries are bad.
-    #[inline(never)]
-    fn add_bad(&mut self, alloc: Global, entry: &[u8]) -> Result<(), AllocError>
-        ensures ranges { OnOk result (self.new.ranges ≡ self.old.ranges) }
-        ensures bad { OnOk result (self.new.bad ≡ self.old.bad ++ (trim_end entry.now ∷ [])) }
-    {
-        self.bad.push(trim_end(entry).to_vec(alloc)?)?;
-        Ok(())
-    }
-
-    /// Adds an entry that the library rejects as it stands, for this fault. It isn't inlined, so that adding one that the library accepts
-    /// stays short.
-    #[inline(never)]
-    fn add_rejected(
-        &mut self,
-        alloc: Global,
-        entry: &str,
-        fault: ParseError,
-    ) -> Result<(), AllocError>
-        requires some { entry.now ≢ [] }
-        requires fault { Explains entry.now fault }
-        ensures { OnOk result (AddsEntry entry.now self.old self.new) }
-    {
-        if let ParseError::NoMemory = fault {
-            return Err(AllocError);
-        }
-        // What was left of a bad entry is freed before the entry is copied.
-        match read_tight(alloc, entry, fault)?.ok() {
-            Some(range) => self.ranges.push(range)?,
-            None => self.add_bad(alloc, entry.as_bytes())?,
-        }
-        Ok(())
-    }
-
-    /// Adds a range.
+    /// Takes an entry that is this media type.
     #[inline(always)]
-    fn add_range(&mut self, range: Mime) -> Result<(), AllocError>
-        ensures ranges { OnOk result (self.new.ranges ≡ self.old.ranges ++ (range.media ∷ [])) }
-        ensures bad { OnOk result (self.new.bad ≡ self.old.bad) }
+    fn take(&mut self, range: Mime) -> Result<(), AllocError>
+        ensures { OnOk result (self.new ≡ record self.old { ranges = self.old.ranges ++ (range.media ∷ []) }) }
     {
         if self.ranges.capacity() == 0 {
             self.ranges.reserve(FIRST_RANGES)?;
@@ -84,52 +48,87 @@ impl Accept {
         Ok(())
     }
 
-    /// Adds an entry, which may be known to be ASCII.
-    #[inline(always)]
-    fn add_entry(&mut self, alloc: Global, entry: &[u8], is_ascii: bool) -> Result<(), AllocError>
-        requires ascii { is_ascii ≡ true → IsAscii entry.now }
-        requires some { entry.now ≢ [] }
-        ensures { OnOk result (AddsEntry entry.now self.old self.new) }
+    /// Takes an entry that is none, without the white space around it, if bad ones are kept. It isn't inlined: few entries are bad.
+    #[inline(never)]
+    fn take_bad(&mut self, alloc: Global, keeps_bad: bool, entry: &[u8]) -> Result<(), AllocError>
+        ensures { OnOk result (self.new
+            ≡ record self.old { bad = if keeps_bad then self.old.bad ++ (entry.now ∷ []) else self.old.bad }) }
     {
-        let Ok(text) = text_of_piece(entry, is_ascii) else {
-            return self.add_bad(alloc, entry);
-        };
-        match Mime::from_str(alloc, text) {
-            Ok(range) => self.add_range(range)?,
-            Err(error) => self.add_rejected(alloc, text, *error.fault())?,
+        if keeps_bad {
+            self.bad.push(entry.to_vec(alloc)?)?;
         }
         Ok(())
     }
 
-    /// Adds a piece of a line, which may be known to be ASCII: white space alone is nothing.
-    #[inline(always)]
-    fn add(&mut self, alloc: Global, piece: &[u8], is_ascii: bool) -> Result<(), AllocError>
-        requires { is_ascii ≡ true → IsAscii piece.now }
-        ensures added { OnOk result (Adds (piece.now ∷ []) self.old self.new) }
-        ensures blank { AreSpaces piece.now → IsOk result }
+    /// Takes a piece that the library rejects without the white space around it, for this fault. It isn't inlined, so that the way of one
+    /// that the library accepts stays short.
+    #[inline(never)]
+    #[tactic(auto, using(crate::proofs::Around::utf8_around))]
+    fn take_rejected(
+        &mut self,
+        alloc: Global,
+        keeps_bad: bool,
+        piece: &[u8],
+        fault: ParseError,
+    ) -> Result<(), AllocError>
+        requires some { trimmed piece.now ≢ [] }
+        requires utf8 { IsUtf8 (trimmed piece.now) }
+        requires fault { Explains (trimmed piece.now) fault }
+        ensures { OnOk result (Takes keeps_bad (piece.now ∷ []) self.old self.new) }
     {
-        let entry = trim_start(piece);
+        // SAFETY: the white space around it is ASCII.
+        let text = unsafe { str::from_utf8_unchecked(piece) };
+        match read_rejected(alloc, text, fault) {
+            Ok(range) => self.take(range),
+            Err(error) => match error {
+                FieldError::NoMemory => Err(AllocError),
+                _ => self.take_bad(alloc, keeps_bad, trim_end(trim_start(piece))),
+            },
+        }
+    }
+
+    /// Takes a piece of a line, which may be known to be ASCII: white space alone is nothing.
+    #[inline(always)]
+    #[tactic(auto, using(crate::proofs::Trims::ascii_trimmed))]
+    fn take_piece(
+        &mut self,
+        alloc: Global,
+        keeps_bad: bool,
+        piece: &[u8],
+        is_ascii: bool,
+    ) -> Result<(), AllocError>
+        requires { is_ascii ≡ true → IsAscii piece.now }
+        ensures taken { OnOk result (Takes keeps_bad (piece.now ∷ []) self.old self.new) }
+        ensures blank { trimmed piece.now ≡ [] → IsOk result }
+    {
+        let entry = trim_end(trim_start(piece));
         if entry.is_empty() {
             return Ok(());
         }
-        self.add_entry(alloc, entry, is_ascii)
+        let Ok(text) = text_of_piece(entry, is_ascii) else {
+            return self.take_bad(alloc, keeps_bad, entry);
+        };
+        match Mime::from_str(alloc, text) {
+            Ok(range) => self.take(range),
+            Err(error) => self.take_rejected(alloc, keeps_bad, piece, *error.fault()),
+        }
     }
 
-    /// Adds a line's pieces.
-    fn add_line(&mut self, alloc: Global, line: &[u8]) -> Result<(), AllocError>
-        ensures added { OnOk result (Adds (cut line.now) self.old self.new) }
+    /// Takes a line's pieces.
+    fn take_line(&mut self, alloc: Global, keeps_bad: bool, line: &[u8]) -> Result<(), AllocError>
+        ensures taken { OnOk result (Takes keeps_bad (cut line.now) self.old self.new) }
         ensures nothing { AreSorted (cut line.now) [] [] → IsOk result }
     {
         let is_ascii = is_short_ascii(line);
         let mut from = 0;
         loop {
-            // The short way for an empty piece, which adds nothing.
+            // The short way for an empty piece, which is nothing.
             if is_empty_piece(line, from) {
                 from += 1;
                 continue;
             }
             let end = piece_end(line, from);
-            self.add(alloc, &line[from..end], is_ascii)?;
+            self.take_piece(alloc, keeps_bad, &line[from..end], is_ascii)?;
             if end == line.len() {
                 return Ok(());
             }
@@ -137,17 +136,11 @@ impl Accept {
         }
     }
 
-    /// Reads a header's lines, which are one list; no line at all, `&[]`, is a request without the header, which accepts everything
-    /// (RFC 9110, 5.3 and 12.5.1). Lines without a range, such as an empty one or `invalid`, accept nothing. Each line is cut at its
-    /// commas outside quoted values; a quoted value that is open ends with its line.
-    ///
-    /// It allocates the two lists, each bad entry, each range that is read from more than 40 bytes, and for a while a copy of each entry
-    /// of which [`content_type`](crate::content_type) makes one.
-    ///
-    /// # Errors
-    /// `AllocError` if memory runs out, which is never for lines that hold nothing but commas and white space.
-    pub fn from_lines(alloc: Global, lines: &[&[u8]]) -> Result<Accept, AllocError>
-        ensures header { IfOk result (λ accept. IsHeader (map (λ line. line.now) lines.now) accept) }
+    /// Reads a header's lines, with the bad entries or without. It isn't inlined, so that both calls have the one loop.
+    #[inline(never)]
+    fn read(alloc: Global, lines: &[&[u8]], keeps_bad: bool) -> Result<Accept, AllocError>
+        ensures header { IfOk result (λ accept. (header : Header) × IsHeader (map (λ line. line.now) lines.now) header
+            × (accept ≡ record header { bad = if keeps_bad then header.bad else [] })) }
         ensures nothing { IsHeader (map (λ line. line.now) lines.now) (record { ranges = []; bad = [] }) → IsOk result }
     {
         let mut accept = Accept {
@@ -155,12 +148,40 @@ impl Accept {
             bad: Vec::new(alloc),
         };
         if lines.is_empty() {
-            accept.add_line(alloc, b"*/*")?;
+            accept.take_line(alloc, keeps_bad, b"*/*")?;
         }
         for line in lines {
-            accept.add_line(alloc, line)?;
+            accept.take_line(alloc, keeps_bad, line)?;
         }
         Ok(accept)
+    }
+
+    /// Reads a header's lines, which are one list; no line at all, `&[]`, is a request without the header, which accepts everything
+    /// (RFC 9110, 5.3 and 12.5.1). Lines without a range, such as an empty one or `invalid`, accept nothing. Each line is cut at its
+    /// commas outside quoted values; a quoted value that is open ends with its line.
+    ///
+    /// It allocates the two lists, a copy of each bad entry, and what [`content_type`](crate::content_type) allocates for each range.
+    ///
+    /// # Errors
+    /// `AllocError` if memory runs out, which is never for lines that hold nothing but commas and white space.
+    pub fn from_lines(alloc: Global, lines: &[&[u8]]) -> Result<Accept, AllocError>
+        ensures header { IfOk result (λ accept. IsHeader (map (λ line. line.now) lines.now) accept) }
+        ensures nothing { IsHeader (map (λ line. line.now) lines.now) (record { ranges = []; bad = [] }) → IsOk result }
+    {
+        Accept::read(alloc, lines, true)
+    }
+
+    /// Reads a header's lines as [`Accept::from_lines`] does, for a caller who doesn't ask for the bad entries: they are left out and not
+    /// copied.
+    ///
+    /// # Errors
+    /// `AllocError` if memory runs out, which is never for lines that hold nothing but commas and white space.
+    pub fn from_lines_without_bad(alloc: Global, lines: &[&[u8]]) -> Result<Accept, AllocError>
+        ensures header { IfOk result (λ accept. (header : Header) × IsHeader (map (λ line. line.now) lines.now) header
+            × (accept ≡ record header { bad = [] })) }
+        ensures nothing { IsHeader (map (λ line. line.now) lines.now) (record { ranges = []; bad = [] }) → IsOk result }
+    {
+        Accept::read(alloc, lines, false)
     }
 
     /// The ranges, in the header's order. Each prints what `content_type` prints of its entry.
@@ -187,8 +208,9 @@ impl Accept {
     }
 
     /// The position of the best of these offers: that of the highest weight, then of the closer range (the parts that it names, then the
-    /// parameters that it demands), then of the range that stands earlier, and then the first offered. It is `None` exactly if each
-    /// weighs 0, so that 406 is the answer (RFC 9110, 15.5.7). It allocates nothing.
+    /// parameters that it demands), then of the range that stands earlier (of two alike the later counts), and then the first offered. It
+    /// is `None` exactly if each weighs 0, so that 406 is the answer (RFC 9110, 15.5.7). Either answer depends on the header, so it says
+    /// `Vary: Accept` (12.5.5). It allocates nothing.
     pub fn best(&self, offers: &[Mime]) -> Option<usize>
         ensures exact { result ≡ best_offer self.now.ranges (map (λ offer. offer.media) offers.now) }
         ensures within { IfSome result (λ at. at < length offers.now) }

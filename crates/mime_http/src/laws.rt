@@ -1,30 +1,15 @@
-//! The laws of the definitions, as calls: a caller that calls one can use its law in its own proof.
+//! The laws of the definitions and of `FieldError`, as calls: a caller that calls one can use its law in its own proof.
 
-ghost use Rattle.mime_http.specs.HeaderLaws.{HttpIsRead, ReadIsHttp, OneTightReading, PlainIsHttp, OneHttpReading, OneHttpFault, LeftIsTight, TightIsUtf8, SpareIsLeftOut};
+ghost use Rattle.std.specs.Prelude.{◌≡◌};
+ghost use Rattle.mime_http.specs.HeaderLaws.{PlainIsHttp, OneHttpReading, OnePrintedText, PrintedIsRead, OneHttpFault};
 ghost use Rattle.mime_http.specs.ListLaws.{OneCut, HttpListsAreRead, ReadAreHttpLists, OneHeader, BadIsAlone};
 ghost use Rattle.mime_http.specs.Written.{WrittenIsMeant};
-ghost use Rattle.mime_http.specs.RangesLaws.{ClosestIsClosest, BestIsFirst, CoversItself, MeaningCounts, StrangerChangesNothing, WeightIsNumber};
+ghost use Rattle.mime_http.specs.RangesLaws.{ClosestIsClosest, BestIsAcceptable, BestIsFirst, CoversItself, MeaningCounts, StrangerChangesNothing, WeightIsNumber};
 
-/// A media type as HTTP writes it is read as it, tightened: `text/html ;; charset=utf-8` as `text/html; charset=utf-8`
-/// (RFC 9110, 8.3.1).
-#[tactic(auto, using(crate::proofs::HttpForth::http_is_tight))]
-pub fn http_is_read()
-    ensures { HttpIsRead }
-{}
-
-/// What is read of a tightened value is what HTTP writes: not `a /b`, which stays `a /b` (RFC 9110, 8.3.1).
-#[tactic(auto, using(crate::proofs::HttpLaws::tight_is_http))]
-pub fn read_is_http()
-    ensures { ReadIsHttp }
-{}
-
-/// A tightened value is read as one media type, with one kept text: that of ` a/b;p=x;;` is `a/b;p=x;`.
-pub fn one_tight_reading()
-    ensures { OneTightReading }
-{}
+use crate::value::FieldError;
 
 /// What the library `mime` reads is what HTTP writes: `a/b; p=x;`.
-#[tactic(auto, using(crate::proofs::HttpLaws::plain_is_http))]
+#[tactic(auto, using(crate::proofs::PlainIsHttp::plain_is_http))]
 pub fn plain_is_http()
     ensures { PlainIsHttp }
 {}
@@ -35,28 +20,21 @@ pub fn one_http_reading()
     ensures { OneHttpReading }
 {}
 
+/// One text is printed of a value: of ` text/html ;; charset="utf-8"` it is `text/html; charset=utf-8`.
+pub fn one_printed_text()
+    ensures { OnePrintedText }
+{}
+
+/// What is printed of a value is read as the same media type, and prints the same text again.
+pub fn printed_is_read()
+    ensures { PrintedIsRead }
+{}
+
 /// A value that is no media type has exactly one fault: that of `   a/b c` is its byte at position 7, counted from 0
 /// (RFC 9110, 8.3.1).
-#[tactic(auto, using(crate::proofs::HttpOneFault::one_http_fault))]
+#[tactic(auto, using(crate::proofs::ReadFaults::one_http_fault))]
 pub fn one_http_fault()
     ensures { OneHttpFault }
-{}
-
-/// What the reader leaves of a value, going from place to place, is the value tightened.
-#[tactic(auto, using(crate::proofs::Tightened::tight_is))]
-pub fn left_is_tight()
-    ensures { LeftIsTight }
-{}
-
-/// A tightened value is in UTF-8 exactly if the value is.
-pub fn tight_is_utf8()
-    ensures { TightIsUtf8 }
-{}
-
-/// A value with a fault at a byte that might be left out isn't left as it is: ` a/b` and `a/b ;p=x`.
-#[tactic(auto, using(crate::proofs::Spare::spare_is_left_out))]
-pub fn spare_is_left_out()
-    ensures { SpareIsLeftOut }
 {}
 
 /// Lines have exactly one cut into pieces: that of `a/b;p="x,y",c/d` has two.
@@ -100,6 +78,12 @@ pub fn written_is_meant()
     ensures { WrittenIsMeant }
 {}
 
+/// The best offer is acceptable: it weighs more than 0 (RFC 9110, 12.4.2).
+#[tactic(auto, using(crate::proofs::First::best_is_acceptable))]
+pub fn best_is_acceptable()
+    ensures { BestIsAcceptable }
+{}
+
 /// The best offer is the first in the order of all that weigh more than 0.
 #[tactic(auto, using(crate::proofs::First::best_is_first))]
 pub fn best_is_first()
@@ -129,4 +113,10 @@ pub fn weight_is_number()
 /// `text/plain` an `image/png;q=0` is of no account.
 pub fn stranger_changes_nothing()
     ensures { StrangerChangesNothing }
+{}
+
+/// A `FieldError` can always be copied and cloned, and the copy is the same.
+pub fn copies_are_same()
+    ensures error { (value copy : FieldError) → ⟦<FieldError as Clone>⟧.is_clone value copy → copy ≡ value }
+    ensures error_always { (value : FieldError) → ⟦<FieldError as Clone>⟧.is_infallible value }
 {}

@@ -42,17 +42,15 @@
 #![tactic(auto)]
 
 mod accept;
-mod fault;
 pub mod laws;
 mod list;
-mod listed;
 mod meaning;
 mod multipart;
 mod offers;
 mod parameter;
 mod quoted;
 mod range;
-mod tight;
+mod reader;
 mod value;
 mod weights;
 

@@ -5,7 +5,7 @@ ghost use Rattle.std.specs.Str.{IsAscii};
 ghost use Rattle.mime.specs.Bytes.{comma_byte, equals_byte, quote_byte};
 ghost use Rattle.mime.specs.Grammar.{is_space};
 ghost use Rattle.mime_http.specs.HttpList.{trim_start, trim_end};
-ghost use Rattle.mime_http.specs.Walk.{Outside, Quoted, AreUnmarked, IsNextMark, cut_from, cut, cut_after};
+ghost use Rattle.mime_http.specs.LineCut.{Outside, Quoted, AreUnmarked, IsNextMark, cut_from, cut, cut_after};
 
 use mime_search::{BLOCK, Class, content_end, first_stop};
 use std::simd::prelude::*;
@@ -87,7 +87,7 @@ pub(crate) fn piece_end(line: &[u8], from: usize) -> usize
 }
 
 /// Whether a byte is white space (RFC 9110, 5.6.3).
-fn is_space(byte: u8) -> bool
+pub(crate) fn is_space(byte: u8) -> bool
     ensures { result ≡ is_space byte }
 {
     byte == b' ' || byte == b'\t'
@@ -152,8 +152,9 @@ pub(crate) fn is_short_ascii(line: &[u8]) -> bool
     is_ascii_block(line, last)
 }
 
-/// A piece without the white space after it.
-pub(crate) fn trim_end(piece: &[u8]) -> &[u8]
+/// A piece without the white space after it. It isn't inlined: most pieces end in no white space.
+#[inline(never)]
+fn trim_spaces_after(piece: &[u8]) -> &[u8]
     ensures { result.now ≡ trim_end piece.now }
 {
     let mut end = piece.len();
@@ -161,4 +162,15 @@ pub(crate) fn trim_end(piece: &[u8]) -> &[u8]
         end -= 1;
     }
     &piece[..end]
+}
+
+/// A piece without the white space after it.
+#[inline(always)]
+pub(crate) fn trim_end(piece: &[u8]) -> &[u8]
+    ensures { result.now ≡ trim_end piece.now }
+{
+    if piece.is_empty() || piece[piece.len() - 1] > b' ' {
+        return piece;
+    }
+    trim_spaces_after(piece)
 }

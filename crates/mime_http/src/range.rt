@@ -22,6 +22,11 @@ impl ParamKey for Exactly<'_> {
     fn accepts(&self, name: Name<'_>) -> bool {
         name.text == self.0
     }
+
+    #[inline]
+    fn text(&self) -> Option<&str> {
+        Some(self.0)
+    }
 }
 
 /// The first value under a name, which is in lowercase.

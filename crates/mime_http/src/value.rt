@@ -1,21 +1,20 @@
 //! The media type of a header's value, which comes as bytes.
 
-ghost use Rattle.std.specs.Prelude.{◌≡◌, ◌≢◌, ◌≤◌, true, codes, length, Some, IfOk, IfErr, IsOk, MatchResult};
+ghost use Rattle.std.specs.Prelude.{◌≡◌, ◌≢◌, ◌<◌, ◌≤◌, true, codes, length, Some, IfOk, IfErr, IsOk, MatchResult};
 ghost use Rattle.std.specs.Fmt.InlineText.{inline_text};
 ghost use Rattle.std.specs.Str.{IsAscii, IsUtf8, IsValidUpTo, valid_up_to};
-ghost use Rattle.mime.specs.Values.{Reads, IsAccepted};
-ghost use Rattle.mime.specs.Faults.{IsFault};
+ghost use Rattle.mime.specs.Values.{MediaType, Reads, IsAccepted};
+ghost use Rattle.mime.specs.Faults.{Explains};
 ghost use Rattle.mime_http.specs.HttpMediaType.{HttpReads, IsHttpMediaType};
+ghost use Rattle.mime_http.specs.HttpList.{trimmed, IsPrinted};
 ghost use Rattle.mime_http.specs.HttpFaults.{HttpExplains};
 ghost use Rattle.mime_http.specs.HttpPrinted.{not_utf8_text};
-ghost use Rattle.mime_http.specs.Tight.{ReadsTight, FaultIsSpare};
-ghost use Rattle.mime_http.specs.Places.{tight};
-ghost use Rattle.mime_http.specs.Tightening.{IsRejected};
+ghost use Rattle.mime_http.specs.Reader.{Parts, answer_of, media_of, read, text_of_parts};
 
-use crate::fault::{Rejected, fault_of};
-use crate::tight::{Tightening, tightening_of};
+use crate::list::{trim_end, trim_start};
+use crate::reader::write_anew;
 use mime::{Mime, ParseError};
-use std::alloc::{AllocError, Global};
+use std::alloc::Global;
 use std::error::Error;
 use std::fmt;
 use std::fmt::{InlineText, Write};
@@ -31,7 +30,7 @@ pub enum FieldError {
     },
     /// The value isn't a media type, for this fault. It is never `ParseError::NoMemory`.
     Invalid(ParseError),
-    /// Memory ran out. Never returned for `*/*`.
+    /// Memory ran out. Never returned for a value that isn't a media type, nor for one of which at most 40 bytes are printed.
     NoMemory,
 }
 
@@ -91,50 +90,103 @@ pub(crate) fn text_of_piece(piece: &[u8], is_ascii: bool) -> Result<&str, Utf8Er
     str::from_utf8(piece)
 }
 
-/// Reads as HTTP a value that `from_str` rejected with `fault`: gives its media type, or why HTTP rejects it, too.
+/// A text without the white space around it.
 #[inline(always)]
-pub(crate) fn read_tight(
-    alloc: Global,
-    value: &str,
-    fault: ParseError,
-) -> Result<Result<Mime, Rejected>, AllocError>
-    requires { IsFault value.now fault }
-    ensures read { IfOk result (λ answer. MatchResult answer (λ mime. Reads (tight value.now) mime.media) (IsRejected value.now)) }
-    ensures memory { ¬ (IsHttpMediaType value.now) → ¬ (FaultIsSpare value.now) → IsOk result }
+fn trimmed(text: &str) -> &str
+    ensures { result.now ≡ trimmed text.now }
 {
-    let left = tightening_of(alloc, value.as_bytes(), fault)?;
-    let text = match &left {
-        Tightening::Prefix { end, next } if *next == value.len() => &value[..*end],
-        Tightening::Copy(copy) => copy,
-        _ => return Ok(Err(Rejected { left, fault })),
-    };
+    let left = trim_end(trim_start(text.as_bytes()));
+    // SAFETY: white space is ASCII.
+    unsafe { str::from_utf8_unchecked(left) }
+}
+
+/// Reads what is written anew of a value. It takes no memory for at most 40 bytes.
+fn read_written(alloc: Global, text: &[u8]) -> Result<Mime, FieldError>
+    requires utf8 { IsUtf8 text.now }
+    requires accepted { IsAccepted text.now }
+    ensures read { IfOk result (λ mime. Reads text.now mime.media) }
+    ensures memory { IfErr result (λ error. (error ≡ FieldError.NoMemory) × (40 < length text.now)) }
+{
+    // SAFETY: what is written of a text is a text.
+    let text = unsafe { str::from_utf8_unchecked(text) };
     match Mime::from_str(alloc, text) {
-        Ok(mime) => Ok(Ok(mime)),
-        Err(error) => match error.fault() {
-            ParseError::NoMemory => Err(AllocError),
-            fault => Ok(Err(Rejected {
-                left,
-                fault: *fault,
-            })),
-        },
+        Ok(mime) => Ok(mime),
+        Err(_) => Err(FieldError::NoMemory),
     }
 }
 
-/// The media type of a value that `from_str` rejected with `fault`, or its fault as HTTP writes it. It isn't inlined, so that reading a
-/// value that the library accepts stays short.
+/// Reads a value of which so many bytes are written anew, more than 40.
 #[inline(never)]
-fn read_rejected(alloc: Global, value: &str, fault: ParseError) -> Result<Mime, FieldError>
-    requires other { value.now ≢ codes "*/*" }
-    requires fault { IsFault value.now fault }
-    ensures kept { IfOk result (λ mime. Reads (tight value.now) mime.media) }
+fn read_in_block(alloc: Global, value: &str, len: usize) -> Result<Mime, FieldError>
+    requires { (parts : Parts) × (answer_of value.now ≡ read parts) × (length (text_of_parts parts) ≡ len) × (40 < len) }
+    ensures read { IfOk result (λ mime. (parts : Parts) × (answer_of value.now ≡ read parts) × (mime.media ≡ media_of parts)) }
+    ensures memory { IfErr result (λ error. error ≡ FieldError.NoMemory) }
+{
+    let Ok(mut text) = vec![in alloc; 0u8; len] else {
+        return Err(FieldError::NoMemory);
+    };
+    match write_anew(value.as_bytes(), &mut text) {
+        Ok(_) => read_written(alloc, &text),
+        Err(_) => Err(FieldError::NoMemory),
+    }
+}
+
+/// Reads anew a value that the library rejects without the white space around it: gives its media type, or its fault. It takes no memory
+/// if at most 40 bytes are printed, else a block for them and one for what is read of them.
+fn read_anew(alloc: Global, value: &str) -> Result<Mime, FieldError>
+    requires { ¬ (IsAccepted (trimmed value.now)) }
+    ensures http { IfOk result (λ mime. HttpReads value.now mime.media × IsPrinted value.now mime.media) }
+    ensures explained { IfErr result (λ error. HttpExplains value.now error) }
+{
+    let mut room = [0u8; 40];
+    let len = match write_anew(value.as_bytes(), &mut room) {
+        Ok(len) => len,
+        Err(fault) => return Err(FieldError::Invalid(fault)),
+    };
+    if len <= 40 {
+        return read_written(alloc, &room[..len]);
+    }
+    read_in_block(alloc, value, len)
+}
+
+/// Reads a value for which the library's memory ran out, without memory: if it has no parameters, and an essence of at most 40 bytes, which
+/// is what is printed then.
+fn read_essence(alloc: Global, value: &str) -> Result<Mime, FieldError>
+    requires accepted { IsAccepted (trimmed value.now) }
+    requires long { 40 < length (trimmed value.now) }
+    ensures http { IfOk result (λ mime. HttpReads value.now mime.media × IsPrinted value.now mime.media) }
+    ensures explained { IfErr result (λ error. HttpExplains value.now error) }
+{
+    let mut room = [0u8; 40];
+    let Ok(len) = write_anew(value.as_bytes(), &mut room) else {
+        return Err(FieldError::NoMemory);
+    };
+    if len > 40 {
+        return Err(FieldError::NoMemory);
+    }
+    let mime = read_written(alloc, &room[..len])?;
+    if mime.essence_str().len() < len {
+        return Err(FieldError::NoMemory);
+    }
+    Ok(mime)
+}
+
+/// Reads a value that the library rejects without the white space around it, for this fault, or for which its memory ran out. It isn't
+/// inlined, so that reading one that the library accepts stays short.
+#[inline(never)]
+pub(crate) fn read_rejected(
+    alloc: Global,
+    value: &str,
+    fault: ParseError,
+) -> Result<Mime, FieldError>
+    requires { Explains (trimmed value.now) fault }
+    ensures http { IfOk result (λ mime. HttpReads value.now mime.media × IsPrinted value.now mime.media) }
     ensures explained { IfErr result (λ error. HttpExplains value.now error) }
     ensures accepted { IsHttpMediaType value.now → IfErr result (λ error. error ≡ FieldError.NoMemory) }
-    ensures rejected { ¬ (IsHttpMediaType value.now) → ¬ (FaultIsSpare value.now) → IfErr result (λ error. error ≢ FieldError.NoMemory) }
 {
-    match read_tight(alloc, value, fault) {
-        Ok(Ok(mime)) => Ok(mime),
-        Ok(Err(rejected)) => Err(FieldError::Invalid(fault_of(alloc, value, &rejected))),
-        Err(_) => Err(FieldError::NoMemory),
+    match fault {
+        ParseError::NoMemory => read_essence(alloc, value),
+        _ => read_anew(alloc, value),
     }
 }
 
@@ -142,33 +194,36 @@ fn read_rejected(alloc: Global, value: &str, fault: ParseError) -> Result<Mime, 
 /// (RFC 9110, 8.3.1, with 5.6.3, 5.6.4 and 5.6.6). Accepts what the grammar there allows, with white space around it, if it is
 /// valid UTF-8: white space around semicolons, and empty parameters. A value past ASCII that isn't UTF-8 (obs-text) is rejected.
 ///
-/// A value that [`Mime::from_str`] accepts is read as it stands, with one allocation, or none for at most 40 bytes, and so is one
-/// with white space after it. Another is copied first, without that white space and those parameters, with one allocation more:
-/// ` text/html ;; charset=utf-8` is kept as `text/html; charset=utf-8`. The values of parameters keep their backslashes.
+/// A request has one such line at most. Two are an error, since programs differ in which they take; without one a body may be taken for
+/// `application/octet-stream` (8.3).
 ///
-/// Rejecting a value allocates at most twice, and frees it. It copies the value if the byte that `from_str` finds at fault is white space
-/// that begins the value or precedes a semicolon, or a semicolon after another, even if HTTP allows none there, as in `a ;`. And it
-/// reads what stands before white space and another byte, which allocates if that is a media type of more than 40 bytes.
+/// The white space around the value is left out. What [`Mime::from_str`] then accepts is read as it stands. Any other value is printed
+/// anew: its essence, and each parameter as [`with_parameter`](crate::with_parameter) writes it, so that ` text/html ;; charset="utf-8"`
+/// prints `text/html; charset=utf-8`. The values of parameters keep their backslashes.
+///
+/// It allocates nothing if at most 40 bytes are printed; else once for a value that is read as it stands, and twice for one that is printed
+/// anew, of which one block is freed. Rejecting a value allocates nothing.
 ///
 /// # Errors
-/// `NotUtf8` for a value that isn't valid UTF-8, before anything is allocated; `Invalid` with the fault of a value that
-/// isn't a media type, at its position in `value`: 7 for `   a/b c`; `NoMemory` if memory runs out, which is never for `*/*`, nor for at
-/// most 40 bytes that [`Mime::from_str`] accepts, nor for a value that is rejected and isn't copied.
+/// `NotUtf8` for a value that isn't valid UTF-8; `Invalid` with the fault of a value that isn't a media type, at its position in `value`: 7
+/// for `   a/b c`; `NoMemory` if memory runs out, which is never for a value that isn't a media type, nor for one of which at most 40 bytes
+/// are printed.
 #[inline(always)]
 pub fn content_type(alloc: Global, value: &[u8]) -> Result<Mime, FieldError>
     // The result is the media type that HTTP writes there,
     ensures http { IfOk result (λ mime. IsUtf8 value.now × HttpReads value.now mime.media) }
-    // with the kept text of the tightened value.
-    ensures kept { IfOk result (λ mime. ReadsTight value.now mime.media) }
+    // with the text that is printed of the value.
+    ensures kept { IfOk result (λ mime. IsPrinted value.now mime.media) }
     // An error is where the value isn't UTF-8, or its fault, or says that memory ran out.
     ensures explained { IfErr result (λ error. HttpExplains value.now error) }
     // So what HTTP writes, in UTF-8, is read, or memory ran out,
     ensures accepted { IsUtf8 value.now → IsHttpMediaType value.now → IfErr result (λ error. error ≡ FieldError.NoMemory) }
-    // and `*/*` is always read, as is what the library accepts of at most 40 bytes.
+    // and `*/*` is always read, as is what is printed in at most 40 bytes.
     ensures star { value.now ≡ codes "*/*" → IsOk result }
-    ensures short { IsUtf8 value.now → IsAccepted value.now → length value.now ≤ 40 → IsOk result }
-    // Rejecting a value needs no memory, unless the library finds fault with a byte that might be left out.
-    ensures rejected { ¬ (IsHttpMediaType value.now) → ¬ (FaultIsSpare value.now) → IfErr result (λ error. error ≢ FieldError.NoMemory) }
+    ensures short { (media : MediaType) → IsUtf8 value.now → HttpReads value.now media → IsPrinted value.now media → length media.kept ≤ 40
+        → IsOk result }
+    // Rejecting a value needs no memory.
+    ensures rejected { ¬ (IsHttpMediaType value.now) → IfErr result (λ error. error ≢ FieldError.NoMemory) }
 {
     let text = match text_of(value) {
         Ok(text) => text,
@@ -177,11 +232,8 @@ pub fn content_type(alloc: Global, value: &[u8]) -> Result<Mime, FieldError>
             return Err(FieldError::NotUtf8 { pos });
         }
     };
-    match Mime::from_str(alloc, text) {
+    match Mime::from_str(alloc, trimmed(text)) {
         Ok(mime) => Ok(mime),
-        Err(error) => match error.fault() {
-            ParseError::NoMemory => Err(FieldError::NoMemory),
-            fault => read_rejected(alloc, text, *fault),
-        },
+        Err(error) => read_rejected(alloc, text, *error.fault()),
     }
 }

@@ -59,6 +59,9 @@ struct Reader<'a> {
     most: usize,
     reads: usize,
     fails_once: bool,
+    has_failed: bool,
+    /// Whether a call was made after the one that failed.
+    is_called_again: bool,
 }
 
 /// A reader that gives these bytes.
@@ -71,12 +74,16 @@ fn giving<'a>(bytes: &'a [u8], scenario: &Scenario, reads: usize, fails_once: bo
         most: scenario.most,
         reads,
         fails_once,
+        has_failed: false,
+        is_called_again: false,
     }
 }
 
 impl Read for Reader<'_> {
     fn read(&mut self, buf: &mut [u8]) -> io::Result<usize> {
+        self.is_called_again |= self.has_failed;
         if self.reads == 0 {
+            self.has_failed = true;
             self.reads = if self.fails_once { ENOUGH } else { 0 };
             return Err(io::Error::from(io::ErrorKind::Interrupted));
         }
@@ -107,7 +114,9 @@ struct Writer<'a> {
     writes: usize,
     flushes: usize,
     fails_once: bool,
-    takes_all: bool,
+    has_failed: bool,
+    /// Whether a call was made after the one that failed.
+    is_called_again: bool,
 }
 
 /// A writer that takes these bytes.
@@ -120,13 +129,15 @@ fn taking<'a>(bytes: &'a [u8], scenario: &Scenario, fails_once: bool) -> Writer<
         writes: scenario.writes,
         flushes: scenario.flushes,
         fails_once,
-        takes_all: false,
+        has_failed: false,
+        is_called_again: false,
     }
 }
 
 impl Write for Writer<'_> {
     fn write(&mut self, buf: &[u8]) -> io::Result<usize> {
-        if self.takes_all {
+        self.is_called_again |= self.has_failed;
+        if self.has_failed && self.fails_once {
             return Ok(buf.len());
         }
         let count = buf.len().min(self.left.len()).min(self.most);
@@ -141,18 +152,19 @@ impl Write for Writer<'_> {
                 Ok(count)
             }
             _ => {
-                self.takes_all = self.fails_once;
+                self.has_failed = true;
                 Err(io::Error::from(io::ErrorKind::Other))
             }
         }
     }
 
     fn flush(&mut self) -> io::Result<()> {
-        if self.takes_all {
+        self.is_called_again |= self.has_failed;
+        if self.has_failed && self.fails_once {
             return Ok(());
         }
         if self.flushes == 0 {
-            self.takes_all = self.fails_once;
+            self.has_failed = true;
             return Err(io::Error::from(io::ErrorKind::BrokenPipe));
         }
         self.flushes -= 1;
@@ -184,7 +196,7 @@ fn written<'a>(case: &Case<'a>, scenario: &Scenario, at: usize) -> &'a [u8] {
 }
 
 /// Checks a run of a scenario, in which the read or the written byte of this number fails if its answer says so: what it
-/// returns, that its writer has taken all its bytes, and that only what its answer names has failed.
+/// returns, that its writer has taken all its bytes, that only what its answer names has failed, and that no call was made after that.
 fn check(
     rt: &impl Abort,
     alloc: Global,
@@ -215,6 +227,10 @@ fn check(
         is_right,
         "failed: {got:?}, with {reads} reads and {} bytes to write",
         report.len()
+    );
+    assert!(rt;
+        !(source.inner.is_called_again | sink.inner.is_called_again),
+        "a call after a failure, with {got:?}"
     );
 }
 

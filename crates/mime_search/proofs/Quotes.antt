@@ -1,9 +1,13 @@
 -- The search for the end of quoted content, position by position.
-use Rattle.std.proofs.Common.{⊎_elim, ◌≡◌, ℕ, suc, ◌+◌, ◌<◌, true, false, cond, List, [], ◌∷◌, length, get_or, drop, refl, sym, ap, ◌∙◌, arith, ne_eqb}
+use Rattle.std.proofs.Common.{⊎_elim, ◌≡◌, ◌≢◌, ℕ, suc, ◌+◌, ◌-◌, ◌/◌, ◌^◌, ◌<◌, ◌≤◌, Bool, true, false, cond, List, [], ◌∷◌, length, length-drop, get_or, map, take, drop, refl, sym, ap, ◌∙◌, arith, ne_eqb}
 use Rattle.std.specs.Prelude.{◌==◌, ◌||◌, not}
 use Rattle.std.specs.List.{prefix_len}
 use Rattle.std.proofs.lemmas.Bool.{or_parts, cases_Bool}
-use Rattle.std.proofs.lemmas.List.{drop_more, drop-drop}
+use Rattle.std.proofs.lemmas.List.{drop_more, drop-drop, drop-map, drop-take, get_or-drop}
+use Rattle.std.proofs.lemmas.List.Sums.{prefix_len_stops}
+use Rattle.std.specs.Simd.Lanes.{mask_l}
+use Rattle.mime_search.proofs.Searches.{a_stop, no_stop, stop_within, mask-drop}
+use lib.Count.{count_trailing_zeros}
 use Rattle.mime_search.specs.Classes.{is_stop, end_of_run}
 use Rattle.mime_search.specs.declared.class.Class.{Class}
 use Rattle.mime_search.specs.Quoted.{quote, backslash, len_from}
@@ -20,8 +24,11 @@ search_past_plain text position within no_quote no_backslash =
     let at = rw (ne_eqb _ _ no_quote, ne_eqb _ _ no_backslash) at (len_from-at text position within) in omega (arith, at)
 
 -- and so are bytes up to the first quote or backslash
-abbrev plain_len : List ℕ → ℕ
-plain_len bytes = prefix_len (λ b. not (b == quote || b == backslash)) bytes
+abbrev pub is_mark : ℕ → Bool
+is_mark b = b == quote || b == backslash
+
+abbrev pub plain_len : List ℕ → ℕ
+plain_len bytes = prefix_len (λ b. not (is_mark b)) bytes
 
 plain_run : (bytes : List ℕ) → plain_len bytes + len_from false (drop (plain_len bytes) bytes) ≡ len_from false bytes
 plain_run [] = refl
@@ -33,13 +40,29 @@ plain_run (b ∷ bytes) = ⊎_elim
     rw (parts.0, parts.1, next) (omega (arith, plain_run bytes)))
     (cases_Bool (b == quote || b == backslash))
 
+pub search_past_plain_run : (text : List ℕ) (from to : ℕ) → to ≡ from + plain_len (drop from text)
+    → to + len_from false (drop to text) ≡ from + len_from false (drop from text)
+search_past_plain_run text from to is =
+    let rest = drop-drop (plain_len (drop from text)) from text ∙ ap (λ n. drop n text) (sym is) in
+    omega (arith, is, plain_run (drop from text), ap (len_from false) rest)
+
 -- as a search for these finds them
-pub search_past_run : (class : Class) → ((b : ℕ) → is_stop class b ≡ (b == quote || b == backslash)) → (text : List ℕ) (from to : ℕ)
+pub search_past_run : (class : Class) → ((b : ℕ) → is_stop class b ≡ is_mark b) → (text : List ℕ) (from to : ℕ)
     → to ≡ end_of_run class text from → to + len_from false (drop to text) ≡ from + len_from false (drop from text)
 search_past_run class are text from to is =
-    let same : to ≡ from + plain_len (drop from text) = is ∙ (λ i. from + prefix_len (λ b. not (are b i)) (drop from text)) in
-    let rest = drop-drop (plain_len (drop from text)) from text ∙ ap (λ n. drop n text) (sym same) in
-    omega (arith, same, plain_run (drop from text), ap (len_from false) rest)
+    search_past_plain_run text from to (is ∙ (λ i. from + prefix_len (λ b. not (are b i)) (drop from text)))
+
+-- a first quote or backslash within the text is one
+mark_there : (text : List ℕ) (from to : ℕ) → to ≡ from + plain_len (drop from text) → to < length text → is_mark (get_or text to 0) ≡ true
+mark_there text from to is within =
+    let at : get_or (drop from text) (plain_len (drop from text)) 0 ≡ get_or text to 0 =
+    get_or-drop from text (plain_len (drop from text)) 0 ∙ ap (λ n. get_or text n 0) (sym is) in
+    let stops = prefix_len_stops (λ b. not (is_mark b)) (drop from text) 0 (omega (arith, is, within, length-drop from text)) in
+    is_true (is_mark (get_or text to 0)) (ap (λ b. not (is_mark b)) (sym at) ∙ stops)
+  where
+    is_true : (b : Bool) → not b ≡ false → b ≡ true
+    is_true true e = refl
+    is_true false e = sym e
 
 -- a backslash is passed with the byte that it pairs
 pub search_past_pair : (text : List ℕ) (position whole : ℕ) → position + len_from false (drop position text) ≡ whole
@@ -61,3 +84,39 @@ search_past_three text position whole e within first second third =
     let after_two = search_past_pair text (position + 2) whole after_one (omega (arith, within)) second in
     let so_far : position + 4 + len_from false (drop (position + 4) text) ≡ whole = omega (arith, after_two, ap left two) in
     omega (arith, search_past_pair text (position + 4) whole so_far (omega (arith, within)) third, ap left three)
+
+-- ---- the quotes and backslashes of a few bytes, as a bit mask
+
+-- the lowest bit is the first one, and the bytes before it are passed
+pub record FirstMark (text : List ℕ) (at n stop : ℕ) : Type 0 where
+  pub within : stop < at + n
+  pub left : stop + len_from false (drop stop text) ≡ at + len_from false (drop at text)
+  pub mark : is_mark (get_or text stop 0) ≡ true
+
+module _ (text : List ℕ) (at n found : ℕ) (room : at + n ≤ length text) (few : n ≤ 16)
+    (is : found ≡ mask_l (map is_mark (take n (drop at text)))) where
+  pub first_mark : found ≢ 0 → FirstMark text at n (at + count_trailing_zeros 64 found)
+  first_mark some =
+      let there = a_stop is_mark text at n found room (omega (arith, few)) is some in
+      let within = stop_within is_mark text at n found room (omega (arith, few)) is some in
+      record {
+        within = omega (arith, within);
+        left = search_past_plain_run text at _ there;
+        mark = mark_there text at _ there (omega (arith, within, room));
+      }
+
+  -- without a bit all are passed
+  pub no_mark : found ≡ 0 → at + n + len_from false (drop (at + n) text) ≡ at + len_from false (drop at text)
+  no_mark none =
+      let stop = at + plain_len (drop at text) in
+      sym (search_past_plain_run text (at + n) stop (sym (no_stop is_mark text at n found room (omega (arith, few)) is none)))
+      ∙ search_past_plain_run text at stop refl
+
+  -- the bits without the lowest ones are those of the bytes after these
+  pub later_marks : (k : ℕ) → k ≤ n → found / 2 ^ k ≡ mask_l (map is_mark (take (n - k) (drop (at + k) text)))
+  later_marks k within =
+      let all : k + (n - k) ≡ n = omega (arith, within) in
+      ap (λ m. m / 2 ^ k) is ∙ mask-drop k (map is_mark (take n (drop at text)))
+      ∙ ap mask_l (drop-map is_mark k (take n (drop at text)))
+      ∙ ap (λ bytes. mask_l (map is_mark bytes)) (ap (λ m. drop k (take m (drop at text))) (sym all) ∙ drop-take k (n - k) (drop at text)
+      ∙ ap (take (n - k)) (drop-drop k at text))

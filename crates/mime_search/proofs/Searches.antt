@@ -1,7 +1,7 @@
 -- A search by bit masks: a block without a bit is passed, and the lowest bit is the first stop.
-use Rattle.std.proofs.Common.{◌≡◌, ◌≢◌, ℕ, ◌+◌, ◌*◌, ◌/◌, ◌^◌, ◌<◌, ◌≤◌, zero, suc, Bool, true, false, not, cond, eqb, List, [], ◌∷◌, map, length, take, drop, refl, sym, ap, ◌∙◌, arith, length-drop}
+use Rattle.std.proofs.Common.{◌≡◌, ◌≢◌, ℕ, ◌+◌, ◌-◌, ◌*◌, ◌/◌, ◌^◌, ◌<◌, ◌≤◌, zero, suc, Bool, true, false, not, cond, eqb, List, [], ◌∷◌, map, length, take, drop, refl, sym, ap, ◌∙◌, arith, length-drop}
 use Rattle.std.proofs.lemmas.Simd.{leading_from_mask_l, trailing_mask_l}
-use Rattle.std.proofs.lemmas.List.{drop-drop, take-append-drop, length-take-le}
+use Rattle.std.proofs.lemmas.List.{drop-drop, drop-map, take_all, take-append-drop, length-take-le}
 use Rattle.std.proofs.lemmas.List.Folds.{prefix_len-append}
 use Rattle.std.proofs.lemmas.List.Sums.{prefix_len-le-length}
 use Rattle.std.proofs.lemmas.Bool.{eq-eqb, ne_eqb, cond-true, cond-false}
@@ -9,7 +9,7 @@ use Rattle.std.proofs.Math.Nat.{div-div-eq-div-mul, div-one, zero-div, pow-suc, 
 use Rattle.std.specs.List.{prefix_len, position_or_len}
 use Rattle.std.specs.Prelude.{◌==◌, ◌||◌}
 use Rattle.std.proofs.Math.Bool.{or_self}
-use Rattle.mime_search.specs.Classes.{is_stop, end_of_run}
+use Rattle.mime_search.specs.Classes.{is_stop, end_of_run, stops}
 use Rattle.mime_search.specs.declared.class.Class.{Class}
 use Rattle.std.specs.Simd.Lanes.{mask_l}
 use lib.Count.{count_trailing_zeros}
@@ -46,6 +46,20 @@ all_pass p (x ∷ xs) e = none_fails (p x) _ (length xs) _ (prefix_len-le-length
 pub run_within : (p : ℕ → Bool) (text : List ℕ) (from to : ℕ) → from ≤ length text → to ≡ from + prefix_len p (drop from text)
     → to ≤ length text
 run_within p text from to within is = omega (arith, is, prefix_len-le-length p (drop from text), length-drop from text)
+
+-- the bits of the last block, without those before a position, are those of the bytes from there on
+pub last_bits : (class : Class) (text : List ℕ) (from found : ℕ) → 16 ≤ length text → length text < from + 16 → from ≤ length text
+    → found ≡ stops class (take 16 (drop (length text - 16) text))
+    → found / 2 ^ (from - (length text - 16)) ≡ stops class (take (length text - from) (drop from text))
+last_bits class text from found long end within is =
+    let start = length text - 16 in
+    let more = from - start in
+    let there : start + more ≡ from = omega (arith, end) in
+    ap (λ m. m / 2 ^ more) (is ∙ ap (stops class) (take_all 16 (drop start text) (omega (arith, length-drop start text))))
+    ∙ mask-drop more (map (is_stop class) (drop start text))
+    ∙ ap mask_l (drop-map (is_stop class) more (drop start text))
+    ∙ ap (stops class) (drop-drop more start text ∙ ap (λ n. drop n text) there
+    ∙ sym (take_all (length text - from) (drop from text) (omega (arith, length-drop from text))))
 
 -- what the bit mask of the bytes from a position on shows
 module _ (p : ℕ → Bool) (text : List ℕ) (at n found : ℕ) (room : at + n ≤ length text) (few : n ≤ 64)

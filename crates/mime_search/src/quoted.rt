@@ -1,10 +1,27 @@
 //! The end of a quoted string's content.
 
-ghost use Rattle.std.specs.Prelude.{◌≡◌, ◌+◌, ◌<◌, ◌≤◌, false, length, drop, slice_index};
-ghost use Rattle.mime_search.specs.Quoted.{backslash, len_from};
+ghost use Rattle.std.specs.Prelude.{◌≡◌, ◌+◌, ◌<◌, ◌≤◌, ◌==◌, ◌||◌, false, length, map, take, drop, slice_index};
+ghost use Rattle.std.specs.Simd.Lanes.{mask_l};
+ghost use Rattle.mime_search.specs.Quoted.{quote, backslash, len_from};
 
-use crate::class::Class;
-use crate::search::first_stop;
+use crate::class::{BLOCK, Class};
+use crate::search::{first_stop, stops_from};
+
+/// Skips the quoted-pair at this position, a backslash and a byte. A backslash that ends the text counts as one.
+#[inline(always)]
+fn after_pair(text: &[u8], from: usize) -> usize
+    requires within { from < length text.now }
+    requires first { slice_index text.now from ≡ backslash }
+    ensures more { from < result }
+    ensures within { result ≤ length text.now }
+    ensures left { result + len_from false (drop result text.now) ≡ from + len_from false (drop from text.now) }
+{
+    if from + 1 == text.len() {
+        return from + 1;
+    }
+    // The byte that it pairs closes nothing.
+    from + 2
+}
 
 /// Skips the quoted-pairs in a row, a backslash and a byte each, of which the first is at this position. A backslash that
 /// ends the text counts as one.
@@ -27,11 +44,56 @@ fn after_pairs(text: &[u8], from: usize) -> usize
             last += 2;
         }
     }
-    if last + 1 == text.len() {
-        return last + 1;
+    after_pair(text, last)
+}
+
+/// Skips the quoted-pairs among `size` bytes from a position on, and the bytes between them: to the first quote that isn't in a
+/// pair, or to the end of these bytes or of a pair that ends after them. `stops` are the quotes and backslashes.
+#[inline(always)]
+fn after_pairs_among(text: &[u8], from: usize, size: usize, stops: u64) -> usize
+    requires few { size ≤ BLOCK }
+    requires within { from + size ≤ length text.now }
+    requires stops { stops ≡ mask_l (map (λ b. b == quote || b == backslash) (take size (drop from text.now))) }
+    ensures least { from ≤ result }
+    ensures within { result ≤ length text.now }
+    ensures left { result + len_from false (drop result text.now) ≡ from + len_from false (drop from text.now) }
+{
+    let end = from + size;
+    let mut at = from;
+    let mut left = stops;
+    while left != 0 {
+        let passed = left.trailing_zeros() as usize;
+        let stop = at + passed;
+        if text[stop] == b'"' {
+            return stop;
+        }
+        if stop + 1 >= end {
+            return after_pair(text, stop);
+        }
+        at = stop + 2;
+        left >>= passed + 2;
     }
-    // The byte that it pairs closes nothing.
-    last + 2
+    end
+}
+
+/// Skips the bytes from a position on up to a quote or a backslash, or to a later such position that the content goes on to.
+#[inline(always)]
+fn after_plain(text: &[u8], from: usize) -> usize
+    requires { from ≤ length text.now }
+    ensures least { from ≤ result }
+    ensures within { result ≤ length text.now }
+    ensures left { result + len_from false (drop result text.now) ≡ from + len_from false (drop from text.now) }
+{
+    let class = Class::of(b'"', b'\\');
+    let mut at = from;
+    if text.len() >= BLOCK {
+        let (size, stops) = stops_from(text, from, &class);
+        if stops != 0 {
+            return after_pairs_among(text, from, size, stops);
+        }
+        at += size;
+    }
+    first_stop(text, at, &class)
 }
 
 /// The position, from one on, of the first quote that no backslash pairs, or the length.
@@ -49,7 +111,7 @@ pub fn content_end(text: &[u8], from: usize) -> usize
         if text[at] == b'\\' {
             at = after_pairs(text, at);
         } else {
-            at = first_stop(text, at + 1, &Class::of(b'"', b'\\'));
+            at = after_plain(text, at + 1);
         }
     }
     at

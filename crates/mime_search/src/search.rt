@@ -47,6 +47,26 @@ pub fn first_stop_at_end(text: &[u8], from: usize, class: &Class) -> usize
     }
 }
 
+/// At which of the bytes from a position on a search stops, as a bit mask, and how many bytes these are: a block, or the rest of
+/// the text.
+#[inline(always)]
+pub fn stops_from(text: &[u8], from: usize, class: &Class) -> (usize, u64)
+    requires block { BLOCK ≤ length text.now }
+    requires within { from ≤ length text.now }
+    ensures few { result.0 ≤ BLOCK }
+    ensures within { from + result.0 ≤ length text.now }
+    ensures mask { result.1 ≡ stops class.now (take result.0 (drop from text.now)) }
+{
+    let last = text.len() - BLOCK;
+    if from <= last {
+        return (BLOCK, stops_in_block(text, from, class));
+    }
+    (
+        text.len() - from,
+        stops_in_block(text, last, class) >> (from - last),
+    )
+}
+
 /// The position, from one on, of the first byte at which a search stops, or the length, as `first_stop` finds it. It isn't
 /// inlined: most searches end before.
 #[cold]

@@ -12,6 +12,7 @@ use mime_examples::callers::{has_param, printed};
 use mime_examples::caret::caret_line;
 use mime_examples::compress::is_compressible;
 use mime_examples::counts::{count, no_counts, sorted};
+use mime_examples::disposition::{Disposition, read_disposition};
 use mime_examples::document::received;
 use mime_examples::file_name::{file_name, with_file_name, written_and_read};
 use mime_examples::files::type_of_file;
@@ -20,7 +21,7 @@ use mime_examples::header::header_text;
 use mime_examples::html::accepts_html;
 use mime_examples::json::is_json;
 use mime_examples::key::quality_of;
-use mime_examples::multipart::{may_delimit, parts};
+use mime_examples::multipart::{disposition_of, may_delimit, parts};
 use mime_examples::negotiate::chosen;
 use mime_examples::order::in_order;
 use mime_examples::parts::described;
@@ -234,15 +235,40 @@ pub(crate) fn show_file_name(alloc: Global, out: &mut String, field: &str, name:
     }
 }
 
-/// Shows the parts of a body.
+/// Shows the name of a field and that of a file, or why they aren't known.
+fn show_names_of(out: &mut String, answer: Result<Option<Disposition>, AllocError>) {
+    match answer {
+        Ok(Some(found)) => {
+            show_text(out, Some(shown(&found.name)));
+            show_text(out, found.file_name.as_ref().map(|name| shown(name)));
+        }
+        Ok(None) => show_text(out, None),
+        Err(error) => show(out, &error),
+    }
+}
+
+pub(crate) fn show_disposition(alloc: Global, out: &mut String, value: &str) {
+    show_names_of(out, read_disposition(alloc, value.as_bytes()));
+}
+
+pub(crate) fn show_disposition_of(alloc: Global, out: &mut String, part: &str) {
+    show_names_of(out, disposition_of(alloc, part.as_bytes()));
+}
+
+/// Shows the parts of a body, and whether it is whole.
 pub(crate) fn show_body_parts(alloc: Global, out: &mut String, field: &str, body: &str) {
     let Some(mime) = read_or_not(alloc, out, field) else {
         return;
     };
-    if let Ok(parts) = parts(alloc, &mime, body.as_bytes()) {
-        for part in &parts {
-            show_text(out, Some(shown(part)));
+    match parts(alloc, &mime, body.as_bytes()) {
+        Ok(Some(found)) => {
+            for part in &found.parts {
+                show_text(out, Some(shown(part)));
+            }
+            show_text(out, Some(if found.is_whole { "whole" } else { "cut off" }));
         }
+        Ok(None) => show_text(out, None),
+        Err(error) => show(out, &error),
     }
 }
 

@@ -34,16 +34,16 @@ use crate::http::{
 use crate::items::{show_again, show_items, show_list};
 use crate::recipes::{
     show_accepts_html, show_bare_of, show_body_parts, show_caret_line, show_chosen, show_counts,
-    show_described, show_explained, show_file_name, show_form_with, show_handler_of,
-    show_has_param, show_in_order, show_is_compressible, show_is_json, show_is_plain,
-    show_may_delimit, show_page_in, show_quality_of, show_received, show_status, show_takes,
-    show_type_for, show_type_of_file, show_vendor_json, show_whether,
+    show_described, show_disposition, show_disposition_of, show_explained, show_file_name,
+    show_form_with, show_handler_of, show_has_param, show_in_order, show_is_compressible,
+    show_is_json, show_is_plain, show_may_delimit, show_page_in, show_quality_of, show_received,
+    show_status, show_takes, show_type_for, show_type_of_file, show_vendor_json, show_whether,
 };
 use crate::relations::{show_against, show_compared, show_names, show_pair, show_sets};
 use crate::short::show_short_verdicts;
 use crate::values::{show_clone, show_found, show_long, show_parse, show_parts, show_printed};
 use mime::MimeIter;
-use mime_examples::answer::{refusal, status_of};
+use mime_examples::answer::{refusal, refusal_of_body, status_of};
 use mime_examples::callers::{has_suffix, reads_alike};
 use mime_examples::reader::reader_of;
 use mime_examples::utf8::says_utf8;
@@ -130,6 +130,7 @@ fn show_of_recipes(rt: &HostRuntime, out: &mut String, word: &str, strings: &[St
         "chosen" => show_chosen(alloc, out, strings),
         "count" => show_counts(rt, out, strings),
         "described" => show_described(alloc, out, one),
+        "disposition_of" => show_disposition_of(alloc, out, one),
         "explained" => show_explained(alloc, out, one),
         "file_name" => show_file_name(alloc, out, one, two),
         "form_with" => show_form_with(alloc, out, one),
@@ -144,10 +145,13 @@ fn show_of_recipes(rt: &HostRuntime, out: &mut String, word: &str, strings: &[St
         "multipart::parts" => show_body_parts(alloc, out, one, two),
         "page_in" => show_page_in(alloc, out, one),
         "quality_of" => show_quality_of(alloc, out, one),
+        "read_disposition" => show_disposition(alloc, out, one),
         "reader_of" => show_text(out, Some(reader_of(one))),
         "reads_alike" => show_whether(out, reads_alike(alloc, one)),
         "received" => show_received(alloc, out, one, two),
         "refusal" => show_status(out, refusal(alloc, one.as_bytes())),
+        "refusal_of_body" => show_status(out, refusal_of_body(alloc, Some(one.as_bytes()))),
+        "refusal_of_body without a header" => show_status(out, refusal_of_body(alloc, None)),
         "says_utf8" => show_whether(out, says_utf8(alloc, one.as_bytes())),
         "status_of no memory" => show(out, &status_of(&FieldError::NoMemory)),
         "takes" => show_takes(alloc, out, one, two),

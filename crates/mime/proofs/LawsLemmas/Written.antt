@@ -140,7 +140,7 @@ unfolding is_token_byte is_quoted_byte
 token_byte-text b token = grind (arith, nat_tests)
 
 -- so a token is quoted content
-content-from_token : (bytes : List ℕ) → IsToken bytes → IsContent bytes
+pub content-from_token : (bytes : List ℕ) → IsToken bytes → IsContent bytes
 content-from_token bytes token =
     let text = list_all-wider is_token_byte is_quoted_text_byte token_byte-text bytes (AreTokenBytes-from_token bytes token) in
     IsContent-taken bytes (takes_all-text bytes text) (awaits_after-text bytes text)

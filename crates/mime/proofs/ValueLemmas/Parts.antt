@@ -4,7 +4,7 @@ use Rattle.std.specs.Prelude.{slice_get, MatchOption, if◌then◌else◌, ◌==
 use Rattle.std.specs.Option.{option_or}
 use Rattle.std.proofs.lemmas.Bool.{cond_both, cases_lt, eqb-true, eqb-false}
 use Rattle.std.proofs.lemmas.Option.{same_Some, none-some, slice_get_within, MatchOption-at_some}
-use Rattle.mime.specs.Bytes.{slash_byte, plus_byte}
+use Rattle.mime.specs.Bytes.{slash_byte, plus_byte, equals_byte}
 use Rattle.mime.specs.Values.{lowered, last_plus, MediaType, Reads, pairs_of_tail, lowered_tree, kept_text, essence_of}
 use Rattle.mime.specs.Laws.{HasNoPlusFrom, PlusIsLast}
 use Rattle.mime.proofs.BytesLemmas.{slice_get-after, slice_get-prefix, boundary_before, boundary_after}
@@ -14,9 +14,10 @@ use Rattle.mime.proofs.ValueLemmas.KeptText.{media_of-kept}
 use Rattle.std.specs.List.{AllByRecursion}
 use Rattle.std.specs.Str.{IsCharBoundary, bytes_eq}
 use Rattle.std.proofs.lemmas.Str.{IsCharBoundary-end}
-use Rattle.mime.specs.Inner.Pairs.{cut_of, pairs_within}
-use Rattle.mime.specs.Items.{items_of, IsLowItem, IsLowIf}
-use Rattle.mime.proofs.ValueLemmas.Pairs.{pairs_within-first}
+use Rattle.mime_search.specs.Suffixes.{before_byte, after_byte}
+use Rattle.mime.specs.Inner.Pairs.{PairCut, cut_of, cut_after_equals, without_spaces, pairs_within}
+use Rattle.mime.specs.Items.{items_of, IsLowItem, IsLowIf, IsFirstAccepted}
+use Rattle.mime.proofs.ValueLemmas.Pairs.{pairs_within-first, cut_of-part, cut_of-name, found-first}
 use Rattle.mime.specs.Inner.KeptText.{lowered_pair, AreLowPairs, media_of, IsKept}
 use Rattle.mime.specs.Comparison.{Same}
 use Rattle.mime.specs.declared.scan.Positions.{Positions}
@@ -146,14 +147,22 @@ items_of-low ((name, value) ∷ pairs) (low, others) =
     let parts = low_pair-parts name value low in
     ((λ _. parts.0, λ is. parts.1 (subst (λ n. bytes_eq n (codes "charset") ≡ true) (sym parts.0) is)), items_of-low pairs others)
 
--- the value of the first pair that is left is in lowercase if it ignores case
-pub first_value-low : (count : ℕ) (list value : List ℕ) (flag : Bool) → count ≢ 0 → AreLowPairs (pairs_within count list)
-    → value ≡ (cut_of list).value → flag ≡ bytes_eq (cut_of list).name (codes "charset") → IsLowIf flag value
-first_value-low count list value flag some low valued flagged =
+-- the first value of a list is what is found, if its name is accepted; and it is low
+pub first_value-found : (Accepts : List ℕ → Bool → Type 0) (count : ℕ) (list name back value : List ℕ) (flag : Bool) → count ≢ 0
+    → AreLowPairs (pairs_within count list) → name ≡ before_byte equals_byte (without_spaces list)
+    → back ≡ after_byte equals_byte (without_spaces list) → Accepts name true
+    → value ≡ (cut_after_equals (length list) name back).value → flag ≡ bytes_eq name (codes "charset")
+    → IsFirstAccepted Accepts (items_of (pairs_within count list)) (Some (value, flag)) × IsLowIf flag value
+first_value-found Accepts count list name back value flag some low name_is back_is accepted value_is flag_is =
     let cut = cut_of list in
+    let named = cut_of-name list name name_is in
+    let valued = cut_of-part (λ (p : PairCut). p.value) list name back (length list) value refl name_is back_is value_is in
+    let flagged : flag ≡ bytes_eq cut.name (codes "charset") = flag_is ∙ ap (λ n. bytes_eq n (codes "charset")) named in
     let items = items_of-low ((cut.name, cut.value) ∷ pairs_within (count - 1) cut.rest)
-    (subst AreLowPairs (pairs_within-first count list some) low) in
-    rw (valued, flagged) items.0.1
+    (subst AreLowPairs (pairs_within-first count list some) low) in (
+      found-first Accepts count list value flag some (subst (λ n. Accepts n true) named accepted) valued flagged,
+      rw (valued, flagged) items.0.1,
+    )
 
 -- the pairs after it are low too
 pub rest-low : (count : ℕ) (list : List ℕ) → count ≢ 0 → AreLowPairs (pairs_within count list)

@@ -1,7 +1,7 @@
 -- The pairs of a parameter list's text, cut one by one from the left.
-use Rattle.std.specs.Prelude.{ℕ, zero, suc, ◌+◌, ◌-◌, List, [], ◌∷◌, ◌++◌, length, take, drop, Option, None, Some, if◌then◌else◌, ◌==◌}
+use Rattle.std.specs.Prelude.{ℕ, zero, suc, Bool, ◌+◌, ◌-◌, List, [], ◌∷◌, ◌++◌, length, take, drop, Option, None, Some, if◌then◌else◌, ◌==◌}
 use Rattle.std.specs.Borrow.{Bor}
-use Rattle.std.specs.List.{prefix_len}
+use Rattle.std.specs.List.{prefix_len, list_any}
 use Rattle.mime_search.specs.Suffixes.{before_byte, after_byte}
 use Rattle.mime.specs.Bytes.{semicolon_byte, equals_byte, quote_byte}
 use Rattle.mime.specs.Grammar.{is_space}
@@ -37,6 +37,10 @@ unfoldable pub cut_of : List ℕ → PairCut
 cut_of list =
     let body = without_spaces list in
     cut_after_equals (length list) (before_byte equals_byte body) (after_byte equals_byte body)
+
+-- whether there is an equals sign in a text
+abbrev pub has_equals : List ℕ → Bool
+has_equals text = list_any (λ b. b == equals_byte) text
 
 -- the first pairs of a list, up to this number
 abbrev pub pairs_within : ℕ → List ℕ → List (List ℕ × List ℕ)

@@ -1,13 +1,13 @@
 //! A reader of a string's bytes that counts those it has returned or skipped.
 
-ghost use Rattle.std.specs.Prelude.{◌≡◌, ◌≢◌, ◌+◌, ◌-◌, ◌<◌, ◌≤◌, ◌^◌, [], ◌∷◌, length, drop, not, IsTrue, None, Some};
+ghost use Rattle.std.specs.Prelude.{◌≡◌, ◌≢◌, ◌+◌, ◌-◌, ◌<◌, ◌≤◌, ◌^◌, [], ◌∷◌, true, false, length, drop, not, IsTrue, None, Some};
 ghost use Rattle.std.specs.List.{prefix_len};
 ghost use Rattle.mime.specs.Bytes.{is_quoted_text_byte};
-ghost use Rattle.mime.specs.Inner.ByteClasses.{is_token_except_plus};
+ghost use Rattle.mime.specs.Inner.ByteClasses.{is_token_except_plus, token_bytes};
 ghost use Rattle.mime.specs.Inner.Scanning.{GivesFirst, Passing, Reaches};
 ghost use Rattle.mime_search.specs.Classes.{is_stop};
 
-use crate::bytes::{is_token, is_token_except_plus};
+use crate::bytes::{is_in_token, is_token};
 use crate::scan::runs::{COMMON_TOKEN_BYTES, QUOTED_TEXT};
 use mime_search::{BLOCK, Class, WINDOW, first_stop_far, stops_at_start, stops_in_window};
 use std::marker::Model;
@@ -31,22 +31,56 @@ pub(crate) struct ByteReader<'a> {
 /// How many bytes of a run are read in the loop of a `MimeIter`'s caller. Most tokens are shorter.
 pub(crate) const NEAR: usize = 24;
 
-/// The position of the byte, from a position on, that ends a run of token bytes other than the plus, or the length. It isn't
-/// inlined: between other loops, its own would have twice as many instructions.
-#[inline(never)]
-fn end_of_run(text: &[u8], from: usize) -> usize
+/// The position of the byte, from a position on, that ends a run of a token's bytes, or the length. A plus ends it, too, unless
+/// `with_plus`.
+#[inline(always)]
+fn end_of_token(text: &[u8], from: usize, with_plus: bool) -> usize
     requires { from ≤ length text.now }
-    ensures end { result ≡ from + prefix_len is_token_except_plus (drop from text.now) }
+    ensures end { result ≡ from + prefix_len (token_bytes with_plus) (drop from text.now) }
     ensures within { result ≤ length text.now }
 {
     let mut at = from;
     while at < text.len() {
-        if !is_token_except_plus(text[at]) {
+        if !is_in_token(text[at], with_plus) {
             return at;
         }
         at += 1;
     }
     at
+}
+
+/// The position that `end_of_token` finds, if a plus ends a run. It isn't inlined: between other loops, its own would have twice as
+/// many instructions.
+#[inline(never)]
+fn end_at_plus(text: &[u8], from: usize) -> usize
+    requires { from ≤ length text.now }
+    ensures end { result ≡ from + prefix_len (token_bytes false) (drop from text.now) }
+    ensures within { result ≤ length text.now }
+{
+    end_of_token(text, from, false)
+}
+
+/// The position that `end_of_token` finds, if a plus ends no run. It isn't inlined, as `end_at_plus`.
+#[inline(never)]
+fn end_past_pluses(text: &[u8], from: usize) -> usize
+    requires { from ≤ length text.now }
+    ensures end { result ≡ from + prefix_len (token_bytes true) (drop from text.now) }
+    ensures within { result ≤ length text.now }
+{
+    end_of_token(text, from, true)
+}
+
+/// The position that `end_of_token` finds, by a call.
+#[inline(always)]
+fn end_far(text: &[u8], from: usize, with_plus: bool) -> usize
+    requires { from ≤ length text.now }
+    ensures end { result ≡ from + prefix_len (token_bytes with_plus) (drop from text.now) }
+    ensures within { result ≤ length text.now }
+{
+    if with_plus {
+        return end_past_pluses(text, from);
+    }
+    end_at_plus(text, from)
 }
 
 impl<'a> Model for ByteReader<'a> {
@@ -141,23 +175,23 @@ impl<'a> ByteReader<'a> {
         byte
     }
 
-    /// Skips token bytes other than the plus, if any byte is left, by a call.
+    /// Skips a token's bytes, if any byte is left, by a call.
     #[inline(always)]
-    fn skip_far(&mut self)
-        ensures { Passing is_token_except_plus self.old self.new }
+    fn skip_far(&mut self, with_plus: bool)
+        ensures { Passing (token_bytes with_plus) self.old self.new }
     {
         if self.at < self.text.len() {
-            self.at = end_of_run(self.text, self.at);
+            self.at = end_far(self.text, self.at, with_plus);
         }
     }
 
-    /// Skips token bytes other than the plus by a call, and returns the byte after them.
+    /// Skips a token's bytes by a call, and returns the byte after them.
     #[inline(always)]
-    pub(crate) fn next_far(&mut self) -> Option<u8>
-        ensures reaches { Reaches is_token_except_plus self.old self.new result }
+    pub(crate) fn next_far(&mut self, with_plus: bool) -> Option<u8>
+        ensures reaches { Reaches (token_bytes with_plus) self.old self.new result }
         ensures end { result ≡ None → self.new.left ≡ [] }
     {
-        self.skip_far();
+        self.skip_far(with_plus);
         self.next()
     }
 

@@ -2,13 +2,13 @@
 
 ghost use Rattle.std.specs.Iterator.{YieldsFirstBy, item_count, UpTo, at_most};
 ghost use Rattle.std.specs.Iterator.SizeHint.{IsWithinCount};
-ghost use Rattle.std.specs.Prelude.{◌≡◌, ◌<◌, ◌≤◌, ◌+◌, false, IsTrue, length, take, drop, slice_get, slice_index, IfSome, Some, option_map};
-ghost use Rattle.std.specs.Str.{IsCharBoundary};
+ghost use Rattle.std.specs.Prelude.{ℕ, List, ◌≡◌, ◌≢◌, ◌↔◌, ◌<◌, ◌≤◌, ◌+◌, true, false, IsTrue, length, take, drop, slice_get, slice_index, IfSome, Some, None, option_map, codes};
+ghost use Rattle.std.specs.Str.{IsCharBoundary, bytes_eq};
 ghost use Rattle.mime_search.specs.Suffixes.{before_byte, after_byte, first_position};
-ghost use Rattle.mime.specs.Inner.Pairs.{cut_of, leading_spaces, without_spaces, cut_after_equals, pairs_after, pair_seen};
+ghost use Rattle.mime.specs.Inner.Pairs.{cut_of, leading_spaces, without_spaces, cut_after_equals, has_equals, pairs_after, pair_seen};
 ghost use Rattle.mime.specs.Bytes.{quote_byte, semicolon_byte, equals_byte};
 ghost use Rattle.mime.specs.Inner.ComparedText.{IsLoneCharset};
-ghost use Rattle.mime.specs.Inner.Quoted.{content_len};
+ghost use Rattle.mime.specs.Inner.Quoted.{content_len, content_of, after_content};
 ghost use Rattle.mime.specs.Inner.KeptText.{AreLowPairs};
 ghost use Rattle.mime.specs.Items.{items_of, name_seen, IsLowIf, IsFirstAccepted};
 
@@ -93,6 +93,27 @@ fn after_semicolon<'a>(end: Suffix<'a>) -> Suffix<'a>
     end.split_at_first(b';').1
 }
 
+/// Cuts a quoted value's content off what follows the first quote: the content, and what follows the quote that closes it.
+#[inline(always)]
+fn cut_content<'a>(text: &Suffix<'a>) -> (&'a str, Suffix<'a>)
+    ensures content { result.0.now ≡ content_of text.now }
+    ensures after { result.1 ≡ after_content text.now }
+{
+    let length = content_len(text.text().as_bytes(), text.position_of(b'"'));
+    text.split_around(length)
+}
+
+/// The quoted or plain value that follows a name's equals sign. What follows the value isn't searched.
+#[inline(always)]
+fn value_after<'a>(end: &Suffix<'a>) -> &'a str
+    ensures { (list : ℕ) → (name : List ℕ) → result.now ≡ (cut_after_equals list name end.now).value }
+{
+    if end.begins_with(b'"') {
+        return cut_content(&end.after(1)).0;
+    }
+    end.split_at_first(b';').0
+}
+
 /// The pair of a name, with the quoted or plain value that follows its equals sign. `list` is the list's length in
 /// bytes.
 #[inline(always)]
@@ -105,8 +126,7 @@ fn cut_value<'a>(list: usize, name: &'a str, end: &Suffix<'a>) -> Pair<'a>
 {
     if end.begins_with(b'"') {
         let content = end.after(1);
-        let length = content_len(content.text().as_bytes(), content.position_of(b'"'));
-        let (value, others) = content.split_around(length);
+        let (value, others) = cut_content(&content);
         return Pair {
             name,
             value_start: list - content.len(),
@@ -123,13 +143,41 @@ fn cut_value<'a>(list: usize, name: &'a str, end: &Suffix<'a>) -> Pair<'a>
     }
 }
 
+/// A list without the spaces with which it begins.
+#[inline(always)]
+fn without_spaces<'a>(list: &Suffix<'a>) -> Suffix<'a>
+    ensures { result ≡ without_spaces list.now }
+{
+    list.after(leading_spaces(list.text()))
+}
+
 /// Cuts the first name off a list, with the spaces before it: the name, and what follows its equals sign.
 #[inline(always)]
 fn cut_name<'a>(list: &Suffix<'a>) -> (&'a str, Suffix<'a>)
     ensures name { result.0.now ≡ before_byte equals_byte (without_spaces list.now) }
     ensures rest { result.1 ≡ after_byte equals_byte (without_spaces list.now) }
 {
-    list.after(leading_spaces(list.text())).split_at_first(b'=')
+    without_spaces(list).split_at_first(b'=')
+}
+
+/// Cuts a name of `size` bytes off a list that begins with it, if an equals sign follows so many bytes, or the list ends there. The
+/// name may have an equals sign itself.
+#[inline(always)]
+fn cut_name_of_size<'a>(list: &Suffix<'a>, size: usize) -> Option<(&'a str, Suffix<'a>)>
+    ensures other { result ≡ None → first_position equals_byte list.now ≢ size }
+    ensures least { IfSome result (λ cut. first_position equals_byte list.now ≤ size) }
+    ensures name { IfSome result (λ cut. cut.0.now ≡ take size list.now) }
+    ensures rest { IfSome result (λ cut. cut.1 ≡ drop (size + 1) list.now) }
+{
+    let bytes = list.text().as_bytes();
+    if size < bytes.len() {
+        if bytes[size] != b'=' {
+            return None;
+        }
+    } else if size != bytes.len() {
+        return None;
+    }
+    Some(list.split_around(size))
 }
 
 /// Cuts the first pair off a list.
@@ -143,6 +191,71 @@ pub(crate) fn cut<'a>(list: &Suffix<'a>) -> Pair<'a>
 {
     let (name, rest) = cut_name(list);
     cut_value(list.len(), name, &rest)
+}
+
+/// Whether a key accepts a parameter's name.
+#[inline(always)]
+fn is_accepted<K: ParamKey>(key: &K, name: &str) -> bool
+    ensures { IsTrue result ↔ K.Accepts key.now name.now true }
+{
+    key.accepts(Name {
+        text: name,
+        ignores_case: true,
+    })
+}
+
+/// Whether a byte string has an equals sign. For a constant one the compiler knows it.
+#[inline(always)]
+fn has_equals(bytes: &[u8]) -> bool
+    ensures { result ≡ has_equals bytes.now }
+{
+    let mut found = false;
+    for byte in bytes {
+        found |= *byte == b'=';
+    }
+    found
+}
+
+/// The first name of a list, and what follows its equals sign.
+#[derive(Drop)]
+struct FirstName<'a> {
+    name: &'a str,
+    end: Suffix<'a>,
+    /// Whether the key accepts it that it was cut for.
+    is_accepted: bool,
+}
+
+/// Cuts the first name off a list for a key, with the spaces before it. If it's the only name, and the key has a text, no equals sign
+/// is searched: the byte is looked at where a name of that length ends, and there is no answer if the key doesn't accept the name.
+#[inline(always)]
+fn cut_name_for<'a, K: ParamKey>(list: &Suffix<'a>, is_only: bool, key: &K) -> Option<FirstName<'a>>
+    ensures other { result ≡ None → IsTrue is_only × ¬ (K.Accepts key.now (cut_of list.now).name true) }
+    ensures name { IfSome result (λ first. first.name.now ≡ before_byte equals_byte (without_spaces list.now)) }
+    ensures end { IfSome result (λ first. first.end ≡ after_byte equals_byte (without_spaces list.now)) }
+    ensures accepted { IfSome result (λ first. IsTrue first.is_accepted ↔ K.Accepts key.now first.name.now true) }
+{
+    let list = without_spaces(list);
+    if is_only && let Some(text) = key.text() {
+        let Some((name, end)) = cut_name_of_size(&list, text.len()) else {
+            return None;
+        };
+        if !is_accepted(key, name) || has_equals(text.as_bytes()) {
+            return None;
+        }
+        let is_accepted = true;
+        return Some(FirstName {
+            name,
+            end,
+            is_accepted,
+        });
+    }
+    let (name, end) = list.split_at_first(b'=');
+    let is_accepted = is_accepted(key, name);
+    Some(FirstName {
+        name,
+        end,
+        is_accepted,
+    })
 }
 
 /// The pairs of a list that are left, each a name and a value.
@@ -200,21 +313,19 @@ impl<'a> Pairs<'a> {
     {
         let Pairs { mut list, mut left } = self;
         while left != 0 {
-            let (name, rest) = cut_name(&list);
-            let accepted = key.accepts(Name {
-                text: name,
-                ignores_case: true,
-            });
-            if accepted {
+            let Some(first) = cut_name_for(&list, left == 1, key) else {
+                return None;
+            };
+            if first.is_accepted {
                 return Some(Name {
-                    text: cut_value(list.len(), name, &rest).value,
-                    ignores_case: name == CHARSET.text,
+                    text: value_after(&first.end),
+                    ignores_case: first.name == CHARSET.text,
                 });
             }
             if left == 1 {
                 return None;
             }
-            list = cut_value(list.len(), name, &rest).rest;
+            list = cut_value(list.len(), first.name, &first.end).rest;
             left -= 1;
         }
         None

@@ -1,6 +1,6 @@
 //! A short kept text, which lies in the value itself: making, cloning and dropping it asks for no memory.
 
-ghost use Rattle.std.specs.Prelude.{◌≡◌, ◌<◌, ◌≤◌, IfSome, None, Some, IsUtf8, length, take, slice_get};
+ghost use Rattle.std.specs.Prelude.{◌≡◌, ◌<◌, ◌≤◌, ◌-◌, IfSome, None, Some, IsUtf8, length, take, drop, slice_get, replicate};
 ghost use Rattle.mime_search.specs.Differences.{DifferAt};
 ghost use Rattle.mime.specs.Bytes.{semicolon_byte};
 ghost use Rattle.mime.specs.Values.{lowered};
@@ -26,20 +26,21 @@ pub(crate) struct ShortText {
 }
 
 impl Model for ShortText {
-    ghost use Rattle.std.specs.Prelude.{ℕ, ◌≤◌, List, take, IsUtf8};
+    ghost use Rattle.std.specs.Prelude.{ℕ, ◌≡◌, ◌≤◌, ◌-◌, List, take, drop, replicate, IsUtf8};
 
     ghost Value = { List ℕ };
 
     ghost view = { λ short. take short.len short.bytes };
 
-    ghost invariant = { λ short. (short.len ≤ 40) × IsUtf8 (take short.len short.bytes) };
+    ghost invariant = { λ it. (it.len ≤ 40) × IsUtf8 (take it.len it.bytes) × (drop it.len it.bytes ≡ replicate (40 - it.len) 0) };
 }
 
 /// The bytes of a text, with zeros after it.
 #[inline(always)]
 fn padded(text: &str) -> [u8; PADDED]
     requires { length text.now ≤ SHORT }
-    ensures { take (length text.now) result ≡ text.now }
+    ensures text { take (length text.now) result ≡ text.now }
+    ensures zeros { drop (length text.now) result ≡ replicate (48 - length text.now) 0 }
 {
     let mut bytes = [0; PADDED];
     bytes[..text.len()].copy_from_slice(text.as_bytes());
@@ -53,7 +54,8 @@ fn lowercase_pairs(block: &mut [u8; PADDED], text: &str, semicolon: usize, count
     requires same { take (length text.now) block.old ≡ text.now }
     requires parted { slice_get text.now semicolon ≡ Some semicolon_byte }
     requires some { 0 < count }
-    ensures { take (length text.now) block.new ≡ with_pairs_lowered count semicolon text.now }
+    ensures lowered { take (length text.now) block.new ≡ with_pairs_lowered count semicolon text.now }
+    ensures rest { drop (length text.now) block.new ≡ drop (length text.now) block.old }
 {
     if has_capital(block) {
         lowercase_text(&mut block[..text.len()], text, semicolon, count);
@@ -110,6 +112,7 @@ impl ShortText {
     fn of(block: &[u8; PADDED], len: usize) -> ShortText
         requires short { len ≤ SHORT }
         requires utf8 { IsUtf8 (take len block.now) }
+        requires zeros { drop len block.now ≡ replicate (48 - len) 0 }
         ensures { result ≡ take len block.now }
     {
         let mut bytes = [0; SHORT];

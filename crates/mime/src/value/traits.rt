@@ -68,8 +68,11 @@ impl PartialEq for Mime {
         ensures computed { result ≡ eq_by_cmp media_cmp self.now.media other.now.media }
         ensures same { IsTrue result ↔ Same self.now.media other.now.media }
     {
-        // An essence of another length is another one. It is told without a look at the texts.
+        // An essence of another length is another one, and more parameters aren't the same: that is told without a look at the texts.
         if self.essence_str().len() != other.essence_str().len() {
+            return false;
+        }
+        if self.param_count() != other.param_count() {
             return false;
         }
         // Equal texts are equal values.
@@ -77,7 +80,7 @@ impl PartialEq for Mime {
             return true;
         }
         // Without parameters the kept text is the essence, and the essences differ.
-        if self.param_count() == 0 || self.param_count() != other.param_count() {
+        if self.param_count() == 0 {
             return false;
         }
         same_parts(self, other)

@@ -23,13 +23,13 @@ loop-reader-preserved c =
 
 pub returns-then-not-is_in_token-3 : goal.returns-then-not-is_in_token-3
 returns-then-not-is_in_token-3 c =
-    passes_to _ (token_bytes-wider c.args.with_plus) c.loop-stop.invariant c.in-Some-next_far.ensures.reaches
+    passes_to _ (λ _ is. is) c.loop-stop.invariant c.in-Some-next_far.ensures.reaches
     (sym c.is_in_token-in-Some-next_far.ensures ∙ c.if-not-is_in_token-3.true)
 
 pub loop-stop-preserved : goal.loop-stop-preserved
 loop-stop-preserved c =
-    passing_with (token_bytes-wider c.args.with_plus) c.loop-stop.invariant c.in-Some-next_far.ensures.reaches
+    passing_with (λ _ is. is) c.loop-stop.invariant c.in-Some-next_far.ensures.reaches
     (sym c.is_in_token-in-Some-next_far.ensures ∙ c.if-not-is_in_token-3.false)
 
 pub returns : goal.returns
-returns c = passes_to _ (token_bytes-wider c.args.with_plus) c.loop-stop.invariant c.in_default-next_far.ensures.reaches (c.in_default-next_far.ensures.end refl)
+returns c = passes_to _ (λ _ is. is) c.loop-stop.invariant c.in_default-next_far.ensures.reaches (c.in_default-next_far.ensures.end refl)

@@ -41,7 +41,7 @@ put_string-requires c =
     omega (
       arith,
       room,
-      set_fits c.args.text.now c.args.name.now c.args.value.now c.in-Ok.mime.media c.in-Ok.ensures.kept,
+      set_fits c.args.text.now c.args.name.now c.args.value.now c.in-Ok.mime.media c.in-Ok.ensures.http.1,
       ap (λ (it : MediaType). length it.kept) is,
       ap length c.as_str.ensures.text,
       ap length c.as_bytes.ensures.value,

@@ -13,6 +13,12 @@ means : (paired : Bool) (bytes more : List ℕ) (b : ℕ) (begins : Bool) → by
 means paired bytes more b begins is tells =
     ap (unescaped_from paired) is ∙ ap (λ (pair : Bool). if pair then unescaped_from true more else b ∷ unescaped_from false more) tells
 
+pub returns-then-not-has_backslash : goal.returns-then-not-has_backslash
+returns-then-not-has_backslash c = record {
+  written = rw (c.if-not-has_backslash.ensures refl) (c.copy.ensures.writes.adds _ [] (record { there = refl; end = refl }));
+  within = omega (arith, c.copy.ensures.end);
+}
+
 pub loop-at-preserved : goal.loop-at-preserved
 loop-at-preserved c =
     let value = c.args.value.now in

@@ -1,16 +1,29 @@
--- What stands before, the delimiter and what stands after it are the body.
-use Rattle.std.proofs.Common.{◌≡◌, ◌∙◌, ◌-◌, ◌++◌, take, drop, sym, ap, length, take-append-drop}
-use Rattle.std.specs.Cmp.Lexicographic.{same_text}
-use Rattle.std.proofs.lemmas.List.{take_rest}
+-- The delimiter that was found is the first, and if none was, there is none.
+use Rattle.std.proofs.Common.{◌≤◌, ◌++◌, take, length, sym, subst, arith, ⊎_elim}
+use Rattle.std.proofs.lemmas.Bool.{cases_lt}
+use Rattle.std.proofs.lemmas.List.{length-take-le}
+use Rattle.mime_examples.specs.Multipart.{EndsLine}
+use Rattle.mime_examples.proofs.Places.{taken, dropped, begins_inside, divided}
 use Rattle.mime_examples.proofs.multipart.cut.Goals as goal
 
-pub returns-in-Some-clause-whole : goal.returns-in-Some-clause-whole
-returns-in-Some-clause-whole c =
+pub returns-in-Some-clause-cut : goal.returns-in-Some-clause-cut
+returns-in-Some-clause-cut c =
     let body = c.args.body.now in
     let at = c.loop-at.at in
     let delimiter = c.args.delimiter.now in
-    let rest = take (length body - at) (drop at body) in
-    let here : take (length delimiter) rest ≡ delimiter = same_text _ _ (sym c.in-Some.ensures.cases.0) in
-    let behind : c.in-Some.after.now ≡ drop (length delimiter) rest = c.in-Some.ensures.cases.1 in
-    let both : rest ≡ delimiter ++ c.in-Some.after.now = cc (take-append-drop (length delimiter) rest, here, behind) in
-    sym (take-append-drop at body) ∙ ap (λ it. take at body ++ it) (sym (take_rest body at) ∙ both)
+    record {
+      whole = divided body at (delimiter ++ c.in-Some.after.now) c.in-Some.ensures.1;
+      line = c.in-Some.ensures.0;
+      first = λ earlier later ends is.
+          let long : length (take at body) ≤ at = omega (arith, length-take-le at body (omega arith)) in
+          ⊎_elim (λ less. absurd (c.loop-at.invariant (length earlier) later less
+          (subst EndsLine (sym (taken earlier (delimiter ++ later) is)) ends) (dropped earlier (delimiter ++ later) is)))
+          (λ more. omega (arith, more, long)) (cases_lt (length earlier) at);
+    }
+
+pub returns-clause-none : goal.returns-clause-none
+returns-clause-none c = λ _ some before after ends is.
+    let delimiter = c.args.delimiter.now in
+    let inside = begins_inside c.args.body.now before delimiter after some is in
+    c.loop-at.invariant (length before) after (omega (arith, inside))
+    (subst EndsLine (sym (taken before (delimiter ++ after) is)) ends) (dropped before (delimiter ++ after) is)

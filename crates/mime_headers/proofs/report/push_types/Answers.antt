@@ -2,7 +2,7 @@
 use Rattle.std.proofs.Common.{◌≤◌, ap, arith, map, length, subst}
 use Rattle.std.specs.Vec.{vec_items}
 use Rattle.std.proofs.Math.ListN.{drop_of_length-le}
-use Rattle.mime_headers.specs.Head.{without_start}
+use Rattle.mime_headers.specs.Head.{trimmed}
 use Rattle.mime_headers.specs.Report.{ReportsType}
 use Rattle.mime_io.specs.Inner.{Adds}
 use Rattle.mime_headers.proofs.Rows.{first_left, reported-none, reported-next, reported-all}
@@ -17,7 +17,7 @@ loop-value-preserved c =
     let at = c.loop-value.value-index in
     reported-next (map vec_items values) _ _ (vec_items c.value-item.result) _ (vec_items c.loop-value.report) _
     (ap (map vec_items) (first_left values at c.value-item.result c.loop-value-test.true c.value-item.is)) c.loop-value.invariant
-    (subst (λ value. Adds (ReportsType (without_start value)) (vec_items c.loop-value.report) (vec_items c.push_type.new.report))
+    (subst (λ value. Adds (ReportsType (trimmed value)) (vec_items c.loop-value.report) (vec_items c.push_type.new.report))
     c.as_slice.ensures.value c.in_ok-push_type.ensures)
 
 pub returns : goal.returns

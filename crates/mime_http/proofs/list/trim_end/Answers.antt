@@ -1,17 +1,17 @@
--- White space at the end is left out, and any other byte stays.
-use Rattle.mime_http.proofs.Common.{arith, common_steps, sym, ◌∙◌}
-use Rattle.mime_http.proofs.Trims.{end_at_space, end_at_other}
+-- A last byte that is no white space stays.
+use Rattle.mime_http.proofs.Common.{[], ap, arith, common_steps, false, get_or, is_space, length, nat_tests, nil_from_length, refl, sym, take_all, trim_end, ◌-◌, ◌∙◌, ◌≡◌}
+use Rattle.mime_http.proofs.Trims.{end_at_other}
+use Rattle.mime_http.proofs.list.trim_end.Goals.{then-is_empty-via-then-is_empty, then-is_empty-via-else-is_empty+then-piece-gt32}
 use Rattle.mime_http.proofs.list.trim_end.Goals as goal
 
-pub loop-end-preserved : goal.loop-end-preserved
-loop-end-preserved c = (
-  omega (arith, c.loop-end.invariant.0),
-  end_at_space c.args.piece.now c.loop-end.end c.loop-end-test.true c.loop-end.invariant.0 (sym c.is_space.ensures ∙ c.if-is_space.true)
-      ∙ c.loop-end.invariant.1,
-)
-
-pub returns : goal.returns
-returns c =
+pub returns-then-is_empty : goal.returns-then-is_empty
+returns-then-is_empty c =
     let piece = c.args.piece.now in
-    let end = c.loop-end.end in
-    grind (arith, common_steps, end_at_other piece end, c.loop-end.invariant)
+    elim c.then-is_empty.branch [
+      | then-is_empty-via-then-is_empty w ↦
+          let none : piece ≡ [] = nil_from_length _ (grind (arith, common_steps)) in rw none refl
+      | then-is_empty-via-else-is_empty+then-piece-gt32 w ↦
+          let other : is_space (get_or piece (length piece - 1) 0) ≡ false = grind (arith, nat_tests, common_steps) in
+          let all = take_all (length piece) piece (omega arith) in
+          sym all ∙ end_at_other piece (length piece) (grind (arith, common_steps)) (omega arith) other ∙ ap trim_end all
+    ]

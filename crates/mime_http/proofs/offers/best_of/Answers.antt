@@ -1,7 +1,6 @@
 -- The next merit is above the highest so far, or it isn't.
-use Rattle.mime_http.proofs.Common.{List, MediaType, Option, Rank, arith, is_gt, length, length-map, length-take-le, lowest, map, merit, nat_tests, rank_cmp, subst, take, take_all, take_more, ℕ, ◌+◌, ◌++◌, ◌<◌, ◌∙◌, ◌∷◌, ◌≡◌, ◌≤◌, []}
-use Rattle.mime_http.specs.Chosen.{IsHighest}
-use Rattle.mime_http.proofs.Highest.{value_at, highest_raised, highest_stays, best_is_found, none_is_found}
+use Rattle.mime_http.proofs.Common.{List, MediaType, Option, Rank, arith, is_gt, length, length-map, length-take-le, map, merit, nat_tests, rank_cmp, subst, take, take_all, take_more, ℕ, ◌+◌, ◌++◌, ◌<◌, ◌∙◌, ◌∷◌, ◌≡◌, ◌≤◌, []}
+use Rattle.mime_http.proofs.Highest.{value_at, highest_raised, highest_stays, best_is_found, none_is_found, IsHighest, lowest}
 use Rattle.mime_http.proofs.offers.best_of.Goals.{then-gt, else-gt}
 use Rattle.mime_http.proofs.offers.best_of.Goals as goal
 

@@ -1,6 +1,6 @@
 -- The highest rank so far, and its first place.
 use Rattle.mime_http.proofs.Common.{IfSome, map, merit, ◌<◌, take}
-use Rattle.mime_http.specs.Chosen.{IsHighest}
+use Rattle.mime_http.proofs.Highest.{IsHighest}
 use Rattle.mime_http.proofs.offers.best_of.Given as goal
 
 abbrev pub invariant-loop-at : goal.invariant-loop-at

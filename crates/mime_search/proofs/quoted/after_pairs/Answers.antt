@@ -1,5 +1,5 @@
 -- A pair that another follows was passed, or three, and at last the last of them.
-use Rattle.std.proofs.Common.{◌+◌, ◌≤◌, length, arith}
+use Rattle.std.proofs.Common.{◌∙◌, ◌+◌, ◌≤◌, length, arith}
 use Rattle.mime_search.proofs.Quotes.{search_past_pair, search_past_three}
 use Rattle.mime_search.proofs.quoted.after_pairs.Goals as goal
 
@@ -31,6 +31,4 @@ loop-last-preserved c =
     }
 
 pub returns-clause-left : goal.returns-clause-left
-returns-clause-left c =
-    let before = c.loop-last.invariant in
-    search_past_pair c.args.text.now c.loop-last.last _ before.left (omega (arith, before.within, c.if-last-text.false)) before.pair
+returns-clause-left c = c.after_pair.ensures.left ∙ c.loop-last.invariant.left

@@ -6,8 +6,8 @@ use Rattle.mime.proofs.ValueLemmas.KeptText.{kept-in_part}
 use Rattle.mime.proofs.ValueLemmas.Utf8.{low-in_part}
 use Rattle.mime.proofs.value.short.lowercase_pairs.Goals as goal
 
-pub returns-else-has_capital : goal.returns-else-has_capital
-returns-else-has_capital c =
+pub returns-else-has_capital-clause-lowered : goal.returns-else-has_capital-clause-lowered
+returns-else-has_capital-clause-lowered c =
     let text = c.args.text.now in
     let n = length text in
     let same = c.requires.same in

@@ -1,6 +1,6 @@
 -- The run that is found is skipped.
 use Rattle.std.proofs.Common.{subst, arith}
-use Rattle.mime.specs.Inner.ByteClasses.{is_token_except_plus}
+use Rattle.mime.specs.Inner.ByteClasses.{token_bytes}
 use Rattle.mime.specs.Inner.Scanning.{Passing}
 use Rattle.mime.proofs.ScanLemmas.Passing.{reader_at, passing_skip}
 use Rattle.mime.proofs.scan.reader.ByteReader.skip_far.Goals as goal
@@ -9,7 +9,7 @@ pub returns-then-self : goal.returns-then-self
 returns-then-self c =
     let inside = c.self.inside in
     let text = inside.text.now in
-    let to = c.end_of_run-self-inside in
-    subst (λ old. Passing is_token_except_plus old (reader_at text to.result inside.before)) c.self.view_is
+    let to = c.end_far-self-inside in
+    subst (λ old. Passing (token_bytes c.args.with_plus) old (reader_at text to.result inside.before)) c.self.view_is
     (passing_skip _ text inside.at to.result inside.before c.self.invariant.within (omega (arith, to.ensures.end))
     (omega (arith, to.ensures.end)))

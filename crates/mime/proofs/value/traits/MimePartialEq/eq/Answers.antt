@@ -15,6 +15,13 @@ pub returns-then-essence_str-clause-computed : goal.returns-then-essence_str-cla
 returns-then-essence_str-clause-computed c =
     eq_by_cmp-same c.args.self.now.media c.args.other.now.media false (returns-then-essence_str-clause-same c)
 
+pub returns-then-param_count-clause-same : goal.returns-then-param_count-clause-same
+returns-then-param_count-clause-same c = search rules
+
+pub returns-then-param_count-clause-computed : goal.returns-then-param_count-clause-computed
+returns-then-param_count-clause-computed c =
+    eq_by_cmp-same c.args.self.now.media c.args.other.now.media false (returns-then-param_count-clause-same c)
+
 pub returns-then-eq-clause-same : goal.returns-then-eq-clause-same
 returns-then-eq-clause-same c = (
   λ _. same_from_text _ _ c.args.self.now.media c.args.other.now.media c.as_str.ensures.reads c.as_str-2.ensures.reads

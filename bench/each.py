@@ -1,0 +1,100 @@
+"""What each call costs on each real value here and in another checkout, in instructions: bench/run --each START."""
+
+import os
+import re
+import tempfile
+from concurrent.futures import ThreadPoolExecutor
+from pathlib import Path
+from statistics import quantiles
+
+from commands import run_ok
+from rows import ACCEPTS, LONGER, OFFERS, TYPES
+
+# How much more is dearer, and by how many instructions at least; by how many rounds two runs of driver.rs differ, and how often each of
+# them makes an operation, so that the loop counts for little.
+MORE, LEAST, ROUNDS, TIMES = 1.03, 3, 2, 8
+VALUES, HEADERS = ([*dict.fromkeys(it)] for it in (TYPES + LONGER, ACCEPTS))
+TEXTS, NEXT = VALUES + HEADERS, VALUES[1:] + VALUES[:1]
+ESSENCES, OFFERED = [(it, it.split(";")[0].strip()) for it in VALUES if ";" in it], [(it, offer) for it in HEADERS for offer in OFFERS]
+# The values of parameters, without their quotes.
+PARAMETERS = [it for it in dict.fromkeys(it.strip('"') for it in re.findall(r'=("(?:[^\\"]|\\.)*"|[^\s;]+)', "\n".join(VALUES))) if it]
+
+
+def beside(texts, other=""):
+    """Each string with one beside it, always the same or of a list of as many."""
+    return [*zip(texts, [other] * len(texts) if isinstance(other, str) else other)]
+
+
+# Each call, its operation in driver.rs, and the pairs of strings that it is made on.
+CALLS = [
+    ("Mime::from_str", "read", beside(TEXTS)),
+    ("content_type", "field", beside(TEXTS)),
+    *((f"get_param of {it}", f"look_up_{operation}", beside(VALUES)) for it, operation in
+      (('"charset"', "charset_str"), ('"level"', "missing"), ("CHARSET", "charset"), ("BOUNDARY", "boundary"))),
+    *((label, operation, beside(VALUES)) for label, operation in
+      (("params", "walk"), ("type, subtype, suffix", "parts"), ("essence_str, ==", "essence"), ("hash", "hash"), ("clone", "clone"),
+       ("print", "print"), ("boundary", "boundary"), ("with_charset", "write_charset"), ("with_boundary", "write_boundary"),
+       ("with_parameter", "write_name"))),
+    *((f"{label} {what}", operation, pairs)
+      for label, operation in (("==", "eq"), ("mime_eq_str", "eq_str"), ("cmp", "cmp"), ("mime_equal", "call_equal"))
+      for what, pairs in (("of equal ones", beside(VALUES, VALUES)), ("of each and the next", beside(VALUES, NEXT)),
+                          ("of each and its essence", ESSENCES))),
+    ("unescape", "unescape", beside(PARAMETERS)),
+    ("MimeIter", "items", beside(TEXTS)),
+    ("Accept::from_lines", "accept", beside(HEADERS)),
+    *((label, label, beside(HEADERS, "\n".join(OFFERS))) for label in ("best", "order")),
+    ("weight", "weight", OFFERED),
+    ("weight_of", "weight_of", beside([*dict.fromkeys(it.strip() for header in HEADERS for it in header.split(","))])),
+    ("mime_read", "call_read", beside(TEXTS)),
+    ("mime_content_type", "call_field", beside(TEXTS)),
+    ("mime_list", "call_items", beside(TEXTS)),
+    ("mime_accept", "call_accept", beside(HEADERS)),
+    *((f"mime_{it}", f"call_{it}", beside(HEADERS, ", ".join(OFFERS))) for it in ("best", "order")),
+    ("mime_boundary", "call_boundary", beside(VALUES)),
+    ("mime_unescape", "call_unescape", beside(PARAMETERS)),
+    ("mime_set_parameter", "call_set_parameter", beside(VALUES, "charset\nutf-8")),
+]
+
+
+# The function of mime_bench that makes an operation, if it hasn't its name.
+MADE_BY = {"boundary": "meant_boundary", "weight_of": "weight",
+           **dict.fromkeys("unescape accept best order weight write_charset write_boundary write_name".split(), "one")}
+
+
+def counted(driver, label, operation, pairs):
+    """The instructions that a call takes on each pair: the driver makes it so often more in each third run than in the one before. What is
+    done before it isn't counted."""
+    function = label.split()[0] if operation.startswith("call_") else f"mime_bench::{MADE_BY.get(operation, operation)}"
+    often = lambda text: text if "\n" in text else "\n".join([text] * TIMES)
+    given = "\1".join("\0".join(map(often, it)) for it in pairs).encode()
+    with tempfile.TemporaryDirectory() as room:
+        counting = ["--tool=callgrind", f"--toggle-collect={function}", "--dump-before=mark", "--combine-dumps=yes"]
+        run_ok("valgrind", *counting, f"--callgrind-out-file={room}/counts", driver, operation, "each", given=given)
+        totals = [int(it) for it in re.findall(r"(?m)^totals: (\d+)", Path(room, "counts").read_text(encoding="utf-8"))]
+    if 0 in totals[2::3]:
+        raise OSError(f"{label}: {function} isn't called")
+    return [(more - fewer) / ROUNDS / TIMES for fewer, more in zip(totals[1::3], totals[2::3], strict=True)]
+
+
+def line(label, found):
+    """A line of the table, of the ratios with their counts and strings."""
+    ratios, dearer = [it[0] for it in found], sum(here > max(MORE * start, start + LEAST - 1e-6) for _, here, start, _ in found)
+    cuts, (worst, here, start, text) = quantiles(ratios, n=10, method="inclusive"), max(found)
+    return (f"{label:<36}{len(found):>7,}{cuts[4]:>8.2f}{cuts[8]:>7.2f}{worst:>7.2f}{here:>9,.1f}{start:>9,.1f}{dearer:>8,}"
+            f"{sum(it > 1.5 for it in ratios):>6,}  {text[:38]}".rstrip())
+
+
+def each(here, start, missing):
+    """The lines of the table: how the costs with one driver compare with those with another, without the calls that this lacks."""
+    calls = [it for it in CALLS if it[0] not in missing]
+    with ThreadPoolExecutor(os.cpu_count()) as pool:
+        costs = [[pool.submit(counted, driver, *it) for it in calls] for driver in (here, start)]
+        every = []
+        yield f"{'':<36}{'pairs':>7}{'median':>8}{'90 %':>7}{'worst':>7}{'here':>9}{'start':>9}{'dearer':>8}{'>1.5':>6}"
+        for (label, _, pairs), *sides in zip(calls, *costs):
+            mine, its = (it.result() for it in sides)
+            found = [(it / max(other, 1), it, other, text) for it, other, (text, _) in zip(mine, its, pairs)]
+            every += found
+            yield line(label, found)
+        yield line("all", every)
+        yield f"sum of all counts: {sum(it[1] for it in every):,.0f} here, {sum(it[2] for it in every):,.0f} at the start"

@@ -1,0 +1,22 @@
+-- The zeros that follow a short text.
+use Rattle.std.proofs.Common.{◌≡◌, ℕ, zero, suc, ◌+◌, ◌-◌, ◌≤◌, List, ◌∷◌, ◌++◌, length, map, take, drop, replicate, refl, ap, sym, ◌∙◌, arith}
+use Rattle.std.specs.Char.{to_ascii_lowercase}
+use Rattle.std.proofs.Math.Nat.{add-sub_of_le}
+use Rattle.std.proofs.lemmas.List.{drop_at, drop-replicate, drop-take, take-replicate}
+
+-- a text copied over the first of so many zeros
+pub zeros-after : (text copied : List ℕ) (size : ℕ) → copied ≡ text
+    → drop (length text) (copied ++ drop (length text) (replicate size 0)) ≡ replicate (size - length text) 0
+zeros-after text copied size same = drop_at copied _ (length text) (ap length same) ∙ drop-replicate (length text) size 0
+
+-- they have no case
+pub zeros-lowercase : (count : ℕ) → map to_ascii_lowercase (replicate count 0) ≡ replicate count 0
+zeros-lowercase zero = refl
+zeros-lowercase (suc count) = ap (λ bytes. 0 ∷ bytes) (zeros-lowercase count)
+
+-- those of a block, within its first bytes
+pub zeros-within : (block : List ℕ) (len size more : ℕ) → len ≤ size → drop len block ≡ replicate (size + more - len) 0
+    → drop len (take size block) ≡ replicate (size - len) 0
+zeros-within block len size more within zeros =
+    ap (λ n. drop len (take n block)) (sym (add-sub_of_le within)) ∙ drop-take len (size - len) block
+    ∙ ap (take (size - len)) zeros ∙ take-replicate (size - len) (size + more - len) 0 (omega arith)

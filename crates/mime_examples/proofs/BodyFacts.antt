@@ -1,0 +1,198 @@
+-- Bodies and headers for which the words of the multipart recipe hold, and others for which they don't. The delimiter is `--x`.
+use Rattle.std.proofs.Common.{◌≡◌, ◌≢◌, ◌∙◌, ◌≤◌, ◌++◌, ◌∷◌, [], ◌⊎◌, inl, inr, ℕ, List, Bool, true, false, Option, Some, None, drop, length, length-append, refl, sym, ap, arith, codes, ⊎_elim}
+use Rattle.std.specs.List.{list_all}
+use Rattle.std.specs.Prelude.{◌==◌, not}
+use Rattle.std.proofs.lemmas.Bool.{true≢false, false≢true}
+use Rattle.std.proofs.lemmas.Option.{same_Some}
+use Rattle.mime.proofs.HandedOut.{length-lowered}
+use Rattle.mime_examples.specs.Multipart.{IsLine, IsEmptyLine, EndsLine, HasNoDelimiter, IsCut, IsPart, no_line, with_return, without_return, Closes, closed, cut_off, a_part, IsBody, no_delimiter, after_preamble, IsField, IsFirstField, in_line, after_line, empty_line, no_line_end}
+
+abbrev mark : List ℕ
+mark = codes "--x"
+
+-- the first byte of a text, if there is one
+abbrev byte_of : List ℕ → ℕ
+byte_of [] = 0
+byte_of (b ∷ text) = b
+
+some_byte : (b : ℕ) (text : List ℕ) → b ∷ text ≢ []
+some_byte b text none = omega (arith, ap length none)
+
+-- ---- lines
+
+lines : IsLine (codes "a\r") × ¬ (IsLine (codes "a\nb")) × IsEmptyLine [] × IsEmptyLine (codes "\r") × ¬ (IsEmptyLine (codes "a"))
+lines = (
+  refl,
+  (λ is. false≢true is),
+  inl refl,
+  inr refl,
+  λ is. ⊎_elim (λ none. omega (arith, ap length none)) (λ same. let byte : 97 ≡ 13 = ap byte_of same in omega (arith, byte)) is,
+)
+
+line_ends : EndsLine [] × EndsLine (codes "a\n") × ¬ (EndsLine (codes "\na"))
+line_ends = (
+  (λ some. absurd (some refl)),
+  (λ _. refl),
+  λ ends. omega (arith, same_Some 97 10 (ends (some_byte 10 (codes "a")))),
+)
+
+-- ---- cuts
+
+-- a delimiter within a line is none
+none_inside : HasNoDelimiter mark (codes "a--x")
+none_inside [] after ends is = let byte : 97 ≡ 45 = ap byte_of is in omega (arith, byte)
+none_inside (b ∷ []) after ends is =
+    let byte : 97 ≡ b = ap byte_of is in omega (arith, byte, same_Some b 10 (ends (some_byte b [])))
+none_inside (b ∷ c ∷ before) after ends is = omega (arith, simp length-append at (ap length is))
+
+one_after_a_line : ¬ (HasNoDelimiter mark (codes "a\n--x"))
+one_after_a_line none = none (codes "a\n") [] line_ends.1 refl
+
+-- the first that begins a line cuts a text
+none_before : (earlier later : List ℕ) → EndsLine earlier → codes "a\n--x--" ≡ earlier ++ (mark ++ later) → 2 ≤ length earlier
+none_before [] later ends is = let byte : 97 ≡ 45 = ap byte_of is in absurd (omega (arith, byte))
+none_before (b ∷ []) later ends is = let byte : 10 ≡ 45 = ap (λ it. byte_of (drop 1 it)) is in absurd (omega (arith, byte))
+none_before (b ∷ c ∷ earlier) later ends is = omega arith
+
+cut_after_a_line : IsCut mark (codes "a\n--x--") (codes "a\n") (codes "--")
+cut_after_a_line = record { whole = refl; line = line_ends.1; first = none_before }
+
+-- and neither a later one, nor one within a line, nor other bytes
+no_cuts :
+    ¬ (IsCut mark (codes "--x\n--x") (codes "--x\n") []) × ¬ (IsCut mark (codes "a--x") (codes "a") [])
+    × ¬ (IsCut mark (codes "a\n--x--") (codes "a\n") [])
+no_cuts = (
+  (λ cut. omega (arith, cut.first [] (codes "\n--x") line_ends.0 refl)),
+  (λ cut. omega (arith, same_Some 97 10 (cut.line (some_byte 97 [])))),
+  λ cut. omega (arith, ap length cut.whole),
+)
+
+-- ---- parts
+
+no_return : (line : List ℕ) → codes "a" ≢ line ++ codes "\r"
+no_return [] is = let byte : 97 ≡ 13 = ap byte_of is in omega (arith, byte)
+no_return (b ∷ line) is = omega (arith, simp length-append at (ap length is))
+
+parts_of_lines : IsPart [] [] × IsPart (codes "a\r\n") (codes "a") × IsPart (codes "a\n") (codes "a")
+parts_of_lines = (no_line, with_return (codes "a"), without_return (codes "a") no_return)
+
+-- the carriage return isn't the part's
+whole_line_end : (before part : List ℕ) → IsPart before part → before ≡ codes "a\r\n" → part ≢ codes "a\r"
+whole_line_end before part no_line is same = omega (arith, ap length is)
+whole_line_end before part (with_return _) is same = omega (arith, simp length-append at (ap length is), ap length same)
+whole_line_end before part (without_return _ none) is same = none (codes "a") same
+
+-- ---- bodies
+
+at_start : (rest : List ℕ) → IsCut mark (mark ++ rest) [] rest
+at_start rest = record { whole = refl; line = line_ends.0; first = λ earlier later ends is. omega arith }
+
+open_line : (text : List ℕ) → ¬ (Closes (10 ∷ text))
+open_line text closes = let byte : 10 ≡ 45 = ap byte_of closes.1 in omega (arith, byte)
+
+none_in_a : HasNoDelimiter mark (codes "a")
+none_in_a before after ends is = omega (arith, simp length-append at (ap length is))
+
+-- one with a part, one that is cut off in its part, and one without a delimiter
+whole_body : IsBody mark (codes "--x\na\n--x--") (codes "a" ∷ []) true
+whole_body =
+    after_preamble _ [] (codes "\na\n--x--") (codes "a" ∷ []) true (at_start (codes "\na\n--x--"))
+    (a_part (codes "\na\n--x--") (codes "a") (codes "--") [] true
+    (record {
+      line = [];
+      text = codes "a\n--x--";
+      before = codes "a\n";
+      is_open = open_line (codes "a\n--x--");
+      is_line = refl;
+      whole = refl;
+      cut = cut_after_a_line;
+      is_part = parts_of_lines.2;
+    })
+    (closed (codes "--") ([], refl)))
+
+cut_off_body : IsBody mark (codes "--x\na") [] false
+cut_off_body =
+    after_preamble _ [] (codes "\na") [] false (at_start (codes "\na"))
+    (cut_off (codes "\na") (record { is_open = open_line (codes "a"); alone = inr ([], codes "a", refl, refl, none_in_a) }))
+
+body_without_delimiter : IsBody mark (codes "a") [] false
+body_without_delimiter = no_delimiter (codes "a") none_in_a
+
+-- what follows a delimiter at the start of a body
+after_start : (body before after rest : List ℕ) → body ≡ mark ++ rest → IsCut mark body before after → after ≡ rest
+after_start body [] after rest is cut = ap (drop 3) (sym cut.whole ∙ is)
+after_start body (b ∷ before) after rest is cut = absurd (omega (arith, cut.first [] rest line_ends.0 is))
+
+-- `--x--` is whole and has no part,
+closed_at_once : (parts : List (List ℕ)) (is_whole : Bool) → IsBody mark (codes "--x--") parts is_whole → (parts ≡ []) × (is_whole ≡ true)
+closed_at_once parts is_whole (no_delimiter _ none) = absurd (none [] (codes "--") line_ends.0 refl)
+closed_at_once parts is_whole (after_preamble _ before after _ _ cut (closed _ closes)) = (refl, refl)
+closed_at_once parts is_whole (after_preamble _ before after _ _ cut (cut_off _ off)) =
+    absurd (off.is_open ([], after_start _ before after (codes "--") refl cut))
+closed_at_once parts is_whole (after_preamble _ before after _ _ cut (a_part _ part _ more _ next are)) =
+    absurd (next.is_open ([], after_start _ before after (codes "--") refl cut))
+
+-- and `--x` with a line after it isn't, and has none
+cut_off_at_once : (parts : List (List ℕ)) (is_whole : Bool) → IsBody mark (codes "--x\na") parts is_whole
+    → (parts ≡ []) × (is_whole ≡ false)
+cut_off_at_once parts is_whole (no_delimiter _ none) = absurd (none [] (codes "\na") line_ends.0 refl)
+cut_off_at_once parts is_whole (after_preamble _ before after _ _ cut (closed _ closes)) =
+    let byte : 10 ≡ 45 = ap byte_of (sym (after_start _ before after (codes "\na") refl cut) ∙ closes.1) in absurd (omega (arith, byte))
+cut_off_at_once parts is_whole (after_preamble _ before after _ _ cut (cut_off _ off)) = (refl, refl)
+cut_off_at_once parts is_whole (after_preamble _ before after _ _ cut (a_part _ part rest more _ next are)) =
+    let short = ap length (sym (after_start _ before after (codes "\na") refl cut) ∙ next.whole) in
+    let long = ap length next.cut.whole in
+    absurd (omega (arith, simp length-append at short, simp length-append at long))
+
+-- ---- fields
+
+-- a name in any case, and a value between white space
+field : IsField (codes "a") (codes "A: b ") (codes "b")
+field = record {
+  written = codes "A";
+  rest = codes " b ";
+  spelled = refl;
+  named = refl;
+  trimmed = (
+    1,
+    refl,
+    (λ i less. let first : i ≡ 0 = omega (arith, less) in rw first refl),
+    (λ _. refl),
+    (λ i least less. let last : i ≡ 1 = omega (arith, least, less) in rw last refl),
+    λ _. refl,
+  );
+}
+
+-- a name that goes on is another, and a line without a colon is no field
+longer_name : (written rest : List ℕ) → codes "ab:c" ≡ written ++ (codes ":" ++ rest) → length written ≢ 1
+longer_name [] rest is one = omega (arith, one)
+longer_name (b ∷ []) rest is one = let byte : 98 ≡ 58 = ap (λ it. byte_of (drop 1 it)) is in omega (arith, byte)
+longer_name (b ∷ c ∷ written) rest is one = omega (arith, one)
+
+no_field : (value : List ℕ) → ¬ (IsField (codes "a") (codes "ab:c") value)
+no_field value is = longer_name is.written is.rest is.spelled (sym (length-lowered is.written) ∙ ap length is.named)
+
+no_colon : (written rest : List ℕ) → codes "c" ≢ written ++ (codes ":" ++ rest)
+no_colon [] rest is = let byte : 99 ≡ 58 = ap byte_of is in omega (arith, byte)
+no_colon (b ∷ written) rest is = omega (arith, simp length-append at (ap length is))
+
+-- the first field of a header, and none after it
+first_field : IsFirstField (codes "a") (codes "c\nA: b \na:d\n") (Some (codes "b"))
+first_field =
+    after_line (codes "c") (codes "A: b \na:d\n") (Some (codes "b")) refl (λ value is. no_colon is.written is.rest is.spelled)
+    (λ is. ⊎_elim (λ none. omega (arith, ap length none)) (λ same. let byte : 99 ≡ 13 = ap byte_of same in omega (arith, byte)) is)
+    (in_line (codes "A: b ") (codes "a:d\n") (codes "b") refl field)
+
+begins_with_feed : (line more : List ℕ) → IsLine line → line ++ (10 ∷ more) ≡ codes "\nA: b\n" → line ≡ []
+begins_with_feed [] more is same = refl
+begins_with_feed (b ∷ line) more is same =
+    let feed : b ≡ 10 = ap byte_of same in
+    let isnt : list_all (λ b. not (b == 10)) (b ∷ line) ≡ false = rw feed refl in absurd (true≢false (sym is ∙ isnt))
+
+none_after_header : (text : List ℕ) (found : Option (List ℕ)) → IsFirstField (codes "a") text found → text ≡ codes "\nA: b\n" → found ≡ None
+none_after_header text found (in_line line more value is_line is) same =
+    absurd (omega (arith, simp length-append at (ap length (sym (begins_with_feed line more is_line same) ∙ is.spelled))))
+none_after_header text found (after_line line more _ is_line none full rest) same =
+    absurd (full (inl (begins_with_feed line more is_line same)))
+none_after_header text found (empty_line line more is_line is) same = refl
+none_after_header text found (no_line_end _ is_line) same = refl

@@ -1,0 +1,96 @@
+-- Values of Content-Disposition for which the words of the recipe hold, and others for which they don't.
+use Rattle.std.proofs.Common.{◌≡◌, ◌∙◌, ◌++◌, ◌∷◌, [], ℕ, List, Option, Some, None, false, length, length-append, refl, sym, ap, arith, codes}
+use Rattle.std.specs.Option.{option_map}
+use Rattle.std.specs.Str.{IsUtf8}
+use Rattle.std.proofs.lemmas.Option.{same_Some, none-some}
+use Rattle.mime.specs.Bytes.{is_token_byte, is_quoted_byte}
+use Rattle.mime.specs.Values.{MediaType}
+use Rattle.mime.proofs.HandedOut.{IsContent-taken, length-lowered}
+use Rattle.mime_http.specs.HttpMediaType.{HttpReads, with_token, with_string, no_more, semicolon_and}
+use Rattle.mime_http.specs.Unescaped.{unescaped}
+use Rattle.mime_examples.specs.Disposition.{FirstMeans, IsDisposition}
+
+-- a name with a quote in it, and a file's name
+abbrev pairs : List (List ℕ × List ℕ)
+pairs = (codes "name", codes "a\\\"b") ∷ (codes "filename", codes "c") ∷ []
+
+-- what parameters mean, by their names in any case, and that there is none
+meanings :
+    FirstMeans pairs (codes "name") (Some (codes "a\"b")) × FirstMeans pairs (codes "FILENAME") (Some (codes "c"))
+    × FirstMeans pairs (codes "nam") None
+meanings = (
+  (Some (codes "a\\\"b", false), ((λ _. refl), (λ other. absurd (other refl))), refl),
+  (Some (codes "c", false), ((λ same. absurd (omega (arith, ap length same))), λ _. ((λ _. refl), (λ other. absurd (other refl)))), refl),
+  (
+    None,
+    (
+      (λ same. absurd (omega (arith, ap length same))),
+      λ _. ((λ same. absurd (omega (arith, ap length same))), λ _. refl),
+    ),
+    refl,
+  ),
+)
+
+-- of what is there, not that there is none, and not with its backslash
+meant : (meaning : Option (List ℕ)) → FirstMeans pairs (codes "name") meaning → Some (codes "a\"b") ≡ meaning
+meant meaning is = sym (ap (option_map (λ value. unescaped value.0)) (is.1.0 refl)) ∙ is.2
+
+no_other_meaning : ¬ (FirstMeans pairs (codes "name") None) × ¬ (FirstMeans pairs (codes "name") (Some (codes "a\\\"b")))
+no_other_meaning = (
+  (λ is. none-some _ (sym (meant None is))),
+  λ is. omega (arith, ap length (same_Some _ _ (meant (Some (codes "a\\\"b")) is))),
+)
+
+-- a disposition with both
+media : MediaType
+media = record { essence = codes "x/form-data"; slash = 1; plus = None; pairs = pairs; kept = [] }
+
+read : HttpReads (codes "x/form-data; name=\"a\\\"b\";FileName=c") media
+unfolding media is_token_byte is_quoted_byte
+read = record {
+  before = [];
+  top = codes "x";
+  sub = codes "form-data";
+  parameters = codes "; name=\"a\\\"b\";FileName=c";
+  after = [];
+  spelled = refl;
+  white_before = refl;
+  is_top = refl;
+  is_sub = refl;
+  are_parameters =
+      semicolon_and [] (codes " ") (codes "name=\"a\\\"b\"") (codes ";FileName=c") (codes "name", codes "a\\\"b") _ refl refl
+      (with_string (codes "name") (codes "a\\\"b") refl (IsContent-taken (codes "a\\\"b") refl refl))
+      (semicolon_and [] [] (codes "FileName=c") [] (codes "filename", codes "c") [] refl refl
+      (with_token (codes "FileName") (codes "c") refl refl) no_more);
+  white_after = refl;
+  essence = refl;
+  slash = refl;
+  plus = refl;
+}
+
+disposition : IsUtf8 (codes "x/form-data; name=\"a\\\"b\";FileName=c")
+    → IsDisposition (codes "form-data; name=\"a\\\"b\";FileName=c") (codes "a\"b") (Some (codes "c"))
+unfolding media
+disposition utf8 = record {
+  media = media;
+  utf8 = utf8;
+  read = read;
+  form_data = refl;
+  field = meanings.0;
+  file = (
+    Some (codes "c", false),
+    ((λ same. absurd (omega (arith, ap length same))), λ _. ((λ _. refl), (λ other. absurd (other refl)))),
+    refl,
+  );
+}
+
+-- another disposition is none of a form, and neither is what isn't UTF-8
+not_a_forms : (name : List ℕ) (file_name : Option (List ℕ)) → ¬ (IsDisposition (codes "file") name file_name)
+not_a_forms name file_name is =
+    let said = simp (length-append, length-lowered) at (ap length (sym is.form_data ∙ is.read.essence)) in
+    let spelled = simp length-append at (ap length is.read.spelled) in
+    omega (arith, said, spelled)
+
+not_utf8 : ¬ (IsUtf8 (codes "x/" ++ (255 ∷ []))) → (name : List ℕ) (file_name : Option (List ℕ))
+    → ¬ (IsDisposition (255 ∷ []) name file_name)
+not_utf8 isnt name file_name is = isnt is.utf8

@@ -1,0 +1,3 @@
+-- the words of the recipes' clauses
+pub mod Disposition
+pub mod Multipart

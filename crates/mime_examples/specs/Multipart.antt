@@ -1,0 +1,83 @@
+-- The parts of a multipart body (RFC 2046, 5.1.1). A line ends with a line feed, with or without a carriage return before it. A delimiter is
+-- two hyphens and the boundary at the start of a line, and what follows it in its line counts for nothing.
+use Rattle.std.specs.Prelude.{◌≡◌, ◌≢◌, ◌⊎◌, ◌≤◌, ℕ, ◌-◌, Bool, true, false, List, [], ◌∷◌, ◌++◌, ◌==◌, Option, Some, None, IsTrue, not, codes, length, slice_get}
+use Rattle.std.specs.List.{list_all}
+use Rattle.std.specs.Str.{IsTrimAscii}
+use Rattle.mime.specs.Values.{lowered}
+
+-- bytes without a line feed
+abbrev pub IsLine : List ℕ → Type 0
+IsLine line = IsTrue (list_all (λ b. not (b == 10)) line)
+
+-- a line of nothing but a carriage return, or of nothing
+abbrev pub IsEmptyLine : List ℕ → Type 0
+IsEmptyLine line = (line ≡ []) ⊎ (line ≡ codes "\r")
+
+-- what follows these bytes begins a line: they are none, or end with a line feed
+abbrev pub EndsLine : List ℕ → Type 0
+EndsLine bytes = bytes ≢ [] → slice_get bytes (length bytes - 1) ≡ Some 10
+
+-- no line begins with the delimiter
+abbrev pub HasNoDelimiter : List ℕ → List ℕ → Type 0
+HasNoDelimiter delimiter text = (before after : List ℕ) → EndsLine before → text ≢ before ++ (delimiter ++ after)
+
+-- what stands before, and after, the first delimiter that begins a line
+pub record IsCut (delimiter text before after : List ℕ) : Type 0 where
+  pub whole : text ≡ before ++ (delimiter ++ after)
+  pub line : EndsLine before
+  pub first : (earlier later : List ℕ) → EndsLine earlier → text ≡ earlier ++ (delimiter ++ later) → length before ≤ length earlier
+
+-- the part in the bytes before a delimiter: the end of their last line belongs to the delimiter
+pub data IsPart : List ℕ → List ℕ → Type 0 where
+  no_line : IsPart [] []
+  with_return : (part : List ℕ) → IsPart (part ++ codes "\r\n") part
+  without_return : (part : List ℕ) → ((line : List ℕ) → part ≢ line ++ codes "\r") → IsPart (part ++ codes "\n") part
+
+-- with these bytes after it, a delimiter closes the body
+abbrev pub Closes : List ℕ → Type 0
+Closes after = (more : List ℕ) × (after ≡ codes "--" ++ more)
+
+-- the part between a delimiter, with these bytes after it, and the next delimiter, and what stands after that
+pub record IsNextPart (delimiter left part after : List ℕ) : Type 0 where
+  pub line : List ℕ
+  pub text : List ℕ
+  pub before : List ℕ
+  pub is_open : ¬ (Closes left)
+  pub is_line : IsLine line
+  pub whole : left ≡ line ++ (10 ∷ text)
+  pub cut : IsCut delimiter text before after
+  pub is_part : IsPart before part
+
+-- a delimiter, with these bytes after it, doesn't close the body, and no other one follows
+pub record IsCutOff (delimiter left : List ℕ) : Type 0 where
+  pub is_open : ¬ (Closes left)
+  pub alone : IsLine left ⊎ ((line text : List ℕ) × IsLine line × (left ≡ line ++ (10 ∷ text)) × HasNoDelimiter delimiter text)
+
+-- the parts after a delimiter, in their order, and whether a delimiter closes the body
+pub data AreParts (delimiter : List ℕ) : List ℕ → List (List ℕ) → Bool → Type 0 where
+  closed : (left : List ℕ) → Closes left → AreParts delimiter left [] true
+  cut_off : (left : List ℕ) → IsCutOff delimiter left → AreParts delimiter left [] false
+  a_part : (left part after : List ℕ) (parts : List (List ℕ)) (is_whole : Bool) → IsNextPart delimiter left part after
+      → AreParts delimiter after parts is_whole → AreParts delimiter left (part ∷ parts) is_whole
+
+-- those of a body; what stands before its first delimiter is no part
+pub data IsBody (delimiter : List ℕ) : List ℕ → List (List ℕ) → Bool → Type 0 where
+  no_delimiter : (body : List ℕ) → HasNoDelimiter delimiter body → IsBody delimiter body [] false
+  after_preamble : (body preamble after : List ℕ) (parts : List (List ℕ)) (is_whole : Bool) → IsCut delimiter body preamble after
+      → AreParts delimiter after parts is_whole → IsBody delimiter body parts is_whole
+
+-- a line of a part's header is a field of this name, in any case, and its value is this without the white space around it (RFC 5322, 2.2)
+pub record IsField (name line value : List ℕ) : Type 0 where
+  pub written : List ℕ
+  pub rest : List ℕ
+  pub spelled : line ≡ written ++ (codes ":" ++ rest)
+  pub named : lowered written ≡ lowered name
+  pub trimmed : IsTrimAscii rest value
+
+-- the value of the first field of this name in a part's header, if there is one; an empty line ends the header
+pub data IsFirstField (name : List ℕ) : List ℕ → Option (List ℕ) → Type 0 where
+  in_line : (line more value : List ℕ) → IsLine line → IsField name line value → IsFirstField name (line ++ (10 ∷ more)) (Some value)
+  after_line : (line more : List ℕ) (found : Option (List ℕ)) → IsLine line → ((value : List ℕ) → ¬ (IsField name line value))
+      → ¬ (IsEmptyLine line) → IsFirstField name more found → IsFirstField name (line ++ (10 ∷ more)) found
+  empty_line : (line more : List ℕ) → IsLine line → IsEmptyLine line → IsFirstField name (line ++ (10 ∷ more)) None
+  no_line_end : (line : List ℕ) → IsLine line → IsFirstField name line None

@@ -1,0 +1,63 @@
+//! The name of a form's field, and that of a file in it.
+
+ghost use Rattle.std.specs.Prelude.{ℕ, List, Option, IfOk, MatchOption, option_map};
+ghost use Rattle.std.specs.Vec.{vec_items};
+ghost use Rattle.mime_examples.specs.Disposition.{FirstMeans, IsDisposition};
+
+use mime::Mime;
+use mime_http::laws::one_http_reading;
+use mime_http::{FieldError, content_type, unescape};
+use std::alloc::{AllocError, Global};
+
+/// What the `Content-Disposition` of a part of a form says.
+#[derive(Drop)]
+pub struct Disposition {
+    /// The name of the field.
+    pub name: Vec<u8>,
+    /// The name of the file, as the client gives it: don't open it as a path. `None` if there is none.
+    pub file_name: Option<Vec<u8>>,
+}
+
+/// What the first parameter of a name means, if there is one.
+fn meaning(alloc: Global, mime: &Mime, name: &str) -> Result<Option<Vec<u8>>, AllocError>
+    ensures { IfOk result (λ answer. FirstMeans mime.now.media.pairs name.now (option_map vec_items answer)) }
+{
+    let Some(value) = mime.get_param(name) else {
+        return Ok(None);
+    };
+    let mut meaning = Vec::new(alloc);
+    unescape(value.as_str(), &mut meaning)?;
+    Ok(Some(meaning))
+}
+
+/// Reads the value of a `Content-Disposition` of a part of `multipart/form-data` (RFC 7578, 4.2), without white space before it:
+/// `form-data; name="field"; filename="a \"b\".txt"` names the field `field` and the file `a "b".txt`. `None` exactly if it isn't
+/// `form-data` with a `name`, and with parameters as HTTP writes them, in UTF-8. Of two parameters with a name the first counts.
+///
+/// Many clients write `%22` for a quote, which stays, and a parameter `filename*` isn't read.
+///
+/// # Errors
+/// `AllocError` if memory runs out.
+pub fn read_disposition(alloc: Global, value: &[u8]) -> Result<Option<Disposition>, AllocError>
+    ensures { IfOk result (λ answer. MatchOption answer
+        ((name : List ℕ) (file_name : Option (List ℕ)) → ¬ (IsDisposition value.now name file_name))
+        (λ found. IsDisposition value.now (vec_items found.name) (option_map vec_items found.file_name))) }
+{
+    // After `x/` a disposition with its parameters is a media type.
+    let mut text = b"x/".to_vec(alloc)?;
+    text.extend_from_slice(value)?;
+    let mime = match content_type(alloc, &text) {
+        Ok(mime) => mime,
+        Err(FieldError::NoMemory) => return Err(AllocError),
+        Err(_) => return Ok(None),
+    };
+    one_http_reading();
+    if mime.essence_str() != "x/form-data" {
+        return Ok(None);
+    }
+    let Some(name) = meaning(alloc, &mime, "name")? else {
+        return Ok(None);
+    };
+    let file_name = meaning(alloc, &mime, "filename")?;
+    Ok(Some(Disposition { name, file_name }))
+}

@@ -1,0 +1,193 @@
+-- What is printed of a value that the library reads: its essence if it has no parameters, else as many bytes as it has.
+use Rattle.mime_http.proofs.Common.{Err, HttpExplains, HttpReads, IfErr, IsAccepted, IsHttpMediaType, IsPrinted, IsUtf8, IsUtf8-nil, List, MediaType, NeedsMemory, Parameters, Ok, Parts, Reads, Result, SyntaxTree, Tail, [], anew, answer_of, ap, append-nil, arith, as_it_stands, blank, codes, essence_of, is_token_byte, final, inl, inr, kept_text, length, length-append, listed, lowered_list, lowered_tail, lowered_tree, media_of, more, no_list, one_reading, pairs_of_tail, plain, quoted, read, subst, sym, refl, take, take-append_seam, take-length, text_of, text_of_list, text_of_pairs, text_of_parts, trimmed, value_of, with_pairs, ℕ, ⊎_elim, ◌++◌, ◌+◌, ◌<◌, ◌≤◌, ◌∙◌, ◌∷◌, ◌≡◌, ◌⊎◌}
+use Rattle.std.specs.Prelude.{IsOk}
+use Rattle.mime_http.specs.declared.value.FieldError.{FieldError}
+use Rattle.mime_http.specs.declared.value.FieldError.TheVariants.{NotUtf8, Invalid}
+use Rattle.mime_http.specs.declared.value.FieldError.TheVariants as field
+use Rattle.mime_http.proofs.Around.{reads_around}
+use Rattle.mime_http.proofs.HttpText.{put_ascii}
+use Rattle.mime_http.proofs.HttpLaws.{one_printed_text}
+use Rattle.mime_http.proofs.ReadFaults.{no_fault}
+use Rattle.mime_http.proofs.PlainIsHttp.{plain_is_http}
+use Rattle.mime_http.proofs.ReadAnew.{written_is_utf8, written_length, written_reads}
+use Rattle.mime_http.proofs.ReadBack.{answered_is_http}
+use Rattle.mime_http.proofs.ReadForth.{http_is_answered}
+use Rattle.mime_http.proofs.Written.{lengths}
+
+-- ---- what the library keeps
+
+-- a text without parameters is kept as its essence,
+kept_without : (text : List ℕ) (media : MediaType) → Reads text media → media.pairs ≡ [] → media.kept ≡ media.essence
+kept_without text media reads =
+    subst (λ (v : MediaType). v.pairs ≡ [] → v.kept ≡ v.essence) reads.valued (go (pairs_of_tail (lowered_tail reads.tree.tail)))
+  where
+    go : (pairs : List (List ℕ × List ℕ)) → pairs ≡ [] → kept_text pairs (lowered_tree reads.tree) ≡ essence_of (lowered_tree reads.tree)
+    go [] none = refl
+    go (pair ∷ pairs) none = absurd cc
+
+-- in lowercase a list takes as many bytes,
+length_list : (list : Parameters) → length (text_of_list (lowered_list list)) ≡ length (text_of_list list)
+length_list (blank n) = refl
+length_list (final n (plain name value)) = simp lengths
+length_list (final n (quoted name content m)) = simp lengths
+length_list (more n (plain name value) rest) = simp (lengths, length_list rest)
+length_list (more n (quoted name content m) rest) = simp (lengths, length_list rest)
+
+-- so one with parameters is kept with all its bytes
+kept_with : (text : List ℕ) (media : MediaType) → Reads text media → (media.pairs ≡ []) ⊎ (length media.kept ≡ length text)
+kept_with text media reads =
+    subst (λ (v : MediaType). (v.pairs ≡ []) ⊎ (length v.kept ≡ length text)) reads.valued (go reads.tree.tail refl)
+  where
+    whole : (list : Parameters) → reads.tree.tail ≡ listed list → length (text_of (lowered_tree reads.tree)) ≡ length text
+    whole list is = (rw is (simp (lengths, length_list list))) ∙ ap length reads.spelled
+
+    go : (tail : Tail) → reads.tree.tail ≡ tail → ((value_of reads.tree).pairs ≡ []) ⊎ (length (value_of reads.tree).kept ≡ length text)
+    go no_list is = inl (rw is refl)
+    go (listed (blank n)) is = inl (rw is refl)
+    go (listed (final n parameter)) is =
+        let kept : (value_of reads.tree).kept ≡ text_of (lowered_tree reads.tree) = rw is refl in
+        inr (ap length kept ∙ whole (final n parameter) is)
+    go (listed (more n parameter rest)) is =
+        let kept : (value_of reads.tree).kept ≡ text_of (lowered_tree reads.tree) = rw is refl in
+        inr (ap length kept ∙ whole (more n parameter rest) is)
+
+-- ---- what is written anew
+
+-- a value that the library reads is written anew as the same, but for the kept text
+anew_is : (value : List ℕ) (media : MediaType) (parts : Parts) → Reads (trimmed value) media → answer_of value ≡ read parts
+    → media_of parts ≡ with_pairs media media.pairs
+anew_is value media parts reads answered =
+    let found = http_is_answered value media (reads_around value media (plain_is_http (trimmed value) media reads)) in
+    let same : found.0 ≡ parts = cc (found.1, answered) in
+    subst (λ it. media_of it ≡ with_pairs media media.pairs) same found.2
+
+length-anew : (value : List ℕ) (media : MediaType) (parts : Parts) → Reads (trimmed value) media → answer_of value ≡ read parts
+    → length (text_of_parts parts) ≡ length media.essence + length (text_of_pairs media.pairs)
+length-anew value media parts reads answered =
+    sym (written_length parts) ∙ ap (λ (it : MediaType). length it.kept) (anew_is value media parts reads answered)
+    ∙ length-append media.essence (text_of_pairs media.pairs)
+
+-- pairs that take no bytes are none
+no_pairs : (pairs : List (List ℕ × List ℕ)) → length (text_of_pairs pairs) ≡ 0 → pairs ≡ []
+no_pairs [] none = refl
+no_pairs ((name, value) ∷ pairs) none = absurd (omega (arith, none))
+
+-- if that is the essence alone, it is the same,
+pub essence_alone : (value : List ℕ) (media : MediaType) (parts : Parts) → Reads (trimmed value) media → answer_of value ≡ read parts
+    → length (text_of_parts parts) ≤ length media.essence → media_of parts ≡ media
+essence_alone value media parts reads answered all =
+    let none = no_pairs media.pairs (omega (arith, all, length-anew value media parts reads answered)) in
+    let kept = append-nil media.essence ∙ sym (kept_without (trimmed value) media reads none) in
+    anew_is value media parts reads answered
+    ∙ ap (λ pairs. record media { kept = media.essence ++ text_of_pairs pairs }) none ∙ ap (λ it. record media { kept = it }) kept
+
+-- and if it is more, or is long, a long value is printed with many bytes
+pub many_kept : (value : List ℕ) (media : MediaType) (parts : Parts) → Reads (trimmed value) media → answer_of value ≡ read parts
+    → 40 < length (trimmed value) → (40 < length (text_of_parts parts)) ⊎ (length media.essence < length (text_of_parts parts))
+    → 40 < length media.kept
+many_kept value media parts reads answered long either = ⊎_elim
+    (λ none.
+    let kept = ap length (kept_without (trimmed value) media reads none) in
+    let nothing : length (text_of_pairs media.pairs) ≡ 0 = ap (λ pairs. length (text_of_pairs pairs)) none in
+    let few = length-anew value media parts reads answered in
+    ⊎_elim (λ many. omega (arith, kept, few, nothing, many)) (λ less. absurd (omega (arith, few, nothing, less))) either)
+    (λ whole. omega (arith, whole, long))
+    (kept_with (trimmed value) media reads)
+
+-- ---- what is read of it
+
+-- what is written anew of a value is a text that the library reads as the value's media type
+pub anew_is_utf8 : {value bytes text : List ℕ} (parts : Parts) → bytes ≡ value → IsUtf8 value → answer_of bytes ≡ read parts
+    → text ≡ text_of_parts parts → IsUtf8 text
+anew_is_utf8 {value} parts same utf8 answered is =
+    subst IsUtf8 (sym is) (written_is_utf8 value parts utf8 (ap answer_of (sym same) ∙ answered))
+
+pub anew_reads : (bytes : List ℕ) {text : List ℕ} (parts : Parts) → answer_of bytes ≡ read parts → text ≡ text_of_parts parts
+    → Reads text (media_of parts)
+anew_reads bytes parts answered is = subst (λ t. Reads t (media_of parts)) (sym is) (written_reads bytes parts answered)
+
+pub read_anew_is : (bytes : List ℕ) {text : List ℕ} {media : MediaType} (parts : Parts) → answer_of bytes ≡ read parts → text ≡ text_of_parts parts
+    → Reads text media → media ≡ media_of parts
+read_anew_is bytes {text} {media} parts answered is reads =
+    one_reading text media (media_of parts) reads (anew_reads bytes parts answered is)
+
+-- a room of as many bytes as are written holds them
+pub room_is : (room rest text : List ℕ) (size len : ℕ) → length room ≡ size → len ≡ size → take len room ≡ text → take size (room ++ rest) ≡ text
+room_is room rest text size len same all copied =
+    ap (λ n. take n (room ++ rest)) (sym same) ∙ take-append_seam room rest ∙ sym (take-length room)
+    ∙ ap (λ n. take n room) (same ∙ sym all) ∙ copied
+
+-- that is printed of a value that the library rejects without the white space around it
+pub printed_anew : {value bytes : List ℕ} {media : MediaType} (parts : Parts) → bytes ≡ value → answer_of bytes ≡ read parts
+    → ¬ (IsAccepted (trimmed value)) → media ≡ media_of parts → HttpReads value media × IsPrinted value media
+printed_anew {value} {media = media} parts same answered isnt is =
+    let reads = answered_is_http value parts (ap answer_of (sym same) ∙ answered) in
+    subst (λ m. HttpReads value m × IsPrinted value m) (sym is) (reads, anew value (media_of parts) isnt refl)
+
+pub anew_needs : {value bytes : List ℕ} (parts : Parts) → bytes ≡ value → answer_of bytes ≡ read parts → ¬ (IsAccepted (trimmed value))
+    → 40 < length (text_of_parts parts) → NeedsMemory value
+anew_needs {value} {bytes} parts same answered isnt long =
+    let it = printed_anew {value = value} {media = media_of parts} parts same answered isnt refl in
+    record { media = media_of parts; is = it.0; printed = it.1; long = omega (arith, long, written_length parts) }
+
+-- and of one that it accepts what it keeps
+pub stands_needs : {value bytes : List ℕ} (parts : Parts) → bytes ≡ value → answer_of bytes ≡ read parts
+    → (accepted : IsAccepted (trimmed value)) → 40 < length (trimmed value)
+    → (40 < length (text_of_parts parts)) ⊎ (length (media_of parts).essence < length (text_of_parts parts)) → NeedsMemory value
+stands_needs {value} parts same answered (media, reads) long either =
+    let here = ap answer_of (sym same) ∙ answered in
+    let essence = ap (λ (it : MediaType). length it.essence) (anew_is value media parts reads here) in record {
+      media = media;
+      is = reads_around value media (plain_is_http (trimmed value) media reads);
+      printed = as_it_stands value media reads;
+      long = many_kept value media parts reads here long (⊎_elim inl (λ less. inr (omega (arith, less, essence))) either);
+    }
+
+pub stands_printed : {value bytes : List ℕ} {media : MediaType} (parts : Parts) → bytes ≡ value → answer_of bytes ≡ read parts
+    → IsAccepted (trimmed value) → media ≡ media_of parts → length (text_of_parts parts) ≤ length media.essence
+    → HttpReads value media × IsPrinted value media
+stands_printed {value} {media = media} parts same answered (found, reads) is few =
+    let here = ap answer_of (sym same) ∙ answered in
+    let essence = ap (λ (it : MediaType). length it.essence) (is ∙ anew_is value found parts reads here) in
+    let all = essence_alone value found parts reads here (omega (arith, few, essence)) in
+    subst (λ m. HttpReads value m × IsPrinted value m) (sym (is ∙ all))
+    (reads_around value found (plain_is_http (trimmed value) found reads), as_it_stands value found reads)
+
+-- ---- errors
+
+-- Of a media type the error is want of memory,
+pub error_is_memory : (value : List ℕ) (error : FieldError) → IsUtf8 value → IsHttpMediaType value → HttpExplains value error
+    → error ≡ field.NoMemory
+error_is_memory value (NotUtf8 pos) utf8 is why = absurd (why.0 utf8)
+error_is_memory value (Invalid fault) utf8 is why = absurd (no_fault value fault is why.1)
+error_is_memory value field.NoMemory utf8 is why = refl
+
+-- and there is none if at most 40 bytes of it are printed.
+pub short_has_none : {T : Type 0} (value : List ℕ) (media : MediaType) → IsUtf8 value → HttpReads value media → IsPrinted value media
+    → length media.kept ≤ 40 → (result : Result T FieldError) → IfErr result (HttpExplains value) → IsOk result
+short_has_none value media utf8 reads printed few (Ok mime) explained = refl
+short_has_none value media utf8 reads printed few (Err (NotUtf8 pos)) why = absurd (why.0 utf8)
+short_has_none value media utf8 reads printed few (Err (Invalid fault)) why = absurd (no_fault value fault (media, reads) why.1)
+short_has_none value media utf8 reads printed few (Err field.NoMemory) why =
+    let needs = why.1 in
+    let same = one_printed_text value media needs.media reads printed needs.is needs.printed in
+    absurd (omega (arith, few, needs.long, ap (λ (it : MediaType). length it.kept) same))
+
+-- Of `*/*` three bytes are printed.
+pub star_has_none : {T : Type 0} (value : List ℕ) → value ≡ codes "*/*" → IsUtf8 value × ((result : Result T FieldError)
+    → IfErr result (HttpExplains value) → IsOk result)
+unfolding is_token_byte
+star_has_none {T} value is = subst (λ v. IsUtf8 v × ((result : Result T FieldError) → IfErr result (HttpExplains v) → IsOk result)) (sym is)
+    (utf8, short_has_none star (value_of tree) utf8 (plain_is_http star _ reads) (as_it_stands star _ reads) (omega arith))
+  where
+    star : List ℕ
+    star = codes "*/*"
+
+    tree : SyntaxTree
+    tree = record { top = codes "*"; sub = codes "*"; tail = no_list }
+
+    reads : Reads star (value_of tree)
+    reads = record { tree = tree; well_formed = (refl, refl, tt); spelled = refl; valued = refl }
+
+    utf8 : IsUtf8 star
+    utf8 = put_ascii star [] (omega arith) IsUtf8-nil

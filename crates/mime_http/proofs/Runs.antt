@@ -1,0 +1,161 @@
+-- How reading goes on over white space, over a token, and over quoted content.
+use Rattle.mime_http.proofs.Common.{AreSpaces, AreTokenBytes, Bool, InvalidToken, IsContent, IsToken, List, None, Parts, Some, State, [], after_backslash, after_semicolon, and_from, and_parts, ap, append-nil, append_assoc, ap₂, answer_from, arith, before_semicolon, before_type, in_name, in_string, in_subtype, in_type, in_value, is_quoted_byte, is_space, is_token_byte, length, list_all, list_all-append, nat_tests, next, no_byte, quoted_pair, refl, rejected, sym, text_byte, true, false, with_parameter, ℕ, ⊤, ◌++◌, ◌+◌, ◌∙◌, ◌∷◌, ◌≡◌}
+
+-- how joined lists are grouped, for `simp`, which doesn't compute a list with a first byte
+pub regrouping-cons : (b : ℕ) (xs ys : List ℕ) → (b ∷ xs) ++ ys ≡ b ∷ (xs ++ ys)
+regrouping-cons b xs ys = refl
+
+pub ruleset regrouping = (append_assoc, append-nil, regrouping-cons)
+
+-- white space after white space is white space
+pub spaces-append : (n m : List ℕ) → AreSpaces n → AreSpaces m → AreSpaces (n ++ m)
+spaces-append n m first second = list_all-append is_space n m ∙ and_from _ _ first second
+
+-- the same state at the same position
+same_from : (bytes : List ℕ) {state other : State} {at to : ℕ} → state ≡ other → at ≡ to
+    → answer_from state at bytes ≡ answer_from other to bytes
+same_from bytes same there = ap₂ (λ s n. answer_from s n bytes) same there
+
+-- a byte that leads to a state
+pub one_byte : (state after : State) (at b : ℕ) (bytes : List ℕ) → next state b ≡ Some after
+    → answer_from state at (b ∷ bytes) ≡ answer_from after (at + 1) bytes
+one_byte state after at b bytes goes = rw goes refl
+
+-- A byte that leads nowhere is the fault.
+pub no_way : (state : State) (at b : ℕ) (bytes : List ℕ) → next state b ≡ None
+    → answer_from state at (b ∷ bytes) ≡ rejected (InvalidToken at b)
+no_way state at b bytes stops = rw stops refl
+
+-- bytes of a class of which each goes on what was read
+goes_on : (class : ℕ → Bool) (state : List ℕ → State)
+    → ((done : List ℕ) (b : ℕ) → class b ≡ true → next (state done) b ≡ Some (state (done ++ (b ∷ []))))
+    → (run : List ℕ) → list_all class run ≡ true → (done : List ℕ) (at : ℕ) (bytes : List ℕ)
+    → answer_from (state done) at (run ++ bytes) ≡ answer_from (state (done ++ run)) (at + length run) bytes
+goes_on class state goes [] all done at bytes = same_from bytes (ap state (sym (append-nil done))) (omega arith)
+goes_on class state goes (b ∷ run) all done at bytes =
+    let parts = and_parts (class b) _ all in
+    one_byte (state done) (state (done ++ (b ∷ []))) at b (run ++ bytes) (goes done b parts.0)
+    ∙ goes_on class state goes run parts.1 (done ++ (b ∷ [])) (at + 1) bytes
+    ∙ same_from bytes (ap state (append_assoc done (b ∷ []) run)) (omega arith)
+
+-- ---- white space
+
+-- a space leads on from a state to itself
+abbrev KeepsSpace : State → Type 0
+KeepsSpace state = (b : ℕ) → is_space b ≡ true → next state b ≡ Some state
+
+over_white : (state : State) → KeepsSpace state → (white : List ℕ) → AreSpaces white → (at : ℕ) (bytes : List ℕ)
+    → answer_from state at (white ++ bytes) ≡ answer_from state (at + length white) bytes
+over_white state keeps white all at bytes = goes_on is_space (λ done. state) (λ done. keeps) white all [] at bytes
+
+-- White space before the type,
+pub white_before : (white : List ℕ) → AreSpaces white → (at : ℕ) (bytes : List ℕ)
+    → answer_from before_type at (white ++ bytes) ≡ answer_from before_type (at + length white) bytes
+white_before = over_white before_type (λ b is. rw is refl)
+
+-- before a semicolon or the end,
+pub white_after : (parts : Parts) (white : List ℕ) → AreSpaces white → (at : ℕ) (bytes : List ℕ)
+    → answer_from (before_semicolon parts) at (white ++ bytes) ≡ answer_from (before_semicolon parts) (at + length white) bytes
+white_after parts = over_white (before_semicolon parts) (λ b is. rw is refl)
+
+-- a space is no token byte
+pub space_is_no_token : (b : ℕ) → is_space b ≡ true → is_token_byte b ≡ false
+unfolding is_token_byte
+space_is_no_token b is = grind (arith, nat_tests)
+
+-- and after one.
+pub white_inside : (parts : Parts) (white : List ℕ) → AreSpaces white → (at : ℕ) (bytes : List ℕ)
+    → answer_from (after_semicolon parts) at (white ++ bytes) ≡ answer_from (after_semicolon parts) (at + length white) bytes
+white_inside parts = over_white (after_semicolon parts) (λ b is. rw (space_is_no_token b is, is) refl)
+
+-- ---- tokens
+
+-- Token bytes go on the type,
+pub on_type : (run : List ℕ) → AreTokenBytes run → (top : List ℕ) (at : ℕ) (bytes : List ℕ)
+    → answer_from (in_type top) at (run ++ bytes) ≡ answer_from (in_type (top ++ run)) (at + length run) bytes
+on_type = goes_on is_token_byte in_type (λ done b is. rw is refl)
+
+-- the subtype,
+pub on_subtype : (top run : List ℕ) → AreTokenBytes run → (sub : List ℕ) (at : ℕ) (bytes : List ℕ)
+    → answer_from (in_subtype top sub) at (run ++ bytes) ≡ answer_from (in_subtype top (sub ++ run)) (at + length run) bytes
+on_subtype top = goes_on is_token_byte (in_subtype top) goes
+  where
+    goes : (done : List ℕ) (b : ℕ) → is_token_byte b ≡ true → next (in_subtype top done) b ≡ Some (in_subtype top (done ++ (b ∷ [])))
+    goes [] b is = rw is refl
+    goes (s ∷ sub) b is = rw is refl
+
+-- a parameter's name,
+pub on_name : (parts : Parts) (run : List ℕ) → AreTokenBytes run → (name : List ℕ) (at : ℕ) (bytes : List ℕ)
+    → answer_from (in_name parts name) at (run ++ bytes) ≡ answer_from (in_name parts (name ++ run)) (at + length run) bytes
+on_name parts = goes_on is_token_byte (in_name parts) (λ done b is. rw is refl)
+
+-- and its value.
+pub on_value : (parts : Parts) (name run : List ℕ) → AreTokenBytes run → (value : List ℕ) (at : ℕ) (bytes : List ℕ)
+    → answer_from (in_value parts name value) at (run ++ bytes) ≡ answer_from (in_value parts name (value ++ run)) (at + length run) bytes
+on_value parts name = goes_on is_token_byte (in_value parts name) goes
+  where
+    goes : (done : List ℕ) (b : ℕ) → is_token_byte b ≡ true
+        → next (in_value parts name done) b ≡ Some (in_value parts name (done ++ (b ∷ [])))
+    goes [] b is = rw is refl
+    goes (v ∷ value) b is = rw is refl
+
+-- a token byte is no space
+pub token_is_no_space : (b : ℕ) → is_token_byte b ≡ true → is_space b ≡ false
+unfolding is_token_byte
+token_is_no_space b is = grind (arith, nat_tests)
+
+-- A token begins the type,
+pub type_begins : (token : List ℕ) → IsToken token → (at : ℕ) (bytes : List ℕ)
+    → answer_from before_type at (token ++ bytes) ≡ answer_from (in_type token) (at + length token) bytes
+type_begins [] is at bytes = absurd is
+type_begins (b ∷ token) is at bytes =
+    let parts = and_parts (is_token_byte b) _ is in
+    one_byte before_type (in_type (b ∷ [])) at b (token ++ bytes) (rw (token_is_no_space b parts.0, parts.0) refl)
+    ∙ on_type token parts.1 (b ∷ []) (at + 1) bytes ∙ same_from bytes refl (omega arith)
+
+-- and a parameter's name.
+pub name_begins : (parts : Parts) (token : List ℕ) → IsToken token → (at : ℕ) (bytes : List ℕ)
+    → answer_from (after_semicolon parts) at (token ++ bytes) ≡ answer_from (in_name parts token) (at + length token) bytes
+name_begins parts [] is at bytes = absurd is
+name_begins parts (b ∷ token) is at bytes =
+    let here = and_parts (is_token_byte b) _ is in
+    one_byte (after_semicolon parts) (in_name parts (b ∷ [])) at b (token ++ bytes) (rw here.0 refl)
+    ∙ on_name parts token here.1 (b ∷ []) (at + 1) bytes ∙ same_from bytes refl (omega arith)
+
+-- ---- the end of a token
+
+-- bytes that don't go on a token
+abbrev pub EndsToken : List ℕ → Type 0
+EndsToken [] = ⊤
+EndsToken (b ∷ bytes) = is_token_byte b ≡ false
+
+-- After a subtype that ends reading goes on as after the parts so far,
+pub subtype_ends : (top sub : List ℕ) → IsToken sub → (at : ℕ) (bytes : List ℕ) → EndsToken bytes
+    → answer_from (in_subtype top sub) at bytes ≡ answer_from (before_semicolon (record { top = top; sub = sub; pairs = [] })) at bytes
+subtype_ends top [] is at bytes ends = absurd is
+subtype_ends top (s ∷ sub) is at [] ends = refl
+subtype_ends top (s ∷ sub) is at (b ∷ bytes) ends = rw ends refl
+
+-- and so after a value.
+pub value_ends : (parts : Parts) (name value : List ℕ) → IsToken value → (at : ℕ) (bytes : List ℕ) → EndsToken bytes
+    → answer_from (in_value parts name value) at bytes ≡ answer_from (before_semicolon (with_parameter parts name value)) at bytes
+value_ends parts name [] is at bytes ends = absurd is
+value_ends parts name (v ∷ value) is at [] ends = refl
+value_ends parts name (v ∷ value) is at (b ∷ bytes) ends = rw ends refl
+
+-- ---- quoted content
+
+-- Quoted content goes on what was read of one.
+pub on_content : {content : List ℕ} → IsContent content → (parts : Parts) (name done : List ℕ) (at : ℕ) (bytes : List ℕ)
+    → answer_from (in_string parts name done) at (content ++ bytes)
+    ≡ answer_from (in_string parts name (done ++ content)) (at + length content) bytes
+unfolding is_quoted_byte
+on_content no_byte parts name done at bytes = same_from bytes (ap (in_string parts name) (sym (append-nil done))) (omega arith)
+on_content (text_byte b content is rest) parts name done at bytes =
+    one_byte (in_string parts name done) (in_string parts name (done ++ (b ∷ []))) at b (content ++ bytes) (rw is refl)
+    ∙ on_content rest parts name (done ++ (b ∷ [])) (at + 1) bytes
+    ∙ same_from bytes (ap (in_string parts name) (append_assoc done (b ∷ []) content)) (omega arith)
+on_content (quoted_pair b content is rest) parts name done at bytes =
+    one_byte (after_backslash parts name done) (in_string parts name (done ++ (92 ∷ b ∷ []))) (at + 1) b (content ++ bytes) (rw is refl)
+    ∙ on_content rest parts name (done ++ (92 ∷ b ∷ [])) (at + 1 + 1) bytes
+    ∙ same_from bytes (ap (in_string parts name) (append_assoc done (92 ∷ b ∷ []) content)) (omega arith)

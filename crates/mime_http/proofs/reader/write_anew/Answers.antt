@@ -1,0 +1,84 @@
+-- The essence is written, and then each parameter that is read, up to a fault or the end.
+use Rattle.mime_http.proofs.Common.{Holds, IsEssenceAt, List, Parts, after_semicolon, answer_at, answer_of, ap, append-nil, arith, before_semicolon, is_space, is_token_byte, length, refl, rejected, run_end, slice_index, slice_range, subst, sym, take, text_of_pair, text_of_parts, with_parameter, [], ℕ, ◌*◌, ◌+◌, ◌++◌, ◌-◌, ◌<◌, ◌∙◌, ◌∷◌, ◌≡◌, ◌≤◌}
+use Rattle.mime_http.proofs.ReadAt.{length-part, nothing_between, one_written, over_semicolon, over_white_after, over_white_inside, run_is}
+use Rattle.mime_http.proofs.reader.write_anew.Goals as goal
+
+-- up to what follows the white space after a semicolon
+to_next : (parts : Parts) (value : List ℕ) (at next : ℕ) → answer_of value ≡ answer_at value (before_semicolon parts) at
+    → at < length value → slice_index value at ≡ 59 → next ≡ run_end is_space value (at + 1) → next ≤ length value
+    → answer_of value ≡ answer_at value (after_semicolon parts) next
+to_next parts value at next so_far within is end most =
+    so_far ∙ over_semicolon parts value at within is
+    ∙ over_white_inside parts value (at + 1) next (run_is is_space value (at + 1) next end) most
+
+pub loop-at-init : goal.loop-at-init
+loop-at-init c =
+    let value = c.args.value.now in
+    let ends = c.in-Ok.essence in
+    let is : IsEssenceAt value ends.0 ends.1 = c.in-Ok.ensures in
+    let parts : Parts = record { top = is.top; sub = is.sub; pairs = [] } in
+    let at = c.spaces_end-at in
+    let white = run_is is_space value ends.1 at.result at.ensures.end in
+    let nothing : Holds c.args.room.now 0 [] = record { long = refl; held = λ fits. refl } in
+    let text : slice_range value ends.0 ends.1 ≡ text_of_parts parts =
+    sym is.written ∙ ap (λ sub. is.top ++ (47 ∷ sub)) (sym (append-nil is.sub)) in
+    record {
+      parts = parts;
+      read = is.read ∙ over_white_after parts value ends.1 at.result white at.ensures.within;
+      holds = subst (Holds c.put-len.new.room c.put-len.result) text (c.put-len.ensures.holds [] nothing);
+      within = at.ensures.within;
+      other = white.stops;
+      few = omega (arith, c.put-len.ensures.len, length-part value ends.0 ends.1 is.within, white.least);
+      room = c.put-len.ensures.room;
+    }
+
+pub returns-in-Err-parameter_at-clause-answer : goal.returns-in-Err-parameter_at-clause-answer
+returns-in-Err-parameter_at-clause-answer c =
+    let keeps = c.loop-at.invariant in
+    let next = c.spaces_end-at-in-loop-at in
+    let sign = c.is_at.ensures.yes c.loop-at-test.true in
+    to_next keeps.parts c.args.value.now c.loop-at.at next.result keeps.read sign.0 sign.1 next.ensures.end next.ensures.within
+    ∙ c.in-Err-parameter_at.ensures keeps.parts
+
+pub loop-at-preserved-then-is_token_at : goal.loop-at-preserved-then-is_token_at
+loop-at-preserved-then-is_token_at c =
+    let value = c.args.value.now in
+    let keeps = c.loop-at.invariant in
+    let next = c.spaces_end-at-in-loop-at in
+    let sign = c.is_at.ensures.yes c.loop-at-test.true in
+    let is = c.in-Ok-parameter_at.ensures in
+    let spans = c.in-Ok-parameter_at.spans in
+    let parts : Parts = with_parameter keeps.parts is.name is.content in
+    let at = c.spaces_end-at-then-is_token_at in
+    let inside = run_is is_space value (c.loop-at.at + 1) next.result next.ensures.end in
+    let white = run_is is_space value spans.end at.result at.ensures.end in
+    let put = c.put_parameter-len in
+    let text = ap (λ xs. text_of_parts keeps.parts ++ xs) (sym is.written) ∙ one_written keeps.parts is.name is.content in
+    record {
+      parts = parts;
+      read = to_next keeps.parts value c.loop-at.at next.result keeps.read sign.0 sign.1 next.ensures.end next.ensures.within
+          ∙ is.read keeps.parts ∙ over_white_after parts value spans.end at.result white at.ensures.within;
+      holds = subst (Holds put.new.room put.result) text (put.ensures.holds (text_of_parts keeps.parts) keeps.holds);
+      within = at.ensures.within;
+      other = white.stops;
+      few = omega (arith, keeps.few, put.ensures.len, inside.least, white.least, is.most, is.least, is.apart, is.some);
+      room = put.ensures.room ∙ keeps.room;
+    }
+
+pub loop-at-preserved : goal.loop-at-preserved
+loop-at-preserved c =
+    let value = c.args.value.now in
+    let keeps = c.loop-at.invariant in
+    let next = c.spaces_end-at-in-loop-at in
+    let sign = c.is_at.ensures.yes c.loop-at-test.true in
+    let inside = run_is is_space value (c.loop-at.at + 1) next.result next.ensures.end in
+    record {
+      parts = keeps.parts;
+      read = to_next keeps.parts value c.loop-at.at next.result keeps.read sign.0 sign.1 next.ensures.end next.ensures.within
+          ∙ nothing_between keeps.parts value next.result inside.stops (c.is_token_at.ensures.no c.if-is_token_at.false);
+      holds = keeps.holds;
+      within = next.ensures.within;
+      other = inside.stops;
+      few = omega (arith, keeps.few, inside.least);
+      room = keeps.room;
+    }

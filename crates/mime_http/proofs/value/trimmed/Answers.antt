@@ -1,0 +1,9 @@
+-- White space at the ends leaves UTF-8.
+use Rattle.mime_http.proofs.Common.{IsUtf8, ap, rules, subst, sym, trim_end, trim_start, trimmed, ◌∙◌, ◌≡◌}
+use Rattle.mime_http.proofs.Around.{utf8_trimmed}
+use Rattle.mime_http.proofs.value.trimmed.Goals as goal
+
+pub from_utf8_unchecked-requires : goal.from_utf8_unchecked-requires
+from_utf8_unchecked-requires c =
+    let left : c.trim_end-left.result.now ≡ trimmed c.args.text.now = search rules in
+    subst IsUtf8 (sym left) (utf8_trimmed c.args.text.now c.utf8.text)

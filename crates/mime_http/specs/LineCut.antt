@@ -1,0 +1,67 @@
+-- Private: the places of a line, its cut as a function over them, and what is kept of its pieces.
+use Rattle.std.specs.Prelude.{◌≡◌, ◌<◌, ◌≤◌, ◌||◌, ℕ, Bool, true, false, List, [], ◌∷◌, ◌++◌, length, slice_index, if◌then◌else◌, ◌==◌}
+use Rattle.mime.specs.Bytes.{comma_byte, equals_byte, quote_byte, backslash_byte}
+use Rattle.mime_http.specs.HttpList.{AreSorted, Header}
+
+-- where in a line the next byte is: outside strings, right after an equals sign outside strings, in a string, and right after a
+-- backslash in a string
+pub data At : Type 0 where
+  Outside : At
+  Equals : At
+  Quoted : At
+  Paired : At
+
+-- the place after a byte outside strings
+abbrev pub after_outside : ℕ → At
+after_outside b = if b == equals_byte then Equals else Outside
+
+-- the place after a byte
+abbrev pub after : At → ℕ → At
+after Outside b = after_outside b
+after Equals b = if b == quote_byte then Quoted else after_outside b
+after Quoted b = if b == backslash_byte then Paired else if b == quote_byte then Outside else Quoted
+after Paired b = Quoted
+
+-- whether a byte ends a piece
+abbrev pub ends : At → ℕ → Bool
+ends Quoted b = false
+ends Paired b = false
+ends place b = b == comma_byte
+
+-- the pieces of a line, from a place on, of which the first begins with these bytes
+abbrev pub cut_from : At → List ℕ → List ℕ → List (List ℕ)
+cut_from place piece [] = piece ∷ []
+cut_from place piece (b ∷ bytes) =
+    if ends place b then piece ∷ cut_from Outside [] bytes else cut_from (after place b) (piece ++ (b ∷ [])) bytes
+
+abbrev pub cut : List ℕ → List (List ℕ)
+cut line = cut_from Outside [] line
+
+-- those after a comma
+abbrev pub cut_after : List ℕ → List (List ℕ)
+cut_after [] = []
+cut_after (b ∷ bytes) = cut bytes
+
+-- whether a byte is one of two marks
+abbrev pub is_mark : ℕ → ℕ → ℕ → Bool
+is_mark one other b = b == one || b == other
+
+-- no byte from `from` up to `to` is a mark
+abbrev pub AreUnmarked : ℕ → ℕ → List ℕ → ℕ → ℕ → Type 0
+AreUnmarked one other bytes from to = (k : ℕ) → from ≤ k → k < to → is_mark one other (slice_index bytes k) ≡ false
+
+-- the position, from one on, of the first mark, or the length
+pub record IsNextMark (one other : ℕ) (bytes : List ℕ) (from to : ℕ) : Type 0 where
+  pub least : from ≤ to
+  pub within : to ≤ length bytes
+  pub unmarked : AreUnmarked one other bytes from to
+  pub mark : to < length bytes → is_mark one other (slice_index bytes to) ≡ true
+
+-- what is kept of pieces: the ranges, and the bad entries if they are asked for
+abbrev pub AreKept : Bool → List (List ℕ) → Header → Type 0
+AreKept keeps_bad pieces kept =
+    (bad : List (List ℕ)) × AreSorted pieces kept.ranges bad × (kept.bad ≡ (if keeps_bad then bad else []))
+
+-- from one header that is kept to another these pieces were taken, whatever was before
+abbrev pub Takes : Bool → List (List ℕ) → Header → Header → Type 0
+Takes keeps_bad pieces old new = (before : List (List ℕ)) → AreKept keeps_bad before old → AreKept keeps_bad (before ++ pieces) new

@@ -1,0 +1,305 @@
+//! A header's value read in one pass, by HTTP's own grammar (RFC 9110, 8.3.1 and 5.6.6), and written anew.
+
+ghost use Rattle.std.specs.Prelude.{◌≡◌, ◌<◌, ◌≤◌, ◌+◌, ◌-◌, ◌^◌, ◌++◌, ◌≢◌, true, false, ℕ, List, codes, length, slice_index, slice_range, MatchResult};
+ghost use Rattle.std.specs.List.{list_all};
+ghost use Rattle.mime.specs.Bytes.{is_token_byte, is_quoted_byte, is_quoted_text_byte, quote_byte, backslash_byte};
+ghost use Rattle.mime.specs.Grammar.{is_space};
+ghost use Rattle.mime_http.specs.Reader.{Parts, Holds, IsClosedAt, IsEssenceAt, IsParameterAt, IsParameterFault, IsStringFault, IsValueAt, IsValueFault, answer_of, fault_at, read, rejected, run_end, text_of_parts};
+
+use crate::list::is_space;
+use mime::{ParseError, is_quoted_byte, is_quoted_text_byte, is_token};
+use mime_search::{Class, Range, copy_bytes, first_stop_far};
+
+/// All but the letters, digits, hyphens and dots, which most bytes of tokens are.
+static COMMON_TOKEN_BYTES: Class = Class {
+    fold: 0x20,
+    folded: Range(b'a', b'z'),
+    second: Range(b'0', b'9'),
+    third: Range(b'-', b'.'),
+    inside: false,
+};
+
+/// All but the bytes of quoted text in ASCII, without the tab.
+static COMMON_TEXT_BYTES: Class = Class {
+    fold: 0,
+    folded: Range(b'#', b'['),
+    second: Range(b']', b'~'),
+    third: Range(b' ', b'!'),
+    inside: false,
+};
+
+/// The number of bytes of a run after which blocks of it are searched at once.
+const LONG: usize = 16;
+
+/// The position, from one on, of the first byte that isn't white space, or the length.
+fn spaces_end(value: &[u8], from: usize) -> usize
+    requires { from ≤ length value.now }
+    ensures end { result ≡ run_end is_space value.now from }
+    ensures within { result ≤ length value.now }
+{
+    let mut at = from;
+    while at < value.len() && is_space(value[at]) {
+        at += 1;
+    }
+    at
+}
+
+/// The position, from one on, of the first byte that may not stand in a token, or the length.
+fn token_end(value: &[u8], from: usize) -> usize
+    requires { from ≤ length value.now }
+    ensures end { result ≡ run_end is_token_byte value.now from }
+    ensures within { result ≤ length value.now }
+{
+    let mut at = from;
+    while at < value.len() && is_token(value[at]) {
+        at += 1;
+        if (at - from) % LONG == 0 {
+            at = first_stop_far(value, at, &COMMON_TOKEN_BYTES);
+        }
+    }
+    at
+}
+
+/// Whether a byte stands at a position.
+#[inline(always)]
+fn is_at(value: &[u8], pos: usize, byte: u8) -> bool
+    ensures yes { result ≡ true → (pos < length value.now) × (slice_index value.now pos ≡ byte) }
+    ensures no { result ≡ false → pos < length value.now → slice_index value.now pos ≢ byte }
+{
+    pos < value.len() && value[pos] == byte
+}
+
+/// Whether a token begins at a position.
+#[inline(always)]
+fn is_token_at(value: &[u8], pos: usize) -> bool
+    ensures yes { result ≡ true → (pos < length value.now) × (is_token_byte (slice_index value.now pos) ≡ true) }
+    ensures no { result ≡ false → pos < length value.now → is_token_byte (slice_index value.now pos) ≡ false }
+{
+    pos < value.len() && is_token(value[pos])
+}
+
+/// The fault of a value in which no media type goes on at a position: what is missing at its end, or the byte there.
+fn fault_at(value: &[u8], pos: usize, missing: ParseError) -> ParseError
+    requires { pos ≤ length value.now }
+    ensures { result ≡ fault_at value.now pos missing }
+{
+    if pos == value.len() {
+        return missing;
+    }
+    ParseError::InvalidToken {
+        pos,
+        byte: value[pos],
+    }
+}
+
+/// The position after the byte that a backslash at a position pairs, or the fault.
+fn pair_end(value: &[u8], backslash: usize) -> Result<usize, ParseError>
+    requires within { backslash < length value.now }
+    requires first { slice_index value.now backslash ≡ backslash_byte }
+    ensures { MatchResult result
+        (λ end. (end ≡ backslash + 2) × (end ≤ length value.now) × (is_quoted_byte (slice_index value.now (backslash + 1)) ≡ true))
+        (IsStringFault value.now backslash) }
+{
+    let paired = backslash + 1;
+    if paired < value.len() && is_quoted_byte(value[paired]) {
+        return Ok(paired + 1);
+    }
+    Err(fault_at(value, paired, ParseError::MissingQuote))
+}
+
+/// The position after a byte of quoted text, in content that begins at `from`, and perhaps after more of them.
+#[inline(always)]
+fn text_end(value: &[u8], at: usize, from: usize) -> usize
+    requires least { from ≤ at }
+    requires within { at < length value.now }
+    requires text { is_quoted_text_byte (slice_index value.now at) ≡ true }
+    ensures more { at < result }
+    ensures within { result ≤ length value.now }
+    ensures text { list_all is_quoted_text_byte (slice_range value.now at result) ≡ true }
+{
+    let end = at + 1;
+    if (end - from) % LONG == 0 {
+        return first_stop_far(value, end, &COMMON_TEXT_BYTES);
+    }
+    end
+}
+
+/// The position of the quote that closes a string whose content goes on at a position, or the fault.
+fn string_end(value: &[u8], from: usize) -> Result<usize, ParseError>
+    requires { from ≤ length value.now }
+    ensures { MatchResult result (IsClosedAt value.now from) (IsStringFault value.now from) }
+{
+    let mut at = from;
+    while at < value.len() {
+        let byte = value[at];
+        if byte == b'"' {
+            return Ok(at);
+        }
+        if byte == b'\\' {
+            at = match pair_end(value, at) {
+                Ok(end) => end,
+                Err(fault) => return Err(fault),
+            };
+        } else if is_quoted_text_byte(byte) {
+            at = text_end(value, at, from);
+        } else {
+            return Err(ParseError::InvalidToken { pos: at, byte });
+        }
+    }
+    Err(ParseError::MissingQuote)
+}
+
+/// What is written of a parameter: the bytes from its name up to `first`, and those from `begin` up to `last`. It ends before `end`.
+#[derive(Clone, Copy)]
+struct Spans {
+    first: usize,
+    begin: usize,
+    last: usize,
+    end: usize,
+}
+
+/// The parameter whose value is the string that a quote at a position opens, or the fault.
+fn string_at(value: &[u8], quote: usize) -> Result<Spans, ParseError>
+    requires within { quote < length value.now }
+    requires quote { slice_index value.now quote ≡ quote_byte }
+    ensures { MatchResult result (IsValueAt value.now quote) (IsValueFault value.now quote) }
+{
+    let begin = quote + 1;
+    let plain = token_end(value, begin);
+    let close = match string_end(value, plain) {
+        Ok(close) => close,
+        Err(fault) => return Err(fault),
+    };
+    let end = close + 1;
+    if begin < plain && plain == close {
+        // A token needs no quotes.
+        return Ok(Spans {
+            first: quote,
+            begin,
+            last: close,
+            end,
+        });
+    }
+    Ok(Spans {
+        first: quote,
+        begin: quote,
+        last: end,
+        end,
+    })
+}
+
+/// The parameter whose value begins at a position, or the fault.
+fn value_at(value: &[u8], begin: usize) -> Result<Spans, ParseError>
+    requires { begin ≤ length value.now }
+    ensures { MatchResult result (IsValueAt value.now begin) (IsValueFault value.now begin) }
+{
+    if is_at(value, begin, b'"') {
+        return string_at(value, begin);
+    }
+    let end = token_end(value, begin);
+    if end == begin {
+        return Err(fault_at(value, begin, ParseError::MissingValue));
+    }
+    Ok(Spans {
+        first: begin,
+        begin,
+        last: end,
+        end,
+    })
+}
+
+/// The parameter whose name begins at a position, or the fault.
+fn parameter_at(value: &[u8], name: usize) -> Result<Spans, ParseError>
+    requires within { name < length value.now }
+    requires token { is_token_byte (slice_index value.now name) ≡ true }
+    ensures { MatchResult result (IsParameterAt value.now name) (IsParameterFault value.now name) }
+{
+    let equals = token_end(value, name);
+    if !is_at(value, equals, b'=') {
+        return Err(fault_at(value, equals, ParseError::MissingEqual));
+    }
+    value_at(value, equals + 1)
+}
+
+/// Where the essence of a value begins and ends, or the fault.
+fn essence(value: &[u8]) -> Result<(usize, usize), ParseError>
+    ensures { MatchResult result (λ ends. IsEssenceAt value.now ends.0 ends.1) (λ fault. answer_of value.now ≡ rejected fault) }
+{
+    let top = spaces_end(value, 0);
+    let slash = token_end(value, top);
+    if slash == top {
+        return Err(fault_at(value, top, ParseError::MissingSlash));
+    }
+    if !is_at(value, slash, b'/') {
+        return Err(fault_at(value, slash, ParseError::MissingSlash));
+    }
+    let sub = slash + 1;
+    let end = token_end(value, sub);
+    if end == sub {
+        return Err(fault_at(value, sub, ParseError::MissingSubtype));
+    }
+    Ok((top, end))
+}
+
+/// Writes bytes into a room after `len` others, if they fit, and gives how many bytes there are then.
+fn put(room: &mut [u8], len: usize, bytes: &[u8]) -> usize
+    requires { len + length bytes.now < 2 ^ 64 }
+    ensures holds { (text : List ℕ) → Holds room.old len text → Holds room.new result (text ++ bytes.now) }
+    ensures len { result ≡ len + length bytes.now }
+    ensures room { length room.new ≡ length room.old }
+{
+    let end = len + bytes.len();
+    if end <= room.len() {
+        copy_bytes(&mut room[len..end], bytes);
+    }
+    end
+}
+
+/// Writes the parameter whose name begins at a position, after a semicolon and a space.
+fn put_parameter(room: &mut [u8], len: usize, value: &[u8], name: usize, spans: Spans) -> usize
+    requires least { name ≤ spans.first }
+    requires apart { spans.first ≤ spans.begin }
+    requires some { spans.begin ≤ spans.last }
+    requires within { spans.last ≤ length value.now }
+    requires fits { len + 2 + (spans.last - name) < 2 ^ 64 }
+    ensures holds { (text : List ℕ) → Holds room.old len text
+        → Holds room.new result (text ++ (codes "; " ++ (slice_range value.now name spans.first ++ slice_range value.now spans.begin spans.last))) }
+    ensures len { result ≤ len + 2 + (spans.last - name) }
+    ensures room { length room.new ≡ length room.old }
+{
+    let len = put(room, len, b"; ");
+    let len = put(room, len, &value[name..spans.first]);
+    put(room, len, &value[spans.begin..spans.last])
+}
+
+/// Writes the media type of a value anew, as far as there is room, and gives how many bytes that takes: its essence, and each parameter as
+/// `with_parameter` writes it. Or gives the fault of a value that isn't a media type as HTTP writes it. It takes no memory.
+pub(crate) fn write_anew(value: &[u8], room: &mut [u8]) -> Result<usize, ParseError>
+    ensures answer { MatchResult result
+        (λ len. (parts : Parts) × (answer_of value.now ≡ read parts) × Holds room.new len (text_of_parts parts))
+        (λ fault. answer_of value.now ≡ rejected fault) }
+    ensures room { length room.new ≡ length room.old }
+{
+    let (begin, end) = match essence(value) {
+        Ok(essence) => essence,
+        Err(fault) => return Err(fault),
+    };
+    let mut len = put(room, 0, &value[begin..end]);
+    let mut at = spaces_end(value, end);
+    while is_at(value, at, b';') {
+        at = spaces_end(value, at + 1);
+        if is_token_at(value, at) {
+            let spans = match parameter_at(value, at) {
+                Ok(spans) => spans,
+                Err(fault) => return Err(fault),
+            };
+            len = put_parameter(room, len, value, at, spans);
+            at = spaces_end(value, spans.end);
+        }
+    }
+    if at < value.len() {
+        let byte = value[at];
+        return Err(ParseError::InvalidToken { pos: at, byte });
+    }
+    Ok(len)
+}
