@@ -44,7 +44,7 @@ pub fn is_token(b: u8) -> bool
     KINDS[b as usize] >= P
 }
 
-/// Whether a byte other than the plus may occur in a token.
+/// Returns `true` if a byte other than the plus may occur in a token.
 #[inline(always)]
 pub(crate) fn is_token_except_plus(b: u8) -> bool
     ensures { result ≡ is_token_except_plus b }
@@ -52,7 +52,7 @@ pub(crate) fn is_token_except_plus(b: u8) -> bool
     KINDS[b as usize] == T
 }
 
-/// Whether a byte may occur in a token, the plus only if `with_plus`.
+/// Returns `true` if a byte may occur in a token, the plus only if `with_plus`.
 #[inline(always)]
 pub(crate) fn is_in_token(b: u8, with_plus: bool) -> bool
     ensures { result ≡ token_bytes with_plus b }
@@ -64,7 +64,7 @@ pub(crate) fn is_in_token(b: u8, with_plus: bool) -> bool
     }
 }
 
-/// Whether a byte is a space or a tab, which may precede a parameter and follow a quoted value.
+/// Returns `true` if a byte is a space or a tab, which may precede a parameter and follow a quoted value.
 #[inline(always)]
 pub(crate) fn is_space(b: u8) -> bool
     ensures { result ≡ is_space b }
@@ -72,7 +72,7 @@ pub(crate) fn is_space(b: u8) -> bool
     b == b' ' || b == b'\t'
 }
 
-/// Whether a byte is an ASCII character that begins no media type, as the comma and the space of a list.
+/// Returns `true` if a byte is an ASCII character that begins no media type, as the comma and the space of a list.
 #[inline(always)]
 pub(crate) fn is_separator(b: u8) -> bool
     ensures { result ≡ is_ascii_not_token b }

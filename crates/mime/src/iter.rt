@@ -36,8 +36,8 @@ struct ReadPiece<'a> {
     steps: u128,
 }
 
-/// The end of a string's first character. It isn't inlined: few strings have a character outside ASCII where no media type goes on, and its
-/// loop would take registers from those of its caller.
+/// Returns the end of a string's first character. It isn't inlined: few strings have a character outside ASCII where no media type goes on,
+/// and its loop would take registers from those of its caller.
 #[cold]
 #[inline(never)]
 fn end_of_first(text: &str) -> usize
@@ -48,7 +48,7 @@ fn end_of_first(text: &str) -> usize
     text.ceil_char_boundary(1)
 }
 
-/// The empty string at the start of a string. Its address is known already, unlike that of `""`.
+/// Returns the empty string at the start of a string. Its address is known already, unlike that of `""`.
 #[inline(always)]
 fn nothing_of(text: &str) -> &str
     ensures { result.now ≡ [] }

@@ -88,7 +88,7 @@ const NOTHING: MimeFound = MimeFound {
     byte: 0,
 };
 
-/// The number of a fault.
+/// Returns the number of a fault.
 fn number_of(fault: &ParseError) -> u32
     ensures { result ≡ number_of fault.now }
 {
@@ -103,14 +103,14 @@ fn number_of(fault: &ParseError) -> u32
     }
 }
 
-/// What is found of a text that isn't UTF-8: how much of it is.
+/// Returns what is found of a text that isn't UTF-8: how much of it is.
 fn found_at(pos: usize) -> MimeFound
     ensures { result ≡ found_at pos 0 }
 {
     MimeFound { pos, ..NOTHING }
 }
 
-/// What is found of a fault: the invalid byte and its position, if it is one.
+/// Returns what is found of a fault: the invalid byte and its position, if it is one.
 fn found_of_fault(fault: &ParseError) -> MimeFound
     ensures { result ≡ found_of_fault fault.now }
 {
@@ -124,7 +124,7 @@ fn found_of_fault(fault: &ParseError) -> MimeFound
     }
 }
 
-/// The string of these bytes, as `str::from_utf8` gives it, in less time for ASCII, which most texts are.
+/// Returns the string of these bytes, as `str::from_utf8` gives it, in less time for ASCII, which most texts are.
 #[inline(never)]
 fn text_of(bytes: &[u8]) -> Result<&str, Utf8Error>
     ensures cases { MatchResult result (λ text. (text.now ≡ bytes.now) × IsUtf8 bytes.now)
@@ -137,7 +137,7 @@ fn text_of(bytes: &[u8]) -> Result<&str, Utf8Error>
     str::from_utf8(bytes)
 }
 
-/// The number of why a text or a header's value isn't read.
+/// Returns the number of why a text or a header's value isn't read.
 fn number_of_error(error: &FieldError) -> u32
     ensures { result ≡ number_of_error error.now }
 {
@@ -148,7 +148,7 @@ fn number_of_error(error: &FieldError) -> u32
     }
 }
 
-/// What is found of why a text or a header's value isn't read.
+/// Returns what is found of why a text or a header's value isn't read.
 fn found_of_error(error: &FieldError) -> MimeFound
     ensures { result ≡ found_of_error error.now }
 {
@@ -159,7 +159,7 @@ fn found_of_error(error: &FieldError) -> MimeFound
     }
 }
 
-/// The media type that a text is read as.
+/// Returns the media type that a text is read as.
 #[tactic(auto, using(crate::specs::Answers::is_not_text))]
 fn read(alloc: Global, text: &[u8]) -> Result<Mime, FieldError>
     ensures read { IfOk result (λ mime. IsUtf8 text.now × Reads text.now mime.media) }
@@ -344,7 +344,7 @@ pub extern "C" fn mime_equal(alloc: Global, one: &[u8], other: &[u8], equal: &mu
     MIME_OK
 }
 
-/// A number below 10,000 in four digits.
+/// Returns a number below 10,000 in four digits.
 fn four_digits(n: u16) -> [u8; 4]
     ensures { result ≡ four_digits n }
 {
@@ -398,7 +398,7 @@ pub extern "C" fn mime_accept(
     MIME_OK
 }
 
-/// What a header accepts, of one line or of none. Its bad entries are left out.
+/// Returns what a header accepts, of one line or of none. Its bad entries are left out.
 fn accepted(alloc: Global, is_there: bool, line: &[u8]) -> Result<Accept, AllocError>
     ensures header { IfOk result (λ accept. (header : Header) × IsHeader (lines_of is_there line.now) header × (accept.ranges ≡ header.ranges)) }
     ensures nothing { HaveNoEntry (lines_of is_there line.now) → IsOk result }
@@ -410,7 +410,7 @@ fn accepted(alloc: Global, is_there: bool, line: &[u8]) -> Result<Accept, AllocE
     }
 }
 
-/// Whether an entry of a list of offers is no media type.
+/// Returns `true` if an entry of a list of offers is no media type.
 fn has_bad(offered: &Accept) -> bool
     ensures bad { result ≡ true → offered.now.bad ≢ [] }
     ensures good { result ≡ false → offered.now.bad ≡ [] }

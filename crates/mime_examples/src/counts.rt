@@ -37,7 +37,7 @@ pub fn count(counts: &mut Counts, mime: Mime) -> Result<(), AllocError>
     Ok(())
 }
 
-/// The media types with their counts, in the order of media types.
+/// Returns the media types with their counts, in the order of media types.
 ///
 /// # Errors
 /// `AllocError` if memory runs out.

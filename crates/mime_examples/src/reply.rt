@@ -24,7 +24,8 @@ pub fn page_in(alloc: Global, charset: &str) -> Result<Option<Mime>, AllocError>
     with_charset(alloc, &TEXT_HTML.mime(), charset)
 }
 
-/// A form whose fields are parts between lines with this boundary: `multipart/form-data; boundary=x`. `None` if that is no boundary.
+/// Returns a form whose fields are parts between lines with this boundary: `multipart/form-data; boundary=x`. `None` if that is no
+/// boundary.
 pub fn form_with(alloc: Global, boundary: &str) -> Result<Option<Mime>, AllocError>
     ensures { IfOk result (λ answer. IfSome answer (λ made. (form : MediaType) × Reads (codes "multipart/form-data") form
         × (made.media ≡ with_pair form (codes "boundary") boundary.now))) }

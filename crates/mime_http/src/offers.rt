@@ -137,7 +137,7 @@ pub(crate) fn merit(ranges: &[Mime], offer: &Mime) -> (u16, u8, usize, usize)
     }
 }
 
-/// The position of the first offer of the highest rank; `None` if all weigh 0.
+/// Returns the position of the first offer of the highest rank; `None` if all weigh 0.
 pub(crate) fn best_of(ranges: &[Mime], offers: &[Mime]) -> Option<usize>
     ensures exact { result ≡ best_offer (map (λ range. range.media) ranges.now) (map (λ offer. offer.media) offers.now) }
     ensures within { IfSome result (λ at. at < length offers.now) }
@@ -154,7 +154,7 @@ pub(crate) fn best_of(ranges: &[Mime], offers: &[Mime]) -> Option<usize>
     if most.0 > 0 { best } else { None }
 }
 
-/// The positions of offers.
+/// Returns the positions of offers.
 fn positions(
     alloc: Global,
     offers: &[(Reverse<(u16, u8, usize, usize)>, usize)],
@@ -164,7 +164,7 @@ fn positions(
     offers.iter().map(|offer| offer.1).collect(alloc)
 }
 
-/// The positions of the offers that weigh more than 0, the best first.
+/// Returns the positions of the offers that weigh more than 0, the best first.
 pub(crate) fn order_of(
     alloc: Global,
     ranges: &[Mime],

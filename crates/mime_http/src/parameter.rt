@@ -16,7 +16,7 @@ use mime::laws::{kept_is_safe, one_reading};
 use mime::{KnownText, Mime, is_token, name_eq_str};
 use std::alloc::{AllocError, Global};
 
-/// Whether a string is a token.
+/// Returns `true` if a string is a token.
 fn is_token_text(text: &str) -> bool
     ensures { result ≡ is_token_value text.now }
 {
@@ -28,7 +28,7 @@ fn is_token_text(text: &str) -> bool
     !text.is_empty()
 }
 
-/// Whether a string has no ASCII capital.
+/// Returns `true` if a string has no ASCII capital.
 fn is_lowercase(text: &str) -> bool
     ensures { IsTrue result → lowered text.now ≡ text.now }
 {
@@ -40,7 +40,7 @@ fn is_lowercase(text: &str) -> bool
     true
 }
 
-/// Whether a parameter is kept as it is written: without a capital in what is kept in lowercase.
+/// Returns `true` if a parameter is kept as it is written: without a capital in what is kept in lowercase.
 #[tactic(auto, using(crate::proofs::Contents::kept_low))]
 fn is_kept_as_written(name: &str, value: &str) -> bool
     ensures { IsTrue result → (lowered name.now ≡ name.now) × (lowered_value name.now (escaped value.now) ≡ escaped value.now) }
@@ -82,7 +82,7 @@ fn push_parameter(text: &mut String, name: &str, value: &str, form: Form) -> Res
     }
 }
 
-/// A media type's essence, its parameters of other names, and this one; and how many the others are.
+/// Returns a media type's essence, its parameters of other names, and this one; and how many the others are.
 fn text_with(
     alloc: Global,
     mime: &Mime,
@@ -123,7 +123,7 @@ fn text_with(
     Ok((text, count))
 }
 
-/// The media type with this parameter in place of those of its name.
+/// Returns the media type with this parameter in place of those of its name.
 fn mime_with(
     alloc: Global,
     mime: &Mime,

@@ -87,7 +87,7 @@ static KINDS: [u8; 256] = [
 /// The size of a block. The search for a byte that may stand in no quoted string stops between blocks alone.
 const KIND_BLOCK: usize = 64;
 
-/// The kind of a byte.
+/// Returns the kind of a byte.
 #[inline(always)]
 fn kind_of_byte(byte: u8) -> u8
     ensures { result ≡ kind_of (byte ∷ []) }
@@ -95,7 +95,7 @@ fn kind_of_byte(byte: u8) -> u8
     KINDS[byte as usize]
 }
 
-/// The bits that the kinds of all bytes of a block have.
+/// Returns the bits that the kinds of all bytes of a block have.
 #[inline(always)]
 #[tactic(auto, using(crate::proofs::Forms::kind_of_more))]
 fn kind_of_block(block: &[u8]) -> u8
@@ -108,7 +108,7 @@ fn kind_of_block(block: &[u8]) -> u8
     kind
 }
 
-/// The bits that the kinds of all bytes of a value have.
+/// Returns the bits that the kinds of all bytes of a value have.
 #[tactic(auto, using(crate::proofs::Forms::block_seen))]
 fn kind_of(value: &[u8]) -> u8
     ensures { result ≡ kind_of value.now }
@@ -140,7 +140,7 @@ pub(crate) fn form_of(value: &str) -> Option<Form>
     }
 }
 
-/// The position of the first quote or backslash from this position on, or the length if there is none.
+/// Returns the position of the first quote or backslash from this position on, or the length if there is none.
 #[inline(always)]
 #[tactic(auto, using(crate::proofs::Forms::plain_from_kind, crate::proofs::Forms::plain_more))]
 fn special_from(value: &str, from: usize) -> usize

@@ -34,7 +34,7 @@ pub enum FieldError {
     NoMemory,
 }
 
-/// What `NotUtf8` prints, at most 54 bytes. Not written with the caller's formatter, whose width would pad the number.
+/// Returns what `NotUtf8` prints, at most 54 bytes. Not written with the caller's formatter, whose width would pad the number.
 fn not_utf8_text(pos: usize) -> Result<InlineText<64>, fmt::Error>
     ensures { IfOk result (λ text. inline_text text ≡ not_utf8_text pos) }
 {
@@ -66,7 +66,7 @@ impl fmt::Display for FieldError {
 
 impl Error for FieldError {}
 
-/// The string of these bytes, as `str::from_utf8` gives it, in less time for ASCII, which most values are.
+/// Returns the string of these bytes, as `str::from_utf8` gives it, in less time for ASCII, which most values are.
 #[inline(always)]
 pub(crate) fn text_of(value: &[u8]) -> Result<&str, Utf8Error>
     ensures cases { MatchResult result (λ text. (text.now ≡ value.now) × IsUtf8 value.now)
@@ -75,7 +75,7 @@ pub(crate) fn text_of(value: &[u8]) -> Result<&str, Utf8Error>
     text_of_piece(value, false)
 }
 
-/// The string of a piece of a line. The bytes of a line that is known to be ASCII aren't looked at again.
+/// Returns the string of a piece of a line. The bytes of a line that is known to be ASCII aren't looked at again.
 #[inline(always)]
 #[tactic(auto, using(crate::proofs::HttpText::ascii_is_utf8))]
 pub(crate) fn text_of_piece(piece: &[u8], is_ascii: bool) -> Result<&str, Utf8Error>
@@ -90,7 +90,7 @@ pub(crate) fn text_of_piece(piece: &[u8], is_ascii: bool) -> Result<&str, Utf8Er
     str::from_utf8(piece)
 }
 
-/// A text without the white space around it.
+/// Returns a text without the white space around it.
 #[inline(always)]
 fn trimmed(text: &str) -> &str
     ensures { result.now ≡ trimmed text.now }

@@ -19,8 +19,7 @@ use std::env;
 use std::env::Args;
 use std::process::ExitCode;
 
-/// The mode that the arguments select, or `None` if they select none. The first of them is the name of
-/// the program.
+/// Returns the mode that the arguments select, or `None` if they select none. The first of them is the name of the program.
 fn asked_mode(mut arguments: Args) -> Option<Mode>
     ensures parts { into_iter_len arguments ≤ 1 → result ≡ Some Mode.Parts }
     // The argument after the program's name says which mode.
@@ -38,7 +37,7 @@ fn asked_mode(mut arguments: Args) -> Option<Mode>
     }
 }
 
-/// The mode that an argument names, or `None`.
+/// Returns the mode that an argument names, or `None`.
 fn named_mode(word: &str) -> Option<Mode>
     ensures { result ≡ mode_named word.now }
 {

@@ -68,8 +68,8 @@ impl Class {
     }
 }
 
-/// Which of 16 bytes are outside the ranges of a class, as a bit mask. The lowest bit is for the first byte. Comparisons alone are
-/// a few instructions on every processor; a look-up by shuffled bytes isn't on the oldest ones.
+/// Returns which of 16 bytes are outside the ranges of a class, as a bit mask. The lowest bit is for the first byte. Comparisons
+/// alone are a few instructions on every processor; a look-up by shuffled bytes isn't on the oldest ones.
 #[inline(always)]
 fn outside_in_lanes(bytes: u8x16, class: &Class) -> u64
     ensures mask { result ≡ outside class.now bytes }
@@ -89,7 +89,7 @@ fn outside_in_lanes(bytes: u8x16, class: &Class) -> u64
     (no_folded & no_second & no_third).to_bitmask()
 }
 
-/// At which of 16 bytes a search stops, as a bit mask.
+/// Returns at which of 16 bytes a search stops, as a bit mask.
 #[inline(always)]
 pub(crate) fn stops_in_lanes(bytes: u8x16, class: &Class) -> u64
     ensures mask { result ≡ stops class.now bytes }

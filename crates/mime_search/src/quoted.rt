@@ -96,7 +96,7 @@ fn after_plain(text: &[u8], from: usize) -> usize
     first_stop(text, at, &class)
 }
 
-/// The position, from one on, of the first quote that no backslash pairs, or the length.
+/// Returns the position, from one on, of the first quote that no backslash pairs, or the length.
 #[inline(always)]
 pub fn content_end(text: &[u8], from: usize) -> usize
     requires { from ≤ length text.now }

@@ -8,7 +8,7 @@ use crate::class::{BLOCK, Class};
 use crate::search::{first_stop, first_stop_at_end, stops_in_block};
 use std::marker::Model;
 
-/// The position of a byte, from one on, or the length if it doesn't occur. It isn't inlined: most searches end in their
+/// Returns the position of a byte, from one on, or the length if it doesn't occur. It isn't inlined: most searches end in their
 /// first or last block.
 #[cold]
 #[inline(never)]
@@ -19,7 +19,7 @@ fn position_far(text: &[u8], from: usize, byte: u8) -> usize
     first_stop(text, from, &Class::of(byte, byte))
 }
 
-/// The position of a byte, or the length if it doesn't occur, searched byte by byte. It isn't inlined: few strings with
+/// Returns the position of a byte, or the length if it doesn't occur, searched byte by byte. It isn't inlined: few strings with
 /// parameters are shorter than a block.
 #[inline(never)]
 fn position_by_one(text: &[u8], byte: u8) -> usize

@@ -35,7 +35,7 @@ pub enum ParseError {
     NoMemory,
 }
 
-/// What `InvalidToken` prints, at most 69 bytes. Not written with the caller's formatter, whose width would pad each
+/// Returns what `InvalidToken` prints, at most 69 bytes. Not written with the caller's formatter, whose width would pad each
 /// number.
 fn token_text(pos: usize, byte: u8) -> Result<InlineText<80>, fmt::Error>
     ensures { IfOk result (λ text. inline_text text ≡ token_text pos byte) }

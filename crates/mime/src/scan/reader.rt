@@ -31,8 +31,8 @@ pub(crate) struct ByteReader<'a> {
 /// How many bytes of a run are read in the loop of a `MimeIter`'s caller. Most tokens are shorter.
 pub(crate) const NEAR: usize = 24;
 
-/// The position of the byte, from a position on, that ends a run of a token's bytes, or the length. A plus ends it, too, unless
-/// `with_plus`.
+/// Returns the position of the byte, from a position on, that ends a run of a token's bytes, or the length. A plus ends it,
+/// too, unless `with_plus`.
 #[inline(always)]
 fn end_of_token(text: &[u8], from: usize, with_plus: bool) -> usize
     requires { from ≤ length text.now }
@@ -49,8 +49,8 @@ fn end_of_token(text: &[u8], from: usize, with_plus: bool) -> usize
     at
 }
 
-/// The position that `end_of_token` finds, if a plus ends a run. It isn't inlined: between other loops, its own would have twice as
-/// many instructions.
+/// Returns the position that `end_of_token` finds, if a plus ends a run. It isn't inlined: between other loops, its own would have
+/// twice as many instructions.
 #[inline(never)]
 fn end_at_plus(text: &[u8], from: usize) -> usize
     requires { from ≤ length text.now }
@@ -60,7 +60,7 @@ fn end_at_plus(text: &[u8], from: usize) -> usize
     end_of_token(text, from, false)
 }
 
-/// The position that `end_of_token` finds, if a plus ends no run. It isn't inlined, as `end_at_plus`.
+/// Returns the position that `end_of_token` finds, if a plus ends no run. It isn't inlined, as `end_at_plus`.
 #[inline(never)]
 fn end_past_pluses(text: &[u8], from: usize) -> usize
     requires { from ≤ length text.now }
@@ -70,7 +70,7 @@ fn end_past_pluses(text: &[u8], from: usize) -> usize
     end_of_token(text, from, true)
 }
 
-/// The position that `end_of_token` finds, by a call.
+/// Returns the position that `end_of_token` finds, by a call.
 #[inline(always)]
 fn end_far(text: &[u8], from: usize, with_plus: bool) -> usize
     requires { from ≤ length text.now }

@@ -28,8 +28,8 @@ pub(crate) struct Pair<'a> {
     pub(crate) rest: Suffix<'a>,
 }
 
-/// The length in bytes of a quoted value's content, of which the first quote isn't the end. It isn't inlined: few values have a
-/// backslash before their first quote.
+/// Returns the length in bytes of a quoted value's content, of which the first quote isn't the end. It isn't inlined: few
+/// values have a backslash before their first quote.
 #[cold]
 #[inline(never)]
 fn content_len_past_pairs(text: &[u8]) -> usize
@@ -38,8 +38,8 @@ fn content_len_past_pairs(text: &[u8]) -> usize
     content_end(text, 0)
 }
 
-/// The length in bytes of a quoted value's content, up to its first unpaired quote or the end. `quote` is the
-/// position of the first quote, or the length if there is none.
+/// Returns the length in bytes of a quoted value's content, up to its first unpaired quote or the end. `quote` is the position
+/// of the first quote, or the length if there is none.
 #[inline(always)]
 fn content_len(text: &[u8], quote: usize) -> usize
     requires { quote ≡ first_position quote_byte text.now }
@@ -52,8 +52,8 @@ fn content_len(text: &[u8], quote: usize) -> usize
     content_len_past_pairs(text)
 }
 
-/// The number of spaces and tabs with which a byte string begins, counted by blocks. It isn't inlined: few
-/// lists begin with more than one.
+/// Returns the number of spaces and tabs with which a byte string begins, counted by blocks. It isn't inlined: few lists begin
+/// with more than one.
 #[cold]
 #[inline(never)]
 fn count_spaces(bytes: &[u8]) -> usize
@@ -62,7 +62,7 @@ fn count_spaces(bytes: &[u8]) -> usize
     first_stop(bytes, 0, &Class::of(b' ', b'\t').others())
 }
 
-/// The number of spaces and tabs with which the list begins.
+/// Returns the number of spaces and tabs with which the list begins.
 #[inline(always)]
 fn leading_spaces(list: &str) -> usize
     ensures count { result ≡ leading_spaces list.now }
@@ -79,7 +79,7 @@ fn leading_spaces(list: &str) -> usize
     count_spaces(bytes)
 }
 
-/// What follows the first semicolon, or an empty suffix. Most suffixes begin with it, or are empty.
+/// Returns what follows the first semicolon, or an empty suffix. Most suffixes begin with it, or are empty.
 #[inline(always)]
 fn after_semicolon<'a>(end: Suffix<'a>) -> Suffix<'a>
     ensures { result ≡ after_byte semicolon_byte end.entry }
@@ -103,7 +103,7 @@ fn cut_content<'a>(text: &Suffix<'a>) -> (&'a str, Suffix<'a>)
     text.split_around(length)
 }
 
-/// The quoted or plain value that follows a name's equals sign. What follows the value isn't searched.
+/// Returns the quoted or plain value that follows a name's equals sign. What follows the value isn't searched.
 #[inline(always)]
 fn value_after<'a>(end: &Suffix<'a>) -> &'a str
     ensures { (list : ℕ) → (name : List ℕ) → result.now ≡ (cut_after_equals list name end.now).value }
@@ -114,7 +114,7 @@ fn value_after<'a>(end: &Suffix<'a>) -> &'a str
     end.split_at_first(b';').0
 }
 
-/// The pair of a name, with the quoted or plain value that follows its equals sign. `list` is the list's length in
+/// Returns the pair of a name, with the quoted or plain value that follows its equals sign. `list` is the list's length in
 /// bytes.
 #[inline(always)]
 fn cut_value<'a>(list: usize, name: &'a str, end: &Suffix<'a>) -> Pair<'a>
@@ -143,7 +143,7 @@ fn cut_value<'a>(list: usize, name: &'a str, end: &Suffix<'a>) -> Pair<'a>
     }
 }
 
-/// A list without the spaces with which it begins.
+/// Returns a list without the spaces with which it begins.
 #[inline(always)]
 fn without_spaces<'a>(list: &Suffix<'a>) -> Suffix<'a>
     ensures { result ≡ without_spaces list.now }
@@ -193,7 +193,7 @@ pub(crate) fn cut<'a>(list: &Suffix<'a>) -> Pair<'a>
     cut_value(list.len(), name, &rest)
 }
 
-/// Whether a key accepts a parameter's name.
+/// Returns `true` if a key accepts a parameter's name.
 #[inline(always)]
 fn is_accepted<K: ParamKey>(key: &K, name: &str) -> bool
     ensures { IsTrue result ↔ K.Accepts key.now name.now true }
@@ -204,7 +204,7 @@ fn is_accepted<K: ParamKey>(key: &K, name: &str) -> bool
     })
 }
 
-/// Whether a byte string has an equals sign. For a constant one the compiler knows it.
+/// Returns `true` if a byte string has an equals sign. For a constant one the compiler knows it.
 #[inline(always)]
 fn has_equals(bytes: &[u8]) -> bool
     ensures { result ≡ has_equals bytes.now }

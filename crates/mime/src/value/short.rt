@@ -35,7 +35,7 @@ impl Model for ShortText {
     ghost invariant = { λ it. (it.len ≤ 40) × IsUtf8 (take it.len it.bytes) × (drop it.len it.bytes ≡ replicate (40 - it.len) 0) };
 }
 
-/// The bytes of a text, with zeros after it.
+/// Returns the bytes of a text, with zeros after it.
 #[inline(always)]
 fn padded(text: &str) -> [u8; PADDED]
     requires { length text.now ≤ SHORT }

@@ -16,8 +16,8 @@ use std::cmp::Ordering;
 use std::fmt;
 use std::hash::{Hash, Hasher};
 
-/// Whether two values are equal, part by part. They may be written otherwise: `p=x` and `p="x"`. It isn't inlined: most
-/// calls of `eq` end before it.
+/// Returns `true` if two values are equal, part by part. They may be written otherwise: `p=x` and `p="x"`. It isn't inlined:
+/// most calls of `eq` end before it.
 #[cold]
 #[inline(never)]
 fn same_parts(first: &Mime, second: &Mime) -> bool
