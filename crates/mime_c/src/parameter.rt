@@ -1,4 +1,4 @@
-//! The calls for parameters: what they mean, and one that is written.
+//! The calls for parameters: two that say what a parameter means, and one that writes a parameter.
 
 ghost use Rattle.std.specs.Prelude.{◌≡◌, false, ◌↔◌, ◌<◌, ◌≤◌, ◌==◌, ◌&&◌, not, IsTrue, length};
 ghost use Rattle.mime.specs.Bytes.{backslash_byte};
@@ -79,7 +79,7 @@ fn put_unescaped(out: &mut [u8], value: &[u8]) -> usize
     ensures written { HasWritten out.old out.new result (unescaped value.now) }
     ensures within { result ≤ length value.now }
 {
-    // The short way for most values.
+    // Most values have no backslash.
     if !has_backslash(value) {
         return copy(out, 0, value);
     }

@@ -16,7 +16,7 @@ fn next_outside(line: &[u8], from: usize) -> usize
     requires { from < length line.now }
     ensures { IsNextMark comma_byte equals_byte line.now from result }
 {
-    // The short way for the sign before a string, and for signs in a row.
+    // This is quick for the sign before a string, and for signs in a row.
     if line[from] == b'=' {
         return from;
     }
@@ -135,7 +135,7 @@ fn is_ascii_block(text: &[u8], at: usize) -> bool
     bytes.simd_gt(u8x32::splat(127)).to_bitmask() == 0
 }
 
-/// Returns `true` if a line from 32 up to 256 bytes is ASCII. The pieces of another are looked at one by one instead.
+/// Returns `true` if a line of 32 to 256 bytes is ASCII. The pieces of any other line are tested one by one.
 #[inline(never)]
 pub(crate) fn is_short_ascii(line: &[u8]) -> bool
     ensures { result ≡ true → IsAscii line.now }

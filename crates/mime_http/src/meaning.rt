@@ -1,4 +1,4 @@
-//! Do two values mean the same?
+//! Whether two values mean the same.
 
 ghost use Rattle.std.specs.Prelude.{◌≡◌, ◌<◌, [], ◌∷◌, IfSome, MatchOption, bytes_eq, length};
 ghost use Rattle.mime_http.specs.Unescaped.{unescaped};
@@ -37,7 +37,7 @@ fn mean_the_same_bytes(value: &[u8], other: &[u8]) -> bool
 }
 
 /// Returns `true` if two values of parameters mean the same: a backslash and the byte after it mean that byte (RFC 9110, 5.6.4). It
-/// allocates nothing.
+/// doesn't allocate.
 pub(crate) fn mean_the_same(value: &str, other: &str) -> bool
     ensures { result ≡ bytes_eq (unescaped value.now) (unescaped other.now) }
 {

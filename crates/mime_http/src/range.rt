@@ -1,4 +1,4 @@
-//! Does a range cover an offer, and how closely?
+//! Whether a range covers an offer, and how specific it is.
 
 ghost use Rattle.std.specs.Prelude.{◌≡◌, ◌++◌, Some, None, length, drop, option_map, unwrap_or, is_some, if◌then◌else◌, codes, bytes_eq};
 ghost use Rattle.std.specs.List.{list_all};
@@ -156,8 +156,8 @@ pub(crate) fn after_essence(mime: &Mime) -> &[u8]
     &mime.as_str().as_bytes()[mime.essence_str().len()..]
 }
 
-/// Returns how many parameters a range demands of an offer, and its weight; `None` if the offer hasn't all of them. The range
-/// `text/html;level=1` is for `text/html;level=1`, and not for all HTML.
+/// Returns how many parameters a range demands of an offer, and its weight; `None` if the offer doesn't have all of them. The
+/// range `text/html;level=1` is for `text/html;level=1`, and not for all HTML.
 #[inline(always)]
 pub(crate) fn demanded(range: &Mime, offer: &Mime) -> Option<(usize, u16)>
     ensures { result ≡ (if list_all (has offer.now.media) (demanded range.now.media.pairs)
@@ -175,8 +175,8 @@ pub(crate) fn demanded(range: &Mime, offer: &Mime) -> Option<(usize, u16)>
 }
 
 /// Returns `true` if a range covers an offer: `text/*` covers `text/html`, and `text/html;level=1` covers `text/html;level=1` and not all
-/// HTML (RFC 9110, 12.5.1). The offer must have each parameter of the range, also those after its weight `q`, which itself doesn't matter,
-/// with a value that means the same: a backslash and the byte after it mean that byte, and case counts, but for a charset's.
+/// HTML (RFC 9110, 12.5.1). The offer must have each parameter of the range, also those after its weight `q`, which itself doesn't
+/// matter, with a value that means the same: a backslash and the byte after it mean that byte, and case matters, except for a charset.
 pub fn covers(range: &Mime, offer: &Mime) -> bool
     ensures { result ≡ is_some (closeness offer.now.media (0, range.now.media)) }
 {

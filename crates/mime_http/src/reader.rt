@@ -31,7 +31,7 @@ static COMMON_TEXT_BYTES: Class = Class {
 /// The number of bytes of a run after which blocks of it are searched at once.
 const LONG: usize = 16;
 
-/// Returns the position, from one on, of the first byte that isn't white space, or the length.
+/// Returns the position of the first byte, from a position on, that isn't white space, or the length.
 fn spaces_end(value: &[u8], from: usize) -> usize
     requires { from ≤ length value.now }
     ensures end { result ≡ run_end is_space value.now from }
@@ -44,7 +44,7 @@ fn spaces_end(value: &[u8], from: usize) -> usize
     at
 }
 
-/// Returns the position, from one on, of the first byte that may not stand in a token, or the length.
+/// Returns the position of the first byte, from a position on, that may not occur in a token, or the length.
 fn token_end(value: &[u8], from: usize) -> usize
     requires { from ≤ length value.now }
     ensures end { result ≡ run_end is_token_byte value.now from }
@@ -60,7 +60,7 @@ fn token_end(value: &[u8], from: usize) -> usize
     at
 }
 
-/// Returns `true` if a byte stands at a position.
+/// Returns `true` if this byte is at a position.
 #[inline(always)]
 fn is_at(value: &[u8], pos: usize, byte: u8) -> bool
     ensures yes { result ≡ true → (pos < length value.now) × (slice_index value.now pos ≡ byte) }
@@ -78,7 +78,7 @@ fn is_token_at(value: &[u8], pos: usize) -> bool
     pos < value.len() && is_token(value[pos])
 }
 
-/// Returns the fault of a value in which no media type goes on at a position: what is missing at its end, or the byte there.
+/// Returns the fault of a value that no media type continues at a position: what is missing at its end, or the byte there.
 fn fault_at(value: &[u8], pos: usize, missing: ParseError) -> ParseError
     requires { pos ≤ length value.now }
     ensures { result ≡ fault_at value.now pos missing }
@@ -241,7 +241,7 @@ fn essence(value: &[u8]) -> Result<(usize, usize), ParseError>
     Ok((top, end))
 }
 
-/// Writes bytes into a room after `len` others, if they fit, and gives how many bytes there are then.
+/// Writes bytes into a buffer after `len` others, if they fit, and returns how many bytes there are then.
 fn put(room: &mut [u8], len: usize, bytes: &[u8]) -> usize
     requires { len + length bytes.now < 2 ^ 64 }
     ensures holds { (text : List ℕ) → Holds room.old len text → Holds room.new result (text ++ bytes.now) }
@@ -272,8 +272,8 @@ fn put_parameter(room: &mut [u8], len: usize, value: &[u8], name: usize, spans: 
     put(room, len, &value[spans.begin..spans.last])
 }
 
-/// Writes the media type of a value anew, as far as there is room, and gives how many bytes that takes: its essence, and each parameter as
-/// `with_parameter` writes it. Or gives the fault of a value that isn't a media type as HTTP writes it. It takes no memory.
+/// Writes the media type of a value anew, as far as there is room: its essence, and each parameter as `with_parameter` writes it. Returns
+/// how many bytes that takes, or the fault of a value that HTTP doesn't allow. It doesn't allocate.
 pub(crate) fn write_anew(value: &[u8], room: &mut [u8]) -> Result<usize, ParseError>
     ensures answer { MatchResult result
         (λ len. (parts : Parts) × (answer_of value.now ≡ read parts) × Holds room.new len (text_of_parts parts))

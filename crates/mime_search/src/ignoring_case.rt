@@ -10,7 +10,7 @@ use crate::search::first_stop;
 /// The bit in which a lowercase ASCII letter and its capital differ.
 const CASE_BIT: u8 = 0x20;
 
-/// 1 if two bytes differ ignoring ASCII case, else 0.
+/// Returns 1 if two bytes differ ignoring ASCII case, else 0.
 #[inline(always)]
 fn difference(x: u8, y: u8) -> u8
     ensures { result ≡ difference_bit x y }
@@ -23,7 +23,8 @@ fn difference(x: u8, y: u8) -> u8
     u8::from((x ^ y) & !case != 0)
 }
 
-/// For each position in the first block of two byte strings, 1 if their bytes differ ignoring ASCII case, else 0.
+/// Returns, for each position in the first block of two byte strings, 1 if their bytes differ ignoring ASCII case, else
+/// 0.
 #[inline(always)]
 fn differences(a: &[u8], b: &[u8]) -> [u8; BLOCK]
     requires room { BLOCK ≤ length a.now }

@@ -16,8 +16,8 @@ pub fn stops_in_block(text: &[u8], at: usize, class: &Class) -> u64
     stops_in_lanes(u8x16::from_slice(&text[at..]), class)
 }
 
-/// Returns the position, from one on, of the first byte at which a search stops, or the length. The text is searched byte by
-/// byte.
+/// Returns the position of the first byte, from a position on, at which a search stops, or the length. The text is searched
+/// byte by byte.
 #[inline(always)]
 fn first_stop_by_bytes(text: &[u8], from: usize, class: &Class) -> usize
     requires { from ≤ length text.now }
@@ -30,8 +30,8 @@ fn first_stop_by_bytes(text: &[u8], from: usize, class: &Class) -> usize
     at
 }
 
-/// Returns the position, from one on after which less than a block is left, of the first byte at which a search stops, or the
-/// length. The text's last block is searched at once.
+/// Returns the position of the first byte, from a position on, at which a search stops, or the length. Less than a block is
+/// left after that position, so the text's last block is searched at once.
 #[inline(always)]
 pub fn first_stop_at_end(text: &[u8], from: usize, class: &Class) -> usize
     requires block { BLOCK ≤ length text.now }
@@ -68,8 +68,7 @@ pub fn stops_from(text: &[u8], from: usize, class: &Class) -> (usize, u64)
     )
 }
 
-/// Returns the position, from one on, of the first byte at which a search stops, or the length, as `first_stop` finds it. It
-/// isn't inlined: most searches end before.
+/// Returns what `first_stop` returns. It isn't inlined: most searches end before.
 #[cold]
 #[inline(never)]
 pub fn first_stop_far(text: &[u8], from: usize, class: &Class) -> usize
@@ -80,7 +79,7 @@ pub fn first_stop_far(text: &[u8], from: usize, class: &Class) -> usize
     first_stop(text, from, class)
 }
 
-/// Returns the position, from one on, of the first byte at which a search stops, or the length.
+/// Returns the position of the first byte, from a position on, at which a search stops, or the length.
 #[tactic(auto, using(crate::proofs::Searches::run_within))]
 #[inline(always)]
 pub fn first_stop(text: &[u8], from: usize, class: &Class) -> usize

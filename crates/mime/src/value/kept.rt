@@ -58,7 +58,7 @@ fn lowercase_start(bytes: &mut [u8], len: usize)
     lowercase_range(bytes, len - BLOCK, len);
 }
 
-/// Returns how many bytes of a value ignore case: all if its name is `charset`, else none.
+/// Returns how many bytes of a value ignore case: all of them if its name is `charset`, else none.
 #[inline(always)]
 fn low_len(name: &str, value: &str) -> usize
     ensures { result ≡ if is_charset name.now then length value.now else 0 }

@@ -28,7 +28,7 @@ pub(crate) struct Pair<'a> {
     pub(crate) rest: Suffix<'a>,
 }
 
-/// Returns the length in bytes of a quoted value's content, of which the first quote isn't the end. It isn't inlined: few
+/// Returns the length in bytes of a quoted string's content, whose first quote doesn't end it. It isn't inlined: few
 /// values have a backslash before their first quote.
 #[cold]
 #[inline(never)]
@@ -38,8 +38,8 @@ fn content_len_past_pairs(text: &[u8]) -> usize
     content_end(text, 0)
 }
 
-/// Returns the length in bytes of a quoted value's content, up to its first unpaired quote or the end. `quote` is the position
-/// of the first quote, or the length if there is none.
+/// Returns the length in bytes of a quoted string's content, up to its first unpaired quote or the end. `quote` is the
+/// position of the first quote, or the length if there is none.
 #[inline(always)]
 fn content_len(text: &[u8], quote: usize) -> usize
     requires { quote ≡ first_position quote_byte text.now }
@@ -93,7 +93,7 @@ fn after_semicolon<'a>(end: Suffix<'a>) -> Suffix<'a>
     end.split_at_first(b';').1
 }
 
-/// Cuts a quoted value's content off what follows the first quote: the content, and what follows the quote that closes it.
+/// Cuts a quoted string at the quote that closes it: returns the content, and what follows that quote.
 #[inline(always)]
 fn cut_content<'a>(text: &Suffix<'a>) -> (&'a str, Suffix<'a>)
     ensures content { result.0.now ≡ content_of text.now }
@@ -151,7 +151,7 @@ fn without_spaces<'a>(list: &Suffix<'a>) -> Suffix<'a>
     list.after(leading_spaces(list.text()))
 }
 
-/// Cuts the first name off a list, with the spaces before it: the name, and what follows its equals sign.
+/// Cuts the first name off a list, with the spaces before it: returns the name, and what follows its equals sign.
 #[inline(always)]
 fn cut_name<'a>(list: &Suffix<'a>) -> (&'a str, Suffix<'a>)
     ensures name { result.0.now ≡ before_byte equals_byte (without_spaces list.now) }
@@ -221,12 +221,12 @@ fn has_equals(bytes: &[u8]) -> bool
 struct FirstName<'a> {
     name: &'a str,
     end: Suffix<'a>,
-    /// Whether the key accepts it that it was cut for.
+    /// Whether the key for which it was cut accepts it.
     is_accepted: bool,
 }
 
-/// Cuts the first name off a list for a key, with the spaces before it. If it's the only name, and the key has a text, no equals sign
-/// is searched: the byte is looked at where a name of that length ends, and there is no answer if the key doesn't accept the name.
+/// Cuts the first name off a list for a key, with the spaces before it. If it is the only name and the key has a text, no equals sign
+/// is searched: a name of that length is expected, and the result is `None` if the key doesn't accept the name.
 #[inline(always)]
 fn cut_name_for<'a, K: ParamKey>(list: &Suffix<'a>, is_only: bool, key: &K) -> Option<FirstName<'a>>
     ensures other { result ≡ None → IsTrue is_only × ¬ (K.Accepts key.now (cut_of list.now).name true) }
@@ -277,7 +277,7 @@ impl<'a> Model for Pairs<'a> {
 }
 
 impl<'a> Pairs<'a> {
-    /// The first `count` pairs after a string's semicolon, or no pair if it has no semicolon.
+    /// Returns the first `count` pairs after a string's semicolon, or no pair if it has no semicolon.
     #[inline(always)]
     pub(crate) fn of_text(text: &'a str, semicolon: Option<usize>, count: usize) -> Pairs<'a>
         requires { IfSome semicolon (λ at. slice_get text.now at ≡ Some semicolon_byte) }
@@ -295,7 +295,7 @@ impl<'a> Pairs<'a> {
         }
     }
 
-    /// Whether the only pair left is a charset, and the list begins with ` charset=`.
+    /// Returns `true` if the only pair left is a charset, and the list begins with ` charset=`.
     #[inline(always)]
     pub(crate) fn is_lone_charset(&self) -> bool
         ensures { IsTrue result → IsLoneCharset self.now }
@@ -303,7 +303,7 @@ impl<'a> Pairs<'a> {
         self.left == 1 && self.list.text().as_bytes().starts_with(b" charset=")
     }
 
-    /// The value of the first pair whose name a key accepts. If the last name isn't accepted, its value isn't searched
+    /// Returns the value of the first pair whose name a key accepts. If the last name isn't accepted, its value isn't searched
     /// for its end.
     #[inline(always)]
     pub(crate) fn first_accepted<K: ParamKey>(self, key: &K) -> Option<Name<'a>>

@@ -68,7 +68,7 @@ impl PartialEq for Mime {
         ensures computed { result ≡ eq_by_cmp media_cmp self.now.media other.now.media }
         ensures same { IsTrue result ↔ Same self.now.media other.now.media }
     {
-        // An essence of another length is another one, and more parameters aren't the same: that is told without a look at the texts.
+        // Essences of different lengths differ, and so do lists of different lengths. This is found without a look at the texts.
         if self.essence_str().len() != other.essence_str().len() {
             return false;
         }
