@@ -25,7 +25,7 @@ pub fn with_file_name(alloc: Global, mime: &Mime, name: &str) -> Result<Option<M
     with_parameter(alloc, mime, "name", name)
 }
 
-/// Returns the file's name that a media type has, as it was before it was written: `a "b".png`.
+/// Returns the file name of a media type as it was before it was written: `a "b".png`.
 pub fn file_name(alloc: Global, mime: &Mime) -> Result<Option<Vec<u8>>, AllocError>
     ensures { IfOk result (λ answer. IfSome answer (λ name. (value : List ℕ) × (flag : Bool)
         × IsFirstAccepted (λ name flag. NameIs name flag (codes "name")) (items_of mime.now.media.pairs) (Some (value, flag))

@@ -1,6 +1,6 @@
 //! A handler chosen by constants.
 
-ghost use Rattle.std.specs.Prelude.{◌≡◌, ◌↔◌, codes, Some, None};
+ghost use Rattle.std.specs.Prelude.{◌≡◌, ◌↔◌, codes, None};
 ghost use Rattle.mime.specs.Values.{type_of, subtype_of, suffix_of};
 
 use mime::{APPLICATION, JSON, Mime, WWW_FORM_URLENCODED};

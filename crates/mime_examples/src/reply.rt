@@ -9,7 +9,8 @@ use mime::{MULTIPART_FORM_DATA, Mime, TEXT_HTML};
 use mime_http::{with_boundary, with_charset};
 use std::alloc::{AllocError, Global};
 
-/// HTML in a charset: `text/html; charset=utf-8`. `None` if the charset isn't a token.
+/// Returns the media type of HTML in a charset: `text/html; charset=utf-8`. Returns `None` if the charset isn't a
+/// token.
 ///
 /// # Errors
 /// `AllocError` if memory runs out, here and below.

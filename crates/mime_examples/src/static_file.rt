@@ -1,6 +1,6 @@
 //! A file as a reply.
 
-ghost use Rattle.std.specs.Prelude.{◌≡◌, ◌≢◌, ◌⊎◌, ℕ, IfOk, IfErr, map};
+ghost use Rattle.std.specs.Prelude.{◌≡◌, ◌≢◌, ◌⊎◌, IfOk, IfErr, map};
 ghost use Rattle.mime_http.specs.HttpList.{Header, IsHeader};
 ghost use Rattle.mime_http.specs.Ranges.{given_weight};
 

@@ -7,7 +7,7 @@ ghost use Rattle.mime.specs.Grammar.{is_space};
 ghost use Rattle.mime_http.specs.HttpList.{trim_start, trim_end};
 ghost use Rattle.mime_http.specs.LineCut.{Outside, Quoted, AreUnmarked, IsNextMark, cut_from, cut, cut_after};
 
-use mime_search::{BLOCK, Class, content_end, first_stop};
+use mime_search::{Class, content_end, first_stop};
 use std::simd::prelude::*;
 
 /// Returns the position of the first comma or equals sign from a position on, or the length.

@@ -57,7 +57,7 @@ impl Model for Closest {
 }
 
 impl Closest {
-    /// No range so far.
+    /// Returns the state before any range.
     #[inline(always)]
     fn none() -> Closest
         ensures { result ≡ None }

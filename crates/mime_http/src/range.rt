@@ -124,8 +124,8 @@ pub(crate) fn param_count(mime: &Mime) -> usize
     count
 }
 
-/// In one walk: how many parameters other than `q` the range has, before and after it (RFC 9110, 12.5.1), if the offer has them all, and its
-/// weight. It isn't inlined: most ranges have no parameter.
+/// Returns how many parameters other than `q` the range has, before and after it (RFC 9110, 12.5.1), if the offer has them all, and its
+/// weight, in one walk. It isn't inlined: most ranges have no parameter.
 #[inline(never)]
 fn demanded_among(range: &Mime, offer: &Mime) -> Option<(usize, u16)>
     ensures { result ≡ (if list_all (has offer.now.media) (demanded range.now.media.pairs)
@@ -156,8 +156,8 @@ pub(crate) fn after_essence(mime: &Mime) -> &[u8]
     &mime.as_str().as_bytes()[mime.essence_str().len()..]
 }
 
-/// Returns how many parameters a range demands of an offer, and its weight; `None` if the offer doesn't have all of them. The
-/// range `text/html;level=1` is for `text/html;level=1`, and not for all HTML.
+/// Returns how many parameters a range demands of an offer, and its weight, or `None` if the offer doesn't have all of them.
+/// The range `text/html;level=1` demands one.
 #[inline(always)]
 pub(crate) fn demanded(range: &Mime, offer: &Mime) -> Option<(usize, u16)>
     ensures { result ≡ (if list_all (has offer.now.media) (demanded range.now.media.pairs)

@@ -60,7 +60,7 @@ fn token_end(value: &[u8], from: usize) -> usize
     at
 }
 
-/// Returns `true` if this byte is at a position.
+/// Returns `true` if the byte at a position is this one.
 #[inline(always)]
 fn is_at(value: &[u8], pos: usize, byte: u8) -> bool
     ensures yes { result ≡ true → (pos < length value.now) × (slice_index value.now pos ≡ byte) }

@@ -8,7 +8,7 @@ use std::simd::prelude::*;
 
 /// Returns at which bytes of the block that begins at a position a search stops, as a bit mask.
 #[inline(always)]
-pub fn stops_in_block(text: &[u8], at: usize, class: &Class) -> u64
+pub(crate) fn stops_in_block(text: &[u8], at: usize, class: &Class) -> u64
     requires { at + BLOCK ≤ length text.now }
     ensures mask { result ≡ stops class.now (take BLOCK (drop at text.now)) }
     ensures few { result < 2 ^ 16 }
@@ -33,7 +33,7 @@ fn first_stop_by_bytes(text: &[u8], from: usize, class: &Class) -> usize
 /// Returns the position of the first byte, from a position on, at which a search stops, or the length. Less than a block is
 /// left after that position, so the text's last block is searched at once.
 #[inline(always)]
-pub fn first_stop_at_end(text: &[u8], from: usize, class: &Class) -> usize
+pub(crate) fn first_stop_at_end(text: &[u8], from: usize, class: &Class) -> usize
     requires block { BLOCK ≤ length text.now }
     requires within { from ≤ length text.now }
     requires end { length text.now < from + BLOCK }
@@ -51,7 +51,7 @@ pub fn first_stop_at_end(text: &[u8], from: usize, class: &Class) -> usize
 /// Returns at which of the bytes from a position on a search stops, as a bit mask, and how many bytes these are: a block, or the
 /// rest of the text.
 #[inline(always)]
-pub fn stops_from(text: &[u8], from: usize, class: &Class) -> (usize, u64)
+pub(crate) fn stops_from(text: &[u8], from: usize, class: &Class) -> (usize, u64)
     requires block { BLOCK ≤ length text.now }
     requires within { from ≤ length text.now }
     ensures few { result.0 ≤ BLOCK }

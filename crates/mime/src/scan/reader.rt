@@ -1,6 +1,6 @@
 //! A reader of a string's bytes that counts those it has returned or skipped.
 
-ghost use Rattle.std.specs.Prelude.{◌≡◌, ◌≢◌, ◌+◌, ◌-◌, ◌<◌, ◌≤◌, ◌^◌, [], ◌∷◌, true, false, length, drop, not, IsTrue, None, Some};
+ghost use Rattle.std.specs.Prelude.{◌≡◌, ◌≢◌, ◌+◌, ◌-◌, ◌<◌, ◌≤◌, ◌^◌, [], true, false, length, drop, not, IsTrue, None, Some};
 ghost use Rattle.std.specs.List.{prefix_len};
 ghost use Rattle.mime.specs.Bytes.{is_quoted_text_byte};
 ghost use Rattle.mime.specs.Inner.ByteClasses.{is_token_except_plus, token_bytes};
