@@ -1,4 +1,4 @@
-//! Comparing a media type with a string, without allocating.
+//! Comparisons of a media type with a string, which don't allocate.
 
 ghost use Rattle.std.specs.Prelude.{◌≡◌, ◌≢◌, ◌↔◌, IsTrue, Some, [], length, map, slice_get};
 ghost use Rattle.mime.specs.Bytes.{semicolon_byte};

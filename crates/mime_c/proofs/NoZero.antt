@@ -12,11 +12,7 @@ use Rattle.mime.specs.HeaderLaws.{IsSafePair}
 use Rattle.mime.specs.Laws.{without_parameters}
 use Rattle.mime.specs.Cut.{CutItem, good, bad, Cut}
 use Rattle.mime.specs.CutLaws.{IsItem}
-use Rattle.mime.proofs.BytesLemmas.{is_other, list_all-wider, are_other-token, AreTokenBytes-from_token}
-use Rattle.mime.proofs.GrammarLemmas.Viability.{accepted_is_viable, walk-from_viable}
-use Rattle.mime.proofs.LawsLemmas.Written.{essence_is_read, walked-safe, kept_is_safe}
-use Rattle.mime.proofs.ValueLemmas.KeptText.{kept_is_read}
-use Rattle.mime.proofs.CutLemmas.Containment.{cut_has_items}
+use Rattle.mime.proofs.HandedOut.{is_other, list_all-wider, are_other-token, AreTokenBytes-from_token, accepted_is_viable, walk-from_viable, essence_is_read, walked-safe, kept_is_safe, kept_is_read, cut_has_items}
 use Rattle.mime_c.specs.Strings.{string_of, strings, texts_in, ComeBack, pair_texts, texts_of, item_texts}
 
 -- a text without the byte 0

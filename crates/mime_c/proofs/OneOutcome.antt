@@ -12,12 +12,8 @@ use Rattle.mime.specs.Comparison.{Same, media_cmp}
 use Rattle.mime.specs.Faults.{IsFault, Explains}
 use Rattle.mime.specs.declared.scan.fault.ParseError.{ParseError}
 use Rattle.mime.specs.declared.scan.fault.ParseError.TheVariants.{NoMemory}
-use Rattle.mime.proofs.GrammarLemmas.Faults.{one_fault}
-use Rattle.mime.proofs.ValueLemmas.Reading.{rejected-from_fault, Explains-from_fault}
-use Rattle.mime.proofs.GrammarLemmas.Readings.{one_reading}
-use Rattle.mime.proofs.ValueLemmas.Traits.{eq_by_cmp-tells, eq_by_cmp-same}
+use Rattle.mime.proofs.HandedOut.{one_fault, rejected-from_fault, Explains-from_fault, one_reading, eq_by_cmp-tells, eq_by_cmp-same, accepted_or_rejected, has_cut, cut_unique}
 use Rattle.mime.specs.Cut.{CutItem}
-use Rattle.mime.proofs.CutLemmas.Cuts.{accepted_or_rejected, has_cut, cut_unique}
 use Rattle.mime_c.specs.Strings.{strings, texts_of, item_texts, written}
 use Rattle.mime_c.specs.Answers.{number_of, found_at, found_of, found_of_fault, Fails, is_rejected, is_not_text, ReadsTo, is_read, fails, has_no_room, ListsTo, is_listed, has_no_memory, Compares, are_read, first_fails, second_fails}
 use Rattle.mime_c.specs.Answers as answers

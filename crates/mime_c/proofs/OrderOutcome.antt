@@ -11,8 +11,7 @@ use Rattle.std.proofs.lemmas.List.Kept.{AllPairs-cons}
 use Rattle.mime.specs.Values.{MediaType}
 use Rattle.mime_http.specs.HttpList.{Header, IsHeader}
 use Rattle.mime_http.specs.Ranges.{Rank, rank_cmp, merit, merit_at, AreInOrder}
-use Rattle.mime_http.proofs.Highest.{one_rank}
-use Rattle.mime_http.proofs.Order.{weighs_within}
+use Rattle.mime_http.proofs.HandedOut.{one_rank, weighs_within}
 use Rattle.mime_c.specs.Strings.{written}
 use Rattle.mime_c.specs.HeaderAnswers.{lines_of, OrderIs, order_is, none_is_ordered, order_has_no_room, an_ordered_is_bad, order_has_no_memory}
 use Rattle.mime_c.specs.Laws.{OrderIsOne}

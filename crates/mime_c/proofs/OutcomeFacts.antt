@@ -7,8 +7,7 @@ use Rattle.mime.specs.Values.{MediaType, Reads}
 use Rattle.mime.specs.Faults.{Explains}
 use Rattle.mime.specs.Cut.{CutItem, good, Cut, whole}
 use Rattle.mime.specs.declared.scan.fault.ParseError.TheVariants.{NoMemory}
-use Rattle.mime.proofs.GrammarLemmas.Readings.{rejected-from_walk}
-use Rattle.mime.proofs.CutLemmas.Cuts.{cut_unique}
+use Rattle.mime.proofs.HandedOut.{rejected-from_walk, cut_unique}
 use Rattle.mime_c.specs.Strings.{strings, ComeBack, texts_of, item_texts, written}
 use Rattle.mime_c.specs.Answers.{nothing, Fails, is_rejected, is_not_text, ReadsTo, is_read, fails, has_no_room, NeedsMemory, ListsTo, is_listed, has_no_memory, Compares, are_read, first_fails, second_fails}
 use Rattle.mime_c.specs.Answers as answers

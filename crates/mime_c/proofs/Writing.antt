@@ -8,7 +8,7 @@ use Rattle.mime.specs.Values.{MediaType}
 use Rattle.mime.specs.Cut.{CutItem, Cut}
 use Rattle.mime.specs.Runs.{IsFirstItem, HasNoItem}
 use Rattle.mime.specs.Runs as runs
-use Rattle.mime.proofs.CutLemmas.Cuts.{has_cut}
+use Rattle.mime.proofs.HandedOut.{has_cut}
 use Rattle.mime_c.specs.Strings.{string_of, strings, pair_texts, parts_of, texts_of, item_text, item_texts}
 use Rattle.mime_c.specs.Writing.{HasWritten, Writes}
 use Rattle.mime_c.specs.HeaderAnswers.{four_digits, range_texts, ranges_texts}

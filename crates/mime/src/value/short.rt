@@ -108,7 +108,7 @@ impl ShortText {
         }
     }
 
-    /// The first `len` bytes as a text.
+    /// Returns the first `len` bytes as a text.
     #[inline(always)]
     fn of(block: &[u8; PADDED], len: usize) -> ShortText
         requires short { len ≤ SHORT }

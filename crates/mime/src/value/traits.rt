@@ -26,7 +26,7 @@ fn same_parts(first: &Mime, second: &Mime) -> bool
     first.essence_str() == second.essence_str() && first.pairs().eq(second.pairs())
 }
 
-/// How the parameters of two values compare. It isn't inlined, as `same_parts`.
+/// Compares the parameters of two values. It isn't inlined, like `same_parts`.
 #[inline(never)]
 fn order_pairs(first: &Mime, second: &Mime) -> Ordering
     ensures { result ≡ slice_cmp pair_cmp first.now.media.pairs second.now.media.pairs }
@@ -36,7 +36,7 @@ fn order_pairs(first: &Mime, second: &Mime) -> Ordering
     pairs.cmp(others)
 }
 
-/// How two values compare, if both lie in their `Mime`, and are the same or differ in their essences first.
+/// Compares two values, if both are stored in their `Mime`, and are the same or differ first in their essences.
 #[inline(always)]
 fn order_short(first: &Mime, second: &Mime) -> Option<Ordering>
     ensures { IfSome result (λ order. order ≡ media_cmp first.now.media second.now.media) }
