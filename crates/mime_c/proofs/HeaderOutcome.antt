@@ -50,7 +50,7 @@ sorting (text ∷ texts) =
     (λ isnt. as_bad other (λ both. isnt both.0)) (utf8_or_not text))
     (cases_Bool (list_all is_space text))
 
--- so lines are a header
+-- lines have a header
 pub header_of : (lines : List (List ℕ)) → (header : Header) × IsHeader lines header
 header_of lines =
     let cut = one_cut (lines_or_any lines) in
@@ -95,7 +95,7 @@ some_or_none None = inr refl
 pub same_header : {lines : List (List ℕ)} {one two : Header} → IsHeader lines one → IsHeader lines two → two ≡ one
 same_header {lines} {one} {two} is too = one_header lines two one too is
 
--- and of the same best offer
+-- two outcomes speak of the same best offer
 same_best : {lines offers : List (List ℕ)} {header offered another others : Header} → IsHeader lines header → IsHeader offers offered
     → IsHeader lines another → IsHeader offers others → best_offer another.ranges others.ranges ≡ best_offer header.ranges offered.ranges
 same_best {header = header} {others = others} is of too again =

@@ -209,6 +209,6 @@ no_zero-ranges texts ranges bad (a_range text range rest others _ utf8 reads _ s
     both_none (range_texts range) (ranges_texts others) (no_zero-range text range reads) (no_zero-ranges rest others bad sorted)
 no_zero-ranges texts ranges bad (a_bad text rest _ others some isnt sorted) = no_zero-ranges rest ranges others sorted
 
--- so they come back
+-- the strings of ranges come back
 pub ranges_come_back : (lines : List (List ℕ)) (header : Header) → IsHeader lines header → ComeBack (ranges_texts header.ranges)
 ranges_come_back lines header is = come_back (ranges_texts header.ranges) (no_zero-ranges is.pieces header.ranges header.bad is.sorted)

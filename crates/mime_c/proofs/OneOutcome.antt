@@ -45,7 +45,7 @@ longest_within text (suc n) = ⊎_elim
     ))
     (utf8_or_not (take (suc n) text))
 
--- so what isn't UTF-8 is up to a position
+-- a text that isn't UTF-8 is valid up to some position
 pub valid_up_to : (text : List ℕ) → ¬ (IsUtf8 text) → (pos : ℕ) × IsValidUpTo text pos
 valid_up_to text isnt =
     let found = longest_within text (length text) in
@@ -77,7 +77,7 @@ module _ {text : List ℕ} where
   not_both {media} utf8 reads some (is_rejected fault too why) = rejected-from_fault text fault (is_fault text fault why some) (media, reads)
   not_both utf8 reads some (is_not_text pos isnt up) = isnt utf8
 
-  -- and another fails in one way
+  -- a text that isn't read fails in one way
   one_failure : {n m : ℕ} {found other : MimeFound} → n ≢ MIME_NO_MEMORY → m ≢ MIME_NO_MEMORY → Fails text n found → Fails text m other
       → (m ≡ n) × (other ≡ found)
   one_failure h k (is_rejected one utf8 why) (is_rejected two too again) =

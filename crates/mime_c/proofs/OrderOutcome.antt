@@ -165,7 +165,7 @@ module _ (ranges offers : List MediaType) where
       ))
       (cases_lt 0 (merit_at ranges offers n).0)
 
-  -- so they have an order,
+  -- offers have an order
   has_order : (order : List ℕ) × AreInOrder ranges offers order
   has_order =
       let all = ordered (length offers) in (
@@ -179,7 +179,7 @@ module _ (ranges offers : List MediaType) where
         },
       )
 
-  -- and only one
+  -- offers have only one order
   only_order : (order other : List ℕ) → AreInOrder ranges offers order → AreInOrder ranges offers other → other ≡ order
   only_order order other one two =
       one_order Before (λ x y. not_back _ _ x y) other order two.best_first one.best_first

@@ -48,7 +48,7 @@ compares_for_memory is (first_fails n found why) = (refl, inl (fails_for_memory 
 compares_for_memory is (second_fails media n found utf8 reads why) = (refl, inr (fails_for_memory is why).2)
 compares_for_memory is (are_read first second equal u v reads again tells) = absurd (omega (arith, is))
 
--- so memory never runs out for the empty text, for `*/*`, for what isn't a media type, or isn't UTF-8
+-- memory never runs out for the empty text, for `*/*`, for what isn't a media type, or isn't UTF-8
 empty_list_needs_none : (old new : List ℕ) (size : ℕ) → ¬ (ListsTo [] old MIME_NO_MEMORY new size)
 empty_list_needs_none old new size lists = empty_needs_none (lists_for_memory refl lists).3
 

@@ -31,7 +31,7 @@ room-tail : (tail : Tail) → length (strings (pair_texts (pairs_of_tail tail)))
 room-tail no_list = omega arith
 room-tail (listed list) = omega (arith, room-list list)
 
--- and the kept text is no longer than the text
+-- the kept text is no longer than the text
 room-kept : (tree : SyntaxTree) (pairs : List (List ℕ × List ℕ)) → length (kept_text pairs tree) ≤ length (text_of tree)
 room-kept tree [] = omega (arith, ap length (text_of-essence tree), length-append {A = ℕ})
 room-kept tree (pair ∷ pairs) = omega arith

@@ -105,7 +105,7 @@ unsafe-untaken : (awaiting : Bool) (b : ℕ) → IsFalse (is_quoted_byte b) → 
 unsafe-untaken true b unsafe = unsafe
 unsafe-untaken false b unsafe = ap (λ t. t && not (b == quote_byte)) unsafe
 
--- so it leads nowhere
+-- a byte that a header doesn't have leads nowhere
 unsafe-dead : (begun : Begun) (b : ℕ) → IsFalse (is_quoted_byte b) → grow begun b ≡ None
 unsafe-dead begun b unsafe =
     elim (grow begun b) as (λ o. MatchOption o (Unit {0}) (λ next. IsOpen begun × IsOpen next) → grow begun b ≡ o → o ≡ None) [
@@ -139,7 +139,7 @@ token_byte-text : (b : ℕ) → is_token_byte b ≡ true → is_quoted_text_byte
 unfolding is_token_byte is_quoted_byte
 token_byte-text b token = grind (arith, nat_tests)
 
--- so a token is quoted content
+-- a token is quoted content
 pub content-from_token : (bytes : List ℕ) → IsToken bytes → IsContent bytes
 content-from_token bytes token =
     let text = list_all-wider is_token_byte is_quoted_text_byte token_byte-text bytes (AreTokenBytes-from_token bytes token) in
