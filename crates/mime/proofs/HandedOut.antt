@@ -1,7 +1,7 @@
 -- What the proofs of a crate over this one may cite, passed on from one place: what isn't here may change. Declares nothing.
 
 -- Bytes: a list of a class is one of a wider class, the first byte after a prefix, a cut after an ASCII byte, and those past ASCII.
-pub use Rattle.mime.proofs.BytesLemmas.{list_all-wider, slice_get-prefix, boundary_after, AreTokenBytes-from_token, is_other, are_other-token}
+pub use Rattle.mime.proofs.BytesLemmas.{list_all-wider, slice_get-prefix, boundary_after, AreTokenBytes-from_token, token-size, is_other, are_other-token}
 pub use Rattle.mime.proofs.ValueLemmas.Utf8.{high_bytes, length-in_part}
 pub use Rattle.mime.proofs.StopsLemmas.{in_ranges}
 -- Lowercase: it is idempotent, and keeps the length, a class that case doesn't matter to, and what a parameter's value is read as.

@@ -20,7 +20,7 @@ use Rattle.mime.specs.Grammar.{Parameter, plain, quoted, Parameters, blank, fina
 use Rattle.mime.specs.HeaderLaws.{AreHeaderBytes, IsSafePair, KeptIsSafe, text_with_parameter, with_parameter, ParameterIsRead}
 use Rattle.mime.specs.Inner.Quoted.{takes, awaits_after, continues}
 use Rattle.mime.proofs.GrammarLemmas.Begun.{Begun, in_type, in_list, in_quotes, list_at, grow, walk_from}
-use Rattle.mime.proofs.BytesLemmas.{list_all-wider, list_all-parts, AreTokenBytes-from_token}
+use Rattle.mime.proofs.BytesLemmas.{list_all-wider, list_all-parts, AreTokenBytes-from_token, token-size}
 use Rattle.mime.proofs.GrammarLemmas.Characters.{IsForeign, IsForeign-outside, IsOpen, grow-foreign}
 use Rattle.mime.proofs.ValueLemmas.KeptText.{value_of_low, value_of-lowering, kept_is_read}
 use Rattle.mime.proofs.GrammarLemmas.Content.{IsContent-taken, takes_all-text, awaits_after-text}
@@ -172,10 +172,6 @@ subtype_some : (text : List ℕ) (value : MediaType) (plus : Option ℕ) → Rea
 subtype_some text value None reads is =
     let size = token-size (lowered reads.tree.sub) (IsToken-lowered reads.tree.sub reads.well_formed.1) in
     omega (arith, size, ap length (after_slash-read text value reads), length-drop (value.slash + 1) value.essence)
-  where
-    token-size : (bytes : List ℕ) → IsToken bytes → 0 < length bytes
-    token-size [] token = absurd token
-    token-size (b ∷ bytes) token = omega arith
 subtype_some text value (Some p) reads is = omega (arith, (plus_in text value.essence value p reads refl is).above)
 
 -- the suffix has token bytes

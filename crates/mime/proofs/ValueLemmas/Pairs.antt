@@ -226,8 +226,8 @@ pairs_within-first zero list some = absurd (some refl)
 pairs_within-first (suc count) list some =
     ap (λ (left : ℕ). ((cut_of list).name, (cut_of list).value) ∷ pairs_within left (cut_of list).rest) (omega arith)
 
--- a cut keeps the name that stands before the equals sign
-cut_after_equals-name : (size : ℕ) (name text : List ℕ) → (cut_after_equals size name text).name ≡ name
+-- a cut keeps the name before the equals sign
+pub cut_after_equals-name : (size : ℕ) (name text : List ℕ) → (cut_after_equals size name text).name ≡ name
 cut_after_equals-name size name [] = refl
 cut_after_equals-name size name (b ∷ back) = cond_both (b == quote_byte) _ _ (λ (cut : PairCut). cut.name ≡ name) (λ _. refl) (λ _. refl)
 
